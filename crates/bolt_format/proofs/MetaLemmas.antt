@@ -1,0 +1,113 @@
+-- A file has one meta in force.
+use Rattle.std.proofs.Common.{◌≡◌, ◌∙◌, ℕ, ◌*◌, ◌^◌, ◌<◌, ◌≤◌, ◌==◌, List, arith, sym, ap, inl, inr, subst, refl, get_or, eq-eqb}
+use Rattle.std.proofs.Math.Pow.{pow_mono}
+use Rattle.std.proofs.lemmas.Bool.{cases_lt, eqb-true}
+use Rattle.std.proofs.lemmas.List.{get_or_read}
+use Rattle.std.proofs.lemmas.List.Folds.{Any-from_list_any, list_any_at}
+use Rattle.std.proofs.lemmas.List.FromFn.{get_or-map-range_with_len}
+use Rattle.bolt_format.specs.declared.meta.Meta.{Meta}
+use Rattle.bolt_format.specs.declared.meta.Slot.{Slot}
+use Rattle.bolt_format.specs.declared.meta.Slot.TheVariants.{Zero, One}
+use Rattle.bolt_format.specs.Metas.{IsChosen, IsInOne, IsInSlot, IsLoneMeta, IsMeta, IsPageSize, page_sizes}
+
+-- a page has one record
+pub IsMeta-one : (file : List ℕ) (at : ℕ) (a b : Meta) → IsMeta file at a → IsMeta file at b → a ≡ b
+IsMeta-one file at a b p q = p.fields ∙ sym q.fields
+
+-- slot one, where slot zero is valid
+pub IsInOne-beside : (file : List ℕ) (zero meta : Meta) → IsMeta file 0 zero → IsInOne file meta → IsMeta file zero.page_size meta
+IsInOne-beside file zero meta valid (inl (other, first, second)) =
+    subst (λ (m : Meta). IsMeta file m.page_size meta) (IsMeta-one file 0 other zero first valid) second
+IsInOne-beside file zero meta valid (inr (none, lone)) = absurd (none zero valid)
+
+-- slot one, where slot zero is not
+pub IsInOne-alone : (file : List ℕ) (meta : Meta) → ((zero : Meta) → IsMeta file 0 zero → ⊥) → IsInOne file meta → IsLoneMeta file meta
+IsInOne-alone file meta none (inl (zero, first, second)) = absurd (none zero first)
+IsInOne-alone file meta none (inr (_, lone)) = lone
+
+-- the least place is one
+pub IsLoneMeta-one : (file : List ℕ) (a b : Meta) → IsLoneMeta file a → IsLoneMeta file b → a ≡ b
+IsLoneMeta-one file a b p q =
+    elim (cases_lt p.at q.at) [
+      | inl below ↦ absurd (q.least p.at a p.tried below p.valid)
+      | inr above ↦ elim (cases_lt q.at p.at) [
+        | inl below ↦ absurd (p.least q.at b q.tried below q.valid)
+        | inr same ↦ IsMeta-one file q.at a b (let e : p.at ≡ q.at = omega arith in subst (λ (n : ℕ). IsMeta file n a) e p.valid) q.valid
+      ]
+    ]
+
+-- slot one is in force where its transaction is the greater
+pub IsChosen-newer : (file : List ℕ) (zero one : Meta) → IsMeta file 0 zero → IsMeta file zero.page_size one → zero.txid < one.txid
+    → (slot : Slot) (meta : Meta) → IsChosen file slot meta → (slot ≡ One) × (meta ≡ one)
+IsChosen-newer file zero one first second newer Zero meta chosen =
+    let same : meta ≡ zero = IsMeta-one file 0 meta zero chosen.valid first in
+    elim (chosen.newest one (inl (zero, first, second))) [
+      | inl less ↦ absurd (let e : meta.txid ≡ zero.txid = ap (λ (m : Meta). m.txid) same in omega arith)
+      | inr equal ↦ absurd (let e : meta.txid ≡ zero.txid = ap (λ (m : Meta). m.txid) same in omega (arith, equal.0))
+    ]
+IsChosen-newer file zero one first second newer One meta chosen =
+    (refl, IsMeta-one file zero.page_size meta one (IsInOne-beside file zero meta first chosen.valid) second)
+
+One-Zero : One ≡ Zero → ⊥
+One-Zero e = cc
+
+-- slot zero is in force where no greater transaction stands in slot one
+pub IsChosen-first : (file : List ℕ) (zero : Meta) → IsMeta file 0 zero → ((one : Meta) → IsMeta file zero.page_size one → one.txid ≤ zero.txid)
+    → (slot : Slot) (meta : Meta) → IsChosen file slot meta → (slot ≡ Zero) × (meta ≡ zero)
+IsChosen-first file zero first older Zero meta chosen = (refl, IsMeta-one file 0 meta zero chosen.valid first)
+IsChosen-first file zero first older One meta chosen =
+    elim (chosen.newest zero first) [
+      | inl less ↦ absurd (omega (arith, older meta (IsInOne-beside file zero meta first chosen.valid)))
+      | inr equal ↦ absurd (One-Zero equal.1)
+    ]
+
+-- the lone one is in force where slot zero has none
+pub IsChosen-alone : (file : List ℕ) (one : Meta) → ((zero : Meta) → IsMeta file 0 zero → ⊥) → IsLoneMeta file one
+    → (slot : Slot) (meta : Meta) → IsChosen file slot meta → (slot ≡ One) × (meta ≡ one)
+IsChosen-alone file one none lone Zero meta chosen = absurd (none meta chosen.valid)
+IsChosen-alone file one none lone One meta chosen = (refl, IsLoneMeta-one file meta one (IsInOne-alone file meta none chosen.valid) lone)
+
+-- no slot has one
+pub IsInSlot-none : (file : List ℕ) → ((zero : Meta) → IsMeta file 0 zero → ⊥) → ((lone : Meta) → IsLoneMeta file lone → ⊥)
+    → (slot : Slot) (meta : Meta) → IsInSlot file slot meta → ⊥
+IsInSlot-none file none no_lone Zero meta valid = none meta valid
+IsInSlot-none file none no_lone One meta valid = no_lone meta (IsInOne-alone file meta none valid)
+
+-- The accepted page sizes in their order.
+page_sizes-at : (k : ℕ) → k < 7 → get_or page_sizes k 0 ≡ 1024 * 2 ^ k
+page_sizes-at k h = get_or-map-range_with_len (λ k. 1024 * 2 ^ k) 0 7 k k 0 h (omega arith)
+
+IsPageSize-at : (k : ℕ) → k < 7 → IsPageSize (get_or page_sizes k 0)
+IsPageSize-at k h = list_any_at (λ size. size == get_or page_sizes k 0) page_sizes k 0 h (eq-eqb (get_or page_sizes k 0) _ refl)
+
+-- a smaller one comes before
+page_sizes-before : (n k : ℕ) → k < 7 → IsPageSize n → n < get_or page_sizes k 0 → (j : ℕ) × (j < k) × (n ≡ get_or page_sizes j 0)
+page_sizes-before n k h size less =
+    let (j, x, below, here, same) = Any-from_list_any (λ size. size == n) page_sizes size in
+    let is_n : n ≡ get_or page_sizes j 0 = sym (eqb-true x n same) ∙ get_or_read page_sizes j x below (sym here) 0 in
+    elim (cases_lt j k) [
+      | inl first ↦ (j, first, is_n)
+      | inr later ↦ absurd (omega (arith, page_sizes-at j below, page_sizes-at k h, pow_mono later))
+    ]
+
+-- the first place with a record is the least
+pub IsLoneMeta-at : (file : List ℕ) (k : ℕ) (meta : Meta) → k < 7
+    → ((j : ℕ) → j < k → (other : Meta) → IsMeta file (get_or page_sizes j 0) other → ⊥)
+    → IsMeta file (get_or page_sizes k 0) meta → IsLoneMeta file meta
+IsLoneMeta-at file k meta h none valid = record {
+  at = get_or page_sizes k 0;
+  tried = IsPageSize-at k h;
+  valid = valid;
+  least = λ before other size less found.
+      let (j, first, same) = page_sizes-before before k h size less in
+      none j first other (subst (λ (n : ℕ). IsMeta file n other) same found);
+}
+
+-- with no record at any place there is none
+pub IsLoneMeta-none : (file : List ℕ) (k : ℕ) → 7 ≤ k
+    → ((j : ℕ) → j < k → (other : Meta) → IsMeta file (get_or page_sizes j 0) other → ⊥)
+    → (meta : Meta) → IsLoneMeta file meta → ⊥
+IsLoneMeta-none file k h none meta lone =
+    let (j, x, below, here, same) = Any-from_list_any (λ size. size == lone.at) page_sizes lone.tried in
+    let is_at : lone.at ≡ get_or page_sizes j 0 = sym (eqb-true x lone.at same) ∙ get_or_read page_sizes j x below (sym here) 0 in
+    none j (omega arith) meta (subst (λ (n : ℕ). IsMeta file n meta) is_at lone.valid)

@@ -1,0 +1,170 @@
+-- The elements of branch and leaf pages and their tests, over the bytes from a page's first one to the end of its span (of an inline
+-- page: to the end of its value): docs/FORMAT.md, "Elements" and "The tests of a page".
+use Rattle.std.specs.Prelude.{◌==◌, ℕ, zero, suc, ◌+◌, ◌*◌, Bool, not, ◌||◌, ◌&&◌, nat_lt, nat_le, List, map, length, drop, Option, Some, None, if◌then◌else◌, is_some, slice_range}
+use Rattle.std.specs.List.{list_any, range_with_len}
+use Rattle.bolt_format.specs.Bytes.{number_at}
+use Rattle.bolt_format.specs.Headers.{count_field, flags_field}
+use Rattle.bolt_format.specs.declared.fault.TheConstants.PageFault.{ELEMENT_CUT, DATA_ORDER, KEY_LENGTH, VALUE_LENGTH, LEAF_FLAGS, BUCKET_SHORT, INLINE_PAGE, INLINE_NESTED}
+
+-- the first fault of two
+abbrev pub first_of : Option ℕ → Option ℕ → Option ℕ
+first_of (Some fault) next = Some fault
+first_of None next = next
+
+-- where element i stands, and so where a table of i elements ends
+abbrev pub element_at : ℕ → ℕ
+element_at i = 16 + 16 * i
+
+-- A branch element leads to a child by the first key under it.
+pub record BranchElement : Type 0 where
+  pub key : List ℕ
+  pub child : ℕ
+
+-- A leaf element is a value or a bucket under a key.
+pub record LeafElement : Type 0 where
+  pub key : List ℕ
+  pub value : List ℕ
+  pub is_bucket : Bool
+
+-- branch element i: where its key lies
+unfoldable pub branch_key_start : List ℕ → ℕ → ℕ
+branch_key_start bytes i = element_at i + number_at bytes (element_at i) 4
+
+unfoldable pub branch_key_length : List ℕ → ℕ → ℕ
+branch_key_length bytes i = number_at bytes (element_at i + 4) 4
+
+abbrev pub branch_end : List ℕ → ℕ → ℕ
+branch_end bytes i = branch_key_start bytes i + branch_key_length bytes i
+
+unfoldable pub branch_child : List ℕ → ℕ → ℕ
+branch_child bytes i = number_at bytes (element_at i + 8) 8
+
+abbrev pub branch_element : List ℕ → ℕ → BranchElement
+branch_element bytes i = record {
+  key = slice_range bytes (branch_key_start bytes i) (branch_end bytes i);
+  child = branch_child bytes i;
+}
+
+-- leaf element i: its flags, and where its key and the value behind it lie
+unfoldable pub leaf_flags : List ℕ → ℕ → ℕ
+leaf_flags bytes i = number_at bytes (element_at i) 4
+
+unfoldable pub leaf_key_start : List ℕ → ℕ → ℕ
+leaf_key_start bytes i = element_at i + number_at bytes (element_at i + 4) 4
+
+unfoldable pub leaf_key_length : List ℕ → ℕ → ℕ
+leaf_key_length bytes i = number_at bytes (element_at i + 8) 4
+
+unfoldable pub leaf_value_length : List ℕ → ℕ → ℕ
+leaf_value_length bytes i = number_at bytes (element_at i + 12) 4
+
+abbrev pub leaf_value_start : List ℕ → ℕ → ℕ
+leaf_value_start bytes i = leaf_key_start bytes i + leaf_key_length bytes i
+
+abbrev pub leaf_end : List ℕ → ℕ → ℕ
+leaf_end bytes i = leaf_value_start bytes i + leaf_value_length bytes i
+
+-- flags are 1 for a bucket and 0 for a value
+abbrev pub is_bucket_at : List ℕ → ℕ → Bool
+is_bucket_at bytes i = leaf_flags bytes i == 1
+
+abbrev pub leaf_value : List ℕ → ℕ → List ℕ
+leaf_value bytes i = slice_range bytes (leaf_value_start bytes i) (leaf_end bytes i)
+
+abbrev pub leaf_element : List ℕ → ℕ → LeafElement
+leaf_element bytes i = record {
+  key = slice_range bytes (leaf_key_start bytes i) (leaf_value_start bytes i);
+  value = leaf_value bytes i;
+  is_bucket = is_bucket_at bytes i;
+}
+
+-- the elements of a page with this many
+unfoldable pub branch_elements : List ℕ → ℕ → List BranchElement
+branch_elements bytes count = map (branch_element bytes) (range_with_len 0 count)
+
+unfoldable pub leaf_elements : List ℕ → ℕ → List LeafElement
+leaf_elements bytes count = map (leaf_element bytes) (range_with_len 0 count)
+
+-- a key has from 1 to 2^30 bytes, a value at most 2^31 - 2
+abbrev pub is_key_length : ℕ → Bool
+is_key_length n = nat_lt 0 n && nat_le n 0x40000000
+
+abbrev pub is_value_length : ℕ → Bool
+is_value_length n = nat_le n 0x7FFFFFFE
+
+-- the tests of data from start to end, where that of the elements before ends at `free`
+abbrev pub data_fault : List ℕ → (free start end : ℕ) → Option ℕ
+data_fault bytes free start end =
+    if nat_lt start free then Some DATA_ORDER
+    else (if nat_lt (length bytes) end then Some ELEMENT_CUT
+    else None)
+
+-- the tests of branch element i
+unfoldable pub branch_fault : List ℕ → ℕ → ℕ → Option ℕ
+branch_fault bytes free i =
+    if not (is_key_length (branch_key_length bytes i)) then Some KEY_LENGTH
+    else data_fault bytes free (branch_key_start bytes i) (branch_end bytes i)
+
+-- the tests of leaf element i, but for those of a bucket's value
+unfoldable pub plain_leaf_fault : List ℕ → ℕ → ℕ → Option ℕ
+plain_leaf_fault bytes free i =
+    if not (leaf_flags bytes i == 0 || leaf_flags bytes i == 1) then Some LEAF_FLAGS
+    else (if not (is_key_length (leaf_key_length bytes i)) then Some KEY_LENGTH
+    else (if not (is_value_length (leaf_value_length bytes i)) then Some VALUE_LENGTH
+    else data_fault bytes free (leaf_key_start bytes i) (leaf_end bytes i)))
+
+-- all tests of leaf element i; `bucket_fault` tests the value of a bucket
+abbrev pub leaf_fault : (List ℕ → Option ℕ) → List ℕ → ℕ → ℕ → Option ℕ
+leaf_fault bucket_fault bytes free i =
+    first_of (plain_leaf_fault bytes free i) (if is_bucket_at bytes i then bucket_fault (leaf_value bytes i) else None)
+
+-- the first fault of n elements from i on, by the test of one and where its data ends
+abbrev pub faults_from : (ℕ → ℕ → Option ℕ) → (ℕ → ℕ) → (free i n : ℕ) → Option ℕ
+faults_from fault end free i zero = None
+faults_from fault end free i (suc n) = first_of (fault free i) (faults_from fault end (end i) (suc i) n)
+
+-- the first fault of a page with this many elements: their table is within the bytes, and then each is tested
+abbrev pub elements_fault : (ℕ → ℕ → Option ℕ) → (ℕ → ℕ) → List ℕ → ℕ → Option ℕ
+elements_fault fault end bytes count =
+    if nat_lt (length bytes) (element_at count) then Some ELEMENT_CUT
+    else faults_from fault end (element_at count) 0 count
+
+unfoldable pub branches_fault : List ℕ → ℕ → Option ℕ
+branches_fault bytes count = elements_fault (branch_fault bytes) (branch_end bytes) bytes count
+
+unfoldable pub leaves_fault : (List ℕ → Option ℕ) → List ℕ → ℕ → Option ℕ
+leaves_fault bucket_fault bytes count = elements_fault (leaf_fault bucket_fault bytes) (leaf_end bytes) bytes count
+
+-- A bucket's value begins with the number of its root page and its sequence.
+abbrev pub head_root : List ℕ → ℕ
+head_root value = number_at value 0 8
+
+abbrev pub head_sequence : List ℕ → ℕ
+head_sequence value = number_at value 8 8
+
+abbrev pub head_fault : List ℕ → Option ℕ
+head_fault value = if nat_lt (length value) 16 then Some BUCKET_SHORT else None
+
+-- the inline page of a bucket whose root is 0, and what it holds
+abbrev pub inline_bytes : List ℕ → List ℕ
+inline_bytes value = drop 16 value
+
+abbrev pub inline_count : List ℕ → ℕ
+inline_count value = count_field (inline_bytes value)
+
+abbrev pub inline_elements : List ℕ → List LeafElement
+inline_elements value = leaf_elements (inline_bytes value) (inline_count value)
+
+-- a header fits, it is that of a leaf, and its elements are good
+abbrev pub is_inline_page : List ℕ → Bool
+is_inline_page bytes = nat_le 16 (length bytes) && (flags_field bytes == 2 && not (is_some (leaves_fault head_fault bytes (count_field bytes))))
+
+unfoldable pub inline_fault : List ℕ → Option ℕ
+inline_fault value =
+    if not (is_inline_page (inline_bytes value)) then Some INLINE_PAGE
+    else (if list_any (λ e. e.is_bucket) (inline_elements value) then Some INLINE_NESTED
+    else None)
+
+-- the tests of a bucket's value
+unfoldable pub value_fault : List ℕ → Option ℕ
+value_fault value = first_of (head_fault value) (if head_root value == 0 then inline_fault value else None)

@@ -1,0 +1,92 @@
+-- The meta records of a file, and which of them is in force: docs/FORMAT.md, "Meta pages" and "The meta in force".
+use Rattle.std.specs.Prelude.{IsTrue, ◌≡◌, ◌≢◌, ◌≤◌, ◌<◌, ◌⊎◌, ◌==◌, ℕ, ◌+◌, ◌*◌, ◌^◌, List, length, map, take, drop}
+use Rattle.std.specs.List.{list_any, range_with_len}
+use Rattle.bolt_format.specs.Bytes.{number_at, fnv_of}
+use Rattle.bolt_format.specs.declared.meta.Meta.{Meta}
+use Rattle.bolt_format.specs.declared.meta.Slot.{Slot}
+use Rattle.bolt_format.specs.declared.meta.Slot.TheVariants.{Zero, One}
+use Rattle.bolt_format.specs.declared.meta.MetaFault.{MetaFault}
+use Rattle.bolt_format.specs.declared.meta.MetaFault.TheVariants.{Cut, Magic, Version, Sum, PageSize}
+
+-- the powers of two from 1,024 to 65,536
+abbrev pub page_sizes : List ℕ
+page_sizes = map (λ k. 1024 * 2 ^ k) (range_with_len 0 7)
+
+abbrev pub IsPageSize : ℕ → Type 0
+IsPageSize n = IsTrue (list_any (λ size. size == n) page_sizes)
+
+-- The five tests of the page that begins at byte `at`: its record stands behind a header of 16 bytes.
+abbrev pub IsWhole : List ℕ → ℕ → Type 0
+IsWhole file at = at + 80 ≤ length file
+
+abbrev pub HasMagic : List ℕ → ℕ → Type 0
+HasMagic file at = number_at file (at + 16) 4 ≡ 0xED0CDAED
+
+abbrev pub HasVersion : List ℕ → ℕ → Type 0
+HasVersion file at = number_at file (at + 20) 4 ≡ 2
+
+-- the checksum is that of the 56 bytes before it
+abbrev pub HasSum : List ℕ → ℕ → Type 0
+HasSum file at = number_at file (at + 72) 8 ≡ fnv_of (take 56 (drop (at + 16) file))
+
+-- the page size is accepted, and the page stands at byte 0 or at that size
+abbrev pub size_at : List ℕ → ℕ → ℕ
+size_at file at = number_at file (at + 24) 4
+
+abbrev pub IsPlaced : List ℕ → ℕ → Type 0
+IsPlaced file at = (at ≡ 0) ⊎ (at ≡ size_at file at)
+
+abbrev pub meta_fields : List ℕ → ℕ → Meta
+meta_fields file at = record {
+  page_size = size_at file at;
+  root = number_at file (at + 32) 8;
+  root_sequence = number_at file (at + 40) 8;
+  freelist = number_at file (at + 48) 8;
+  high_water = number_at file (at + 56) 8;
+  txid = number_at file (at + 64) 8;
+}
+
+-- the page at this byte has a valid record, which says this
+pub record IsMeta (file : List ℕ) (at : ℕ) (meta : Meta) : Type 0 where
+  pub whole : IsWhole file at
+  pub magic : HasMagic file at
+  pub version : HasVersion file at
+  pub sum : HasSum file at
+  pub size : IsPageSize (size_at file at)
+  pub place : IsPlaced file at
+  pub fields : meta ≡ meta_fields file at
+
+-- the first of the five tests that fails
+abbrev pub HasMetaFault : List ℕ → ℕ → MetaFault → Type 0
+HasMetaFault file at Cut = ¬ IsWhole file at
+HasMetaFault file at Magic = IsWhole file at × ¬ HasMagic file at
+HasMetaFault file at Version = IsWhole file at × HasMagic file at × ¬ HasVersion file at
+HasMetaFault file at Sum = IsWhole file at × HasMagic file at × HasVersion file at × ¬ HasSum file at
+HasMetaFault file at PageSize = IsWhole file at × HasMagic file at × HasVersion file at × HasSum file at
+    × ((¬ IsPageSize (size_at file at)) ⊎ ¬ IsPlaced file at)
+
+-- the least of the accepted page sizes at which a page with a valid record begins
+pub record IsLoneMeta (file : List ℕ) (meta : Meta) : Type 0 where
+  pub at : ℕ
+  pub tried : IsPageSize at
+  pub valid : IsMeta file at meta
+  pub least : (before : ℕ) (other : Meta) → IsPageSize before → before < at → IsMeta file before other → ⊥
+
+-- Slot one is at the page size that a valid record in slot zero names; with none there, at the least accepted page size that has a valid one.
+abbrev pub IsInOne : List ℕ → Meta → Type 0
+IsInOne file meta =
+    ((zero : Meta) × IsMeta file 0 zero × IsMeta file zero.page_size meta)
+    ⊎ (((zero : Meta) → IsMeta file 0 zero → ⊥) × IsLoneMeta file meta)
+
+abbrev pub IsInSlot : List ℕ → Slot → Meta → Type 0
+IsInSlot file Zero meta = IsMeta file 0 meta
+IsInSlot file One meta = IsInOne file meta
+
+abbrev pub other_slot : Slot → Slot
+other_slot Zero = One
+other_slot One = Zero
+
+-- the meta in force: valid, and where the other slot has a valid one too, of the greater transaction, or of equal ones in slot zero
+pub record IsChosen (file : List ℕ) (slot : Slot) (meta : Meta) : Type 0 where
+  pub valid : IsInSlot file slot meta
+  pub newest : (other : Meta) → IsInSlot file (other_slot slot) other → (other.txid < meta.txid) ⊎ ((other.txid ≡ meta.txid) × (slot ≡ Zero))

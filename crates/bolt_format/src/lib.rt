@@ -1,0 +1,16 @@
+//! The bytes of a bbolt database file: its metas, its pages and their elements, and the sinks that
+//! take what is written. Nothing above this crate speaks of bytes: a page is what it shows.
+#![tactic(auto)]
+
+mod bytes;
+mod checksum;
+pub mod fault;
+pub mod meta;
+pub mod pages;
+pub mod sink;
+
+pub use checksum::fnv1a;
+pub use fault::PageFault;
+pub use meta::{Meta, MetaFault, Slot, choose, meta_at, page_size_ok};
+pub use pages::Kind;
+pub use sink::{MemSink, Sink, SinkFault, WriteSink};
