@@ -1,1 +1,3 @@
+mod FaultLemmas
+mod GoodPages
 mod MetaLemmas

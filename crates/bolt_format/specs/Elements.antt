@@ -1,6 +1,6 @@
 -- The elements of branch and leaf pages and their tests, over the bytes from a page's first one to the end of its span (of an inline
 -- page: to the end of its value): docs/FORMAT.md, "Elements" and "The tests of a page".
-use Rattle.std.specs.Prelude.{◌==◌, ℕ, zero, suc, ◌+◌, ◌*◌, Bool, not, ◌||◌, ◌&&◌, nat_lt, nat_le, List, map, length, drop, Option, Some, None, if◌then◌else◌, is_some, slice_range}
+use Rattle.std.specs.Prelude.{◌≡◌, ◌==◌, ℕ, zero, suc, ◌+◌, ◌*◌, Bool, not, ◌||◌, ◌&&◌, nat_lt, nat_le, List, map, length, drop, Option, Some, None, if◌then◌else◌, is_some, slice_range}
 use Rattle.std.specs.List.{list_any, range_with_len}
 use Rattle.bolt_format.specs.Bytes.{number_at}
 use Rattle.bolt_format.specs.Headers.{count_field, flags_field}
@@ -85,12 +85,21 @@ branch_elements bytes count = map (branch_element bytes) (range_with_len 0 count
 unfoldable pub leaf_elements : List ℕ → ℕ → List LeafElement
 leaf_elements bytes count = map (leaf_element bytes) (range_with_len 0 count)
 
--- a key has from 1 to 2^30 bytes, a value at most 2^31 - 2
-abbrev pub is_key_length : ℕ → Bool
-is_key_length n = nat_lt 0 n && nat_le n 0x40000000
+-- the table of this many elements is within the bytes
+abbrev pub table_fault : List ℕ → ℕ → Option ℕ
+table_fault bytes count = if nat_lt (length bytes) (element_at count) then Some ELEMENT_CUT else None
 
-abbrev pub is_value_length : ℕ → Bool
-is_value_length n = nat_le n 0x7FFFFFFE
+-- a key has from 1 to 2^30 bytes
+abbrev pub key_fault : ℕ → Option ℕ
+key_fault n = if n == 0 || nat_lt 0x40000000 n then Some KEY_LENGTH else None
+
+-- a value has at most 2^31 - 2 bytes
+abbrev pub value_length_fault : ℕ → Option ℕ
+value_length_fault n = if nat_lt 0x7FFFFFFE n then Some VALUE_LENGTH else None
+
+-- the flags of a leaf element are 0 or 1
+abbrev pub leaf_flags_fault : ℕ → Option ℕ
+leaf_flags_fault flags = if flags == 0 || flags == 1 then None else Some LEAF_FLAGS
 
 -- the tests of data from start to end, where that of the elements before ends at `free`
 abbrev pub data_fault : List ℕ → (free start end : ℕ) → Option ℕ
@@ -102,16 +111,15 @@ data_fault bytes free start end =
 -- the tests of branch element i
 unfoldable pub branch_fault : List ℕ → ℕ → ℕ → Option ℕ
 branch_fault bytes free i =
-    if not (is_key_length (branch_key_length bytes i)) then Some KEY_LENGTH
-    else data_fault bytes free (branch_key_start bytes i) (branch_end bytes i)
+    first_of (key_fault (branch_key_length bytes i)) (data_fault bytes free (branch_key_start bytes i) (branch_end bytes i))
 
 -- the tests of leaf element i, but for those of a bucket's value
 unfoldable pub plain_leaf_fault : List ℕ → ℕ → ℕ → Option ℕ
 plain_leaf_fault bytes free i =
-    if not (leaf_flags bytes i == 0 || leaf_flags bytes i == 1) then Some LEAF_FLAGS
-    else (if not (is_key_length (leaf_key_length bytes i)) then Some KEY_LENGTH
-    else (if not (is_value_length (leaf_value_length bytes i)) then Some VALUE_LENGTH
-    else data_fault bytes free (leaf_key_start bytes i) (leaf_end bytes i)))
+    first_of (leaf_flags_fault (leaf_flags bytes i))
+    (first_of (key_fault (leaf_key_length bytes i))
+    (first_of (value_length_fault (leaf_value_length bytes i))
+    (data_fault bytes free (leaf_key_start bytes i) (leaf_end bytes i))))
 
 -- all tests of leaf element i; `bucket_fault` tests the value of a bucket
 abbrev pub leaf_fault : (List ℕ → Option ℕ) → List ℕ → ℕ → ℕ → Option ℕ
@@ -123,11 +131,9 @@ abbrev pub faults_from : (ℕ → ℕ → Option ℕ) → (ℕ → ℕ) → (fre
 faults_from fault end free i zero = None
 faults_from fault end free i (suc n) = first_of (fault free i) (faults_from fault end (end i) (suc i) n)
 
--- the first fault of a page with this many elements: their table is within the bytes, and then each is tested
+-- the first fault of a page with this many elements: of their table, and then of each
 abbrev pub elements_fault : (ℕ → ℕ → Option ℕ) → (ℕ → ℕ) → List ℕ → ℕ → Option ℕ
-elements_fault fault end bytes count =
-    if nat_lt (length bytes) (element_at count) then Some ELEMENT_CUT
-    else faults_from fault end (element_at count) 0 count
+elements_fault fault end bytes count = first_of (table_fault bytes count) (faults_from fault end (element_at count) 0 count)
 
 unfoldable pub branches_fault : List ℕ → ℕ → Option ℕ
 branches_fault bytes count = elements_fault (branch_fault bytes) (branch_end bytes) bytes count
@@ -145,26 +151,28 @@ head_sequence value = number_at value 8 8
 abbrev pub head_fault : List ℕ → Option ℕ
 head_fault value = if nat_lt (length value) 16 then Some BUCKET_SHORT else None
 
--- the inline page of a bucket whose root is 0, and what it holds
+-- The page in the value of a bucket whose root is 0: it has a header, which is that of a leaf, and its elements are good.
+abbrev pub inline_page_fault : List ℕ → Option ℕ
+inline_page_fault bytes =
+    if nat_lt (length bytes) 16 || (not (flags_field bytes == 2) || is_some (leaves_fault head_fault bytes (count_field bytes))) then Some INLINE_PAGE
+    else None
+
+abbrev pub has_bucket : List ℕ → ℕ → Bool
+has_bucket bytes count = list_any (is_bucket_at bytes) (range_with_len 0 count)
+
+-- then none of its elements is a bucket
+unfoldable pub inline_fault : List ℕ → Option ℕ
+inline_fault bytes =
+    first_of (inline_page_fault bytes)
+    (if has_bucket bytes (count_field bytes) then Some INLINE_NESTED else None)
+
+-- what stands behind a bucket's root page and sequence
 abbrev pub inline_bytes : List ℕ → List ℕ
 inline_bytes value = drop 16 value
 
-abbrev pub inline_count : List ℕ → ℕ
-inline_count value = count_field (inline_bytes value)
-
-abbrev pub inline_elements : List ℕ → List LeafElement
-inline_elements value = leaf_elements (inline_bytes value) (inline_count value)
-
--- a header fits, it is that of a leaf, and its elements are good
-abbrev pub is_inline_page : List ℕ → Bool
-is_inline_page bytes = nat_le 16 (length bytes) && (flags_field bytes == 2 && not (is_some (leaves_fault head_fault bytes (count_field bytes))))
-
-unfoldable pub inline_fault : List ℕ → Option ℕ
-inline_fault value =
-    if not (is_inline_page (inline_bytes value)) then Some INLINE_PAGE
-    else (if list_any (λ e. e.is_bucket) (inline_elements value) then Some INLINE_NESTED
-    else None)
-
 -- the tests of a bucket's value
 unfoldable pub value_fault : List ℕ → Option ℕ
-value_fault value = first_of (head_fault value) (if head_root value == 0 then inline_fault value else None)
+value_fault value = first_of (head_fault value) (if head_root value == 0 then inline_fault (inline_bytes value) else None)
+
+abbrev pub IsBucketValue : List ℕ → Type 0
+IsBucketValue value = value_fault value ≡ None

@@ -1,8 +1,8 @@
 -- The header that a page begins with: docs/FORMAT.md, "Page header".
 use Rattle.std.specs.Prelude.{◌==◌, ℕ, List, Option, Some, None, if◌then◌else◌}
 use Rattle.bolt_format.specs.Bytes.{number_at}
-use Rattle.bolt_format.specs.declared.pages.Kind.{Kind}
-use Rattle.bolt_format.specs.declared.pages.Kind.TheVariants as kind
+use Rattle.bolt_format.specs.declared.kind.Kind.{Kind}
+use Rattle.bolt_format.specs.declared.kind.Kind.TheVariants as kind
 
 -- the fields of the header at the beginning of these bytes
 abbrev pub id_field : List ℕ → ℕ

@@ -1,6 +1,9 @@
 pub mod Bytes
+pub mod ElementPlaces
 pub mod Elements
 pub mod Headers
 pub mod Metas
 pub mod Pages
+pub mod Shown
 pub mod Sinks
+pub mod Spans

@@ -4,13 +4,21 @@
 
 mod bytes;
 mod checksum;
+mod content;
+pub mod element;
 pub mod fault;
+mod header;
+pub mod kind;
 pub mod meta;
+pub mod open;
 pub mod pages;
 pub mod sink;
 
 pub use checksum::fnv1a;
+pub use element::{Branch, Leaf};
 pub use fault::PageFault;
 pub use meta::{Meta, MetaFault, Slot, choose, meta_at, page_size_ok};
-pub use pages::Kind;
+pub use kind::Kind;
+pub use open::page;
+pub use pages::Page;
 pub use sink::{MemSink, Sink, SinkFault, WriteSink};

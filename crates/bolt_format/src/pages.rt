@@ -1,14 +1,68 @@
-//! What a page holds.
+//! A page that passed its tests, read in place.
+ghost use Rattle.std.specs.Prelude.{◌≡◌, ◌<◌, None, Some, IsTrue, slice_get};
+ghost use Rattle.std.proofs.Props.{props};
+ghost use Rattle.bolt_format.specs.Elements.{IsBucketValue};
+ghost use Rattle.bolt_format.specs.ElementPlaces.{branch_view, leaf_view};
+ghost use Rattle.bolt_format.specs.Pages.{content_fault};
 
-/// What a page is, by the flags in its header (docs/FORMAT.md, "Page header").
-#[derive(Clone, Copy, Debug, PartialEq, Eq)]
-pub enum Kind {
-    /// Leads to other pages.
-    Branch,
-    /// Holds keys with their values and buckets.
-    Leaf,
-    /// Holds a meta record.
-    Meta,
-    /// Holds the numbers of free pages.
-    Freelist,
+use crate::element::{Branch, Leaf, branch_at, leaf_at};
+use crate::kind::Kind;
+
+/// A page that passed all tests. It reads its elements in the file's bytes, each in constant time.
+#[derive(Clone, Copy)]
+pub struct Page<'a> {
+    pub(crate) kind: Kind,
+    pub(crate) count: u16,
+    pub(crate) overflow: u32,
+    pub(crate) span: &'a [u8],
+    ghost good: { content_fault kind count span.now ≡ None } by { Prim.hlevel props },
+}
+
+impl<'a> Page<'a> {
+    ghost use Rattle.bolt_format.specs.Shown.{shown};
+
+    /// What the page is.
+    #[tactic(auto, unfolding(crate::specs::Shown::shown))]
+    pub fn kind(&self) -> Kind
+        ensures { result ≡ (shown self.now).kind }
+    {
+        self.kind
+    }
+
+    /// The count in its header: how many elements a branch or a leaf has.
+    #[tactic(auto, unfolding(crate::specs::Shown::shown))]
+    pub fn count(&self) -> u16
+        ensures { result ≡ (shown self.now).count }
+    {
+        self.count
+    }
+
+    /// How many further pages its span has.
+    #[tactic(auto, unfolding(crate::specs::Shown::shown))]
+    pub fn overflow(&self) -> u32
+        ensures { result ≡ (shown self.now).overflow }
+    {
+        self.overflow
+    }
+
+    /// Element `i` of a branch page.
+    #[tactic(auto, unfolding(crate::specs::Shown::shown))]
+    pub fn branch(&self, i: u16) -> Branch<'a>
+        requires kind { (shown self.now).kind ≡ Kind.Branch }
+        requires below { i < (shown self.now).count }
+        ensures { slice_get (shown self.now).branches i ≡ Some (branch_view result) }
+    {
+        branch_at(self.span, i)
+    }
+
+    /// Element `i` of a leaf page.
+    #[tactic(auto, unfolding(crate::specs::Shown::shown))]
+    pub fn leaf(&self, i: u16) -> Leaf<'a>
+        requires kind { (shown self.now).kind ≡ Kind.Leaf }
+        requires below { i < (shown self.now).count }
+        ensures element { slice_get (shown self.now).leaves i ≡ Some (leaf_view result) }
+        ensures bucket { IsTrue result.is_bucket → IsBucketValue result.value.now }
+    {
+        leaf_at(self.span, i)
+    }
 }

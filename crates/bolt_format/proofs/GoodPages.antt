@@ -1,0 +1,84 @@
+-- What follows of the elements of a page that passed its tests.
+use Rattle.std.proofs.Common.{◌≡◌, ◌∙◌, ℕ, zero, suc, ◌+◌, ◌<◌, ◌≤◌, List, Bool, true, false, Option, None, Some, length, map, arith, ap, refl, subst, cond, nat_lt, slice_get, inl, inr}
+use Rattle.std.specs.List.{range_with_len}
+use Rattle.std.proofs.lemmas.Bool.{cases_lt, ltb-false}
+use Rattle.std.proofs.lemmas.List.FromFn.{get_or-map-range_with_len, length-map-range_with_len}
+use Rattle.std.proofs.lemmas.Option.{slice_get-get_or}
+use Rattle.bolt_format.specs.Elements.{IsBucketValue, branch_end, branch_fault, branch_key_length, branch_key_start, branches_fault, data_fault, element_at, faults_from, first_of, is_bucket_at, key_fault, leaf_end, leaf_fault, leaf_flags, leaf_flags_fault, leaf_key_length, leaf_key_start, leaf_value, leaf_value_length, leaves_fault, plain_leaf_fault, table_fault, value_fault, value_length_fault}
+use Rattle.bolt_format.specs.Pages.{content_fault}
+use Rattle.bolt_format.specs.declared.kind.Kind.{Kind}
+use Rattle.bolt_format.specs.declared.kind.Kind.TheVariants as kind
+
+-- neither of the two
+first_of-none : (a b : Option ℕ) → first_of a b ≡ None → (a ≡ None) × (b ≡ None)
+first_of-none None b e = (refl, e)
+first_of-none (Some fault) b e = absurd (cc)
+
+-- a test that told nothing
+guard-none : (test : Bool) (fault : ℕ) (next : Option ℕ) → cond test (Some fault) next ≡ None → (test ≡ false) × (next ≡ None)
+guard-none true fault next e = absurd (cc)
+guard-none false fault next e = (refl, e)
+
+-- none of n elements from i on has a fault
+faults_from-none : (fault : ℕ → ℕ → Option ℕ) (end : ℕ → ℕ) (free i n : ℕ) → faults_from fault end free i n ≡ None
+    → (k : ℕ) → i ≤ k → k < i + n → (before : ℕ) × (fault before k ≡ None)
+faults_from-none fault end free i zero e k low high = absurd (omega arith)
+faults_from-none fault end free i (suc n) e k low high =
+    let both = first_of-none (fault free i) (faults_from fault end (end i) (suc i) n) e in
+    elim (cases_lt i k) [
+      inl later ↦ faults_from-none fault end (end i) (suc i) n both.1 k (omega arith) (omega arith)
+    | inr here ↦ (free, let same : k ≡ i = omega arith in ap (fault free) same ∙ both.0)
+    ]
+
+table-none : (bytes : List ℕ) (count : ℕ) → table_fault bytes count ≡ None → element_at count ≤ length bytes
+table-none bytes count e =
+    let within = ltb-false _ _ (guard-none (nat_lt (length bytes) (element_at count)) _ None e).0 in omega (arith, within)
+
+data-none : (bytes : List ℕ) (free start end : ℕ) → data_fault bytes free start end ≡ None → end ≤ length bytes
+data-none bytes free start end e =
+    let later = (guard-none (nat_lt start free) _ _ e).1 in
+    let within = ltb-false _ _ (guard-none (nat_lt (length bytes) end) _ None later).0 in omega (arith, within)
+
+-- element i of a good branch
+pub good_branch : (bytes : List ℕ) (count i : ℕ) → branches_fault bytes count ≡ None → i < count
+    → (element_at (i + 1) ≤ length bytes) × (branch_end bytes i ≤ length bytes)
+unfolding branches_fault branch_fault
+good_branch bytes count i e h =
+    let both = first_of-none (table_fault bytes count) _ e in
+    let table = table-none bytes count both.0 in
+    let (before, one) = faults_from-none _ _ (element_at count) 0 count both.1 i (omega arith) (omega arith) in
+    (omega (arith, table), data-none bytes before (branch_key_start bytes i) _ (first_of-none (key_fault (branch_key_length bytes i)) _ one).1)
+
+-- a plain element ends within the bytes
+plain-none : (bytes : List ℕ) (free i : ℕ) → plain_leaf_fault bytes free i ≡ None → leaf_end bytes i ≤ length bytes
+unfolding plain_leaf_fault
+plain-none bytes free i e =
+    let flags = first_of-none (leaf_flags_fault (leaf_flags bytes i)) _ e in
+    let key = first_of-none (key_fault (leaf_key_length bytes i)) _ flags.1 in
+    let value = first_of-none (value_length_fault (leaf_value_length bytes i)) _ key.1 in
+    data-none bytes free (leaf_key_start bytes i) _ value.1
+
+chosen-none : (test : Bool) (fault : Option ℕ) → cond test fault None ≡ None → test ≡ true → fault ≡ None
+chosen-none true fault e h = e
+chosen-none false fault e h = absurd (cc)
+
+-- element i of a good leaf
+pub good_leaf : (bytes : List ℕ) (count i : ℕ) → leaves_fault value_fault bytes count ≡ None → i < count
+    → (element_at (i + 1) ≤ length bytes) × (leaf_end bytes i ≤ length bytes) × (is_bucket_at bytes i ≡ true → IsBucketValue (leaf_value bytes i))
+unfolding leaves_fault
+good_leaf bytes count i e h =
+    let both = first_of-none (table_fault bytes count) _ e in
+    let table = table-none bytes count both.0 in
+    let (before, one) = faults_from-none _ _ (element_at count) 0 count both.1 i (omega arith) (omega arith) in
+    let parts = first_of-none (plain_leaf_fault bytes before i) _ one in
+    (omega (arith, table), plain-none bytes before i parts.0, chosen-none (is_bucket_at bytes i) _ parts.1)
+
+-- what is good of a page of a known kind
+pub good_content : (k l : Kind) (count : ℕ) (bytes : List ℕ) → content_fault k count bytes ≡ None → k ≡ l → content_fault l count bytes ≡ None
+good_content k l count bytes e same = subst (λ (x : Kind). content_fault x count bytes ≡ None) same e
+
+-- element i of a list that is made of a function
+pub slice_get-made : {X : Type 0} (f : ℕ → X) (count i : ℕ) → i < count → slice_get (map f (range_with_len 0 count)) i ≡ Some (f i)
+slice_get-made f count i h =
+    slice_get-get_or (map f (range_with_len 0 count)) i (f i) (let n = length-map-range_with_len f 0 count in omega (arith, n))
+    ∙ ap Some (get_or-map-range_with_len f 0 count i i (f i) h (omega arith))

@@ -1,0 +1,56 @@
+//! The header that a page begins with.
+ghost use Rattle.std.specs.Prelude.{◌≡◌, ◌≤◌, length};
+ghost use Rattle.bolt_format.specs.Headers.{count_field, flags_field, id_field, kind_of, overflow_field};
+
+use crate::bytes::{u16_at, u32_at, u64_at};
+use crate::kind::Kind;
+
+/// The bytes of a page's header.
+pub(crate) const HEADER_LEN: usize = 16;
+
+/// The flags of a page that holds leaf elements.
+pub(crate) const LEAF_FLAGS: u16 = 0x02;
+
+/// What a page's header says (docs/FORMAT.md, "Page header").
+#[derive(Clone, Copy)]
+pub(crate) struct Header {
+    /// The page's own number.
+    pub id: u64,
+    /// What kind of page it is.
+    pub flags: u16,
+    /// How many elements or page numbers it holds.
+    pub count: u16,
+    /// How many further pages its span has.
+    pub overflow: u32,
+}
+
+impl Header {
+    /// The header at the beginning of the bytes.
+    pub fn read(bytes: &[u8]) -> Header
+        requires { 16 ≤ length bytes.now }
+        ensures id { result.id ≡ id_field bytes.now }
+        ensures flags { result.flags ≡ flags_field bytes.now }
+        ensures count { result.count ≡ count_field bytes.now }
+        ensures overflow { result.overflow ≡ overflow_field bytes.now }
+    {
+        Header {
+            id: u64_at(bytes, 0),
+            flags: u16_at(bytes, 8),
+            count: u16_at(bytes, 10),
+            overflow: u32_at(bytes, 12),
+        }
+    }
+
+    /// The kind of page that the flags name, if they name one.
+    pub fn kind(self) -> Option<Kind>
+        ensures { result ≡ kind_of self.flags }
+    {
+        match self.flags {
+            0x01 => Some(Kind::Branch),
+            LEAF_FLAGS => Some(Kind::Leaf),
+            0x04 => Some(Kind::Meta),
+            0x10 => Some(Kind::Freelist),
+            _ => None,
+        }
+    }
+}

@@ -1,0 +1,94 @@
+//! Opens a page: the tests of its number, its header and its span, and of what it holds.
+ghost use Rattle.std.specs.Prelude.{◌≡◌, ◌+◌, ◌*◌, ◌<◌, ◌^◌, IfErr, IfOk, None, Some};
+ghost use Rattle.std.specs.Result.{result_err};
+ghost use Rattle.bolt_format.specs.Pages.{page_at, page_fault, span_fault};
+ghost use Rattle.bolt_format.specs.Shown.{shown};
+ghost use Rattle.bolt_format.specs.Spans.{IsSpan};
+
+use crate::content::test_content;
+use crate::fault::PageFault;
+use crate::header::{HEADER_LEN, Header};
+use crate::kind::Kind;
+use crate::meta::Meta;
+use crate::pages::Page;
+
+/// The bytes of a page's span, with what its header says.
+#[derive(Clone, Copy)]
+pub(crate) struct Span<'a> {
+    pub kind: Kind,
+    pub count: u16,
+    pub overflow: u32,
+    pub bytes: &'a [u8],
+}
+
+/// Page `id` of a file under a meta (docs/FORMAT.md, "The tests of a page"), or the first test
+/// that it fails.
+pub fn page<'a>(file: &'a [u8], meta: &Meta, id: u64) -> Result<Page<'a>, PageFault>
+    ensures good { IfOk result (λ page. page_at file.now meta.now id ≡ Some (shown page)) }
+    ensures fault { IfErr result (λ fault. (page_fault file.now meta.now id ≡ Some fault.number) × (fault.page ≡ id)) }
+{
+    match test_page(file, meta, id) {
+        Ok(page) => Ok(page),
+        Err(number) => Err(PageFault { number, page: id }),
+    }
+}
+
+#[tactic(auto, unfolding(crate::specs::Pages::page_at, crate::specs::Pages::page_fault, crate::specs::Shown::shown))]
+fn test_page<'a>(file: &'a [u8], meta: &Meta, id: u64) -> Result<Page<'a>, u8>
+    ensures good { IfOk result (λ page. page_at file.now meta.now id ≡ Some (shown page)) }
+    ensures fault { IfErr result (λ fault. page_fault file.now meta.now id ≡ Some fault) }
+{
+    let span = test_span(file, meta, id)?;
+    test_content(span.kind, span.bytes, span.count)?;
+    Ok(Page {
+        kind: span.kind,
+        count: span.count,
+        overflow: span.overflow,
+        span: span.bytes,
+    })
+}
+
+/// The byte at which a page begins.
+fn page_start(page: u128, meta: &Meta) -> u128
+    requires { page < 2 ^ 65 }
+    ensures { result ≡ page * meta.now.page_size }
+{
+    page * u128::from(meta.page_size)
+}
+
+/// Tests a page's number, its header and its span.
+#[tactic(auto, unfolding(crate::specs::Pages::span_fault))]
+pub(crate) fn test_span<'a>(file: &'a [u8], meta: &Meta, id: u64) -> Result<Span<'a>, u8>
+    ensures fault { result_err result ≡ span_fault file.now meta.now id }
+    ensures span { IfOk result (IsSpan file.now meta.now id) }
+{
+    let file_len = file.len() as u128;
+    if id >= meta.high_water {
+        return Err(PageFault::RANGE);
+    }
+    let start = page_start(u128::from(id), meta);
+    if start + 16 > file_len {
+        return Err(PageFault::CUT);
+    }
+    let header = Header::read(&file[start as usize..]);
+    if header.id != id {
+        return Err(PageFault::ID);
+    }
+    let Some(kind) = header.kind() else {
+        return Err(PageFault::PAGE_KIND);
+    };
+    let last = u128::from(id) + u128::from(header.overflow);
+    if last >= u128::from(meta.high_water) {
+        return Err(PageFault::RANGE);
+    }
+    let end = page_start(last + 1, meta);
+    if end > file_len {
+        return Err(PageFault::CUT);
+    }
+    Ok(Span {
+        kind,
+        count: header.count,
+        overflow: header.overflow,
+        bytes: &file[start as usize..end as usize],
+    })
+}
