@@ -1,11 +1,15 @@
 -- What follows of the elements of a page that passed its tests.
-use Rattle.std.proofs.Common.{◌≡◌, ◌∙◌, ℕ, zero, suc, ◌+◌, ◌<◌, ◌≤◌, List, Bool, true, false, Option, None, Some, length, map, arith, ap, refl, subst, cond, nat_lt, slice_get, inl, inr}
+use Rattle.std.proofs.Common.{◌≡◌, ◌∙◌, ℕ, zero, suc, ◌+◌, ◌<◌, ◌≤◌, List, Bool, true, false, Option, None, Some, IsSome, is_some, length, not, ◌*◌, ◌==◌, nat_le, map, arith, ap, refl, sym, subst, cond, nat_lt, slice_get, inl, inr}
 use Rattle.std.specs.List.{range_with_len}
 use Rattle.std.proofs.lemmas.Bool.{cases_lt, ltb-false}
 use Rattle.std.proofs.lemmas.List.FromFn.{get_or-map-range_with_len, length-map-range_with_len}
 use Rattle.std.proofs.lemmas.Option.{slice_get-get_or}
 use Rattle.bolt_format.specs.Elements.{IsBucketValue, branch_end, branch_fault, branch_key_length, branch_key_start, branches_fault, data_fault, element_at, faults_from, first_of, is_bucket_at, key_fault, leaf_end, leaf_fault, leaf_flags, leaf_flags_fault, leaf_key_length, leaf_key_start, leaf_value, leaf_value_length, leaves_fault, plain_leaf_fault, table_fault, value_fault, value_length_fault}
-use Rattle.bolt_format.specs.Pages.{content_fault}
+use Rattle.bolt_format.specs.Headers.{count_field, flags_field, id_field, kind_of}
+use Rattle.bolt_format.specs.Pages.{content_fault, fault_as, from_page, page_at, page_fault, page_overflow, shown_as, span_bytes, span_fault}
+use Rattle.bolt_format.specs.Spans.{IsSpan, IsWithin}
+use Rattle.bolt_format.specs.declared.meta.Meta.{Meta}
+use Rattle.bolt_format.specs.declared.open.Span.{Span}
 use Rattle.bolt_format.specs.declared.kind.Kind.{Kind}
 use Rattle.bolt_format.specs.declared.kind.Kind.TheVariants as kind
 
@@ -82,3 +86,42 @@ pub slice_get-made : {X : Type 0} (f : ℕ → X) (count i : ℕ) → i < count 
 slice_get-made f count i h =
     slice_get-get_or (map f (range_with_len 0 count)) i (f i) (let n = length-map-range_with_len f 0 count in omega (arith, n))
     ∙ ap Some (get_or-map-range_with_len f 0 count i i (f i) h (omega arith))
+
+not-false : (b : Bool) → not b ≡ false → b ≡ true
+not-false true e = refl
+not-false false e = absurd (cc)
+
+pub good_span : (file : List ℕ) (meta : Meta) (id : ℕ) → span_fault file meta id ≡ None → IsWithin file meta id
+unfolding span_fault
+good_span file meta id e =
+    let in_range = guard-none (nat_le meta.high_water id) _ _ e in
+    let header = guard-none (nat_lt (length file) (id * meta.page_size + 16)) _ _ in_range.1 in
+    let own = guard-none (not (id_field (from_page file meta id) == id)) _ _ header.1 in
+    let kind = guard-none (not (is_some (kind_of (flags_field (from_page file meta id))))) _ _ own.1 in
+    let last = guard-none (nat_le meta.high_water (id + page_overflow file meta id)) _ _ kind.1 in
+    let end = guard-none (nat_lt (length file) ((id + 1 + page_overflow file meta id) * meta.page_size)) _ None last.1 in
+    record { header = ltb-false _ _ header.0; kind = not-false _ kind.0; end = ltb-false _ _ end.0 }
+
+-- A page that shows something passed all tests.
+shown-passed : (fault : Option ℕ) (kind : Option Kind) (count overflow : ℕ) (bytes : List ℕ) → IsSome (shown_as fault kind count overflow bytes) → fault ≡ None
+shown-passed None kind count overflow bytes e = refl
+shown-passed (Some fault) kind count overflow bytes e = absurd (cc)
+
+pub good_fault : (file : List ℕ) (meta : Meta) (id : ℕ) → IsSome (page_at file meta id) → page_fault file meta id ≡ None
+unfolding page_at
+good_fault file meta id e = shown-passed (page_fault file meta id) _ _ _ _ e
+
+-- so its span is within the file
+pub good_within : (file : List ℕ) (meta : Meta) (id : ℕ) → IsSome (page_at file meta id) → IsWithin file meta id
+unfolding page_fault
+good_within file meta id e = good_span file meta id (first_of-none (span_fault file meta id) _ (good_fault file meta id e)).0
+
+-- and what its span holds is good
+pub good_content_at : (file : List ℕ) (meta : Meta) (id : ℕ) (span : Span) → IsSome (page_at file meta id) → IsSpan file meta id span
+    → content_fault span.kind span.count span.bytes.now ≡ None
+unfolding page_fault
+good_content_at file meta id span e is =
+    let fault = (first_of-none (span_fault file meta id) _ (good_fault file meta id e)).1 in
+    subst (λ (bytes : List ℕ). content_fault span.kind span.count bytes ≡ None) (sym is.bytes)
+    (subst (λ (count : ℕ). content_fault span.kind count (span_bytes file meta id) ≡ None) (sym is.count)
+    (subst (λ (kind : Option Kind). fault_as kind (count_field (from_page file meta id)) (span_bytes file meta id) ≡ None) is.kind fault))

@@ -19,6 +19,6 @@ pub use element::{Branch, Leaf};
 pub use fault::PageFault;
 pub use meta::{Meta, MetaFault, Slot, choose, meta_at, page_size_ok};
 pub use kind::Kind;
-pub use open::page;
+pub use open::{known, page};
 pub use pages::Page;
 pub use sink::{MemSink, Sink, SinkFault, WriteSink};
