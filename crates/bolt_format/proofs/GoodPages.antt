@@ -1,10 +1,11 @@
 -- What follows of the elements of a page that passed its tests.
-use Rattle.std.proofs.Common.{◌≡◌, ◌∙◌, ℕ, zero, suc, ◌+◌, ◌<◌, ◌≤◌, List, Bool, true, false, Option, None, Some, IsSome, is_some, length, not, ◌*◌, ◌==◌, nat_le, map, arith, ap, refl, sym, subst, cond, nat_lt, slice_get, inl, inr}
-use Rattle.std.specs.List.{range_with_len}
+use Rattle.std.proofs.Common.{◌≡◌, ◌∙◌, ℕ, zero, suc, ◌+◌, ◌<◌, ◌≤◌, List, Bool, true, false, Option, None, Some, IsSome, is_some, length, not, zero-add, ◌||◌, eq-eqb, ◌*◌, ◌==◌, nat_le, map, arith, ap, refl, sym, subst, cond, nat_lt, slice_get, inl, inr}
+use Rattle.std.specs.List.{list_any, range_with_len}
 use Rattle.std.proofs.lemmas.Bool.{cases_lt, ltb-false}
-use Rattle.std.proofs.lemmas.List.FromFn.{get_or-map-range_with_len, length-map-range_with_len}
+use Rattle.std.proofs.lemmas.List.FromFn.{get_or-map-range_with_len, get_or-range_with_len, length-map-range_with_len, length-range_with_len}
+use Rattle.std.proofs.lemmas.List.Folds.{list_any_at}
 use Rattle.std.proofs.lemmas.Option.{slice_get-get_or}
-use Rattle.bolt_format.specs.Elements.{IsBucketValue, branch_end, branch_fault, branch_key_length, branch_key_start, branches_fault, data_fault, element_at, faults_from, first_of, is_bucket_at, key_fault, leaf_end, leaf_fault, leaf_flags, leaf_flags_fault, leaf_key_length, leaf_key_start, leaf_value, leaf_value_length, leaves_fault, plain_leaf_fault, table_fault, value_fault, value_length_fault}
+use Rattle.bolt_format.specs.Elements.{IsBucketValue, branch_end, branch_fault, branch_key_length, branch_key_start, branches_fault, data_fault, element_at, faults_from, has_bucket, head_fault, head_root, inline_bytes, inline_fault, inline_page_fault, first_of, is_bucket_at, key_fault, leaf_element, leaf_elements, leaf_end, leaf_fault, leaf_flags, leaf_flags_fault, leaf_key_length, leaf_key_start, leaf_value, leaf_value_length, leaves_fault, plain_leaf_fault, table_fault, value_fault, value_length_fault}
 use Rattle.bolt_format.specs.Headers.{count_field, flags_field, id_field, kind_of}
 use Rattle.bolt_format.specs.Pages.{content_fault, fault_as, from_page, page_at, page_fault, page_overflow, shown_as, span_bytes, span_fault}
 use Rattle.bolt_format.specs.Spans.{IsSpan, IsWithin}
@@ -67,10 +68,10 @@ chosen-none true fault e h = e
 chosen-none false fault e h = absurd (cc)
 
 -- element i of a good leaf
-pub good_leaf : (bytes : List ℕ) (count i : ℕ) → leaves_fault value_fault bytes count ≡ None → i < count
-    → (element_at (i + 1) ≤ length bytes) × (leaf_end bytes i ≤ length bytes) × (is_bucket_at bytes i ≡ true → IsBucketValue (leaf_value bytes i))
+pub good_leaf : (bucket_fault : List ℕ → Option ℕ) (bytes : List ℕ) (count i : ℕ) → leaves_fault bucket_fault bytes count ≡ None → i < count
+    → (element_at (i + 1) ≤ length bytes) × (leaf_end bytes i ≤ length bytes) × (is_bucket_at bytes i ≡ true → bucket_fault (leaf_value bytes i) ≡ None)
 unfolding leaves_fault
-good_leaf bytes count i e h =
+good_leaf bucket_fault bytes count i e h =
     let both = first_of-none (table_fault bytes count) _ e in
     let table = table-none bytes count both.0 in
     let (before, one) = faults_from-none _ _ (element_at count) 0 count both.1 i (omega arith) (omega arith) in
@@ -125,3 +126,55 @@ good_content_at file meta id span e is =
     subst (λ (bytes : List ℕ). content_fault span.kind span.count bytes ≡ None) (sym is.bytes)
     (subst (λ (count : ℕ). content_fault span.kind count (span_bytes file meta id) ≡ None) (sym is.count)
     (subst (λ (kind : Option Kind). fault_as kind (count_field (from_page file meta id)) (span_bytes file meta id) ≡ None) is.kind fault))
+
+-- A bucket's value has its head,
+pub good_head : (value : List ℕ) → IsBucketValue value → 16 ≤ length value
+unfolding value_fault
+good_head value e = let short = ltb-false _ _ (guard-none (nat_lt (length value) 16) _ None (first_of-none (head_fault value) _ e).0).0 in omega (arith, short)
+
+-- and where its root is 0, a good page with no bucket in it.
+pub record IsInlinePage (bytes : List ℕ) : Type 0 where
+  pub header : 16 ≤ length bytes
+  pub good : leaves_fault head_fault bytes (count_field bytes) ≡ None
+  pub flat : has_bucket bytes (count_field bytes) ≡ false
+
+not-some : (o : Option ℕ) → is_some o ≡ false → o ≡ None
+not-some None e = refl
+not-some (Some x) e = absurd (cc)
+
+neither : (a b : Bool) → (a || b) ≡ false → (a ≡ false) × (b ≡ false)
+neither false b e = (refl, e)
+neither true b e = absurd (cc)
+
+good_inline_fault : (bytes : List ℕ) → inline_fault bytes ≡ None → IsInlinePage bytes
+unfolding inline_fault
+good_inline_fault bytes e =
+    let parts = first_of-none (inline_page_fault bytes) _ e in
+    let tests = neither (nat_lt (length bytes) 16) _ (guard-none (nat_lt (length bytes) 16 || (not (flags_field bytes == 2) || is_some (leaves_fault head_fault bytes (count_field bytes)))) _ None parts.0).0 in
+    let elements = neither (not (flags_field bytes == 2)) _ tests.1 in
+    record {
+      header = ltb-false _ _ tests.0;
+      good = not-some _ elements.1;
+      flat = (guard-none (has_bucket bytes (count_field bytes)) _ None parts.1).0;
+    }
+
+pub good_inline : (value bytes : List ℕ) → bytes ≡ inline_bytes value → IsBucketValue value → head_root value ≡ 0 → IsInlinePage bytes
+unfolding value_fault
+good_inline value bytes same e root =
+    subst IsInlinePage (sym same) (good_inline_fault (inline_bytes value)
+    (chosen-none (head_root value == 0) (inline_fault (inline_bytes value)) (first_of-none (head_fault value) _ e).1 (eq-eqb (head_root value) 0 root)))
+
+-- The elements of an inline page: how many they are, and that none is a bucket.
+pub length-leaf_elements : (bytes : List ℕ) (count : ℕ) → length (leaf_elements bytes count) ≡ count
+unfolding leaf_elements
+length-leaf_elements bytes count = length-map-range_with_len (leaf_element bytes) 0 count
+
+none-at : (test : ℕ → Bool) (count i : ℕ) (b : Bool) → list_any test (range_with_len 0 count) ≡ false → i < count → test i ≡ b → b ≡ false
+none-at test count i false none h is = refl
+none-at test count i true none h is =
+    let at = get_or-range_with_len 0 count i 0 h in
+    let found = list_any_at test (range_with_len 0 count) i 0 (omega (arith, length-range_with_len 0 count)) (ap test (at ∙ zero-add i) ∙ is) in
+    absurd (cc)
+
+pub no_bucket-at : (bytes : List ℕ) (count i : ℕ) → has_bucket bytes count ≡ false → i < count → is_bucket_at bytes i ≡ false
+no_bucket-at bytes count i none h = none-at (is_bucket_at bytes) count i (is_bucket_at bytes i) none h refl

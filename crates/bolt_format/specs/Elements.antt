@@ -176,3 +176,7 @@ value_fault value = first_of (head_fault value) (if head_root value == 0 then in
 
 abbrev pub IsBucketValue : List ℕ → Type 0
 IsBucketValue value = value_fault value ≡ None
+
+-- the elements of an inline bucket
+abbrev pub inline_elements : List ℕ → List LeafElement
+inline_elements value = leaf_elements (inline_bytes value) (count_field (inline_bytes value))

@@ -5,5 +5,6 @@ pub mod Headers
 pub mod Metas
 pub mod Pages
 pub mod Shown
+pub mod ShownInline
 pub mod Sinks
 pub mod Spans

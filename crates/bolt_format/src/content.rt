@@ -5,14 +5,12 @@ ghost use Rattle.bolt_format.specs.Elements.{branches_fault, element_at, has_buc
 ghost use Rattle.bolt_format.specs.Headers.{count_field};
 ghost use Rattle.bolt_format.specs.Pages.{content_fault};
 
+use crate::bucket::HEAD_LEN;
 use crate::bytes::u64_at;
 use crate::element::{is_bucket, test_branch, test_leaf, test_table};
 use crate::fault::PageFault;
 use crate::header::{HEADER_LEN, Header, LEAF_FLAGS};
 use crate::kind::Kind;
-
-/// The bytes of a bucket's value before its inline page.
-pub(crate) const HEAD_LEN: usize = 16;
 
 /// Tests what a page of a kind holds: its elements, where it is a branch or a leaf.
 pub(crate) fn test_content(kind: Kind, bytes: &[u8], count: u16) -> Result<(), u8>

@@ -2,6 +2,7 @@
 //! take what is written. Nothing above this crate speaks of bytes: a page is what it shows.
 #![tactic(auto)]
 
+pub mod bucket;
 mod bytes;
 mod checksum;
 mod content;
@@ -13,7 +14,9 @@ pub mod meta;
 pub mod open;
 pub mod pages;
 pub mod sink;
+pub mod value;
 
+pub use bucket::{Head, Inline};
 pub use checksum::fnv1a;
 pub use element::{Branch, Leaf};
 pub use fault::PageFault;
@@ -22,3 +25,4 @@ pub use kind::Kind;
 pub use open::{known, page};
 pub use pages::Page;
 pub use sink::{MemSink, Sink, SinkFault, WriteSink};
+pub use value::{head, inline};

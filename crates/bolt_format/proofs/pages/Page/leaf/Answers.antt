@@ -1,5 +1,5 @@
 use Rattle.std.proofs.Common.{◌≡◌, ◌∙◌, ap, sym, subst, Some, slice_get}
-use Rattle.bolt_format.specs.Elements.{IsBucketValue, LeafElement, leaf_element, leaf_elements}
+use Rattle.bolt_format.specs.Elements.{IsBucketValue, LeafElement, leaf_element, leaf_elements, value_fault}
 use Rattle.bolt_format.specs.Pages.{shown_leaves}
 use Rattle.bolt_format.specs.Shown.{shown}
 use Rattle.bolt_format.specs.declared.kind.Kind.TheVariants as kind
@@ -8,11 +8,11 @@ use Rattle.bolt_format.proofs.pages.Page.leaf.Goals as goal
 
 pub leaf_at-requires-clause-table : goal.leaf_at-requires-clause-table
 unfolding shown
-leaf_at-requires-clause-table c = (good_leaf _ _ c.args.i (good_content _ kind.Leaf _ _ c.args.self.now.good c.requires.kind) c.requires.below).0
+leaf_at-requires-clause-table c = (good_leaf value_fault _ _ c.args.i (good_content _ kind.Leaf _ _ c.args.self.now.good c.requires.kind) c.requires.below).0
 
 pub leaf_at-requires-clause-data : goal.leaf_at-requires-clause-data
 unfolding shown
-leaf_at-requires-clause-data c = (good_leaf _ _ c.args.i (good_content _ kind.Leaf _ _ c.args.self.now.good c.requires.kind) c.requires.below).1
+leaf_at-requires-clause-data c = (good_leaf value_fault _ _ c.args.i (good_content _ kind.Leaf _ _ c.args.self.now.good c.requires.kind) c.requires.below).1
 
 pub returns-clause-element : goal.returns-clause-element
 unfolding shown leaf_elements
@@ -24,5 +24,5 @@ returns-clause-element c =
 pub returns-clause-bucket : goal.returns-clause-bucket
 unfolding shown
 returns-clause-bucket c h =
-    let good = (good_leaf _ _ c.args.i (good_content _ kind.Leaf _ _ c.args.self.now.good c.requires.kind) c.requires.below).2 in
+    let good = (good_leaf value_fault _ _ c.args.i (good_content _ kind.Leaf _ _ c.args.self.now.good c.requires.kind) c.requires.below).2 in
     subst IsBucketValue (ap (λ (e : LeafElement). e.value) (sym c.leaf_at.ensures)) (good (ap (λ (e : LeafElement). e.is_bucket) (sym c.leaf_at.ensures) ∙ h))

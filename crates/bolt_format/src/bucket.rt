@@ -1,0 +1,49 @@
+//! What a bucket's value gives: its head, and the leaf page that an inline bucket has in it.
+ghost use Rattle.std.specs.Prelude.{◌≡◌, ◌<◌, None, Some, false, length, slice_get};
+ghost use Rattle.std.proofs.Props.{props};
+ghost use Rattle.bolt_format.specs.Elements.{has_bucket, head_fault, leaves_fault};
+ghost use Rattle.bolt_format.specs.ElementPlaces.{leaf_view};
+
+use crate::element::{Leaf, leaf_at};
+
+/// The bytes of a bucket's value before its inline page.
+pub(crate) const HEAD_LEN: usize = 16;
+
+/// What a bucket's value begins with (docs/FORMAT.md, "Buckets").
+#[derive(Clone, Copy, Debug, PartialEq, Eq)]
+pub struct Head {
+    /// The page number of the bucket's root page, or 0 for an inline bucket.
+    pub root: u64,
+    /// The bucket's sequence.
+    pub sequence: u64,
+}
+
+/// The page of an inline bucket, which passed all tests. It reads its elements in the file's bytes,
+/// each in constant time.
+#[derive(Clone, Copy)]
+pub struct Inline<'a> {
+    pub(crate) count: u16,
+    pub(crate) bytes: &'a [u8],
+    ghost good: { leaves_fault head_fault bytes.now count ≡ None } by { Prim.hlevel props },
+    ghost flat: { has_bucket bytes.now count ≡ false } by { Prim.hlevel props },
+}
+
+impl<'a> Inline<'a> {
+    ghost use Rattle.bolt_format.specs.ShownInline.{shown_inline};
+
+    /// How many elements it has.
+    pub fn count(&self) -> u16
+        ensures { result ≡ length (shown_inline self.now) }
+    {
+        self.count
+    }
+
+    /// Element `i`, which is a value.
+    pub fn leaf(&self, i: u16) -> Leaf<'a>
+        requires { i < length (shown_inline self.now) }
+        ensures element { slice_get (shown_inline self.now) i ≡ Some (leaf_view result) }
+        ensures flat { result.is_bucket ≡ false }
+    {
+        leaf_at(self.bytes, i)
+    }
+}

@@ -1,0 +1,35 @@
+//! What the value of a bucket's element says.
+ghost use Rattle.std.specs.Prelude.{◌≡◌};
+ghost use Rattle.bolt_format.specs.Elements.{IsBucketValue, head_root, head_sequence, inline_elements};
+ghost use Rattle.bolt_format.specs.ShownInline.{shown_inline};
+
+use crate::bucket::{HEAD_LEN, Head, Inline};
+use crate::bytes::u64_at;
+use crate::header::Header;
+
+/// The root page and the sequence of a bucket.
+#[tactic(auto, using(crate::proofs::GoodPages::good_head))]
+pub fn head(value: &[u8]) -> Head
+    requires { IsBucketValue value.now }
+    ensures root { result.root ≡ head_root value.now }
+    ensures sequence { result.sequence ≡ head_sequence value.now }
+{
+    Head {
+        root: u64_at(value, 0),
+        sequence: u64_at(value, 8),
+    }
+}
+
+/// The page that a bucket whose root is 0 has in its own value.
+#[tactic(auto, using(crate::proofs::GoodPages::good_inline), unfolding(crate::specs::ShownInline::shown_inline))]
+pub fn inline(value: &[u8]) -> Inline<'_>
+    requires bucket { IsBucketValue value.now }
+    requires inline { head_root value.now ≡ 0 }
+    ensures { shown_inline result ≡ inline_elements value.now }
+{
+    let bytes = &value[HEAD_LEN..];
+    Inline {
+        count: Header::read(bytes).count,
+        bytes,
+    }
+}
