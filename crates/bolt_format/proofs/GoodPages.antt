@@ -5,14 +5,13 @@ use Rattle.std.proofs.lemmas.Bool.{cases_lt, ltb-false}
 use Rattle.std.proofs.lemmas.List.FromFn.{get_or-map-range_with_len, get_or-range_with_len, length-map-range_with_len, length-range_with_len}
 use Rattle.std.proofs.lemmas.List.Folds.{list_any_at}
 use Rattle.std.proofs.lemmas.Option.{slice_get-get_or}
-use Rattle.bolt_format.specs.Elements.{IsBucketValue, branch_end, branch_fault, branch_key_length, branch_key_start, branches_fault, data_fault, element_at, faults_from, has_bucket, head_fault, head_root, inline_bytes, inline_fault, inline_page_fault, first_of, is_bucket_at, key_fault, leaf_element, leaf_elements, leaf_end, leaf_fault, leaf_flags, leaf_flags_fault, leaf_key_length, leaf_key_start, leaf_value, leaf_value_length, leaves_fault, plain_leaf_fault, table_fault, value_fault, value_length_fault}
+use Rattle.bolt_format.specs.Elements.{IsBucketValue, branch_end, branch_fault, branch_key_length, branch_key_start, branches_fault, data_fault, element_at, faults_from, has_bucket, head_fault, head_root, inline_bytes, inline_fault, inline_page_fault, first_of, is_bucket_at, key_fault, leaf_element, leaf_elements, leaf_end, leaf_flags, leaf_flags_fault, leaf_key_length, leaf_key_start, leaf_value, leaf_value_length, leaves_fault, plain_leaf_fault, table_fault, value_fault, value_length_fault}
 use Rattle.bolt_format.specs.Headers.{count_field, flags_field, id_field, kind_of}
 use Rattle.bolt_format.specs.Pages.{content_fault, fault_as, from_page, page_at, page_fault, page_overflow, shown_as, span_bytes, span_fault}
 use Rattle.bolt_format.specs.Spans.{IsSpan, IsWithin}
 use Rattle.bolt_format.specs.declared.meta.Meta.{Meta}
 use Rattle.bolt_format.specs.declared.open.Span.{Span}
 use Rattle.bolt_format.specs.declared.kind.Kind.{Kind}
-use Rattle.bolt_format.specs.declared.kind.Kind.TheVariants as kind
 
 -- neither of the two
 first_of-none : (a b : Option ℕ) → first_of a b ≡ None → (a ≡ None) × (b ≡ None)
@@ -31,8 +30,8 @@ faults_from-none fault end free i zero e k low high = absurd (omega arith)
 faults_from-none fault end free i (suc n) e k low high =
     let both = first_of-none (fault free i) (faults_from fault end (end i) (suc i) n) e in
     elim (cases_lt i k) [
-      inl later ↦ faults_from-none fault end (end i) (suc i) n both.1 k (omega arith) (omega arith)
-    | inr here ↦ (free, let same : k ≡ i = omega arith in ap (fault free) same ∙ both.0)
+      | inl later ↦ faults_from-none fault end (end i) (suc i) n both.1 k (omega arith) (omega arith)
+      | inr here ↦ (free, let same : k ≡ i = omega arith in ap (fault free) same ∙ both.0)
     ]
 
 table-none : (bytes : List ℕ) (count : ℕ) → table_fault bytes count ≡ None → element_at count ≤ length bytes

@@ -1,3 +1,5 @@
 mod FaultLemmas
+mod FreeLemmas
 mod GoodPages
 mod MetaLemmas
+pub mod SinkLemmas

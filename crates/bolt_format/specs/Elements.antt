@@ -1,6 +1,6 @@
 -- The elements of branch and leaf pages and their tests, over the bytes from a page's first one to the end of its span (of an inline
 -- page: to the end of its value): docs/FORMAT.md, "Elements" and "The tests of a page".
-use Rattle.std.specs.Prelude.{◌≡◌, ◌==◌, ℕ, zero, suc, ◌+◌, ◌*◌, Bool, not, ◌||◌, ◌&&◌, nat_lt, nat_le, List, map, length, drop, Option, Some, None, if◌then◌else◌, is_some, slice_range}
+use Rattle.std.specs.Prelude.{◌≡◌, ◌==◌, ℕ, zero, suc, ◌+◌, ◌*◌, Bool, not, ◌||◌, nat_lt, List, map, length, drop, Option, Some, None, if◌then◌else◌, is_some, slice_range}
 use Rattle.std.specs.List.{list_any, range_with_len}
 use Rattle.bolt_format.specs.Bytes.{number_at}
 use Rattle.bolt_format.specs.Headers.{count_field, flags_field}

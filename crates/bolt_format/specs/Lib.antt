@@ -1,10 +1,12 @@
 pub mod Bytes
 pub mod ElementPlaces
 pub mod Elements
+pub mod Freelists
 pub mod Headers
 pub mod Metas
 pub mod Pages
 pub mod Shown
+pub mod ShownIds
 pub mod ShownInline
 pub mod Sinks
 pub mod Spans

@@ -1,5 +1,5 @@
 -- The meta records of a file, and which of them is in force: docs/FORMAT.md, "Meta pages" and "The meta in force".
-use Rattle.std.specs.Prelude.{IsTrue, ◌≡◌, ◌≢◌, ◌≤◌, ◌<◌, ◌⊎◌, ◌==◌, ℕ, ◌+◌, ◌*◌, ◌^◌, List, length, map, take, drop}
+use Rattle.std.specs.Prelude.{IsTrue, ◌≡◌, ◌≤◌, ◌<◌, ◌⊎◌, ◌==◌, ℕ, ◌+◌, ◌*◌, ◌^◌, List, length, map, take, drop}
 use Rattle.std.specs.List.{list_any, range_with_len}
 use Rattle.bolt_format.specs.Bytes.{number_at, fnv_of}
 use Rattle.bolt_format.specs.declared.meta.Meta.{Meta}

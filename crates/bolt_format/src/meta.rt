@@ -8,6 +8,9 @@ use crate::checksum::fnv1a;
 /// The page sizes that are accepted, in bytes, from the smallest up.
 pub const PAGE_SIZES: [u64; 7] = [1024, 2048, 4096, 8192, 16384, 32768, 65536];
 
+/// The freelist field of a meta without a freelist.
+pub const NO_FREELIST: u64 = u64::MAX;
+
 /// The bytes from the start of a meta page to the end of its record.
 const META_LEN: usize = 80;
 
@@ -25,7 +28,7 @@ pub struct Meta {
     pub root: u64,
     /// The sequence of the root bucket.
     pub root_sequence: u64,
-    /// The page number of the freelist, or the greatest u64 where none was written.
+    /// The page number of the freelist, or `NO_FREELIST` where none was written.
     pub freelist: u64,
     /// The high-water mark: all pages in use have lower numbers.
     pub high_water: u64,

@@ -1,5 +1,5 @@
 //! Where written bytes go.
-ghost use Rattle.std.specs.Prelude.{◌≡◌, ◌≢◌, ◌<◌, ℕ, List, [], Option, Some, IfOk, OnErr, OnOk, IsErr};
+ghost use Rattle.std.specs.Prelude.{◌≡◌, ◌≢◌, ◌<◌, ℕ, List, [], Option, Some, OnErr, OnOk, IsErr};
 ghost use Rattle.std.specs.Io.KnownBytes.{Appends, Keeps};
 ghost use Rattle.bolt_format.specs.Sinks.{AppendsBeginning, AppendsProperBeginning};
 
@@ -48,7 +48,10 @@ pub struct WriteSink<W: Write> {
 
 impl<W: Write> WriteSink<W> {
     /// A sink that took nothing yet, over a writer.
-    pub fn new(writer: W) -> Self {
+    pub fn new(writer: W) -> Self
+        ensures taken { ⟦<WriteSink<W> as Sink>⟧.taken result ≡ W.contents writer }
+        ensures sound { ⟦<WriteSink<W> as Sink>⟧.failed result ≡ 0 }
+    {
         WriteSink {
             writer,
             failures: 0,
@@ -56,7 +59,9 @@ impl<W: Write> WriteSink<W> {
     }
 
     /// The writer, as it is after what was taken.
-    pub fn into_inner(self) -> W {
+    pub fn into_inner(self) -> W
+        ensures { W.contents result ≡ ⟦<WriteSink<W> as Sink>⟧.taken self }
+    {
         let WriteSink {
             writer,
             failures: _,
@@ -101,7 +106,10 @@ pub struct MemSink {
 
 impl MemSink {
     /// A sink that took nothing yet.
-    pub fn new(alloc: Global) -> Self {
+    pub fn new(alloc: Global) -> Self
+        ensures taken { ⟦<MemSink as Sink>⟧.taken result ≡ Some [] }
+        ensures sound { ⟦<MemSink as Sink>⟧.failed result ≡ 0 }
+    {
         MemSink {
             items: Vec::new(alloc),
             failures: 0,
@@ -109,7 +117,9 @@ impl MemSink {
     }
 
     /// All the bytes that it took, in order.
-    pub fn bytes(&self) -> &[u8] {
+    pub fn bytes(&self) -> &[u8]
+        ensures { ⟦<MemSink as Sink>⟧.taken self.now ≡ Some result.now }
+    {
         self.items.as_slice()
     }
 }

@@ -1,7 +1,6 @@
-use Rattle.std.proofs.Common.{◌≡◌, ◌∙◌, ◌<◌, ℕ, List, Some, ap, arith, length, sym}
+use Rattle.std.proofs.Common.{◌∙◌, ◌<◌, ℕ, List, Some, ap, arith, length, sym}
 use Rattle.bolt_format.specs.Elements.{LeafElement, head_fault, leaf_element, leaf_elements}
 use Rattle.bolt_format.specs.ShownInline.{shown_inline}
-use Rattle.bolt_format.specs.declared.bucket.Inline.{Inline}
 use Rattle.bolt_format.proofs.GoodPages.{good_leaf, length-leaf_elements, no_bucket-at, slice_get-made}
 use Rattle.bolt_format.proofs.bucket.Inline.leaf.Goals as goal
 

@@ -1,4 +1,4 @@
-use Rattle.std.proofs.Common.{◌≡◌, ◌∙◌, ap, sym, subst, Some, slice_get}
+use Rattle.std.proofs.Common.{◌∙◌, ap, sym, subst, Some, slice_get}
 use Rattle.bolt_format.specs.Elements.{IsBucketValue, LeafElement, leaf_element, leaf_elements, value_fault}
 use Rattle.bolt_format.specs.Pages.{shown_leaves}
 use Rattle.bolt_format.specs.Shown.{shown}
