@@ -1,3 +1,4 @@
+pub mod FaultWords
 pub mod Forms
 pub mod Lines
 pub mod Writes

@@ -6,5 +6,5 @@ abbrev pub line : List ℕ → List ℕ
 line text = text ++ 10 ∷ []
 
 -- a name, a space and a number in decimal
-abbrev pub figure_line : List ℕ → ℕ → List ℕ
+unfoldable pub figure_line : List ℕ → ℕ → List ℕ
 figure_line name n = line (name ++ codes " " ++ decimal n)

@@ -3,11 +3,14 @@
 #![tactic(auto)]
 
 pub mod fault;
+pub mod fault_lines;
 pub mod form;
 mod hexadecimal;
 mod puts;
+mod text;
 pub mod values;
 
 pub use fault::ReportFault;
+pub use fault_lines::{meta_fault_text, page_fault_text};
 pub use form::Form;
 pub use values::value;

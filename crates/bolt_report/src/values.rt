@@ -1,5 +1,5 @@
 //! A key or a value on a line.
-ghost use Rattle.std.specs.Prelude.{◌≡◌, ◌<◌, IfErr, IsTrue, OnOk, OnErr, Err};
+ghost use Rattle.std.specs.Prelude.{◌≡◌, ◌<◌, Err, IfErr, OnOk};
 ghost use Rattle.std.specs.Io.KnownBytes.{Appends};
 ghost use Rattle.bolt_format.specs.Sinks.{AppendsBeginning};
 ghost use Rattle.bolt_report.specs.Forms.{is_printable, shown_as, value_text};
@@ -20,10 +20,8 @@ pub fn value<S: Sink>(bytes: &[u8], form: Form, sink: &mut S) -> Result<(), Repo
     ensures failure { result ≡ Err ReportFault.Sink → 0 < S.failed sink.new }
     ensures fault { IfErr result (λ fault. fault ≡ ReportFault.Sink) }
 {
-    match put_value(bytes, form, sink) {
-        Ok(()) => Ok(()),
-        Err(SinkFault) => Err(ReportFault::Sink),
-    }
+    put_value(bytes, form, sink)?;
+    Ok(())
 }
 
 fn put_value<S: Sink>(bytes: &[u8], form: Form, sink: &mut S) -> Result<(), SinkFault>
