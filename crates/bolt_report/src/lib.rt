@@ -1,0 +1,18 @@
+//! What is printed: each text as the bytes that a sink takes. A call that meets a fault leaves a
+//! beginning of its text on the sink.
+#![tactic(auto)]
+
+pub mod fault;
+pub mod fault_lines;
+pub mod form;
+mod hexadecimal;
+pub mod metas;
+mod puts;
+mod text;
+pub mod values;
+
+pub use fault::ReportFault;
+pub use fault_lines::{meta_fault_text, page_fault_text};
+pub use form::Form;
+pub use metas::info;
+pub use values::value;
