@@ -2,7 +2,7 @@
 //! the freelist accounts for every other page (docs/SOUND.md).
 #![tactic(auto)]
 
-mod finding;
+pub mod finding;
 mod keys;
 mod node;
 mod stop;

@@ -2,16 +2,19 @@
 use Rattle.std.specs.Prelude.{◌==◌, ℕ, List, [], ◌∷◌, ◌++◌, codes, decimal, if◌then◌else◌}
 use Rattle.bolt_format.specs.declared.fault.PageFault.{PageFault}
 use Rattle.bolt_format.specs.declared.fault.TheConstants.PageFault.{RANGE, CUT, ID, PAGE_KIND, ELEMENT_CUT, DATA_ORDER, KEY_LENGTH, VALUE_LENGTH, LEAF_FLAGS, BUCKET_SHORT, INLINE_PAGE, INLINE_NESTED}
+use Rattle.bolt_check.specs.declared.finding.Finding.{Finding}
+use Rattle.bolt_check.specs.declared.finding.TheConstants.Finding.{TWICE, ORDER, BELOW_PARENT, ABOVE_NEXT, EMPTY_BRANCH, TOO_DEEP, FREED_TWICE, REACHED_FREED, UNREACHABLE, FREE_RANGE}
 use Rattle.bolt_format.specs.declared.meta.MetaFault.{MetaFault}
+use Rattle.bolt_report.specs.Lines.{line}
 use Rattle.bolt_format.specs.declared.meta.MetaFault.TheVariants.{Cut, Magic, Version, Sum, PageSize}
 
 -- what a file without a valid meta is refused with
 abbrev pub meta_fault_text : MetaFault → List ℕ
-meta_fault_text Cut = codes "file too short"
-meta_fault_text Magic = codes "invalid database"
-meta_fault_text Version = codes "version mismatch"
-meta_fault_text Sum = codes "checksum error"
-meta_fault_text PageSize = codes "page size refused"
+meta_fault_text Cut = line (codes "file too short")
+meta_fault_text Magic = line (codes "invalid database")
+meta_fault_text Version = line (codes "version mismatch")
+meta_fault_text Sum = line (codes "checksum error")
+meta_fault_text PageSize = line (codes "page size refused")
 
 -- A number of a fault, and its words.
 pub record FaultWords : Type 0 where
@@ -48,4 +51,29 @@ page_fault_words number = words_in page_fault_table number
 
 -- what a page is refused with
 abbrev pub page_fault_text : PageFault → List ℕ
-page_fault_text fault = codes "page " ++ decimal fault.page ++ codes ": " ++ page_fault_words fault.number
+page_fault_text fault = line (codes "page " ++ decimal fault.page ++ codes ": " ++ page_fault_words fault.number)
+
+-- the findings of the structure, and of the accounts
+abbrev pub finding_table : List FaultWords
+finding_table =
+    named TWICE (codes "referenced twice")
+    ∷ named ORDER (codes "keys not rising")
+    ∷ named BELOW_PARENT (codes "key below its branch key")
+    ∷ named ABOVE_NEXT (codes "key not below the next branch key")
+    ∷ named EMPTY_BRANCH (codes "empty branch")
+    ∷ named TOO_DEEP (codes "tree too deep")
+    ∷ named FREED_TWICE (codes "freed twice")
+    ∷ named REACHED_FREED (codes "reachable freed")
+    ∷ named UNREACHABLE (codes "unreachable unfreed")
+    ∷ named FREE_RANGE (codes "free page out of range")
+    ∷ page_fault_table
+
+unfoldable pub finding_words : ℕ → List ℕ
+finding_words number = words_in finding_table number
+
+-- a finding is told of a page, or of a run of pages
+unfoldable pub pages_words : ℕ → ℕ → List ℕ
+pages_words page last = if page == last then codes "page " ++ decimal page else codes "pages " ++ decimal page ++ codes " to " ++ decimal last
+
+abbrev pub finding_text : Finding → List ℕ
+finding_text finding = line (pages_words finding.page finding.last ++ codes ": " ++ finding_words finding.number)

@@ -12,7 +12,7 @@ mod text;
 pub mod values;
 
 pub use fault::ReportFault;
-pub use fault_lines::{meta_fault_text, page_fault_text};
+pub use fault_lines::{finding_text, meta_fault_text, page_fault_text};
 pub use form::Form;
 pub use metas::info;
 pub use values::value;
