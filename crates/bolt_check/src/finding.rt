@@ -34,7 +34,8 @@ impl Finding {
     /// The page is listed as free, but is a meta page or not below the high-water mark.
     pub const FREE_RANGE: u8 = 27;
 
-    pub(crate) fn of_page(number: u8, page: u64) -> Finding
+    /// What is wrong with one page.
+    pub fn of_page(number: u8, page: u64) -> Finding
         ensures { result ≡ record { number = number; page = page; last = page } }
     {
         Finding {
