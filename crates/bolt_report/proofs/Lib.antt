@@ -1,2 +1,4 @@
+mod ListWrites
 mod Pieces
+mod ShownLemmas
 pub mod WriteLemmas

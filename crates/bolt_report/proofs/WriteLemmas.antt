@@ -1,5 +1,5 @@
 -- One text after another on a sink.
-use Rattle.std.proofs.Common.{◌∙◌, ℕ, List, [], ◌++◌, Option, Result, Ok, Err, refl}
+use Rattle.std.proofs.Common.{◌≡◌, ◌∙◌, ℕ, List, [], ◌++◌, Option, Result, Ok, Err, refl, subst}
 use Rattle.std.specs.Prelude.{⊤, IsErr}
 use Rattle.std.proofs.KnownBytes.{Appends-nil, Appends-trans}
 use Rattle.bolt_format.proofs.SinkLemmas.{AppendsBeginning-none, AppendsBeginning-first, AppendsBeginning-second}
@@ -40,3 +40,8 @@ Writes-none old m = record {
   beginning = AppendsBeginning-none old [];
   failure = tt;
 }
+
+-- the same text in other words
+pub Writes-same : {A E : Type 0} (old new : Option (List ℕ)) (m n : ℕ) (text same : List ℕ) (result : Result A E)
+    → text ≡ same → Writes old new m n text result → Writes old new m n same result
+Writes-same old new m n text same result e a = subst (λ l. Writes old new m n l result) e a

@@ -2,6 +2,7 @@
 //! beginning of its text on the sink.
 #![tactic(auto)]
 
+mod elements;
 pub mod fault;
 pub mod fault_lines;
 pub mod form;

@@ -4,12 +4,11 @@ ghost use Rattle.std.specs.Io.KnownBytes.{Appends};
 ghost use Rattle.bolt_format.specs.Sinks.{AppendsBeginning};
 ghost use Rattle.bolt_report.specs.MetaLines.{freelist_line, info_text, slot_number};
 
-use bolt_format::meta::NO_FREELIST;
-use bolt_format::{Meta, Sink, Slot};
-
 use crate::fault::ReportFault;
 use crate::puts::put;
 use crate::text::{TEXT_LEN, Text, push_bytes, push_figure, push_number};
+use bolt_format::meta::NO_FREELIST;
+use bolt_format::{Meta, Sink, Slot};
 
 /// Puts the seven lines of a meta and its slot (docs/COMMANDS.md, "What is printed"). `Sink` says
 /// that the sink failed, and no other fault comes; the sink then took a beginning of the text.
