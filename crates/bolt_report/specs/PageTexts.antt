@@ -1,7 +1,6 @@
 -- Any page of a file as a text: docs/COMMANDS.md, "What is printed".
 use Rattle.std.specs.Prelude.{ℕ, List, [], Option, Some, None}
 use Rattle.std.specs.Option.{option_map}
-use Rattle.bolt_format.specs.Elements.{first_of}
 use Rattle.bolt_format.specs.Freelists.{free_ids_of, freelist_fault_of}
 use Rattle.bolt_format.specs.Pages.{PageView, page_at, page_fault}
 use Rattle.bolt_format.specs.declared.fault.PageFault.{PageFault}
@@ -36,19 +35,25 @@ shown_text id ids None = []
 abbrev pub page_text : List ℕ → Meta → ℕ → List ℕ
 page_text file meta id = shown_text id (page_ids file meta id) (page_at file meta id)
 
--- The ids of a freelist page are tested too.
-abbrev pub ids_fault_on : Option ℕ → Kind → Option ℕ
-ids_fault_on fault kind.Branch = None
-ids_fault_on fault kind.Leaf = None
-ids_fault_on fault kind.Meta = None
-ids_fault_on fault kind.Freelist = fault
+abbrev pub fault_of : ℕ → Option ℕ → Option PageFault
+fault_of id fault = option_map (λ number. record { number = number; page = id }) fault
 
-abbrev pub shown_fault : Option ℕ → Option PageView → Option ℕ
-shown_fault fault (Some view) = ids_fault_on fault view.kind
-shown_fault fault None = None
+-- the fault of a page as the freelist of its file
+abbrev pub page_ids_fault : List ℕ → Meta → ℕ → Option PageFault
+page_ids_fault file meta id = fault_of id (freelist_fault_of file (with_freelist meta id))
+
+-- The ids of a freelist page are tested too.
+abbrev pub kind_fault : Option PageFault → Kind → Option PageFault
+kind_fault ids_fault kind.Branch = None
+kind_fault ids_fault kind.Leaf = None
+kind_fault ids_fault kind.Meta = None
+kind_fault ids_fault kind.Freelist = ids_fault
+
+-- the fault of the page itself, or that of the ids on a page without one
+abbrev pub shown_fault : Option PageFault → Option PageFault → Option PageView → Option PageFault
+shown_fault fault ids_fault (Some view) = kind_fault ids_fault view.kind
+shown_fault fault ids_fault None = fault
 
 -- the first fault of a page that is to be printed
 abbrev pub page_text_fault : List ℕ → Meta → ℕ → Option PageFault
-page_text_fault file meta id =
-    option_map (λ number. record { number = number; page = id })
-    (first_of (page_fault file meta id) (shown_fault (freelist_fault_of file (with_freelist meta id)) (page_at file meta id)))
+page_text_fault file meta id = shown_fault (fault_of id (page_fault file meta id)) (page_ids_fault file meta id) (page_at file meta id)
