@@ -25,24 +25,24 @@ flat_map-take_more f xs i x found =
     ap (flat_map f) (take_more xs i x found) ∙ flat_map-append f (take i xs) (x ∷ []) ∙ ap (λ l. flat_map f (take i xs) ++ l) (append-nil (f x))
 
 -- one element more
-pub Writes-element : {X A B E F : Type 0} (f : X → List ℕ) (xs : List X) (i : ℕ) (x : X) (old mid new : Option (List ℕ)) (m n o : ℕ) (a : A) (result : Result B F)
-    → slice_get xs i ≡ Some x → Writes {A = A} {E = E} old mid m n (flat_map f (take i xs)) (Ok a) → Writes mid new n o (f x) result
-    → Writes old new m o (flat_map f (take (i + 1) xs)) result
-Writes-element f xs i x old mid new m n o a result found before one =
-    subst (λ text. Writes old new m o text result) (sym (ap (λ k. flat_map f (take k xs)) (add-one i) ∙ flat_map-take_more f xs i x found))
-    (Writes-then old mid new m n o (flat_map f (take i xs)) (f x) a result before one)
+pub Writes-element : {S X A B E F : Type 0} {taken : S → Option (List ℕ)} {failed : S → ℕ} (f : X → List ℕ) (xs : List X) (i : ℕ) (x : X) (old mid new : S) (a : A) (result : Result B F)
+    → slice_get xs i ≡ Some x → Writes {A = A} {E = E} taken failed old mid (flat_map f (take i xs)) (Ok a) → Writes taken failed mid new (f x) result
+    → Writes taken failed old new (flat_map f (take (i + 1) xs)) result
+Writes-element {taken} {failed} f xs i x old mid new a result found before one =
+    subst (λ text. Writes taken failed old new text result) (sym (ap (λ k. flat_map f (take k xs)) (add-one i) ∙ flat_map-take_more f xs i x found))
+    (Writes-then old mid new (flat_map f (take i xs)) (f x) a result before one)
 
 -- an element that was not put whole, after which no other is put
-pub Writes-last_element : {X A B E F : Type 0} (f : X → List ℕ) (xs : List X) (i : ℕ) (x : X) (old mid new : Option (List ℕ)) (m n o : ℕ) (a : A) (e : E) (result : Result B F)
-    → slice_get xs i ≡ Some x → Writes {A = A} {E = E} old mid m n (flat_map f (take i xs)) (Ok a) → Writes {A = A} {E = E} mid new n o (f x) (Err e)
-    → IsErr result → Writes old new m o (flat_map f xs) result
-Writes-last_element f xs i x old mid new m n o a e result found before one err =
-    subst (λ text. Writes old new m o text result) (sym (flat_map-cut_at f xs i x found))
-    (Writes-then old mid new m n o (flat_map f (take i xs)) (f x ++ flat_map f (drop (suc i) xs)) a result before
-    (Writes-stop mid new n o (f x) (flat_map f (drop (suc i) xs)) e result one err))
+pub Writes-last_element : {S X A B E F : Type 0} {taken : S → Option (List ℕ)} {failed : S → ℕ} (f : X → List ℕ) (xs : List X) (i : ℕ) (x : X) (old mid new : S) (a : A) (e : E) (result : Result B F)
+    → slice_get xs i ≡ Some x → Writes {A = A} {E = E} taken failed old mid (flat_map f (take i xs)) (Ok a) → Writes {A = A} {E = E} taken failed mid new (f x) (Err e)
+    → IsErr result → Writes taken failed old new (flat_map f xs) result
+Writes-last_element {taken} {failed} f xs i x old mid new a e result found before one err =
+    subst (λ text. Writes taken failed old new text result) (sym (flat_map-cut_at f xs i x found))
+    (Writes-then old mid new (flat_map f (take i xs)) (f x ++ flat_map f (drop (suc i) xs)) a result before
+    (Writes-stop mid new (f x) (flat_map f (drop (suc i) xs)) e result one err))
 
 -- all elements
-pub Writes-elements : {X B F : Type 0} (f : X → List ℕ) (xs : List X) (count : ℕ) (old new : Option (List ℕ)) (m n : ℕ) (result : Result B F)
-    → length xs ≡ count → Writes old new m n (flat_map f (take count xs)) result → Writes old new m n (flat_map f xs) result
-Writes-elements f xs count old new m n result whole written =
-    subst (λ l. Writes old new m n (flat_map f l) result) (ap (λ k. take k xs) (sym whole) ∙ take-length xs) written
+pub Writes-elements : {S X B F : Type 0} {taken : S → Option (List ℕ)} {failed : S → ℕ} (f : X → List ℕ) (xs : List X) (count : ℕ) (old new : S) (result : Result B F)
+    → length xs ≡ count → Writes taken failed old new (flat_map f (take count xs)) result → Writes taken failed old new (flat_map f xs) result
+Writes-elements {taken} {failed} f xs count old new result whole written =
+    subst (λ l. Writes taken failed old new (flat_map f l) result) (ap (λ k. take k xs) (sym whole) ∙ take-length xs) written

@@ -16,7 +16,7 @@ use bolt_format::{Branch, FreeIds, Kind, Leaf, Page, Sink, SinkFault, head};
 /// Puts a line for each element of a branch page.
 pub(crate) fn put_branches<S: Sink>(page: &Page<'_>, sink: &mut S) -> Result<(), SinkFault>
     requires { (shown page.now).kind ≡ Kind.Branch }
-    ensures { Writes (S.taken sink.old) (S.taken sink.new) (S.failed sink.old) (S.failed sink.new) (flat_map branch_line (shown page.now).branches) result }
+    ensures { Writes S.taken S.failed sink.old sink.new (flat_map branch_line (shown page.now).branches) result }
 {
     for i in 0..page.count() {
         put_branch(&page.branch(i), sink)?;
@@ -27,7 +27,7 @@ pub(crate) fn put_branches<S: Sink>(page: &Page<'_>, sink: &mut S) -> Result<(),
 /// Puts a line for each element of a leaf page.
 pub(crate) fn put_leaves<S: Sink>(page: &Page<'_>, sink: &mut S) -> Result<(), SinkFault>
     requires { (shown page.now).kind ≡ Kind.Leaf }
-    ensures { Writes (S.taken sink.old) (S.taken sink.new) (S.failed sink.old) (S.failed sink.new) (flat_map leaf_line (shown page.now).leaves) result }
+    ensures { Writes S.taken S.failed sink.old sink.new (flat_map leaf_line (shown page.now).leaves) result }
 {
     for i in 0..page.count() {
         put_leaf(&page.leaf(i), sink)?;
@@ -37,7 +37,7 @@ pub(crate) fn put_leaves<S: Sink>(page: &Page<'_>, sink: &mut S) -> Result<(), S
 
 /// Puts a line for each id of a freelist.
 pub(crate) fn put_ids<S: Sink>(ids: &FreeIds<'_>, sink: &mut S) -> Result<(), SinkFault>
-    ensures { Writes (S.taken sink.old) (S.taken sink.new) (S.failed sink.old) (S.failed sink.new) (flat_map id_line (shown_ids ids.now)) result }
+    ensures { Writes S.taken S.failed sink.old sink.new (flat_map id_line (shown_ids ids.now)) result }
 {
     for i in 0..ids.len() {
         put(id_text(ids.get(i)).as_slice(), sink)?;
@@ -47,7 +47,7 @@ pub(crate) fn put_ids<S: Sink>(ids: &FreeIds<'_>, sink: &mut S) -> Result<(), Si
 
 #[tactic(auto, unfolding(crate::specs::PageLines::branch_line))]
 fn put_branch<S: Sink>(branch: &Branch<'_>, sink: &mut S) -> Result<(), SinkFault>
-    ensures { Writes (S.taken sink.old) (S.taken sink.new) (S.failed sink.old) (S.failed sink.new) (branch_line (branch_view branch.now)) result }
+    ensures { Writes S.taken S.failed sink.old sink.new (branch_line (branch_view branch.now)) result }
 {
     put_hex(branch.key, sink)?;
     put(child_text(branch.child).as_slice(), sink)
@@ -56,7 +56,7 @@ fn put_branch<S: Sink>(branch: &Branch<'_>, sink: &mut S) -> Result<(), SinkFaul
 #[tactic(auto, unfolding(crate::specs::PageLines::leaf_line))]
 fn put_leaf<S: Sink>(leaf: &Leaf<'_>, sink: &mut S) -> Result<(), SinkFault>
     requires { IsTrue leaf.now.is_bucket → IsBucketValue leaf.now.value.now }
-    ensures { Writes (S.taken sink.old) (S.taken sink.new) (S.failed sink.old) (S.failed sink.new) (leaf_line (leaf_view leaf.now)) result }
+    ensures { Writes S.taken S.failed sink.old sink.new (leaf_line (leaf_view leaf.now)) result }
 {
     put_hex(leaf.key, sink)?;
     if leaf.is_bucket {
@@ -69,7 +69,7 @@ fn put_leaf<S: Sink>(leaf: &Leaf<'_>, sink: &mut S) -> Result<(), SinkFault>
 /// Puts what follows the key of a value.
 #[tactic(auto, unfolding(crate::specs::PageLines::value_end))]
 fn put_value_end<S: Sink>(value: &[u8], sink: &mut S) -> Result<(), SinkFault>
-    ensures { Writes (S.taken sink.old) (S.taken sink.new) (S.failed sink.old) (S.failed sink.new) (value_end value.now) result }
+    ensures { Writes S.taken S.failed sink.old sink.new (value_end value.now) result }
 {
     put(b" = ", sink)?;
     put_hex(value, sink)?;

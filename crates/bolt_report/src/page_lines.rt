@@ -87,7 +87,7 @@ fn put_page<S: Sink>(
     ids: Option<FreeIds<'_>>,
     sink: &mut S,
 ) -> Result<(), SinkFault>
-    ensures { Writes (S.taken sink.old) (S.taken sink.new) (S.failed sink.old) (S.failed sink.new) (page_lines id (shown page.now) (known_ids (option_map shown_ids ids.entry))) result }
+    ensures { Writes S.taken S.failed sink.old sink.new (page_lines id (shown page.now) (known_ids (option_map shown_ids ids.entry))) result }
 {
     put(page_head(id, page, &ids).as_slice(), sink)?;
     put_items(page, ids, sink)
@@ -98,7 +98,7 @@ fn put_items<S: Sink>(
     ids: Option<FreeIds<'_>>,
     sink: &mut S,
 ) -> Result<(), SinkFault>
-    ensures { Writes (S.taken sink.old) (S.taken sink.new) (S.failed sink.old) (S.failed sink.new) (item_lines (shown page.now).kind (shown page.now) (known_ids (option_map shown_ids ids.entry))) result }
+    ensures { Writes S.taken S.failed sink.old sink.new (item_lines (shown page.now).kind (shown page.now) (known_ids (option_map shown_ids ids.entry))) result }
 {
     match page.kind() {
         Kind::Branch => put_branches(page, sink),

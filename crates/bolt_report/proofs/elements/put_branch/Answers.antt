@@ -9,11 +9,11 @@ pub returns-in_err-put_hex : goal.returns-in_err-put_hex
 unfolding branch_line
 returns-in_err-put_hex g c =
     let branch = c.args.branch.now in
-    Writes-stop _ _ _ _ (encode_lower branch.key.now) (line (codes " -> " ++ decimal branch.child)) _ _ c.in_err-put_hex.ensures c.from_residual.ensures.0
+    Writes-stop _ _ (encode_lower branch.key.now) (line (codes " -> " ++ decimal branch.child)) _ _ c.in_err-put_hex.ensures c.from_residual.ensures.0
 
 pub returns : goal.returns
 unfolding branch_line
 returns g c =
     let branch = c.args.branch.now in
-    Writes-then _ _ _ _ _ _ (encode_lower branch.key.now) (line (codes " -> " ++ decimal branch.child)) _ _ c.in_ok-put_hex.ensures
-    (Writes-same _ _ _ _ _ _ _ (c.as_slice.ensures.value ∙ c.child_text.ensures) c.put.ensures)
+    Writes-then _ _ _ (encode_lower branch.key.now) (line (codes " -> " ++ decimal branch.child)) _ _ c.in_ok-put_hex.ensures
+    (Writes-same _ _ _ _ _ (c.as_slice.ensures.value ∙ c.child_text.ensures) c.put.ensures)

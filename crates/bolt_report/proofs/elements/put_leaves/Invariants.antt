@@ -9,5 +9,5 @@ use Rattle.bolt_report.proofs.elements.put_leaves.Given as goal
 -- the lines of the elements before number i were put
 abbrev pub invariant-loop-i : goal.invariant-loop-i
 invariant-loop-i g l =
-    Writes {A = ⊤} {E = SinkFault} (g.S.Sink.taken l.initial.sink) (g.S.Sink.taken l.sink) (g.S.Sink.failed l.initial.sink) (g.S.Sink.failed l.sink)
+    Writes {A = ⊤} {E = SinkFault} g.S.Sink.taken g.S.Sink.failed l.initial.sink l.sink
     (flat_map leaf_line (take l.i (shown l.page).leaves)) (Ok tt)

@@ -11,4 +11,4 @@ pub returns : goal.returns
 returns g c =
     let page = shown c.args.page.now in
     let ids = known_ids (option_map shown_ids c.args.ids) in
-    Writes-then _ _ _ _ _ _ _ (item_lines page.kind page ids) _ _ (Writes-same _ _ _ _ _ _ _ (c.as_slice.ensures.value ∙ c.page_head.ensures) c.in_ok-put.ensures) c.put_items.ensures
+    Writes-then _ _ _ _ (item_lines page.kind page ids) _ _ (Writes-same _ _ _ _ _ (c.as_slice.ensures.value ∙ c.page_head.ensures) c.in_ok-put.ensures) c.put_items.ensures
