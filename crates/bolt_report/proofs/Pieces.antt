@@ -21,24 +21,24 @@ front_grows all front rest n e =
     ∙ ap (λ l. (front ++ take n rest) ++ l) (sym (take_rest rest n))
 
 -- one more piece
-pub Writes-piece : {A B E F : Type 0} (old mid new : Option (List ℕ)) (m n o : ℕ) (front piece : List ℕ) (x : A) (result : Result B F)
-    → Writes {A = A} {E = E} old mid m n (encode_lower front) (Ok x) → Writes mid new n o (encode_lower piece) result
-    → Writes old new m o (encode_lower (front ++ piece)) result
-Writes-piece old mid new m n o front piece x result a b =
-    subst (λ text. Writes old new m o text result) (sym (encode_lower-append front piece)) (Writes-then old mid new m n o (encode_lower front) (encode_lower piece) x result a b)
+pub Writes-piece : {S A B E F : Type 0} {taken : S → Option (List ℕ)} {failed : S → ℕ} (old mid new : S) (front piece : List ℕ) (x : A) (result : Result B F)
+    → Writes {A = A} {E = E} taken failed old mid (encode_lower front) (Ok x) → Writes taken failed mid new (encode_lower piece) result
+    → Writes taken failed old new (encode_lower (front ++ piece)) result
+Writes-piece {taken} {failed} old mid new front piece x result a b =
+    subst (λ text. Writes taken failed old new text result) (sym (encode_lower-append front piece)) (Writes-then old mid new (encode_lower front) (encode_lower piece) x result a b)
 
 -- a piece that was not put whole, after which no other is put
-pub Writes-last_piece : {A B E F : Type 0} (old mid new : Option (List ℕ)) (m n o : ℕ) (all front rest : List ℕ) (k : ℕ) (x : A) (e : E) (result : Result B F)
-    → all ≡ front ++ rest → Writes {A = A} {E = E} old mid m n (encode_lower front) (Ok x) → Writes {A = A} {E = E} mid new n o (encode_lower (take k rest)) (Err e)
-    → IsErr result → Writes old new m o (encode_lower all) result
-Writes-last_piece old mid new m n o all front rest k x e result parts a b err =
+pub Writes-last_piece : {S A B E F : Type 0} {taken : S → Option (List ℕ)} {failed : S → ℕ} (old mid new : S) (all front rest : List ℕ) (k : ℕ) (x : A) (e : E) (result : Result B F)
+    → all ≡ front ++ rest → Writes {A = A} {E = E} taken failed old mid (encode_lower front) (Ok x) → Writes {A = A} {E = E} taken failed mid new (encode_lower (take k rest)) (Err e)
+    → IsErr result → Writes taken failed old new (encode_lower all) result
+Writes-last_piece {taken} {failed} old mid new all front rest k x e result parts a b err =
     let after = take (length rest - k) (drop k rest) in
-    subst (λ text. Writes old new m o text result) (sym (ap encode_lower (front_grows all front rest k parts) ∙ encode_lower-append (front ++ take k rest) after))
-    (Writes-stop old new m o (encode_lower (front ++ take k rest)) (encode_lower after) e result (Writes-piece old mid new m n o front (take k rest) x (Err e) a b) err)
+    subst (λ text. Writes taken failed old new text result) (sym (ap encode_lower (front_grows all front rest k parts) ∙ encode_lower-append (front ++ take k rest) after))
+    (Writes-stop old new (encode_lower (front ++ take k rest)) (encode_lower after) e result (Writes-piece old mid new front (take k rest) x (Err e) a b) err)
 
 -- a piece that was put whole
-pub pieces_grow : {A B E F : Type 0} (old mid new : Option (List ℕ)) (m n o : ℕ) (all front rest : List ℕ) (k : ℕ) (x : A) (result : Result B F)
-    → all ≡ front ++ rest → Writes {A = A} {E = E} old mid m n (encode_lower front) (Ok x) → Writes mid new n o (encode_lower (take k rest)) result
-    → (longer : List ℕ) × (all ≡ longer ++ take (length rest - k) (drop k rest)) × Writes old new m o (encode_lower longer) result
-pieces_grow old mid new m n o all front rest k x result parts a b =
-    (front ++ take k rest, front_grows all front rest k parts, Writes-piece old mid new m n o front (take k rest) x result a b)
+pub pieces_grow : {S A B E F : Type 0} {taken : S → Option (List ℕ)} {failed : S → ℕ} (old mid new : S) (all front rest : List ℕ) (k : ℕ) (x : A) (result : Result B F)
+    → all ≡ front ++ rest → Writes {A = A} {E = E} taken failed old mid (encode_lower front) (Ok x) → Writes taken failed mid new (encode_lower (take k rest)) result
+    → (longer : List ℕ) × (all ≡ longer ++ take (length rest - k) (drop k rest)) × Writes taken failed old new (encode_lower longer) result
+pieces_grow {taken} {failed} old mid new all front rest k x result parts a b =
+    (front ++ take k rest, front_grows all front rest k parts, Writes-piece old mid new front (take k rest) x result a b)

@@ -12,7 +12,7 @@ const PIECE_LEN: usize = 256;
 
 /// Puts bytes in hexadecimal, piece by piece.
 pub(crate) fn put_hex<S: Sink>(bytes: &[u8], sink: &mut S) -> Result<(), SinkFault>
-    ensures { Writes (S.taken sink.old) (S.taken sink.new) (S.failed sink.old) (S.failed sink.new) (encode_lower bytes.now) result }
+    ensures { Writes S.taken S.failed sink.old sink.new (encode_lower bytes.now) result }
 {
     let mut rest = bytes;
     while !rest.is_empty() {
@@ -26,7 +26,7 @@ pub(crate) fn put_hex<S: Sink>(bytes: &[u8], sink: &mut S) -> Result<(), SinkFau
 /// Puts a few bytes in hexadecimal.
 fn put_hex_piece<S: Sink>(piece: &[u8], sink: &mut S) -> Result<(), SinkFault>
     requires { length piece.now ≤ PIECE_LEN }
-    ensures { Writes (S.taken sink.old) (S.taken sink.new) (S.failed sink.old) (S.failed sink.new) (encode_lower piece.now) result }
+    ensures { Writes S.taken S.failed sink.old sink.new (encode_lower piece.now) result }
 {
     let mut digits = [0; 2 * PIECE_LEN];
     put(write_digits(piece, &mut digits), sink)

@@ -2,11 +2,13 @@
 //! beginning of its text on the sink.
 #![tactic(auto)]
 
+mod elements;
 pub mod fault;
 pub mod fault_lines;
 pub mod form;
 mod hexadecimal;
 pub mod metas;
+pub mod page_lines;
 mod puts;
 mod text;
 pub mod values;
@@ -15,4 +17,5 @@ pub use fault::ReportFault;
 pub use fault_lines::{finding_text, meta_fault_text, page_fault_text};
 pub use form::Form;
 pub use metas::info;
+pub use page_lines::page_text;
 pub use values::value;

@@ -5,7 +5,7 @@ use bolt_format::{Sink, SinkFault};
 
 /// Puts bytes in one piece.
 pub(crate) fn put<S: Sink>(bytes: &[u8], sink: &mut S) -> Result<(), SinkFault>
-    ensures { Writes (S.taken sink.old) (S.taken sink.new) (S.failed sink.old) (S.failed sink.new) bytes.now result }
+    ensures { Writes S.taken S.failed sink.old sink.new bytes.now result }
 {
     sink.put(bytes)
 }

@@ -25,7 +25,7 @@ pub fn value<S: Sink>(bytes: &[u8], form: Form, sink: &mut S) -> Result<(), Repo
 }
 
 fn put_value<S: Sink>(bytes: &[u8], form: Form, sink: &mut S) -> Result<(), SinkFault>
-    ensures { Writes (S.taken sink.old) (S.taken sink.new) (S.failed sink.old) (S.failed sink.new) (value_text form bytes.now) result }
+    ensures { Writes S.taken S.failed sink.old sink.new (value_text form bytes.now) result }
 {
     put_item(bytes, form, sink)?;
     put(b"\n", sink)
@@ -33,7 +33,7 @@ fn put_value<S: Sink>(bytes: &[u8], form: Form, sink: &mut S) -> Result<(), Sink
 
 /// Puts an item in a form.
 fn put_item<S: Sink>(bytes: &[u8], form: Form, sink: &mut S) -> Result<(), SinkFault>
-    ensures { Writes (S.taken sink.old) (S.taken sink.new) (S.failed sink.old) (S.failed sink.new) (shown_as form bytes.now) result }
+    ensures { Writes S.taken S.failed sink.old sink.new (shown_as form bytes.now) result }
 {
     match form {
         Form::Printable if !can_be_printed(bytes) => put_hex(bytes, sink),

@@ -6,14 +6,14 @@ use Rattle.bolt_report.proofs.hexadecimal.put_hex.Goals as goal
 
 pub loop-rest-init : goal.loop-rest-init
 unfolding encode_with
-loop-rest-init g c = ([], refl, Writes-none _ _)
+loop-rest-init g c = ([], refl, Writes-none _)
 
 pub returns-in_err-put_hex_piece : goal.returns-in_err-put_hex_piece
 returns-in_err-put_hex_piece g c =
     let (front, parts, written) = c.loop-rest.invariant in
-    Writes-last_piece _ _ _ _ _ _ c.args.bytes.now front c.loop-rest.rest.now c.min-piece_len.result _ _ _ parts written c.in_err-put_hex_piece.ensures c.from_residual.ensures.0
+    Writes-last_piece _ _ _ c.args.bytes.now front c.loop-rest.rest.now c.min-piece_len.result _ _ _ parts written c.in_err-put_hex_piece.ensures c.from_residual.ensures.0
 
 pub loop-rest-preserved : goal.loop-rest-preserved
 loop-rest-preserved g c =
     let (front, parts, written) = c.loop-rest.invariant in
-    pieces_grow _ _ _ _ _ _ c.args.bytes.now front c.loop-rest.rest.now c.min-piece_len.result _ _ parts written c.in_ok-put_hex_piece.ensures
+    pieces_grow _ _ _ c.args.bytes.now front c.loop-rest.rest.now c.min-piece_len.result _ _ parts written c.in_ok-put_hex_piece.ensures

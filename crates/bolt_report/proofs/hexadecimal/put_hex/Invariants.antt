@@ -9,7 +9,7 @@ use Rattle.bolt_report.proofs.hexadecimal.put_hex.Given as goal
 abbrev pub invariant-loop-rest : goal.invariant-loop-rest
 invariant-loop-rest g l =
     (front : List ℕ) × (l.bytes ≡ front ++ l.rest)
-    × Writes {A = ⊤} {E = SinkFault} (g.S.Sink.taken l.initial.sink) (g.S.Sink.taken l.sink) (g.S.Sink.failed l.initial.sink) (g.S.Sink.failed l.sink) (encode_lower front) (Ok tt)
+    × Writes {A = ⊤} {E = SinkFault} g.S.Sink.taken g.S.Sink.failed l.initial.sink l.sink (encode_lower front) (Ok tt)
 
 abbrev pub decreases-loop-rest : goal.decreases-loop-rest
 decreases-loop-rest g l = length l.rest
