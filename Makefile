@@ -1,18 +1,31 @@
 # The ordinary names. Each needs the toolchain's command `rt` on the path.
 PREFIX ?= /usr/local
+PROGRAM = crates/luntsegi/out/luntsegi
+EXAMPLES = $(wildcard examples/*.db)
 
-.PHONY: build demo test install clean
+.PHONY: build demo examples test install clean
 
+# Proves the program and the libraries below it, and builds it.
 build:
-	@echo "There is no program yet: the libraries come first (README.md)."
+	cd crates/luntsegi && rt run -- --help > /dev/null
 
-demo: build
+$(PROGRAM):
+	$(MAKE) build
 
+# The names of the buckets of a real database.
+demo: $(PROGRAM)
+	$(PROGRAM) buckets examples/app.db
+
+# What the program prints of each real database, compared with what bbolt finds in it.
+examples: $(PROGRAM)
+	for file in $(EXAMPLES); do $(PROGRAM) buckets $$file | cmp - $${file%.db}.buckets || exit 1; done
+
+# The merge gate: every proof from nothing, the wrong bodies, the tests and the program.
 test:
 	rt ci
 
-install:
-	@echo "There is no program to install yet."
+install: $(PROGRAM)
+	install -D -m 755 $(PROGRAM) $(DESTDIR)$(PREFIX)/bin/luntsegi
 
 clean:
 	rm -rf crates/*/out
