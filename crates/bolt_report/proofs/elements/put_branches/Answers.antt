@@ -1,4 +1,4 @@
-use Rattle.std.proofs.Common.{◌≡◌, arith, length}
+use Rattle.std.proofs.Common.{◌≡◌, Ok, arith, length}
 use Rattle.bolt_format.specs.ElementPlaces.{branch_view}
 use Rattle.bolt_format.specs.Shown.{shown}
 use Rattle.bolt_report.specs.PageLines.{branch_line}
@@ -13,7 +13,7 @@ returns-in_err-put_branch g c =
 
 pub loop-i-preserved : goal.loop-i-preserved
 loop-i-preserved g c =
-    Writes-element branch_line (shown c.args.page.now).branches c.loop-i.i (branch_view c.branch-page.result) _ _ _ _ _ c.branch-page.ensures c.loop-i.invariant
+    Writes-element branch_line (shown c.args.page.now).branches c.loop-i.i (branch_view c.branch-page.result) _ _ _ tt (Ok tt) c.branch-page.ensures c.loop-i.invariant
     c.in_ok-put_branch.ensures
 
 pub returns : goal.returns

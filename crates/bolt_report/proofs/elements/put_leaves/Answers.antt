@@ -1,4 +1,4 @@
-use Rattle.std.proofs.Common.{◌≡◌, arith, length}
+use Rattle.std.proofs.Common.{◌≡◌, Ok, arith, length}
 use Rattle.bolt_format.specs.ElementPlaces.{leaf_view}
 use Rattle.bolt_format.specs.Shown.{shown}
 use Rattle.bolt_report.specs.PageLines.{leaf_line}
@@ -13,7 +13,7 @@ returns-in_err-put_leaf g c =
 
 pub loop-i-preserved : goal.loop-i-preserved
 loop-i-preserved g c =
-    Writes-element leaf_line (shown c.args.page.now).leaves c.loop-i.i (leaf_view c.leaf.result) _ _ _ _ _ c.leaf.ensures.element c.loop-i.invariant
+    Writes-element leaf_line (shown c.args.page.now).leaves c.loop-i.i (leaf_view c.leaf.result) _ _ _ tt (Ok tt) c.leaf.ensures.element c.loop-i.invariant
     c.in_ok-put_leaf.ensures
 
 pub returns : goal.returns

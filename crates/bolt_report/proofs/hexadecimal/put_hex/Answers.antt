@@ -1,4 +1,4 @@
-use Rattle.std.proofs.Common.{[], refl}
+use Rattle.std.proofs.Common.{[], Ok, refl}
 use Rattle.hex.specs.Hex.{encode_with}
 use Rattle.bolt_report.proofs.Pieces.{pieces_grow, Writes-last_piece}
 use Rattle.bolt_report.proofs.WriteLemmas.{Writes-none}
@@ -16,4 +16,4 @@ returns-in_err-put_hex_piece g c =
 pub loop-rest-preserved : goal.loop-rest-preserved
 loop-rest-preserved g c =
     let (front, parts, written) = c.loop-rest.invariant in
-    pieces_grow _ _ _ c.args.bytes.now front c.loop-rest.rest.now c.min-piece_len.result _ _ parts written c.in_ok-put_hex_piece.ensures
+    pieces_grow _ _ _ c.args.bytes.now front c.loop-rest.rest.now c.min-piece_len.result tt (Ok tt) parts written c.in_ok-put_hex_piece.ensures

@@ -9,6 +9,5 @@ use Rattle.bolt_report.proofs.page_lines.put_page.Goals as goal
 
 pub returns : goal.returns
 returns g c =
-    let page = shown c.args.page.now in
-    let ids = known_ids (option_map shown_ids c.args.ids) in
-    Writes-then _ _ _ _ (item_lines page.kind page ids) _ _ (Writes-same _ _ _ _ _ (c.as_slice.ensures.value ∙ c.page_head.ensures) c.in_ok-put.ensures) c.put_items.ensures
+    Writes-then _ _ _ _ (item_lines (shown c.args.page.now).kind (shown c.args.page.now) (known_ids (option_map shown_ids c.args.ids))) _ _
+    (Writes-same _ _ _ _ _ (c.as_slice.ensures.value ∙ c.page_head.ensures) c.in_ok-put.ensures) c.put_items.ensures
