@@ -27,6 +27,9 @@ upper_from None upper = upper
 abbrev pub bucket_spot : ℕ → Entry → Spot
 bucket_spot host e = if e.child == 0 then At_inline host e.inner else At_page (start_of e.child)
 
+abbrev pub bucket_spots : ℕ → Entry → Option Spot
+bucket_spots host e = if e.is_bucket then Some (bucket_spot host e) else None
+
 -- a child of a branch
 abbrev pub child_spot : PageSpot → Entry → Option Key → PageSpot
 child_spot s e upper = record { number = e.child; depth = suc s.depth; lower = Some e.key; upper = upper }
@@ -34,7 +37,7 @@ child_spot s e upper = record { number = e.child; depth = suc s.depth; lower = S
 -- where one entry leads
 abbrev pub spot_of : Bool → PageSpot → Option Key → Entry → Option Spot
 spot_of false s upper e = Some (At_page (child_spot s e upper))
-spot_of true s upper e = if e.is_bucket then Some (bucket_spot s.number e) else None
+spot_of true s upper e = bucket_spots s.number e
 
 abbrev pub step_entry : Bool → PageSpot → Option Entry → Option Entry → Option Spot
 step_entry is_leaf s None next = None

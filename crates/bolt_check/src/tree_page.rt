@@ -1,15 +1,113 @@
 //! A page that is a branch or a leaf.
-ghost use Rattle.std.specs.Prelude.{◌≡◌};
-ghost use Rattle.bolt_format.specs.Shown.{shown};
-ghost use Rattle.bolt_check.specs.TreeKinds.{tree_kind};
+ghost use Rattle.std.specs.Prelude.{◌≡◌, ◌<◌, ◌≤◌, IsTrue, false, suc, Some, length, slice_get};
+ghost use Rattle.std.specs.Option.{option_map};
 ghost use Rattle.std.proofs.Props.{props};
+ghost use Rattle.bolt_format.specs.ElementPlaces.{leaf_view};
+ghost use Rattle.bolt_format.specs.Elements.{IsBucketValue};
+ghost use Rattle.bolt_format.specs.Shown.{shown};
+ghost use Rattle.bolt_check.specs.Findings.{keys_of};
+ghost use Rattle.bolt_check.specs.Nodes.{leaf_entry};
+ghost use Rattle.bolt_check.specs.Pending.{bound_of, page_spot, spot_at};
+ghost use Rattle.bolt_check.specs.TreeKinds.{tree_kind};
+ghost use Rattle.bolt_check.specs.Ways.{At_page, bucket_spots, step_on, upper_from};
 
-use bolt_format::Page;
+use bolt_format::{Leaf, Page, head, inline};
+
+use crate::stop::{BucketStop, PageStop, Stop};
 
 /// A page that is a branch or a leaf.
 #[derive(Clone, Copy)]
 pub(crate) struct TreePage<'a> {
     pub page: Page<'a>,
     pub is_leaf: bool,
-    ghost kind: { ∥ (shown page).kind ≡ tree_kind is_leaf ∥₁ },
+    ghost kind: { (shown page).kind ≡ tree_kind is_leaf } by { Prim.hlevel props },
+}
+
+impl<'a> TreePage<'a> {
+    ghost use Rattle.bolt_check.specs.ShownNodes.{shown_node};
+
+    /// How many elements it has.
+    #[tactic(auto, unfolding(crate::specs::ShownNodes::shown_node))]
+    pub fn count(&self) -> u16
+        ensures { result ≡ length (shown_node self.now).entries }
+    {
+        self.page.count()
+    }
+
+    /// The key of element `i`.
+    #[tactic(auto, unfolding(crate::specs::ShownNodes::shown_node))]
+    pub fn key(&self, i: u16) -> &'a [u8]
+        requires { i < length (shown_node self.now).entries }
+        ensures { slice_get (keys_of (shown_node self.now).entries) i ≡ Some result.now }
+    {
+        if self.is_leaf {
+            self.page.leaf(i).key
+        } else {
+            self.page.branch(i).key
+        }
+    }
+    /// Where element `i` leads from a stop at this page: a child of a branch, or a bucket of a leaf.
+    #[tactic(auto, unfolding(crate::specs::ShownNodes::shown_node))]
+    pub fn stop(&self, i: u16, stop: &PageStop<'a>) -> Option<Stop<'a>>
+        requires below { i < length (shown_node self.now).entries }
+        requires shallow { stop.now.depth ≤ 64 }
+        ensures { option_map spot_at result ≡ step_on (shown_node self.now) (page_spot stop.now) i }
+    {
+        if self.is_leaf {
+            bucket_stop(self.page.leaf(i), stop.number)
+        } else {
+            Some(Stop::Page(self.child(i, stop)))
+        }
+    }
+
+    /// The stop at the child of element `i` of a branch.
+    fn child(&self, i: u16, stop: &PageStop<'a>) -> PageStop<'a>
+        requires branch { self.now.is_leaf ≡ false }
+        requires below { i < length (shown_node self.now).entries }
+        requires shallow { stop.now.depth ≤ 64 }
+        ensures { step_on (shown_node self.now) (page_spot stop.now) i ≡ Some (At_page (page_spot result)) }
+    {
+        let element = self.page.branch(i);
+        PageStop {
+            number: element.child,
+            depth: stop.depth + 1,
+            lower: Some(element.key),
+            upper: self.upper(i, stop.upper),
+        }
+    }
+
+    /// The upper bound of the child of element `i`: the next key, or the page's own bound.
+    fn upper(&self, i: u16, upper: Option<&'a [u8]>) -> Option<&'a [u8]>
+        requires { i < length (shown_node self.now).entries }
+        ensures { bound_of result ≡ upper_from (slice_get (shown_node self.now).entries (suc i)) (bound_of upper.entry) }
+    {
+        if self.count() - i > 1 {
+            Some(self.key(i + 1))
+        } else {
+            upper
+        }
+    }
+}
+
+/// The bucket that an element of a leaf leads to, if it is one.
+fn bucket_stop<'a>(leaf: Leaf<'a>, host: u64) -> Option<Stop<'a>>
+    requires { IsTrue leaf.is_bucket → IsBucketValue leaf.value.now }
+    ensures { option_map spot_at result ≡ bucket_spots host (leaf_entry (leaf_view leaf.entry)) }
+{
+    if !leaf.is_bucket {
+        return None;
+    }
+    let head = head(leaf.value);
+    if head.root == 0 {
+        return Some(Stop::Bucket(BucketStop {
+            host,
+            page: inline(leaf.value),
+        }));
+    }
+    Some(Stop::Page(PageStop {
+        number: head.root,
+        depth: 1,
+        lower: None,
+        upper: None,
+    }))
 }

@@ -2,4 +2,5 @@ mod FaultLemmas
 mod FreeLemmas
 mod GoodPages
 mod MetaLemmas
+pub mod PageLaws
 pub mod SinkLemmas
