@@ -1,2 +1,11 @@
+mod Forest
+mod Judging
+mod KeyLaws
+mod KeyOrder
+mod Lawful
 mod NodeLemmas
+mod Shaping
+mod Single
 mod TableLemmas
+mod Visiting
+mod WayOrder

@@ -1,0 +1,167 @@
+-- That the tests tell nothing at any way is the shape.
+use Rattle.std.proofs.Common.{◌≡◌, ◌≢◌, ℕ, zero, suc, ◌≤◌, inl, inr, Bool, true, false, not, ◌&&◌, ◌==◌, if◌then◌else◌, nat_lt, List, [], ◌∷◌, ◌++◌, length, Option, Some, None, Result, Ok, Err, slice_get, refl, sym, ap, arith, ◌∙◌}
+use Rattle.std.proofs.lemmas.Bool.{cases_lt}
+use Rattle.std.proofs.lemmas.Bool.Decides.{nat_tests}
+use Rattle.bolt_check.specs.Ways.{PageSpot}
+use Rattle.bolt_check.specs.declared.finding.TheConstants.Finding.{EMPTY_BRANCH, TOO_DEEP}
+use Rattle.bolt_check.specs.declared.finding.Finding.{Finding}
+use Rattle.bolt_check.specs.Nodes.{Nodes, Node, Entry}
+use Rattle.bolt_check.specs.Ways.{Spot, At_page, At_inline, Reach, SpanHas, SpanAt, SpanOf, child_spot, step, upper_from, follow, reached, start_of}
+use Rattle.bolt_check.specs.Findings.{keys_of, early_fault, node_fault, content_fault, told_of, finding, Passes, PagePasses, IsClaimedBefore, IsClean, IsMetaPage}
+use Rattle.bolt_check.specs.Keys.{Key, is_below, is_from, key_fault, key_lt}
+use Rattle.bolt_check.specs.Shape.{child_of, child_in, child_at, leads, HasShape}
+use Rattle.bolt_check.proofs.WayOrder.{before_total}
+use Rattle.bolt_check.proofs.KeyLaws.{below_less, from_more, not_true}
+use Rattle.bolt_check.proofs.KeyOrder.{key_each, key_rise}
+
+pub follow_append : (nodes : Nodes) (here : Option Spot) (v w : List ℕ) → follow nodes here (v ++ w) ≡ follow nodes (follow nodes here v) w
+follow_append nodes here [] w = refl
+follow_append nodes here (i ∷ v) w = follow_append nodes (step nodes here i) v w
+
+pub same_spot : (o : Option Spot) (s t : PageSpot) → o ≡ Some (At_page s) → o ≡ Some (At_page t) → s ≡ t
+same_spot o s t e h = cc
+
+pub no_entry : (e : Entry) → None ≡ Some e → ⊥
+no_entry e h = cc
+
+-- the key of an entry
+pub key_at : (entries : List Entry) (i : ℕ) (e : Entry) → slice_get entries i ≡ Some e → slice_get (keys_of entries) i ≡ Some e.key
+key_at [] i e h = absurd (no_entry e h)
+key_at (x ∷ entries) zero e h = let same : x ≡ e = cc in let f : Entry → Key = λ y. y.key in let k = ap f same in cc
+key_at (x ∷ entries) (suc i) e h = key_at entries i e h
+
+-- the content's tests tell nothing
+pub told_none : (o : Option ℕ) (page : ℕ) → told_of o page ≡ None → o ≡ None
+told_none None page e = refl
+told_none (Some number) page e = absurd (cc)
+
+filled_if : (b : Bool) (x : Finding) (o : Option Finding) → (if b then Some x else o) ≡ None → (b ≡ false) × (o ≡ None)
+filled_if true x o e = absurd (cc)
+filled_if false x o e = (refl, e)
+
+content_keys : (node : Node) (s : PageSpot) → content_fault node s ≡ None → key_fault None s.lower s.upper (keys_of node.entries) ≡ None
+content_keys node s e = told_none (key_fault None s.lower s.upper (keys_of node.entries)) s.number
+    (filled_if (not node.is_leaf && (length node.entries == 0)) (finding EMPTY_BRANCH s.number) (told_of (key_fault None s.lower s.upper (keys_of node.entries)) s.number) e).1
+
+content_filled : (node : Node) (s : PageSpot) → content_fault node s ≡ None → node.is_leaf ≡ false → node.entries ≢ []
+content_filled node s e leaf nil =
+    let f = (filled_if (not node.is_leaf && (length node.entries == 0)) (finding EMPTY_BRANCH s.number) (told_of (key_fault None s.lower s.upper (keys_of node.entries)) s.number) e).0 in
+    let g = rw (leaf, nil) at f in
+    let t : true ≡ false = g in cc
+
+-- the keys of this page are as its bounds say
+abbrev pub KeysFine : Nodes → PageSpot → Type 0
+KeysFine nodes s = (node : Node) → nodes s.number ≡ Ok node → key_fault None s.lower s.upper (keys_of node.entries) ≡ None
+
+none_number : (x : ℕ) → None ≡ Some x → ⊥
+none_number x e = cc
+
+is_entry : (leaf : Bool) (o : Option Entry) (c : ℕ) → child_of leaf o ≡ Some c → (e : Entry) × (leaf ≡ false) × (o ≡ Some e) × (e.child ≡ c)
+is_entry true o c h = absurd (none_number c h)
+is_entry false None c h = absurd (none_number c h)
+is_entry false (Some e) c h = (e, refl, refl, cc)
+
+-- a child of a branch
+is_child : (nodes : Nodes) (s : PageSpot) (i : ℕ) (o : Result Node ℕ) (c : ℕ) → nodes s.number ≡ o → child_in o i ≡ Some c
+    → (node : Node) × (e : Entry) × (nodes s.number ≡ Ok node) × (node.is_leaf ≡ false) × (slice_get node.entries i ≡ Some e) × (e.child ≡ c)
+is_child nodes s i (Err f) c q h = absurd (none_number c h)
+is_child nodes s i (Ok node) c q h = let p = is_entry node.is_leaf (slice_get node.entries i) c h in (node, p.0, q, p.1, p.2, p.3)
+
+leads_none : (nodes : Nodes) (address : List ℕ) → leads nodes None address ≡ None
+leads_none nodes [] = refl
+leads_none nodes (i ∷ address) = leads_none nodes address
+
+leads_some : (nodes : Nodes) (o : Option ℕ) (address : List ℕ) (below : ℕ) → leads nodes o address ≡ Some below → (c : ℕ) × (o ≡ Some c)
+leads_some nodes None address below e = absurd (none_number below (sym (leads_none nodes address) ∙ e))
+leads_some nodes (Some c) address below e = (c, refl)
+
+pub step_child : (nodes : Nodes) (s : PageSpot) (i : ℕ) (node : Node) (e : Entry) → nodes s.number ≡ Ok node → node.is_leaf ≡ false → slice_get node.entries i ≡ Some e
+    → step nodes (Some (At_page s)) i ≡ Some (At_page (child_spot s e (upper_from (slice_get node.entries (suc i)) s.upper)))
+step_child nodes s i node e q leaf g = rw (q, leaf, g) refl
+
+upper_less : (next : Option Entry) (upper : Option Key) (key : Key) → ((n : Entry) → next ≡ Some n → is_below upper n.key ≡ true) → is_below (upper_from next upper) key ≡ true → is_below upper key ≡ true
+upper_less None upper key h e = e
+upper_less (Some n) upper key h e = below_less upper n.key key (h n refl) e
+
+-- the bounds of a spot hold of all keys below it in its bucket
+pub keys_below : (nodes : Nodes) (address : List ℕ) (s : PageSpot) → ((v : List ℕ) (t : PageSpot) → follow nodes (Some (At_page s)) v ≡ Some (At_page t) → KeysFine nodes t)
+    → (below j : ℕ) (key : Key) (under : Node) → leads nodes (Some s.number) address ≡ Some below → nodes below ≡ Ok under → slice_get (keys_of under.entries) j ≡ Some key
+    → (is_from s.lower key ≡ true) × (is_below s.upper key ≡ true)
+keys_below nodes [] s fine below j key under l e g =
+    let same : s.number ≡ below = cc in
+    let k = key_each None s.lower s.upper (keys_of under.entries) (fine [] s refl under (rw same e)) j key g in
+    (k.1, k.2)
+keys_below nodes (i ∷ address) s fine below j key under l e g =
+    let c = leads_some nodes (child_at nodes (Some s.number) i) address below l in
+    let h = is_child nodes s i (nodes s.number) c.0 refl c.1 in
+    let node = h.0 in
+    let p = h.1 in
+    let t = child_spot s p (upper_from (slice_get node.entries (suc i)) s.upper) in
+    let st : step nodes (Some (At_page s)) i ≡ Some (At_page t) = step_child nodes s i node p h.2 h.3 h.4 in
+    let l2 : leads nodes (child_at nodes (Some s.number) i) address ≡ Some below = l in
+    let l3 : leads nodes (Some p.child) address ≡ Some below = rw h.5 (rw c.1 at l2) in
+    let r = keys_below nodes address t (λ v u f. fine (i ∷ v) u (rw st f)) below j key under l3 e g in
+    let mine = fine [] s refl node h.2 in
+    let kp = key_each None s.lower s.upper (keys_of node.entries) mine i p.key (key_at node.entries i p h.4) in (
+      from_more s.lower p.key key kp.1 (not_true (key_lt key p.key) r.0),
+      upper_less (slice_get node.entries (suc i)) s.upper key
+          (λ n f. (key_each None s.lower s.upper (keys_of node.entries) mine (suc i) n.key (key_at node.entries (suc i) n f)).2) r.1,
+    )
+
+pub snoc_reached : (nodes : Nodes) (root : ℕ) (way : List ℕ) (i : ℕ) (s : Spot) (o : Option Spot) → reached nodes root way ≡ Some s → step nodes (Some s) i ≡ o
+    → (v : List ℕ) → reached nodes root (way ++ i ∷ v) ≡ follow nodes o v
+snoc_reached nodes root way i s o e st v =
+    let f : Option Spot → Option Spot = λ x. follow nodes x (i ∷ v) in
+    let g : Option Spot → Option Spot = λ x. follow nodes x v in
+    follow_append nodes (Some (At_page (start_of root))) way (i ∷ v) ∙ (ap f e ∙ ap g st)
+
+early_depth : (nodes : Nodes) (s : PageSpot) → early_fault nodes s ≡ None → s.depth ≤ 64
+early_depth nodes s e =
+    let b : nat_lt 64 s.depth ≡ false = (filled_if (nat_lt 64 s.depth) (finding TOO_DEEP s.number) (node_fault (nodes s.number) s.number) e).0 in
+    grind (arith, nat_tests, b)
+
+same_node : (o : Result Node ℕ) (a b : Node) → o ≡ Ok a → o ≡ Ok b → a ≡ b
+same_node o a b e h = cc
+
+-- what has a span is a page, which passes
+span_free : (nodes : Nodes) (before : ℕ → Type 0) (t : Spot) (n : ℕ) → Passes nodes before t → SpanAt nodes t n → before n → ⊥
+span_free nodes before (At_page s) n p h b = p.free n (let i : SpanOf (nodes s.number) s.number n = h in rw p.page at i) b
+span_free nodes before (At_inline host keys) n p h b = h
+
+span_clean : (nodes : Nodes) (reach : Reach) (c : ℕ → Type 0) → IsClean nodes reach c → (w : List ℕ) (o : Option Spot) (n : ℕ) → reach w ≡ o → SpanHas nodes o n
+    → IsClaimedBefore nodes reach c w n → ⊥
+span_clean nodes reach c clean w None n e h b = h
+span_clean nodes reach c clean w (Some t) n e h b = span_free nodes (IsClaimedBefore nodes reach c w) t n (clean.passes w t e) h b
+
+fine_at : (nodes : Nodes) (root : ℕ) → IsClean nodes (reached nodes root) IsMetaPage → (way : List ℕ) (s : PageSpot) → reached nodes root way ≡ Some (At_page s) → KeysFine nodes s
+fine_at nodes root clean way s e node h =
+    let p : PagePasses nodes (IsClaimedBefore nodes (reached nodes root) IsMetaPage way) s = clean.passes way (At_page s) e in
+    content_keys node s (rw (same_node (nodes s.number) node p.node h p.page) p.content)
+
+pub shape_of : (nodes : Nodes) (root : ℕ) → IsClean nodes (reached nodes root) IsMetaPage → HasShape nodes root
+shape_of nodes root clean = record {
+  good = λ way s e.
+      let p : PagePasses nodes (IsClaimedBefore nodes (reached nodes root) IsMetaPage way) s = clean.passes way (At_page s) e in
+      (early_depth nodes s p.early, (p.node, p.page));
+  filled = λ way s node e h leaf.
+      let p : PagePasses nodes (IsClaimedBefore nodes (reached nodes root) IsMetaPage way) s = clean.passes way (At_page s) e in
+      content_filled node s (rw (same_node (nodes s.number) node p.node h p.page) p.content) leaf;
+  apart = λ v w n h k. elim (before_total v w) [
+    | inl e ↦ e
+    | inr l ↦ elim l [
+      | inl lt ↦ absurd (span_clean nodes (reached nodes root) IsMetaPage clean w (reached nodes root w) n refl k (inr (v, (lt, h))))
+      | inr gt ↦ absurd (span_clean nodes (reached nodes root) IsMetaPage clean v (reached nodes root v) n refl h (inr (w, (gt, k))))
+    ]
+  ];
+  above_metas = λ way n h. elim (cases_lt n 2) [
+    | inl lt ↦ absurd (span_clean nodes (reached nodes root) IsMetaPage clean way (reached nodes root way) n refl h (inl lt))
+    | inr ge ↦ ge
+  ];
+  rising = λ way s node e h. key_rise None s.lower s.upper (keys_of node.entries) (fine_at nodes root clean way s e node h);
+  rising_inline = λ way host keys e. key_rise None None None keys (told_none (key_fault None None None keys) host (clean.passes way (At_inline host keys) e));
+  bounded = λ way address s node under i j below key e q h leaf g l u k.
+      let t = child_spot s e (upper_from (slice_get node.entries (suc i)) s.upper) in
+      let st = step_child nodes s i node e h leaf g in
+      let r = keys_below nodes address t (λ v x f. fine_at nodes root clean (way ++ i ∷ v) x (snoc_reached nodes root way i (At_page s) (Some (At_page t)) q st v ∙ f)) below j key under l u k in
+      (not_true (key_lt key e.key) r.0, λ next f. rw f at r.1);
+}
