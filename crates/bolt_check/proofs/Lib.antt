@@ -4,8 +4,10 @@ mod KeyLaws
 mod KeyOrder
 mod Lawful
 mod NodeLemmas
+mod Pendings
 mod Shaping
 mod Single
 mod TableLemmas
+mod Visited
 mod Visiting
 mod WayOrder

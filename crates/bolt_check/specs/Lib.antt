@@ -2,6 +2,7 @@ pub mod Findings
 pub mod Keys
 pub mod Nodes
 pub mod Pending
+pub mod Search
 pub mod Shape
 pub mod ShownNodes
 pub mod Tables

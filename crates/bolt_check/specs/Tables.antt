@@ -1,5 +1,6 @@
 -- The table of pages.
-use Rattle.std.specs.Prelude.{◌≡◌, ℕ, ◌⊎◌, Bool, true, false, not, List, count_by, slice_index_or}
+use Rattle.std.specs.Prelude.{◌≡◌, ◌<◌, ◌≤◌, ◌+◌, ◌*◌, ℕ, Bool, true, false, not, List, count_by, length, slice_index_or}
+use Rattle.bolt_format.specs.declared.meta.Meta.{Meta}
 use Rattle.bolt_check.specs.declared.table.PageUse.{PageUse}
 use Rattle.bolt_check.specs.declared.table.PageUse.TheVariants.{Unused, Used, Free, FreeTwice, UsedFree, UsedFreeTwice}
 
@@ -25,3 +26,7 @@ IsUnclaimed table n = is_used (use_at table n) ≡ false
 -- how many are not claimed
 abbrev pub unclaimed : List PageUse → ℕ
 unclaimed table = count_by (λ page_use. not (is_used page_use)) table
+
+-- the table has a place for each page that lies in the file and below the mark
+abbrev pub HasRoom : List ℕ → Meta → List PageUse → Type 0
+HasRoom file meta table = (n : ℕ) → (n + 1) * meta.page_size ≤ length file → n < meta.high_water → n < length table

@@ -1,40 +1,87 @@
 //! The tests of keys.
-ghost use Rattle.std.specs.Prelude.{◌≡◌, None};
+ghost use Rattle.std.specs.Prelude.{◌≡◌, ◌<◌, None, Some, length, slice_get};
+ghost use Rattle.std.specs.Result.{result_err};
+ghost use Rattle.bolt_format.specs.ShownInline.{shown_inline};
+ghost use Rattle.bolt_check.specs.Findings.{keys_of};
 ghost use Rattle.bolt_check.specs.Keys.{key_fault, key_lt, one_key_fault};
-ghost use Rattle.bolt_check.specs.Pending.{bound_of};
+ghost use Rattle.bolt_check.specs.Pending.{bound_of, inline_keys};
+ghost use Rattle.bolt_check.specs.ShownNodes.{shown_node};
+
+use bolt_format::Inline;
 
 use crate::finding::Finding;
+use crate::tree_page::TreePage;
 
 /// Whether a key is below another, in byte order.
-pub(crate) fn is_below(key: &[u8], other: &[u8]) -> bool
+fn is_below(key: &[u8], other: &[u8]) -> bool
     ensures { result ≡ key_lt key.now other.now }
 {
     key.cmp(other).is_lt()
 }
 
 /// Tests one key: it is above the one before it, not below the lower bound, and below the upper.
-pub(crate) fn test_key(
+fn test_key(
     before: Option<&[u8]>,
     lower: Option<&[u8]>,
     upper: Option<&[u8]>,
     key: &[u8],
-) -> Option<u8>
-    ensures { result ≡ one_key_fault (bound_of before.entry) (bound_of lower.entry) (bound_of upper.entry) key.now }
+) -> Result<(), u8>
+    ensures { result_err result ≡ one_key_fault (bound_of before.entry) (bound_of lower.entry) (bound_of upper.entry) key.now }
 {
     if let Some(bound) = before {
         if !is_below(bound, key) {
-            return Some(Finding::ORDER);
+            return Err(Finding::ORDER);
         }
     }
     if let Some(bound) = lower {
         if is_below(key, bound) {
-            return Some(Finding::BELOW_PARENT);
+            return Err(Finding::BELOW_PARENT);
         }
     }
     if let Some(bound) = upper {
         if !is_below(key, bound) {
-            return Some(Finding::ABOVE_NEXT);
+            return Err(Finding::ABOVE_NEXT);
         }
     }
-    None
+    Ok(())
+}
+
+/// Tests the keys of a page, one after another, with their bounds.
+#[tactic(auto, using(bolt_format::proofs::ListLemmas::drop_next, std::proofs::lemmas::List::drop_all))]
+pub(crate) fn test_keys(
+    node: &TreePage<'_>,
+    lower: Option<&[u8]>,
+    upper: Option<&[u8]>,
+) -> Result<(), u8>
+    ensures { result_err result ≡ key_fault None (bound_of lower.entry) (bound_of upper.entry) (keys_of (shown_node node.now).entries) }
+{
+    let mut before: Option<&[u8]> = None;
+    for i in 0..node.count() {
+        let key = node.key(i);
+        test_key(before, lower, upper, key)?;
+        before = Some(key);
+    }
+    Ok(())
+}
+
+/// The key of element `i` of an inline bucket.
+fn inline_key<'a>(page: &Inline<'a>, i: u16) -> &'a [u8]
+    requires { i < length (shown_inline page.now) }
+    ensures { slice_get (inline_keys page.now) i ≡ Some result.now }
+{
+    page.leaf(i).key
+}
+
+/// Tests that the keys of an inline bucket rise.
+#[tactic(auto, using(bolt_format::proofs::ListLemmas::drop_next, std::proofs::lemmas::List::drop_all))]
+pub(crate) fn test_inline_keys(page: &Inline<'_>) -> Result<(), u8>
+    ensures { result_err result ≡ key_fault None None None (inline_keys page.now) }
+{
+    let mut before: Option<&[u8]> = None;
+    for i in 0..page.count() {
+        let key = inline_key(page, i);
+        test_key(before, None, None, key)?;
+        before = Some(key);
+    }
+    Ok(())
 }

@@ -5,8 +5,10 @@
 pub mod finding;
 mod keys;
 mod node;
+mod search;
 mod stop;
 mod table;
 mod tree_page;
+mod visit;
 
 pub use finding::Finding;

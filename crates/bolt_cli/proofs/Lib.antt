@@ -5,5 +5,4 @@ pub mod Levels
 pub mod CommandOperands
 pub mod Lines
 pub mod WrittenLines
-pub mod RestLemmas
 pub mod Written

@@ -27,7 +27,7 @@ impl<'a> RootCursor<'a> {
     }
 
     /// The next element, or `None` behind the last.
-    #[tactic(auto, using(crate::proofs::RestLemmas::drop_next), unfolding(crate::specs::CursorRest::cursor_rest))]
+    #[tactic(auto, using(bolt_format::proofs::ListLemmas::drop_next), unfolding(crate::specs::CursorRest::cursor_rest))]
     pub fn next(&mut self) -> Option<Leaf<'a>>
         ensures { MatchOption result
             ((cursor_rest self.old ≡ []) × (cursor_rest self.new ≡ []))

@@ -1,6 +1,7 @@
 mod FaultLemmas
 mod FreeLemmas
 mod GoodPages
+pub mod ListLemmas
 mod MetaLemmas
 pub mod PageLaws
 pub mod SinkLemmas

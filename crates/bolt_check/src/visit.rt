@@ -1,0 +1,67 @@
+//! The visit of one page: its tests, and the claim of its span.
+ghost use Rattle.std.specs.Prelude.{◌≡◌, ◌<◌, ◌≤◌, IfErr, IfOk, Ok, OnOk};
+ghost use Rattle.std.specs.Result.{result_err};
+ghost use Rattle.bolt_check.specs.Findings.{PagePasses, PageTests, content_fault};
+ghost use Rattle.bolt_check.specs.Nodes.{node_at};
+ghost use Rattle.bolt_check.specs.Pending.{Claims, page_spot};
+ghost use Rattle.bolt_check.specs.ShownNodes.{shown_node};
+ghost use Rattle.bolt_check.specs.Tables.{HasRoom, IsClaimed, unclaimed};
+ghost use Rattle.bolt_check.specs.Ways.{At_page};
+
+use bolt_format::Meta;
+
+use crate::finding::Finding;
+use crate::keys::test_keys;
+use crate::node::open;
+use crate::stop::PageStop;
+use crate::table::{PageUse, claim, first_claimed};
+use crate::tree_page::TreePage;
+
+/// How many pages may lie on the way from a bucket's root page, that page included.
+const MAX_DEPTH: u8 = 64;
+
+/// Tests a page, and claims its span where the tests tell nothing.
+pub(crate) fn visit<'a>(
+    file: &'a [u8],
+    meta: &Meta,
+    stop: &PageStop<'_>,
+    table: &mut [PageUse],
+) -> Result<TreePage<'a>, Finding>
+    requires { HasRoom file.now meta.now table.old }
+    ensures found { IfErr result (PageTests (node_at file.now meta.now) (IsClaimed table.old) (page_spot stop.now)) }
+    ensures node { IfOk result (λ node. node_at file.now meta.now stop.now.number ≡ Ok (shown_node node)) }
+    ensures passes { OnOk result (PagePasses (node_at file.now meta.now) (IsClaimed table.old) (page_spot stop.now)) }
+    ensures claims { OnOk result (Claims (node_at file.now meta.now) (At_page (page_spot stop.now)) table.old table.new) }
+    ensures fewer { OnOk result (unclaimed table.new < unclaimed table.old) }
+    ensures shallow { OnOk result (stop.now.depth ≤ 64) }
+{
+    if stop.depth > MAX_DEPTH {
+        return Err(Finding::of_page(Finding::TOO_DEEP, stop.number));
+    }
+    let node = match open(file, meta, stop.number) {
+        Ok(node) => node,
+        Err(number) => return Err(Finding::of_page(number, stop.number)),
+    };
+    let from = stop.number as usize;
+    let last = from + node.page.overflow() as usize;
+    if let Some(n) = first_claimed(table, from, last) {
+        return Err(Finding::of_page(Finding::TWICE, n as u64));
+    }
+    test_content(&node, stop)?;
+    claim(table, from, last);
+    Ok(node)
+}
+
+/// Tests what a page holds: a branch has an element, and then the keys.
+#[tactic(auto, unfolding(crate::specs::ShownNodes::shown_node))]
+fn test_content(node: &TreePage<'_>, stop: &PageStop<'_>) -> Result<(), Finding>
+    ensures { result_err result ≡ content_fault (shown_node node.now) (page_spot stop.now) }
+{
+    if !node.is_leaf && node.count() == 0 {
+        return Err(Finding::of_page(Finding::EMPTY_BRANCH, stop.number));
+    }
+    match test_keys(node, stop.lower, stop.upper) {
+        Ok(()) => Ok(()),
+        Err(number) => Err(Finding::of_page(number, stop.number)),
+    }
+}
