@@ -1,5 +1,5 @@
 -- That the tests of the keys tell nothing, in the words of the shape.
-use Rattle.std.proofs.Common.{◌≡◌, ℕ, zero, suc, ◌<◌, Bool, true, false, not, if◌then◌else◌, List, [], ◌∷◌, Option, Some, None, slice_get, refl, arith}
+use Rattle.std.proofs.Common.{◌≡◌, ℕ, zero, suc, Bool, true, false, not, if◌then◌else◌, List, [], ◌∷◌, Option, Some, None, slice_get, refl, arith}
 use Rattle.bolt_format.specs.Elements.{first_of}
 use Rattle.bolt_check.specs.Keys.{Key, KeysRise, is_above, is_below, is_from, key_fault, key_lt, one_key_fault}
 use Rattle.bolt_check.specs.declared.finding.TheConstants.Finding.{ORDER, BELOW_PARENT, ABOVE_NEXT}

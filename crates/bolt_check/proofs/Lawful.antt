@@ -1,5 +1,5 @@
 -- Where the shape holds, the tests tell nothing.
-use Rattle.std.proofs.Common.{◌≡◌, ◌≢◌, ℕ, suc, ◌<◌, ◌≤◌, inl, inr, Bool, true, false, not, ◌&&◌, ◌==◌, if◌then◌else◌, nat_lt, List, [], ◌∷◌, ◌++◌, length, Option, Some, None, Result, Ok, Err, slice_get, ap, refl, arith}
+use Rattle.std.proofs.Common.{◌≡◌, ◌≢◌, ℕ, suc, ◌≤◌, inl, inr, Bool, true, false, not, ◌&&◌, ◌==◌, if◌then◌else◌, nat_lt, List, [], ◌∷◌, ◌++◌, length, Option, Some, None, Result, Ok, Err, slice_get, ap, refl, arith}
 use Rattle.std.proofs.lemmas.Bool.Decides.{nat_tests}
 use Rattle.bolt_check.specs.Ways.{PageSpot}
 use Rattle.bolt_check.specs.declared.finding.Finding.{Finding}
@@ -91,7 +91,7 @@ not_empty false (p ∷ entries) h = suc_not_zero (length entries)
 content_none : (node : Node) (s : PageSpot) → (node.is_leaf ≡ false → node.entries ≢ []) → key_fault None s.lower s.upper (keys_of node.entries) ≡ None → content_fault node s ≡ None
 content_none node s filled keys = rw (not_empty node.is_leaf node.entries filled, keys) refl
 
-early_passes : (nodes : Nodes) (s : PageSpot) (node : Node) → s.depth ≤ 64 → nodes s.number ≡ Ok node → early_fault nodes s ≡ None
+pub early_passes : (nodes : Nodes) (s : PageSpot) (node : Node) → s.depth ≤ 64 → nodes s.number ≡ Ok node → early_fault nodes s ≡ None
 early_passes nodes s node h e = let b : nat_lt 64 s.depth ≡ false = grind (arith, nat_tests, h) in rw (b, e) refl
 
 claimed_none : (nodes : Nodes) (root : ℕ) → HasShape nodes root → (way : List ℕ) (s : PageSpot) (node : Node) → reached nodes root way ≡ Some (At_page s) → nodes s.number ≡ Ok node

@@ -8,6 +8,7 @@ mod Pendings
 mod Shaping
 mod Single
 mod TableLemmas
+mod VisitLemmas
 mod Visited
 mod Visiting
 mod WayOrder

@@ -1,5 +1,5 @@
 -- The entries of a page as a node.
-use Rattle.std.proofs.Common.{◌≡◌, ◌∙◌, ℕ, suc, ◌+◌, ◌<◌, ◌≤◌, List, Bool, true, false, Option, None, Some, length, map, sym, ap, arith, refl, slice_get}
+use Rattle.std.proofs.Common.{◌≡◌, ◌∙◌, ℕ, suc, ◌+◌, ◌≤◌, List, true, false, Option, None, Some, length, sym, ap, arith, slice_get}
 use Rattle.std.specs.Option.{option_map}
 use Rattle.std.proofs.lemmas.List.{length-map}
 use Rattle.std.proofs.lemmas.Option.{slice_get-map, slice_get_past}
@@ -11,7 +11,7 @@ use Rattle.bolt_check.specs.Nodes.{Entry, branch_entry, leaf_entry}
 use Rattle.bolt_check.specs.ShownNodes.{entries_of, shown_node}
 use Rattle.bolt_check.specs.Keys.{Key}
 use Rattle.bolt_check.specs.TreeKinds.{tree_kind}
-use Rattle.bolt_check.specs.Ways.{At_page, PageSpot, Spot, bucket_spots, child_spot, step_entry, step_on, upper_from}
+use Rattle.bolt_check.specs.Ways.{At_page, PageSpot, bucket_spots, child_spot, step_entry, step_on, upper_from}
 use Rattle.bolt_check.specs.declared.tree_page.TreePage.{TreePage}
 
 -- a leaf has as many entries as elements

@@ -1,5 +1,5 @@
 -- What the tests of the structure tell, and which finding is the first: docs/SOUND.md, "Structure".
-use Rattle.std.specs.Prelude.{◌≡◌, ℕ, ◌<◌, ◌⊎◌, Bool, not, ◌&&◌, List, [], length, map, Option, Some, None, Result, Ok, Err, if◌then◌else◌, nat_lt, ◌==◌}
+use Rattle.std.specs.Prelude.{◌≡◌, ℕ, ◌<◌, ◌⊎◌, not, ◌&&◌, List, length, map, Option, Some, None, Result, Ok, Err, if◌then◌else◌, nat_lt, ◌==◌}
 use Rattle.bolt_check.specs.Keys.{Key, key_fault}
 use Rattle.bolt_check.specs.Nodes.{Entry, IsInSpan, Node, Nodes}
 use Rattle.bolt_check.specs.Ways.{At_inline, At_page, Before, PageSpot, Reach, SpanHas, Spot}

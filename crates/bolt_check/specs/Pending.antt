@@ -1,5 +1,5 @@
 -- The spots that are still to be visited, as ways: the first number of a way picks the spot.
-use Rattle.std.specs.Prelude.{◌≡◌, ℕ, ◌⊎◌, Bool, List, [], ◌∷◌, map, reverse, Option, Some, None, slice_get}
+use Rattle.std.specs.Prelude.{ℕ, ◌⊎◌, Bool, List, [], ◌∷◌, map, reverse, Option, Some, None, slice_get}
 use Rattle.std.specs.Borrow.{Bor}
 use Rattle.bolt_format.specs.ShownInline.{shown_inline}
 use Rattle.bolt_format.specs.Elements.{LeafElement}

@@ -7,10 +7,9 @@ ghost use Rattle.bolt_check.specs.Keys.{key_fault, key_lt, one_key_fault};
 ghost use Rattle.bolt_check.specs.Pending.{bound_of, inline_keys};
 ghost use Rattle.bolt_check.specs.ShownNodes.{shown_node};
 
-use bolt_format::Inline;
-
 use crate::finding::Finding;
 use crate::tree_page::TreePage;
+use bolt_format::Inline;
 
 /// Whether a key is below another, in byte order.
 fn is_below(key: &[u8], other: &[u8]) -> bool

@@ -9,12 +9,11 @@ ghost use Rattle.bolt_check.specs.Tables.{HasRoom, IsClaimed, unclaimed};
 ghost use Rattle.bolt_check.specs.Ways.{At_page, reached, start_of};
 ghost use Rattle.bolt_check.specs.declared.finding.Finding.{Finding};
 
-use std::alloc::{AllocError, Global};
-use bolt_format::Meta;
-
 use crate::finding::Finding;
 use crate::stop::{PageStop, Stop};
 use crate::tree_page::TreePage;
+use bolt_format::Meta;
+use std::alloc::{AllocError, Global};
 
 /// Why a search stops.
 #[derive(Clone, Copy)]

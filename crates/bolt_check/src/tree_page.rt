@@ -11,9 +11,8 @@ ghost use Rattle.bolt_check.specs.Pending.{bound_of, page_spot, spot_at};
 ghost use Rattle.bolt_check.specs.TreeKinds.{tree_kind};
 ghost use Rattle.bolt_check.specs.Ways.{At_page, bucket_spots, step_on, upper_from};
 
-use bolt_format::{Leaf, Page, head, inline};
-
 use crate::stop::{BucketStop, PageStop, Stop};
+use bolt_format::{Leaf, Page, head, inline};
 
 /// A page that is a branch or a leaf.
 #[derive(Clone, Copy)]

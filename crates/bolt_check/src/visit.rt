@@ -8,14 +8,13 @@ ghost use Rattle.bolt_check.specs.ShownNodes.{shown_node};
 ghost use Rattle.bolt_check.specs.Tables.{HasRoom, IsClaimed, unclaimed};
 ghost use Rattle.bolt_check.specs.Ways.{At_page};
 
-use bolt_format::Meta;
-
 use crate::finding::Finding;
 use crate::keys::test_keys;
 use crate::node::open;
 use crate::stop::PageStop;
 use crate::table::{PageUse, claim, first_claimed};
 use crate::tree_page::TreePage;
+use bolt_format::Meta;
 
 /// How many pages may lie on the way from a bucket's root page, that page included.
 const MAX_DEPTH: u8 = 64;
@@ -47,7 +46,9 @@ pub(crate) fn visit<'a>(
     if let Some(n) = first_claimed(table, from, last) {
         return Err(Finding::of_page(Finding::TWICE, n as u64));
     }
-    test_content(&node, stop)?;
+    if let Err(finding) = test_content(&node, stop) {
+        return Err(finding);
+    }
     claim(table, from, last);
     Ok(node)
 }

@@ -1,0 +1,20 @@
+-- A page that is in the file has its place in the table.
+use Rattle.std.proofs.Common.{◌≡◌, ◌+◌, ◌*◌, ◌<◌, ◌≤◌, ℕ, List, length, arith, subst}
+use Rattle.bolt_format.specs.Pages.{IsInFile, PageView}
+use Rattle.bolt_format.specs.Shown.{shown}
+use Rattle.bolt_format.specs.declared.meta.Meta.{Meta}
+use Rattle.bolt_check.specs.ShownNodes.{shown_node}
+use Rattle.bolt_check.specs.Tables.{HasRoom}
+use Rattle.bolt_check.specs.declared.table.PageUse.{PageUse}
+use Rattle.bolt_check.specs.declared.tree_page.TreePage.{TreePage}
+
+pub in_room : (file : List ℕ) (meta : Meta) (id : ℕ) (view : PageView) (table : List PageUse) → IsInFile file meta id view → HasRoom file meta table
+    → id + view.overflow < length table
+in_room file meta id view table inside room =
+    let same : id + 1 + view.overflow ≡ id + view.overflow + 1 = omega arith in
+    room (id + view.overflow) (subst (λ (n : ℕ). n * meta.page_size ≤ length file) same inside.end) inside.below
+
+-- the overflow of a node is its page's
+pub overflow-is : (node : TreePage) (n : ℕ) → n ≡ (shown node.page).overflow → n ≡ (shown_node node).overflow
+unfolding shown_node
+overflow-is node n e = e
