@@ -10,8 +10,11 @@ ghost use Rattle.bolt_check.specs.Ways.{At_page, reached, start_of};
 ghost use Rattle.bolt_check.specs.declared.finding.Finding.{Finding};
 
 use crate::finding::Finding;
+use crate::keys::test_inline_keys;
 use crate::stop::{PageStop, Stop};
+use crate::table::PageUse;
 use crate::tree_page::TreePage;
+use crate::visit::visit;
 use bolt_format::Meta;
 use std::alloc::{AllocError, Global};
 
@@ -31,7 +34,7 @@ fn push_kids<'a>(
 ) -> Result<(), AllocError>
     requires { stop.now.depth ≤ 64 }
     ensures kids { OnOk result (spots_of pending.new.items ≡ kids (shown_node node.now) (page_spot stop.now) ++ spots_of pending.old.items) }
-    ensures few { OnOk result (vec_len pending.new ≤ vec_len pending.old + length (shown_node node.now).entries) }
+    ensures few { OnOk result (vec_len pending.new < vec_len pending.old + 65536) }
 {
     let mut i = node.count();
     while i > 0 {
@@ -41,4 +44,94 @@ fn push_kids<'a>(
         }
     }
     Ok(())
+}
+
+/// A table in which the two meta pages are claimed, with a place for each page that lies in the
+/// file and below the high-water mark.
+fn new_table(alloc: Global, file: &[u8], meta: &Meta) -> Result<Vec<PageUse>, AllocError>
+    requires { 0 < meta.now.page_size }
+    ensures metas { IfOk result (λ table. (n : ℕ) → IsClaimed table.items n ↔ IsMetaPage n) }
+    ensures room { IfOk result (λ table. HasRoom file.now meta.now table.items) }
+{
+    let pages = (file.len() / meta.page_size as usize) as u64;
+    let mut table = vec![in alloc; PageUse::Unused; pages.min(meta.high_water).max(2) as usize]?;
+    table[0] = PageUse::Used;
+    table[1] = PageUse::Used;
+    Ok(table)
+}
+
+/// The stop at the root page, alone.
+fn new_pending<'a>(alloc: Global, root: u64) -> Result<Vec<Stop<'a>>, AllocError>
+    ensures { IfOk result (λ pending. spots_of pending.items ≡ At_page (start_of root) ∷ []) }
+{
+    let mut pending = Vec::new(alloc);
+    pending.push(Stop::Page(PageStop {
+        number: root,
+        depth: 1,
+        lower: None,
+        upper: None,
+    }))?;
+    Ok(pending)
+}
+
+/// Visits what was taken from the top of the pending stops, and puts what it leads to in its place.
+fn step<'a>(
+    file: &'a [u8],
+    meta: &Meta,
+    stop: Stop<'a>,
+    table: &mut Vec<PageUse>,
+    pending: &mut Vec<Stop<'a>>,
+) -> Result<(), SearchFault>
+    requires { HasRoom file.now meta.now table.old.items }
+    ensures room { OnOk result (HasRoom file.now meta.now table.new.items) }
+    ensures less { OnOk result (unclaimed table.new.items * 65536 + vec_len pending.new ≤ unclaimed table.old.items * 65536 + vec_len pending.old) }
+    ensures clean { OnOk result (IsClean (node_at file.now meta.now) (forest (node_at file.now meta.now) (spots_of pending.new.items)) (IsClaimed table.new.items)
+        → IsClean (node_at file.now meta.now) (forest (node_at file.now meta.now) (spot_at stop.entry ∷ spots_of pending.old.items)) (IsClaimed table.old.items)) }
+    ensures first { OnOk result ((x : Finding) → IsFirst (node_at file.now meta.now) (forest (node_at file.now meta.now) (spots_of pending.new.items)) (IsClaimed table.new.items) x
+        → IsFirst (node_at file.now meta.now) (forest (node_at file.now meta.now) (spot_at stop.entry ∷ spots_of pending.old.items)) (IsClaimed table.old.items) x) }
+    ensures covered { OnOk result ((n : ℕ) → IsCovered (node_at file.now meta.now) (forest (node_at file.now meta.now) (spots_of pending.new.items)) (IsClaimed table.new.items) n
+        ↔ IsCovered (node_at file.now meta.now) (forest (node_at file.now meta.now) (spot_at stop.entry ∷ spots_of pending.old.items)) (IsClaimed table.old.items) n) }
+    ensures told { IfErr result (Told (node_at file.now meta.now) (forest (node_at file.now meta.now) (spot_at stop.entry ∷ spots_of pending.old.items)) (IsClaimed table.old.items)) }
+{
+    match stop {
+        Stop::Page(stop) => {
+            let node = match visit(file, meta, &stop, table) {
+                Ok(node) => node,
+                Err(finding) => return Err(SearchFault::Found(finding)),
+            };
+            match push_kids(&node, &stop, pending) {
+                Ok(()) => Ok(()),
+                Err(_) => Err(SearchFault::Memory),
+            }
+        }
+        Stop::Bucket(stop) => match test_inline_keys(&stop.page) {
+            Ok(()) => Ok(()),
+            Err(number) => Err(SearchFault::Found(Finding::of_page(number, stop.host))),
+        },
+    }
+}
+
+/// Searches all ways from the root page, in their order, for a finding. The table is left with
+/// the pages of all spans claimed.
+pub(crate) fn search(alloc: Global, file: &[u8], meta: &Meta) -> Result<Vec<PageUse>, SearchFault>
+    requires { 0 < meta.now.page_size }
+    ensures clean { OnOk result (IsClean (node_at file.now meta.now) (reached (node_at file.now meta.now) meta.now.root) IsMetaPage) }
+    ensures covered { IfOk result (λ table. (n : ℕ) → IsClaimed table.items n ↔ IsCovered (node_at file.now meta.now) (reached (node_at file.now meta.now) meta.now.root) IsMetaPage n) }
+    ensures room { IfOk result (λ table. HasRoom file.now meta.now table.items) }
+    ensures first { IfErr result (Told (node_at file.now meta.now) (reached (node_at file.now meta.now) meta.now.root) IsMetaPage) }
+{
+    let mut table = match new_table(alloc, file, meta) {
+        Ok(table) => table,
+        Err(_) => return Err(SearchFault::Memory),
+    };
+    let mut pending = match new_pending(alloc, meta.root) {
+        Ok(pending) => pending,
+        Err(_) => return Err(SearchFault::Memory),
+    };
+    while let Some(stop) = pending.pop() {
+        if let Err(fault) = step(file, meta, stop, &mut table, &mut pending) {
+            return Err(fault);
+        }
+    }
+    Ok(table)
 }

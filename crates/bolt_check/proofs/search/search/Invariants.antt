@@ -1,0 +1,24 @@
+use Rattle.std.proofs.Common.{◌↔◌, ℕ, ◌+◌, ◌*◌, vec_len}
+use Rattle.bolt_check.specs.declared.finding.Finding.{Finding}
+use Rattle.bolt_check.specs.Findings.{IsClean, IsCovered, IsFirst, IsMetaPage}
+use Rattle.bolt_check.specs.Nodes.{node_at}
+use Rattle.bolt_check.specs.Pending.{forest, spots_of}
+use Rattle.bolt_check.specs.Tables.{HasRoom, IsClaimed, unclaimed}
+use Rattle.bolt_check.specs.Ways.{reached}
+use Rattle.bolt_check.proofs.search.search.Given as goal
+
+-- what holds of the stops that are left holds of the whole
+abbrev pub invariant-loop-stop : goal.invariant-loop-stop
+invariant-loop-stop l = record {
+  room : HasRoom l.file l.meta l.table.items;
+  clean : IsClean (node_at l.file l.meta) (forest (node_at l.file l.meta) (spots_of l.pending.items)) (IsClaimed l.table.items)
+      → IsClean (node_at l.file l.meta) (reached (node_at l.file l.meta) l.meta.root) IsMetaPage;
+  covered : (n : ℕ) → IsCovered (node_at l.file l.meta) (forest (node_at l.file l.meta) (spots_of l.pending.items)) (IsClaimed l.table.items) n
+      ↔ IsCovered (node_at l.file l.meta) (reached (node_at l.file l.meta) l.meta.root) IsMetaPage n;
+  first : (x : Finding) → IsFirst (node_at l.file l.meta) (forest (node_at l.file l.meta) (spots_of l.pending.items)) (IsClaimed l.table.items) x
+      → IsFirst (node_at l.file l.meta) (reached (node_at l.file l.meta) l.meta.root) IsMetaPage x;
+}
+
+-- each visit of a page claims, and no page leads to as many as that; an inline bucket leads to none
+abbrev pub decreases-loop-stop : goal.decreases-loop-stop
+decreases-loop-stop l = unclaimed l.table.items * 65536 + vec_len l.pending
