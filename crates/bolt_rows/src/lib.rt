@@ -1,0 +1,8 @@
+//! Tests that cross the crates: a maker of small files, and worked rows of what the crates answer
+//! on them. The crate has nothing beside its tests.
+#![tactic(auto)]
+
+#[cfg(test)]
+mod maker;
+#[cfg(test)]
+mod meta_rows;
