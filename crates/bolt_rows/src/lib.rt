@@ -3,6 +3,14 @@
 #![tactic(auto)]
 
 #[cfg(test)]
+mod fault_rows;
+#[cfg(test)]
+mod free_rows;
+#[cfg(test)]
 mod maker;
 #[cfg(test)]
 mod meta_rows;
+#[cfg(test)]
+mod read_rows;
+#[cfg(test)]
+mod sink_rows;

@@ -386,28 +386,25 @@ fn second_meta_alone(rt: HostRuntime) -> Result<(), Fail> {
 #[test]
 fn cut_metas(rt: HostRuntime) -> Result<(), Fail> {
     let fields = MetaFields::fresh(1024);
-    let bytes = database(rt.alloc(), 4, &fields, &[])?;
-    let bytes = bytes.as_slice();
-    assert_eq!(rt; bytes.len(), 4096);
-    let want = (Slot::Zero, told(&fields));
-    assert_eq!(rt; choose(&bytes[..80]), Ok(want), "80 bytes");
-    assert_eq!(rt;
-        choose(&bytes[..1103]),
-        Ok(want),
-        "one byte too few for the second"
-    );
-    for length in [0, 1, 16, 79] {
-        assert_eq!(rt;
-            choose(&bytes[..length]),
-            Err(MetaFault::Cut),
-            "{length} bytes"
-        );
+    let want = Ok((Slot::Zero, told(&fields)));
+    let mut bytes = database(rt.alloc(), 4, &fields, &[])?;
+    for at in [1, 1008, 4016] {
+        let fault = Err(MetaFault::Magic);
+        assert_eq!(rt; meta_at(bytes.as_slice(), at), fault, "at byte {at}");
     }
     for at in [4017, 4096, 4097, usize::MAX - 79, usize::MAX] {
-        assert_eq!(rt; meta_at(bytes, at), Err(MetaFault::Cut), "at byte {at}");
+        let fault = Err(MetaFault::Cut);
+        assert_eq!(rt; meta_at(bytes.as_slice(), at), fault, "at byte {at}");
     }
-    for at in [1, 1008, 4016] {
-        assert_eq!(rt; meta_at(bytes, at), Err(MetaFault::Magic), "at byte {at}");
+    // One byte too few for the second meta, and then fewer.
+    for length in [1103, 1102, 80] {
+        bytes.truncate(length);
+        assert_eq!(rt; choose(bytes.as_slice()), want, "{length} bytes");
+    }
+    for length in [79, 16, 1, 0] {
+        bytes.truncate(length);
+        let fault = Err(MetaFault::Cut);
+        assert_eq!(rt; choose(bytes.as_slice()), fault, "{length} bytes");
     }
     Ok(())
 }
