@@ -19,6 +19,44 @@ fn meta_with_mark(high_water: u64) -> Meta {
     }
 }
 
+/// The words of a fault's line, by its number.
+pub fn fault_text(number: u8) -> &'static str {
+    match number {
+        6 => "out of range",
+        7 => "cut off",
+        8 => "wrong page number",
+        9 => "invalid type",
+        10 => "element past the page",
+        11 => "element data out of order",
+        12 => "key length refused",
+        13 => "value length refused",
+        14 => "leaf flags refused",
+        15 => "bucket value too short",
+        16 => "inline page refused",
+        17 => "bucket in an inline bucket",
+        _ => "no fault of a page",
+    }
+}
+
+#[test]
+fn fault_numbers(rt: HostRuntime) {
+    let faults = [
+        PageFault::RANGE,
+        PageFault::CUT,
+        PageFault::ID,
+        PageFault::PAGE_KIND,
+        PageFault::ELEMENT_CUT,
+        PageFault::DATA_ORDER,
+        PageFault::KEY_LENGTH,
+        PageFault::VALUE_LENGTH,
+        PageFault::LEAF_FLAGS,
+        PageFault::BUCKET_SHORT,
+        PageFault::INLINE_PAGE,
+        PageFault::INLINE_NESTED,
+    ];
+    assert_eq!(rt; faults, [6, 7, 8, 9, 10, 11, 12, 13, 14, 15, 16, 17]);
+}
+
 fn check_fault(rt: &impl Abort, name: &str, file: &[u8], meta: &Meta, id: u64, want: Option<u8>) {
     let want = want.map(|number| PageFault { number, page: id });
     assert_eq!(rt; page(file, meta, id).err(), want, "{name}");
@@ -30,17 +68,17 @@ fn with_page_three(alloc: Global, page: &[u8]) -> Result<Vec<u8>, AllocError> {
 }
 
 /// Bytes that stand over those of a page, from a byte of the page on.
-type Patch<'a> = (usize, &'a [u8]);
+pub type Patch<'a> = (usize, &'a [u8]);
 
 /// A leaf page that holds `a` = `1` and `b` = `2`, packed, with patches. Its first element's
 /// header begins at byte 16 and the second's at byte 32, each of flags, position, key length and
 /// value length; the data begins at byte 48.
 #[derive(Clone, Copy)]
-struct LeafRow<'a> {
-    name: &'a str,
-    patches: &'a [Patch<'a>],
-    mark: u64,
-    want: Option<u8>,
+pub struct LeafRow<'a> {
+    pub name: &'a str,
+    pub patches: &'a [Patch<'a>],
+    pub mark: u64,
+    pub want: Option<u8>,
 }
 
 fn bad<'a>(name: &'a str, patches: &'a [Patch<'a>], fault: u8) -> LeafRow<'a> {
@@ -70,20 +108,29 @@ fn good<'a>(name: &'a str, patches: &'a [Patch<'a>]) -> LeafRow<'a> {
     }
 }
 
-fn check_leaf(rt: &impl Abort, alloc: Global, row: &LeafRow<'_>) -> Result<(), AllocError> {
+/// The file of a row: four pages of 1,024 bytes, of which the last is the row's.
+pub fn leaf_file(alloc: Global, row: &LeafRow<'_>) -> Result<Vec<u8>, AllocError> {
     let mut page = leaf(alloc, 3, &[Value(b"a", b"1"), Value(b"b", b"2")])?;
     for (at, bytes) in row.patches {
         patch(&mut page, *at, bytes)?;
     }
-    let file = with_page_three(alloc, page.as_slice())?;
+    let fields = MetaFields {
+        mark: row.mark,
+        ..MetaFields::fresh(1024)
+    };
+    database(alloc, 4, &fields, &[(3, page.as_slice())])
+}
+
+fn check_leaf(rt: &impl Abort, alloc: Global, row: &LeafRow<'_>) -> Result<(), AllocError> {
+    let file = leaf_file(alloc, row)?;
     let meta = meta_with_mark(row.mark);
     check_fault(rt, row.name, file.as_slice(), &meta, 3, row.want);
     Ok(())
 }
 
-#[test]
-fn page_headers(rt: HostRuntime) -> Result<(), Fail> {
-    let rows = [
+/// Rows of a leaf page's header.
+pub fn header_rows() -> [LeafRow<'static>; 18] {
+    [
         good("as it is", &[]),
         bad("header id 4", &[(0, &[4])], PageFault::ID),
         bad("header id with a high byte", &[(7, &[1])], PageFault::ID),
@@ -122,16 +169,20 @@ fn page_headers(rt: HostRuntime) -> Result<(), Fail> {
             PageFault::ELEMENT_CUT,
         ),
         bad("count 63", &[(10, &[63])], PageFault::DATA_ORDER),
-    ];
-    for row in &rows {
-        check_leaf(&rt, rt.alloc(), row)?;
+    ]
+}
+
+#[test]
+fn page_headers(rt: HostRuntime) -> Result<(), Fail> {
+    for row in header_rows() {
+        check_leaf(&rt, rt.alloc(), &row)?;
     }
     Ok(())
 }
 
-#[test]
-fn first_elements(rt: HostRuntime) -> Result<(), Fail> {
-    let rows = [
+/// Rows of its first element.
+pub fn first_element_rows() -> [LeafRow<'static>; 19] {
+    [
         bad("flags 2", &[(16, &[2])], PageFault::LEAF_FLAGS),
         bad("flags 0x100", &[(17, &[1])], PageFault::LEAF_FLAGS),
         bad("flags 1", &[(16, &[1])], PageFault::BUCKET_SHORT),
@@ -203,16 +254,20 @@ fn first_elements(rt: HostRuntime) -> Result<(), Fail> {
             &[(16, &[1]), (29, &[4])],
             PageFault::ELEMENT_CUT,
         ),
-    ];
-    for row in &rows {
-        check_leaf(&rt, rt.alloc(), row)?;
+    ]
+}
+
+#[test]
+fn first_elements(rt: HostRuntime) -> Result<(), Fail> {
+    for row in first_element_rows() {
+        check_leaf(&rt, rt.alloc(), &row)?;
     }
     Ok(())
 }
 
-#[test]
-fn second_elements(rt: HostRuntime) -> Result<(), Fail> {
-    let rows = [
+/// Rows of its second element.
+pub fn second_element_rows() -> [LeafRow<'static>; 13] {
+    [
         bad("position 17", &[(36, &[17])], PageFault::DATA_ORDER),
         good(
             "position 19, its data moved with it",
@@ -249,9 +304,13 @@ fn second_elements(rt: HostRuntime) -> Result<(), Fail> {
         bad("flags 2", &[(32, &[2])], PageFault::LEAF_FLAGS),
         bad("key length 0", &[(40, &[0])], PageFault::KEY_LENGTH),
         good("without the second", &[(10, &[1]), (32, &[0xFF; 16])]),
-    ];
-    for row in &rows {
-        check_leaf(&rt, rt.alloc(), row)?;
+    ]
+}
+
+#[test]
+fn second_elements(rt: HostRuntime) -> Result<(), Fail> {
+    for row in second_element_rows() {
+        check_leaf(&rt, rt.alloc(), &row)?;
     }
     Ok(())
 }
@@ -295,13 +354,13 @@ fn bucket_values(rt: HostRuntime) -> Result<(), Fail> {
 /// A leaf page with an inline bucket `b`, patched, between other elements. In the bucket's stored
 /// bytes the page's header begins at byte 16 and its first element at byte 32.
 #[derive(Clone, Copy)]
-struct InlineRow<'a> {
-    name: &'a str,
-    before: &'a [Element<'a>],
-    held: &'a [Element<'a>],
-    patches: &'a [Patch<'a>],
-    after: &'a [Element<'a>],
-    want: Option<u8>,
+pub struct InlineRow<'a> {
+    pub name: &'a str,
+    pub before: &'a [Element<'a>],
+    pub held: &'a [Element<'a>],
+    pub patches: &'a [Patch<'a>],
+    pub after: &'a [Element<'a>],
+    pub want: Option<u8>,
 }
 
 /// One bucket `b` with the value `k1` = `v1`.
@@ -336,7 +395,8 @@ fn holding(name: &'static str, held: &'static [Element<'static>], fault: u8) -> 
     }
 }
 
-fn check_inline(rt: &impl Abort, alloc: Global, row: &InlineRow<'_>) -> Result<(), AllocError> {
+/// The file of a row: four pages of 1,024 bytes, of which the last is the row's.
+pub fn inline_file(alloc: Global, row: &InlineRow<'_>) -> Result<Vec<u8>, AllocError> {
     let mut stored = inline(alloc, 0, row.held)?;
     for (at, bytes) in row.patches {
         patch(&mut stored, *at, bytes)?;
@@ -345,7 +405,11 @@ fn check_inline(rt: &impl Abort, alloc: Global, row: &InlineRow<'_>) -> Result<(
     elements.push(Bucket(b"b", stored.as_slice()))?;
     elements.extend_from_slice(row.after)?;
     let page = leaf(alloc, 3, elements.as_slice())?;
-    let file = with_page_three(alloc, page.as_slice())?;
+    with_page_three(alloc, page.as_slice())
+}
+
+fn check_inline(rt: &impl Abort, alloc: Global, row: &InlineRow<'_>) -> Result<(), AllocError> {
+    let file = inline_file(alloc, row)?;
     check_fault(
         rt,
         row.name,
@@ -357,10 +421,10 @@ fn check_inline(rt: &impl Abort, alloc: Global, row: &InlineRow<'_>) -> Result<(
     Ok(())
 }
 
-#[test]
-fn inline_pages(rt: HostRuntime) -> Result<(), Fail> {
+/// Rows of the page of an inline bucket.
+pub fn inline_rows() -> [InlineRow<'static>; 18] {
     let refused = Some(PageFault::INLINE_PAGE);
-    let rows = [
+    [
         PLAIN,
         patched(
             "another id and overflow in its header",
@@ -387,21 +451,25 @@ fn inline_pages(rt: HostRuntime) -> Result<(), Fail> {
             refused,
         ),
         patched("element flags 1", &[(32, &[1])], refused),
-    ];
-    for row in &rows {
-        check_inline(&rt, rt.alloc(), row)?;
+    ]
+}
+
+#[test]
+fn inline_pages(rt: HostRuntime) -> Result<(), Fail> {
+    for row in inline_rows() {
+        check_inline(&rt, rt.alloc(), &row)?;
     }
     Ok(())
 }
 
-#[test]
-fn nested_buckets(rt: HostRuntime) -> Result<(), Fail> {
+/// Rows of buckets in an inline bucket, and of elements beside it.
+pub fn nested_rows() -> [InlineRow<'static>; 9] {
     let nested = holding(
         "a bucket",
         &[Bucket(b"k", ROOT_NINE)],
         PageFault::INLINE_NESTED,
     );
-    let rows = [
+    [
         nested,
         holding(
             "a bucket with root 0",
@@ -446,9 +514,13 @@ fn nested_buckets(rt: HostRuntime) -> Result<(), Fail> {
             after: &[Value(b"c", b""), Bucket(b"d", ROOT_NINE)],
             ..PLAIN
         },
-    ];
-    for row in &rows {
-        check_inline(&rt, rt.alloc(), row)?;
+    ]
+}
+
+#[test]
+fn nested_buckets(rt: HostRuntime) -> Result<(), Fail> {
+    for row in nested_rows() {
+        check_inline(&rt, rt.alloc(), &row)?;
     }
     Ok(())
 }

@@ -1,22 +1,11 @@
 //! Rows of freelists.
 
-use crate::maker::{
-    FREELIST_FLAGS, MetaFields, NO_FREELIST, PageHeader, database, freelist, leaf, long_freelist,
-    patch,
-};
+use crate::maker::{MetaFields, NO_FREELIST, database, freelist, leaf, long_freelist, patch};
+use crate::samples::{many_free_pages, numbers};
 use bolt_format::{PageFault, choose, free_ids};
 use std::alloc::{AllocError, Global};
 use std::process::Abort;
 use std::test::Fail;
-
-/// This many page numbers from a first one on.
-fn numbers(alloc: Global, first: u64, count: u64) -> Result<Vec<u64>, AllocError> {
-    let mut ids = Vec::new(alloc);
-    for i in 0..count {
-        ids.push(first.saturating_add(i))?;
-    }
-    Ok(ids)
-}
 
 /// The ids of a file's freelist are these, or it has this fault.
 fn check_ids(rt: &impl Abort, name: &str, file: &[u8], want: Result<&[u64], PageFault>) {
@@ -167,16 +156,7 @@ fn freelist_fields(rt: HostRuntime) -> Result<(), Fail> {
 fn a_span_of_ids(rt: HostRuntime) -> Result<(), Fail> {
     let alloc = rt.alloc();
     let ids = numbers(alloc, 132, 65_535)?;
-    let page = long_freelist(alloc, 2, 128, 65_535, ids.as_slice())?;
-    assert_eq!(rt; page.len(), 524_304);
-    let root = leaf(alloc, 131, &[])?;
-    let fields = MetaFields {
-        root: 131,
-        mark: 65_667,
-        ..MetaFields::fresh(4096)
-    };
-    let pages = [(2, page.as_slice()), (131, root.as_slice())];
-    let file = database(alloc, 132, &fields, &pages)?;
+    let file = many_free_pages(alloc, ids.as_slice())?;
     assert_eq!(rt; file.len(), 540_672);
     check_ids(&rt, "65,535 ids", file.as_slice(), Ok(ids.as_slice()));
     Ok(())

@@ -13,4 +13,6 @@ mod meta_rows;
 #[cfg(test)]
 mod read_rows;
 #[cfg(test)]
+mod samples;
+#[cfg(test)]
 mod sink_rows;

@@ -57,6 +57,11 @@ pub enum Element<'a> {
 }
 
 impl<'a> Element<'a> {
+    /// A value under a key, as `Value` makes it, beside elements that live shorter than its texts.
+    pub fn of_value(key: &'a [u8], value: &'a [u8]) -> Self {
+        Element::Value(key, value)
+    }
+
     fn flags(self) -> u32 {
         match self {
             Element::Value(_, _) => 0,

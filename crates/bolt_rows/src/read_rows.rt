@@ -179,6 +179,15 @@ fn values(rt: HostRuntime) -> Result<(), Fail> {
     Ok(())
 }
 
+/// What a leaf page shows that has each kind of bucket.
+const BUCKETS: [Shown<'static>; 5] = [
+    Within(b"a", 7, &[(b"k1", b"v1"), (b"k2", b"")]),
+    Within(b"b", u64::MAX, &[]),
+    Plain(b"c", b"between"),
+    Rooted(b"d", 4, 2),
+    Rooted(b"e", u64::MAX, 0x0102_0304_0506_0708),
+];
+
 #[test]
 fn buckets(rt: HostRuntime) -> Result<(), Fail> {
     let alloc = rt.alloc();
@@ -191,19 +200,12 @@ fn buckets(rt: HostRuntime) -> Result<(), Fail> {
     let elements = [
         Bucket(b"a", held.as_slice()),
         Bucket(b"b", empty.as_slice()),
-        Value(b"c", b"between"),
+        Element::of_value(b"c", b"between"),
         Bucket(b"d", rooted.as_slice()),
         Bucket(b"e", far.as_slice()),
     ];
-    let want = [
-        Within(b"a", 7, &[(b"k1", b"v1"), (b"k2", b"")]),
-        Within(b"b", u64::MAX, &[]),
-        Plain(b"c", b"between"),
-        Rooted(b"d", 4, 2),
-        Rooted(b"e", u64::MAX, 0x0102_0304_0506_0708),
-    ];
-    check_leaf_page(&rt, alloc, &elements, &[], &want)?;
-    check_leaf_page(&rt, alloc, &elements, &[1, 2, 3, 4, 5], &want)?;
+    check_leaf_page(&rt, alloc, &elements, &[], &BUCKETS)?;
+    check_leaf_page(&rt, alloc, &elements, &[1, 2, 3, 4, 5], &BUCKETS)?;
     Ok(())
 }
 
@@ -264,21 +266,25 @@ fn stated_bytes(rt: HostRuntime) -> Result<(), Fail> {
     Ok(())
 }
 
+/// A value and a key that don't fit a page of 1,024 bytes beside others.
+const LONG_VALUE: &[u8] = &[b'v'; 2000];
+
+const LONG_KEY: &[u8] = &[b'k'; 1000];
+
 #[test]
 fn spans_of_pages(rt: HostRuntime) -> Result<(), Fail> {
     let alloc = rt.alloc();
-    let long = vec![in alloc; b'v'; 2000]?;
     let leaf_header = PageHeader {
         overflow: 2,
         ..PageHeader::of(3, LEAF_FLAGS, 2)
     };
-    let elements = [Value(b"a", long.as_slice()), Value(b"b", b"last")];
+    let elements = [Value(b"a", LONG_VALUE), Value(b"b", b"last")];
     let leaf = leaf_with(alloc, leaf_header, &elements, &[0, 990])?;
     let branch_header = PageHeader {
         overflow: 1,
         ..PageHeader::of(6, BRANCH_FLAGS, 2)
     };
-    let children: [(&[u8], u64); 2] = [(&long.as_slice()[..1000], u64::MAX), (b"w", 3)];
+    let children = [(LONG_KEY, u64::MAX), (b"w".as_slice(), 3)];
     let branch = branch_with(alloc, branch_header, &children, &[5, 6])?;
     let fields = MetaFields {
         mark: 8,
@@ -287,7 +293,7 @@ fn spans_of_pages(rt: HostRuntime) -> Result<(), Fail> {
     let pages = [(3, leaf.as_slice()), (6, branch.as_slice())];
     let file = database(alloc, 8, &fields, &pages)?;
     let meta = meta_of(&rt, file.as_slice());
-    let leaves = [Plain(b"a", long.as_slice()), Plain(b"b", b"last")];
+    let leaves = [Plain(b"a", LONG_VALUE), Plain(b"b", b"last")];
     check_page(&rt, file.as_slice(), &meta, 3, Want::Leaves(2, &leaves));
     check_page(&rt, file.as_slice(), &meta, 6, Want::Branches(1, &children));
     Ok(())
