@@ -2,10 +2,11 @@
 use Rattle.std.proofs.Common.{◌≡◌, ◌∙◌, ℕ, zero, suc, ◌+◌, ◌<◌, ◌≤◌, List, Bool, true, false, Option, None, Some, IsSome, is_some, length, not, zero-add, ◌||◌, eq-eqb, ◌*◌, ◌==◌, nat_le, map, arith, ap, refl, sym, subst, cond, nat_lt, slice_get, inl, inr}
 use Rattle.std.specs.List.{list_any, range_with_len}
 use Rattle.std.proofs.lemmas.Bool.{cases_lt, ltb-false}
+use Rattle.std.proofs.lemmas.Bool.Decides.{nat_tests}
 use Rattle.std.proofs.lemmas.List.FromFn.{get_or-map-range_with_len, get_or-range_with_len, length-map-range_with_len, length-range_with_len}
 use Rattle.std.proofs.lemmas.List.Folds.{list_any_at}
 use Rattle.std.proofs.lemmas.Option.{slice_get-get_or}
-use Rattle.bolt_format.specs.Elements.{IsBucketValue, branch_end, branch_fault, branch_key_length, branch_key_start, branches_fault, data_fault, element_at, faults_from, has_bucket, head_fault, head_root, inline_bytes, inline_fault, inline_page_fault, first_of, is_bucket_at, key_fault, leaf_element, leaf_elements, leaf_end, leaf_flags, leaf_flags_fault, leaf_key_length, leaf_key_start, leaf_value, leaf_value_length, leaves_fault, plain_leaf_fault, table_fault, value_fault, value_length_fault}
+use Rattle.bolt_format.specs.Elements.{IsBucketValue, branch_element, branch_elements, branch_end, branch_fault, branch_key_length, branch_key_start, branches_fault, data_fault, element_at, faults_from, has_bucket, head_fault, head_root, inline_bytes, inline_fault, inline_page_fault, first_of, is_bucket_at, key_fault, leaf_element, leaf_elements, leaf_end, leaf_flags, leaf_flags_fault, leaf_key_length, leaf_key_start, leaf_value, leaf_value_length, leaves_fault, plain_leaf_fault, table_fault, value_fault, value_length_fault}
 use Rattle.bolt_format.specs.Headers.{count_field, flags_field, id_field, kind_of}
 use Rattle.bolt_format.specs.Pages.{content_fault, fault_as, from_page, page_at, page_fault, page_overflow, shown_as, span_bytes, span_fault}
 use Rattle.bolt_format.specs.Spans.{IsSpan, IsWithin}
@@ -91,6 +92,9 @@ not-false : (b : Bool) → not b ≡ false → b ≡ true
 not-false true e = refl
 not-false false e = absurd (cc)
 
+below-of : {m n : ℕ} → nat_le m n ≡ false → n < m
+below-of e = grind (arith, nat_tests)
+
 pub good_span : (file : List ℕ) (meta : Meta) (id : ℕ) → span_fault file meta id ≡ None → IsWithin file meta id
 unfolding span_fault
 good_span file meta id e =
@@ -100,7 +104,7 @@ good_span file meta id e =
     let kind = guard-none (not (is_some (kind_of (flags_field (from_page file meta id))))) _ _ own.1 in
     let last = guard-none (nat_le meta.high_water (id + page_overflow file meta id)) _ _ kind.1 in
     let end = guard-none (nat_lt (length file) ((id + 1 + page_overflow file meta id) * meta.page_size)) _ None last.1 in
-    record { header = ltb-false _ _ header.0; kind = not-false _ kind.0; end = ltb-false _ _ end.0 }
+    record { header = ltb-false _ _ header.0; kind = not-false _ kind.0; below = below-of last.0; end = ltb-false _ _ end.0 }
 
 -- A page that shows something passed all tests.
 shown-passed : (fault : Option ℕ) (kind : Option Kind) (count overflow : ℕ) (bytes : List ℕ) → IsSome (shown_as fault kind count overflow bytes) → fault ≡ None
@@ -177,3 +181,7 @@ none-at test count i true none h is =
 
 pub no_bucket-at : (bytes : List ℕ) (count i : ℕ) → has_bucket bytes count ≡ false → i < count → is_bucket_at bytes i ≡ false
 no_bucket-at bytes count i none h = none-at (is_bucket_at bytes) count i (is_bucket_at bytes i) none h refl
+
+pub length-branch_elements : (bytes : List ℕ) (count : ℕ) → length (branch_elements bytes count) ≡ count
+unfolding branch_elements
+length-branch_elements bytes count = length-map-range_with_len (branch_element bytes) 0 count

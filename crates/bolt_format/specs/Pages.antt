@@ -1,5 +1,5 @@
 -- The tests of a page in their order, and what a good page shows: docs/FORMAT.md, "The tests of a page".
-use Rattle.std.specs.Prelude.{◌==◌, ℕ, ◌+◌, ◌*◌, not, nat_lt, nat_le, List, [], length, drop, Option, Some, None, if◌then◌else◌, is_some, slice_range}
+use Rattle.std.specs.Prelude.{◌==◌, ◌<◌, ◌≤◌, ℕ, ◌+◌, ◌*◌, not, nat_lt, nat_le, List, [], length, drop, Option, Some, None, if◌then◌else◌, is_some, slice_range}
 use Rattle.bolt_format.specs.Headers.{id_field, flags_field, count_field, overflow_field, kind_of}
 use Rattle.bolt_format.specs.Elements.{BranchElement, LeafElement, first_of, branch_elements, branches_fault, leaf_elements, leaves_fault, value_fault}
 use Rattle.bolt_format.specs.declared.meta.Meta.{Meta}
@@ -87,6 +87,11 @@ unfoldable pub page_at : List ℕ → Meta → ℕ → Option PageView
 page_at file meta id =
     shown_as (page_fault file meta id) (kind_of (flags_field (from_page file meta id)))
     (count_field (from_page file meta id)) (page_overflow file meta id) (span_bytes file meta id)
+
+-- the span of a page that shows this lies in the file, and below the mark
+pub record IsInFile (file : List ℕ) (meta : Meta) (id : ℕ) (view : PageView) : Type 0 where
+  pub below : id + view.overflow < meta.high_water
+  pub end : (id + 1 + view.overflow) * meta.page_size ≤ length file
 
 -- pages by number, as everything above sees them
 abbrev pub Pages : Type 0

@@ -2,21 +2,23 @@
 //! take what is written. Nothing above this crate speaks of bytes: a page is what it shows.
 #![tactic(auto)]
 
-pub mod bucket;
+mod bucket;
 mod bytes;
 mod checksum;
 mod content;
-pub mod element;
-pub mod fault;
-pub mod free;
-pub mod freelist;
+mod element;
+mod fault;
+mod free;
+mod freelist;
 mod header;
-pub mod kind;
+mod kind;
+mod mem_sink;
 pub mod meta;
-pub mod open;
-pub mod pages;
-pub mod sink;
-pub mod value;
+mod open;
+mod pages;
+mod sink;
+mod value;
+mod write_sink;
 
 pub use bucket::{Head, Inline};
 pub use checksum::fnv1a;
@@ -25,8 +27,10 @@ pub use fault::PageFault;
 pub use free::FreeIds;
 pub use freelist::free_ids;
 pub use kind::Kind;
+pub use mem_sink::MemSink;
 pub use meta::{Meta, MetaFault, Slot, choose, meta_at, page_size_ok};
 pub use open::{known, page};
 pub use pages::Page;
-pub use sink::{MemSink, Sink, SinkFault, WriteSink};
+pub use sink::{Sink, SinkFault};
 pub use value::{head, inline};
+pub use write_sink::WriteSink;

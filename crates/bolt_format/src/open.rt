@@ -1,7 +1,7 @@
 //! Opens a page: the tests of its number, its header and its span, and of what it holds.
-ghost use Rattle.std.specs.Prelude.{◌≡◌, ◌+◌, ◌*◌, ◌<◌, ◌^◌, IfErr, IfOk, IsSome, OnOk, Some};
+ghost use Rattle.std.specs.Prelude.{◌≡◌, ◌+◌, ◌*◌, ◌<◌, ◌^◌, IfErr, IfOk, IsSome, None, OnErr, OnOk, Some};
 ghost use Rattle.std.specs.Result.{result_err};
-ghost use Rattle.bolt_format.specs.Pages.{page_at, page_fault, span_fault};
+ghost use Rattle.bolt_format.specs.Pages.{IsInFile, page_at, page_fault, span_fault};
 ghost use Rattle.bolt_format.specs.Shown.{shown};
 ghost use Rattle.bolt_format.specs.Spans.{IsSpan, IsWithin};
 
@@ -25,7 +25,9 @@ pub(crate) struct Span<'a> {
 /// that it fails.
 pub fn page<'a>(file: &'a [u8], meta: &Meta, id: u64) -> Result<Page<'a>, PageFault>
     ensures good { IfOk result (λ page. page_at file.now meta.now id ≡ Some (shown page)) }
+    ensures within { IfOk result (λ page. IsInFile file.now meta.now id (shown page)) }
     ensures fault { IfErr result (λ fault. (page_fault file.now meta.now id ≡ Some fault.number) × (fault.page ≡ id)) }
+    ensures none { OnErr result (page_at file.now meta.now id ≡ None) }
 {
     match test_page(file, meta, id) {
         Ok(page) => Ok(page),
@@ -51,7 +53,9 @@ pub fn known<'a>(file: &'a [u8], meta: &Meta, id: u64) -> Page<'a>
 #[tactic(auto, unfolding(crate::specs::Pages::page_at, crate::specs::Pages::page_fault, crate::specs::Shown::shown))]
 fn test_page<'a>(file: &'a [u8], meta: &Meta, id: u64) -> Result<Page<'a>, u8>
     ensures good { IfOk result (λ page. page_at file.now meta.now id ≡ Some (shown page)) }
+    ensures within { IfOk result (λ page. IsInFile file.now meta.now id (shown page)) }
     ensures fault { IfErr result (λ fault. page_fault file.now meta.now id ≡ Some fault) }
+    ensures none { OnErr result (page_at file.now meta.now id ≡ None) }
 {
     test_span(file, meta, id)?;
     let span = known_span(file, meta, id);

@@ -1,5 +1,5 @@
 //! A page that passed its tests, read in place.
-ghost use Rattle.std.specs.Prelude.{◌≡◌, ◌<◌, None, Some, IsTrue, slice_get};
+ghost use Rattle.std.specs.Prelude.{◌≡◌, ◌<◌, None, Some, IsTrue, length, slice_get};
 ghost use Rattle.std.proofs.Props.{props};
 ghost use Rattle.bolt_format.specs.Elements.{IsBucketValue};
 ghost use Rattle.bolt_format.specs.ElementPlaces.{branch_view, leaf_view};
@@ -32,7 +32,9 @@ impl<'a> Page<'a> {
     /// The count in its header: how many elements a branch or a leaf has.
     #[tactic(auto, unfolding(crate::specs::Shown::shown))]
     pub fn count(&self) -> u16
-        ensures { result ≡ (shown self.now).count }
+        ensures count { result ≡ (shown self.now).count }
+        ensures branches { (shown self.now).kind ≡ Kind.Branch → length (shown self.now).branches ≡ result }
+        ensures leaves { (shown self.now).kind ≡ Kind.Leaf → length (shown self.now).leaves ≡ result }
     {
         self.count
     }

@@ -1,0 +1,60 @@
+-- The command line as it is built, and what its matches say.
+use Rattle.std.proofs.Common.{◌≡◌, ◌⊎◌, ◌∙◌, List, [], true, refl, sym, ap, ap₂, subst, inl, inr, rules, ◌||◌, Result, Ok, Err, IfOk, IfErr}
+use Rattle.clap.specs.Words.{AddsSubcommand, App, HasMatchesOf, IsAmong, Kinds, Text, fault_of, is_simple, is_simple_and_free, subcommand_of, subcommand_rows_of, with_subcommand}
+use Rattle.clap.specs.declared.parser.ArgMatches.{ArgMatches}
+use Rattle.clap.specs.declared.builder.Command.{Command}
+use Rattle.clap.specs.declared.error.ErrorKind.{ErrorKind}
+use Rattle.clap.specs.declared.error.ErrorKind.TheVariants as kind
+use Rattle.bolt_cli.specs.declared.words.Job.{Job}
+use Rattle.bolt_cli.specs.declared.words.Refusal.{Refusal}
+use Rattle.bolt_cli.specs.declared.words.Refusal.TheVariants.{Memory, Help, Usage, Word}
+use Rattle.bolt_cli.specs.CommandLine.{Asks, Gives, HasKindOf, IsCommand, IsRefusedBy, asked_by, program}
+use Rattle.bolt_cli.specs.PlainWords.{Asked, asked_of}
+
+pub program_is_simple : is_simple program ≡ true
+program_is_simple = refl
+
+pub program_is_free : is_simple_and_free program ≡ true
+program_is_free = refl
+
+-- a command with one more subcommand
+pub subcommand_added : (a b : App) (old sub new : Command) → IsCommand a old → IsCommand b sub
+    → AddsSubcommand old sub new → IsCommand (with_subcommand a b.top) new
+subcommand_added a b old sub new above below adds = (
+  adds.shape below.1 ∙ ap₂ with_subcommand above.0 (ap (λ (x : App). x.top) below.0),
+  adds.globals ∙ ap₂ (λ x y. x || y) above.1 below.1,
+)
+
+-- the subcommand that matches have is the one that the words name
+pub subcommand_met : (a b : App) (ws vs : List Text) (m : ArgMatches) → a ≡ b → ws ≡ vs → is_simple b ≡ true
+    → HasMatchesOf a ws m → subcommand_rows_of m ≡ subcommand_of b vs
+subcommand_met a b ws vs m same words simple matches =
+    (matches (ap is_simple same ∙ simple)).1 ∙ ap₂ subcommand_of same words
+
+module _ {T X : Type 0} where
+  pub gives_same : (view : T → X) (a b : Result X Text) (r : Result T Refusal) → a ≡ b → Gives view b r → Gives view a r
+  gives_same view a b r same gives = subst (λ (x : Result X Text). Gives view x r) (sym same) gives
+
+-- ---- answers
+
+pub job_answered : (texts : List Text) (r : Result Job Refusal) → Gives asked_of (asked_by texts) r
+    → fault_of program texts ≡ [] → IfOk r (Asks texts)
+job_answered texts (Ok job) gives taken = (gives, taken)
+job_answered texts (Err e) gives taken = tt
+
+pub word_refused : (kinds : Kinds) (wanted : Result Asked Text) (r : Result Job Refusal) → Gives asked_of wanted r
+    → kinds ≡ [] → IfErr r (IsRefusedBy kinds wanted)
+word_refused kinds wanted (Ok job) gives taken = tt
+word_refused kinds wanted (Err e) gives taken = elim gives [
+  | inl full ↦ subst (λ (x : Refusal). IsRefusedBy kinds wanted x) (sym full) tt
+  | inr p ↦ subst (λ (x : Refusal). IsRefusedBy kinds wanted x) (sym p.1) (taken, p.2)
+]
+
+pub fault_refused : (k : ErrorKind) (kinds : Kinds) (wanted : Result Asked Text) (e : Refusal) → HasKindOf k e
+    → (k ≡ kind.OutOfMemory) ⊎ IsAmong k kinds → IsRefusedBy kinds wanted e
+fault_refused k kinds wanted Memory by found = tt
+fault_refused k kinds wanted (Help text) by (inl full) = let bad : kind.DisplayHelp ≡ kind.OutOfMemory = sym by ∙ full in absurd (search rules)
+fault_refused k kinds wanted (Help text) by (inr among) = subst (λ (x : ErrorKind). IsAmong x kinds) by among
+fault_refused k kinds wanted (Usage text) by (inl full) = absurd (by.1 full)
+fault_refused k kinds wanted (Usage text) by (inr among) = (k, among, by.0)
+fault_refused k kinds wanted (Word why) by found = absurd by

@@ -1,0 +1,13 @@
+use Rattle.std.proofs.Common.{codes}
+use Rattle.bolt_report.specs.FaultWords.{meta_fault_text}
+use Rattle.bolt_cli.proofs.Written.{Takes-first, Takes-put, Takes-second, sink_failed}
+use Rattle.bolt_cli.proofs.jobs.put_meta_fault.Goals as goal
+
+pub returns-in_err-put : goal.returns-in_err-put
+returns-in_err-put g c = Takes-first _ _ _ (codes "error: ") (meta_fault_text c.args.fault) c.put.ensures.beginning c.in_err-put.ensures.failure
+
+pub returns : goal.returns
+returns g c =
+    let told = c.meta_fault_text.ensures in
+    Takes-second _ _ _ _ (codes "error: ") (meta_fault_text c.args.fault) c.in_ok-put.ensures.all
+    (Takes-put c.meta_fault_text.result _ _ _ _ told.all told.beginning (sink_failed c.meta_fault_text.result _ told.failure told.fault))

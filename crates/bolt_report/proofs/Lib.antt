@@ -1,0 +1,5 @@
+mod ListWrites
+mod PageFaults
+mod Pieces
+mod ShownLemmas
+pub mod WriteLemmas

@@ -1,0 +1,79 @@
+-- The words of faults: docs/COMMANDS.md, "Faults".
+use Rattle.std.specs.Prelude.{◌==◌, ℕ, List, [], ◌∷◌, ◌++◌, codes, decimal, if◌then◌else◌}
+use Rattle.bolt_format.specs.declared.fault.PageFault.{PageFault}
+use Rattle.bolt_format.specs.declared.fault.TheConstants.PageFault.{RANGE, CUT, ID, PAGE_KIND, ELEMENT_CUT, DATA_ORDER, KEY_LENGTH, VALUE_LENGTH, LEAF_FLAGS, BUCKET_SHORT, INLINE_PAGE, INLINE_NESTED}
+use Rattle.bolt_check.specs.declared.finding.Finding.{Finding}
+use Rattle.bolt_check.specs.declared.finding.TheConstants.Finding.{TWICE, ORDER, BELOW_PARENT, ABOVE_NEXT, EMPTY_BRANCH, TOO_DEEP, FREED_TWICE, REACHED_FREED, UNREACHABLE, FREE_RANGE}
+use Rattle.bolt_format.specs.declared.meta.MetaFault.{MetaFault}
+use Rattle.bolt_report.specs.Lines.{line}
+use Rattle.bolt_format.specs.declared.meta.MetaFault.TheVariants.{Cut, Magic, Version, Sum, PageSize}
+
+-- what a file without a valid meta is refused with
+abbrev pub meta_fault_text : MetaFault → List ℕ
+meta_fault_text Cut = line (codes "file too short")
+meta_fault_text Magic = line (codes "invalid database")
+meta_fault_text Version = line (codes "version mismatch")
+meta_fault_text Sum = line (codes "checksum error")
+meta_fault_text PageSize = line (codes "page size refused")
+
+-- A number of a fault, and its words.
+pub record FaultWords : Type 0 where
+  pub number : ℕ
+  pub words : List ℕ
+
+abbrev pub named : ℕ → List ℕ → FaultWords
+named number words = record { number = number; words = words }
+
+-- the words of a number in a table, and none where it isn't there
+abbrev pub words_in : List FaultWords → ℕ → List ℕ
+words_in [] number = []
+words_in (entry ∷ table) number = if number == entry.number then entry.words else words_in table number
+
+-- the faults of one page
+abbrev pub page_fault_table : List FaultWords
+page_fault_table =
+    named RANGE (codes "out of range")
+    ∷ named CUT (codes "cut off")
+    ∷ named ID (codes "wrong page number")
+    ∷ named PAGE_KIND (codes "invalid type")
+    ∷ named ELEMENT_CUT (codes "element past the page")
+    ∷ named DATA_ORDER (codes "element data out of order")
+    ∷ named KEY_LENGTH (codes "key length refused")
+    ∷ named VALUE_LENGTH (codes "value length refused")
+    ∷ named LEAF_FLAGS (codes "leaf flags refused")
+    ∷ named BUCKET_SHORT (codes "bucket value too short")
+    ∷ named INLINE_PAGE (codes "inline page refused")
+    ∷ named INLINE_NESTED (codes "bucket in an inline bucket")
+    ∷ []
+
+unfoldable pub page_fault_words : ℕ → List ℕ
+page_fault_words number = words_in page_fault_table number
+
+-- what a page is refused with
+abbrev pub page_fault_text : PageFault → List ℕ
+page_fault_text fault = line (codes "page " ++ decimal fault.page ++ codes ": " ++ page_fault_words fault.number)
+
+-- the findings of the structure, and of the accounts
+abbrev pub finding_table : List FaultWords
+finding_table =
+    named TWICE (codes "referenced twice")
+    ∷ named ORDER (codes "keys not rising")
+    ∷ named BELOW_PARENT (codes "key below its branch key")
+    ∷ named ABOVE_NEXT (codes "key not below the next branch key")
+    ∷ named EMPTY_BRANCH (codes "empty branch")
+    ∷ named TOO_DEEP (codes "tree too deep")
+    ∷ named FREED_TWICE (codes "freed twice")
+    ∷ named REACHED_FREED (codes "reachable freed")
+    ∷ named UNREACHABLE (codes "unreachable unfreed")
+    ∷ named FREE_RANGE (codes "free page out of range")
+    ∷ page_fault_table
+
+unfoldable pub finding_words : ℕ → List ℕ
+finding_words number = words_in finding_table number
+
+-- a finding is told of a page, or of a run of pages
+unfoldable pub pages_words : ℕ → ℕ → List ℕ
+pages_words page last = if page == last then codes "page " ++ decimal page else codes "pages " ++ decimal page ++ codes " to " ++ decimal last
+
+abbrev pub finding_text : Finding → List ℕ
+finding_text finding = line (pages_words finding.page finding.last ++ codes ": " ++ finding_words finding.number)

@@ -1,0 +1,60 @@
+-- A page as a text: docs/COMMANDS.md, "What is printed".
+use Rattle.std.specs.Prelude.{ℕ, List, [], ◌++◌, codes, decimal, flat_map, length, if◌then◌else◌}
+use Rattle.hex.specs.Hex.{encode_lower}
+use Rattle.bolt_format.specs.Elements.{BranchElement, LeafElement, head_root, head_sequence}
+use Rattle.bolt_format.specs.Pages.{PageView}
+use Rattle.bolt_format.specs.declared.kind.Kind.{Kind}
+use Rattle.bolt_format.specs.declared.kind.Kind.TheVariants as kind
+use Rattle.bolt_report.specs.Lines.{figure_line, line}
+
+abbrev pub kind_text : Kind → List ℕ
+kind_text kind.Branch = codes "branch"
+kind_text kind.Leaf = codes "leaf"
+kind_text kind.Meta = codes "meta"
+kind_text kind.Freelist = codes "freelist"
+
+unfoldable pub kind_line : Kind → List ℕ
+kind_line kind = line (codes "type " ++ kind_text kind)
+
+-- The four lines that a page begins with.
+unfoldable pub head_lines : ℕ → Kind → ℕ → ℕ → List ℕ
+head_lines id kind items overflow =
+    figure_line (codes "page") id
+    ++ kind_line kind
+    ++ figure_line (codes "items") items
+    ++ figure_line (codes "overflow") overflow
+
+-- A branch's element leads from a key to a child.
+unfoldable pub branch_line : BranchElement → List ℕ
+branch_line e = encode_lower e.key ++ line (codes " -> " ++ decimal e.child)
+
+-- A leaf's element is a bucket, with its root page and its sequence, or a value.
+unfoldable pub bucket_end : List ℕ → List ℕ
+bucket_end value = line (codes " bucket " ++ decimal (head_root value) ++ codes " " ++ decimal (head_sequence value))
+
+unfoldable pub value_end : List ℕ → List ℕ
+value_end value = codes " = " ++ line (encode_lower value)
+
+unfoldable pub leaf_line : LeafElement → List ℕ
+leaf_line e = encode_lower e.key ++ (if e.is_bucket then bucket_end e.value else value_end e.value)
+
+unfoldable pub id_line : ℕ → List ℕ
+id_line id = line (decimal id)
+
+-- A branch and a leaf have as many items as their count says, a freelist as many as it has ids, and a meta page none.
+abbrev pub items_on : Kind → ℕ → List ℕ → ℕ
+items_on kind.Branch count ids = count
+items_on kind.Leaf count ids = count
+items_on kind.Meta count ids = 0
+items_on kind.Freelist count ids = length ids
+
+-- a line for each item
+abbrev pub item_lines : Kind → PageView → List ℕ → List ℕ
+item_lines kind.Branch view ids = flat_map branch_line view.branches
+item_lines kind.Leaf view ids = flat_map leaf_line view.leaves
+item_lines kind.Meta view ids = []
+item_lines kind.Freelist view ids = flat_map id_line ids
+
+-- what page `id` shows, with its ids where it is a freelist
+abbrev pub page_lines : ℕ → PageView → List ℕ → List ℕ
+page_lines id view ids = head_lines id view.kind (items_on view.kind view.count ids) view.overflow ++ item_lines view.kind view ids

@@ -1,0 +1,24 @@
+//! Why a text isn't whole on its sink.
+ghost use Rattle.std.specs.Prelude.{◌≡◌};
+ghost use Rattle.bolt_report.specs.declared.fault.ReportFault.TheVariants as fault;
+
+use bolt_format::{PageFault, SinkFault};
+
+/// Why a text isn't whole on its sink.
+#[derive(Clone, Copy, Debug, PartialEq, Eq)]
+pub enum ReportFault {
+    /// The sink failed. It took a beginning of the text.
+    Sink,
+    /// There was no memory. The sink took a beginning of the text.
+    NoMemory,
+    /// The page that was to be printed is no good. The sink took nothing.
+    Page(PageFault),
+}
+
+impl From<SinkFault> for ReportFault {
+    ghost from_gives = { λ _ report. report ≡ fault.Sink };
+
+    fn from(_fault: SinkFault) -> ReportFault {
+        ReportFault::Sink
+    }
+}

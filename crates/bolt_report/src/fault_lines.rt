@@ -1,0 +1,145 @@
+//! The lines of faults and findings.
+ghost use Rattle.std.specs.Prelude.{◌≡◌, ◌<◌, ◌≤◌, ◌+◌, ◌++◌, Err, IfErr, OnOk, length};
+ghost use Rattle.std.specs.Io.KnownBytes.{Appends};
+ghost use Rattle.bolt_format.specs.Sinks.{AppendsBeginning};
+ghost use Rattle.bolt_report.specs.FaultWords.{finding_text, finding_words, meta_fault_text, page_fault_text, page_fault_words, pages_words};
+
+use crate::fault::ReportFault;
+use crate::puts::put;
+use crate::text::{TEXT_LEN, Text, push_bytes, push_number};
+use bolt_check::Finding;
+use bolt_format::{MetaFault, PageFault, Sink};
+
+/// Puts the line of a meta fault. `Sink` says that the sink failed, and no
+/// other fault comes; the sink then took a beginning of the text.
+pub fn meta_fault_text<S: Sink>(fault: MetaFault, sink: &mut S) -> Result<(), ReportFault>
+    ensures all { OnOk result (Appends (S.taken sink.old) (S.taken sink.new) (meta_fault_text fault)) }
+    ensures sound { OnOk result (S.failed sink.new ≡ S.failed sink.old) }
+    ensures beginning { AppendsBeginning (S.taken sink.old) (S.taken sink.new) (meta_fault_text fault) }
+    ensures failure { result ≡ Err ReportFault.Sink → 0 < S.failed sink.new }
+    ensures fault { IfErr result (λ fault. fault ≡ ReportFault.Sink) }
+{
+    put(meta_fault_words(fault), sink)?;
+    Ok(())
+}
+
+/// Puts the line of a page's fault. `Sink` says that the
+/// sink failed, and no other fault comes; the sink then took a beginning of the text.
+pub fn page_fault_text<S: Sink>(fault: &PageFault, sink: &mut S) -> Result<(), ReportFault>
+    ensures all { OnOk result (Appends (S.taken sink.old) (S.taken sink.new) (page_fault_text fault.now)) }
+    ensures sound { OnOk result (S.failed sink.new ≡ S.failed sink.old) }
+    ensures beginning { AppendsBeginning (S.taken sink.old) (S.taken sink.new) (page_fault_text fault.now) }
+    ensures failure { result ≡ Err ReportFault.Sink → 0 < S.failed sink.new }
+    ensures fault { IfErr result (λ fault. fault ≡ ReportFault.Sink) }
+{
+    put(page_fault_sentence(fault).as_slice(), sink)?;
+    Ok(())
+}
+
+/// Puts the line of a finding. `Sink` says that the sink failed, and no other fault comes; the sink
+/// then took a beginning of the text.
+pub fn finding_text<S: Sink>(finding: &Finding, sink: &mut S) -> Result<(), ReportFault>
+    ensures all { OnOk result (Appends (S.taken sink.old) (S.taken sink.new) (finding_text finding.now)) }
+    ensures sound { OnOk result (S.failed sink.new ≡ S.failed sink.old) }
+    ensures beginning { AppendsBeginning (S.taken sink.old) (S.taken sink.new) (finding_text finding.now) }
+    ensures failure { result ≡ Err ReportFault.Sink → 0 < S.failed sink.new }
+    ensures fault { IfErr result (λ fault. fault ≡ ReportFault.Sink) }
+{
+    put(finding_line(finding).as_slice(), sink)?;
+    Ok(())
+}
+
+fn meta_fault_words(fault: MetaFault) -> &'static [u8]
+    ensures { result.now ≡ meta_fault_text fault }
+{
+    match fault {
+        MetaFault::Cut => b"file too short\n",
+        MetaFault::Magic => b"invalid database\n",
+        MetaFault::Version => b"version mismatch\n",
+        MetaFault::Sum => b"checksum error\n",
+        MetaFault::PageSize => b"page size refused\n",
+    }
+}
+
+fn page_fault_sentence(fault: &PageFault) -> Text
+    ensures { result.items ≡ page_fault_text fault.now }
+{
+    let mut text = Text::new();
+    push_bytes(&mut text, b"page ");
+    push_number(&mut text, fault.page);
+    push_bytes(&mut text, b": ");
+    push_bytes(&mut text, page_fault_words(fault.number));
+    push_bytes(&mut text, b"\n");
+    text
+}
+
+#[tactic(auto, unfolding(crate::specs::FaultWords::page_fault_words))]
+fn page_fault_words(number: u8) -> &'static [u8]
+    ensures words { result.now ≡ page_fault_words number }
+    ensures short { length result.now ≤ 100 }
+{
+    match number {
+        PageFault::RANGE => b"out of range",
+        PageFault::CUT => b"cut off",
+        PageFault::ID => b"wrong page number",
+        PageFault::PAGE_KIND => b"invalid type",
+        PageFault::ELEMENT_CUT => b"element past the page",
+        PageFault::DATA_ORDER => b"element data out of order",
+        PageFault::KEY_LENGTH => b"key length refused",
+        PageFault::VALUE_LENGTH => b"value length refused",
+        PageFault::LEAF_FLAGS => b"leaf flags refused",
+        PageFault::BUCKET_SHORT => b"bucket value too short",
+        PageFault::INLINE_PAGE => b"inline page refused",
+        PageFault::INLINE_NESTED => b"bucket in an inline bucket",
+        _ => b"",
+    }
+}
+
+fn finding_line(finding: &Finding) -> Text
+    ensures { result.items ≡ finding_text finding.now }
+{
+    let mut text = Text::new();
+    push_pages(&mut text, finding.page, finding.last);
+    push_bytes(&mut text, b": ");
+    push_bytes(&mut text, finding_words(finding.number));
+    push_bytes(&mut text, b"\n");
+    text
+}
+
+/// Adds the number of a page, or those of the first and the last page of a run.
+#[tactic(auto, unfolding(crate::specs::FaultWords::pages_words))]
+fn push_pages(text: &mut Text, page: u64, last: u64)
+    requires { length text.old.items + 60 ≤ TEXT_LEN }
+    ensures pages { text.new.items ≡ text.old.items ++ pages_words page last }
+    ensures short { length text.new.items ≤ length text.old.items + 60 }
+{
+    if page == last {
+        push_bytes(text, b"page ");
+        push_number(text, page);
+    } else {
+        push_bytes(text, b"pages ");
+        push_number(text, page);
+        push_bytes(text, b" to ");
+        push_number(text, last);
+    }
+}
+
+#[tactic(auto, unfolding(crate::specs::FaultWords::finding_words, crate::specs::FaultWords::page_fault_words))]
+fn finding_words(number: u8) -> &'static [u8]
+    ensures words { result.now ≡ finding_words number }
+    ensures short { length result.now ≤ 100 }
+{
+    match number {
+        Finding::TWICE => b"referenced twice",
+        Finding::ORDER => b"keys not rising",
+        Finding::BELOW_PARENT => b"key below its branch key",
+        Finding::ABOVE_NEXT => b"key not below the next branch key",
+        Finding::EMPTY_BRANCH => b"empty branch",
+        Finding::TOO_DEEP => b"tree too deep",
+        Finding::FREED_TWICE => b"freed twice",
+        Finding::REACHED_FREED => b"reachable freed",
+        Finding::UNREACHABLE => b"unreachable unfreed",
+        Finding::FREE_RANGE => b"free page out of range",
+        _ => page_fault_words(number),
+    }
+}

@@ -1,0 +1,21 @@
+//! What is printed: each text as the bytes that a sink takes. A call that meets a fault leaves a
+//! beginning of its text on the sink.
+#![tactic(auto)]
+
+mod elements;
+pub mod fault;
+pub mod fault_lines;
+pub mod form;
+mod hexadecimal;
+pub mod metas;
+pub mod page_lines;
+mod puts;
+mod text;
+pub mod values;
+
+pub use fault::ReportFault;
+pub use fault_lines::{finding_text, meta_fault_text, page_fault_text};
+pub use form::Form;
+pub use metas::info;
+pub use page_lines::page_text;
+pub use values::value;

@@ -1,0 +1,162 @@
+//! A page as a text.
+ghost use Rattle.std.specs.Prelude.{◌≡◌, ◌≢◌, ◌↔◌, ◌+◌, ◌<◌, ◌≤◌, ◌++◌, Err, IfOk, OnOk, Some, length};
+ghost use Rattle.std.specs.Io.KnownBytes.{Appends};
+ghost use Rattle.std.specs.Option.{option_map};
+ghost use Rattle.std.specs.Result.{result_err};
+ghost use Rattle.bolt_format.specs.Pages.{page_at};
+ghost use Rattle.bolt_format.specs.Shown.{shown};
+ghost use Rattle.bolt_format.specs.ShownIds.{shown_ids};
+ghost use Rattle.bolt_format.specs.Sinks.{AppendsBeginning};
+ghost use Rattle.bolt_report.specs.PageLines.{head_lines, item_lines, items_on, kind_line, kind_text, page_lines};
+ghost use Rattle.bolt_report.specs.PageTexts.{known_ids, page_ids, page_ids_fault, page_text, page_text_fault};
+ghost use Rattle.bolt_report.specs.Writes.{Writes};
+
+use crate::elements::{put_branches, put_ids, put_leaves};
+use crate::fault::ReportFault;
+use crate::puts::put;
+use crate::text::{TEXT_LEN, Text, push_bytes, push_figure};
+use bolt_format::{FreeIds, Kind, Meta, Page, PageFault, Sink, SinkFault, free_ids, page};
+
+/// A page that passed its tests, with its ids where it is a freelist.
+#[derive(Clone, Copy)]
+struct Found<'a> {
+    page: Page<'a>,
+    ids: Option<FreeIds<'a>>,
+}
+
+/// Puts what page `id` of a file shows under a meta (docs/COMMANDS.md, "What is printed"). `Page`
+/// tells the first test that the page fails; a freelist page is also refused where its ids don't
+/// lie in its span. The sink is then as it was. `Sink` says that the sink failed; it then took a
+/// beginning of the text.
+pub fn page_text<S: Sink>(
+    file: &[u8],
+    meta: &Meta,
+    id: u64,
+    sink: &mut S,
+) -> Result<(), ReportFault>
+    ensures all { OnOk result (Appends (S.taken sink.old) (S.taken sink.new) (page_text file.now meta.now id)) }
+    ensures sound { OnOk result (S.failed sink.new ≡ S.failed sink.old) }
+    ensures beginning { AppendsBeginning (S.taken sink.old) (S.taken sink.new) (page_text file.now meta.now id) }
+    ensures failure { result ≡ Err ReportFault.Sink → 0 < S.failed sink.new }
+    ensures memory { result ≢ Err ReportFault.NoMemory }
+
+    // A page that is no good is told before anything is put.
+    ensures page { (fault : PageFault) → (result ≡ Err (ReportFault.Page fault)) ↔ (page_text_fault file.now meta.now id ≡ Some fault) }
+    ensures untouched { (fault : PageFault) → result ≡ Err (ReportFault.Page fault) → sink.new ≡ sink.old }
+{
+    match find(file, meta, id) {
+        Ok(found) => {
+            put_page(id, &found.page, found.ids, sink)?;
+            Ok(())
+        }
+        Err(fault) => Err(ReportFault::Page(fault)),
+    }
+}
+
+/// The page, and its ids where it is a freelist.
+fn find<'a>(file: &'a [u8], meta: &Meta, id: u64) -> Result<Found<'a>, PageFault>
+    ensures page { IfOk result (λ found. page_at file.now meta.now id ≡ Some (shown found.page)) }
+    ensures ids { IfOk result (λ found. (shown found.page).kind ≡ Kind.Freelist → known_ids (option_map shown_ids found.ids) ≡ page_ids file.now meta.now id) }
+    ensures fault { result_err result ≡ page_text_fault file.now meta.now id }
+{
+    let page = page(file, meta, id)?;
+    match page.kind() {
+        Kind::Freelist => {
+            let ids = own_ids(file, meta, id)?;
+            Ok(Found { page, ids })
+        }
+        _ => Ok(Found { page, ids: None }),
+    }
+}
+
+/// The ids of a page as the freelist of its file.
+fn own_ids<'a>(file: &'a [u8], meta: &Meta, id: u64) -> Result<Option<FreeIds<'a>>, PageFault>
+    ensures ids { IfOk result (λ ids. known_ids (option_map shown_ids ids) ≡ page_ids file.now meta.now id) }
+    ensures fault { result_err result ≡ page_ids_fault file.now meta.now id }
+{
+    let own = Meta {
+        freelist: id,
+        ..*meta
+    };
+    free_ids(file, &own)
+}
+
+fn put_page<S: Sink>(
+    id: u64,
+    page: &Page<'_>,
+    ids: Option<FreeIds<'_>>,
+    sink: &mut S,
+) -> Result<(), SinkFault>
+    ensures { Writes S.taken S.failed sink.old sink.new (page_lines id (shown page.now) (known_ids (option_map shown_ids ids.entry))) result }
+{
+    put(page_head(id, page, &ids).as_slice(), sink)?;
+    put_items(page, ids, sink)
+}
+
+fn put_items<S: Sink>(
+    page: &Page<'_>,
+    ids: Option<FreeIds<'_>>,
+    sink: &mut S,
+) -> Result<(), SinkFault>
+    ensures { Writes S.taken S.failed sink.old sink.new (item_lines (shown page.now).kind (shown page.now) (known_ids (option_map shown_ids ids.entry))) result }
+{
+    match page.kind() {
+        Kind::Branch => put_branches(page, sink),
+        Kind::Leaf => put_leaves(page, sink),
+        Kind::Meta => Ok(()),
+        Kind::Freelist => match ids {
+            Some(ids) => put_ids(&ids, sink),
+            None => Ok(()),
+        },
+    }
+}
+
+/// The lines that a page begins with.
+#[tactic(auto, unfolding(crate::specs::PageLines::head_lines))]
+fn page_head(id: u64, page: &Page<'_>, ids: &Option<FreeIds<'_>>) -> Text
+    ensures { result.items ≡ head_lines id (shown page.now).kind (items_on (shown page.now).kind (shown page.now).count (known_ids (option_map shown_ids ids.now))) (shown page.now).overflow }
+{
+    let mut text = Text::new();
+    push_figure(&mut text, b"page", id);
+    push_kind(&mut text, page.kind());
+    push_figure(&mut text, b"items", item_count(page, ids));
+    push_figure(&mut text, b"overflow", u64::from(page.overflow()));
+    text
+}
+
+fn item_count(page: &Page<'_>, ids: &Option<FreeIds<'_>>) -> u64
+    ensures { result ≡ items_on (shown page.now).kind (shown page.now).count (known_ids (option_map shown_ids ids.now)) }
+{
+    match page.kind() {
+        Kind::Branch | Kind::Leaf => u64::from(page.count()),
+        Kind::Meta => 0,
+        Kind::Freelist => match ids {
+            Some(ids) => ids.len() as u64,
+            None => 0,
+        },
+    }
+}
+
+/// Adds the line of a page's kind.
+#[tactic(auto, unfolding(crate::specs::PageLines::kind_line))]
+fn push_kind(text: &mut Text, kind: Kind)
+    requires { length text.old.items + 20 ≤ TEXT_LEN }
+    ensures line { text.new.items ≡ text.old.items ++ kind_line kind }
+    ensures short { length text.new.items ≤ length text.old.items + 20 }
+{
+    push_bytes(text, b"type ");
+    push_bytes(text, kind_name(kind));
+    push_bytes(text, b"\n");
+}
+
+fn kind_name(kind: Kind) -> &'static [u8]
+    ensures name { result.now ≡ kind_text kind }
+    ensures short { length result.now ≤ 10 }
+{
+    match kind {
+        Kind::Branch => b"branch",
+        Kind::Leaf => b"leaf",
+        Kind::Meta => b"meta",
+        Kind::Freelist => b"freelist",
+    }
+}

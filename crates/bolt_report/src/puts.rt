@@ -1,0 +1,11 @@
+//! One text put whole.
+ghost use Rattle.bolt_report.specs.Writes.{Writes};
+
+use bolt_format::{Sink, SinkFault};
+
+/// Puts bytes in one piece.
+pub(crate) fn put<S: Sink>(bytes: &[u8], sink: &mut S) -> Result<(), SinkFault>
+    ensures { Writes S.taken S.failed sink.old sink.new bytes.now result }
+{
+    sink.put(bytes)
+}

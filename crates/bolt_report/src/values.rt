@@ -1,0 +1,50 @@
+//! A key or a value on a line.
+ghost use Rattle.std.specs.Prelude.{◌≡◌, ◌<◌, Err, IfErr, OnOk};
+ghost use Rattle.std.specs.Io.KnownBytes.{Appends};
+ghost use Rattle.bolt_format.specs.Sinks.{AppendsBeginning};
+ghost use Rattle.bolt_report.specs.Forms.{is_printable, shown_as, value_text};
+ghost use Rattle.bolt_report.specs.Writes.{Writes};
+
+use crate::fault::ReportFault;
+use crate::form::Form;
+use crate::hexadecimal::put_hex;
+use crate::puts::put;
+use bolt_format::{Sink, SinkFault};
+
+/// Puts an item in a form, and a line feed. `Sink` says that the sink failed, and no other fault
+/// comes; the sink then took a beginning of the text.
+pub fn value<S: Sink>(bytes: &[u8], form: Form, sink: &mut S) -> Result<(), ReportFault>
+    ensures all { OnOk result (Appends (S.taken sink.old) (S.taken sink.new) (value_text form bytes.now)) }
+    ensures sound { OnOk result (S.failed sink.new ≡ S.failed sink.old) }
+    ensures beginning { AppendsBeginning (S.taken sink.old) (S.taken sink.new) (value_text form bytes.now) }
+    ensures failure { result ≡ Err ReportFault.Sink → 0 < S.failed sink.new }
+    ensures fault { IfErr result (λ fault. fault ≡ ReportFault.Sink) }
+{
+    put_value(bytes, form, sink)?;
+    Ok(())
+}
+
+fn put_value<S: Sink>(bytes: &[u8], form: Form, sink: &mut S) -> Result<(), SinkFault>
+    ensures { Writes S.taken S.failed sink.old sink.new (value_text form bytes.now) result }
+{
+    put_item(bytes, form, sink)?;
+    put(b"\n", sink)
+}
+
+/// Puts an item in a form.
+fn put_item<S: Sink>(bytes: &[u8], form: Form, sink: &mut S) -> Result<(), SinkFault>
+    ensures { Writes S.taken S.failed sink.old sink.new (shown_as form bytes.now) result }
+{
+    match form {
+        Form::Printable if !can_be_printed(bytes) => put_hex(bytes, sink),
+        Form::Hex => put_hex(bytes, sink),
+        _ => put(bytes, sink),
+    }
+}
+
+/// Whether each byte is a printable ASCII character.
+fn can_be_printed(bytes: &[u8]) -> bool
+    ensures { result ≡ is_printable bytes.now }
+{
+    bytes.iter().all(|byte| *byte >= b' ' && *byte <= b'~')
+}
