@@ -3,6 +3,10 @@
 #![tactic(auto)]
 
 #[cfg(test)]
+mod bucket_command_rows;
+#[cfg(test)]
+mod commands;
+#[cfg(test)]
 mod fault_rows;
 #[cfg(test)]
 mod free_rows;
