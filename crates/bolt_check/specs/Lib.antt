@@ -4,5 +4,6 @@ pub mod Nodes
 pub mod Pending
 pub mod Shape
 pub mod ShownNodes
+pub mod Tables
 pub mod TreeKinds
 pub mod Ways

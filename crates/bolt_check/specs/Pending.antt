@@ -1,10 +1,12 @@
 -- The spots that are still to be visited, as ways: the first number of a way picks the spot.
-use Rattle.std.specs.Prelude.{◌≡◌, ℕ, ◌⊎◌, Bool, true, false, not, List, [], ◌∷◌, map, reverse, Option, Some, None, slice_get, count_by, slice_index_or}
+use Rattle.std.specs.Prelude.{◌≡◌, ℕ, ◌⊎◌, Bool, List, [], ◌∷◌, map, reverse, Option, Some, None, slice_get}
 use Rattle.std.specs.Borrow.{Bor}
 use Rattle.bolt_format.specs.ShownInline.{shown_inline}
 use Rattle.bolt_format.specs.Elements.{LeafElement}
 use Rattle.bolt_check.specs.Nodes.{Entry, Node, Nodes}
 use Rattle.bolt_check.specs.Ways.{At_inline, At_page, PageSpot, Reach, SpanHas, Spot, follow, spot_of, upper_from}
+use Rattle.bolt_check.specs.Tables.{IsClaimed}
+use Rattle.bolt_check.specs.declared.table.PageUse.{PageUse}
 use Rattle.bolt_check.specs.declared.stop.PageStop.{PageStop}
 use Rattle.bolt_check.specs.declared.stop.Stop.{Stop}
 use Rattle.bolt_check.specs.declared.stop.Stop.TheVariants.{Page, Bucket}
@@ -43,15 +45,8 @@ somes (Some s ∷ os) = s ∷ somes os
 unfoldable pub kids : Node → PageSpot → List Spot
 kids node s = somes (places node.is_leaf s node.entries)
 
--- the table says that page n is claimed
-abbrev pub IsClaimed : List Bool → ℕ → Type 0
-IsClaimed table n = slice_index_or table n false ≡ true
-
-abbrev pub unclaimed : List Bool → ℕ
-unclaimed table = count_by not table
-
 -- the table after a visit: what was claimed before, and the spot's span
-pub record Claims (nodes : Nodes) (s : Spot) (old new : List Bool) : Type 0 where
+pub record Claims (nodes : Nodes) (s : Spot) (old new : List PageUse) : Type 0 where
   pub split : (n : ℕ) → IsClaimed new n → IsClaimed old n ⊎ SpanHas nodes (Some s) n
   pub kept : (n : ℕ) → IsClaimed old n → IsClaimed new n
   pub span : (n : ℕ) → SpanHas nodes (Some s) n → IsClaimed new n

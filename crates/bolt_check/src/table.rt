@@ -1,39 +1,63 @@
-//! The table of claimed pages: one byte for each page that begins in the file and lies below the
+//! The table of pages: one byte for each page that begins in the file and lies below the
 //! high-water mark.
-ghost use Rattle.std.specs.Prelude.{◌≡◌, ℕ, ◌<◌, ◌≤◌, ◌+◌, ◌*◌, ◌↔◌, false, length, slice_index_or, IfOk, IfSome, MatchOption};
-ghost use Rattle.bolt_check.specs.Findings.{IsMetaPage};
-ghost use Rattle.bolt_check.specs.Pending.{IsClaimed, unclaimed};
+ghost use Rattle.std.specs.Prelude.{◌≡◌, ℕ, ◌<◌, ◌≤◌, ◌+◌, length, IfSome, MatchOption};
+ghost use Rattle.bolt_check.specs.Tables.{IsClaimed, IsUnclaimed, is_used, unclaimed, use_at};
 
-use std::alloc::{AllocError, Global};
+/// What a page is found to be for.
+#[derive(Clone, Copy, Debug, PartialEq, Eq)]
+#[repr(u8)]
+pub(crate) enum PageUse {
+    /// Nothing was found yet.
+    Unused,
+    /// It is a meta page, or in the span of a page that a way leads to, or of the freelist.
+    Used,
+    /// It is listed as free, once.
+    Free,
+    /// It is listed as free more than once.
+    FreeTwice,
+    /// It is used, and listed as free once.
+    UsedFree,
+    /// It is used, and listed as free more than once.
+    UsedFreeTwice,
+}
 
 /// The lowest page of a span that is claimed.
-pub(crate) fn first_claimed(table: &[bool], from: usize, last: usize) -> Option<usize>
+pub(crate) fn first_claimed(table: &[PageUse], from: usize, last: usize) -> Option<usize>
     requires order { from ≤ last }
     requires within { last < length table.now }
-    ensures lowest { IfSome result (λ n. (from ≤ n) × (n ≤ last) × IsClaimed table.now n × ((k : ℕ) → from ≤ k → k < n → slice_index_or table.now k false ≡ false)) }
-    ensures none { MatchOption result ((k : ℕ) → from ≤ k → k ≤ last → slice_index_or table.now k false ≡ false) (λ _. Unit {0}) }
+    ensures lowest { IfSome result (λ n. (from ≤ n) × (n ≤ last) × IsClaimed table.now n × ((k : ℕ) → from ≤ k → k < n → IsUnclaimed table.now k)) }
+    ensures none { MatchOption result ((k : ℕ) → from ≤ k → k ≤ last → IsUnclaimed table.now k) (λ _. Unit {0}) }
 {
     for n in from..last + 1 {
-        if table[n] {
+        if is_used(table[n]) {
             return Some(n);
         }
     }
     None
 }
 
+fn is_used(page_use: PageUse) -> bool
+    ensures { result ≡ is_used page_use }
+{
+    match page_use {
+        PageUse::Used | PageUse::UsedFree | PageUse::UsedFreeTwice => true,
+        PageUse::Unused | PageUse::Free | PageUse::FreeTwice => false,
+    }
+}
+
 /// Claims the pages of a span of which none is claimed.
 #[tactic(auto, using(crate::proofs::TableLemmas::unclaimed_fewer, crate::proofs::TableLemmas::unclaimed_set))]
-pub(crate) fn claim(table: &mut [bool], from: usize, last: usize)
+pub(crate) fn claim(table: &mut [PageUse], from: usize, last: usize)
     requires order { from ≤ last }
     requires within { last < length table.old }
-    requires free { slice_index_or table.old from false ≡ false }
+    requires free { IsUnclaimed table.old from }
     ensures span { (k : ℕ) → from ≤ k → k ≤ last → IsClaimed table.new k }
-    ensures below { (k : ℕ) → k < from → slice_index_or table.new k false ≡ slice_index_or table.old k false }
-    ensures above { (k : ℕ) → last < k → slice_index_or table.new k false ≡ slice_index_or table.old k false }
+    ensures below { (k : ℕ) → k < from → use_at table.new k ≡ use_at table.old k }
+    ensures above { (k : ℕ) → last < k → use_at table.new k ≡ use_at table.old k }
     ensures fewer { unclaimed table.new < unclaimed table.old }
 {
-    table[from] = true;
+    table[from] = PageUse::Used;
     for n in from + 1..last + 1 {
-        table[n] = true;
+        table[n] = PageUse::Used;
     }
 }

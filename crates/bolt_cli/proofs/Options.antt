@@ -65,6 +65,7 @@ missing_is_plain = other_kind (λ same. search rules)
 abbrev help_built : Rule
 help_built = filled help_rule
 
+-- the only option is that of help, `--help` and `-h`
 abbrev pub HasOnlyHelp : List Rule → Type 0
 HasOnlyHelp rules =
     ((name : Text) → arg_by_long rules name ≡ cond (bytes_eq (codes "help") name || false) (Some help_built) None)
@@ -76,22 +77,22 @@ held rows pending = record { rows = rows; pending = pending; skip = 0 }
 
 -- nothing is wrong with what is held
 abbrev pub Settles : List Rule → Bool → Held → Type 0
-Settles rules again h = settle_fault rules again h ≡ []
+Settles rules again state = settle_fault rules again state ≡ []
 
-long_by : (rules : List Rule) (again : Bool) (h : Held) (named : Bool) → Settles rules again h
-    → OptionFault named (long_fault rules again (cond named (Some help_built) None) None h)
-long_by rules again h true settles = ap (λ (x : Kinds). or_else x is_help_fault) settles
-long_by rules again h false settles = unknown_is_plain
+long_by : (rules : List Rule) (again : Bool) (state : Held) (named : Bool) → Settles rules again state
+    → OptionFault named (long_fault rules again (cond named (Some help_built) None) None state)
+long_by rules again state true settles = ap (λ (x : Kinds). or_else x is_help_fault) settles
+long_by rules again state false settles = unknown_is_plain
 
-valued_is_plain : (rules : List Rule) (again : Bool) (v : Text) (h : Held) (named : Bool)
-    → IsPlainFault (long_fault rules again (cond named (Some help_built) None) (Some v) h)
-valued_is_plain rules again v h true = surplus_is_plain
-valued_is_plain rules again v h false = unknown_is_plain
+valued_is_plain : (rules : List Rule) (again : Bool) (v : Text) (state : Held) (named : Bool)
+    → IsPlainFault (long_fault rules again (cond named (Some help_built) None) (Some v) state)
+valued_is_plain rules again v state true = surplus_is_plain
+valued_is_plain rules again v state false = unknown_is_plain
 
-short_by : (rules : List Rule) (again : Bool) (rest : Text) (h : Held) (next : Held → Kinds) (named : Bool)
-    → Settles rules again h → OptionFault named (short_fault rules again (cond named (Some help_built) None) rest h next)
-short_by rules again rest h next true settles = ap (λ (x : Kinds). or_else (or_else x is_help_fault) (next (reacted rules help_built [] h))) settles
-short_by rules again rest h next false settles = unknown_is_plain
+short_by : (rules : List Rule) (again : Bool) (rest : Text) (state : Held) (next : Held → Kinds) (named : Bool)
+    → Settles rules again state → OptionFault named (short_fault rules again (cond named (Some help_built) None) rest state next)
+short_by rules again rest state next true settles = ap (λ (x : Kinds). or_else (or_else x is_help_fault) (next (reacted rules help_built [] state))) settles
+short_by rules again rest state next false settles = unknown_is_plain
 
 -- a text with no `=` is the name
 no_cut : (text : Text) → has_byte 61 text ≡ false → before_first (λ x. x == 61) text ≡ text
@@ -103,16 +104,18 @@ no_cut (x ∷ xs) none = elim (cases_Bool (x == 61)) [
       rw other (grind (arith, common_steps, rest))
 ]
 
-long_unlike : (rules : List Rule) → HasOnlyHelp rules → (again : Bool) (h : Held) (text : Text) → bytes_eq text (codes "help") ≡ false
+-- `--` and a text that isn't `help`
+long_unlike : (rules : List Rule) → HasOnlyHelp rules → (again : Bool) (state : Held) (text : Text) → bytes_eq text (codes "help") ≡ false
     → (cut : Bool) → has_byte 61 text ≡ cut
-    → IsPlainFault (long_fault rules again (arg_by_long rules (name_and_value text).0) (name_and_value text).1 h)
-long_unlike rules only again h text unlike true cut = rw (cut, only.0 (name_and_value text).0) (valued_is_plain rules again _ h _)
-long_unlike rules only again h text unlike false none =
+    → IsPlainFault (long_fault rules again (arg_by_long rules (name_and_value text).0) (name_and_value text).1 state)
+long_unlike rules only again state text unlike true cut = rw (cut, only.0 (name_and_value text).0) (valued_is_plain rules again _ state _)
+long_unlike rules only again state text unlike false none =
     let name = no_cut text none in
     let differs = false_from_ne_true (bytes_eq (codes "help") text) (λ same. true_is_not_false
     (ap (λ (t : Text). bytes_eq t (codes "help")) ((bytes_eq-Decides (codes "help") text).0 same) ∙ unlike)) in
     rw (none, name, only.0 text, differs) unknown_is_plain
 
+-- the first character of a text is `h` (104) where its first byte is
 encoded_first : (y : ℕ) (ys cs : List ℕ) → encode_utf8_all cs ≡ y ∷ ys → chars (encode_utf8_all cs) ≡ cs
     → (d : ℕ) × (ds : List ℕ) × (chars (y ∷ ys) ≡ d ∷ ds) × ((104 == d) ≡ (104 == y))
 encoded_first y ys [] is read = absurd (search rules)
@@ -137,11 +140,12 @@ pub rest_is_text : (first : ℕ) (rest : Text) → first < 128 → IsUtf8 (first
 rest_is_text first rest ascii text =
     IsUtf8-past_char (first ∷ rest) rest first text (ap (λ (e : Text). e ++ rest) (sym (encode_ascii first ascii)))
 
-letters_by : (rules : List Rule) → HasOnlyHelp rules → (again : Bool) (flags : Text) (h : Held) (next : Text → ℕ → Held → Kinds)
-    → Settles rules again h → (d : ℕ) (ds : List ℕ) → chars flags ≡ d ∷ ds
-    → OptionFault (104 == d || false) (bundle_step_fault rules again (slice_get (chars flags) 0) flags 0 h next)
-letters_by rules only again flags h next settles d ds is =
-    rw (is, only.1 d) (short_by rules again _ h _ (104 == d || false) settles)
+-- the letters after one hyphen
+letters_by : (rules : List Rule) → HasOnlyHelp rules → (again : Bool) (flags : Text) (state : Held) (next : Text → ℕ → Held → Kinds)
+    → Settles rules again state → (d : ℕ) (ds : List ℕ) → chars flags ≡ d ∷ ds
+    → OptionFault (104 == d || false) (bundle_step_fault rules again (slice_get (chars flags) 0) flags 0 state next)
+letters_by rules only again flags state next settles d ds is =
+    rw (is, only.1 d) (short_by rules again _ state _ (104 == d || false) settles)
 
 either_test : (b : Bool) → (b || false) ≡ (b && true)
 either_test true = refl
@@ -157,37 +161,37 @@ short_option : (rules : List Rule) → HasOnlyHelp rules → (again : Bool) (row
     → OptionFault (is_help (45 ∷ y ∷ ys)) (flag_word_fault rules again (long_of (45 ∷ y ∷ ys)) (45 ∷ y ∷ ys) (held rows pending))
 unfolding flags_fault
 short_option rules only again rows pending settles y ys other text =
-    let h = held rows pending in
+    let state = held rows pending in
     let word = 45 ∷ y ∷ ys in
     let long : long_of word ≡ None = rw other refl in
     let short : short_of word ≡ Some (y ∷ ys) = rw other refl in
     let helps : (nat_eq 104 y && true) ≡ is_help word = rw other refl in
     let letters = encoded_first y ys text.0 text.1.1 (chars-encodes text.0 text.1.0) in
-    let by = letters_by rules only again (y ∷ ys) h (flags_fault rules again (length ys)) settles letters.0 letters.1 letters.2 in
+    let by = letters_by rules only again (y ∷ ys) state (flags_fault rules again (length ys)) settles letters.0 letters.1 letters.2 in
     option_same _ _ _ _ (either_test (104 == letters.0) ∙ ap (λ (b : Bool). b && true) letters.3 ∙ helps)
-    (sym (ap (λ (o : Option (Text × Option Text)). flag_word_fault rules again o word h) long
-    ∙ ap (λ (o : Option Text). option_map_or (λ flags. bundle_fault rules again flags h) o []) short)) by
+    (sym (ap (λ (o : Option (Text × Option Text)). flag_word_fault rules again o word state) long
+    ∙ ap (λ (o : Option Text). option_map_or (λ flags. bundle_fault rules again flags state) o []) short)) by
 
 abbrev LongFault : List Rule → Bool → Held → Text → Type 0
-LongFault rules again h rest = OptionFault (is_help (45 ∷ 45 ∷ rest)) (flag_word_fault rules again (long_of (45 ∷ 45 ∷ rest)) (45 ∷ 45 ∷ rest) h)
+LongFault rules again state rest = OptionFault (is_help (45 ∷ 45 ∷ rest)) (flag_word_fault rules again (long_of (45 ∷ 45 ∷ rest)) (45 ∷ 45 ∷ rest) state)
 
 -- `--` and more
-long_option : (rules : List Rule) → HasOnlyHelp rules → (again : Bool) (h : Held) → Settles rules again h → (z : ℕ) (zs : List ℕ)
-    → LongFault rules again h (z ∷ zs)
-long_option rules only again h settles z zs = elim (cases_Bool (bytes_eq (z ∷ zs) (codes "help"))) [
-  | inl same ↦ subst (LongFault rules again h) (sym ((bytes_eq-Decides (z ∷ zs) (codes "help")).0 same))
-      (rw (only.0 (codes "help")) (long_by rules again h true settles))
+long_option : (rules : List Rule) → HasOnlyHelp rules → (again : Bool) (state : Held) → Settles rules again state → (z : ℕ) (zs : List ℕ)
+    → LongFault rules again state (z ∷ zs)
+long_option rules only again state settles z zs = elim (cases_Bool (bytes_eq (z ∷ zs) (codes "help"))) [
+  | inl same ↦ subst (LongFault rules again state) (sym ((bytes_eq-Decides (z ∷ zs) (codes "help")).0 same))
+      (rw (only.0 (codes "help")) (long_by rules again state true settles))
   | inr other ↦ let helps : false ≡ is_help (45 ∷ 45 ∷ z ∷ zs) = rw other refl in
-      option_same _ _ _ _ helps refl (long_unlike rules only again h (z ∷ zs) other (has_byte 61 (z ∷ zs)) refl)
+      option_same _ _ _ _ helps refl (long_unlike rules only again state (z ∷ zs) other (has_byte 61 (z ∷ zs)) refl)
 ]
 
 abbrev HyphenFault : List Rule → Bool → Held → Text → Type 0
-HyphenFault rules again h rest = OptionFault (is_help (45 ∷ rest)) (flag_word_fault rules again (long_of (45 ∷ rest)) (45 ∷ rest) h)
+HyphenFault rules again state rest = OptionFault (is_help (45 ∷ rest)) (flag_word_fault rules again (long_of (45 ∷ rest)) (45 ∷ rest) state)
 
-two_hyphens : (rules : List Rule) → HasOnlyHelp rules → (again : Bool) (h : Held) → Settles rules again h → (rest : Text)
-    → bytes_eq (45 ∷ 45 ∷ rest) (codes "--") ≡ false → HyphenFault rules again h (45 ∷ rest)
-two_hyphens rules only again h settles [] other = absurd (true_is_not_false other)
-two_hyphens rules only again h settles (z ∷ zs) other = long_option rules only again h settles z zs
+two_hyphens : (rules : List Rule) → HasOnlyHelp rules → (again : Bool) (state : Held) → Settles rules again state → (rest : Text)
+    → bytes_eq (45 ∷ 45 ∷ rest) (codes "--") ≡ false → HyphenFault rules again state (45 ∷ rest)
+two_hyphens rules only again state settles [] other = absurd (true_is_not_false other)
+two_hyphens rules only again state settles (z ∷ zs) other = long_option rules only again state settles z zs
 
 hyphen_fault : (rules : List Rule) → HasOnlyHelp rules → (again : Bool) (rows : List Row) (pending : Option (Text × List Text))
     → Settles rules again (held rows pending) → (y : ℕ) (rest : Text) → IsUtf8 (45 ∷ y ∷ rest)
@@ -215,27 +219,27 @@ option_fault rules only again rows pending settles (x ∷ y ∷ rest) text other
 
 -- the word is a value, with no fault
 abbrev pub IsValue : List Rule → Bool → Text → Held → Type 0
-IsValue rules again word h =
-    (long_or_other rules idle word (long_of word) h ≡ (h, value)) × (flag_word_fault rules again (long_of word) word h ≡ [])
+IsValue rules again word state =
+    (long_or_other rules idle word (long_of word) state ≡ (state, value)) × (flag_word_fault rules again (long_of word) word state ≡ [])
 
-byte_value : (rules : List Rule) (again : Bool) (h : Held) (x : ℕ) (xs : List ℕ) → (x == 45) ≡ false → IsValue rules again (x ∷ xs) h
-byte_value rules again h x xs other =
+byte_value : (rules : List Rule) (again : Bool) (state : Held) (x : ℕ) (xs : List ℕ) → (x == 45) ≡ false → IsValue rules again (x ∷ xs) state
+byte_value rules again state x xs other =
     let word = x ∷ xs in
     let long : long_of word ≡ None = rw other refl in
     let short : short_of word ≡ None = rw other refl in (
-      ap (λ (o : Option (Text × Option Text)). long_or_other rules idle word o h) long
-          ∙ ap (λ (o : Option Text). short_or_plain rules idle word o h) short,
-      ap (λ (o : Option (Text × Option Text)). flag_word_fault rules again o word h) long
-          ∙ ap (λ (o : Option Text). option_map_or (λ flags. bundle_fault rules again flags h) o []) short,
+      ap (λ (o : Option (Text × Option Text)). long_or_other rules idle word o state) long
+          ∙ ap (λ (o : Option Text). short_or_plain rules idle word o state) short,
+      ap (λ (o : Option (Text × Option Text)). flag_word_fault rules again o word state) long
+          ∙ ap (λ (o : Option Text). option_map_or (λ flags. bundle_fault rules again flags state) o []) short,
     )
 
-hyphen_value : (rules : List Rule) (again : Bool) (h : Held) (x : ℕ) → x ≡ 45 → IsValue rules again (x ∷ []) h
-hyphen_value rules again h x is = subst (λ (y : ℕ). IsValue rules again (y ∷ []) h) (sym is) (refl, refl)
+hyphen_value : (rules : List Rule) (again : Bool) (state : Held) (x : ℕ) → x ≡ 45 → IsValue rules again (x ∷ []) state
+hyphen_value rules again state x is = subst (λ (y : ℕ). IsValue rules again (y ∷ []) state) (sym is) (refl, refl)
 
-pub operand_value : (rules : List Rule) (again : Bool) (h : Held) (word : Text) → is_option word ≡ false → IsValue rules again word h
-operand_value rules again h [] operand = (refl, refl)
-operand_value rules again h (x ∷ []) operand = elim (cases_Bool (x == 45)) [
-  | inl hyphen ↦ hyphen_value rules again h x (eqb-true x 45 hyphen)
-  | inr other ↦ byte_value rules again h x [] other
+pub operand_value : (rules : List Rule) (again : Bool) (state : Held) (word : Text) → is_option word ≡ false → IsValue rules again word state
+operand_value rules again state [] operand = (refl, refl)
+operand_value rules again state (x ∷ []) operand = elim (cases_Bool (x == 45)) [
+  | inl hyphen ↦ hyphen_value rules again state x (eqb-true x 45 hyphen)
+  | inr other ↦ byte_value rules again state x [] other
 ]
-operand_value rules again h (x ∷ y ∷ rest) operand = byte_value rules again h x (y ∷ rest) operand
+operand_value rules again state (x ∷ y ∷ rest) operand = byte_value rules again state x (y ∷ rest) operand

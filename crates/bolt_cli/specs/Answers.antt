@@ -5,15 +5,18 @@ use Rattle.bolt_check.specs.Findings.{finding}
 use Rattle.bolt_check.specs.Keys.{Key}
 use Rattle.bolt_format.specs.Metas.{HasMetaFault, IsChosen, IsInSlot}
 use Rattle.bolt_format.specs.Sinks.{AppendsBeginning}
+use Rattle.bolt_format.specs.declared.fault.PageFault.{PageFault}
 use Rattle.bolt_format.specs.declared.meta.Meta.{Meta}
 use Rattle.bolt_format.specs.declared.meta.MetaFault.{MetaFault}
 use Rattle.bolt_format.specs.declared.meta.Slot.{Slot}
-use Rattle.bolt_report.specs.FaultWords.{finding_text, meta_fault_text}
+use Rattle.bolt_report.specs.FaultWords.{finding_text, meta_fault_text, page_fault_text}
 use Rattle.bolt_report.specs.Forms.{value_text}
+use Rattle.bolt_report.specs.MetaLines.{info_text}
+use Rattle.bolt_report.specs.PageTexts.{page_text, page_text_fault}
 use Rattle.bolt_report.specs.declared.form.Form.TheVariants.{Printable}
 use Rattle.bolt_cli.specs.RootLeaf.{names_of, root_fault, root_leaves}
 use Rattle.bolt_cli.specs.declared.words.Job.{Job}
-use Rattle.bolt_cli.specs.declared.words.Job.TheVariants.{Buckets}
+use Rattle.bolt_cli.specs.declared.words.Job.TheVariants.{Buckets, Info, Page}
 
 -- the texts for standard output and standard error, and the status
 pub record Answer : Type 0 where
@@ -39,8 +42,14 @@ abbrev pub buckets_answer : Option ℕ → Meta → List Key → Answer
 buckets_answer None meta names = done (names_text names)
 buckets_answer (Some fault) meta names = refused (codes "file refused: " ++ finding_text (finding fault meta.root))
 
+abbrev pub page_answer : Option PageFault → List ℕ → Answer
+page_answer None text = done text
+page_answer (Some fault) text = refused (page_fault_text fault)
+
 -- the answer to a job under the meta in force
 abbrev pub answer_under : List ℕ → Slot → Meta → Job → Answer
+answer_under file slot meta (Info name) = done (info_text slot meta)
+answer_under file slot meta (Page name id) = page_answer (page_text_fault file meta id) (page_text file meta id)
 answer_under file slot meta (Buckets name) = buckets_answer (root_fault file meta) meta (names_of (root_leaves file meta))
 
 -- the answer to a job: under the meta in force, or where there is none, with the fault of byte 0

@@ -1,5 +1,5 @@
 -- The command line as `clap` is told of it, and what its matches ask for.
-use Rattle.std.specs.Prelude.{◌≡◌, ◌≢◌, ◌⊎◌, List, [], Option, Some, None, Ok, Err, Result, true, false, codes, MatchResult, if◌then◌else◌}
+use Rattle.std.specs.Prelude.{◌≡◌, ◌≢◌, ◌⊎◌, ℕ, List, [], Option, Some, None, Ok, Err, Result, true, false, codes, MatchResult, if◌then◌else◌}
 use Rattle.std.specs.Option.{ok_or}
 use Rattle.std.specs.Str.{bytes_eq}
 use Rattle.clap.specs.Words.{App, IsAmong, Kinds, Row, Rule, Text, app_of, fault_of, first_of, new_app, new_rule, subcommand_of, with_rule, with_subcommand}
@@ -10,12 +10,21 @@ use Rattle.clap.specs.declared.error.ErrorKind.TheVariants as kind
 use Rattle.bolt_cli.specs.declared.words.Job.{Job}
 use Rattle.bolt_cli.specs.declared.words.Refusal.{Refusal}
 use Rattle.bolt_cli.specs.declared.words.Refusal.TheVariants.{Memory, Help, Usage, Word}
-use Rattle.bolt_cli.specs.PlainWords.{Asked, asked_of, buckets}
+use Rattle.bolt_cli.specs.PlainWords.{Asked, asked_of, buckets, decimal_value, info, is_page_id, page}
 
 -- ---- what the command line may hold
 
 abbrev pub file_rule : Rule
 file_rule = record (new_rule (codes "FILE")) { required = true }
+
+abbrev pub id_rule : Rule
+id_rule = record (new_rule (codes "ID")) { required = true }
+
+abbrev pub info_command : App
+info_command = with_rule (new_app (codes "info")) file_rule
+
+abbrev pub page_command : App
+page_command = with_rule (with_rule (new_app (codes "page")) file_rule) id_rule
 
 abbrev pub buckets_command : App
 buckets_command = with_rule (new_app (codes "buckets")) file_rule
@@ -27,7 +36,9 @@ bare_program = let bare = new_app (codes "luntsegi") in record bare {
 }
 
 abbrev pub program : App
-program = with_subcommand bare_program buckets_command.top
+program = with_subcommand
+    (with_subcommand (with_subcommand bare_program info_command.top) page_command.top)
+    buckets_command.top
 
 -- the command is described so, and none of its arguments is global
 abbrev pub IsCommand : App → Command → Type 0
@@ -44,11 +55,24 @@ module _ {A B : Type 0} where
   result_and_then next (Ok a) = next a
   result_and_then next (Err why) = Err why
 
+-- the number of an ID
+abbrev pub page_id : Text → Result ℕ Text
+page_id word = if is_page_id word then Ok (decimal_value word) else Err (codes "bad page id")
+
+abbrev pub asked_by_info : List Row → Result Asked Text
+asked_by_info rows = result_and_then (λ file. Ok (info file)) (value_of (codes "FILE") rows)
+
+abbrev pub asked_by_page : List Row → Result Asked Text
+asked_by_page rows = result_and_then (λ file. result_and_then (λ id. Ok (page file id))
+    (result_and_then page_id (value_of (codes "ID") rows))) (value_of (codes "FILE") rows)
+
 abbrev pub asked_by_buckets : List Row → Result Asked Text
 asked_by_buckets rows = result_and_then (λ file. Ok (buckets file)) (value_of (codes "FILE") rows)
 
 abbrev pub asked_by_command : Text → List Row → Result Asked Text
-asked_by_command name rows = if bytes_eq name (codes "buckets") then asked_by_buckets rows
+asked_by_command name rows = if bytes_eq name (codes "info") then asked_by_info rows
+    else if bytes_eq name (codes "page") then asked_by_page rows
+    else if bytes_eq name (codes "buckets") then asked_by_buckets rows
     else Err (codes "command missing")
 
 -- by the subcommand that was met, and the matches of its arguments

@@ -1,5 +1,5 @@
 pub mod Answers
-pub mod PlainWords
 pub mod CommandLine
 pub mod CursorRest
+pub mod PlainWords
 pub mod RootLeaf

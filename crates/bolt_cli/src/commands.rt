@@ -1,7 +1,7 @@
 //! What `clap` is told of the command line: one function for each argument and each subcommand.
 ghost use Rattle.std.specs.Prelude.{◌≡◌, false, IfOk};
 ghost use Rattle.clap.specs.Words.{rule_of};
-ghost use Rattle.bolt_cli.specs.CommandLine.{IsCommand, buckets_command, file_rule, program};
+ghost use Rattle.bolt_cli.specs.CommandLine.{IsCommand, buckets_command, file_rule, id_rule, info_command, page_command, program};
 
 use clap::{Arg, Command};
 use std::alloc::{AllocError, Global};
@@ -11,6 +11,25 @@ fn file<'a>(alloc: Global) -> Arg<'a>
     ensures local { result.global ≡ false }
 {
     Arg::new(alloc, "FILE").required(true)
+}
+
+fn id<'a>(alloc: Global) -> Arg<'a>
+    ensures rule { rule_of result ≡ id_rule }
+    ensures local { result.global ≡ false }
+{
+    Arg::new(alloc, "ID").required(true)
+}
+
+fn info<'a>(alloc: Global) -> Result<Command<'a>, AllocError>
+    ensures { IfOk result (IsCommand info_command) }
+{
+    Command::new(alloc, "info").arg(file(alloc))
+}
+
+fn page<'a>(alloc: Global) -> Result<Command<'a>, AllocError>
+    ensures { IfOk result (IsCommand page_command) }
+{
+    Command::new(alloc, "page").arg(file(alloc))?.arg(id(alloc))
 }
 
 fn buckets<'a>(alloc: Global) -> Result<Command<'a>, AllocError>
@@ -26,5 +45,7 @@ pub(crate) fn program<'a>(alloc: Global) -> Result<Command<'a>, AllocError>
     Command::new(alloc, "luntsegi")
         .subcommand_required(true)
         .disable_help_subcommand(true)
+        .subcommand(info(alloc)?)?
+        .subcommand(page(alloc)?)?
         .subcommand(buckets(alloc)?)
 }

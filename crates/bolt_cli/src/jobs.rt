@@ -4,8 +4,10 @@ ghost use Rattle.std.specs.Io.KnownBytes.{Appends, Keeps};
 ghost use Rattle.bolt_format.specs.Sinks.{AppendsBeginning};
 ghost use Rattle.bolt_format.specs.ElementPlaces.{leaf_view};
 ghost use Rattle.bolt_check.specs.Findings.{finding};
-ghost use Rattle.bolt_report.specs.FaultWords.{finding_text, meta_fault_text};
-ghost use Rattle.bolt_cli.specs.Answers.{Answer, IsAnswer, IsWritten, Takes, buckets_answer, fault_line, names_text};
+ghost use Rattle.bolt_report.specs.FaultWords.{finding_text, meta_fault_text, page_fault_text};
+ghost use Rattle.bolt_report.specs.MetaLines.{info_text};
+ghost use Rattle.bolt_report.specs.PageTexts.{page_text, page_text_fault};
+ghost use Rattle.bolt_cli.specs.Answers.{Answer, IsAnswer, IsWritten, Takes, buckets_answer, done, fault_line, names_text, page_answer};
 ghost use Rattle.bolt_cli.specs.CursorRest.{cursor_rest};
 ghost use Rattle.bolt_cli.specs.RootLeaf.{names_of, root_fault, root_leaves};
 
@@ -13,9 +15,14 @@ use crate::root_cursor::RootCursor;
 use crate::root_leaf::root_leaf;
 use crate::words::Job;
 use bolt_check::Finding;
-use bolt_format::{Leaf, Meta, MetaFault, Sink, choose};
-use bolt_report::{Form, ReportFault, finding_text, meta_fault_text, value};
+use bolt_format::{Leaf, Meta, MetaFault, PageFault, Sink, Slot, choose};
+use bolt_report::{
+    Form, ReportFault, finding_text, info, meta_fault_text, page_fault_text, page_text, value,
+};
 use std::alloc::Global;
+
+/// The fault line for text that couldn't be written.
+const WRITE_FAILED: &[u8] = b"error: write failed\n";
 
 /// How a run ended.
 #[derive(Clone, Copy, Debug, PartialEq, Eq)]
@@ -27,26 +34,57 @@ pub struct Status {
 /// Does a job on the bytes of its file (docs/COMMANDS.md, "What a run writes"): the text goes to
 /// `out`, a fault line to `err`. `target` is not touched.
 pub fn run<O: Sink, E: Sink, T: Sink>(
-    _alloc: Global,
+    alloc: Global,
     job: &Job,
     file: &[u8],
     out: &mut O,
     err: &mut E,
-    _target: &mut T,
+    target: &mut T,
 ) -> Status
-    ensures { (answer : Answer) × IsAnswer file.now job.now answer
+    ensures answer { (answer : Answer) × IsAnswer file.now job.now answer
         × IsWritten (O.taken out.old) (O.taken out.new) (O.failed out.new) (E.taken err.old) (E.taken err.new) (E.failed err.new) result.code answer }
+    ensures target { target.new ≡ target.old }
 {
     match choose(file) {
-        Ok((_slot, meta)) => match job {
-            Job::Buckets { file: _ } => buckets(file, &meta, out, err),
+        Ok((slot, meta)) => match job {
+            Job::Info { file: _ } => print_meta(slot, &meta, out, err),
+            Job::Page { file: _, id } => print_page(file, &meta, *id, out, err),
+            Job::Buckets { file: _ } => print_buckets(file, &meta, out, err),
         },
         Err(fault) => refuse_metas(fault, err),
     }
 }
 
+/// Puts the lines of the meta in force.
+fn print_meta<O: Sink, E: Sink>(slot: Slot, meta: &Meta, out: &mut O, err: &mut E) -> Status
+    ensures { IsWritten (O.taken out.old) (O.taken out.new) (O.failed out.new) (E.taken err.old) (E.taken err.new) (E.failed err.new) result.code
+        (done (info_text slot meta.now)) }
+{
+    let written = info(slot, meta, out);
+    finish(written, err)
+}
+
+/// Puts the text of a page.
+fn print_page<O: Sink, E: Sink>(
+    file: &[u8],
+    meta: &Meta,
+    id: u64,
+    out: &mut O,
+    err: &mut E,
+) -> Status
+    ensures { IsWritten (O.taken out.old) (O.taken out.new) (O.failed out.new) (E.taken err.old) (E.taken err.new) (E.failed err.new) result.code
+        (page_answer (page_text_fault file.now meta.now id) (page_text file.now meta.now id)) }
+{
+    match page_text(file, meta, id, out) {
+        Ok(()) => Status { code: 0 },
+        Err(ReportFault::Page(fault)) => refuse_page(&fault, err),
+        Err(ReportFault::Sink) => refuse(WRITE_FAILED, err),
+        Err(ReportFault::NoMemory) => unreachable!(),
+    }
+}
+
 /// Puts the names of the root's buckets.
-fn buckets<O: Sink, E: Sink>(file: &[u8], meta: &Meta, out: &mut O, err: &mut E) -> Status
+fn print_buckets<O: Sink, E: Sink>(file: &[u8], meta: &Meta, out: &mut O, err: &mut E) -> Status
     ensures { IsWritten (O.taken out.old) (O.taken out.new) (O.failed out.new) (E.taken err.old) (E.taken err.new) (E.failed err.new) result.code
         (buckets_answer (root_fault file.now meta.now) meta.now (names_of (root_leaves file.now meta.now))) }
 {
@@ -91,7 +129,7 @@ fn finish<E: Sink>(written: Result<(), ReportFault>, err: &mut E) -> Status
 {
     match written {
         Ok(()) => Status { code: 0 },
-        Err(_) => refuse(b"error: write failed\n", err),
+        Err(_) => refuse(WRITE_FAILED, err),
     }
 }
 
@@ -134,4 +172,20 @@ fn put_meta_fault<E: Sink>(fault: MetaFault, err: &mut E) -> Result<(), ReportFa
 {
     err.put(b"error: ")?;
     meta_fault_text(fault, err)
+}
+
+/// Tells why a page is refused.
+fn refuse_page<E: Sink>(fault: &PageFault, err: &mut E) -> Status
+    ensures status { result.code ≡ 1 }
+    ensures line { Takes (E.taken err.old) (E.taken err.new) (E.failed err.new) (fault_line (page_fault_text fault.now)) }
+{
+    let _ = put_page_fault(fault, err);
+    Status { code: 1 }
+}
+
+fn put_page_fault<E: Sink>(fault: &PageFault, err: &mut E) -> Result<(), ReportFault>
+    ensures { Takes (E.taken err.old) (E.taken err.new) (E.failed err.new) (fault_line (page_fault_text fault.now)) }
+{
+    err.put(b"error: ")?;
+    page_fault_text(fault, err)
 }

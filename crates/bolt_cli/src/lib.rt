@@ -1,4 +1,4 @@
-//! The command line of `luntsegi`: words to a job.
+//! The command line of `luntsegi`: words to a job, and a job to what it writes and its status.
 #![tactic(auto)]
 
 mod commands;

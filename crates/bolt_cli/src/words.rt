@@ -1,8 +1,8 @@
 //! Reads the words of a command line.
 ghost use Rattle.std.specs.Prelude.{◌≡◌, IfErr, IfOk, MatchResult, map, string_bytes};
 ghost use Rattle.clap.specs.Words.{fault_of, found_of, kind_of, rows_of, subcommand_rows_of};
-ghost use Rattle.bolt_cli.specs.CommandLine.{Asks, Gives, HasKindOf, IsRefusedBy, asked_by, asked_by_buckets, asked_by_subcommand, program, value_of};
-ghost use Rattle.bolt_cli.specs.PlainWords.{IsRefusalOf, asked_of, asks, line_of};
+ghost use Rattle.bolt_cli.specs.CommandLine.{Asks, Gives, HasKindOf, IsRefusedBy, asked_by, asked_by_buckets, asked_by_info, asked_by_page, asked_by_subcommand, page_id, program, value_of};
+ghost use Rattle.bolt_cli.specs.PlainWords.{Asked, IsInRange, IsRefusalOf, Text, asked_of, asks, line_of, words_for};
 ghost use Rattle.bolt_cli.specs.declared.words.Refusal.TheVariants.{Memory};
 
 use crate::commands;
@@ -13,8 +13,27 @@ use std::alloc::{AllocError, Global};
 /// What the words of a command line ask for.
 #[derive(Debug, Drop)]
 pub enum Job {
+    /// The facts of the chosen meta.
+    Info { file: String },
+    /// The text of a page.
+    Page { file: String, id: u64 },
     /// The names of the root's buckets.
     Buckets { file: String },
+}
+
+impl Job {
+    ghost use Rattle.bolt_cli.specs.PlainWords.{file_name};
+
+    /// The FILE that the job is done on.
+    pub fn file(&self) -> &str
+        ensures { result.now ≡ file_name self.now }
+    {
+        match self {
+            Job::Info { file } => file.as_str(),
+            Job::Page { file, id: _ } => file.as_str(),
+            Job::Buckets { file } => file.as_str(),
+        }
+    }
 }
 
 /// Why words give no job.
@@ -40,20 +59,25 @@ impl From<AllocError> for Refusal {
 
 /// Reads the words of a command line, of which the first is the program's name.
 ///
-/// The one line is `buckets FILE`. A word that begins with a hyphen and has more is an option and
-/// no FILE, unless `--` stands before it.
+/// The lines are `info FILE`, `page FILE ID` and `buckets FILE`. A word that begins with a hyphen
+/// and has more is an option and neither a FILE nor an ID, unless `--` stands before it. An ID is
+/// decimal digits, at least one, of a number below 2^64.
 ///
 /// # Errors
 ///
-/// Words that are not that line are refused for the first word that is out of place:
+/// Words that are no such line are refused for the first word that is out of place:
 ///
 /// - `Refusal::Help` where that word is `--help`, or begins with `-h`.
 /// - `Refusal::Usage` where it is any other word, or where the words end too early.
 ///
-/// `Refusal::Memory` comes where memory runs out. `Refusal::Word` doesn't come.
+/// A line whose ID can't be read is refused as `Refusal::Word("bad page id")`. `Refusal::Memory`
+/// comes where memory runs out.
 pub fn read_words(alloc: Global, words: Vec<String>) -> Result<Job, Refusal>
-    ensures { let line = line_of (map string_bytes words.items) in
+    ensures answer { let line = line_of (map string_bytes words.items) in
         MatchResult result (λ job. line ≡ asks (asked_of job)) (IsRefusalOf line) }
+    ensures written { (name : Text) (wanted : Asked) → IsInRange wanted
+        → map string_bytes words.items ≡ words_for name wanted
+        → MatchResult result (λ job. asked_of job ≡ wanted) (λ refusal. refusal ≡ Memory) }
 {
     read(alloc, words)
 }
@@ -85,9 +109,26 @@ fn read_matches(alloc: Global, matches: &ArgMatches<'_>) -> Result<Job, Refusal>
     ensures { Gives asked_of (asked_by_subcommand (subcommand_rows_of matches.now)) result }
 {
     match matches.subcommand() {
+        Some(("info", matches)) => read_info(alloc, matches),
+        Some(("page", matches)) => read_page(alloc, matches),
         Some(("buckets", matches)) => read_buckets(alloc, matches),
         _ => Err(Refusal::Word("command missing")),
     }
+}
+
+fn read_info(alloc: Global, matches: &ArgMatches<'_>) -> Result<Job, Refusal>
+    ensures { Gives asked_of (asked_by_info (rows_of (found_of matches.now))) result }
+{
+    let file = read_text(alloc, matches, "FILE")?;
+    Ok(Job::Info { file })
+}
+
+fn read_page(alloc: Global, matches: &ArgMatches<'_>) -> Result<Job, Refusal>
+    ensures { Gives asked_of (asked_by_page (rows_of (found_of matches.now))) result }
+{
+    let file = read_text(alloc, matches, "FILE")?;
+    let id = read_page_id(value(matches, "ID")?)?;
+    Ok(Job::Page { file, id })
 }
 
 fn read_buckets(alloc: Global, matches: &ArgMatches<'_>) -> Result<Job, Refusal>
@@ -110,5 +151,18 @@ fn value<'a>(matches: &ArgMatches<'a>, id: &str) -> Result<&'a str, Refusal>
     match matches.get_str(id) {
         Some(text) => Ok(text),
         None => Err(Refusal::Word("value missing")),
+    }
+}
+
+fn read_page_id(word: &str) -> Result<u64, Refusal>
+    ensures { Gives (λ id. id) (page_id word.now) result }
+{
+    // `parse` would take a plus before the digits.
+    if word.starts_with('+') {
+        return Err(Refusal::Word("bad page id"));
+    }
+    match word.parse::<u64>() {
+        Ok(id) => Ok(id),
+        Err(_) => Err(Refusal::Word("bad page id")),
     }
 }

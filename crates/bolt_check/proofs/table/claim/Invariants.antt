@@ -1,11 +1,12 @@
-use Rattle.std.proofs.Common.{◌≡◌, ℕ, ◌<◌, ◌≤◌, get_or, false}
-use Rattle.bolt_check.specs.Pending.{IsClaimed, unclaimed}
+use Rattle.std.proofs.Common.{◌≡◌, ℕ, ◌<◌, ◌≤◌}
+use Rattle.bolt_check.specs.Tables.{IsClaimed, unclaimed, use_at}
 use Rattle.bolt_check.proofs.table.claim.Given as goal
 
+-- the span so far is claimed, and nothing else has changed
 abbrev pub invariant-loop-n : goal.invariant-loop-n
 invariant-loop-n l = record {
   span : (k : ℕ) → l.from ≤ k → k < l.n → IsClaimed l.table k;
-  below : (k : ℕ) → k < l.from → get_or l.table k false ≡ get_or l.fn.table k false;
-  above : (k : ℕ) → l.n ≤ k → get_or l.table k false ≡ get_or l.fn.table k false;
+  below : (k : ℕ) → k < l.from → use_at l.table k ≡ use_at l.fn.table k;
+  above : (k : ℕ) → l.n ≤ k → use_at l.table k ≡ use_at l.fn.table k;
   fewer : unclaimed l.table < unclaimed l.fn.table;
 }

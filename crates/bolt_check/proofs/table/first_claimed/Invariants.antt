@@ -1,5 +1,7 @@
-use Rattle.std.proofs.Common.{◌≡◌, ℕ, ◌<◌, ◌≤◌, get_or, false}
+use Rattle.std.proofs.Common.{ℕ, ◌<◌, ◌≤◌}
+use Rattle.bolt_check.specs.Tables.{IsUnclaimed}
 use Rattle.bolt_check.proofs.table.first_claimed.Given as goal
 
+-- none of the pages so far is claimed
 abbrev pub invariant-loop-n : goal.invariant-loop-n
-invariant-loop-n l = (k : ℕ) → l.from ≤ k → k < l.n → get_or l.table k false ≡ false
+invariant-loop-n l = (k : ℕ) → l.from ≤ k → k < l.n → IsUnclaimed l.table k

@@ -7,4 +7,6 @@ use Rattle.bolt_cli.proofs.commands.program.Goals as goal
 pub returns : goal.returns
 returns c =
     let bare : IsCommand bare_program c.disable_help_subcommand.result = search rules in
-    IfOk-weaker c.subcommand.result _ _ (λ r h. subcommand_added _ _ _ _ _ bare c.in_ok-buckets.ensures h) c.subcommand.ensures
+    let first = subcommand_added _ _ _ _ _ bare c.in_ok-info.ensures c.in_ok-subcommand.ensures in
+    let second = subcommand_added _ _ _ _ _ first c.in_ok-page.ensures c.in_ok-subcommand-2.ensures in
+    IfOk-weaker c.subcommand-3.result _ _ (λ command adds. subcommand_added _ _ _ _ _ second c.in_ok-buckets.ensures adds) c.subcommand-3.ensures
