@@ -15,6 +15,8 @@ mod maker;
 #[cfg(test)]
 mod meta_rows;
 #[cfg(test)]
+mod page_command_rows;
+#[cfg(test)]
 mod read_rows;
 #[cfg(test)]
 mod samples;
