@@ -1,4 +1,5 @@
-//! Rows of pages that are refused, each with the number of the first test that the page fails.
+//! Rows of pages that are refused, each with the number of the first test that the page fails, and
+//! of good pages beside them.
 
 use crate::maker::{Element, MetaFields, branch, database, inline, leaf, patch};
 use Element::{Bucket, Value};
@@ -6,18 +7,6 @@ use bolt_format::{Meta, PageFault, page};
 use std::alloc::{AllocError, Global};
 use std::process::Abort;
 use std::test::Fail;
-
-/// A meta under which pages of 1,024 bytes are read.
-fn meta_with_mark(high_water: u64) -> Meta {
-    Meta {
-        page_size: 1024,
-        root: 3,
-        root_sequence: 0,
-        freelist: 2,
-        high_water,
-        txid: 1,
-    }
-}
 
 /// The words of a fault's line, by its number.
 pub fn fault_text(number: u8) -> &'static str {
@@ -57,9 +46,30 @@ fn fault_numbers(rt: HostRuntime) {
     assert_eq!(rt; faults, [6, 7, 8, 9, 10, 11, 12, 13, 14, 15, 16, 17]);
 }
 
-fn check_fault(rt: &impl Abort, name: &str, file: &[u8], meta: &Meta, id: u64, want: Option<u8>) {
-    let want = want.map(|number| PageFault { number, page: id });
-    assert_eq!(rt; page(file, meta, id).err(), want, "{name}");
+/// A meta under which pages of 1,024 bytes are read.
+fn meta_with_mark(high_water: u64) -> Meta {
+    Meta {
+        page_size: 1024,
+        root: 3,
+        root_sequence: 0,
+        freelist: 2,
+        high_water,
+        txid: 1,
+    }
+}
+
+/// Page `id` has this fault, or is good.
+fn check_page(rt: &impl Abort, name: &str, file: &[u8], meta: &Meta, id: u64, want: Option<u8>) {
+    let fault = page(file, meta, id).err();
+    assert_eq!(rt; fault.map(|fault| fault.number), want, "{name}");
+    if let Some(fault) = fault {
+        assert_eq!(rt; fault.page, id, "{name}");
+    }
+}
+
+/// Page 3 under the mark 4.
+fn check_page_three(rt: &impl Abort, name: &str, file: &[u8], want: Option<u8>) {
+    check_page(rt, name, file, &meta_with_mark(4), 3, want);
 }
 
 /// Four pages of 1,024 bytes, of which the last is given.
@@ -70,247 +80,250 @@ fn with_page_three(alloc: Global, page: &[u8]) -> Result<Vec<u8>, AllocError> {
 /// Bytes that stand over those of a page, from a byte of the page on.
 pub type Patch<'a> = (usize, &'a [u8]);
 
-/// A leaf page that holds `a` = `1` and `b` = `2`, packed, with patches. Its first element's
-/// header begins at byte 16 and the second's at byte 32, each of flags, position, key length and
-/// value length; the data begins at byte 48.
-#[derive(Clone, Copy)]
-pub struct LeafRow<'a> {
-    pub name: &'a str,
-    pub patches: &'a [Patch<'a>],
-    pub mark: u64,
-    pub want: Option<u8>,
-}
+/// The name of a row, what is patched, and the fault or none.
+pub type PatchRow<'a> = (&'a str, &'a [Patch<'a>], Option<u8>);
 
-fn bad<'a>(name: &'a str, patches: &'a [Patch<'a>], fault: u8) -> LeafRow<'a> {
-    LeafRow {
-        name,
-        patches,
-        mark: 4,
-        want: Some(fault),
+fn put_patches(page: &mut Vec<u8>, patches: &[Patch<'_>]) -> Result<(), AllocError> {
+    for (at, bytes) in patches {
+        patch(page, *at, bytes)?;
     }
+    Ok(())
 }
 
-fn marked<'a>(name: &'a str, patches: &'a [Patch<'a>], mark: u64, fault: u8) -> LeafRow<'a> {
-    LeafRow {
-        name,
-        patches,
-        mark,
-        want: Some(fault),
-    }
-}
-
-fn good<'a>(name: &'a str, patches: &'a [Patch<'a>]) -> LeafRow<'a> {
-    LeafRow {
-        name,
-        patches,
-        mark: 4,
-        want: None,
-    }
-}
-
-/// The file of a row: four pages of 1,024 bytes, of which the last is the row's.
-pub fn leaf_file(alloc: Global, row: &LeafRow<'_>) -> Result<Vec<u8>, AllocError> {
+/// A file whose page 3 is a leaf that holds `a` = `1` and `b` = `2`, packed, with patches. An
+/// element's header is its flags, position, key length and value length, of four bytes each; the
+/// data begins at byte 48.
+pub fn leaf_file(alloc: Global, mark: u64, patches: &[Patch<'_>]) -> Result<Vec<u8>, AllocError> {
     let mut page = leaf(alloc, 3, &[Value(b"a", b"1"), Value(b"b", b"2")])?;
-    for (at, bytes) in row.patches {
-        patch(&mut page, *at, bytes)?;
-    }
+    put_patches(&mut page, patches)?;
     let fields = MetaFields {
-        mark: row.mark,
+        mark,
         ..MetaFields::fresh(1024)
     };
     database(alloc, 4, &fields, &[(3, page.as_slice())])
 }
 
-fn check_leaf(rt: &impl Abort, alloc: Global, row: &LeafRow<'_>) -> Result<(), AllocError> {
-    let file = leaf_file(alloc, row)?;
-    let meta = meta_with_mark(row.mark);
-    check_fault(rt, row.name, file.as_slice(), &meta, 3, row.want);
+/// Patches of that leaf's page header.
+pub const HEADER_ROWS: [PatchRow<'static>; 15] = [
+    ("as it is", &[], None),
+    ("header id 4", &[(0, &[4])], Some(PageFault::ID)),
+    (
+        "header id with a high byte",
+        &[(7, &[1])],
+        Some(PageFault::ID),
+    ),
+    ("flags 3", &[(8, &[3])], Some(PageFault::PAGE_KIND)),
+    ("flags 0", &[(8, &[0])], Some(PageFault::PAGE_KIND)),
+    ("flags 0x12", &[(8, &[0x12])], Some(PageFault::PAGE_KIND)),
+    ("flags 0x102", &[(9, &[1])], Some(PageFault::PAGE_KIND)),
+    (
+        "header id 4, flags 3",
+        &[(0, &[4]), (8, &[3])],
+        Some(PageFault::ID),
+    ),
+    (
+        "flags 3, overflow 1",
+        &[(8, &[3]), (12, &[1])],
+        Some(PageFault::PAGE_KIND),
+    ),
+    ("overflow 1", &[(12, &[1])], Some(PageFault::RANGE)),
+    (
+        "overflow 1, count 65535",
+        &[(10, &[0xFF, 0xFF]), (12, &[1])],
+        Some(PageFault::RANGE),
+    ),
+    (
+        "the greatest overflow",
+        &[(12, &[0xFF, 0xFF, 0xFF, 0xFF])],
+        Some(PageFault::RANGE),
+    ),
+    ("count 64", &[(10, &[64])], Some(PageFault::ELEMENT_CUT)),
+    (
+        "count 65535",
+        &[(10, &[0xFF, 0xFF])],
+        Some(PageFault::ELEMENT_CUT),
+    ),
+    ("count 63", &[(10, &[63])], Some(PageFault::DATA_ORDER)),
+];
+
+/// Patches of its first element, whose header begins at byte 16.
+pub const FIRST_ELEMENT_ROWS: [PatchRow<'static>; 19] = [
+    ("flags 2", &[(16, &[2])], Some(PageFault::LEAF_FLAGS)),
+    ("flags 0x100", &[(17, &[1])], Some(PageFault::LEAF_FLAGS)),
+    ("flags 1", &[(16, &[1])], Some(PageFault::BUCKET_SHORT)),
+    ("key length 0", &[(24, &[0])], Some(PageFault::KEY_LENGTH)),
+    (
+        "key length 2^30 + 1",
+        &[(24, &[1, 0, 0, 0x40])],
+        Some(PageFault::KEY_LENGTH),
+    ),
+    (
+        "key length 2^30",
+        &[(24, &[0, 0, 0, 0x40])],
+        Some(PageFault::ELEMENT_CUT),
+    ),
+    (
+        "the greatest key length",
+        &[(24, &[0xFF; 4])],
+        Some(PageFault::KEY_LENGTH),
+    ),
+    (
+        "value length 2^31 - 1",
+        &[(28, &[0xFF, 0xFF, 0xFF, 0x7F])],
+        Some(PageFault::VALUE_LENGTH),
+    ),
+    (
+        "value length 2^31 - 2",
+        &[(28, &[0xFE, 0xFF, 0xFF, 0x7F])],
+        Some(PageFault::ELEMENT_CUT),
+    ),
+    (
+        "the greatest value length",
+        &[(28, &[0xFF; 4])],
+        Some(PageFault::VALUE_LENGTH),
+    ),
+    ("position 31", &[(20, &[31])], Some(PageFault::DATA_ORDER)),
+    ("position 0", &[(20, &[0])], Some(PageFault::DATA_ORDER)),
+    (
+        "the greatest position",
+        &[(20, &[0xFF; 4])],
+        Some(PageFault::ELEMENT_CUT),
+    ),
+    (
+        "all fields greatest but the flags",
+        &[(20, &[0xFF; 12])],
+        Some(PageFault::KEY_LENGTH),
+    ),
+    (
+        "flags 2, key length 0",
+        &[(16, &[2]), (24, &[0])],
+        Some(PageFault::LEAF_FLAGS),
+    ),
+    (
+        "key length 0, a great value",
+        &[(24, &[0, 0, 0, 0, 0xFF, 0xFF, 0xFF, 0xFF])],
+        Some(PageFault::KEY_LENGTH),
+    ),
+    (
+        "a great value, position 0",
+        &[(20, &[0]), (28, &[0xFF; 4])],
+        Some(PageFault::VALUE_LENGTH),
+    ),
+    (
+        "position 0, a value past the page",
+        &[(20, &[0]), (29, &[4])],
+        Some(PageFault::DATA_ORDER),
+    ),
+    (
+        "a bucket past the page",
+        &[(16, &[1]), (29, &[4])],
+        Some(PageFault::ELEMENT_CUT),
+    ),
+];
+
+/// Patches of its second element, whose header begins at byte 32.
+pub const SECOND_ELEMENT_ROWS: [PatchRow<'static>; 13] = [
+    ("position 17", &[(36, &[17])], Some(PageFault::DATA_ORDER)),
+    (
+        "position 19, its data moved with it",
+        &[(36, &[19]), (50, &[0, b'b', b'2'])],
+        None,
+    ),
+    ("data at the page's end", &[(36, &[0xDE, 3])], None),
+    (
+        "data past the page's end",
+        &[(36, &[0xDF, 3])],
+        Some(PageFault::ELEMENT_CUT),
+    ),
+    ("a value to the page's end", &[(44, &[0xCD, 3])], None),
+    (
+        "a value past the page's end",
+        &[(44, &[0xCE, 3])],
+        Some(PageFault::ELEMENT_CUT),
+    ),
+    ("no value", &[(44, &[0])], None),
+    (
+        "the first value longer",
+        &[(28, &[2])],
+        Some(PageFault::DATA_ORDER),
+    ),
+    (
+        "the first value to the page's end",
+        &[(28, &[0xCF, 3])],
+        Some(PageFault::DATA_ORDER),
+    ),
+    (
+        "the first past the page, the second's flags 2",
+        &[(28, &[0xD0, 3]), (32, &[2])],
+        Some(PageFault::ELEMENT_CUT),
+    ),
+    ("flags 2", &[(32, &[2])], Some(PageFault::LEAF_FLAGS)),
+    ("key length 0", &[(40, &[0])], Some(PageFault::KEY_LENGTH)),
+    ("without the second", &[(10, &[1]), (32, &[0xFF; 16])], None),
+];
+
+/// High-water marks, and patches of its header under them.
+pub const MARKED_ROWS: [(u64, PatchRow<'static>); 6] = [
+    (
+        5,
+        ("overflow 1, mark 5", &[(12, &[1])], Some(PageFault::CUT)),
+    ),
+    (3, ("mark 3", &[], Some(PageFault::RANGE))),
+    (
+        3,
+        ("mark 3, header id 4", &[(0, &[4])], Some(PageFault::RANGE)),
+    ),
+    (
+        u64::MAX,
+        (
+            "a span of 2^32 pages under the greatest mark",
+            &[(12, &[0xFF; 4])],
+            Some(PageFault::CUT),
+        ),
+    ),
+    (
+        0x1_0000_0003,
+        (
+            "a span that ends below the mark",
+            &[(12, &[0xFF; 4])],
+            Some(PageFault::CUT),
+        ),
+    ),
+    (
+        0x1_0000_0002,
+        (
+            "a span that ends at the mark",
+            &[(12, &[0xFF; 4])],
+            Some(PageFault::RANGE),
+        ),
+    ),
+];
+
+fn check_leaf(
+    rt: &impl Abort,
+    alloc: Global,
+    mark: u64,
+    row: PatchRow<'_>,
+) -> Result<(), AllocError> {
+    let (name, patches, want) = row;
+    let file = leaf_file(alloc, mark, patches)?;
+    check_page(rt, name, file.as_slice(), &meta_with_mark(mark), 3, want);
     Ok(())
 }
 
-/// Rows of a leaf page's header.
-pub fn header_rows() -> [LeafRow<'static>; 18] {
-    [
-        good("as it is", &[]),
-        bad("header id 4", &[(0, &[4])], PageFault::ID),
-        bad("header id with a high byte", &[(7, &[1])], PageFault::ID),
-        bad("flags 3", &[(8, &[3])], PageFault::PAGE_KIND),
-        bad("flags 0", &[(8, &[0])], PageFault::PAGE_KIND),
-        bad("flags 0x12", &[(8, &[0x12])], PageFault::PAGE_KIND),
-        bad("flags 0x102", &[(9, &[1])], PageFault::PAGE_KIND),
-        bad(
-            "header id 4, flags 3",
-            &[(0, &[4]), (8, &[3])],
-            PageFault::ID,
-        ),
-        bad(
-            "flags 3, overflow 1",
-            &[(8, &[3]), (12, &[1])],
-            PageFault::PAGE_KIND,
-        ),
-        bad("overflow 1", &[(12, &[1])], PageFault::RANGE),
-        bad(
-            "overflow 1, count 65535",
-            &[(10, &[0xFF, 0xFF]), (12, &[1])],
-            PageFault::RANGE,
-        ),
-        bad(
-            "the greatest overflow",
-            &[(12, &[0xFF, 0xFF, 0xFF, 0xFF])],
-            PageFault::RANGE,
-        ),
-        marked("overflow 1, mark 5", &[(12, &[1])], 5, PageFault::CUT),
-        marked("mark 3", &[], 3, PageFault::RANGE),
-        marked("mark 3, header id 4", &[(0, &[4])], 3, PageFault::RANGE),
-        bad("count 64", &[(10, &[64])], PageFault::ELEMENT_CUT),
-        bad(
-            "count 65535",
-            &[(10, &[0xFF, 0xFF])],
-            PageFault::ELEMENT_CUT,
-        ),
-        bad("count 63", &[(10, &[63])], PageFault::DATA_ORDER),
-    ]
-}
-
 #[test]
-fn page_headers(rt: HostRuntime) -> Result<(), Fail> {
-    for row in header_rows() {
-        check_leaf(&rt, rt.alloc(), &row)?;
+fn leaf_pages(rt: HostRuntime) -> Result<(), Fail> {
+    for row in HEADER_ROWS {
+        check_leaf(&rt, rt.alloc(), 4, row)?;
     }
-    Ok(())
-}
-
-/// Rows of its first element.
-pub fn first_element_rows() -> [LeafRow<'static>; 19] {
-    [
-        bad("flags 2", &[(16, &[2])], PageFault::LEAF_FLAGS),
-        bad("flags 0x100", &[(17, &[1])], PageFault::LEAF_FLAGS),
-        bad("flags 1", &[(16, &[1])], PageFault::BUCKET_SHORT),
-        bad("key length 0", &[(24, &[0])], PageFault::KEY_LENGTH),
-        bad(
-            "key length 2^30 + 1",
-            &[(24, &[1, 0, 0, 0x40])],
-            PageFault::KEY_LENGTH,
-        ),
-        bad(
-            "key length 2^30",
-            &[(24, &[0, 0, 0, 0x40])],
-            PageFault::ELEMENT_CUT,
-        ),
-        bad(
-            "the greatest key length",
-            &[(24, &[0xFF; 4])],
-            PageFault::KEY_LENGTH,
-        ),
-        bad(
-            "value length 2^31 - 1",
-            &[(28, &[0xFF, 0xFF, 0xFF, 0x7F])],
-            PageFault::VALUE_LENGTH,
-        ),
-        bad(
-            "value length 2^31 - 2",
-            &[(28, &[0xFE, 0xFF, 0xFF, 0x7F])],
-            PageFault::ELEMENT_CUT,
-        ),
-        bad(
-            "the greatest value length",
-            &[(28, &[0xFF; 4])],
-            PageFault::VALUE_LENGTH,
-        ),
-        bad("position 31", &[(20, &[31])], PageFault::DATA_ORDER),
-        bad("position 0", &[(20, &[0])], PageFault::DATA_ORDER),
-        bad(
-            "the greatest position",
-            &[(20, &[0xFF; 4])],
-            PageFault::ELEMENT_CUT,
-        ),
-        bad(
-            "all fields greatest but the flags",
-            &[(20, &[0xFF; 12])],
-            PageFault::KEY_LENGTH,
-        ),
-        bad(
-            "flags 2, key length 0",
-            &[(16, &[2]), (24, &[0])],
-            PageFault::LEAF_FLAGS,
-        ),
-        bad(
-            "key length 0, a great value",
-            &[(24, &[0, 0, 0, 0, 0xFF, 0xFF, 0xFF, 0xFF])],
-            PageFault::KEY_LENGTH,
-        ),
-        bad(
-            "a great value, position 0",
-            &[(20, &[0]), (28, &[0xFF; 4])],
-            PageFault::VALUE_LENGTH,
-        ),
-        bad(
-            "position 0, a value past the page",
-            &[(20, &[0]), (29, &[4])],
-            PageFault::DATA_ORDER,
-        ),
-        bad(
-            "a bucket past the page",
-            &[(16, &[1]), (29, &[4])],
-            PageFault::ELEMENT_CUT,
-        ),
-    ]
-}
-
-#[test]
-fn first_elements(rt: HostRuntime) -> Result<(), Fail> {
-    for row in first_element_rows() {
-        check_leaf(&rt, rt.alloc(), &row)?;
+    for row in FIRST_ELEMENT_ROWS {
+        check_leaf(&rt, rt.alloc(), 4, row)?;
     }
-    Ok(())
-}
-
-/// Rows of its second element.
-pub fn second_element_rows() -> [LeafRow<'static>; 13] {
-    [
-        bad("position 17", &[(36, &[17])], PageFault::DATA_ORDER),
-        good(
-            "position 19, its data moved with it",
-            &[(36, &[19]), (50, &[0, b'b', b'2'])],
-        ),
-        good("data at the page's end", &[(36, &[0xDE, 3])]),
-        bad(
-            "data past the page's end",
-            &[(36, &[0xDF, 3])],
-            PageFault::ELEMENT_CUT,
-        ),
-        good("a value to the page's end", &[(44, &[0xCD, 3])]),
-        bad(
-            "a value past the page's end",
-            &[(44, &[0xCE, 3])],
-            PageFault::ELEMENT_CUT,
-        ),
-        good("no value", &[(44, &[0])]),
-        bad(
-            "the first value longer",
-            &[(28, &[2])],
-            PageFault::DATA_ORDER,
-        ),
-        bad(
-            "the first value to the page's end",
-            &[(28, &[0xCF, 3])],
-            PageFault::DATA_ORDER,
-        ),
-        bad(
-            "the first past the page, the second's flags 2",
-            &[(28, &[0xD0, 3]), (32, &[2])],
-            PageFault::ELEMENT_CUT,
-        ),
-        bad("flags 2", &[(32, &[2])], PageFault::LEAF_FLAGS),
-        bad("key length 0", &[(40, &[0])], PageFault::KEY_LENGTH),
-        good("without the second", &[(10, &[1]), (32, &[0xFF; 16])]),
-    ]
-}
-
-#[test]
-fn second_elements(rt: HostRuntime) -> Result<(), Fail> {
-    for row in second_element_rows() {
-        check_leaf(&rt, rt.alloc(), &row)?;
+    for row in SECOND_ELEMENT_ROWS {
+        check_leaf(&rt, rt.alloc(), 4, row)?;
+    }
+    for (mark, row) in MARKED_ROWS {
+        check_leaf(&rt, rt.alloc(), mark, row)?;
     }
     Ok(())
 }
@@ -320,87 +333,183 @@ const ROOT_NINE: &[u8] = &[9, 0, 0, 0, 0, 0, 0, 0, 0, 0, 0, 0, 0, 0, 0, 0];
 
 const ROOT_ZERO: &[u8] = &[0; 16];
 
+/// What the element of a bucket stores, and the fault of its page.
+const BUCKET_ROWS: [(&str, &[u8], Option<u8>); 7] = [
+    ("no bytes", b"", Some(PageFault::BUCKET_SHORT)),
+    ("15 bytes", &[9; 15], Some(PageFault::BUCKET_SHORT)),
+    ("16 bytes with a root", ROOT_NINE, None),
+    (
+        "a root in its highest byte alone",
+        &[0, 0, 0, 0, 0, 0, 0, 1, 0, 0, 0, 0, 0, 0, 0, 0],
+        None,
+    ),
+    ("a root and further bytes", &[0xFF; 40], None),
+    (
+        "16 bytes with root 0",
+        ROOT_ZERO,
+        Some(PageFault::INLINE_PAGE),
+    ),
+    (
+        "31 bytes with root 0",
+        &[0; 31],
+        Some(PageFault::INLINE_PAGE),
+    ),
+];
+
 #[test]
 fn bucket_values(rt: HostRuntime) -> Result<(), Fail> {
-    let rows: [(&str, &[u8], Option<u8>); 7] = [
-        ("no bytes", b"", Some(PageFault::BUCKET_SHORT)),
-        ("15 bytes", &[9; 15], Some(PageFault::BUCKET_SHORT)),
-        ("16 bytes with a root", ROOT_NINE, None),
-        (
-            "a root in its highest byte alone",
-            &[0, 0, 0, 0, 0, 0, 0, 1, 0, 0, 0, 0, 0, 0, 0, 0],
-            None,
-        ),
-        ("a root and further bytes", &[0xFF; 40], None),
-        (
-            "16 bytes with root 0",
-            ROOT_ZERO,
-            Some(PageFault::INLINE_PAGE),
-        ),
-        (
-            "31 bytes with root 0",
-            &[0; 31],
-            Some(PageFault::INLINE_PAGE),
-        ),
-    ];
-    for (name, stored, want) in rows {
+    for (name, stored, want) in BUCKET_ROWS {
         let page = leaf(rt.alloc(), 3, &[Bucket(b"b", stored)])?;
         let file = with_page_three(rt.alloc(), page.as_slice())?;
-        check_fault(&rt, name, file.as_slice(), &meta_with_mark(4), 3, want);
+        check_page_three(&rt, name, file.as_slice(), want);
     }
     Ok(())
 }
 
-/// A leaf page with an inline bucket `b`, patched, between other elements. In the bucket's stored
-/// bytes the page's header begins at byte 16 and its first element at byte 32.
+/// A file whose page 3 holds an inline bucket with `k1` = `v1`. The patches are of what the bucket
+/// stores: its page's header begins at byte 16, that page's element at byte 32, the data at byte 48.
+pub fn inline_file(alloc: Global, patches: &[Patch<'_>]) -> Result<Vec<u8>, AllocError> {
+    let mut stored = inline(alloc, 0, &[Value(b"k1", b"v1")])?;
+    put_patches(&mut stored, patches)?;
+    let page = leaf(alloc, 3, &[Bucket(b"b", stored.as_slice())])?;
+    with_page_three(alloc, page.as_slice())
+}
+
+/// Patches of that bucket.
+pub const INLINE_ROWS: [PatchRow<'static>; 18] = [
+    ("as it is", &[], None),
+    (
+        "another id and overflow in its header",
+        &[(16, &[9]), (28, &[0xFF; 4])],
+        None,
+    ),
+    ("a sequence", &[(8, &[0xFF; 8])], None),
+    ("bytes after its data", &[(52, &[7; 9])], None),
+    ("count 0", &[(26, &[0])], None),
+    ("a shorter value", &[(44, &[1])], None),
+    ("flags 1", &[(24, &[1])], Some(PageFault::INLINE_PAGE)),
+    ("flags 0x12", &[(24, &[0x12])], Some(PageFault::INLINE_PAGE)),
+    ("flags 0x102", &[(25, &[1])], Some(PageFault::INLINE_PAGE)),
+    ("count 2", &[(26, &[2])], Some(PageFault::INLINE_PAGE)),
+    (
+        "count 65535",
+        &[(26, &[0xFF, 0xFF])],
+        Some(PageFault::INLINE_PAGE),
+    ),
+    (
+        "element flags 2",
+        &[(32, &[2])],
+        Some(PageFault::INLINE_PAGE),
+    ),
+    ("position 15", &[(36, &[15])], Some(PageFault::INLINE_PAGE)),
+    ("position 17", &[(36, &[17])], Some(PageFault::INLINE_PAGE)),
+    ("key length 0", &[(40, &[0])], Some(PageFault::INLINE_PAGE)),
+    (
+        "key length 2^30 + 1",
+        &[(40, &[1, 0, 0, 0x40])],
+        Some(PageFault::INLINE_PAGE),
+    ),
+    (
+        "a value past the bucket's, within the page",
+        &[(44, &[3])],
+        Some(PageFault::INLINE_PAGE),
+    ),
+    (
+        "element flags 1",
+        &[(32, &[1])],
+        Some(PageFault::INLINE_PAGE),
+    ),
+];
+
+#[test]
+fn inline_pages(rt: HostRuntime) -> Result<(), Fail> {
+    for (name, patches, want) in INLINE_ROWS {
+        let file = inline_file(rt.alloc(), patches)?;
+        check_page_three(&rt, name, file.as_slice(), want);
+    }
+    Ok(())
+}
+
+/// What an inline bucket holds, and the elements before and after it on its leaf page.
 #[derive(Clone, Copy)]
-pub struct InlineRow<'a> {
+pub struct NestedRow<'a> {
     pub name: &'a str,
     pub before: &'a [Element<'a>],
     pub held: &'a [Element<'a>],
-    pub patches: &'a [Patch<'a>],
     pub after: &'a [Element<'a>],
     pub want: Option<u8>,
 }
 
-/// One bucket `b` with the value `k1` = `v1`.
-const PLAIN: InlineRow<'static> = InlineRow {
-    name: "as it is",
-    before: &[],
-    held: &[Value(b"k1", b"v1")],
-    patches: &[],
-    after: &[],
-    want: None,
-};
+/// Buckets in an inline bucket, and broken elements beside it.
+pub const NESTED_ROWS: [NestedRow<'static>; 9] = [
+    NestedRow {
+        name: "a bucket",
+        before: &[],
+        held: &[Bucket(b"k", ROOT_NINE)],
+        after: &[],
+        want: Some(PageFault::INLINE_NESTED),
+    },
+    NestedRow {
+        name: "a bucket with root 0",
+        before: &[],
+        held: &[Bucket(b"k", ROOT_ZERO)],
+        after: &[],
+        want: Some(PageFault::INLINE_NESTED),
+    },
+    NestedRow {
+        name: "a value and a bucket",
+        before: &[],
+        held: &[Value(b"j", b""), Bucket(b"k", ROOT_NINE)],
+        after: &[],
+        want: Some(PageFault::INLINE_NESTED),
+    },
+    NestedRow {
+        name: "a bucket of 15 bytes",
+        before: &[],
+        held: &[Bucket(b"k", &[9; 15])],
+        after: &[],
+        want: Some(PageFault::INLINE_PAGE),
+    },
+    NestedRow {
+        name: "a bucket, then an empty key",
+        before: &[],
+        held: &[Bucket(b"k", ROOT_NINE), Value(b"", b"")],
+        after: &[],
+        want: Some(PageFault::INLINE_PAGE),
+    },
+    NestedRow {
+        name: "a bucket, and after the inline bucket an empty key",
+        before: &[],
+        held: &[Bucket(b"k", ROOT_NINE)],
+        after: &[Value(b"", b"")],
+        want: Some(PageFault::INLINE_NESTED),
+    },
+    NestedRow {
+        name: "a bucket, and before the inline bucket an empty key",
+        before: &[Value(b"", b"")],
+        held: &[Bucket(b"k", ROOT_NINE)],
+        after: &[],
+        want: Some(PageFault::KEY_LENGTH),
+    },
+    NestedRow {
+        name: "after the inline bucket an empty key",
+        before: &[],
+        held: &[Value(b"k1", b"v1")],
+        after: &[Value(b"", b"")],
+        want: Some(PageFault::KEY_LENGTH),
+    },
+    NestedRow {
+        name: "between good elements",
+        before: &[Bucket(b"a", ROOT_NINE), Value(b"aa", b"1")],
+        held: &[Value(b"k1", b"v1")],
+        after: &[Value(b"c", b""), Bucket(b"d", ROOT_NINE)],
+        want: None,
+    },
+];
 
-fn patched(
-    name: &'static str,
-    patches: &'static [Patch<'static>],
-    want: Option<u8>,
-) -> InlineRow<'static> {
-    InlineRow {
-        name,
-        patches,
-        want,
-        ..PLAIN
-    }
-}
-
-fn holding(name: &'static str, held: &'static [Element<'static>], fault: u8) -> InlineRow<'static> {
-    InlineRow {
-        name,
-        held,
-        want: Some(fault),
-        ..PLAIN
-    }
-}
-
-/// The file of a row: four pages of 1,024 bytes, of which the last is the row's.
-pub fn inline_file(alloc: Global, row: &InlineRow<'_>) -> Result<Vec<u8>, AllocError> {
-    let mut stored = inline(alloc, 0, row.held)?;
-    for (at, bytes) in row.patches {
-        patch(&mut stored, *at, bytes)?;
-    }
+/// A file whose page 3 holds the inline bucket of a row between the other elements.
+pub fn nested_file(alloc: Global, row: &NestedRow<'_>) -> Result<Vec<u8>, AllocError> {
+    let stored = inline(alloc, 0, row.held)?;
     let mut elements = row.before.to_vec(alloc)?;
     elements.push(Bucket(b"b", stored.as_slice()))?;
     elements.extend_from_slice(row.after)?;
@@ -408,308 +517,179 @@ pub fn inline_file(alloc: Global, row: &InlineRow<'_>) -> Result<Vec<u8>, AllocE
     with_page_three(alloc, page.as_slice())
 }
 
-fn check_inline(rt: &impl Abort, alloc: Global, row: &InlineRow<'_>) -> Result<(), AllocError> {
-    let file = inline_file(alloc, row)?;
-    check_fault(
-        rt,
-        row.name,
-        file.as_slice(),
-        &meta_with_mark(4),
-        3,
-        row.want,
-    );
-    Ok(())
-}
-
-/// Rows of the page of an inline bucket.
-pub fn inline_rows() -> [InlineRow<'static>; 18] {
-    let refused = Some(PageFault::INLINE_PAGE);
-    [
-        PLAIN,
-        patched(
-            "another id and overflow in its header",
-            &[(16, &[9]), (28, &[0xFF; 4])],
-            None,
-        ),
-        patched("a sequence", &[(8, &[0xFF; 8])], None),
-        patched("bytes after its data", &[(52, &[7; 9])], None),
-        patched("count 0", &[(26, &[0])], None),
-        patched("a shorter value", &[(44, &[1])], None),
-        patched("flags 1", &[(24, &[1])], refused),
-        patched("flags 0x12", &[(24, &[0x12])], refused),
-        patched("flags 0x102", &[(25, &[1])], refused),
-        patched("count 2", &[(26, &[2])], refused),
-        patched("count 65535", &[(26, &[0xFF, 0xFF])], refused),
-        patched("element flags 2", &[(32, &[2])], refused),
-        patched("position 15", &[(36, &[15])], refused),
-        patched("position 17", &[(36, &[17])], refused),
-        patched("key length 0", &[(40, &[0])], refused),
-        patched("key length 2^30 + 1", &[(40, &[1, 0, 0, 0x40])], refused),
-        patched(
-            "a value past the bucket's, within the page",
-            &[(44, &[3])],
-            refused,
-        ),
-        patched("element flags 1", &[(32, &[1])], refused),
-    ]
-}
-
-#[test]
-fn inline_pages(rt: HostRuntime) -> Result<(), Fail> {
-    for row in inline_rows() {
-        check_inline(&rt, rt.alloc(), &row)?;
-    }
-    Ok(())
-}
-
-/// Rows of buckets in an inline bucket, and of elements beside it.
-pub fn nested_rows() -> [InlineRow<'static>; 9] {
-    let nested = holding(
-        "a bucket",
-        &[Bucket(b"k", ROOT_NINE)],
-        PageFault::INLINE_NESTED,
-    );
-    [
-        nested,
-        holding(
-            "a bucket with root 0",
-            &[Bucket(b"k", ROOT_ZERO)],
-            PageFault::INLINE_NESTED,
-        ),
-        holding(
-            "a value and a bucket",
-            &[Value(b"j", b""), Bucket(b"k", ROOT_NINE)],
-            PageFault::INLINE_NESTED,
-        ),
-        holding(
-            "a bucket of 15 bytes",
-            &[Bucket(b"k", &[9; 15])],
-            PageFault::INLINE_PAGE,
-        ),
-        holding(
-            "a bucket, then an empty key",
-            &[Bucket(b"k", ROOT_NINE), Value(b"", b"")],
-            PageFault::INLINE_PAGE,
-        ),
-        InlineRow {
-            name: "a bucket, and after the inline bucket an empty key",
-            after: &[Value(b"", b"")],
-            ..nested
-        },
-        InlineRow {
-            name: "a bucket, and before the inline bucket an empty key",
-            before: &[Value(b"", b"")],
-            want: Some(PageFault::KEY_LENGTH),
-            ..nested
-        },
-        InlineRow {
-            name: "after the inline bucket an empty key",
-            after: &[Value(b"", b"")],
-            want: Some(PageFault::KEY_LENGTH),
-            ..PLAIN
-        },
-        InlineRow {
-            name: "between good elements",
-            before: &[Bucket(b"a", ROOT_NINE), Value(b"aa", b"1")],
-            after: &[Value(b"c", b""), Bucket(b"d", ROOT_NINE)],
-            ..PLAIN
-        },
-    ]
-}
-
 #[test]
 fn nested_buckets(rt: HostRuntime) -> Result<(), Fail> {
-    for row in nested_rows() {
-        check_inline(&rt, rt.alloc(), &row)?;
+    for row in NESTED_ROWS {
+        let file = nested_file(rt.alloc(), &row)?;
+        check_page_three(&rt, row.name, file.as_slice(), row.want);
     }
     Ok(())
 }
+
+/// Patches of a branch page that leads under `a` to page 4 and under `m` to page 5. Its elements'
+/// headers begin at bytes 16 and 32, each of position, key length and child; the data at byte 48.
+const BRANCH_ROWS: [PatchRow<'static>; 14] = [
+    ("as it is", &[], None),
+    ("count 0", &[(10, &[0])], None),
+    ("the greatest child", &[(24, &[0xFF; 8])], None),
+    ("count 63", &[(10, &[63])], Some(PageFault::DATA_ORDER)),
+    ("count 64", &[(10, &[64])], Some(PageFault::ELEMENT_CUT)),
+    ("position 31", &[(16, &[31])], Some(PageFault::DATA_ORDER)),
+    (
+        "the greatest position",
+        &[(16, &[0xFF; 4])],
+        Some(PageFault::ELEMENT_CUT),
+    ),
+    ("key length 0", &[(20, &[0])], Some(PageFault::KEY_LENGTH)),
+    (
+        "key length 2^30 + 1",
+        &[(20, &[1, 0, 0, 0x40])],
+        Some(PageFault::KEY_LENGTH),
+    ),
+    (
+        "key length 2^30",
+        &[(20, &[0, 0, 0, 0x40])],
+        Some(PageFault::ELEMENT_CUT),
+    ),
+    (
+        "second position 16",
+        &[(32, &[16])],
+        Some(PageFault::DATA_ORDER),
+    ),
+    ("second position 18", &[(32, &[18])], None),
+    (
+        "the second key to the page's end",
+        &[(36, &[0xCF, 3])],
+        None,
+    ),
+    (
+        "the second key past the page's end",
+        &[(36, &[0xD0, 3])],
+        Some(PageFault::ELEMENT_CUT),
+    ),
+];
 
 #[test]
 fn branch_elements(rt: HostRuntime) -> Result<(), Fail> {
-    let rows: [(&str, &[Patch<'_>], Option<u8>); 14] = [
-        ("as it is", &[], None),
-        ("count 0", &[(10, &[0])], None),
-        ("the greatest child", &[(24, &[0xFF; 8])], None),
-        ("count 63", &[(10, &[63])], Some(PageFault::DATA_ORDER)),
-        ("count 64", &[(10, &[64])], Some(PageFault::ELEMENT_CUT)),
-        ("position 31", &[(16, &[31])], Some(PageFault::DATA_ORDER)),
-        (
-            "the greatest position",
-            &[(16, &[0xFF; 4])],
-            Some(PageFault::ELEMENT_CUT),
-        ),
-        ("key length 0", &[(20, &[0])], Some(PageFault::KEY_LENGTH)),
-        (
-            "key length 2^30 + 1",
-            &[(20, &[1, 0, 0, 0x40])],
-            Some(PageFault::KEY_LENGTH),
-        ),
-        (
-            "key length 2^30",
-            &[(20, &[0, 0, 0, 0x40])],
-            Some(PageFault::ELEMENT_CUT),
-        ),
-        (
-            "second position 16",
-            &[(32, &[16])],
-            Some(PageFault::DATA_ORDER),
-        ),
-        ("second position 18", &[(32, &[18])], None),
-        (
-            "the second key to the page's end",
-            &[(36, &[0xCF, 3])],
-            None,
-        ),
-        (
-            "the second key past the page's end",
-            &[(36, &[0xD0, 3])],
-            Some(PageFault::ELEMENT_CUT),
-        ),
-    ];
-    for (name, patches, want) in rows {
+    for (name, patches, want) in BRANCH_ROWS {
         let mut page = branch(rt.alloc(), 3, &[(b"a", 4), (b"m", 5)])?;
-        for (at, bytes) in patches {
-            patch(&mut page, *at, bytes)?;
-        }
+        put_patches(&mut page, patches)?;
         let file = with_page_three(rt.alloc(), page.as_slice())?;
-        check_fault(&rt, name, file.as_slice(), &meta_with_mark(4), 3, want);
+        check_page_three(&rt, name, file.as_slice(), want);
     }
     Ok(())
 }
 
+/// Patches of an empty leaf page, and how many of its bytes the file has.
+const CUT_ROWS: [(&str, &[Patch<'static>], usize, Option<u8>); 9] = [
+    (
+        "a header with id 4 alone",
+        &[(0, &[4])],
+        16,
+        Some(PageFault::ID),
+    ),
+    (
+        "a header with flags 3 alone",
+        &[(8, &[3])],
+        16,
+        Some(PageFault::PAGE_KIND),
+    ),
+    (
+        "a header with overflow 1 alone",
+        &[(12, &[1])],
+        16,
+        Some(PageFault::RANGE),
+    ),
+    ("a good header alone", &[], 16, Some(PageFault::CUT)),
+    (
+        "a header less a byte",
+        &[(0, &[4])],
+        15,
+        Some(PageFault::CUT),
+    ),
+    ("nothing of the page", &[], 0, Some(PageFault::CUT)),
+    (
+        "the page less a byte, count 65535",
+        &[(10, &[0xFF, 0xFF])],
+        1023,
+        Some(PageFault::CUT),
+    ),
+    ("the page less a byte", &[], 1023, Some(PageFault::CUT)),
+    ("the whole page", &[], 1024, None),
+];
+
 #[test]
 fn cut_files(rt: HostRuntime) -> Result<(), Fail> {
-    let rows: [(&str, &[Patch<'_>], usize, Option<u8>); 9] = [
-        (
-            "a header with id 4 alone",
-            &[(0, &[4])],
-            16,
-            Some(PageFault::ID),
-        ),
-        (
-            "a header with flags 3 alone",
-            &[(8, &[3])],
-            16,
-            Some(PageFault::PAGE_KIND),
-        ),
-        (
-            "a header with overflow 1 alone",
-            &[(12, &[1])],
-            16,
-            Some(PageFault::RANGE),
-        ),
-        ("a good header alone", &[], 16, Some(PageFault::CUT)),
-        (
-            "a header less a byte",
-            &[(0, &[4])],
-            15,
-            Some(PageFault::CUT),
-        ),
-        ("nothing of the page", &[], 0, Some(PageFault::CUT)),
-        (
-            "the page less a byte, count 65535",
-            &[(10, &[0xFF, 0xFF])],
-            1023,
-            Some(PageFault::CUT),
-        ),
-        ("the page less a byte", &[], 1023, Some(PageFault::CUT)),
-        ("the whole page", &[], 1024, None),
-    ];
-    for (name, patches, held, want) in rows {
+    for (name, patches, held, want) in CUT_ROWS {
         let mut page = leaf(rt.alloc(), 3, &[])?;
-        for (at, bytes) in patches {
-            patch(&mut page, *at, bytes)?;
-        }
+        put_patches(&mut page, patches)?;
         let mut file = with_page_three(rt.alloc(), page.as_slice())?;
         file.truncate(3072 + held);
-        check_fault(&rt, name, file.as_slice(), &meta_with_mark(4), 3, want);
+        check_page_three(&rt, name, file.as_slice(), want);
     }
     Ok(())
 }
+
+/// A page number, a mark and a page size. In 64 bits a product or a sum would lead back into the
+/// file.
+const GREAT_ROWS: [(&str, u64, u64, u32, u8); 9] = [
+    ("the mark itself", 4, 4, 1024, PageFault::RANGE),
+    ("mark 0", 0, 0, 1024, PageFault::RANGE),
+    ("the first page past the file", 4, 5, 1024, PageFault::CUT),
+    (
+        "the greatest id",
+        u64::MAX,
+        u64::MAX,
+        1024,
+        PageFault::RANGE,
+    ),
+    (
+        "the greatest id below a mark",
+        u64::MAX - 1,
+        u64::MAX,
+        1024,
+        PageFault::CUT,
+    ),
+    (
+        "2^54 pages of 2^10 bytes",
+        1 << 54,
+        u64::MAX,
+        1024,
+        PageFault::CUT,
+    ),
+    (
+        "2^54 + 3 pages of 2^10 bytes",
+        (1 << 54) + 3,
+        u64::MAX,
+        1024,
+        PageFault::CUT,
+    ),
+    (
+        "2^48 pages of 2^16 bytes",
+        1 << 48,
+        u64::MAX,
+        65_536,
+        PageFault::CUT,
+    ),
+    (
+        "2^60 pages of 2^16 bytes",
+        1 << 60,
+        u64::MAX,
+        65_536,
+        PageFault::CUT,
+    ),
+];
 
 #[test]
 fn great_numbers(rt: HostRuntime) -> Result<(), Fail> {
     let page = leaf(rt.alloc(), 3, &[])?;
     let file = with_page_three(rt.alloc(), page.as_slice())?;
-    // A page number and a mark; a product or a sum in 64 bits would lead back into the file.
-    let rows = [
-        ("the mark itself", 4, 4, 1024, PageFault::RANGE),
-        ("mark 0", 0, 0, 1024, PageFault::RANGE),
-        ("the first page past the file", 4, 5, 1024, PageFault::CUT),
-        (
-            "the greatest id",
-            u64::MAX,
-            u64::MAX,
-            1024,
-            PageFault::RANGE,
-        ),
-        (
-            "the greatest id below a mark",
-            u64::MAX - 1,
-            u64::MAX,
-            1024,
-            PageFault::CUT,
-        ),
-        (
-            "2^54 pages of 2^10 bytes",
-            1 << 54,
-            u64::MAX,
-            1024,
-            PageFault::CUT,
-        ),
-        (
-            "2^54 + 3 pages of 2^10 bytes",
-            (1 << 54) + 3,
-            u64::MAX,
-            1024,
-            PageFault::CUT,
-        ),
-        (
-            "2^48 pages of 2^16 bytes",
-            1 << 48,
-            u64::MAX,
-            65_536,
-            PageFault::CUT,
-        ),
-        (
-            "2^60 pages of 2^16 bytes",
-            1 << 60,
-            u64::MAX,
-            65_536,
-            PageFault::CUT,
-        ),
-    ];
-    for (name, id, mark, page_size, fault) in rows {
+    for (name, id, mark, page_size, fault) in GREAT_ROWS {
         let meta = Meta {
             page_size,
             ..meta_with_mark(mark)
         };
-        check_fault(&rt, name, file.as_slice(), &meta, id, Some(fault));
-    }
-    let greatest: &[Patch<'_>] = &[(12, &[0xFF; 4])];
-    let spans = [
-        marked(
-            "a span of 2^32 pages under the greatest mark",
-            greatest,
-            u64::MAX,
-            PageFault::CUT,
-        ),
-        marked(
-            "a span that ends below the mark",
-            greatest,
-            0x1_0000_0003,
-            PageFault::CUT,
-        ),
-        marked(
-            "a span that ends at the mark",
-            greatest,
-            0x1_0000_0002,
-            PageFault::RANGE,
-        ),
-    ];
-    for row in &spans {
-        check_leaf(&rt, rt.alloc(), row)?;
+        check_page(&rt, name, file.as_slice(), &meta, id, Some(fault));
     }
     Ok(())
 }
