@@ -25,6 +25,21 @@ fn check(
     check_row(rt, alloc, name, file.as_slice(), (BUCKETS, want))
 }
 
+/// Names of printable bytes alone, which are printed as they are, and others.
+const NAMES: [&[u8]; 9] = [
+    b"\x00",
+    b"\x1f",
+    b" ",
+    b"a\nb",
+    b"a b",
+    b"a~",
+    b"a\x7f",
+    b"\xc3\xa9",
+    b"\xff",
+];
+
+const NAME_LINES: &str = "00\n1f\n \n610a62\na b\na~\n617f\nc3a9\nff\n";
+
 #[test]
 fn names_of_buckets(rt: HostRuntime) -> Result<(), Fail> {
     let alloc = rt.alloc();
@@ -56,6 +71,12 @@ fn names_of_buckets(rt: HostRuntime) -> Result<(), Fail> {
         samples::two_buckets(alloc)?,
         Prints("a\naa\n"),
     )?;
+    Ok(())
+}
+
+#[test]
+fn printed_names(rt: HostRuntime) -> Result<(), Fail> {
+    let alloc = rt.alloc();
     check(
         &rt,
         alloc,
@@ -63,20 +84,14 @@ fn names_of_buckets(rt: HostRuntime) -> Result<(), Fail> {
         samples::names(alloc)?,
         Prints("00\na\n"),
     )?;
-    let names: [&[u8]; 9] = [
-        b"\x00",
-        b"\x1f",
-        b" ",
-        b"a\nb",
-        b"a b",
-        b"a~",
-        b"a\x7f",
-        b"\xc3\xa9",
-        b"\xff",
-    ];
-    let file = samples::empty_buckets(alloc, &names)?;
-    let want = "00\n1f\n \n610a62\na b\na~\n617f\nc3a9\nff\n";
-    check(&rt, alloc, "printable and other names", file, Prints(want))?;
+    let file = samples::empty_buckets(alloc, &NAMES)?;
+    check(
+        &rt,
+        alloc,
+        "printable and other names",
+        file,
+        Prints(NAME_LINES),
+    )?;
     check(
         &rt,
         alloc,
@@ -207,19 +222,29 @@ fn refused_metas(rt: HostRuntime) -> Result<(), Fail> {
     Ok(())
 }
 
+/// Root pages, and the line of each.
+const ROOTS: [(u64, &str); 4] = [
+    (0, "file refused: page 0: invalid type"),
+    (2, "file refused: page 2: invalid type"),
+    (4, "file refused: page 4: out of range"),
+    (
+        u64::MAX,
+        "file refused: page 18446744073709551615: out of range",
+    ),
+];
+
+/// Two keys that don't rise.
+const KEYS: [(&[u8], &[u8]); 4] = [
+    (b"b", b"a"),
+    (b"a", b"a"),
+    (b"aa", b"a"),
+    (b"\xff", b"\x01"),
+];
+
 #[test]
 fn refused_roots(rt: HostRuntime) -> Result<(), Fail> {
     let alloc = rt.alloc();
-    let roots = [
-        (0, "file refused: page 0: invalid type"),
-        (2, "file refused: page 2: invalid type"),
-        (4, "file refused: page 4: out of range"),
-        (
-            u64::MAX,
-            "file refused: page 18446744073709551615: out of range",
-        ),
-    ];
-    for (root, line) in roots {
+    for (root, line) in ROOTS {
         let fields = MetaFields {
             root,
             ..MetaFields::fresh(1024)
@@ -232,13 +257,7 @@ fn refused_roots(rt: HostRuntime) -> Result<(), Fail> {
             Fails(line),
         )?;
     }
-    let keys: [(&[u8], &[u8]); 4] = [
-        (b"b", b"a"),
-        (b"a", b"a"),
-        (b"aa", b"a"),
-        (b"\xff", b"\x01"),
-    ];
-    for (first, second) in keys {
+    for (first, second) in KEYS {
         let elements = [Value(first, b"1"), Value(second, b"2")];
         let file = samples::with_root(alloc, &MetaFields::fresh(1024), &elements)?;
         let want = Fails("file refused: page 3: keys not rising");

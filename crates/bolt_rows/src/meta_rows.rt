@@ -147,37 +147,7 @@ fn pair() -> ChoiceRow<'static> {
     }
 }
 
-fn with_txids(name: &'static str, zero: u64, one: u64, want: Slot) -> ChoiceRow<'static> {
-    let pair = pair();
-    ChoiceRow {
-        name,
-        zero: MetaFields {
-            txid: zero,
-            ..pair.zero
-        },
-        one: MetaFields {
-            txid: one,
-            ..pair.one
-        },
-        want: Ok(want),
-        ..pair
-    }
-}
-
-fn with_flips(
-    name: &'static str,
-    flips: &'static [usize],
-    want: Result<Slot, MetaFault>,
-) -> ChoiceRow<'static> {
-    ChoiceRow {
-        name,
-        flips,
-        want,
-        ..pair()
-    }
-}
-
-fn with_page_size(page_size: u32, want: Result<Slot, MetaFault>) -> ChoiceRow<'static> {
+fn with_page_size(page_size: u32) -> ChoiceRow<'static> {
     let pair = pair();
     ChoiceRow {
         name: "a page size that is refused",
@@ -189,7 +159,7 @@ fn with_page_size(page_size: u32, want: Result<Slot, MetaFault>) -> ChoiceRow<'s
             page_size,
             ..pair.one
         },
-        want,
+        want: Err(MetaFault::PageSize),
         ..pair
     }
 }
@@ -210,70 +180,99 @@ fn check_choice(rt: &impl Abort, alloc: Global, row: &ChoiceRow<'_>) -> Result<(
     Ok(())
 }
 
+/// The transactions of the two metas, and which is chosen.
+const TXID_ROWS: [(&str, u64, u64, Slot); 5] = [
+    ("a newer first", 2, 1, Slot::Zero),
+    ("equal transactions", 5, 5, Slot::Zero),
+    ("a newer second", 1, 2, Slot::One),
+    (
+        "the greatest transaction",
+        u64::MAX - 1,
+        u64::MAX,
+        Slot::One,
+    ),
+    (
+        "transactions that differ in the highest byte",
+        1 << 56,
+        255,
+        Slot::Zero,
+    ),
+];
+
+/// Where the lowest bit of a byte of the pair is changed, and what is chosen then.
+const FLIP_ROWS: [(&str, &[usize], Result<Slot, MetaFault>); 9] = [
+    (
+        "a bit of the first checksum",
+        &[ZERO_CHECKSUM],
+        Ok(Slot::One),
+    ),
+    (
+        "a bit of the second checksum",
+        &[ONE_CHECKSUM],
+        Ok(Slot::Zero),
+    ),
+    ("a bit of the first root", &[48], Ok(Slot::One)),
+    (
+        "a bit of each page header",
+        &[0, 8, 15, 1024, 1032],
+        Ok(Slot::Zero),
+    ),
+    (
+        "a bit of each checksum",
+        &[ZERO_CHECKSUM, ONE_CHECKSUM],
+        Err(MetaFault::Sum),
+    ),
+    (
+        "the first version, the second checksum",
+        &[20, ONE_CHECKSUM],
+        Err(MetaFault::Version),
+    ),
+    (
+        "the first magic number and version",
+        &[16, 20, ONE_CHECKSUM],
+        Err(MetaFault::Magic),
+    ),
+    (
+        "the first checksum, the second magic number",
+        &[ZERO_CHECKSUM, 1040],
+        Err(MetaFault::Sum),
+    ),
+    ("the second magic number", &[1040], Ok(Slot::Zero)),
+];
+
 #[test]
 fn choice_of_two(rt: HostRuntime) -> Result<(), Fail> {
-    let rows = [
-        pair(),
-        with_txids("equal transactions", 5, 5, Slot::Zero),
-        with_txids("a newer second", 1, 2, Slot::One),
-        with_txids(
-            "the greatest transaction",
-            u64::MAX - 1,
-            u64::MAX,
-            Slot::One,
-        ),
-        with_txids(
-            "transactions that differ in the highest byte",
-            1 << 56,
-            255,
-            Slot::Zero,
-        ),
-        with_flips(
-            "a bit of the first checksum",
-            &[ZERO_CHECKSUM],
-            Ok(Slot::One),
-        ),
-        with_flips(
-            "a bit of the second checksum",
-            &[ONE_CHECKSUM],
-            Ok(Slot::Zero),
-        ),
-        with_flips("a bit of the first root", &[48], Ok(Slot::One)),
-        with_flips(
-            "a bit of each page header",
-            &[0, 8, 15, 1024, 1032],
-            Ok(Slot::Zero),
-        ),
-        with_flips(
-            "a bit of each checksum",
-            &[ZERO_CHECKSUM, ONE_CHECKSUM],
-            Err(MetaFault::Sum),
-        ),
-        with_flips(
-            "the first version, the second checksum",
-            &[20, ONE_CHECKSUM],
-            Err(MetaFault::Version),
-        ),
-        with_flips(
-            "the first magic number and version, the second checksum",
-            &[16, 20, ONE_CHECKSUM],
-            Err(MetaFault::Magic),
-        ),
-        with_flips(
-            "the first checksum, the second magic number",
-            &[ZERO_CHECKSUM, 1040],
-            Err(MetaFault::Sum),
-        ),
-    ];
-    for row in &rows {
-        check_choice(&rt, rt.alloc(), row)?;
+    let base = pair();
+    for (name, first, second, slot) in TXID_ROWS {
+        let zero = MetaFields {
+            txid: first,
+            ..base.zero
+        };
+        let one = MetaFields {
+            txid: second,
+            ..base.one
+        };
+        let want = Ok(slot);
+        let row = ChoiceRow {
+            name,
+            zero,
+            one,
+            want,
+            ..base
+        };
+        check_choice(&rt, rt.alloc(), &row)?;
+    }
+    for (name, flips, want) in FLIP_ROWS {
+        let row = ChoiceRow {
+            name,
+            flips,
+            want,
+            ..base
+        };
+        check_choice(&rt, rt.alloc(), &row)?;
     }
     for size in [0, 512, 1000, 1536, 131_072, 67_108_864, 1 << 31] {
-        check_choice(
-            &rt,
-            rt.alloc(),
-            &with_page_size(size, Err(MetaFault::PageSize)),
-        )?;
+        check_choice(&rt, rt.alloc(), &with_page_size(size))?;
     }
     Ok(())
 }
@@ -306,6 +305,14 @@ fn choice_by_fields(rt: HostRuntime) -> Result<(), Fail> {
         },
         ..pair
     };
+    check_choice(&rt, rt.alloc(), &old_version)?;
+    check_choice(&rt, rt.alloc(), &flagged)?;
+    Ok(())
+}
+
+#[test]
+fn misplaced_metas(rt: HostRuntime) -> Result<(), Fail> {
+    let pair = pair();
     // The second meta is looked for at 2048 alone, where there is none.
     let elsewhere = ChoiceRow {
         name: "a newer second where the first doesn't look",
@@ -335,7 +342,7 @@ fn choice_by_fields(rt: HostRuntime) -> Result<(), Fail> {
         want: Err(MetaFault::Sum),
         ..misplaced
     };
-    for row in [old_version, flagged, elsewhere, misplaced, lone_misplaced] {
+    for row in [elsewhere, misplaced, lone_misplaced] {
         check_choice(&rt, rt.alloc(), &row)?;
     }
     Ok(())

@@ -22,6 +22,10 @@ const PAGE_TWO: &[&str] = &["page", "FILE", "2"];
 
 const PAGE_THREE: &[&str] = &["page", "FILE", "3"];
 
+/// What `info` prints of the fresh file.
+const FRESH_INFO: &str =
+    "page size 4096\nmeta 1\ntxid 1\nroot 3\nsequence 0\nfreelist 2\nhigh water 4\n";
+
 fn check_info(
     rt: &impl Abort,
     alloc: Global,
@@ -45,7 +49,7 @@ fn check_page_three(
 #[test]
 fn infos(rt: HostRuntime) -> Result<(), Fail> {
     let alloc = rt.alloc();
-    let fresh = "page size 4096\nmeta 1\ntxid 1\nroot 3\nsequence 0\nfreelist 2\nhigh water 4\n";
+    let fresh = FRESH_INFO;
     check_info(
         &rt,
         alloc,
@@ -71,6 +75,13 @@ fn infos(rt: HostRuntime) -> Result<(), Fail> {
         samples::no_freelist(alloc)?,
         Prints(none),
     )?;
+    Ok(())
+}
+
+#[test]
+fn infos_of_broken_files(rt: HostRuntime) -> Result<(), Fail> {
+    let alloc = rt.alloc();
+    let fresh = FRESH_INFO;
     let second = "page size 1024\nmeta 1\ntxid 1\nroot 3\nsequence 0\nfreelist 2\nhigh water 4\n";
     let file = samples::without_first_meta(alloc)?;
     check_info(&rt, alloc, "no first meta", file, Prints(second))?;
