@@ -104,7 +104,7 @@ pub fn leaf_file(alloc: Global, mark: u64, patches: &[Patch<'_>]) -> Result<Vec<
 }
 
 /// Patches of that leaf's page header.
-pub const HEADER_ROWS: [PatchRow<'static>; 15] = [
+pub static HEADER_ROWS: [PatchRow<'static>; 15] = [
     ("as it is", &[], None),
     ("header id 4", &[(0, &[4])], Some(PageFault::ID)),
     (
@@ -147,7 +147,7 @@ pub const HEADER_ROWS: [PatchRow<'static>; 15] = [
 ];
 
 /// Patches of its first element, whose header begins at byte 16.
-pub const FIRST_ELEMENT_ROWS: [PatchRow<'static>; 19] = [
+pub static FIRST_ELEMENT_ROWS: [PatchRow<'static>; 19] = [
     ("flags 2", &[(16, &[2])], Some(PageFault::LEAF_FLAGS)),
     ("flags 0x100", &[(17, &[1])], Some(PageFault::LEAF_FLAGS)),
     ("flags 1", &[(16, &[1])], Some(PageFault::BUCKET_SHORT)),
@@ -222,7 +222,7 @@ pub const FIRST_ELEMENT_ROWS: [PatchRow<'static>; 19] = [
 ];
 
 /// Patches of its second element, whose header begins at byte 32.
-pub const SECOND_ELEMENT_ROWS: [PatchRow<'static>; 13] = [
+pub static SECOND_ELEMENT_ROWS: [PatchRow<'static>; 13] = [
     ("position 17", &[(36, &[17])], Some(PageFault::DATA_ORDER)),
     (
         "position 19, its data moved with it",
@@ -263,7 +263,7 @@ pub const SECOND_ELEMENT_ROWS: [PatchRow<'static>; 13] = [
 ];
 
 /// High-water marks, and patches of its header under them.
-pub const MARKED_ROWS: [(u64, PatchRow<'static>); 6] = [
+pub static MARKED_ROWS: [(u64, PatchRow<'static>); 6] = [
     (
         5,
         ("overflow 1, mark 5", &[(12, &[1])], Some(PageFault::CUT)),
@@ -303,9 +303,9 @@ fn check_leaf(
     rt: &impl Abort,
     alloc: Global,
     mark: u64,
-    row: PatchRow<'_>,
+    row: &PatchRow<'_>,
 ) -> Result<(), AllocError> {
-    let (name, patches, want) = row;
+    let (name, patches, want) = *row;
     let file = leaf_file(alloc, mark, patches)?;
     check_page(rt, name, file.as_slice(), &meta_with_mark(mark), 3, want);
     Ok(())
@@ -313,17 +313,17 @@ fn check_leaf(
 
 #[test]
 fn leaf_pages(rt: HostRuntime) -> Result<(), Fail> {
-    for row in HEADER_ROWS {
+    for row in &HEADER_ROWS {
         check_leaf(&rt, rt.alloc(), 4, row)?;
     }
-    for row in FIRST_ELEMENT_ROWS {
+    for row in &FIRST_ELEMENT_ROWS {
         check_leaf(&rt, rt.alloc(), 4, row)?;
     }
-    for row in SECOND_ELEMENT_ROWS {
+    for row in &SECOND_ELEMENT_ROWS {
         check_leaf(&rt, rt.alloc(), 4, row)?;
     }
-    for (mark, row) in MARKED_ROWS {
-        check_leaf(&rt, rt.alloc(), mark, row)?;
+    for (mark, row) in &MARKED_ROWS {
+        check_leaf(&rt, rt.alloc(), *mark, row)?;
     }
     Ok(())
 }
@@ -334,7 +334,7 @@ const ROOT_NINE: &[u8] = &[9, 0, 0, 0, 0, 0, 0, 0, 0, 0, 0, 0, 0, 0, 0, 0];
 const ROOT_ZERO: &[u8] = &[0; 16];
 
 /// What the element of a bucket stores, and the fault of its page.
-const BUCKET_ROWS: [(&str, &[u8], Option<u8>); 7] = [
+pub static BUCKET_ROWS: [(&'static str, &'static [u8], Option<u8>); 7] = [
     ("no bytes", b"", Some(PageFault::BUCKET_SHORT)),
     ("15 bytes", &[9; 15], Some(PageFault::BUCKET_SHORT)),
     ("16 bytes with a root", ROOT_NINE, None),
@@ -356,12 +356,17 @@ const BUCKET_ROWS: [(&str, &[u8], Option<u8>); 7] = [
     ),
 ];
 
+/// A file whose page 3 holds one bucket that stores these bytes.
+pub fn bucket_file(alloc: Global, stored: &[u8]) -> Result<Vec<u8>, AllocError> {
+    let page = leaf(alloc, 3, &[Bucket(b"b", stored)])?;
+    with_page_three(alloc, page.as_slice())
+}
+
 #[test]
 fn bucket_values(rt: HostRuntime) -> Result<(), Fail> {
-    for (name, stored, want) in BUCKET_ROWS {
-        let page = leaf(rt.alloc(), 3, &[Bucket(b"b", stored)])?;
-        let file = with_page_three(rt.alloc(), page.as_slice())?;
-        check_page_three(&rt, name, file.as_slice(), want);
+    for (name, stored, want) in &BUCKET_ROWS {
+        let file = bucket_file(rt.alloc(), stored)?;
+        check_page_three(&rt, name, file.as_slice(), *want);
     }
     Ok(())
 }
@@ -376,7 +381,7 @@ pub fn inline_file(alloc: Global, patches: &[Patch<'_>]) -> Result<Vec<u8>, Allo
 }
 
 /// Patches of that bucket.
-pub const INLINE_ROWS: [PatchRow<'static>; 18] = [
+pub static INLINE_ROWS: [PatchRow<'static>; 18] = [
     ("as it is", &[], None),
     (
         "another id and overflow in its header",
@@ -423,9 +428,9 @@ pub const INLINE_ROWS: [PatchRow<'static>; 18] = [
 
 #[test]
 fn inline_pages(rt: HostRuntime) -> Result<(), Fail> {
-    for (name, patches, want) in INLINE_ROWS {
+    for (name, patches, want) in &INLINE_ROWS {
         let file = inline_file(rt.alloc(), patches)?;
-        check_page_three(&rt, name, file.as_slice(), want);
+        check_page_three(&rt, name, file.as_slice(), *want);
     }
     Ok(())
 }
@@ -441,7 +446,7 @@ pub struct NestedRow<'a> {
 }
 
 /// Buckets in an inline bucket, and broken elements beside it.
-pub const NESTED_ROWS: [NestedRow<'static>; 9] = [
+pub static NESTED_ROWS: [NestedRow<'static>; 9] = [
     NestedRow {
         name: "a bucket",
         before: &[],
@@ -519,8 +524,8 @@ pub fn nested_file(alloc: Global, row: &NestedRow<'_>) -> Result<Vec<u8>, AllocE
 
 #[test]
 fn nested_buckets(rt: HostRuntime) -> Result<(), Fail> {
-    for row in NESTED_ROWS {
-        let file = nested_file(rt.alloc(), &row)?;
+    for row in &NESTED_ROWS {
+        let file = nested_file(rt.alloc(), row)?;
         check_page_three(&rt, row.name, file.as_slice(), row.want);
     }
     Ok(())
@@ -528,7 +533,7 @@ fn nested_buckets(rt: HostRuntime) -> Result<(), Fail> {
 
 /// Patches of a branch page that leads under `a` to page 4 and under `m` to page 5. Its elements'
 /// headers begin at bytes 16 and 32, each of position, key length and child; the data at byte 48.
-const BRANCH_ROWS: [PatchRow<'static>; 14] = [
+static BRANCH_ROWS: [PatchRow<'static>; 14] = [
     ("as it is", &[], None),
     ("count 0", &[(10, &[0])], None),
     ("the greatest child", &[(24, &[0xFF; 8])], None),
@@ -571,17 +576,17 @@ const BRANCH_ROWS: [PatchRow<'static>; 14] = [
 
 #[test]
 fn branch_elements(rt: HostRuntime) -> Result<(), Fail> {
-    for (name, patches, want) in BRANCH_ROWS {
+    for (name, patches, want) in &BRANCH_ROWS {
         let mut page = branch(rt.alloc(), 3, &[(b"a", 4), (b"m", 5)])?;
         put_patches(&mut page, patches)?;
         let file = with_page_three(rt.alloc(), page.as_slice())?;
-        check_page_three(&rt, name, file.as_slice(), want);
+        check_page_three(&rt, name, file.as_slice(), *want);
     }
     Ok(())
 }
 
 /// Patches of an empty leaf page, and how many of its bytes the file has.
-const CUT_ROWS: [(&str, &[Patch<'static>], usize, Option<u8>); 9] = [
+static CUT_ROWS: [(&'static str, &'static [Patch<'static>], usize, Option<u8>); 9] = [
     (
         "a header with id 4 alone",
         &[(0, &[4])],
@@ -620,19 +625,19 @@ const CUT_ROWS: [(&str, &[Patch<'static>], usize, Option<u8>); 9] = [
 
 #[test]
 fn cut_files(rt: HostRuntime) -> Result<(), Fail> {
-    for (name, patches, held, want) in CUT_ROWS {
+    for (name, patches, held, want) in &CUT_ROWS {
         let mut page = leaf(rt.alloc(), 3, &[])?;
         put_patches(&mut page, patches)?;
         let mut file = with_page_three(rt.alloc(), page.as_slice())?;
-        file.truncate(3072 + held);
-        check_page_three(&rt, name, file.as_slice(), want);
+        file.truncate(held.saturating_add(3072));
+        check_page_three(&rt, name, file.as_slice(), *want);
     }
     Ok(())
 }
 
 /// A page number, a mark and a page size. In 64 bits a product or a sum would lead back into the
 /// file.
-const GREAT_ROWS: [(&str, u64, u64, u32, u8); 9] = [
+static GREAT_ROWS: [(&'static str, u64, u64, u32, u8); 9] = [
     ("the mark itself", 4, 4, 1024, PageFault::RANGE),
     ("mark 0", 0, 0, 1024, PageFault::RANGE),
     ("the first page past the file", 4, 5, 1024, PageFault::CUT),
@@ -684,12 +689,12 @@ const GREAT_ROWS: [(&str, u64, u64, u32, u8); 9] = [
 fn great_numbers(rt: HostRuntime) -> Result<(), Fail> {
     let page = leaf(rt.alloc(), 3, &[])?;
     let file = with_page_three(rt.alloc(), page.as_slice())?;
-    for (name, id, mark, page_size, fault) in GREAT_ROWS {
+    for (name, id, mark, page_size, fault) in &GREAT_ROWS {
         let meta = Meta {
-            page_size,
-            ..meta_with_mark(mark)
+            page_size: *page_size,
+            ..meta_with_mark(*mark)
         };
-        check_page(&rt, name, file.as_slice(), &meta, id, Some(fault));
+        check_page(&rt, name, file.as_slice(), &meta, *id, Some(*fault));
     }
     Ok(())
 }

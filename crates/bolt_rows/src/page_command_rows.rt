@@ -2,8 +2,8 @@
 
 use crate::commands::{Outcome, Row, check_row, check_rows};
 use crate::fault_rows::{
-    FIRST_ELEMENT_ROWS, HEADER_ROWS, INLINE_ROWS, MARKED_ROWS, NESTED_ROWS, SECOND_ELEMENT_ROWS,
-    fault_text, inline_file, leaf_file, nested_file,
+    BUCKET_ROWS, FIRST_ELEMENT_ROWS, HEADER_ROWS, INLINE_ROWS, MARKED_ROWS, NESTED_ROWS,
+    SECOND_ELEMENT_ROWS, bucket_file, fault_text, inline_file, leaf_file, nested_file,
 };
 use crate::maker::{
     BRANCH_FLAGS, Element, LEAF_FLAGS, MetaFields, PageHeader, branch_with, database, database_of,
@@ -362,17 +362,17 @@ fn check_refused(
 #[test]
 fn refused_leaves(rt: HostRuntime) -> Result<(), Fail> {
     let alloc = rt.alloc();
-    for (name, patches, want) in HEADER_ROWS {
-        check_refused(&rt, alloc, name, leaf_file(alloc, 4, patches)?, want)?;
+    for (name, patches, want) in &HEADER_ROWS {
+        check_refused(&rt, alloc, name, leaf_file(alloc, 4, patches)?, *want)?;
     }
-    for (name, patches, want) in FIRST_ELEMENT_ROWS {
-        check_refused(&rt, alloc, name, leaf_file(alloc, 4, patches)?, want)?;
+    for (name, patches, want) in &FIRST_ELEMENT_ROWS {
+        check_refused(&rt, alloc, name, leaf_file(alloc, 4, patches)?, *want)?;
     }
-    for (name, patches, want) in SECOND_ELEMENT_ROWS {
-        check_refused(&rt, alloc, name, leaf_file(alloc, 4, patches)?, want)?;
+    for (name, patches, want) in &SECOND_ELEMENT_ROWS {
+        check_refused(&rt, alloc, name, leaf_file(alloc, 4, patches)?, *want)?;
     }
-    for (mark, (name, patches, want)) in MARKED_ROWS {
-        check_refused(&rt, alloc, name, leaf_file(alloc, mark, patches)?, want)?;
+    for (mark, (name, patches, want)) in &MARKED_ROWS {
+        check_refused(&rt, alloc, name, leaf_file(alloc, *mark, patches)?, *want)?;
     }
     let want = Some(6);
     check_refused(
@@ -388,11 +388,14 @@ fn refused_leaves(rt: HostRuntime) -> Result<(), Fail> {
 #[test]
 fn refused_buckets(rt: HostRuntime) -> Result<(), Fail> {
     let alloc = rt.alloc();
-    for (name, patches, want) in INLINE_ROWS {
-        check_refused(&rt, alloc, name, inline_file(alloc, patches)?, want)?;
+    for (name, patches, want) in &INLINE_ROWS {
+        check_refused(&rt, alloc, name, inline_file(alloc, patches)?, *want)?;
     }
-    for row in NESTED_ROWS {
-        check_refused(&rt, alloc, row.name, nested_file(alloc, &row)?, row.want)?;
+    for (name, stored, want) in &BUCKET_ROWS {
+        check_refused(&rt, alloc, name, bucket_file(alloc, stored)?, *want)?;
+    }
+    for row in &NESTED_ROWS {
+        check_refused(&rt, alloc, row.name, nested_file(alloc, row)?, row.want)?;
     }
     Ok(())
 }
