@@ -1,0 +1,24 @@
+//! Tests that cross the crates: a maker of small files, and worked rows of what the crates answer
+//! on them. The crate has nothing beside its tests.
+#![tactic(auto)]
+
+#[cfg(test)]
+mod bucket_command_rows;
+#[cfg(test)]
+mod commands;
+#[cfg(test)]
+mod fault_rows;
+#[cfg(test)]
+mod free_rows;
+#[cfg(test)]
+mod maker;
+#[cfg(test)]
+mod meta_rows;
+#[cfg(test)]
+mod page_command_rows;
+#[cfg(test)]
+mod read_rows;
+#[cfg(test)]
+mod samples;
+#[cfg(test)]
+mod sink_rows;

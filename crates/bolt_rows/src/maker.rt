@@ -1,0 +1,352 @@
+//! A maker of bbolt files for tests. It places pages exactly as a test lists them: page numbers,
+//! counts and lengths are the caller's, and nothing here decides a layout. It shares no code with
+//! the crates that are tested.
+
+use std::alloc::{AllocError, Global};
+
+pub const BRANCH_FLAGS: u16 = 0x01;
+
+pub const LEAF_FLAGS: u16 = 0x02;
+
+pub const META_FLAGS: u16 = 0x04;
+
+pub const FREELIST_FLAGS: u16 = 0x10;
+
+/// The freelist field of a meta where no freelist was written.
+pub const NO_FREELIST: u64 = u64::MAX;
+
+/// The count of a freelist page in the long form.
+pub const LONG_COUNT: u16 = 0xFFFF;
+
+const ELEMENT_LEN: u32 = 16;
+
+/// The header of a page.
+#[derive(Clone, Copy)]
+pub struct PageHeader {
+    pub id: u64,
+    pub flags: u16,
+    pub count: u16,
+    pub overflow: u32,
+}
+
+impl PageHeader {
+    /// The header of a page without overflow.
+    pub fn of(id: u64, flags: u16, count: usize) -> Self {
+        PageHeader {
+            id,
+            flags,
+            count: u16::try_from(count).unwrap_or(u16::MAX),
+            overflow: 0,
+        }
+    }
+
+    fn write(self, page: &mut Vec<u8>) -> Result<(), AllocError> {
+        page.extend_from_slice(&self.id.to_le_bytes())?;
+        page.extend_from_slice(&self.flags.to_le_bytes())?;
+        page.extend_from_slice(&self.count.to_le_bytes())?;
+        page.extend_from_slice(&self.overflow.to_le_bytes())?;
+        Ok(())
+    }
+}
+
+/// An element of a leaf page: a key, and then its value or what a bucket's element stores.
+#[derive(Clone, Copy)]
+pub enum Element<'a> {
+    Value(&'a [u8], &'a [u8]),
+    Bucket(&'a [u8], &'a [u8]),
+}
+
+impl<'a> Element<'a> {
+    /// A value under a key, as `Value` makes it, beside elements that live shorter than its texts.
+    pub fn of_value(key: &'a [u8], value: &'a [u8]) -> Self {
+        Element::Value(key, value)
+    }
+
+    fn flags(self) -> u32 {
+        match self {
+            Element::Value(_, _) => 0,
+            Element::Bucket(_, _) => 1,
+        }
+    }
+
+    fn key(self) -> &'a [u8] {
+        match self {
+            Element::Value(key, _) => key,
+            Element::Bucket(key, _) => key,
+        }
+    }
+
+    fn stored(self) -> &'a [u8] {
+        match self {
+            Element::Value(_, value) => value,
+            Element::Bucket(_, value) => value,
+        }
+    }
+}
+
+/// What a meta record says.
+#[derive(Clone, Copy)]
+pub struct MetaFields {
+    pub magic: u32,
+    pub version: u32,
+    pub page_size: u32,
+    pub flags: u32,
+    pub root: u64,
+    pub sequence: u64,
+    pub freelist: u64,
+    pub mark: u64,
+    pub txid: u64,
+}
+
+impl MetaFields {
+    /// Those of a fresh file: root 3, an empty freelist at page 2, and four pages.
+    pub fn fresh(page_size: u32) -> Self {
+        MetaFields {
+            magic: 0xED0C_DAED,
+            version: 2,
+            page_size,
+            flags: 0,
+            root: 3,
+            sequence: 0,
+            freelist: 2,
+            mark: 4,
+            txid: 0,
+        }
+    }
+
+    fn write(&self, record: &mut Vec<u8>) -> Result<(), AllocError> {
+        record.extend_from_slice(&self.magic.to_le_bytes())?;
+        record.extend_from_slice(&self.version.to_le_bytes())?;
+        record.extend_from_slice(&self.page_size.to_le_bytes())?;
+        record.extend_from_slice(&self.flags.to_le_bytes())?;
+        record.extend_from_slice(&self.root.to_le_bytes())?;
+        record.extend_from_slice(&self.sequence.to_le_bytes())?;
+        record.extend_from_slice(&self.freelist.to_le_bytes())?;
+        record.extend_from_slice(&self.mark.to_le_bytes())?;
+        record.extend_from_slice(&self.txid.to_le_bytes())?;
+        Ok(())
+    }
+}
+
+/// FNV-1a of 64 bits.
+fn checksum(record: &[u8]) -> u64 {
+    let mut state: u64 = 14_695_981_039_346_656_037;
+    for byte in record {
+        state ^= u64::from(*byte);
+        state = state.wrapping_mul(1_099_511_628_211);
+    }
+    state
+}
+
+/// A meta page up to the end of its record.
+pub fn meta_page(alloc: Global, id: u64, fields: &MetaFields) -> Result<Vec<u8>, AllocError> {
+    let mut record = Vec::new(alloc);
+    fields.write(&mut record)?;
+    let mut page = Vec::new(alloc);
+    PageHeader::of(id, META_FLAGS, 0).write(&mut page)?;
+    page.extend_from_slice(record.as_slice())?;
+    page.extend_from_slice(&checksum(record.as_slice()).to_le_bytes())?;
+    Ok(page)
+}
+
+fn narrow(length: usize) -> u32 {
+    u32::try_from(length).unwrap_or(u32::MAX)
+}
+
+fn add_zeros(bytes: &mut Vec<u8>, count: usize) -> Result<(), AllocError> {
+    for _ in 0..count {
+        bytes.push(0)?;
+    }
+    Ok(())
+}
+
+/// A leaf page up to the end of its data, which is packed.
+pub fn leaf(alloc: Global, id: u64, elements: &[Element<'_>]) -> Result<Vec<u8>, AllocError> {
+    let header = PageHeader::of(id, LEAF_FLAGS, elements.len());
+    leaf_with(alloc, header, elements, &[])
+}
+
+/// A leaf page under a given header, with this many zeros before the data of each element; none
+/// where the list of gaps ends.
+pub fn leaf_with(
+    alloc: Global,
+    header: PageHeader,
+    elements: &[Element<'_>],
+    gaps: &[usize],
+) -> Result<Vec<u8>, AllocError> {
+    let mut page = Vec::new(alloc);
+    header.write(&mut page)?;
+    let mut data = Vec::new(alloc);
+    let mut table_left = ELEMENT_LEN.saturating_mul(narrow(elements.len()));
+    for (i, element) in elements.iter().enumerate() {
+        add_zeros(&mut data, gaps.get(i).copied().unwrap_or(0))?;
+        let position = table_left.saturating_add(narrow(data.len()));
+        page.extend_from_slice(&element.flags().to_le_bytes())?;
+        page.extend_from_slice(&position.to_le_bytes())?;
+        page.extend_from_slice(&narrow(element.key().len()).to_le_bytes())?;
+        page.extend_from_slice(&narrow(element.stored().len()).to_le_bytes())?;
+        data.extend_from_slice(element.key())?;
+        data.extend_from_slice(element.stored())?;
+        table_left = table_left.saturating_sub(ELEMENT_LEN);
+    }
+    page.extend_from_slice(data.as_slice())?;
+    Ok(page)
+}
+
+/// A branch page of keys and child pages, up to the end of its data, which is packed.
+pub fn branch(alloc: Global, id: u64, children: &[(&[u8], u64)]) -> Result<Vec<u8>, AllocError> {
+    let header = PageHeader::of(id, BRANCH_FLAGS, children.len());
+    branch_with(alloc, header, children, &[])
+}
+
+/// A branch page under a given header, with gaps as in `leaf_with`.
+pub fn branch_with(
+    alloc: Global,
+    header: PageHeader,
+    children: &[(&[u8], u64)],
+    gaps: &[usize],
+) -> Result<Vec<u8>, AllocError> {
+    let mut page = Vec::new(alloc);
+    header.write(&mut page)?;
+    let mut data = Vec::new(alloc);
+    let mut table_left = ELEMENT_LEN.saturating_mul(narrow(children.len()));
+    for (i, (key, child)) in children.iter().enumerate() {
+        add_zeros(&mut data, gaps.get(i).copied().unwrap_or(0))?;
+        let position = table_left.saturating_add(narrow(data.len()));
+        page.extend_from_slice(&position.to_le_bytes())?;
+        page.extend_from_slice(&narrow(key.len()).to_le_bytes())?;
+        page.extend_from_slice(&child.to_le_bytes())?;
+        data.extend_from_slice(key)?;
+        table_left = table_left.saturating_sub(ELEMENT_LEN);
+    }
+    page.extend_from_slice(data.as_slice())?;
+    Ok(page)
+}
+
+/// What the element of a bucket with a root page stores.
+pub fn reference(alloc: Global, root: u64, sequence: u64) -> Result<Vec<u8>, AllocError> {
+    let mut stored = Vec::new(alloc);
+    stored.extend_from_slice(&root.to_le_bytes())?;
+    stored.extend_from_slice(&sequence.to_le_bytes())?;
+    Ok(stored)
+}
+
+/// What the element of an inline bucket stores.
+pub fn inline(
+    alloc: Global,
+    sequence: u64,
+    elements: &[Element<'_>],
+) -> Result<Vec<u8>, AllocError> {
+    let mut stored = reference(alloc, 0, sequence)?;
+    let page = leaf(alloc, 0, elements)?;
+    stored.extend_from_slice(page.as_slice())?;
+    Ok(stored)
+}
+
+/// A freelist page in the short form.
+pub fn freelist(alloc: Global, id: u64, free: &[u64]) -> Result<Vec<u8>, AllocError> {
+    let mut page = Vec::new(alloc);
+    PageHeader::of(id, FREELIST_FLAGS, free.len()).write(&mut page)?;
+    add_ids(&mut page, free)?;
+    Ok(page)
+}
+
+/// A freelist page in the long form, which tells this number of ids.
+pub fn long_freelist(
+    alloc: Global,
+    id: u64,
+    overflow: u32,
+    told: u64,
+    free: &[u64],
+) -> Result<Vec<u8>, AllocError> {
+    let mut page = Vec::new(alloc);
+    let header = PageHeader {
+        id,
+        flags: FREELIST_FLAGS,
+        count: LONG_COUNT,
+        overflow,
+    };
+    header.write(&mut page)?;
+    page.extend_from_slice(&told.to_le_bytes())?;
+    add_ids(&mut page, free)?;
+    Ok(page)
+}
+
+fn add_ids(page: &mut Vec<u8>, free: &[u64]) -> Result<(), AllocError> {
+    for id in free {
+        page.extend_from_slice(&id.to_le_bytes())?;
+    }
+    Ok(())
+}
+
+/// A file of this many zeros, with bytes at the pages that are listed.
+pub fn file(
+    alloc: Global,
+    page_size: usize,
+    length: usize,
+    pages: &[(usize, &[u8])],
+) -> Result<Vec<u8>, AllocError> {
+    let mut bytes = vec![in alloc; 0; length]?;
+    for (number, page) in pages {
+        patch(&mut bytes, number.saturating_mul(page_size), page)?;
+    }
+    Ok(bytes)
+}
+
+/// A file of this many pages: the given metas at pages 0 and 1, an empty freelist at page 2, and
+/// then what the list places, which may stand over those.
+pub fn database_of(
+    alloc: Global,
+    page_size: usize,
+    pages_held: usize,
+    metas: [&MetaFields; 2],
+    pages: &[(usize, &[u8])],
+) -> Result<Vec<u8>, AllocError> {
+    let [zero, one] = metas;
+    let first = meta_page(alloc, 0, zero)?;
+    let second = meta_page(alloc, 1, one)?;
+    let free = freelist(alloc, 2, &[])?;
+    let common = [
+        (0, first.as_slice()),
+        (1, second.as_slice()),
+        (2, free.as_slice()),
+    ];
+    let length = page_size.saturating_mul(pages_held);
+    let mut bytes = file(alloc, page_size, length, &common)?;
+    for (number, page) in pages {
+        patch(&mut bytes, number.saturating_mul(page_size), page)?;
+    }
+    Ok(bytes)
+}
+
+/// The same with two metas that are alike but for the transactions 0 and 1, at their page size.
+pub fn database(
+    alloc: Global,
+    pages_held: usize,
+    fields: &MetaFields,
+    pages: &[(usize, &[u8])],
+) -> Result<Vec<u8>, AllocError> {
+    let zero = MetaFields { txid: 0, ..*fields };
+    let one = MetaFields { txid: 1, ..*fields };
+    let page_size = fields.page_size as usize;
+    database_of(alloc, page_size, pages_held, [&zero, &one], pages)
+}
+
+/// Puts bytes over those at a place. A file that ends before them is made longer.
+pub fn patch(file: &mut Vec<u8>, at: usize, bytes: &[u8]) -> Result<(), AllocError> {
+    let end = at.saturating_add(bytes.len());
+    if file.len() < end {
+        file.resize(end, 0)?;
+    }
+    for (target, byte) in file.iter_mut().skip(at).zip(bytes) {
+        *target = *byte;
+    }
+    Ok(())
+}
+
+/// Changes the lowest bit of the byte at a place.
+pub fn flip(file: &mut Vec<u8>, at: usize) {
+    if let Some(byte) = file.get_mut(at) {
+        *byte ^= 1;
+    }
+}

@@ -1,0 +1,196 @@
+//! Files that rows of several kinds speak of.
+
+use crate::maker::{
+    Element, MetaFields, NO_FREELIST, branch, database, database_of, freelist, inline, leaf,
+    long_freelist, patch,
+};
+use Element::{Bucket, Value};
+use std::alloc::{AllocError, Global};
+
+/// A file whose pages from 4 on don't matter, with this leaf as its root page 3.
+pub fn with_root(
+    alloc: Global,
+    fields: &MetaFields,
+    elements: &[Element<'_>],
+) -> Result<Vec<u8>, AllocError> {
+    let root = leaf(alloc, 3, elements)?;
+    database(alloc, 4, fields, &[(3, root.as_slice())])
+}
+
+/// The file that bbolt makes: four pages, an empty freelist and an empty root page.
+pub fn fresh(alloc: Global, page_size: u32) -> Result<Vec<u8>, AllocError> {
+    with_root(alloc, &MetaFields::fresh(page_size), &[])
+}
+
+/// The fresh file at page size 1024 whose first page is zeros.
+pub fn without_first_meta(alloc: Global) -> Result<Vec<u8>, AllocError> {
+    let mut file = fresh(alloc, 1024)?;
+    patch(&mut file, 0, &[0; 1024])?;
+    Ok(file)
+}
+
+/// A root page that holds empty buckets under these names.
+pub fn empty_buckets(alloc: Global, names: &[&[u8]]) -> Result<Vec<u8>, AllocError> {
+    let empty = inline(alloc, 0, &[])?;
+    let mut elements = Vec::new(alloc);
+    for name in names {
+        elements.push(Bucket(name, empty.as_slice()))?;
+    }
+    with_root(alloc, &MetaFields::fresh(1024), elements.as_slice())
+}
+
+/// A leaf page with one empty bucket.
+pub fn empty_leaf(alloc: Global, id: u64, name: &[u8]) -> Result<Vec<u8>, AllocError> {
+    let empty = inline(alloc, 0, &[])?;
+    leaf(alloc, id, &[Bucket(name, empty.as_slice())])
+}
+
+/// The fresh file at page size 1024, but for the page size that its metas tell.
+pub fn told_page_size(alloc: Global, page_size: u32) -> Result<Vec<u8>, AllocError> {
+    let zero = MetaFields::fresh(page_size);
+    let one = MetaFields { txid: 1, ..zero };
+    let root = leaf(alloc, 3, &[])?;
+    database_of(alloc, 1024, 4, [&zero, &one], &[(3, root.as_slice())])
+}
+
+/// The empty buckets 00 and `a`, and the value `m` = `1`.
+pub fn names(alloc: Global) -> Result<Vec<u8>, AllocError> {
+    let empty = inline(alloc, 0, &[])?;
+    let empty = empty.as_slice();
+    let elements = [
+        Bucket(b"\0", empty),
+        Bucket(b"a", empty),
+        Element::of_value(b"m", b"1"),
+    ];
+    with_root(alloc, &MetaFields::fresh(1024), &elements)
+}
+
+/// Bucket `b`, inline, with `k1` = `v1`.
+pub fn inline_bucket(alloc: Global, page_size: u32) -> Result<Vec<u8>, AllocError> {
+    let held = inline(alloc, 0, &[Value(b"k1", b"v1")])?;
+    let elements = [Bucket(b"b", held.as_slice())];
+    with_root(alloc, &MetaFields::fresh(page_size), &elements)
+}
+
+/// The buckets `a`, inline with `z` = `1`, and `aa`, empty.
+pub fn two_buckets(alloc: Global) -> Result<Vec<u8>, AllocError> {
+    let held = inline(alloc, 0, &[Value(b"z", b"1")])?;
+    let empty = inline(alloc, 0, &[])?;
+    let elements = [
+        Bucket(b"a", held.as_slice()),
+        Bucket(b"aa", empty.as_slice()),
+    ];
+    with_root(alloc, &MetaFields::fresh(4096), &elements)
+}
+
+/// Two states of a database in five pages of 1,024 bytes: root 3 with the bucket `a` in the first
+/// meta, root 4 with the bucket `z` in the second.
+pub fn pair(alloc: Global, txids: [u64; 2]) -> Result<Vec<u8>, AllocError> {
+    let [first_txid, second_txid] = txids;
+    let zero = MetaFields {
+        freelist: NO_FREELIST,
+        mark: 5,
+        txid: first_txid,
+        ..MetaFields::fresh(1024)
+    };
+    let one = MetaFields {
+        root: 4,
+        txid: second_txid,
+        ..zero
+    };
+    let first = empty_leaf(alloc, 3, b"a")?;
+    let second = empty_leaf(alloc, 4, b"z")?;
+    let pages = [
+        (2, [0; 16].as_slice()),
+        (3, first.as_slice()),
+        (4, second.as_slice()),
+    ];
+    database_of(alloc, 1024, 5, [&zero, &one], &pages)
+}
+
+/// A branch as root, `a` to page 4 and `m` to page 5: leaf 4 holds `a` and `c`, leaf 5 `m` and `p`.
+pub fn branch_root(alloc: Global, page_size: u32) -> Result<Vec<u8>, AllocError> {
+    let root = branch(alloc, 3, &[(b"a", 4), (b"m", 5)])?;
+    let first = leaf(alloc, 4, &[Value(b"a", b""), Value(b"c", b"")])?;
+    let second = leaf(alloc, 5, &[Value(b"m", b""), Value(b"p", b"")])?;
+    let fields = MetaFields {
+        mark: 6,
+        ..MetaFields::fresh(page_size)
+    };
+    let pages = [
+        (3, root.as_slice()),
+        (4, first.as_slice()),
+        (5, second.as_slice()),
+    ];
+    database(alloc, 6, &fields, &pages)
+}
+
+/// A branch as root that leads to itself.
+pub fn branch_to_itself(alloc: Global) -> Result<Vec<u8>, AllocError> {
+    let root = branch(alloc, 3, &[(b"a", 3)])?;
+    database(alloc, 4, &MetaFields::fresh(4096), &[(3, root.as_slice())])
+}
+
+/// The fresh file whose root page has the greatest overflow.
+pub fn greatest_overflow(alloc: Global) -> Result<Vec<u8>, AllocError> {
+    let mut file = fresh(alloc, 4096)?;
+    patch(&mut file, 3 * 4096 + 12, &[0xFF; 4])?;
+    Ok(file)
+}
+
+/// The fresh file without a written freelist, in five pages.
+pub fn no_freelist(alloc: Global) -> Result<Vec<u8>, AllocError> {
+    let root = leaf(alloc, 3, &[])?;
+    let fields = MetaFields {
+        freelist: NO_FREELIST,
+        mark: 5,
+        ..MetaFields::fresh(4096)
+    };
+    let pages = [(2, [0; 16].as_slice()), (3, root.as_slice())];
+    database(alloc, 5, &fields, &pages)
+}
+
+/// This many page numbers from a first one on.
+pub fn numbers(alloc: Global, first: u64, count: u64) -> Result<Vec<u64>, AllocError> {
+    let mut ids = Vec::new(alloc);
+    for i in 0..count {
+        ids.push(first.saturating_add(i))?;
+    }
+    Ok(ids)
+}
+
+/// Page numbers from 4 on in a freelist on one page of 1,024 bytes, in the short form or in the
+/// long one.
+pub fn free_pages(alloc: Global, count: u64, is_long: bool) -> Result<Vec<u8>, AllocError> {
+    let ids = numbers(alloc, 4, count)?;
+    let free = if is_long {
+        long_freelist(alloc, 2, 0, count, ids.as_slice())?
+    } else {
+        freelist(alloc, 2, ids.as_slice())?
+    };
+    let root = leaf(alloc, 3, &[])?;
+    let fields = MetaFields {
+        mark: count.saturating_add(4),
+        ..MetaFields::fresh(1024)
+    };
+    database(
+        alloc,
+        4,
+        &fields,
+        &[(2, free.as_slice()), (3, root.as_slice())],
+    )
+}
+
+/// A freelist of 65,535 pages from 132 on, in the long form over 129 pages of 4,096 bytes. The
+/// file ends after its root page 131, long before the mark.
+pub fn many_free_pages(alloc: Global, ids: &[u64]) -> Result<Vec<u8>, AllocError> {
+    let free = long_freelist(alloc, 2, 128, ids.len() as u64, ids)?;
+    let root = leaf(alloc, 131, &[])?;
+    let fields = MetaFields {
+        root: 131,
+        mark: 65_667,
+        ..MetaFields::fresh(4096)
+    };
+    let pages = [(2, free.as_slice()), (131, root.as_slice())];
+    database(alloc, 132, &fields, &pages)
+}

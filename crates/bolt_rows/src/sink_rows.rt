@@ -1,0 +1,163 @@
+//! Rows of sinks: one over a writer that fails, one over a healthy writer, and one in memory.
+
+use bolt_format::{MemSink, Sink, SinkFault, WriteSink};
+use std::io::{self, ErrorKind, Write};
+use std::process::Abort;
+use std::test::Fail;
+
+/// How a writer refuses a call.
+#[derive(Clone, Copy, Debug)]
+enum Refusal {
+    /// It answers an error of a kind.
+    Error(ErrorKind),
+    /// It takes no byte.
+    Nothing,
+}
+
+/// Takes at most 7 bytes a call and refuses one call; it would take those after that again.
+#[derive(Drop)]
+struct Halting {
+    taken: Vec<u8>,
+    calls: usize,
+    /// The call that is refused; the first is 1.
+    refused: usize,
+    refusal: Refusal,
+}
+
+impl Write for Halting {
+    fn write(&mut self, buf: &[u8]) -> io::Result<usize> {
+        self.calls = self.calls.saturating_add(1);
+        if self.calls == self.refused {
+            return match self.refusal {
+                Refusal::Error(kind) => Err(io::Error::from(kind)),
+                Refusal::Nothing => Ok(0),
+            };
+        }
+        let count = buf.len().min(7);
+        self.taken.extend_from_slice(&buf[..count])?;
+        Ok(count)
+    }
+
+    fn flush(&mut self) -> io::Result<()> {
+        Ok(())
+    }
+}
+
+/// Pieces that a writer of 7 bytes a call takes in 1, 0, 3, 1, 1 and 5 calls.
+const PIECES: [&[u8]; 6] = [
+    b"first",
+    b"",
+    b"twenty bytes of text",
+    b"seven77",
+    b"1",
+    b"thirty bytes in one long piece",
+];
+
+/// For each call the number of its piece, and how many bytes were taken before it.
+const CALLS: [(usize, usize); 11] = [
+    (0, 0),
+    (2, 5),
+    (2, 12),
+    (2, 19),
+    (3, 25),
+    (4, 32),
+    (5, 33),
+    (5, 40),
+    (5, 47),
+    (5, 54),
+    (5, 61),
+];
+
+/// All pieces in order.
+const WHOLE: &[u8] = b"firsttwenty bytes of textseven771thirty bytes in one long piece";
+
+/// Puts all pieces; those before number `failing` are taken, and neither that nor a later one is.
+fn put_pieces<S: Sink>(rt: &impl Abort, sink: &mut S, failing: usize) {
+    for (i, piece) in PIECES.iter().enumerate() {
+        let answer = sink.put(piece);
+        if i < failing {
+            assert_eq!(rt; answer, Ok(()), "piece {i} before the failure at {failing}");
+            assert_eq!(rt;
+                sink.failures(),
+                0,
+                "piece {i} before the failure at {failing}"
+            );
+        } else {
+            assert_eq!(rt;
+                answer,
+                Err(SinkFault),
+                "piece {i} from the failure at {failing} on"
+            );
+            assert!(rt;
+                sink.failures() > 0,
+                "piece {i} from the failure at {failing} on"
+            );
+        }
+    }
+}
+
+#[test]
+fn refused_calls(rt: HostRuntime) -> Result<(), Fail> {
+    let refusals = [
+        Refusal::Error(ErrorKind::Other),
+        Refusal::Error(ErrorKind::Interrupted),
+        Refusal::Error(ErrorKind::WouldBlock),
+        Refusal::Nothing,
+    ];
+    for refusal in refusals {
+        for (i, (failing, taken)) in CALLS.iter().enumerate() {
+            let refused = i + 1;
+            let mut sink = WriteSink::new(Halting {
+                taken: Vec::new(rt.alloc()),
+                calls: 0,
+                refused,
+                refusal,
+            });
+            put_pieces(&rt, &mut sink, *failing);
+            assert!(rt;
+                sink.put(b"more").is_err(),
+                "after call {refused}, {refusal:?}"
+            );
+            let writer = sink.into_inner();
+            assert_eq!(rt; writer.calls, refused, "{refusal:?}");
+            let want = WHOLE.get(..*taken);
+            assert_eq!(rt;
+                Some(writer.taken.as_slice()),
+                want,
+                "call {refused}, {refusal:?}"
+            );
+        }
+    }
+    Ok(())
+}
+
+#[test]
+fn short_writes(rt: HostRuntime) -> Result<(), Fail> {
+    let mut sink = WriteSink::new(Halting {
+        taken: Vec::new(rt.alloc()),
+        calls: 0,
+        refused: 0,
+        refusal: Refusal::Nothing,
+    });
+    put_pieces(&rt, &mut sink, PIECES.len());
+    let writer = sink.into_inner();
+    assert_eq!(rt; writer.taken.as_slice(), WHOLE);
+    assert_eq!(rt; writer.calls, CALLS.len());
+    Ok(())
+}
+
+#[test]
+fn healthy_sinks(rt: HostRuntime) -> Result<(), Fail> {
+    let mut over_vec = WriteSink::new(Vec::new(rt.alloc()));
+    put_pieces(&rt, &mut over_vec, PIECES.len());
+    assert_eq!(rt; over_vec.into_inner().as_slice(), WHOLE);
+    let mut over_cursor = WriteSink::new(io::Cursor::new(Vec::new(rt.alloc())));
+    put_pieces(&rt, &mut over_cursor, PIECES.len());
+    assert_eq!(rt; over_cursor.into_inner().into_inner().as_slice(), WHOLE);
+    let mut in_memory = MemSink::new(rt.alloc());
+    assert_eq!(rt; in_memory.bytes(), b"".as_slice());
+    put_pieces(&rt, &mut in_memory, PIECES.len());
+    assert_eq!(rt; in_memory.bytes(), WHOLE);
+    assert_eq!(rt; in_memory.failures(), 0);
+    Ok(())
+}
