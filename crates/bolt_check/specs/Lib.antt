@@ -1,10 +1,16 @@
+pub mod Accounts
+pub mod CheckedFiles
 pub mod Findings
 pub mod Keys
+pub mod Listings
 pub mod Nodes
 pub mod Pending
 pub mod Search
 pub mod Shape
 pub mod ShownNodes
+pub mod Sound
 pub mod Tables
+pub mod Told
 pub mod TreeKinds
+pub mod Uses
 pub mod Ways

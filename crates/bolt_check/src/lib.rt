@@ -2,13 +2,23 @@
 //! the freelist accounts for every other page (docs/SOUND.md).
 #![tactic(auto)]
 
+mod accounts;
+pub mod checked_file;
+pub mod fault;
 pub mod finding;
 mod keys;
+pub mod laws;
+mod listing;
 mod node;
 mod search;
+pub mod sound;
 mod stop;
 mod table;
+mod telling;
 mod tree_page;
 mod visit;
 
+pub use checked_file::Checked;
+pub use fault::CheckFault;
 pub use finding::Finding;
+pub use sound::check;

@@ -1,6 +1,7 @@
 //! The search of all ways from the root page, in their order, for the first finding.
-ghost use Rattle.std.specs.Prelude.{◌≡◌, ℕ, ◌<◌, ◌≤◌, ◌+◌, ◌*◌, ◌++◌, ◌∷◌, ◌↔◌, [], IfErr, IfOk, OnOk, Ok, length, vec_len};
+ghost use Rattle.std.specs.Prelude.{◌≡◌, ℕ, ◌<◌, ◌≤◌, ◌+◌, ◌*◌, ◌++◌, ◌∷◌, ◌↔◌, [], IfErr, IfOk, OnOk, Ok, length, max, vec_len};
 ghost use Rattle.bolt_check.specs.Findings.{IsClean, IsCovered, IsFirst, IsMetaPage};
+ghost use Rattle.bolt_check.specs.Listings.{IsUnlisted};
 ghost use Rattle.bolt_check.specs.Nodes.{node_at};
 ghost use Rattle.bolt_check.specs.Pending.{forest, inline_keys, kids, page_spot, spot_at, spots_of};
 ghost use Rattle.bolt_check.specs.Search.{Told};
@@ -52,6 +53,8 @@ fn new_table(alloc: Global, file: &[u8], meta: &Meta) -> Result<Vec<PageUse>, Al
     requires { 0 < meta.now.page_size }
     ensures metas { IfOk result (λ table. (n : ℕ) → IsClaimed table.items n ↔ IsMetaPage n) }
     ensures room { IfOk result (λ table. HasRoom file.now meta.now table.items) }
+    ensures unlisted { IfOk result (λ table. IsUnlisted table.items) }
+    ensures below { IfOk result (λ table. length table.items ≤ max 2 meta.now.high_water) }
 {
     let pages = (file.len() / meta.page_size as usize) as u64;
     let mut table = vec![in alloc; PageUse::Unused; pages.min(meta.high_water).max(2) as usize]?;
@@ -84,6 +87,8 @@ fn step<'a>(
 ) -> Result<(), SearchFault>
     requires { HasRoom file.now meta.now table.old.items }
     ensures room { OnOk result (HasRoom file.now meta.now table.new.items) }
+    ensures unlisted { OnOk result (IsUnlisted table.old.items → IsUnlisted table.new.items) }
+    ensures length { OnOk result (length table.new.items ≡ length table.old.items) }
     ensures less { OnOk result (unclaimed table.new.items * 65536 + vec_len pending.new ≤ unclaimed table.old.items * 65536 + vec_len pending.old) }
     ensures clean { OnOk result (IsClean (node_at file.now meta.now) (forest (node_at file.now meta.now) (spots_of pending.new.items)) (IsClaimed table.new.items)
         → IsClean (node_at file.now meta.now) (forest (node_at file.now meta.now) (spot_at stop.entry ∷ spots_of pending.old.items)) (IsClaimed table.old.items)) }
@@ -118,6 +123,8 @@ pub(crate) fn search(alloc: Global, file: &[u8], meta: &Meta) -> Result<Vec<Page
     ensures clean { OnOk result (IsClean (node_at file.now meta.now) (reached (node_at file.now meta.now) meta.now.root) IsMetaPage) }
     ensures covered { IfOk result (λ table. (n : ℕ) → IsClaimed table.items n ↔ IsCovered (node_at file.now meta.now) (reached (node_at file.now meta.now) meta.now.root) IsMetaPage n) }
     ensures room { IfOk result (λ table. HasRoom file.now meta.now table.items) }
+    ensures unlisted { IfOk result (λ table. IsUnlisted table.items) }
+    ensures below { IfOk result (λ table. length table.items ≤ max 2 meta.now.high_water) }
     ensures first { IfErr result (Told (node_at file.now meta.now) (reached (node_at file.now meta.now) meta.now.root) IsMetaPage) }
 {
     let mut table = match new_table(alloc, file, meta) {

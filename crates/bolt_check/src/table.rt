@@ -52,6 +52,7 @@ pub(crate) fn claim(table: &mut [PageUse], from: usize, last: usize)
     requires within { last < length table.old }
     requires free { IsUnclaimed table.old from }
     ensures span { (k : ℕ) → from ≤ k → k ≤ last → IsClaimed table.new k }
+    ensures used { (k : ℕ) → from ≤ k → k ≤ last → use_at table.new k ≡ PageUse.Used }
     ensures below { (k : ℕ) → k < from → use_at table.new k ≡ use_at table.old k }
     ensures above { (k : ℕ) → last < k → use_at table.new k ≡ use_at table.old k }
     ensures fewer { unclaimed table.new < unclaimed table.old }

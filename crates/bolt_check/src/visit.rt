@@ -2,6 +2,7 @@
 ghost use Rattle.std.specs.Prelude.{◌≡◌, ◌<◌, ◌≤◌, IfErr, IfOk, Ok, OnOk};
 ghost use Rattle.std.specs.Result.{result_err};
 ghost use Rattle.bolt_check.specs.Findings.{PagePasses, PageTests, content_fault};
+ghost use Rattle.bolt_check.specs.Listings.{IsUnlisted};
 ghost use Rattle.bolt_check.specs.Nodes.{node_at};
 ghost use Rattle.bolt_check.specs.Pending.{Claims, page_spot};
 ghost use Rattle.bolt_check.specs.ShownNodes.{shown_node};
@@ -32,6 +33,7 @@ pub(crate) fn visit<'a>(
     ensures passes { OnOk result (PagePasses (node_at file.now meta.now) (IsClaimed table.old) (page_spot stop.now)) }
     ensures claims { OnOk result (Claims (node_at file.now meta.now) (At_page (page_spot stop.now)) table.old table.new) }
     ensures fewer { OnOk result (unclaimed table.new < unclaimed table.old) }
+    ensures unlisted { OnOk result (IsUnlisted table.old → IsUnlisted table.new) }
     ensures shallow { OnOk result (stop.now.depth ≤ 64) }
 {
     if stop.depth > MAX_DEPTH {

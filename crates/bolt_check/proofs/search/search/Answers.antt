@@ -1,4 +1,4 @@
-use Rattle.std.proofs.Common.{◌∷◌, vec_len}
+use Rattle.std.proofs.Common.{◌∷◌, arith, vec_len}
 use Rattle.bolt_check.specs.Findings.{IsMetaPage}
 use Rattle.bolt_check.specs.Nodes.{node_at}
 use Rattle.bolt_check.specs.Pending.{forest, spot_at, spots_of}
@@ -10,6 +10,8 @@ use Rattle.bolt_check.proofs.search.search.Goals as goal
 pub loop-stop-init : goal.loop-stop-init
 loop-stop-init c = record {
   room = c.in-Ok.ensures.room;
+  unlisted = c.in-Ok.ensures.unlisted;
+  below = c.in-Ok.ensures.below;
   clean = begin_clean (node_at c.args.file.now c.args.meta.now) c.args.meta.now.root c.in-Ok-new_pending.pending.items c.in-Ok.table.items c.in-Ok-new_pending.ensures c.in-Ok.ensures.metas;
   covered = begin_covered (node_at c.args.file.now c.args.meta.now) c.args.meta.now.root c.in-Ok-new_pending.pending.items c.in-Ok.table.items c.in-Ok-new_pending.ensures c.in-Ok.ensures.metas;
   first = begin_first (node_at c.args.file.now c.args.meta.now) c.args.meta.now.root c.in-Ok-new_pending.pending.items c.in-Ok.table.items c.in-Ok-new_pending.ensures c.in-Ok.ensures.metas;
@@ -20,6 +22,8 @@ loop-stop-preserved c =
     let popped = spots_pop c.loop-stop.pending.items c.pop.new.self.items c.in-Some.stop c.in-Some.ensures.items in
     record {
       room = c.in_default-step.ensures.room;
+      unlisted = c.in_default-step.ensures.unlisted c.loop-stop.invariant.unlisted;
+      below = omega (arith, c.in_default-step.ensures.length, c.loop-stop.invariant.below);
       clean = λ h. let i = rw popped at c.loop-stop.invariant.clean in i (c.in_default-step.ensures.clean h);
       covered = λ n. let i = rw popped at c.loop-stop.invariant.covered in both_ways _ _ _ (c.in_default-step.ensures.covered n) (i n);
       first = λ x h. let i = rw popped at c.loop-stop.invariant.first in i x (c.in_default-step.ensures.first x h);

@@ -1,6 +1,7 @@
-use Rattle.std.proofs.Common.{◌↔◌, ℕ, ◌+◌, ◌*◌, vec_len}
+use Rattle.std.proofs.Common.{◌↔◌, ◌≤◌, ℕ, ◌+◌, ◌*◌, length, max, vec_len}
 use Rattle.bolt_check.specs.declared.finding.Finding.{Finding}
 use Rattle.bolt_check.specs.Findings.{IsClean, IsCovered, IsFirst, IsMetaPage}
+use Rattle.bolt_check.specs.Listings.{IsUnlisted}
 use Rattle.bolt_check.specs.Nodes.{node_at}
 use Rattle.bolt_check.specs.Pending.{forest, spots_of}
 use Rattle.bolt_check.specs.Tables.{HasRoom, IsClaimed, unclaimed}
@@ -11,6 +12,8 @@ use Rattle.bolt_check.proofs.search.search.Given as goal
 abbrev pub invariant-loop-stop : goal.invariant-loop-stop
 invariant-loop-stop l = record {
   room : HasRoom l.file l.meta l.table.items;
+  unlisted : IsUnlisted l.table.items;
+  below : length l.table.items ≤ max 2 l.meta.high_water;
   clean : IsClean (node_at l.file l.meta) (forest (node_at l.file l.meta) (spots_of l.pending.items)) (IsClaimed l.table.items)
       → IsClean (node_at l.file l.meta) (reached (node_at l.file l.meta) l.meta.root) IsMetaPage;
   covered : (n : ℕ) → IsCovered (node_at l.file l.meta) (forest (node_at l.file l.meta) (spots_of l.pending.items)) (IsClaimed l.table.items) n

@@ -1,0 +1,195 @@
+-- What is told of a listing, as what is told of the accounts.
+use Rattle.std.proofs.Common.{◌≡◌, ◌≢◌, ◌∙◌, ◌==◌, ℕ, suc, ◌≤◌, inl, inr, ◌↔◌, List, [], ◌∷◌, Some, None, min, refl, sym, ap, subst, arith, Contains}
+use Rattle.std.proofs.lemmas.Bool.{cases_lt, cond-false, cond-true, eq-eqb, ne_eqb}
+use Rattle.bolt_format.specs.Freelists.{free_ids_at, free_ids_of, freelist_fault, freelist_fault_of}
+use Rattle.bolt_format.specs.declared.meta.Meta.{Meta}
+use Rattle.bolt_format.specs.declared.meta.TheConstants.{NO_FREELIST}
+use Rattle.bolt_check.specs.Accounts.{HasAccounts, IsFree, IsInFreelist, IsInUse, ListsFree, times_in}
+use Rattle.bolt_check.specs.Findings.{finding}
+use Rattle.bolt_check.specs.Listings.{AreAllTold, ClaimsFreelist}
+use Rattle.bolt_check.specs.Tables.{IsClaimed}
+use Rattle.bolt_check.specs.Told.{AreTold, IsAccountFinding, IsFreelistFinding, IsInRange, IsLost, bad, shared, freed_twice, reached_freed, unreachable, out_of_range}
+use Rattle.bolt_check.specs.declared.finding.Finding.{Finding}
+use Rattle.bolt_check.specs.declared.finding.TheConstants.Finding.{TWICE}
+use Rattle.bolt_check.specs.declared.table.PageUse.{PageUse}
+
+-- the same pages in use, and counts that differ above 2 alone
+module _ (mark : ℕ) (in_use also : ℕ → Type 0) (times counts : ℕ → ℕ) (there : (n : ℕ) → in_use n → also n) (back : (n : ℕ) → also n → in_use n)
+    (same : (n : ℕ) → min 2 (times n) ≡ min 2 (counts n)) where
+  lost_along : (n : ℕ) → IsLost mark in_use times n → IsLost mark also counts n
+  lost_along n is = record {
+    free = record { above_metas = is.free.above_metas; below = is.free.below; unused = λ u. is.free.unused (back n u) };
+    unlisted = let e = same n in let zero = is.unlisted in omega (arith, e, zero);
+  }
+
+  lost_back : (n : ℕ) → IsLost mark also counts n → IsLost mark in_use times n
+  lost_back n is = record {
+    free = record { above_metas = is.free.above_metas; below = is.free.below; unused = λ u. is.free.unused (there n u) };
+    unlisted = let e = same n in let zero = is.unlisted in omega (arith, e, zero);
+  }
+
+  pub finding_along : (x : Finding) → IsAccountFinding mark in_use times x → IsAccountFinding mark also counts x
+  finding_along x (freed_twice {n = n} range two) = freed_twice range (let e = same n in omega (arith, e, two))
+  finding_along x (reached_freed {n = n} range one used) = reached_freed range (let e = same n in omega (arith, e, one)) (there n used)
+  finding_along x (unreachable {page = page} {last = last} order lost after before) =
+      unreachable order (λ n low high. lost_along n (lost n low high)) (λ is. after (lost_back (suc last) is)) (λ n e is. before n e (lost_back n is))
+  finding_along x (out_of_range {n = n} out one) = out_of_range out (let e = same n in omega (arith, e, one))
+
+  pub finding_back : (x : Finding) → IsAccountFinding mark also counts x → IsAccountFinding mark in_use times x
+  finding_back x (freed_twice {n = n} range two) = freed_twice range (let e = same n in omega (arith, e, two))
+  finding_back x (reached_freed {n = n} range one used) = reached_freed range (let e = same n in omega (arith, e, one)) (back n used)
+  finding_back x (unreachable {page = page} {last = last} order lost after before) =
+      unreachable order (λ n low high. lost_back n (lost n low high)) (λ is. after (lost_along (suc last) is)) (λ n e is. before n e (lost_along n is))
+  finding_back x (out_of_range {n = n} out one) = out_of_range out (let e = same n in omega (arith, e, one))
+
+  pub told_along : (findings : List Finding) → AreAllTold mark in_use times findings → AreAllTold mark also counts findings
+  told_along findings told = record {
+    exact = λ x. (λ in_list. finding_along x ((told.exact x).0 in_list), λ is. (told.exact x).1 (finding_back x is));
+    rises = told.rises;
+    silent = λ e n is. told.silent e n (lost_back n is);
+  }
+
+module _ (mark : ℕ) (in_use : ℕ → Type 0) (times : ℕ → ℕ) where
+  -- nothing is told,
+  none_told : AreAllTold mark in_use times [] → (x : Finding) → IsAccountFinding mark in_use times x → ⊥
+  none_told told x is = let (k, h, e) = (told.exact x).1 is in omega (arith, h)
+
+  in_range : AreAllTold mark in_use times [] → (n : ℕ) → 1 ≤ times n → IsInRange mark n
+  in_range told n one = elim (cases_lt n 2) [
+    | inl low ↦ absurd (none_told told _ (out_of_range (inl low) one))
+    | inr high ↦ elim (cases_lt n mark) [
+      | inl below ↦ (high, below)
+      | inr above ↦ absurd (none_told told _ (out_of_range (inr above) one))
+    ]
+  ]
+
+  once_in : AreAllTold mark in_use times [] → (n : ℕ) → times n ≤ 1
+  once_in told n = elim (cases_lt 1 (times n)) [
+    | inl more ↦ absurd (none_told told _ (freed_twice (in_range told n (omega arith)) (omega arith)))
+    | inr fewer ↦ fewer
+  ]
+
+  listed_in : AreAllTold mark in_use times [] → (n : ℕ) → IsFree mark in_use n → 1 ≤ times n
+  listed_in told n free = elim (cases_lt 0 (times n)) [
+    | inl some ↦ omega arith
+    | inr zero ↦ absurd (told.silent refl n (record { free = free; unlisted = omega arith }))
+  ]
+
+  -- so the free pages are listed
+  pub lists_free : AreAllTold mark in_use times [] → ListsFree mark in_use times
+  lists_free told = record {
+    free = λ n one. record {
+      above_metas = (in_range told n one).0;
+      below = (in_range told n one).1;
+      unused = λ used. none_told told _ (reached_freed (in_range told n one) one used);
+    };
+    once = once_in told;
+    listed = listed_in told;
+  }
+
+  -- and where they are, nothing is told
+  lists_none : ListsFree mark in_use times → (x : Finding) → IsAccountFinding mark in_use times x → ⊥
+  lists_none lists x (freed_twice {n = n} range two) = let one = lists.once n in omega (arith, one, two)
+  lists_none lists x (reached_freed {n = n} range one used) = (lists.free n one).unused used
+  lists_none lists x (unreachable {page = page} {last = last} order lost after before) =
+      let gone = lost page (omega arith) order in let one = lists.listed page gone.free in let zero = gone.unlisted in omega (arith, one, zero)
+  lists_none lists x (out_of_range {n = n} (inl low) one) = let two = (lists.free n one).above_metas in omega (arith, low, two)
+  lists_none lists x (out_of_range {n = n} (inr high) one) = let below = (lists.free n one).below in omega (arith, high, below)
+
+  pub told_none : (findings : List Finding) → AreAllTold mark in_use times findings → ListsFree mark in_use times → findings ≢ [] → ⊥
+  told_none [] told lists some = some refl
+  told_none (x ∷ findings) told lists some = lists_none lists x ((told.exact x).0 (0, omega arith, refl))
+
+some_same : (a b : List ℕ) → Some a ≡ Some b → a ≡ b
+some_same a b e = cc
+
+some_number : (a b : ℕ) → Some a ≡ Some b → a ≡ b
+some_number a b e = cc
+
+no_fault : (a : ℕ) → None ≡ Some a → ⊥
+no_fault a e = cc
+
+none_some : (a : List ℕ) → None ≡ Some a → ⊥
+none_some a e = cc
+
+module _ (file : List ℕ) (meta : Meta) where
+  -- whether a freelist was written
+  pub unwritten : free_ids_of file meta ≡ None → meta.freelist ≢ NO_FREELIST → ⊥
+  unwritten e ne = none_some _ (sym e ∙ cond-false (meta.freelist == NO_FREELIST) None (Some (free_ids_at file meta meta.freelist)) (ne_eqb meta.freelist NO_FREELIST ne))
+
+  pub written : (ids : List ℕ) → free_ids_of file meta ≡ Some ids → meta.freelist ≢ NO_FREELIST
+  written ids e is = none_some ids (sym (cond-true (meta.freelist == NO_FREELIST) None (Some (free_ids_at file meta meta.freelist)) (eq-eqb meta.freelist NO_FREELIST is)) ∙ e)
+
+  -- the accounts are asked nothing where none was written
+  pub accounts_unwritten : (used : ℕ → Type 0) → freelist_fault_of file meta ≡ None → free_ids_of file meta ≡ None → HasAccounts file meta used
+  accounts_unwritten used good e = record {
+    good = good;
+    apart = λ n is. absurd (unwritten e is.written);
+    lists = λ ids f. absurd (none_some ids (sym e ∙ f));
+  }
+
+  module _ (used : ℕ → Type 0) where
+    told_alone : (x : Finding) → meta.freelist ≢ NO_FREELIST → IsFreelistFinding file meta used x → ((y : Finding) → IsFreelistFinding file meta used y → y ≡ x)
+        → AreTold file meta used (x ∷ [])
+    told_alone x ne is only = record {
+      written = ne;
+      of_page = λ y of. ap (λ (z : Finding). z ∷ []) (sym (only y of));
+      rises = λ none. absurd (none x is);
+      exact = λ none. absurd (none x is);
+    }
+
+    only_fault : (fault : ℕ) → freelist_fault_of file meta ≡ Some fault → (y : Finding) → IsFreelistFinding file meta used y → y ≡ finding fault meta.freelist
+    only_fault fault e y (bad {fault = other} f) = let same : other ≡ fault = some_number other fault (sym f ∙ e) in ap (λ (number : ℕ). finding number meta.freelist) same
+    only_fault fault e y (shared {n = n} is at lowest) = absurd (no_fault fault (sym is.good ∙ e))
+
+    -- the freelist's own page has a fault
+    pub told_fault : (fault : ℕ) → freelist_fault_of file meta ≡ Some fault → AreTold file meta used (finding fault meta.freelist ∷ [])
+    told_fault fault e =
+        told_alone (finding fault meta.freelist)
+        (λ is. no_fault fault (sym (cond-true (meta.freelist == NO_FREELIST) None (freelist_fault file meta meta.freelist) (eq-eqb meta.freelist NO_FREELIST is)) ∙ e))
+        (bad e) (only_fault fault e)
+
+    only_shared : (n : ℕ) → IsInFreelist file meta n → used n → ((k : ℕ) → IsInFreelist file meta k → used k → n ≤ k)
+        → (y : Finding) → IsFreelistFinding file meta used y → y ≡ finding TWICE n
+    only_shared n is at lowest y (bad {fault = fault} f) = absurd (no_fault fault (sym is.good ∙ f))
+    only_shared n is at lowest y (shared {n = k} also here least) =
+        let same : k ≡ n = (let a = lowest k also here in let b = least n is at in omega (arith, a, b)) in ap (λ (page : ℕ). finding TWICE page) same
+
+    -- or its span shares a page
+    pub told_shared : (n : ℕ) → IsInFreelist file meta n → used n → ((k : ℕ) → IsInFreelist file meta k → used k → n ≤ k) → AreTold file meta used (finding TWICE n ∷ [])
+    told_shared n is at lowest = told_alone (finding TWICE n) is.written (shared is at lowest) (only_shared n is at lowest)
+
+  module _ (used : ℕ → Type 0) (ids : List ℕ) (good : freelist_fault_of file meta ≡ None) (are : free_ids_of file meta ≡ Some ids) where
+    same_ids : (others : List ℕ) → free_ids_of file meta ≡ Some others → ids ≡ others
+    same_ids others e = some_same ids others (sym are ∙ e)
+
+    module _ (apart : (n : ℕ) → IsInFreelist file meta n → used n → ⊥) (findings : List Finding) (told : AreAllTold meta.high_water (IsInUse file meta used) (times_in ids) findings) where
+      pub accounts_right : findings ≡ [] → HasAccounts file meta used
+      accounts_right e = record {
+        good = good;
+        apart = apart;
+        lists = λ others f. subst (λ (xs : List ℕ). ListsFree meta.high_water (IsInUse file meta used) (times_in xs)) (same_ids others f)
+            (lists_free meta.high_water (IsInUse file meta used) (times_in ids) (subst (AreAllTold meta.high_water (IsInUse file meta used) (times_in ids)) e told));
+      }
+
+      pub accounts_wrong : findings ≢ [] → HasAccounts file meta used → ⊥
+      accounts_wrong some has = told_none meta.high_water (IsInUse file meta used) (times_in ids) findings told (has.lists ids are) some
+
+      no_page : (x : Finding) → IsFreelistFinding file meta used x → ⊥
+      no_page x (bad fault) = absurd (cc)
+      no_page x (shared {n = n} is at lowest) = apart n is at
+
+      pub accounts_told : AreTold file meta used findings
+      accounts_told = record {
+        written = written ids are;
+        of_page = λ x is. absurd (no_page x is);
+        rises = λ none. told.rises;
+        exact = λ none others e. subst (λ (xs : List ℕ). (x : Finding) → Contains findings x ↔ IsAccountFinding meta.high_water (IsInUse file meta used) (times_in xs) x) (same_ids others e) told.exact;
+      }
+
+-- once the freelist's span is claimed, all pages in use are claimed
+pub claims_told : (file : List ℕ) (meta : Meta) (old new : List PageUse) (ids : List ℕ) (findings : List Finding) → ClaimsFreelist file meta old new
+    → AreAllTold meta.high_water (IsClaimed new) (times_in ids) findings → AreAllTold meta.high_water (IsInUse file meta (IsClaimed old)) (times_in ids) findings
+claims_told file meta old new ids findings claims told =
+    told_along meta.high_water (IsClaimed new) (IsInUse file meta (IsClaimed old)) (times_in ids) (times_in ids) claims.split
+    (λ n in_use. elim in_use [ inl was ↦ claims.kept n was | inr is ↦ claims.span n is ]) (λ n. refl) findings told

@@ -1,0 +1,93 @@
+-- Claiming page after page.
+use Rattle.std.proofs.Common.{◌≡◌, ◌≢◌, ◌∙◌, ℕ, ◌+◌, ◌<◌, ◌≤◌, ◌⊎◌, List, None, length, set, inl, inr, sym, ap, arith, get_or-set_same, get_or-set_other}
+use Rattle.std.proofs.lemmas.Bool.{cases_lt, false≢true}
+use Rattle.bolt_format.specs.Freelists.{freelist_fault_of}
+use Rattle.bolt_format.specs.Pages.{page_overflow}
+use Rattle.bolt_format.specs.declared.meta.Meta.{Meta}
+use Rattle.bolt_format.specs.declared.meta.TheConstants.{NO_FREELIST}
+use Rattle.bolt_check.specs.Accounts.{IsInFreelist}
+use Rattle.bolt_check.specs.Listings.{ClaimsFreelist, IsUnlisted}
+use Rattle.bolt_check.specs.Tables.{HasRoom, IsClaimed, IsUnclaimed, is_used, use_at}
+use Rattle.bolt_check.specs.Uses.{times_of}
+use Rattle.bolt_check.specs.declared.table.PageUse.{PageUse}
+use Rattle.bolt_check.specs.declared.table.PageUse.TheVariants.{Unused, Used}
+use Rattle.bolt_check.proofs.FreelistLemmas.{freelist_within}
+
+pub used_more : (t : List PageUse) (from n : ℕ) → n < length t → ((k : ℕ) → from ≤ k → k < n → use_at t k ≡ Used)
+    → (k : ℕ) → from ≤ k → k < n + 1 → use_at (set t n Used) k ≡ Used
+used_more t from n h before k a b =
+    elim (cases_lt k n) [
+      | inl lt ↦ let ne : k ≢ n = omega arith in rw get_or-set_other (before k a lt)
+      | inr ge ↦ let e : k ≡ n = omega arith in rw (e, get_or-set_same t n Used Unused h)
+    ]
+
+-- claiming lists nothing
+pub still_unlisted : (old new : List PageUse) (from last : ℕ) → ((k : ℕ) → from ≤ k → k ≤ last → use_at new k ≡ Used)
+    → ((k : ℕ) → k < from → use_at new k ≡ use_at old k) → ((k : ℕ) → last < k → use_at new k ≡ use_at old k) → IsUnlisted old → IsUnlisted new
+still_unlisted old new from last used below above plain n =
+    elim (cases_lt n from) [
+      | inl before ↦ ap times_of (below n before) ∙ plain n
+      | inr low ↦ elim (cases_lt last n) [
+        | inl after ↦ ap times_of (above n after) ∙ plain n
+        | inr high ↦ ap times_of (used n low high)
+      ]
+    ]
+
+-- the freelist's span, of which nothing was claimed, is claimed
+pub claims_freelist : (file : List ℕ) (meta : Meta) (old new : List PageUse) (last : ℕ) → last ≡ meta.freelist + page_overflow file meta meta.freelist
+    → meta.freelist ≢ NO_FREELIST → freelist_fault_of file meta ≡ None
+    → ((k : ℕ) → meta.freelist ≤ k → k ≤ last → IsUnclaimed old k) → ((k : ℕ) → meta.freelist ≤ k → k ≤ last → use_at new k ≡ Used)
+    → ((k : ℕ) → k < meta.freelist → use_at new k ≡ use_at old k) → ((k : ℕ) → last < k → use_at new k ≡ use_at old k) → ClaimsFreelist file meta old new
+claims_freelist file meta old new last end written good none used below above = record {
+  apart = λ n is claimed. apart n is.from (in_last n is) claimed;
+  split = λ n claimed. elim (place n) [
+    | inl (inl before) ↦ inl (sym (ap is_used (below n before)) ∙ claimed)
+    | inl (inr after) ↦ inl (sym (ap is_used (above n after)) ∙ claimed)
+    | inr inside ↦ inr (record { written = written; good = good; from = inside.0; last = omega (arith, end, inside.1) })
+  ];
+  kept = λ n claimed. elim (place n) [
+    | inl (inl before) ↦ ap is_used (below n before) ∙ claimed
+    | inl (inr after) ↦ ap is_used (above n after) ∙ claimed
+    | inr inside ↦ ap is_used (used n inside.0 inside.1)
+  ];
+  span = λ n is. ap is_used (used n is.from (in_last n is));
+  unlisted = still_unlisted old new meta.freelist last used below above;
+}
+  where
+    apart : (n : ℕ) → meta.freelist ≤ n → n ≤ last → IsClaimed old n → ⊥
+    apart n low high claimed = false≢true (sym (none n low high) ∙ claimed)
+
+    in_last : (n : ℕ) → IsInFreelist file meta n → n ≤ last
+    in_last n is = let high = is.last in omega (arith, end, high)
+
+    place : (n : ℕ) → ((n < meta.freelist) ⊎ (last < n)) ⊎ ((meta.freelist ≤ n) × (n ≤ last))
+    place n = elim (cases_lt n meta.freelist) [
+      | inl before ↦ inl (inl before)
+      | inr from ↦ elim (cases_lt last n) [
+        | inl after ↦ inl (inr after)
+        | inr inside ↦ inr (from, inside)
+      ]
+    ]
+
+-- the lowest claimed page of the freelist's span
+pub lowest_shared : (file : List ℕ) (meta : Meta) (old : List PageUse) (last n : ℕ) → last ≡ meta.freelist + page_overflow file meta meta.freelist
+    → meta.freelist ≢ NO_FREELIST → freelist_fault_of file meta ≡ None
+    → (meta.freelist ≤ n) × (n ≤ last) × IsClaimed old n × ((k : ℕ) → meta.freelist ≤ k → k < n → IsUnclaimed old k)
+    → IsInFreelist file meta n × IsClaimed old n × ((k : ℕ) → IsInFreelist file meta k → IsClaimed old k → n ≤ k)
+lowest_shared file meta old last n end written good (low, high, claimed, none) = (
+  record { written = written; good = good; from = low; last = omega (arith, end, high) },
+  claimed,
+  λ k is at. elim (cases_lt k n) [
+    | inl before ↦ absurd (false≢true (sym (none k is.from before) ∙ at))
+    | inr after ↦ after
+  ],
+)
+
+-- the freelist's span lies in a table of the pages that begin in the file
+pub span_within : (file : List ℕ) (meta : Meta) (table : List PageUse) (overflow : ℕ) → overflow ≡ page_overflow file meta meta.freelist
+    → meta.freelist ≢ NO_FREELIST → freelist_fault_of file meta ≡ None
+    → HasRoom file meta table → meta.freelist + overflow < length table
+span_within file meta table overflow same written good pages =
+    let in_file = freelist_within file meta written good in
+    let inside = pages (meta.freelist + page_overflow file meta meta.freelist) in_file.1 in_file.0 in
+    omega (arith, inside, same)

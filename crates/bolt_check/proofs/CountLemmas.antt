@@ -1,0 +1,68 @@
+-- How often a number stands in a sorted list.
+use Rattle.std.proofs.Common.{◌≡◌, ◌∙◌, ◌==◌, ℕ, zero, suc, ◌+◌, ◌<◌, ◌≤◌, List, [], ◌∷◌, length, get_or, cond, refl, ap, arith, inl, inr}
+use Rattle.std.proofs.lemmas.Bool.{cases_eq, eq-eqb, ne_eqb}
+use Rattle.std.proofs.lemmas.List.Sums.{sum_by-cons}
+use Rattle.bolt_check.specs.Accounts.{times_in}
+
+pub times_here : (x n : ℕ) (xs : List ℕ) → x ≡ n → times_in (x ∷ xs) n ≡ 1 + times_in xs n
+times_here x n xs e = sum_by-cons (λ id. cond (id == n) 1 0) x xs ∙ ap (λ b. cond b 1 0 + times_in xs n) (eq-eqb x n e)
+
+pub times_there : (x n : ℕ) (xs : List ℕ) → (x ≡ n → ⊥) → times_in (x ∷ xs) n ≡ times_in xs n
+times_there x n xs ne = let e = sum_by-cons (λ id. cond (id == n) 1 0) x xs ∙ ap (λ b. cond b 1 0 + times_in xs n) (ne_eqb x n ne) in omega (arith, e)
+
+-- a number above which, or below which, all others are, stands nowhere
+pub times_none : (xs : List ℕ) (n : ℕ) → ((k : ℕ) → k < length xs → get_or xs k 0 ≡ n → ⊥) → times_in xs n ≡ 0
+times_none [] n none = refl
+times_none (x ∷ xs) n none = times_there x n xs (none 0 (omega arith)) ∙ times_none xs n (λ k h. none (suc k) (omega arith))
+
+-- what stands at a place stands there once at least
+pub times_some : (xs : List ℕ) (n k : ℕ) → k < length xs → get_or xs k 0 ≡ n → 1 ≤ times_in xs n
+times_some [] n k h e = absurd (omega arith)
+times_some (x ∷ xs) n zero h e = let t = times_here x n xs e in omega (arith, t)
+times_some (x ∷ xs) n (suc k) h e =
+    let rest = times_some xs n k (omega arith) e in
+    elim (cases_eq x n) [
+      | inl same ↦ let t = times_here x n xs same in omega (arith, t)
+      | inr other ↦ let t = times_there x n xs other in omega (arith, t, rest)
+    ]
+
+-- and what stands once at least stands at a place
+pub place_of : (xs : List ℕ) (n : ℕ) → 1 ≤ times_in xs n → (k : ℕ) × ((k < length xs) × (get_or xs k 0 ≡ n))
+place_of [] n h = absurd (omega arith)
+place_of (x ∷ xs) n h =
+    elim (cases_eq x n) [
+      | inl same ↦ (0, (omega arith, same))
+      | inr other ↦ let t = times_there x n xs other in let (k, (l, e)) = place_of xs n (omega (arith, t)) in (suc k, (omega arith, e))
+    ]
+
+abbrev Rises : List ℕ → Type 0
+Rises xs = (i j : ℕ) → i ≤ j → j < length xs → get_or xs i 0 ≤ get_or xs j 0
+
+rises_tail : (x : ℕ) (xs : List ℕ) → Rises (x ∷ xs) → Rises xs
+rises_tail x xs up i j order h = up (suc i) (suc j) (omega arith) (omega arith)
+
+-- at its first place a number stands once, unless the next is the same
+pub times_once : (xs : List ℕ) (i : ℕ) → Rises xs → i < length xs → ((k : ℕ) → k < i → get_or xs k 0 < get_or xs i 0)
+    → (suc i < length xs → get_or xs (suc i) 0 ≡ get_or xs i 0 → ⊥) → times_in xs (get_or xs i 0) ≡ 1
+times_once [] i up h first next = absurd (omega arith)
+times_once (x ∷ xs) zero up h first next =
+    let none : times_in xs x ≡ 0 = times_none xs x (λ k l e.
+    let low = up 1 (suc k) (omega arith) (omega arith) in let high = up 0 1 (omega arith) (omega arith) in
+    next (omega arith) (omega (arith, low, high, e))) in
+    let t = times_here x x xs refl in omega (arith, t, none)
+times_once (x ∷ xs) (suc i) up h first next =
+    let below = first 0 (omega arith) in
+    let rest = times_once xs i (rises_tail x xs up) (omega arith) (λ k l. first (suc k) (omega arith)) (λ l e. next (omega arith) e) in
+    times_there x (get_or xs i 0) xs (λ e. omega (arith, below, e)) ∙ rest
+
+-- and at least twice, where it is
+pub times_twice : (xs : List ℕ) (i : ℕ) → suc i < length xs → get_or xs (suc i) 0 ≡ get_or xs i 0 → 2 ≤ times_in xs (get_or xs i 0)
+times_twice [] i h e = absurd (omega arith)
+times_twice (x ∷ xs) zero h e =
+    let rest = times_some xs x 0 (omega arith) e in let t = times_here x x xs refl in omega (arith, t, rest)
+times_twice (x ∷ xs) (suc i) h e =
+    let rest = times_twice xs i (omega arith) e in
+    elim (cases_eq x (get_or xs i 0)) [
+      | inl same ↦ let t = times_here x (get_or xs i 0) xs same in omega (arith, t, rest)
+      | inr other ↦ let t = times_there x (get_or xs i 0) xs other in omega (arith, t, rest)
+    ]

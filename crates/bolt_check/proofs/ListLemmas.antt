@@ -1,0 +1,24 @@
+-- Ids listed one after another.
+use Rattle.std.proofs.Common.{◌≡◌, ◌∙◌, ◌==◌, ℕ, ◌+◌, ◌<◌, Bool, List, [], ◌∷◌, ◌++◌, Some, slice_get, length, get_or, cond, take, filter, min, sym, ap, arith}
+use Rattle.std.proofs.lemmas.List.Elements.{filter_more}
+use Rattle.std.proofs.lemmas.List.Sums.{sum_by_more}
+use Rattle.std.proofs.lemmas.Option.{slice_get-get_or}
+use Rattle.bolt_check.specs.Accounts.{times_in}
+
+-- the id at place i
+id_at : (ids : List ℕ) (i id : ℕ) → i < length ids → slice_get ids i ≡ Some id → get_or ids i 0 ≡ id
+id_at ids i id h e = let f = sym (slice_get-get_or ids i 0 h) ∙ e in cc
+
+pub times_more : (ids : List ℕ) (i id n before : ℕ) → i < length ids → slice_get ids i ≡ Some id → before ≡ min 2 (times_in (take i ids) n)
+    → min 2 (before + cond (id == n) 1 0) ≡ min 2 (times_in (take (i + 1) ids) n)
+times_more ids i id n before h e b =
+    let more = sum_by_more (λ (x : ℕ). cond (x == n) 1 0) ids i 0 h in
+    let weight : ℕ → ℕ = λ (x : ℕ). cond (x == n) 1 0 in
+    let one : weight (get_or ids i 0) ≡ weight id = ap weight (id_at ids i id h e) in omega (arith, more, one, b)
+
+pub past_more : (p : ℕ → Bool) (ids : List ℕ) (i id : ℕ) (before : List ℕ) → i < length ids → slice_get ids i ≡ Some id → before ≡ filter p (take i ids)
+    → before ++ cond (p id) (id ∷ []) [] ≡ filter p (take (i + 1) ids)
+past_more p ids i id before h e b =
+    let more = filter_more p ids i 0 h in
+    let one = ap (λ (x : ℕ). filter p (take i ids) ++ cond (p x) (x ∷ []) []) (id_at ids i id h e) in
+    ap (λ (xs : List ℕ). xs ++ cond (p id) (id ∷ []) []) b ∙ sym (more ∙ one)

@@ -1,0 +1,71 @@
+-- A table in which the ids are listed, with the ids past it sorted, is a listing of them.
+use Rattle.std.proofs.Common.{◌≡◌, ◌∙◌, ◌==◌, ℕ, ◌+◌, ◌<◌, ◌≤◌, Bool, true, false, List, [], ◌∷◌, All, length, Vec, Global, Result, IfOk, cond, filter, min, IsPermutation, inl, inr, refl, sym, ap, subst, arith, nat_le}
+use Rattle.std.specs.List.Sorted.{IsNonDecreasing, IsSorted}
+use Rattle.std.specs.Ordering.{nat_cmp}
+use Rattle.std.proofs.lemmas.Bool.{cases_lt, cond-false, cond-true, false≢true, le-leb, leb-true}
+use Rattle.std.proofs.lemmas.List.Elements.{All-weaker, filter_passes}
+use Rattle.std.proofs.lemmas.List.Sorted.{All-permutation, IsNonDecreasingBy-from_sort, sum_by-IsPermutation}
+use Rattle.std.proofs.lemmas.List.Sums.{sum_by-cons}
+use Rattle.bolt_check.specs.Accounts.{times_in}
+use Rattle.std.specs.declared.alloc.AllocError.{AllocError}
+use Rattle.std.proofs.lemmas.Result.{IfOk-weaker}
+use Rattle.bolt_check.specs.declared.finding.Finding.{Finding}
+use Rattle.bolt_check.specs.Listings.{AreAllTold, IsSettled, is_in_use, listed_times}
+use Rattle.bolt_check.specs.Tables.{IsClaimed, is_used, use_at}
+use Rattle.bolt_check.specs.Uses.{times_of}
+use Rattle.bolt_check.specs.declared.listing.Listing.{Listing}
+use Rattle.bolt_check.specs.declared.table.PageUse.{PageUse}
+use Rattle.bolt_check.proofs.CountLemmas.{times_there}
+use Rattle.bolt_check.proofs.ListingLemmas.{times_past, times_table}
+use Rattle.bolt_check.proofs.AccountLemmas.{told_along}
+
+filter_step : (p : ℕ → Bool) (n x : ℕ) (xs : List ℕ) (b : Bool) → p n ≡ true → p x ≡ b → times_in (filter p xs) n ≡ times_in xs n
+    → times_in (cond (p x) (x ∷ filter p xs) (filter p xs)) n ≡ times_in (x ∷ xs) n
+filter_step p n x xs true passes e rest =
+    ap (λ (ys : List ℕ). times_in ys n) (cond-true (p x) (x ∷ filter p xs) (filter p xs) e)
+    ∙ sum_by-cons (λ (id : ℕ). cond (id == n) 1 0) x (filter p xs)
+    ∙ ap (λ (m : ℕ). cond (x == n) 1 0 + m) rest
+    ∙ sym (sum_by-cons (λ (id : ℕ). cond (id == n) 1 0) x xs)
+filter_step p n x xs false passes e rest =
+    ap (λ (ys : List ℕ). times_in ys n) (cond-false (p x) (x ∷ filter p xs) (filter p xs) e)
+    ∙ rest
+    ∙ sym (times_there x n xs (λ same. false≢true (sym e ∙ ap p same ∙ passes)))
+
+-- a number that passes a test is as often in what passes
+times_filter : (p : ℕ → Bool) (n : ℕ) → p n ≡ true → (xs : List ℕ) → times_in (filter p xs) n ≡ times_in xs n
+times_filter p n passes [] = refl
+times_filter p n passes (x ∷ xs) = filter_step p n x xs (p x) passes refl (times_filter p n passes xs)
+
+module _ (old : List PageUse) (ids past items : List ℕ) (listing : Listing) (long : length listing.table.now ≡ length old)
+    (used : (n : ℕ) → is_used (use_at listing.table.now n) ≡ is_used (use_at old n))
+    (are : past ≡ filter (λ id. nat_le (length old) id) ids) (moved : IsPermutation past items) (is : listing.past.now ≡ items) where
+  pub settled : IsSorted nat_cmp items → ((n : ℕ) → n < 2 → IsClaimed old n) → length old ≤ listing.mark → IsSettled listing
+  settled sorted metas below = record {
+    sorted = subst IsNonDecreasing (sym is) (IsNonDecreasingBy-from_sort (λ (x : ℕ). x) items sorted);
+    past = subst (All (λ (id : ℕ). length listing.table.now ≤ id)) (sym is) (All-permutation (λ (id : ℕ). length listing.table.now ≤ id) past items moved
+        (subst (All (λ (id : ℕ). length listing.table.now ≤ id)) (sym are)
+        (All-weaker (λ (id : ℕ). nat_le (length old) id ≡ true) (λ (id : ℕ). length listing.table.now ≤ id)
+        (λ id e. let le = leb-true (length old) id e in omega (arith, long, le)) (filter (λ id. nat_le (length old) id) ids)
+        (filter_passes (λ id. nat_le (length old) id) ids))));
+    metas = λ n h. used n ∙ metas n h;
+    below = omega (arith, long, below);
+  }
+
+  pub same_times : IsSettled listing → ((n : ℕ) → n < length old → times_of (use_at listing.table.now n) ≡ min 2 (times_in ids n))
+      → (n : ℕ) → min 2 (listed_times listing n) ≡ min 2 (times_in ids n)
+  same_times ok times n = elim (cases_lt n (length listing.table.now)) [
+    | inl inside ↦ (let e = times_table listing ok n inside in let t = times n (omega (arith, long, inside)) in omega (arith, e, t))
+    | inr after ↦ (let e = times_past listing ok n after in
+        let same = ap (λ (xs : List ℕ). times_in xs n) is ∙ sum_by-IsPermutation (λ (id : ℕ). cond (id == n) 1 0) past items moved ∙ ap (λ (xs : List ℕ). times_in xs n) are
+        ∙ times_filter (λ id. nat_le (length old) id) n (le-leb (length old) n (omega (arith, long, after))) ids in
+        omega (arith, e, same))
+  ]
+
+  -- what is told of the listing is told of the ids
+  pub listing_told : IsSettled listing → ((n : ℕ) → n < length old → times_of (use_at listing.table.now n) ≡ min 2 (times_in ids n))
+      → (r : Result (Vec Finding Global) AllocError) → IfOk r (λ told. AreAllTold listing.mark (is_in_use listing) (listed_times listing) told.items)
+      → IfOk r (λ told. AreAllTold listing.mark (IsClaimed old) (times_in ids) told.items)
+  listing_told ok times r told =
+      IfOk-weaker r (λ told. AreAllTold listing.mark (is_in_use listing) (listed_times listing) told.items) (λ told. AreAllTold listing.mark (IsClaimed old) (times_in ids) told.items)
+      (λ v. told_along listing.mark (is_in_use listing) (IsClaimed old) (listed_times listing) (times_in ids) (λ n claimed. sym (used n) ∙ claimed) (λ n claimed. used n ∙ claimed)
+      (same_times ok times) v.items) told

@@ -1,0 +1,48 @@
+-- From the search and the test of the accounts to the whole file.
+use Rattle.std.proofs.Common.{◌≡◌, ◌∙◌, ap, subst, ℕ, ◌↔◌, ◌∷◌, ◌==◌, ◌≢◌, List, [], false, true, length, refl}
+use Rattle.bolt_format.specs.Metas.{IsChosen}
+use Rattle.bolt_format.specs.declared.meta.Meta.{Meta}
+use Rattle.bolt_format.specs.declared.meta.Slot.{Slot}
+use Rattle.bolt_check.specs.Accounts.{HasAccounts}
+use Rattle.bolt_check.specs.Findings.{IsClean, IsMetaPage}
+use Rattle.bolt_check.specs.Nodes.{node_at}
+use Rattle.bolt_check.specs.Sound.{HasRightAccounts, IsSound, IsUsed}
+use Rattle.bolt_check.specs.Tables.{IsClaimed}
+use Rattle.bolt_check.specs.Told.{AreTold}
+use Rattle.bolt_check.specs.Ways.{reached}
+use Rattle.bolt_check.specs.declared.finding.Finding.{Finding}
+use Rattle.bolt_check.specs.declared.table.PageUse.{PageUse}
+use Rattle.bolt_check.proofs.AccountsAlong.{are_told_along, has_accounts_along}
+use Rattle.bolt_check.proofs.Shaping.{shape_of}
+
+pub right_of : (file : List ℕ) (meta : Meta) (table : List PageUse) → ((n : ℕ) → IsClaimed table n ↔ IsUsed file meta n)
+    → HasAccounts file meta (IsClaimed table) → HasRightAccounts file meta
+right_of file meta table same = has_accounts_along file meta (IsClaimed table) (IsUsed file meta) (λ n. (same n).0) (λ n. (same n).1)
+
+pub wrong_of : (file : List ℕ) (meta : Meta) (table : List PageUse) → ((n : ℕ) → IsClaimed table n ↔ IsUsed file meta n)
+    → (HasAccounts file meta (IsClaimed table) → ⊥) → HasRightAccounts file meta → ⊥
+wrong_of file meta table same wrong right = wrong (has_accounts_along file meta (IsUsed file meta) (IsClaimed table) (λ n. (same n).1) (λ n. (same n).0) right)
+
+pub told_of_file : (file : List ℕ) (meta : Meta) (table : List PageUse) (told : List Finding) → ((n : ℕ) → IsClaimed table n ↔ IsUsed file meta n)
+    → AreTold file meta (IsClaimed table) told → AreTold file meta (IsUsed file meta) told
+told_of_file file meta table told same = are_told_along file meta (IsClaimed table) (IsUsed file meta) (λ n. (same n).0) (λ n. (same n).1) told
+
+pub sound_of : (file : List ℕ) (slot : Slot) (meta : Meta) (table : List PageUse) → IsChosen file slot meta
+    → IsClean (node_at file meta) (reached (node_at file meta) meta.root) IsMetaPage → ((n : ℕ) → IsClaimed table n ↔ IsUsed file meta n)
+    → HasAccounts file meta (IsClaimed table) → IsSound file meta true
+sound_of file slot meta table chosen clean same accounts = record {
+  slot = slot;
+  valid = chosen.valid;
+  trees = shape_of (node_at file meta) meta.root clean;
+  right = λ _. right_of file meta table same accounts;
+}
+
+pub no_items : (told : List Finding) → length told ≡ 0 → told ≡ []
+no_items [] e = refl
+no_items (x ∷ told) e = absurd (cc)
+
+yes_not : (n : ℕ) → n ≡ 0 → (n == 0) ≡ false → ⊥
+yes_not n e not = let h : (0 == 0) ≡ false = subst (λ (m : ℕ). (m == 0) ≡ false) e not in cc
+
+pub some_items : (told : List Finding) (n : ℕ) → n ≡ length told → (n == 0) ≡ false → told ≢ []
+some_items told n long not e = let zero : length told ≡ 0 = ap length e in let none : n ≡ 0 = long ∙ zero in yes_not n none not

@@ -1,0 +1,18 @@
+use Rattle.std.proofs.Common.{◌≡◌, ◌∙◌, ◌<◌, length, nat_le, arith}
+use Rattle.bolt_format.specs.ShownIds.{shown_ids}
+use Rattle.bolt_check.specs.Tables.{use_at}
+use Rattle.bolt_check.specs.Uses.{times_of}
+use Rattle.bolt_check.proofs.ListLemmas.{past_more, times_more}
+use Rattle.bolt_check.proofs.listing.list_ids.Goals as goal
+
+pub loop-i-preserved : goal.loop-i-preserved
+loop-i-preserved c =
+    let now = c.in_ok-list_id.ensures in
+    let long : length c.loop-i.table ≡ length c.args.table.now = omega arith in
+    let inside : c.loop-i.i < length (shown_ids c.args.ids) = omega arith in
+    record {
+      used = λ n. now.used n ∙ c.loop-i.invariant.used n;
+      times = λ n h. now.times n (omega arith)
+          ∙ times_more (shown_ids c.args.ids) c.loop-i.i c.get.result n (times_of (use_at c.loop-i.table n)) inside c.get.ensures (c.loop-i.invariant.times n h);
+      past = (rw long at now.past) ∙ past_more (λ id. nat_le (length c.args.table.now) id) (shown_ids c.args.ids) c.loop-i.i c.get.result c.loop-i.past.items inside c.get.ensures c.loop-i.invariant.past;
+    }

@@ -1,0 +1,46 @@
+-- Sound files, and what is told of the others: docs/SOUND.md.
+use Rattle.std.specs.Prelude.{ℕ, List, Bool, IsTrue}
+use Rattle.bolt_format.specs.Metas.{HasMetaFault, IsChosen, IsInSlot}
+use Rattle.bolt_format.specs.declared.meta.Meta.{Meta}
+use Rattle.bolt_format.specs.declared.meta.Slot.{Slot}
+use Rattle.bolt_check.specs.Accounts.{HasAccounts}
+use Rattle.bolt_check.specs.Findings.{IsCovered, IsFirst, IsMetaPage}
+use Rattle.bolt_check.specs.Nodes.{node_at}
+use Rattle.bolt_check.specs.Shape.{HasShape}
+use Rattle.bolt_check.specs.Told.{AreTold}
+use Rattle.bolt_check.specs.Ways.{reached}
+use Rattle.bolt_check.specs.declared.fault.CheckFault.{CheckFault}
+use Rattle.bolt_check.specs.declared.fault.CheckFault.TheVariants.{Accounts, Memory, Open, Structure}
+use Rattle.bolt_check.specs.declared.finding.Finding.{Finding}
+
+-- page n is a meta page, or in the span of a page that a way leads to
+abbrev pub IsUsed : List ℕ → Meta → ℕ → Type 0
+IsUsed file meta n = IsCovered (node_at file meta) (reached (node_at file meta) meta.root) IsMetaPage n
+
+-- the trees of the file, for this meta, are sound
+abbrev pub HasSoundTrees : List ℕ → Meta → Type 0
+HasSoundTrees file meta = HasShape (node_at file meta) meta.root
+
+-- the accounts of the file, for this meta, are right
+abbrev pub HasRightAccounts : List ℕ → Meta → Type 0
+HasRightAccounts file meta = HasAccounts file meta (IsUsed file meta)
+
+-- the first finding of the trees
+abbrev pub IsFirstFinding : List ℕ → Meta → Finding → Type 0
+IsFirstFinding file meta x = IsFirst (node_at file meta) (reached (node_at file meta) meta.root) IsMetaPage x
+
+-- what a checked file is known to be, where its accounts were tested too or not
+pub record IsSound (file : List ℕ) (meta : Meta) (accounts : Bool) : Type 0 where
+  pub slot : Slot
+  pub valid : IsInSlot file slot meta
+  pub trees : HasSoundTrees file meta
+  pub right : IsTrue accounts → HasRightAccounts file meta
+
+-- why the file, for the meta in force, is not sound
+abbrev pub IsRefused : List ℕ → CheckFault → Type 0
+IsRefused file (Open fault) = HasMetaFault file 0 fault × ((slot : Slot) (meta : Meta) → IsInSlot file slot meta → ⊥)
+IsRefused file (Structure x) = (slot : Slot) × (meta : Meta) × IsChosen file slot meta × IsFirstFinding file meta x
+IsRefused file (Accounts told) =
+    (slot : Slot) × (meta : Meta) × IsChosen file slot meta × HasSoundTrees file meta × (HasRightAccounts file meta → ⊥)
+    × AreTold file meta (IsUsed file meta) told.items
+IsRefused file Memory = Unit {0}

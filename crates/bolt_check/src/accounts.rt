@@ -1,0 +1,92 @@
+//! Does the freelist account for every page that is not in use? (docs/SOUND.md, "Accounts").
+ghost use Rattle.std.specs.Prelude.{◌≡◌, ◌≢◌, ◌≤◌, ◌<◌, ◌+◌, ◌*◌, ◌∷◌, ℕ, [], IfOk, IfSome, MatchOption, None, length};
+ghost use Rattle.bolt_format.specs.Freelists.{freelist_fault_of};
+ghost use Rattle.bolt_format.specs.declared.meta.TheConstants.{NO_FREELIST};
+ghost use Rattle.bolt_format.specs.ShownIds.{shown_ids};
+ghost use Rattle.bolt_check.specs.Accounts.{HasAccounts, IsInFreelist, times_in};
+ghost use Rattle.bolt_check.specs.Listings.{AreAllTold, ClaimsFreelist, IsUnlisted};
+ghost use Rattle.bolt_check.specs.Tables.{HasRoom, IsClaimed};
+ghost use Rattle.bolt_check.specs.Told.{AreTold};
+
+use crate::finding::Finding;
+use crate::listing::{Listing, list_ids};
+use crate::table::{PageUse, claim, first_claimed};
+use crate::telling::tell_listing;
+use bolt_format::{FreeIds, Meta, free_ids, known};
+use std::alloc::{AllocError, Global};
+
+/// Tests the accounts of a file whose pages in use, but for the freelist's, the table has. The
+/// answer is what is told: nothing where the accounts are right.
+pub(crate) fn test_accounts(
+    alloc: Global,
+    file: &[u8],
+    meta: &Meta,
+    table: &mut [PageUse],
+) -> Result<Vec<Finding>, AllocError>
+    requires unlisted { IsUnlisted table.old }
+    requires metas { (n : ℕ) → n < 2 → IsClaimed table.old n }
+    requires below { length table.old ≤ meta.now.high_water }
+    requires room { HasRoom file.now meta.now table.old }
+    ensures right { IfOk result (λ told. told.items ≡ [] → HasAccounts file.now meta.now (IsClaimed table.old)) }
+    ensures wrong { IfOk result (λ told. told.items ≢ [] → HasAccounts file.now meta.now (IsClaimed table.old) → ⊥) }
+    ensures told { IfOk result (λ told. told.items ≢ [] → AreTold file.now meta.now (IsClaimed table.old) told.items) }
+{
+    let ids = match free_ids(file, meta) {
+        Ok(Some(ids)) => ids,
+        Ok(None) => return Ok(Vec::new(alloc)),
+        Err(fault) => return alone(alloc, Finding::of_page(fault.number, fault.page)),
+    };
+    match claim_freelist(file, meta, table) {
+        Some(page) => alone(alloc, Finding::of_page(Finding::TWICE, page)),
+        None => test_ids(alloc, ids, meta.high_water, table),
+    }
+}
+
+/// One finding.
+fn alone(alloc: Global, finding: Finding) -> Result<Vec<Finding>, AllocError>
+    ensures { IfOk result (λ told. told.items ≡ finding ∷ []) }
+{
+    let mut findings = Vec::new(alloc);
+    findings.push(finding)?;
+    Ok(findings)
+}
+
+/// Claims the freelist's span, unless a page of it is claimed: the answer is the lowest such page.
+fn claim_freelist(file: &[u8], meta: &Meta, table: &mut [PageUse]) -> Option<u64>
+    requires written { meta.now.freelist ≢ NO_FREELIST }
+    requires good { freelist_fault_of file.now meta.now ≡ None }
+    requires room { HasRoom file.now meta.now table.old }
+    ensures shared { IfSome result (λ n. IsInFreelist file.now meta.now n × IsClaimed table.old n × ((k : ℕ) → IsInFreelist file.now meta.now k → IsClaimed table.old k → n ≤ k)) }
+    ensures claimed { MatchOption result (ClaimsFreelist file.now meta.now table.old table.new) (λ _. Unit {0}) }
+{
+    let overflow = known(file, meta, meta.freelist).overflow();
+    let from = meta.freelist as usize;
+    let last = from + overflow as usize;
+    if let Some(page) = first_claimed(table, from, last) {
+        return Some(page as u64);
+    }
+    claim(table, from, last);
+    None
+}
+
+/// Tests the ids against a table that has all pages in use.
+fn test_ids(
+    alloc: Global,
+    ids: FreeIds<'_>,
+    mark: u64,
+    table: &mut [PageUse],
+) -> Result<Vec<Finding>, AllocError>
+    requires unlisted { IsUnlisted table.old }
+    requires metas { (n : ℕ) → n < 2 → IsClaimed table.old n }
+    requires below { length table.old ≤ mark }
+    ensures { IfOk result (λ told. AreAllTold mark (IsClaimed table.old) (times_in (shown_ids ids.entry)) told.items) }
+{
+    let mut past = list_ids(alloc, ids, table)?;
+    past.sort_unstable();
+    let listing = Listing {
+        table,
+        past: &past,
+        mark,
+    };
+    tell_listing(alloc, &listing)
+}

@@ -1,0 +1,43 @@
+//! A file that passed its tests.
+ghost use Rattle.std.specs.Prelude.{◌≡◌};
+ghost use Rattle.bolt_check.specs.Sound.{IsSound};
+
+use bolt_format::Meta;
+
+/// A file whose trees are sound for a valid meta (docs/SOUND.md). None is made but by a test of
+/// the file, so its pages may be read without testing them again.
+#[derive(Clone, Copy)]
+pub struct Checked<'a> {
+    pub(crate) bytes: &'a [u8],
+    pub(crate) meta: Meta,
+    pub(crate) accounts: bool,
+    pub ghost sound: { ∥ IsSound bytes.now meta accounts ∥₁ },
+}
+
+impl<'a> Checked<'a> {
+    ghost use Rattle.bolt_check.specs.CheckedFiles.{bytes_of, has_accounts, meta_of};
+
+    /// The bytes of the file.
+    #[tactic(auto, unfolding(crate::specs::CheckedFiles::bytes_of))]
+    pub fn bytes(&self) -> &'a [u8]
+        ensures { result.now ≡ bytes_of self.now }
+    {
+        self.bytes
+    }
+
+    /// The meta under which the file was tested.
+    #[tactic(auto, unfolding(crate::specs::CheckedFiles::meta_of))]
+    pub fn meta(&self) -> Meta
+        ensures { result ≡ meta_of self.now }
+    {
+        self.meta
+    }
+
+    /// Whether the accounts were tested too.
+    #[tactic(auto, unfolding(crate::specs::CheckedFiles::has_accounts))]
+    pub fn accounts(&self) -> bool
+        ensures { result ≡ has_accounts self.now }
+    {
+        self.accounts
+    }
+}

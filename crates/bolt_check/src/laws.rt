@@ -1,0 +1,15 @@
+//! What the definitions of sound files imply.
+ghost use Rattle.std.specs.Prelude.{◌≡◌, ℕ, List};
+ghost use Rattle.bolt_format.specs.declared.meta.Meta.{Meta};
+ghost use Rattle.bolt_check.specs.Sound.{HasSoundTrees, IsFirstFinding};
+ghost use Rattle.bolt_check.specs.declared.finding.Finding.{Finding};
+
+/// Sound trees have no finding.
+pub fn sound_trees_have_no_finding()
+    ensures { (file : List ℕ) (meta : Meta) (x : Finding) → HasSoundTrees file meta → IsFirstFinding file meta x → ⊥ }
+{}
+
+/// There is at most one first finding.
+pub fn first_finding_is_one()
+    ensures { (file : List ℕ) (meta : Meta) (x y : Finding) → IsFirstFinding file meta x → IsFirstFinding file meta y → x ≡ y }
+{}

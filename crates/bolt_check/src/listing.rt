@@ -1,0 +1,67 @@
+//! What the freelist lists, by page: the table of pages, and the ids past it.
+ghost use Rattle.std.specs.Prelude.{◌≡◌, ◌==◌, ◌<◌, ◌+◌, ◌++◌, ◌∷◌, ℕ, [], IfOk, OnOk, filter, if◌then◌else◌, length, min, nat_le};
+ghost use Rattle.bolt_format.specs.ShownIds.{shown_ids};
+ghost use Rattle.bolt_check.specs.Accounts.{times_in};
+ghost use Rattle.bolt_check.specs.Tables.{is_used, use_at};
+ghost use Rattle.bolt_check.specs.Listings.{IsUnlisted};
+ghost use Rattle.bolt_check.specs.Uses.{times_of};
+
+use crate::table::PageUse;
+use bolt_format::FreeIds;
+use std::alloc::{AllocError, Global};
+
+/// What each page is for: for the first pages as the table says; behind it no page is used, and
+/// the ids there, sorted, say which are listed.
+#[derive(Clone, Copy)]
+pub(crate) struct Listing<'a> {
+    pub table: &'a [PageUse],
+    pub past: &'a [u64],
+    /// The high-water mark.
+    pub mark: u64,
+}
+
+/// A page that is listed once more.
+fn listed(page_use: PageUse) -> PageUse
+    ensures used { is_used result ≡ is_used page_use }
+    ensures times { times_of result ≡ min 2 (times_of page_use + 1) }
+{
+    match page_use {
+        PageUse::Unused => PageUse::Free,
+        PageUse::Free | PageUse::FreeTwice => PageUse::FreeTwice,
+        PageUse::Used => PageUse::UsedFree,
+        PageUse::UsedFree | PageUse::UsedFreeTwice => PageUse::UsedFreeTwice,
+    }
+}
+
+/// Lists one id in the table, or where it is past the table, behind the others.
+fn list_id(id: u64, table: &mut [PageUse], past: &mut Vec<u64>) -> Result<(), AllocError>
+    ensures used { OnOk result ((n : ℕ) → is_used (use_at table.new n) ≡ is_used (use_at table.old n)) }
+    ensures times { OnOk result ((n : ℕ) → n < length table.old → times_of (use_at table.new n) ≡ min 2 (times_of (use_at table.old n) + (if id == n then 1 else 0))) }
+    ensures past { OnOk result (past.new.items ≡ past.old.items ++ (if nat_le (length table.old) id then id ∷ [] else [])) }
+{
+    if table.len() as u64 <= id {
+        past.push(id)?;
+        return Ok(());
+    }
+    let n = id as usize;
+    table[n] = listed(table[n]);
+    Ok(())
+}
+
+/// Lists the ids in the table, and answers those past it in the order in which they stand.
+pub(crate) fn list_ids(
+    alloc: Global,
+    ids: FreeIds<'_>,
+    table: &mut [PageUse],
+) -> Result<Vec<u64>, AllocError>
+    requires { IsUnlisted table.old }
+    ensures used { OnOk result ((n : ℕ) → is_used (use_at table.new n) ≡ is_used (use_at table.old n)) }
+    ensures times { OnOk result ((n : ℕ) → n < length table.old → times_of (use_at table.new n) ≡ min 2 (times_in (shown_ids ids.entry) n)) }
+    ensures past { IfOk result (λ past. past.items ≡ filter (λ id. nat_le (length table.old) id) (shown_ids ids.entry)) }
+{
+    let mut past = Vec::new(alloc);
+    for i in 0..ids.len() {
+        list_id(ids.get(i), table, &mut past)?;
+    }
+    Ok(past)
+}

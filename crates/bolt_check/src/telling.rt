@@ -1,0 +1,225 @@
+//! Tells what is wrong with the pages of a listing, in the order of the pages.
+ghost use Rattle.std.specs.Prelude.{◌≡◌, ◌≤◌, ◌<◌, ◌+◌, ◌++◌, ◌↔◌, ℕ, [], IfOk, IsTrue, OnOk, length, slice_index};
+ghost use Rattle.bolt_check.specs.Listings.{AreAllTold, AreToldBelow, IsBeyondTo, IsPastTo, IsSettled, IsToldTo, is_in_use, is_repeated, listed_times, meta_findings, page_findings, repeat_findings, run_findings, use_findings};
+
+use crate::finding::Finding;
+use crate::listing::Listing;
+use crate::table::PageUse;
+use std::alloc::{AllocError, Global};
+
+/// Tells the lost pages from one page to before another, if there are any.
+fn tell_run(findings: &mut Vec<Finding>, from: u64, page: u64) -> Result<(), AllocError>
+    ensures { OnOk result (findings.new.items ≡ findings.old.items ++ run_findings from page) }
+{
+    if from < page {
+        findings.push(Finding {
+            number: Finding::UNREACHABLE,
+            page: from,
+            last: page - 1,
+        })?;
+    }
+    Ok(())
+}
+
+/// Tells what is wrong with a meta page.
+fn tell_meta(findings: &mut Vec<Finding>, page: u64, page_use: PageUse) -> Result<(), AllocError>
+    ensures { OnOk result (findings.new.items ≡ findings.old.items ++ meta_findings page page_use) }
+{
+    match page_use {
+        PageUse::Unused | PageUse::Used => {}
+        PageUse::Free | PageUse::FreeTwice | PageUse::UsedFree | PageUse::UsedFreeTwice => {
+            findings.push(Finding::of_page(Finding::FREE_RANGE, page))?;
+        }
+    }
+    Ok(())
+}
+
+/// Tells what is wrong with a page in range.
+fn tell_use(findings: &mut Vec<Finding>, page: u64, page_use: PageUse) -> Result<(), AllocError>
+    ensures { OnOk result (findings.new.items ≡ findings.old.items ++ use_findings page page_use) }
+{
+    match page_use {
+        PageUse::Unused | PageUse::Used | PageUse::Free => {}
+        PageUse::FreeTwice => findings.push(Finding::of_page(Finding::FREED_TWICE, page))?,
+        PageUse::UsedFree => findings.push(Finding::of_page(Finding::REACHED_FREED, page))?,
+        PageUse::UsedFreeTwice => {
+            findings.push(Finding::of_page(Finding::FREED_TWICE, page))?;
+            findings.push(Finding::of_page(Finding::REACHED_FREED, page))?;
+        }
+    }
+    Ok(())
+}
+
+/// Tells what is wrong with a page below the mark.
+fn tell_page(findings: &mut Vec<Finding>, page: u64, page_use: PageUse) -> Result<(), AllocError>
+    ensures { OnOk result (findings.new.items ≡ findings.old.items ++ page_findings page page_use) }
+{
+    if page < 2 {
+        tell_meta(findings, page, page_use)
+    } else {
+        tell_use(findings, page, page_use)
+    }
+}
+
+/// Whether a page is neither used nor listed.
+fn is_unused(page_use: PageUse) -> bool
+    ensures { IsTrue result ↔ (page_use ≡ PageUse.Unused) }
+{
+    match page_use {
+        PageUse::Unused => true,
+        PageUse::Used
+        | PageUse::Free
+        | PageUse::FreeTwice
+        | PageUse::UsedFree
+        | PageUse::UsedFreeTwice => false,
+    }
+}
+
+/// Tells one page of the table, and the run of lost pages from `from` on if it ends before it.
+/// The answer is the page from which on all up to this one are lost and still untold.
+fn tell_entry(
+    listing: &Listing<'_>,
+    n: usize,
+    from: u64,
+    findings: &mut Vec<Finding>,
+) -> Result<u64, AllocError>
+    requires settled { IsSettled listing.now }
+    requires inside { n < length listing.now.table.now }
+    requires order { from ≤ n }
+    requires told { IsToldTo listing.now from n findings.old.items }
+    ensures order { IfOk result (λ next. next ≤ n + 1) }
+    ensures told { IfOk result (λ next. IsToldTo listing.now next (n + 1) findings.new.items) }
+{
+    let page_use = listing.table[n];
+    if is_unused(page_use) {
+        return Ok(from);
+    }
+    let page = n as u64;
+    tell_run(findings, from, page)?;
+    tell_page(findings, page, page_use)?;
+    Ok(page + 1)
+}
+
+/// Tells the pages of the table, and answers the page from which on all up to the table's end
+/// are lost and still untold.
+fn tell_table(listing: &Listing<'_>, findings: &mut Vec<Finding>) -> Result<u64, AllocError>
+    requires settled { IsSettled listing.now }
+    requires none { findings.old.items ≡ [] }
+    ensures within { IfOk result (λ from. from ≤ length listing.now.table.now) }
+    ensures told { IfOk result (λ from. IsToldTo listing.now from (length listing.now.table.now) findings.new.items) }
+{
+    let mut from = 0;
+    for n in 0..listing.table.len() {
+        from = tell_entry(listing, n, from, findings)?;
+    }
+    Ok(from)
+}
+
+/// Whether the next id is the same.
+fn is_repeated(ids: &[u64], i: usize) -> bool
+    requires { i < length ids.now }
+    ensures { result ≡ is_repeated ids.now i }
+{
+    i + 1 < ids.len() && ids[i + 1] == ids[i]
+}
+
+/// Tells an id where the next is the same.
+fn tell_repeated(findings: &mut Vec<Finding>, ids: &[u64], i: usize) -> Result<(), AllocError>
+    requires { i < length ids.now }
+    ensures { OnOk result (findings.new.items ≡ findings.old.items ++ repeat_findings ids.now i) }
+{
+    if is_repeated(ids, i) {
+        findings.push(Finding::of_page(Finding::FREED_TWICE, ids[i]))?;
+    }
+    Ok(())
+}
+
+/// Tells the id at place `i` where it is below the mark and untold, and the lost pages before it.
+fn tell_id(
+    listing: &Listing<'_>,
+    i: usize,
+    from: u64,
+    findings: &mut Vec<Finding>,
+) -> Result<u64, AllocError>
+    requires settled { IsSettled listing.now }
+    requires place { i < length listing.now.past.now }
+    requires within { from ≤ listing.now.mark }
+    requires told { IsPastTo listing.now from i findings.old.items }
+    ensures within { IfOk result (λ next. next ≤ listing.now.mark) }
+    ensures told { IfOk result (λ next. IsPastTo listing.now next (i + 1) findings.new.items) }
+{
+    let id = listing.past[i];
+    if id < from || listing.mark <= id {
+        return Ok(from);
+    }
+    tell_run(findings, from, id)?;
+    tell_repeated(findings, listing.past, i)?;
+    Ok(id + 1)
+}
+
+/// Tells the pages behind the table and below the mark, where those from `start` on are untold,
+/// and answers from where on all up to the mark are lost and still untold.
+fn tell_past(
+    listing: &Listing<'_>,
+    start: u64,
+    findings: &mut Vec<Finding>,
+) -> Result<u64, AllocError>
+    requires settled { IsSettled listing.now }
+    requires start { start ≤ length listing.now.table.now }
+    requires told { IsToldTo listing.now start (length listing.now.table.now) findings.old.items }
+    ensures within { IfOk result (λ from. from ≤ listing.now.mark) }
+    ensures told { IfOk result (λ from. IsToldTo listing.now from listing.now.mark findings.new.items) }
+{
+    let mut from = start;
+    for i in 0..listing.past.len() {
+        from = tell_id(listing, i, from, findings)?;
+    }
+    Ok(from)
+}
+
+/// Tells the id at place `i` where it isn't below the mark and is above `last`, the last one told.
+/// The answer is the last one told now.
+fn tell_high_id(
+    listing: &Listing<'_>,
+    i: usize,
+    last: u64,
+    findings: &mut Vec<Finding>,
+) -> Result<u64, AllocError>
+    requires settled { IsSettled listing.now }
+    requires place { i < length listing.now.past.now }
+    requires told { IsBeyondTo listing.now last i findings.old.items }
+    ensures { IfOk result (λ next. IsBeyondTo listing.now next (i + 1) findings.new.items) }
+{
+    let id = listing.past[i];
+    if id < listing.mark || id <= last {
+        return Ok(last);
+    }
+    findings.push(Finding::of_page(Finding::FREE_RANGE, id))?;
+    Ok(id)
+}
+
+/// Tells the ids from the mark on, each once.
+fn tell_beyond(listing: &Listing<'_>, findings: &mut Vec<Finding>) -> Result<(), AllocError>
+    requires settled { IsSettled listing.now }
+    requires told { AreToldBelow listing.now.mark (is_in_use listing.now) (listed_times listing.now) listing.now.mark findings.old.items }
+    ensures { OnOk result (AreAllTold listing.now.mark (is_in_use listing.now) (listed_times listing.now) findings.new.items) }
+{
+    let mut last = 0;
+    for i in 0..listing.past.len() {
+        last = tell_high_id(listing, i, last, findings)?;
+    }
+    Ok(())
+}
+
+/// All that is wrong with the pages of a listing.
+pub(crate) fn tell_listing(alloc: Global, listing: &Listing<'_>) -> Result<Vec<Finding>, AllocError>
+    requires { IsSettled listing.now }
+    ensures { IfOk result (λ told. AreAllTold listing.now.mark (is_in_use listing.now) (listed_times listing.now) told.items) }
+{
+    let mut findings = Vec::new(alloc);
+    let past_table = tell_table(listing, &mut findings)?;
+    let from = tell_past(listing, past_table, &mut findings)?;
+    tell_run(&mut findings, from, listing.mark)?;
+    tell_beyond(listing, &mut findings)?;
+    Ok(findings)
+}
