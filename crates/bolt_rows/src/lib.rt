@@ -5,6 +5,8 @@
 #[cfg(test)]
 mod bucket_command_rows;
 #[cfg(test)]
+mod check_rows;
+#[cfg(test)]
 mod commands;
 #[cfg(test)]
 mod fault_rows;

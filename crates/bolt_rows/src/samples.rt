@@ -2,7 +2,7 @@
 
 use crate::maker::{
     Element, MetaFields, NO_FREELIST, branch, database, database_of, freelist, inline, leaf,
-    long_freelist, patch,
+    long_freelist, patch, reference,
 };
 use Element::{Bucket, Value};
 use std::alloc::{AllocError, Global};
@@ -193,4 +193,106 @@ pub fn many_free_pages(alloc: Global, ids: &[u64]) -> Result<Vec<u8>, AllocError
     };
     let pages = [(2, free.as_slice()), (131, root.as_slice())];
     database(alloc, 132, &fields, &pages)
+}
+
+/// A branch of three pages whose middle one is an empty leaf: `a` to 4, `f` to 5, `m` to 6.
+pub fn empty_middle(alloc: Global) -> Result<Vec<u8>, AllocError> {
+    let root = branch(alloc, 3, &[(b"a", 4), (b"f", 5), (b"m", 6)])?;
+    let first = leaf(alloc, 4, &[Value(b"a", b""), Value(b"c", b"")])?;
+    let middle = leaf(alloc, 5, &[])?;
+    let last = leaf(alloc, 6, &[Value(b"m", b""), Value(b"p", b"")])?;
+    let fields = MetaFields {
+        mark: 7,
+        ..MetaFields::fresh(4096)
+    };
+    let pages = [
+        (3, root.as_slice()),
+        (4, first.as_slice()),
+        (5, middle.as_slice()),
+        (6, last.as_slice()),
+    ];
+    database(alloc, 7, &fields, &pages)
+}
+
+/// The fresh file with a fifth page, which is free.
+pub fn one_free_page(alloc: Global) -> Result<Vec<u8>, AllocError> {
+    let free = freelist(alloc, 2, &[4])?;
+    let root = leaf(alloc, 3, &[])?;
+    let fields = MetaFields {
+        mark: 5,
+        ..MetaFields::fresh(4096)
+    };
+    database(
+        alloc,
+        5,
+        &fields,
+        &[(2, free.as_slice()), (3, root.as_slice())],
+    )
+}
+
+/// The fresh file under another mark, with so many pages held.
+pub fn marked(alloc: Global, mark: u64, pages_held: usize) -> Result<Vec<u8>, AllocError> {
+    let root = leaf(alloc, 3, &[])?;
+    let fields = MetaFields {
+        mark,
+        ..MetaFields::fresh(4096)
+    };
+    database(alloc, pages_held, &fields, &[(3, root.as_slice())])
+}
+
+/// Branches from page 3 to a last one, each with `a` to the next page, and then an empty leaf.
+pub fn chain(alloc: Global, last_branch: u64) -> Result<Vec<u8>, AllocError> {
+    let end = last_branch.saturating_add(1);
+    let fields = MetaFields {
+        mark: end.saturating_add(1),
+        ..MetaFields::fresh(1024)
+    };
+    let pages_held = (last_branch as usize).saturating_add(2);
+    let mut file = database(alloc, pages_held, &fields, &[])?;
+    for id in 3..end {
+        let page = branch(alloc, id, &[(b"a", id.saturating_add(1))])?;
+        patch(
+            &mut file,
+            (id as usize).saturating_mul(1024),
+            page.as_slice(),
+        )?;
+    }
+    let page = leaf(alloc, end, &[])?;
+    patch(
+        &mut file,
+        (end as usize).saturating_mul(1024),
+        page.as_slice(),
+    )?;
+    Ok(file)
+}
+
+/// A leaf page of ten values of 82 bytes, whose keys have two digits and begin alike.
+fn ten_values(alloc: Global, id: u64, first_digit: u8) -> Result<Vec<u8>, AllocError> {
+    let keys = b"0123456789".map(|digit| [first_digit, digit]);
+    let mut elements = Vec::new(alloc);
+    for key in &keys {
+        elements.push(Value(key, &[b'x'; 82]))?;
+    }
+    leaf(alloc, id, elements.as_slice())
+}
+
+/// Bucket `b` with the keys `00` to `39` on four leaves of 1,024 bytes, below a branch.
+pub fn forty_values(alloc: Global) -> Result<Vec<u8>, AllocError> {
+    let children: [(&[u8], u64); 4] = [(b"00", 3), (b"10", 4), (b"20", 5), (b"30", 6)];
+    let top = branch(alloc, 7, &children)?;
+    let rooted = reference(alloc, 7, 0)?;
+    let root = leaf(alloc, 8, &[Bucket(b"b", rooted.as_slice())])?;
+    let fields = MetaFields {
+        root: 8,
+        mark: 9,
+        ..MetaFields::fresh(1024)
+    };
+    let pages = [(7, top.as_slice()), (8, root.as_slice())];
+    let mut file = database(alloc, 9, &fields, &pages)?;
+    for (i, digit) in b"0123".iter().enumerate() {
+        let id = i.saturating_add(3);
+        let page = ten_values(alloc, id as u64, *digit)?;
+        patch(&mut file, id.saturating_mul(1024), page.as_slice())?;
+    }
+    Ok(file)
 }
