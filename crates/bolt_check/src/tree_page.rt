@@ -45,6 +45,7 @@ impl<'a> TreePage<'a> {
             self.page.branch(i).key
         }
     }
+
     /// Where element `i` leads from a stop at this page: a child of a branch, or a bucket of a leaf.
     #[tactic(auto, unfolding(crate::specs::ShownNodes::shown_node))]
     pub fn stop(&self, i: u16, stop: &PageStop<'a>) -> Option<Stop<'a>>
