@@ -1,7 +1,8 @@
 # The ordinary names. Each needs the toolchain's command `rt` on the path.
 PREFIX ?= /usr/local
 PROGRAM = crates/luntsegi/out/luntsegi
-EXAMPLES = $(wildcard examples/*.db)
+SOUND = $(wildcard examples/*.buckets)
+LEAKED = examples/leaked
 
 .PHONY: build demo examples test install clean
 
@@ -18,7 +19,10 @@ demo: $(PROGRAM)
 
 # What the program prints of each real database, compared with what bbolt finds in it.
 examples: $(PROGRAM)
-	for file in $(EXAMPLES); do $(PROGRAM) buckets $$file | cmp - $${file%.db}.buckets || exit 1; done
+	for list in $(SOUND); do $(PROGRAM) buckets $${list%.buckets}.db | cmp - $$list || exit 1; done
+	for list in $(SOUND); do $(PROGRAM) check $${list%.buckets}.db | grep -qx OK || exit 1; done
+	! $(PROGRAM) check $(LEAKED).db > /dev/null
+	$(PROGRAM) check $(LEAKED).db | cmp - $(LEAKED).findings
 
 # The merge gate: every proof from nothing, the wrong bodies, the tests and the program.
 test:

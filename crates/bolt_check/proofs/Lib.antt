@@ -1,5 +1,6 @@
 mod AccountLemmas
 mod AccountsAlong
+pub mod CheckedLemmas
 mod ClaimLemmas
 mod CountLemmas
 mod Forest
@@ -20,6 +21,7 @@ mod Single
 mod SoundLemmas
 mod TableLemmas
 mod ToldLemmas
+mod ToldOnce
 mod VisitLemmas
 mod Visited
 mod Visiting

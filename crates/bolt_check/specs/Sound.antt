@@ -1,5 +1,5 @@
 -- Sound files, and what is told of the others: docs/SOUND.md.
-use Rattle.std.specs.Prelude.{ℕ, List, Bool, IsTrue}
+use Rattle.std.specs.Prelude.{◌≢◌, ℕ, List, [], Bool, IsTrue}
 use Rattle.bolt_format.specs.Metas.{HasMetaFault, IsChosen, IsInSlot}
 use Rattle.bolt_format.specs.declared.meta.Meta.{Meta}
 use Rattle.bolt_format.specs.declared.meta.Slot.{Slot}
@@ -42,5 +42,5 @@ IsRefused file (Open fault) = HasMetaFault file 0 fault × ((slot : Slot) (meta 
 IsRefused file (Structure x) = (slot : Slot) × (meta : Meta) × IsChosen file slot meta × IsFirstFinding file meta x
 IsRefused file (Accounts told) =
     (slot : Slot) × (meta : Meta) × IsChosen file slot meta × HasSoundTrees file meta × (HasRightAccounts file meta → ⊥)
-    × AreTold file meta (IsUsed file meta) told.items
+    × AreTold file meta (IsUsed file meta) told.items × (told.items ≢ [])
 IsRefused file Memory = Unit {0}

@@ -1,7 +1,8 @@
 //! What the definitions of sound files imply.
 ghost use Rattle.std.specs.Prelude.{◌≡◌, ℕ, List};
 ghost use Rattle.bolt_format.specs.declared.meta.Meta.{Meta};
-ghost use Rattle.bolt_check.specs.Sound.{HasSoundTrees, IsFirstFinding};
+ghost use Rattle.bolt_check.specs.Sound.{HasSoundTrees, IsFirstFinding, IsUsed};
+ghost use Rattle.bolt_check.specs.Told.{AreTold};
 ghost use Rattle.bolt_check.specs.declared.finding.Finding.{Finding};
 
 /// Sound trees have no finding.
@@ -12,4 +13,9 @@ pub fn sound_trees_have_no_finding()
 /// There is at most one first finding.
 pub fn first_finding_is_one()
     ensures { (file : List ℕ) (meta : Meta) (x y : Finding) → IsFirstFinding file meta x → IsFirstFinding file meta y → x ≡ y }
+{}
+
+/// What is told of the accounts is one list.
+pub fn told_accounts_are_one()
+    ensures { (file : List ℕ) (meta : Meta) (a b : List Finding) → AreTold file meta (IsUsed file meta) a → AreTold file meta (IsUsed file meta) b → a ≡ b }
 {}

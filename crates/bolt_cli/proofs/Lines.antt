@@ -19,8 +19,8 @@ use Rattle.clap.proofs.OnLiterals.{clap_on_literals}
 use Rattle.bolt_cli.specs.declared.words.Job.{Job}
 use Rattle.bolt_cli.specs.declared.words.Refusal.{Refusal}
 use Rattle.bolt_cli.specs.declared.words.Refusal.TheVariants.{Memory, Help, Usage, Word}
-use Rattle.bolt_cli.specs.CommandLine.{Asks, IsRefusedBy, asked_by, asked_by_buckets, asked_by_info, asked_by_page, asked_by_subcommand, page_id, program, result_and_then, value_of}
-use Rattle.bolt_cli.specs.PlainWords.{Asked, IsRefusalOf, Reading, and_then, asked_of, asks, buckets, buckets_line, decimal_value, help, info, info_line, is_help, is_option, is_page_id, line_of, operands, option_reading, page, page_line, refused, unread}
+use Rattle.bolt_cli.specs.CommandLine.{Asks, IsRefusedBy, asked_by, asked_by_buckets, asked_by_check, asked_by_info, asked_by_page, asked_by_subcommand, page_id, program, result_and_then, value_of}
+use Rattle.bolt_cli.specs.PlainWords.{Asked, IsRefusalOf, Reading, and_then, asked_of, asks, buckets, buckets_line, check, check_line, decimal_value, help, info, info_line, is_help, is_option, is_page_id, line_of, operands, option_reading, page, page_line, refused, unread}
 use Rattle.bolt_cli.proofs.Levels.{Agrees, at_word, turn_operand, turn_option}
 use Rattle.bolt_cli.proofs.CommandOperands.{HasFile, HasFileAndId, file_read, file_shape, page_read, page_shape}
 use Rattle.bolt_cli.proofs.Options.{HasOnlyHelp, IsPlainFault, OptionFault, option_then, other_kind, plain_then, true_is_not_false}
@@ -139,6 +139,19 @@ unfolding clap_on_literals
 page_asked_by name words = ap (λ (place : Walk). asked_by_subcommand (entered top place.stopped))
     (stop_walks top.top.rules (names_of top) (codes "page") [] words)
 
+check_faults : (name : Text) (words : List Text)
+    → fault_of program (name ∷ codes "check" ∷ words) ≡ or_else (level_fault (file_shape (codes "check")) [] nothing_held words false []) []
+unfolding clap_on_literals
+check_faults name words =
+    ap₂ top_faults (stop_faults top.top (names_of top) (codes "check") [] words)
+    (stop_walks top.top.rules (names_of top) (codes "check") [] words)
+
+check_asked : (name : Text) (words : List Text)
+    → asked_by (name ∷ codes "check" ∷ words) ≡ asked_by_check (rows_after (file_shape (codes "check")).rules [] words)
+unfolding clap_on_literals
+check_asked name words = ap (λ (place : Walk). asked_by_subcommand (entered top place.stopped))
+    (stop_walks top.top.rules (names_of top) (codes "check") [] words)
+
 buckets_faults : (name : Text) (words : List Text)
     → fault_of program (name ∷ codes "buckets" ∷ words) ≡ or_else (level_fault (file_shape (codes "buckets")) [] nothing_held words false []) []
 unfolding clap_on_literals
@@ -176,6 +189,11 @@ page_line_read : (name : Text) (words : List Text) → All IsUtf8 words
 page_line_read name words texts = by_command _ (name ∷ codes "page" ∷ words) _ _ (page_faults name words) (page_asked_by name words)
     (page_agrees (operands 2 words) _ _ (page_read words texts))
 
+check_read : (name : Text) (words : List Text) → All IsUtf8 words
+    → IsReadAs (and_then check_line (operands 1 words)) (name ∷ codes "check" ∷ words)
+check_read name words texts = by_command _ (name ∷ codes "check" ∷ words) _ _ (check_faults name words) (check_asked name words)
+    (one_file check_line check (λ file. refl) (operands 1 words) _ _ (file_read (codes "check") words texts))
+
 buckets_read : (name : Text) (words : List Text) → All IsUtf8 words
     → IsReadAs (and_then buckets_line (operands 1 words)) (name ∷ codes "buckets" ∷ words)
 buckets_read name words texts = by_command _ (name ∷ codes "buckets" ∷ words) _ _ (buckets_faults name words) (buckets_asked name words)
@@ -186,17 +204,18 @@ unlike_from word name unlike = false_from_ne_true (bytes_eq name word) (λ same.
     (sym ((bytes_eq-Decides word name).1 (sym ((bytes_eq-Decides name word).0 same))) ∙ unlike))
 
 -- the subcommand that is named, by whether it is each of them
-abbrev named_by : Bool → Bool → Bool → Option Text
-named_by is_info is_page is_buckets = option_map (λ (label : Text × List Text). label.0)
+abbrev named_by : (is_info is_page is_check is_buckets : Bool) → Option Text
+named_by is_info is_page is_check is_buckets = option_map (λ (label : Text × List Text). label.0)
     (cond (is_info || false) (Some (codes "info", []))
     (cond (is_page || false) (Some (codes "page", []))
-    (cond (is_buckets || false) (Some (codes "buckets", [])) None)))
+    (cond (is_check || false) (Some (codes "check", []))
+    (cond (is_buckets || false) (Some (codes "buckets", [])) None))))
 
-unnamed : (word : Text) → bytes_eq word (codes "info") ≡ false → bytes_eq word (codes "page") ≡ false → bytes_eq word (codes "buckets") ≡ false
-    → subcommand_met (names_of top) idle word ≡ None
-unnamed word no_info no_page no_buckets =
-    ap (λ (b : Bool). named_by b (bytes_eq (codes "page") word) (bytes_eq (codes "buckets") word)) (unlike_from word (codes "info") no_info)
-    ∙ ap₂ (named_by false) (unlike_from word (codes "page") no_page) (unlike_from word (codes "buckets") no_buckets)
+unnamed : (word : Text) → bytes_eq word (codes "info") ≡ false → bytes_eq word (codes "page") ≡ false → bytes_eq word (codes "check") ≡ false
+    → bytes_eq word (codes "buckets") ≡ false → subcommand_met (names_of top) idle word ≡ None
+unnamed word no_info no_page no_check no_buckets =
+    ap₂ (λ (a b : Bool). named_by a b (bytes_eq (codes "check") word) (bytes_eq (codes "buckets") word)) (unlike_from word (codes "info") no_info) (unlike_from word (codes "page") no_page)
+    ∙ ap₂ (named_by false false) (unlike_from word (codes "check") no_check) (unlike_from word (codes "buckets") no_buckets)
 
 no_command_is_plain : IsPlainFault (kind.MissingSubcommand ∷ [])
 no_command_is_plain = other_kind (λ same. search rules)
@@ -254,15 +273,16 @@ uncommanded_read name word rest text named = elim (cases_Bool (bytes_eq word (co
 ]
 
 -- the cases of `line_of`
-abbrev line_by : Text → List Text → Bool → Bool → Bool → Reading Asked
-line_by word rest is_info is_page is_buckets =
+abbrev line_by : Text → List Text → (is_info is_page is_check is_buckets : Bool) → Reading Asked
+line_by word rest is_info is_page is_check is_buckets =
     if is_info then and_then info_line (operands 1 rest)
     else if is_page then and_then page_line (operands 2 rest)
+    else if is_check then and_then check_line (operands 1 rest)
     else if is_buckets then and_then buckets_line (operands 1 rest)
     else uncommanded word
 
-abbrev IsReadBy : Text → List Text → Text → Bool → Bool → Bool → Type 0
-IsReadBy name rest word is_info is_page is_buckets = IsReadAs (line_by word rest is_info is_page is_buckets) (name ∷ word ∷ rest)
+abbrev IsReadBy : Text → List Text → Text → (is_info is_page is_check is_buckets : Bool) → Type 0
+IsReadBy name rest word is_info is_page is_check is_buckets = IsReadAs (line_by word rest is_info is_page is_check is_buckets) (name ∷ word ∷ rest)
 
 -- a word that is the command is read as it
 at_command : (name word : Text) (rest : List Text) (command : Text) (line : Reading Asked) → bytes_eq word command ≡ true
@@ -270,21 +290,22 @@ at_command : (name word : Text) (rest : List Text) (command : Text) (line : Read
 at_command name word rest command line same read =
     subst (λ (x : Text). IsReadAs line (name ∷ x ∷ rest)) (sym ((bytes_eq-Decides word command).0 same)) read
 
-line_read_by : (name word : Text) (rest : List Text) → IsUtf8 word → All IsUtf8 rest → (is_info is_page is_buckets : Bool)
-    → bytes_eq word (codes "info") ≡ is_info → bytes_eq word (codes "page") ≡ is_page → bytes_eq word (codes "buckets") ≡ is_buckets
-    → IsReadBy name rest word is_info is_page is_buckets
-line_read_by name word rest text texts true is_page is_buckets same _ _ = at_command name word rest (codes "info") _ same (info_read name rest texts)
-line_read_by name word rest text texts false true is_buckets _ same _ = at_command name word rest (codes "page") _ same (page_line_read name rest texts)
-line_read_by name word rest text texts false false true _ _ same = at_command name word rest (codes "buckets") _ same (buckets_read name rest texts)
-line_read_by name word rest text texts false false false no_info no_page no_buckets =
-    uncommanded_read name word rest text (unnamed word no_info no_page no_buckets)
+line_read_by : (name word : Text) (rest : List Text) → IsUtf8 word → All IsUtf8 rest → (is_info is_page is_check is_buckets : Bool)
+    → bytes_eq word (codes "info") ≡ is_info → bytes_eq word (codes "page") ≡ is_page → bytes_eq word (codes "check") ≡ is_check
+    → bytes_eq word (codes "buckets") ≡ is_buckets → IsReadBy name rest word is_info is_page is_check is_buckets
+line_read_by name word rest text texts true is_page is_check is_buckets same _ _ _ = at_command name word rest (codes "info") _ same (info_read name rest texts)
+line_read_by name word rest text texts false true is_check is_buckets _ same _ _ = at_command name word rest (codes "page") _ same (page_line_read name rest texts)
+line_read_by name word rest text texts false false true is_buckets _ _ same _ = at_command name word rest (codes "check") _ same (check_read name rest texts)
+line_read_by name word rest text texts false false false true _ _ _ same = at_command name word rest (codes "buckets") _ same (buckets_read name rest texts)
+line_read_by name word rest text texts false false false false no_info no_page no_check no_buckets =
+    uncommanded_read name word rest text (unnamed word no_info no_page no_check no_buckets)
 
 pub line_read : (words : List Text) → All IsUtf8 words → IsReadAs (line_of words) words
 line_read [] texts = no_words_read
 line_read (name ∷ []) texts = name_read name
 line_read (name ∷ word ∷ rest) texts =
     let after_name = All-tail IsUtf8 name (word ∷ rest) texts in
-    line_read_by name word rest (All-head IsUtf8 word rest after_name) (All-tail IsUtf8 word rest after_name) _ _ _ refl refl refl
+    line_read_by name word rest (All-head IsUtf8 word rest after_name) (All-tail IsUtf8 word rest after_name) _ _ _ _ refl refl refl refl
 
 -- ---- answers
 

@@ -9,7 +9,10 @@ use Rattle.bolt_report.specs.declared.fault.ReportFault.{ReportFault}
 use Rattle.bolt_report.specs.declared.fault.ReportFault.TheVariants as fault
 use Rattle.bolt_report.specs.Forms.{value_text}
 use Rattle.bolt_report.specs.declared.form.Form.TheVariants.{Printable}
-use Rattle.bolt_cli.specs.Answers.{IsWritten, Takes, fault_line, names_text, refused}
+use Rattle.bolt_check.specs.declared.fault.CheckFault.{CheckFault}
+use Rattle.bolt_check.specs.declared.fault.CheckFault.TheVariants.{Accounts, Memory, Open, Structure}
+use Rattle.bolt_check.specs.declared.finding.Finding.{Finding}
+use Rattle.bolt_cli.specs.Answers.{IsWritten, Takes, fault_line, file_refusal, file_refused, names_text, refused}
 use Rattle.bolt_cli.specs.RootLeaf.{names_of}
 
 -- a text that was put, or a beginning where that failed
@@ -45,3 +48,16 @@ names_text-first leaf leaves = by_flag leaf.is_bucket leaf (filter (λ (l : Leaf
 pub refused_written : (out : Option (List ℕ)) (out_failed : ℕ) (err_old err_new : Option (List ℕ)) (err_failed code : ℕ) (text : List ℕ)
     → code ≡ 1 → Takes err_old err_new err_failed (fault_line text) → IsWritten out out out_failed err_old err_new err_failed code (refused text)
 refused_written out out_failed err_old err_new err_failed code text status line = inl (Appends-nil out, status, line)
+
+-- and so does the refusal of a file
+told_written : (out : Option (List ℕ)) (out_failed : ℕ) (err_old err_new : Option (List ℕ)) (err_failed code : ℕ) (told : List Finding)
+    → code ≡ 1 → Takes err_old err_new err_failed (file_refused told).err → IsWritten out out out_failed err_old err_new err_failed code (file_refused told)
+told_written out out_failed err_old err_new err_failed code [] status line = inl (Appends-nil out, status, line)
+told_written out out_failed err_old err_new err_failed code (x ∷ more) status line = inl (Appends-nil out, status, line)
+
+pub file_written : (out : Option (List ℕ)) (out_failed : ℕ) (err_old err_new : Option (List ℕ)) (err_failed code : ℕ) (fault : CheckFault)
+    → code ≡ 1 → Takes err_old err_new err_failed (file_refusal fault).err → IsWritten out out out_failed err_old err_new err_failed code (file_refusal fault)
+file_written out out_failed err_old err_new err_failed code (Open fault) status line = inl (Appends-nil out, status, line)
+file_written out out_failed err_old err_new err_failed code (Structure x) status line = inl (Appends-nil out, status, line)
+file_written out out_failed err_old err_new err_failed code (Accounts told) status line = told_written out out_failed err_old err_new err_failed code told.items status line
+file_written out out_failed err_old err_new err_failed code Memory status line = inl (Appends-nil out, status, line)

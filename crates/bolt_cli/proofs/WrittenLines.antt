@@ -7,7 +7,7 @@ use Rattle.clap.specs.Words.{Text}
 use Rattle.bolt_cli.specs.declared.words.Job.{Job}
 use Rattle.bolt_cli.specs.declared.words.Refusal.{Refusal}
 use Rattle.bolt_cli.specs.declared.words.Refusal.TheVariants.{Memory, Help, Usage, Word}
-use Rattle.bolt_cli.specs.PlainWords.{Asked, IsInRange, IsRefusalOf, Reading, asked_of, asks, buckets, help, info, line_of, page, refused, unread, words_for}
+use Rattle.bolt_cli.specs.PlainWords.{Asked, IsInRange, IsRefusalOf, Reading, asked_of, asks, buckets, check, help, info, line_of, page, refused, unread, words_for}
 use Rattle.bolt_cli.proofs.PageIds.{decimal_numerals, good_id}
 
 line_of-words_for : (name : Text) (wanted : Asked) → IsInRange wanted → line_of (words_for name wanted) ≡ asks wanted
@@ -17,6 +17,7 @@ line_of-words_for name (page file id) in_range =
     let good = good_id (decimal id) (digits_decimal decimal_numerals id in_range) (decimal_nonempty id in_range)
     (let Fits : ℕ → Type 0 = λ n. n < 2 ^ 64 in subst Fits (sym value) in_range) in
     rw (good, value) refl
+line_of-words_for name (check file) in_range = refl
 line_of-words_for name (buckets file) in_range = refl
 
 abbrev asked_in : Asked → Reading Asked → Asked

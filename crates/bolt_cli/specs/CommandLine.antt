@@ -10,7 +10,7 @@ use Rattle.clap.specs.declared.error.ErrorKind.TheVariants as kind
 use Rattle.bolt_cli.specs.declared.words.Job.{Job}
 use Rattle.bolt_cli.specs.declared.words.Refusal.{Refusal}
 use Rattle.bolt_cli.specs.declared.words.Refusal.TheVariants.{Memory, Help, Usage, Word}
-use Rattle.bolt_cli.specs.PlainWords.{Asked, asked_of, buckets, decimal_value, info, is_page_id, page}
+use Rattle.bolt_cli.specs.PlainWords.{Asked, asked_of, buckets, check, decimal_value, info, is_page_id, page}
 
 -- ---- what the command line may hold
 
@@ -26,6 +26,9 @@ info_command = with_rule (new_app (codes "info")) file_rule
 abbrev pub page_command : App
 page_command = with_rule (with_rule (new_app (codes "page")) file_rule) id_rule
 
+abbrev pub check_command : App
+check_command = with_rule (new_app (codes "check")) file_rule
+
 abbrev pub buckets_command : App
 buckets_command = with_rule (new_app (codes "buckets")) file_rule
 
@@ -37,7 +40,7 @@ bare_program = let bare = new_app (codes "luntsegi") in record bare {
 
 abbrev pub program : App
 program = with_subcommand
-    (with_subcommand (with_subcommand bare_program info_command.top) page_command.top)
+    (with_subcommand (with_subcommand (with_subcommand bare_program info_command.top) page_command.top) check_command.top)
     buckets_command.top
 
 -- the command is described so, and none of its arguments is global
@@ -66,12 +69,16 @@ abbrev pub asked_by_page : List Row → Result Asked Text
 asked_by_page rows = result_and_then (λ file. result_and_then (λ id. Ok (page file id))
     (result_and_then page_id (value_of (codes "ID") rows))) (value_of (codes "FILE") rows)
 
+abbrev pub asked_by_check : List Row → Result Asked Text
+asked_by_check rows = result_and_then (λ file. Ok (check file)) (value_of (codes "FILE") rows)
+
 abbrev pub asked_by_buckets : List Row → Result Asked Text
 asked_by_buckets rows = result_and_then (λ file. Ok (buckets file)) (value_of (codes "FILE") rows)
 
 abbrev pub asked_by_command : Text → List Row → Result Asked Text
 asked_by_command name rows = if bytes_eq name (codes "info") then asked_by_info rows
     else if bytes_eq name (codes "page") then asked_by_page rows
+    else if bytes_eq name (codes "check") then asked_by_check rows
     else if bytes_eq name (codes "buckets") then asked_by_buckets rows
     else Err (codes "command missing")
 

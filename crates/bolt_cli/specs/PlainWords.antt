@@ -5,7 +5,7 @@ use Rattle.std.specs.Fmt.{decimal}
 use Rattle.std.specs.List.{starts_with}
 use Rattle.std.specs.Str.{all_ascii_digits, bytes_eq}
 use Rattle.bolt_cli.specs.declared.words.Job.{Job}
-use Rattle.bolt_cli.specs.declared.words.Job.TheVariants.{Info, Page, Buckets}
+use Rattle.bolt_cli.specs.declared.words.Job.TheVariants.{Info, Page, Check, Buckets}
 use Rattle.bolt_cli.specs.declared.words.Refusal.{Refusal}
 use Rattle.bolt_cli.specs.declared.words.Refusal.TheVariants.{Memory, Help, Usage, Word}
 
@@ -74,17 +74,20 @@ is_page_id word = nat_lt 0 (length word) && all_ascii_digits word && nat_lt (dec
 pub data Asked : Type 0 where
   info : Text → Asked
   page : Text → ℕ → Asked
+  check : Text → Asked
   buckets : Text → Asked
 
 abbrev pub asked_of : Job → Asked
 asked_of (Info file) = info (string_bytes file)
 asked_of (Page file id) = page (string_bytes file) id
+asked_of (Check file) = check (string_bytes file)
 asked_of (Buckets file) = buckets (string_bytes file)
 
 -- the FILE of a job
 abbrev pub file_name : Job → Text
 file_name (Info file) = string_bytes file
 file_name (Page file id) = string_bytes file
+file_name (Check file) = string_bytes file
 file_name (Buckets file) = string_bytes file
 
 abbrev pub info_line : List Text → Reading Asked
@@ -96,6 +99,10 @@ page_line (file ∷ word ∷ []) =
     if is_page_id word then asks (page file (decimal_value word)) else unread (codes "bad page id")
 page_line _ = refused
 
+abbrev pub check_line : List Text → Reading Asked
+check_line (file ∷ []) = asks (check file)
+check_line _ = refused
+
 abbrev pub buckets_line : List Text → Reading Asked
 buckets_line (file ∷ []) = asks (buckets file)
 buckets_line _ = refused
@@ -105,6 +112,7 @@ abbrev pub line_of : List Text → Reading Asked
 line_of (name ∷ command ∷ rest) =
     if bytes_eq command (codes "info") then and_then info_line (operands 1 rest)
     else if bytes_eq command (codes "page") then and_then page_line (operands 2 rest)
+    else if bytes_eq command (codes "check") then and_then check_line (operands 1 rest)
     else if bytes_eq command (codes "buckets") then and_then buckets_line (operands 1 rest)
     else if is_option command then option_reading command
     else refused
@@ -123,6 +131,7 @@ IsRefusalOf line (Word why) = line ≡ unread why.now
 abbrev pub words_for : Text → Asked → List Text
 words_for name (info file) = name ∷ codes "info" ∷ codes "--" ∷ file ∷ []
 words_for name (page file id) = name ∷ codes "page" ∷ codes "--" ∷ file ∷ decimal id ∷ []
+words_for name (check file) = name ∷ codes "check" ∷ codes "--" ∷ file ∷ []
 words_for name (buckets file) = name ∷ codes "buckets" ∷ codes "--" ∷ file ∷ []
 
 -- the numbers of the job fit their types

@@ -1,7 +1,7 @@
 //! What `clap` is told of the command line: one function for each argument and each subcommand.
 ghost use Rattle.std.specs.Prelude.{◌≡◌, false, IfOk};
 ghost use Rattle.clap.specs.Words.{rule_of};
-ghost use Rattle.bolt_cli.specs.CommandLine.{IsCommand, buckets_command, file_rule, id_rule, info_command, page_command, program};
+ghost use Rattle.bolt_cli.specs.CommandLine.{IsCommand, buckets_command, check_command, file_rule, id_rule, info_command, page_command, program};
 
 use clap::{Arg, Command};
 use std::alloc::{AllocError, Global};
@@ -32,6 +32,12 @@ fn page<'a>(alloc: Global) -> Result<Command<'a>, AllocError>
     Command::new(alloc, "page").arg(file(alloc))?.arg(id(alloc))
 }
 
+fn check<'a>(alloc: Global) -> Result<Command<'a>, AllocError>
+    ensures { IfOk result (IsCommand check_command) }
+{
+    Command::new(alloc, "check").arg(file(alloc))
+}
+
 fn buckets<'a>(alloc: Global) -> Result<Command<'a>, AllocError>
     ensures { IfOk result (IsCommand buckets_command) }
 {
@@ -47,5 +53,6 @@ pub(crate) fn program<'a>(alloc: Global) -> Result<Command<'a>, AllocError>
         .disable_help_subcommand(true)
         .subcommand(info(alloc)?)?
         .subcommand(page(alloc)?)?
+        .subcommand(check(alloc)?)?
         .subcommand(buckets(alloc)?)
 }

@@ -3,9 +3,12 @@
 
 mod commands;
 mod jobs;
+mod refusals;
 mod root_cursor;
 mod root_leaf;
+pub mod status;
 mod words;
 
-pub use jobs::{Status, run};
+pub use jobs::run;
+pub use status::Status;
 pub use words::{Job, Refusal, read_words};

@@ -1,7 +1,7 @@
 //! Reads the words of a command line.
 ghost use Rattle.std.specs.Prelude.{◌≡◌, IfErr, IfOk, MatchResult, map, string_bytes};
 ghost use Rattle.clap.specs.Words.{fault_of, found_of, kind_of, rows_of, subcommand_rows_of};
-ghost use Rattle.bolt_cli.specs.CommandLine.{Asks, Gives, HasKindOf, IsRefusedBy, asked_by, asked_by_buckets, asked_by_info, asked_by_page, asked_by_subcommand, page_id, program, value_of};
+ghost use Rattle.bolt_cli.specs.CommandLine.{Asks, Gives, HasKindOf, IsRefusedBy, asked_by, asked_by_buckets, asked_by_check, asked_by_info, asked_by_page, asked_by_subcommand, page_id, program, value_of};
 ghost use Rattle.bolt_cli.specs.PlainWords.{Asked, IsInRange, IsRefusalOf, Text, asked_of, asks, line_of, words_for};
 ghost use Rattle.bolt_cli.specs.declared.words.Refusal.TheVariants.{Memory};
 
@@ -17,6 +17,8 @@ pub enum Job {
     Info { file: String },
     /// The text of a page.
     Page { file: String, id: u64 },
+    /// Whether the file is sound.
+    Check { file: String },
     /// The names of the root's buckets.
     Buckets { file: String },
 }
@@ -31,6 +33,7 @@ impl Job {
         match self {
             Job::Info { file } => file.as_str(),
             Job::Page { file, id: _ } => file.as_str(),
+            Job::Check { file } => file.as_str(),
             Job::Buckets { file } => file.as_str(),
         }
     }
@@ -59,9 +62,9 @@ impl From<AllocError> for Refusal {
 
 /// Reads the words of a command line, of which the first is the program's name.
 ///
-/// The lines are `info FILE`, `page FILE ID` and `buckets FILE`. A word that begins with a hyphen
-/// and has more is an option and neither a FILE nor an ID, unless `--` stands before it. An ID is
-/// decimal digits, at least one, of a number below 2^64.
+/// The lines are `info FILE`, `page FILE ID`, `check FILE` and `buckets FILE`. A word that begins
+/// with a hyphen and has more is an option and neither a FILE nor an ID, unless `--` stands before
+/// it. An ID is decimal digits, at least one, of a number below 2^64.
 ///
 /// # Errors
 ///
@@ -111,6 +114,7 @@ fn read_matches(alloc: Global, matches: &ArgMatches<'_>) -> Result<Job, Refusal>
     match matches.subcommand() {
         Some(("info", matches)) => read_info(alloc, matches),
         Some(("page", matches)) => read_page(alloc, matches),
+        Some(("check", matches)) => read_check(alloc, matches),
         Some(("buckets", matches)) => read_buckets(alloc, matches),
         _ => Err(Refusal::Word("command missing")),
     }
@@ -129,6 +133,13 @@ fn read_page(alloc: Global, matches: &ArgMatches<'_>) -> Result<Job, Refusal>
     let file = read_text(alloc, matches, "FILE")?;
     let id = read_page_id(value(matches, "ID")?)?;
     Ok(Job::Page { file, id })
+}
+
+fn read_check(alloc: Global, matches: &ArgMatches<'_>) -> Result<Job, Refusal>
+    ensures { Gives asked_of (asked_by_check (rows_of (found_of matches.now))) result }
+{
+    let file = read_text(alloc, matches, "FILE")?;
+    Ok(Job::Check { file })
 }
 
 fn read_buckets(alloc: Global, matches: &ArgMatches<'_>) -> Result<Job, Refusal>

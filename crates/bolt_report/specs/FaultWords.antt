@@ -1,5 +1,5 @@
 -- The words of faults: docs/COMMANDS.md, "Faults".
-use Rattle.std.specs.Prelude.{◌==◌, ℕ, List, [], ◌∷◌, ◌++◌, codes, decimal, if◌then◌else◌}
+use Rattle.std.specs.Prelude.{◌==◌, ℕ, List, [], ◌∷◌, ◌++◌, codes, decimal, flat_map, if◌then◌else◌, length}
 use Rattle.bolt_format.specs.declared.fault.PageFault.{PageFault}
 use Rattle.bolt_format.specs.declared.fault.TheConstants.PageFault.{RANGE, CUT, ID, PAGE_KIND, ELEMENT_CUT, DATA_ORDER, KEY_LENGTH, VALUE_LENGTH, LEAF_FLAGS, BUCKET_SHORT, INLINE_PAGE, INLINE_NESTED}
 use Rattle.bolt_check.specs.declared.finding.Finding.{Finding}
@@ -77,3 +77,11 @@ pages_words page last = if page == last then codes "page " ++ decimal page else 
 
 abbrev pub finding_text : Finding → List ℕ
 finding_text finding = line (pages_words finding.page finding.last ++ codes ": " ++ finding_words finding.number)
+
+-- how many findings there are
+abbrev pub count_line : ℕ → List ℕ
+count_line count = line (decimal count ++ codes " errors found")
+
+-- the line of each finding, and then how many there are
+abbrev pub findings_text : List Finding → List ℕ
+findings_text findings = flat_map finding_text findings ++ count_line (length findings)

@@ -1,14 +1,15 @@
 //! The lines of faults and findings.
-ghost use Rattle.std.specs.Prelude.{◌≡◌, ◌<◌, ◌≤◌, ◌+◌, ◌++◌, Err, IfErr, OnOk, length};
+ghost use Rattle.std.specs.Prelude.{◌≡◌, ◌<◌, ◌≤◌, ◌+◌, ◌++◌, Err, IfErr, OnOk, flat_map, length};
 ghost use Rattle.std.specs.Io.KnownBytes.{Appends};
 ghost use Rattle.bolt_format.specs.Sinks.{AppendsBeginning};
-ghost use Rattle.bolt_report.specs.FaultWords.{finding_text, finding_words, meta_fault_text, page_fault_text, page_fault_words, pages_words};
+ghost use Rattle.bolt_report.specs.FaultWords.{count_line, finding_text, finding_words, findings_text, meta_fault_text, page_fault_text, page_fault_words, pages_words};
+ghost use Rattle.bolt_report.specs.Writes.{Writes};
 
 use crate::fault::ReportFault;
 use crate::puts::put;
 use crate::text::{TEXT_LEN, Text, push_bytes, push_number};
 use bolt_check::Finding;
-use bolt_format::{MetaFault, PageFault, Sink};
+use bolt_format::{MetaFault, PageFault, Sink, SinkFault};
 
 /// Puts the line of a meta fault. `Sink` says that the sink failed, and no
 /// other fault comes; the sink then took a beginning of the text.
@@ -47,6 +48,45 @@ pub fn finding_text<S: Sink>(finding: &Finding, sink: &mut S) -> Result<(), Repo
 {
     put(finding_line(finding).as_slice(), sink)?;
     Ok(())
+}
+
+/// Puts the line of each finding, and then the line of their number, as `2 errors found`. `Sink`
+/// says that the sink failed, and no other fault comes; the sink then took a beginning of the text.
+pub fn findings_text<S: Sink>(findings: &[Finding], sink: &mut S) -> Result<(), ReportFault>
+    ensures all { OnOk result (Appends (S.taken sink.old) (S.taken sink.new) (findings_text findings.now)) }
+    ensures sound { OnOk result (S.failed sink.new ≡ S.failed sink.old) }
+    ensures beginning { AppendsBeginning (S.taken sink.old) (S.taken sink.new) (findings_text findings.now) }
+    ensures failure { result ≡ Err ReportFault.Sink → 0 < S.failed sink.new }
+    ensures fault { IfErr result (λ fault. fault ≡ ReportFault.Sink) }
+{
+    put_findings(findings, sink)?;
+    Ok(())
+}
+
+fn put_findings<S: Sink>(findings: &[Finding], sink: &mut S) -> Result<(), SinkFault>
+    ensures { Writes S.taken S.failed sink.old sink.new (findings_text findings.now) result }
+{
+    put_finding_lines(findings, sink)?;
+    put(count_line(findings.len() as u64).as_slice(), sink)
+}
+
+fn put_finding_lines<S: Sink>(findings: &[Finding], sink: &mut S) -> Result<(), SinkFault>
+    ensures { Writes S.taken S.failed sink.old sink.new (flat_map finding_text findings.now) result }
+{
+    for finding in findings {
+        put(finding_line(finding).as_slice(), sink)?;
+    }
+    Ok(())
+}
+
+fn count_line(count: u64) -> Text
+    ensures { result.items ≡ count_line count }
+{
+    let mut text = Text::new();
+    push_number(&mut text, count);
+    push_bytes(&mut text, b" errors found");
+    push_bytes(&mut text, b"\n");
+    text
 }
 
 fn meta_fault_words(fault: MetaFault) -> &'static [u8]

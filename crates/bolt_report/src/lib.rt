@@ -14,7 +14,7 @@ mod text;
 pub mod values;
 
 pub use fault::ReportFault;
-pub use fault_lines::{finding_text, meta_fault_text, page_fault_text};
+pub use fault_lines::{finding_text, findings_text, meta_fault_text, page_fault_text};
 pub use form::Form;
 pub use metas::info;
 pub use page_lines::page_text;

@@ -48,4 +48,5 @@ returns-in-Ok-2-clause-refused c =
       shape_of (node_at c.args.file.now c.in-Ok.meta) c.in-Ok.meta.root c.in-Ok-search.ensures.clean,
       wrong_of c.args.file.now c.in-Ok.meta c.in-Ok-search.table.items c.in-Ok-search.ensures.covered (wrong some),
       told_of_file c.args.file.now c.in-Ok.meta c.in-Ok-search.table.items c.in-Ok-test_accounts.told.items c.in-Ok-search.ensures.covered (told some),
+      some,
     )

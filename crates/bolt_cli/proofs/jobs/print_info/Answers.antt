@@ -2,10 +2,10 @@ use Rattle.std.proofs.Common.{inr, refl}
 use Rattle.bolt_report.specs.FaultWords.{meta_fault_text}
 use Rattle.bolt_cli.specs.Answers.{refused}
 use Rattle.bolt_cli.proofs.Written.{refused_written}
-use Rattle.bolt_cli.proofs.jobs.run.Goals as goal
+use Rattle.bolt_cli.proofs.jobs.print_info.Goals as goal
 
-pub returns-in-Err-clause-answer : goal.returns-in-Err-clause-answer
-returns-in-Err-clause-answer g c =
+pub returns-in-Err : goal.returns-in-Err
+returns-in-Err g c =
     let fault = c.in-Err.fault in (
       refused (meta_fault_text fault),
       inr (fault, c.in-Err.ensures.fault, c.in-Err.ensures.none, refl),

@@ -1,0 +1,30 @@
+-- What a checked file is known to be.
+use Rattle.std.proofs.Common.{◌≡◌, ℕ, List, [], Option, Some, None, Ok, refl}
+use Rattle.std.specs.Prelude.{IsSome}
+use Rattle.std.proofs.Math.Logic.{∥∥₁_elim}
+use Rattle.std.proofs.Props.{props}
+use Rattle.bolt_format.specs.Pages.{PageView, page_at, page_fault}
+use Rattle.bolt_format.specs.declared.meta.Meta.{Meta}
+use Rattle.bolt_check.specs.CheckedFiles.{bytes_of, meta_of}
+use Rattle.bolt_check.specs.Nodes.{Node, node_at, node_seen}
+use Rattle.bolt_check.specs.Sound.{HasSoundTrees}
+use Rattle.bolt_check.specs.Ways.{At_page, PageSpot, reached, start_of}
+use Rattle.bolt_check.specs.declared.checked_file.Checked.{Checked}
+
+seen : (view : Option PageView) (fault : Option ℕ) (node : Node) → node_seen view fault ≡ Ok node → IsSome view
+seen (Some view) fault node e = refl
+seen None (Some f) node e = cc
+seen None None node e = cc
+
+-- a way leads to a good page
+pub good_page : (file : List ℕ) (meta : Meta) (way : List ℕ) (s : PageSpot) → HasSoundTrees file meta
+    → reached (node_at file meta) meta.root way ≡ Some (At_page s) → IsSome (page_at file meta s.number)
+unfolding node_at
+good_page file meta way s trees leads =
+    let good = (trees.good way s leads).1 in
+    seen (page_at file meta s.number) (page_fault file meta s.number) good.0 good.1
+
+-- the root page is good
+pub good_root : (checked : Checked) → IsSome (page_at (bytes_of checked) (meta_of checked) (meta_of checked).root)
+unfolding bytes_of meta_of
+good_root checked = ∥∥₁_elim checked.sound (Prim.hlevel props) (λ sound. good_page checked.bytes.now checked.meta [] (start_of checked.meta.root) sound.trees refl)
