@@ -4,7 +4,7 @@ PROGRAM = crates/luntsegi/out/luntsegi
 SOUND = $(wildcard examples/*.buckets)
 LEAKED = examples/leaked
 
-.PHONY: build demo examples test install clean
+.PHONY: build demo examples test bench install clean
 
 # Proves the program and the libraries below it, and builds it.
 build:
@@ -28,8 +28,18 @@ examples: $(PROGRAM)
 test:
 	rt ci
 
+LARGE = out/large.db
+
+# Times the checker on a database of 256 MB with a million small entries.
+bench: $(PROGRAM) $(LARGE)
+	python3 tools/bench/time_check.py $(PROGRAM) $(LARGE)
+
+$(LARGE): tools/bench/make_large.py
+	mkdir -p $(@D)
+	python3 tools/bench/make_large.py $@
+
 install: $(PROGRAM)
 	install -D -m 755 $(PROGRAM) $(DESTDIR)$(PREFIX)/bin/luntsegi
 
 clean:
-	rm -rf crates/*/out
+	rm -rf crates/*/out out

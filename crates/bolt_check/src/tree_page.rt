@@ -54,7 +54,7 @@ impl<'a> TreePage<'a> {
         ensures { option_map spot_at result ≡ step_on (shown_node self.now) (page_spot stop.now) i }
     {
         if self.is_leaf {
-            bucket_stop(self.page.leaf(i), stop.number)
+            bucket_stop(self.page.leaf(i), stop)
         } else {
             Some(Stop::Page(self.child(i, stop)))
         }
@@ -89,10 +89,11 @@ impl<'a> TreePage<'a> {
     }
 }
 
-/// The bucket that an element of a leaf leads to, if it is one.
-fn bucket_stop<'a>(leaf: Leaf<'a>, host: u64) -> Option<Stop<'a>>
+/// The bucket that an element of a leaf leads to from a stop at that leaf, if it is one. Its root
+/// page is the first again, and has no bounds.
+fn bucket_stop<'a>(leaf: Leaf<'a>, stop: &PageStop<'a>) -> Option<Stop<'a>>
     requires { IsTrue leaf.is_bucket → IsBucketValue leaf.value.now }
-    ensures { option_map spot_at result ≡ bucket_spots host (leaf_entry (leaf_view leaf.entry)) }
+    ensures { option_map spot_at result ≡ bucket_spots stop.now.number (leaf_entry (leaf_view leaf.entry)) }
 {
     if !leaf.is_bucket {
         return None;
@@ -100,7 +101,7 @@ fn bucket_stop<'a>(leaf: Leaf<'a>, host: u64) -> Option<Stop<'a>>
     let head = head(leaf.value);
     if head.root == 0 {
         return Some(Stop::Bucket(BucketStop {
-            host,
+            host: stop.number,
             page: inline(leaf.value),
         }));
     }

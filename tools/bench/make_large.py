@@ -1,0 +1,174 @@
+#!/usr/bin/env python3
+"""Makes a large sound database file, for `make bench`.
+
+    make_large.py FILE [ENTRIES]
+
+The format is that of docs/FORMAT.md. Without ENTRIES there are a million, in a file of about
+256 MiB. They lie in a few buckets, in leaves that are filled in key order, below branches of three
+levels. Behind the pages of each bucket a few pages are free.
+"""
+
+import struct
+import sys
+
+PAGE_SIZE = 4096
+BRANCH, LEAF, META, FREELIST = 0x01, 0x02, 0x04, 0x10
+
+HEADER = struct.Struct("<QHHI")
+BRANCH_ELEMENT = struct.Struct("<IIQ")
+LEAF_ELEMENT = struct.Struct("<IIII")
+META_RECORD = struct.Struct("<IIIIQQQQQ")
+
+MAGIC = 0xED0CDAED
+VERSION = 2
+VALUE_FLAGS, BUCKET_FLAGS = 0, 1
+
+FREELIST_PAGE = 2
+FIRST_PAGE = 3
+FREE_PAGES = 8
+BUCKETS = 4
+FILLING = bytes(range(256)) * 2
+
+
+def checksum(data):
+    """FNV-1a of 64 bits."""
+    state = 0xCBF29CE484222325
+    for byte in data:
+        state = (state ^ byte) * 0x100000001B3 % 2**64
+    return state
+
+
+class Pages:
+    """Writes pages one behind another, and keeps the numbers of those that are left free."""
+
+    def __init__(self, out):
+        self.out = out
+        self.next = FIRST_PAGE
+        self.free = []
+
+    def put_at(self, number, flags, count, body):
+        page = HEADER.pack(number, flags, count, 0) + body
+        assert len(page) <= PAGE_SIZE
+        self.out.seek(number * PAGE_SIZE)
+        self.out.write(page.ljust(PAGE_SIZE, b"\0"))
+
+    def put(self, flags, count, body):
+        """The number of the page that was put."""
+        number = self.next
+        self.next += 1
+        self.put_at(number, flags, count, body)
+        return number
+
+    def leave_free(self, count):
+        self.free.extend(range(self.next, self.next + count))
+        self.next += count
+
+
+def leaf_length(element):
+    _, key, value = element
+    return LEAF_ELEMENT.size + len(key) + len(value)
+
+
+def leaf_body(elements):
+    """The table of a leaf's elements, each (flags, key, value), and their data behind it."""
+    table, data = [], []
+    begin = LEAF_ELEMENT.size * len(elements)
+    for flags, key, value in elements:
+        table.append(LEAF_ELEMENT.pack(flags, begin, len(key), len(value)))
+        data += (key, value)
+        begin += len(key) + len(value) - LEAF_ELEMENT.size
+    return b"".join(table + data)
+
+
+def branch_length(element):
+    key, _ = element
+    return BRANCH_ELEMENT.size + len(key)
+
+
+def branch_body(elements):
+    """The table of a branch's elements, each (key, child), and their keys behind it."""
+    table, data = [], []
+    begin = BRANCH_ELEMENT.size * len(elements)
+    for key, child in elements:
+        table.append(BRANCH_ELEMENT.pack(begin, len(key), child))
+        data.append(key)
+        begin += len(key) - BRANCH_ELEMENT.size
+    return b"".join(table + data)
+
+
+def runs(elements, length_of):
+    """The elements in runs, each as long as a page takes."""
+    run, length = [], HEADER.size
+    for element in elements:
+        if length + length_of(element) > PAGE_SIZE:
+            yield run
+            run, length = [], HEADER.size
+        run.append(element)
+        length += length_of(element)
+    yield run
+
+
+def put_leaves(pages, elements):
+    """What leads to the leaves: their first keys and their numbers."""
+    for run in runs(elements, leaf_length):
+        first_key = run[0][1]
+        yield first_key, pages.put(LEAF, len(run), leaf_body(run))
+
+
+def put_branches(pages, children):
+    """What leads to the branches above these children."""
+    for run in runs(children, branch_length):
+        first_key = run[0][0]
+        yield first_key, pages.put(BRANCH, len(run), branch_body(run))
+
+
+def put_bucket(pages, elements):
+    """The number of the bucket's root page."""
+    level = list(put_leaves(pages, elements))
+    while len(level) > 1:
+        level = list(put_branches(pages, level))
+    return level[0][1]
+
+
+def entries(first, count):
+    """Entries with keys of 24 bytes that rise, and with values of 184 to 247 bytes."""
+    for number in range(first, first + count):
+        start = number % 256
+        length = 184 + number * 37 % 64
+        yield VALUE_FLAGS, b"entry-%018d" % number, FILLING[start : start + length]
+
+
+def buckets(pages, count):
+    """The elements of the root bucket, for so many entries below it."""
+    for number in range(BUCKETS):
+        first = count * number // BUCKETS
+        behind = count * (number + 1) // BUCKETS
+        root = put_bucket(pages, entries(first, behind - first))
+        pages.leave_free(FREE_PAGES)
+        yield BUCKET_FLAGS, b"bucket-%d" % number, struct.pack("<QQ", root, 0)
+
+
+def put_meta(pages, number, root):
+    record = META_RECORD.pack(
+        MAGIC, VERSION, PAGE_SIZE, 0, root, 0, FREELIST_PAGE, pages.next, number
+    )
+    pages.put_at(number, META, 0, record + struct.pack("<Q", checksum(record)))
+
+
+def make(out, count):
+    pages = Pages(out)
+    root = put_bucket(pages, buckets(pages, count))
+    free = struct.pack("<%dQ" % len(pages.free), *pages.free)
+    pages.put_at(FREELIST_PAGE, FREELIST, len(pages.free), free)
+    put_meta(pages, 0, root)
+    put_meta(pages, 1, root)
+
+
+def main():
+    count = int(sys.argv[2]) if len(sys.argv) > 2 else 1_000_000
+    with open(sys.argv[1], "wb") as out:
+        make(out, count)
+
+
+if __name__ == "__main__":
+    main()
