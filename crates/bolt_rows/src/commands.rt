@@ -1,6 +1,7 @@
 //! Runs a command line over a file in memory, and compares all that comes of it.
 
-use bolt_cli::{Refusal, read_words, run};
+use crate::samples::{Sample, make};
+use bolt_cli::{Job, Refusal, read_words, run};
 use bolt_format::MemSink;
 use std::alloc::{AllocError, Global};
 use std::process::Abort;
@@ -25,7 +26,21 @@ pub enum Outcome<'a> {
 /// The words after the program's name, in which FILE stands for the file, and what they come to.
 pub type Row<'a> = (&'a [&'a str], Outcome<'a>);
 
+/// The name of a file, the file, and what a command on it comes to.
+pub type FileRow<'a> = (&'a str, Sample<'a>, Outcome<'a>);
+
 use Outcome::{Fails, Finds, Helps, Prints, Refused, RefusedWord};
+
+pub const INFO: &[&str] = &["info", "FILE"];
+
+pub const PAGE_THREE: &[&str] = &["page", "FILE", "3"];
+
+pub const CHECK: &[&str] = &["check", "FILE"];
+
+pub const BUCKETS: &[&str] = &["buckets", "FILE"];
+
+/// What a run wrote on standard output and on standard error, and its status.
+type Written<'a> = (&'a [u8], &'a [u8], u8);
 
 /// The beginning of what was written, as a failed row shows it.
 fn beginning(bytes: &[u8]) -> &str {
@@ -33,27 +48,15 @@ fn beginning(bytes: &[u8]) -> &str {
     std::str::from_utf8(shown).unwrap_or("bytes that are no text")
 }
 
-fn check_text(rt: &impl Abort, what: &str, name: &str, words: &[&str], texts: (&[u8], &[u8])) {
-    let (got, want) = texts;
-    let is_same = got == want;
-    let got = beginning(got);
-    let want = beginning(want);
+fn check_written(rt: &impl Abort, name: &str, words: &[&str], got: Written<'_>, want: Written<'_>) {
+    let is_same = got.0 == want.0 && got.1 == want.1 && got.2 == want.2;
+    let (out, err, status) = (beginning(got.0), beginning(got.1), got.2);
+    let (wanted_out, wanted_err, wanted_status) = (beginning(want.0), beginning(want.1), want.2);
     assert!(rt;
         is_same,
-        "{what} of {words:?} on {name} is:\n{got}\nand not:\n{want}"
+        "{words:?} on {name} come to status {status}, output {out:?}, error {err:?}, \
+        and not to status {wanted_status}, output {wanted_out:?}, error {wanted_err:?}"
     );
-}
-
-fn check_texts(
-    rt: &impl Abort,
-    name: &str,
-    words: &[&str],
-    got: (&[u8], &[u8], u8),
-    want: (&[u8], &[u8], u8),
-) {
-    check_text(rt, "standard output", name, words, (got.0, want.0));
-    check_text(rt, "standard error", name, words, (got.1, want.1));
-    assert_eq!(rt; got.2, want.2, "status of {words:?} on {name}");
 }
 
 /// A line of standard error.
@@ -100,29 +103,40 @@ pub fn check_row(
     file: &[u8],
     row: Row<'_>,
 ) -> Result<(), AllocError> {
-    let (words, want) = row;
-    let job = match read_words(alloc, words_of(alloc, words)?) {
-        Ok(job) => job,
+    match read_words(alloc, words_of(alloc, row.0)?) {
+        Ok(job) => check_job(rt, alloc, name, file, &job, row),
         Err(refusal) => {
             check_refusal(rt, &refusal, name, row);
-            return Ok(());
+            Ok(())
         }
-    };
+    }
+}
+
+/// The job that the words ask for comes on the file to what the row says.
+pub fn check_job(
+    rt: &impl Abort,
+    alloc: Global,
+    name: &str,
+    file: &[u8],
+    job: &Job,
+    row: Row<'_>,
+) -> Result<(), AllocError> {
+    let (words, want) = row;
     let mut out = MemSink::new(alloc);
     let mut err = MemSink::new(alloc);
     let mut target = MemSink::new(alloc);
-    let status = run(alloc, &job, file, &mut out, &mut err, &mut target);
+    let status = run(alloc, job, file, &mut out, &mut err, &mut target);
     let got = (out.bytes(), err.bytes(), status.code);
     match want {
-        Prints(text) => check_texts(rt, name, words, got, (text.as_bytes(), b"", 0)),
-        Finds(text) => check_texts(rt, name, words, got, (text.as_bytes(), b"", 1)),
+        Prints(text) => check_written(rt, name, words, got, (text.as_bytes(), b"", 0)),
+        Finds(text) => check_written(rt, name, words, got, (text.as_bytes(), b"", 1)),
         Fails(text) => {
             let line = error_line(alloc, text)?;
-            check_texts(rt, name, words, got, (b"", line.as_bytes(), 1));
+            check_written(rt, name, words, got, (b"", line.as_bytes(), 1));
         }
-        Refused => assert!(rt; false, "{words:?} on {name} are accepted"),
-        RefusedWord(_) => assert!(rt; false, "{words:?} on {name} are accepted"),
-        Helps => assert!(rt; false, "{words:?} on {name} give no help"),
+        Refused | RefusedWord(_) | Helps => {
+            assert!(rt; false, "{words:?} on {name} are accepted");
+        }
     }
     assert!(rt;
         target.bytes().is_empty(),
@@ -143,4 +157,32 @@ pub fn check_rows(
         check_row(rt, alloc, name, file, *row)?;
     }
     Ok(())
+}
+
+/// The words on the file of each row come to what the row says.
+pub fn check_files(
+    rt: &impl Abort,
+    alloc: Global,
+    words: &[&str],
+    rows: &[FileRow<'_>],
+) -> Result<(), AllocError> {
+    for (name, sample, want) in rows {
+        let file = make(alloc, sample)?;
+        check_row(rt, alloc, name, file.as_slice(), (words, *want))?;
+    }
+    Ok(())
+}
+
+/// The file is refused: `check` prints this text, and `buckets` tells its first line.
+pub fn check_refused(
+    rt: &impl Abort,
+    alloc: Global,
+    name: &str,
+    file: &[u8],
+    text: &str,
+) -> Result<(), AllocError> {
+    let first = text.lines().next().unwrap_or("no finding");
+    let line = format!(in alloc; "file refused: {first}")?;
+    check_row(rt, alloc, name, file, (CHECK, Finds(text)))?;
+    check_row(rt, alloc, name, file, (BUCKETS, Fails(line.as_str())))
 }

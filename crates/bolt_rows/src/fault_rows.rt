@@ -1,7 +1,7 @@
 //! Rows of pages that are refused, each with the number of the first test that the page fails, and
 //! of good pages beside them.
 
-use crate::maker::{Element, MetaFields, branch, database, inline, leaf, patch};
+use crate::maker::{Element, MetaFields, Patch, branch, database, inline, leaf, put_patches};
 use Element::{Bucket, Value};
 use bolt_format::{Meta, PageFault, page};
 use std::alloc::{AllocError, Global};
@@ -77,18 +77,8 @@ fn with_page_three(alloc: Global, page: &[u8]) -> Result<Vec<u8>, AllocError> {
     database(alloc, 4, &MetaFields::fresh(1024), &[(3, page)])
 }
 
-/// Bytes that stand over those of a page, from a byte of the page on.
-pub type Patch<'a> = (usize, &'a [u8]);
-
 /// The name of a row, what is patched, and the fault or none.
 pub type PatchRow<'a> = (&'a str, &'a [Patch<'a>], Option<u8>);
-
-fn put_patches(page: &mut Vec<u8>, patches: &[Patch<'_>]) -> Result<(), AllocError> {
-    for (at, bytes) in patches {
-        patch(page, *at, bytes)?;
-    }
-    Ok(())
-}
 
 /// A file whose page 3 is a leaf that holds `a` = `1` and `b` = `2`, packed, with patches. An
 /// element's header is its flags, position, key length and value length, of four bytes each; the

@@ -5,7 +5,7 @@
 #[cfg(test)]
 mod bucket_command_rows;
 #[cfg(test)]
-mod check_rows;
+mod check_command_rows;
 #[cfg(test)]
 mod commands;
 #[cfg(test)]
@@ -21,6 +21,10 @@ mod page_command_rows;
 #[cfg(test)]
 mod read_rows;
 #[cfg(test)]
+mod refused_rows;
+#[cfg(test)]
 mod samples;
 #[cfg(test)]
 mod sink_rows;
+#[cfg(test)]
+mod word_rows;

@@ -98,20 +98,23 @@ pub struct MetaFields {
     pub txid: u64,
 }
 
+/// Those of a fresh file: root 3, an empty freelist at page 2, and four pages of 4,096 bytes.
+pub const FRESH: MetaFields = MetaFields {
+    magic: 0xED0C_DAED,
+    version: 2,
+    page_size: 4096,
+    flags: 0,
+    root: 3,
+    sequence: 0,
+    freelist: 2,
+    mark: 4,
+    txid: 0,
+};
+
 impl MetaFields {
-    /// Those of a fresh file: root 3, an empty freelist at page 2, and four pages.
+    /// Those of a fresh file at a page size.
     pub fn fresh(page_size: u32) -> Self {
-        MetaFields {
-            magic: 0xED0C_DAED,
-            version: 2,
-            page_size,
-            flags: 0,
-            root: 3,
-            sequence: 0,
-            freelist: 2,
-            mark: 4,
-            txid: 0,
-        }
+        MetaFields { page_size, ..FRESH }
     }
 
     fn write(&self, record: &mut Vec<u8>) -> Result<(), AllocError> {
@@ -338,8 +341,21 @@ pub fn patch(file: &mut Vec<u8>, at: usize, bytes: &[u8]) -> Result<(), AllocErr
     if file.len() < end {
         file.resize(end, 0)?;
     }
-    for (target, byte) in file.iter_mut().skip(at).zip(bytes) {
-        *target = *byte;
+    if let Some(targets) = file.as_mut_slice().get_mut(at..) {
+        for (target, byte) in targets.iter_mut().zip(bytes) {
+            *target = *byte;
+        }
+    }
+    Ok(())
+}
+
+/// Bytes that stand over others from a place on.
+pub type Patch<'a> = (usize, &'a [u8]);
+
+/// Puts all of them.
+pub fn put_patches(file: &mut Vec<u8>, patches: &[Patch<'_>]) -> Result<(), AllocError> {
+    for (at, bytes) in patches {
+        patch(file, *at, bytes)?;
     }
     Ok(())
 }

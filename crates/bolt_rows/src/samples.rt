@@ -1,11 +1,126 @@
 //! Files that rows of several kinds speak of.
 
 use crate::maker::{
-    Element, MetaFields, NO_FREELIST, branch, database, database_of, freelist, inline, leaf,
-    long_freelist, patch, reference,
+    Element, FRESH, MetaFields, NO_FREELIST, Patch, branch, database, database_of, freelist,
+    inline, leaf, long_freelist, patch, put_patches, reference,
 };
+use Content::{Branch, Freelist, Inline, Leaf};
 use Element::{Bucket, Value};
 use std::alloc::{AllocError, Global};
+
+/// What stands on a page.
+#[derive(Clone, Copy)]
+pub enum Content<'a> {
+    /// A leaf of these elements.
+    Leaf(&'a [Element<'a>]),
+    /// A leaf with one bucket `b`, which is inline and holds these.
+    Inline(&'a [Element<'a>]),
+    /// A branch of keys and child pages.
+    Branch(&'a [(&'a [u8], u64)]),
+    /// The page numbers of free pages.
+    Freelist(&'a [u64]),
+}
+
+/// A file as data: two metas that are alike, how many pages it holds, what stands on some of them
+/// beside an empty freelist at page 2, and then bytes that stand over those.
+#[derive(Clone, Copy)]
+pub struct Sample<'a> {
+    pub fields: MetaFields,
+    pub pages_held: usize,
+    pub pages: &'a [(u64, Content<'a>)],
+    pub patches: &'a [Patch<'a>],
+}
+
+fn page_of(alloc: Global, id: u64, content: &Content<'_>) -> Result<Vec<u8>, AllocError> {
+    match content {
+        Leaf(elements) => leaf(alloc, id, elements),
+        Inline(elements) => {
+            let held = inline(alloc, 0, elements)?;
+            leaf(alloc, id, &[Bucket(b"b", held.as_slice())])
+        }
+        Branch(children) => branch(alloc, id, children),
+        Freelist(ids) => freelist(alloc, id, ids),
+    }
+}
+
+/// The bytes of a file.
+pub fn make(alloc: Global, sample: &Sample<'_>) -> Result<Vec<u8>, AllocError> {
+    let page_size = sample.fields.page_size as usize;
+    let mut file = database(alloc, sample.pages_held, &sample.fields, &[])?;
+    for (id, content) in sample.pages {
+        let page = page_of(alloc, *id, content)?;
+        let at = (*id as usize).saturating_mul(page_size);
+        patch(&mut file, at, page.as_slice())?;
+    }
+    put_patches(&mut file, sample.patches)?;
+    Ok(file)
+}
+
+/// The file that bbolt makes: four pages, an empty freelist and an empty root page.
+pub const FRESH_FILE: Sample<'static> = Sample {
+    fields: FRESH,
+    pages_held: 4,
+    pages: &[(3, Leaf(&[]))],
+    patches: &[],
+};
+
+/// The fresh file with a bit of the second checksum changed, whose first byte is 0x0f.
+pub const OTHER_CHECKSUM: Sample<'static> = Sample {
+    patches: &[(4096 + 72, &[0x0e])],
+    ..FRESH_FILE
+};
+
+/// The fresh file at page size 1024 whose first page is zeros.
+pub const WITHOUT_FIRST_META: Sample<'static> = Sample {
+    fields: MetaFields {
+        page_size: 1024,
+        ..FRESH
+    },
+    patches: &[(0, &[0; 1024])],
+    ..FRESH_FILE
+};
+
+/// The fresh file without a written freelist, in five pages.
+pub const WITHOUT_FREELIST: Sample<'static> = Sample {
+    fields: MetaFields {
+        freelist: NO_FREELIST,
+        mark: 5,
+        ..FRESH
+    },
+    pages_held: 5,
+    patches: &[(2 * 4096, &[0; 16])],
+    ..FRESH_FILE
+};
+
+/// Bucket `b`, inline, with `k1` = `v1`.
+pub const INLINE_BUCKET: Sample<'static> = Sample {
+    pages: &[(3, Inline(&[Value(b"k1", b"v1")]))],
+    ..FRESH_FILE
+};
+
+/// A branch as root, `a` to page 4 and `m` to page 5: leaf 4 holds `a` and `c`, leaf 5 `m` and `p`.
+pub const BRANCH_ROOT: Sample<'static> = Sample {
+    fields: MetaFields { mark: 6, ..FRESH },
+    pages_held: 6,
+    pages: &[
+        (3, Branch(&[(b"a", 4), (b"m", 5)])),
+        (4, Leaf(&[Value(b"a", b""), Value(b"c", b"")])),
+        (5, Leaf(&[Value(b"m", b""), Value(b"p", b"")])),
+    ],
+    patches: &[],
+};
+
+/// A branch as root that leads to itself.
+pub const BRANCH_TO_ITSELF: Sample<'static> = Sample {
+    pages: &[(3, Branch(&[(b"a", 3)]))],
+    ..FRESH_FILE
+};
+
+/// The fresh file whose root page has the greatest overflow.
+pub const GREATEST_OVERFLOW: Sample<'static> = Sample {
+    patches: &[(3 * 4096 + 12, &[0xFF; 4])],
+    ..FRESH_FILE
+};
 
 /// A file whose pages from 4 on don't matter, with this leaf as its root page 3.
 pub fn with_root(
@@ -17,16 +132,9 @@ pub fn with_root(
     database(alloc, 4, fields, &[(3, root.as_slice())])
 }
 
-/// The file that bbolt makes: four pages, an empty freelist and an empty root page.
+/// The fresh file at a page size.
 pub fn fresh(alloc: Global, page_size: u32) -> Result<Vec<u8>, AllocError> {
     with_root(alloc, &MetaFields::fresh(page_size), &[])
-}
-
-/// The fresh file at page size 1024 whose first page is zeros.
-pub fn without_first_meta(alloc: Global) -> Result<Vec<u8>, AllocError> {
-    let mut file = fresh(alloc, 1024)?;
-    patch(&mut file, 0, &[0; 1024])?;
-    Ok(file)
 }
 
 /// A root page that holds empty buckets under these names.
@@ -65,13 +173,6 @@ pub fn names(alloc: Global) -> Result<Vec<u8>, AllocError> {
     with_root(alloc, &MetaFields::fresh(1024), &elements)
 }
 
-/// Bucket `b`, inline, with `k1` = `v1`.
-pub fn inline_bucket(alloc: Global, page_size: u32) -> Result<Vec<u8>, AllocError> {
-    let held = inline(alloc, 0, &[Value(b"k1", b"v1")])?;
-    let elements = [Bucket(b"b", held.as_slice())];
-    with_root(alloc, &MetaFields::fresh(page_size), &elements)
-}
-
 /// The buckets `a`, inline with `z` = `1`, and `aa`, empty.
 pub fn two_buckets(alloc: Global) -> Result<Vec<u8>, AllocError> {
     let held = inline(alloc, 0, &[Value(b"z", b"1")])?;
@@ -106,48 +207,6 @@ pub fn pair(alloc: Global, txids: [u64; 2]) -> Result<Vec<u8>, AllocError> {
         (4, second.as_slice()),
     ];
     database_of(alloc, 1024, 5, [&zero, &one], &pages)
-}
-
-/// A branch as root, `a` to page 4 and `m` to page 5: leaf 4 holds `a` and `c`, leaf 5 `m` and `p`.
-pub fn branch_root(alloc: Global, page_size: u32) -> Result<Vec<u8>, AllocError> {
-    let root = branch(alloc, 3, &[(b"a", 4), (b"m", 5)])?;
-    let first = leaf(alloc, 4, &[Value(b"a", b""), Value(b"c", b"")])?;
-    let second = leaf(alloc, 5, &[Value(b"m", b""), Value(b"p", b"")])?;
-    let fields = MetaFields {
-        mark: 6,
-        ..MetaFields::fresh(page_size)
-    };
-    let pages = [
-        (3, root.as_slice()),
-        (4, first.as_slice()),
-        (5, second.as_slice()),
-    ];
-    database(alloc, 6, &fields, &pages)
-}
-
-/// A branch as root that leads to itself.
-pub fn branch_to_itself(alloc: Global) -> Result<Vec<u8>, AllocError> {
-    let root = branch(alloc, 3, &[(b"a", 3)])?;
-    database(alloc, 4, &MetaFields::fresh(4096), &[(3, root.as_slice())])
-}
-
-/// The fresh file whose root page has the greatest overflow.
-pub fn greatest_overflow(alloc: Global) -> Result<Vec<u8>, AllocError> {
-    let mut file = fresh(alloc, 4096)?;
-    patch(&mut file, 3 * 4096 + 12, &[0xFF; 4])?;
-    Ok(file)
-}
-
-/// The fresh file without a written freelist, in five pages.
-pub fn no_freelist(alloc: Global) -> Result<Vec<u8>, AllocError> {
-    let root = leaf(alloc, 3, &[])?;
-    let fields = MetaFields {
-        freelist: NO_FREELIST,
-        mark: 5,
-        ..MetaFields::fresh(4096)
-    };
-    let pages = [(2, [0; 16].as_slice()), (3, root.as_slice())];
-    database(alloc, 5, &fields, &pages)
 }
 
 /// This many page numbers from a first one on.
@@ -193,51 +252,6 @@ pub fn many_free_pages(alloc: Global, ids: &[u64]) -> Result<Vec<u8>, AllocError
     };
     let pages = [(2, free.as_slice()), (131, root.as_slice())];
     database(alloc, 132, &fields, &pages)
-}
-
-/// A branch of three pages whose middle one is an empty leaf: `a` to 4, `f` to 5, `m` to 6.
-pub fn empty_middle(alloc: Global) -> Result<Vec<u8>, AllocError> {
-    let root = branch(alloc, 3, &[(b"a", 4), (b"f", 5), (b"m", 6)])?;
-    let first = leaf(alloc, 4, &[Value(b"a", b""), Value(b"c", b"")])?;
-    let middle = leaf(alloc, 5, &[])?;
-    let last = leaf(alloc, 6, &[Value(b"m", b""), Value(b"p", b"")])?;
-    let fields = MetaFields {
-        mark: 7,
-        ..MetaFields::fresh(4096)
-    };
-    let pages = [
-        (3, root.as_slice()),
-        (4, first.as_slice()),
-        (5, middle.as_slice()),
-        (6, last.as_slice()),
-    ];
-    database(alloc, 7, &fields, &pages)
-}
-
-/// The fresh file with a fifth page, which is free.
-pub fn one_free_page(alloc: Global) -> Result<Vec<u8>, AllocError> {
-    let free = freelist(alloc, 2, &[4])?;
-    let root = leaf(alloc, 3, &[])?;
-    let fields = MetaFields {
-        mark: 5,
-        ..MetaFields::fresh(4096)
-    };
-    database(
-        alloc,
-        5,
-        &fields,
-        &[(2, free.as_slice()), (3, root.as_slice())],
-    )
-}
-
-/// The fresh file under another mark, with so many pages held.
-pub fn marked(alloc: Global, mark: u64, pages_held: usize) -> Result<Vec<u8>, AllocError> {
-    let root = leaf(alloc, 3, &[])?;
-    let fields = MetaFields {
-        mark,
-        ..MetaFields::fresh(4096)
-    };
-    database(alloc, pages_held, &fields, &[(3, root.as_slice())])
 }
 
 /// Branches from page 3 to a last one, each with `a` to the next page, and then an empty leaf.
@@ -293,6 +307,33 @@ pub fn forty_values(alloc: Global) -> Result<Vec<u8>, AllocError> {
         let id = i.saturating_add(3);
         let page = ten_values(alloc, id as u64, *digit)?;
         patch(&mut file, id.saturating_mul(1024), page.as_slice())?;
+    }
+    Ok(file)
+}
+
+/// So many buckets `b`, each in the one before: the first on the last page, which is the root, and
+/// the last on page 3, inline and empty.
+pub fn nested_buckets(alloc: Global, count: u64) -> Result<Vec<u8>, AllocError> {
+    let root = count.saturating_add(2);
+    let fields = MetaFields {
+        root,
+        mark: root.saturating_add(1),
+        ..MetaFields::fresh(1024)
+    };
+    let innermost = empty_leaf(alloc, 3, b"b")?;
+    let pages = [(3, innermost.as_slice())];
+    let mut file = database(alloc, fields.mark as usize, &fields, &pages)?;
+    // One page serves for all others: its number at byte 0, that of the next behind the key.
+    let rooted = reference(alloc, 0, 0)?;
+    let mut page = leaf(alloc, 0, &[Bucket(b"b", rooted.as_slice())])?;
+    for id in 4..fields.mark {
+        patch(&mut page, 0, &id.to_le_bytes())?;
+        patch(&mut page, 33, &id.saturating_sub(1).to_le_bytes())?;
+        patch(
+            &mut file,
+            (id as usize).saturating_mul(1024),
+            page.as_slice(),
+        )?;
     }
     Ok(file)
 }
