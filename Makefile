@@ -4,7 +4,7 @@ PROGRAM = crates/luntsegi/out/luntsegi
 SOUND = $(wildcard examples/*.buckets)
 LEAKED = examples/leaked
 
-.PHONY: build demo examples test bench install clean
+.PHONY: build demo examples test bench memory install clean
 
 # Proves the program and the libraries below it, and builds it.
 build:
@@ -37,6 +37,20 @@ bench: $(PROGRAM) $(LARGE)
 $(LARGE): tools/bench/make_large.py
 	mkdir -p $(@D)
 	python3 tools/bench/make_large.py $@
+
+DEEP = out/deep.db
+REFUSED = rt try --data deep.db=$(abspath $(DEEP)) --fail-alloc
+
+# Checks a file of 20,000 nested buckets where a request for memory is refused. The checker makes
+# two, the 75th and the 76th of the program, and there is no 77th.
+memory: $(DEEP)
+	cd crates/luntsegi && $(REFUSED) 75 -- check deep.db 2>&1 | grep -x "error: out of memory"
+	cd crates/luntsegi && $(REFUSED) 76 -- check deep.db 2>&1 | grep -x "error: out of memory"
+	cd crates/luntsegi && $(REFUSED) 77 -- check deep.db 2>&1 | grep -x OK
+
+$(DEEP): tools/bench/make_deep.py
+	mkdir -p $(@D)
+	python3 -B tools/bench/make_deep.py $@
 
 install: $(PROGRAM)
 	install -D -m 755 $(PROGRAM) $(DESTDIR)$(PREFIX)/bin/luntsegi
