@@ -9,9 +9,11 @@ use crate::samples::{
 use Content::{Branch, Freelist, Inline, Leaf};
 use Element::Value;
 use Outcome::Prints;
-use bolt_check::{CheckFault, Finding, check};
+use bolt_check::{CheckFault, Checked, Finding, check};
 use bolt_cli::Job;
 use bolt_format::{Meta, MetaFault, PageFault};
+use std::alloc::{AllocError, Global};
+use std::process::Abort;
 use std::test::Fail;
 
 const SOUND: Outcome<'static> = Prints("OK\n");
@@ -389,22 +391,51 @@ fn many_free_pages(rt: HostRuntime) -> Result<(), Fail> {
     Ok(())
 }
 
+/// Files that the call refuses for their metas, their trees and their freelist.
+static UNOPENED: Sample<'static> = Sample {
+    fields: MetaFields {
+        version: 1,
+        ..FRESH
+    },
+    ..FRESH_FILE
+};
+
 static UNSOUND: Sample<'static> = GREATEST_OVERFLOW;
 
 static UNACCOUNTED: Sample<'static> = FIVE_PAGES;
 
-static LOST: [Finding; 1] = [Finding {
+static TOLD: [Finding; 1] = [Finding {
     number: Finding::UNREACHABLE,
     page: 4,
     last: 4,
 }];
 
-/// What the call answers of a sound file, and of one that is refused for each reason.
+fn fault_of(alloc: Global, sample: &Sample<'_>) -> Result<Option<CheckFault>, AllocError> {
+    let file = make(alloc, sample)?;
+    Ok(check(alloc, file.as_slice()).err())
+}
+
 #[test]
-fn answers_of_the_call(rt: HostRuntime) -> Result<(), Fail> {
-    let alloc = rt.alloc();
-    let file = samples::fresh(alloc, 4096)?;
-    let checked = check(alloc, file.as_slice())?;
+fn faults_of_the_call(rt: HostRuntime) -> Result<(), Fail> {
+    match fault_of(rt.alloc(), &UNOPENED)? {
+        Some(CheckFault::Open(fault)) => assert_eq!(rt; fault, MetaFault::Version),
+        _ => assert!(rt; false, "no meta is valid"),
+    }
+    match fault_of(rt.alloc(), &UNSOUND)? {
+        Some(CheckFault::Structure(finding)) => {
+            assert_eq!(rt; finding, Finding::of_page(PageFault::RANGE, 3));
+        }
+        _ => assert!(rt; false, "the trees are not sound"),
+    }
+    match fault_of(rt.alloc(), &UNACCOUNTED)? {
+        Some(CheckFault::Accounts(told)) => assert_eq!(rt; told.as_slice(), TOLD.as_slice()),
+        _ => assert!(rt; false, "the accounts are wrong"),
+    }
+    Ok(())
+}
+
+/// What the call shows of the fresh file.
+fn check_shown(rt: &impl Abort, checked: Checked<'_>, file: &[u8]) {
     let meta = Meta {
         page_size: 4096,
         root: 3,
@@ -413,25 +444,17 @@ fn answers_of_the_call(rt: HostRuntime) -> Result<(), Fail> {
         high_water: 4,
         txid: 1,
     };
-    assert_eq!(rt; checked.meta(), meta);
-    assert_eq!(rt; checked.bytes(), file.as_slice());
+    assert!(rt; checked.meta() == meta, "the meta in force");
+    assert!(rt; checked.bytes() == file, "the bytes of the file");
     assert!(rt; checked.accounts(), "the accounts are left out");
-    let answer = check(alloc, &[]);
-    assert!(rt;
-        matches!(answer, Err(CheckFault::Open(MetaFault::Cut))),
-        "no bytes"
-    );
-    let file = make(alloc, &UNSOUND)?;
-    match check(alloc, file.as_slice()) {
-        Err(CheckFault::Structure(finding)) => {
-            assert_eq!(rt; finding, Finding::of_page(PageFault::RANGE, 3));
-        }
-        _ => assert!(rt; false, "the trees are not sound"),
-    }
-    let file = make(alloc, &UNACCOUNTED)?;
-    match check(alloc, file.as_slice()) {
-        Err(CheckFault::Accounts(told)) => assert_eq!(rt; told.as_slice(), LOST.as_slice()),
-        _ => assert!(rt; false, "the accounts are wrong"),
+}
+
+#[test]
+fn checked_file(rt: HostRuntime) -> Result<(), Fail> {
+    let file = samples::fresh(rt.alloc(), 4096)?;
+    match check(rt.alloc(), file.as_slice()) {
+        Ok(checked) => check_shown(&rt, checked, file.as_slice()),
+        Err(_) => assert!(rt; false, "the fresh file is sound"),
     }
     Ok(())
 }

@@ -1,9 +1,7 @@
 //! Rows of files that no command reads, for their metas, and of files whose root page, page 3, is
 //! refused.
 
-use crate::commands::{
-    BUCKETS, CHECK, INFO, Outcome, PAGE_THREE, check_refused, check_row, check_rows,
-};
+use crate::commands::{BUCKETS, CHECK, INFO, Outcome, PAGE_THREE, check_refused, check_row};
 use crate::fault_rows::{
     BUCKET_ROWS, FIRST_ELEMENT_ROWS, HEADER_ROWS, INLINE_ROWS, MARKED_ROWS, NESTED_ROWS,
     SECOND_ELEMENT_ROWS, bucket_file, fault_text, inline_file, leaf_file, nested_file,
