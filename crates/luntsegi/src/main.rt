@@ -23,8 +23,10 @@ fn main(rt: HostRuntime) -> ExitCode {
 
 fn read_job(rt: &HostRuntime) -> Result<Job, Refusal> {
     let mut words = Vec::new(rt.alloc());
-    let Ok(args) = env::args(rt) else {
-        return Err(Refusal::Word("arguments are not text"));
+    let args = match env::args(rt) {
+        Ok(args) => args,
+        Err(error) if error.kind() == io::ErrorKind::OutOfMemory => return Err(Refusal::Memory),
+        Err(_) => return Err(Refusal::Word("arguments are not text")),
     };
     for arg in args {
         words.push(arg).map_err(|_| Refusal::Memory)?;
