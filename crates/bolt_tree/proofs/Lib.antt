@@ -1,0 +1,12 @@
+mod EntryOrder
+mod Existing
+mod Filters
+mod Giving
+mod Lists
+mod Named
+mod Nesting
+mod PathOrder
+mod Rows
+mod Seeking
+mod Single
+mod TreeListing

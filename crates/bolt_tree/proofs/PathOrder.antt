@@ -1,0 +1,162 @@
+-- The order of paths, part by part: what stands behind a path, and where.
+-- Rests on the order of keys, which is total, and in which only equal keys are tied.
+use Rattle.std.proofs.Common.{◌≡◌, ◌∙◌, ◌⊎◌, inl, inr, Bool, true, false, List, [], ◌∷◌, ◌++◌, refl, sym, ap, subst, ℕ}
+use Rattle.std.specs.Cmp.{IsTotalOrder}
+use Rattle.std.specs.Cmp.Lexicographic.{slice_cmp}
+use Rattle.std.specs.Ordering.{is_lt, nat_cmp, ordering_then, ordering_reverse}
+use Rattle.std.specs.declared.cmp.Ordering.{Ordering}
+use Rattle.std.specs.declared.cmp.Ordering.TheVariants.{Less, Equal, Greater}
+use Rattle.std.proofs.lemmas.Cmp.{alike_right, lists_total, nat_list_cmp_total, ranked, tied_itself}
+use Rattle.bolt_check.specs.Keys.{Key, key_cmp}
+use Rattle.bolt_tree.specs.Paths.{Path, path_cmp}
+use Rattle.bolt_tree.specs.Behind.{by_first, is_beyond}
+
+pub key_total : IsTotalOrder key_cmp
+key_total = nat_list_cmp_total
+
+pub path_total : IsTotalOrder path_cmp
+path_total = lists_total nat_list_cmp_total
+
+pub less_lt : (o : Ordering) → is_lt o ≡ true → o ≡ Less
+less_lt Less e = refl
+less_lt Equal e = absurd (cc)
+less_lt Greater e = absurd (cc)
+
+-- only equal texts are tied
+nats_exact : (x y : ℕ) → nat_cmp x y ≡ Equal → x ≡ y
+nats_exact x y e = ranked x y Equal (sym e)
+
+then_equal : (a b : Ordering) → ordering_then a b ≡ Equal → (a ≡ Equal) × (b ≡ Equal)
+then_equal Less b e = absurd (cc)
+then_equal Equal b e = (refl, e)
+then_equal Greater b e = absurd (cc)
+
+lists_exact : {K : Type 0} (R : K → K → Ordering) → ((x y : K) → R x y ≡ Equal → x ≡ y) → (xs ys : List K) → slice_cmp R xs ys ≡ Equal → xs ≡ ys
+lists_exact R exact [] [] e = refl
+lists_exact R exact [] (y ∷ ys) e = absurd (let f : Less ≡ Equal = e in cc)
+lists_exact R exact (x ∷ xs) [] e = absurd (let f : Greater ≡ Equal = e in cc)
+lists_exact R exact (x ∷ xs) (y ∷ ys) e =
+    let both = then_equal (R x y) (slice_cmp R xs ys) e in
+    let first = exact x y both.0 in
+    let later = lists_exact R exact xs ys both.1 in cc
+
+pub key_exact : (a b : Key) → key_cmp a b ≡ Equal → a ≡ b
+key_exact a b e = lists_exact nat_cmp nats_exact a b e
+
+pub path_exact : (a b : Path) → path_cmp a b ≡ Equal → a ≡ b
+path_exact a b e = lists_exact key_cmp key_exact a b e
+
+pub key_same : (a : Key) → key_cmp a a ≡ Equal
+key_same a = tied_itself key_total a
+
+pub path_same : (a : Path) → path_cmp a a ≡ Equal
+path_same a = tied_itself path_total a
+
+-- the answer the other way round
+pub flip_less : {K : Type 0} {R : K → K → Ordering} → IsTotalOrder R → (a b : K) → R a b ≡ Less → R b a ≡ Greater
+flip_less {R = R} o a b e = o.antisymm b a ∙ ap ordering_reverse e
+
+pub flip_greater : {K : Type 0} {R : K → K → Ordering} → IsTotalOrder R → (a b : K) → R a b ≡ Greater → R b a ≡ Less
+flip_greater {R = R} o a b e = o.antisymm b a ∙ ap ordering_reverse e
+
+-- a path stands before those that it begins
+pub before_longer : (p : Path) (k : Key) (r : Path) → path_cmp p (p ++ k ∷ r) ≡ Less
+before_longer [] k r = refl
+before_longer (x ∷ p) k r = rw key_same (before_longer p k r)
+
+-- what two paths begin with does not matter
+pub same_front : (p s t : Path) → path_cmp (p ++ s) (p ++ t) ≡ path_cmp s t
+same_front [] s t = refl
+same_front (x ∷ p) s t = rw key_same (same_front p s t)
+
+-- what stands behind a path stands beyond it, or begins with it
+Extends : Path → Path → Type 0
+Extends p q = (k : Key) × (r : Path) × (q ≡ p ++ k ∷ r)
+
+by_parts : (x y : Key) (p q : Path) (o : Ordering) → key_cmp x y ≡ o → ordering_then o (path_cmp p q) ≡ Less
+    → (path_cmp p q ≡ Less → (is_beyond p q ≡ true) ⊎ ((k : Key) × (r : Path) × (q ≡ p ++ k ∷ r)))
+    → (by_first o (is_beyond p q) ≡ true) ⊎ ((k : Key) × (r : Path) × (y ∷ q ≡ (x ∷ p) ++ k ∷ r))
+by_parts x y p q Less e h more = inl refl
+by_parts x y p q Equal e h more =
+    let same = key_exact x y e in
+    elim (more h) [
+      | inl beyond ↦ inl beyond
+      | inr (k, r, longer) ↦ inr (k, r, let both : y ∷ q ≡ x ∷ (p ++ k ∷ r) = cc in both)
+    ]
+by_parts x y p q Greater e h more = absurd (let f : Greater ≡ Less = h in cc)
+
+pub beyond_or_longer : (p q : Path) → path_cmp p q ≡ Less → (is_beyond p q ≡ true) ⊎ ((k : Key) × (r : Path) × (q ≡ p ++ k ∷ r))
+beyond_or_longer [] [] e = absurd (let f : Equal ≡ Less = e in cc)
+beyond_or_longer [] (y ∷ q) e = inr (y, q, refl)
+beyond_or_longer (x ∷ p) [] e = absurd (let f : Greater ≡ Less = e in cc)
+beyond_or_longer (x ∷ p) (y ∷ q) e = by_parts x y p q (key_cmp x y) refl e (beyond_or_longer p q)
+
+-- what stands beyond a path stands behind all that it begins
+first_less : (o r : Ordering) (b : Bool) → by_first o b ≡ true → (b ≡ true → r ≡ Less) → ordering_then o r ≡ Less
+first_less Less r b e more = refl
+first_less Equal r b e more = more e
+first_less Greater r b e more = absurd (let f : false ≡ true = e in cc)
+
+pub beyond_less : (p s q : Path) → is_beyond p q ≡ true → path_cmp (p ++ s) q ≡ Less
+beyond_less [] s q e = absurd (let f : false ≡ true = e in cc)
+beyond_less (x ∷ p) s [] e = absurd (let f : false ≡ true = e in cc)
+beyond_less (x ∷ p) s (y ∷ q) e = first_less (key_cmp x y) (path_cmp (p ++ s) q) (is_beyond p q) e (beyond_less p s q)
+
+-- beyond a path of one part more: beyond the path, or with a greater part in that place
+by_last : (x y : Key) (p q : Path) (k : Key) (o : Ordering) → key_cmp x y ≡ o → by_first o (is_beyond (p ++ k ∷ []) q) ≡ true
+    → (is_beyond (p ++ k ∷ []) q ≡ true → (is_beyond p q ≡ true) ⊎ ((z : Key) × (r : Path) × (q ≡ p ++ z ∷ r) × (key_cmp k z ≡ Less)))
+    → (by_first o (is_beyond p q) ≡ true) ⊎ ((z : Key) × (r : Path) × (y ∷ q ≡ (x ∷ p) ++ z ∷ r) × (key_cmp k z ≡ Less))
+by_last x y p q k Less e h more = inl refl
+by_last x y p q k Equal e h more =
+    let same = key_exact x y e in
+    elim (more h) [
+      | inl beyond ↦ inl beyond
+      | inr (z, r, longer, less) ↦ inr (z, r, (let both : y ∷ q ≡ x ∷ (p ++ z ∷ r) = cc in both), less)
+    ]
+by_last x y p q k Greater e h more = absurd (let f : false ≡ true = h in cc)
+
+only_less : (k y : Key) (o : Ordering) → key_cmp k y ≡ o → by_first o false ≡ true → key_cmp k y ≡ Less
+only_less k y Less e h = e
+only_less k y Equal e h = absurd (let f : false ≡ true = h in cc)
+only_less k y Greater e h = absurd (let f : false ≡ true = h in cc)
+
+pub beyond_push : (p : Path) (k : Key) (q : Path) → is_beyond (p ++ k ∷ []) q ≡ true
+    → (is_beyond p q ≡ true) ⊎ ((z : Key) × (r : Path) × (q ≡ p ++ z ∷ r) × (key_cmp k z ≡ Less))
+beyond_push [] k [] e = absurd (let f : false ≡ true = e in cc)
+beyond_push [] k (y ∷ q) e = inr (y, q, refl, only_less k y (key_cmp k y) refl e)
+beyond_push (x ∷ p) k [] e = absurd (let f : false ≡ true = e in cc)
+beyond_push (x ∷ p) k (y ∷ q) e = by_last x y p q k (key_cmp x y) refl e (beyond_push p k q)
+
+-- and back
+pub beyond_here : (p : Path) (k z : Key) (s r : Path) → key_cmp k z ≡ Less → is_beyond (p ++ k ∷ s) (p ++ z ∷ r) ≡ true
+beyond_here [] k z s r e = rw e refl
+beyond_here (x ∷ p) k z s r e = rw key_same (beyond_here p k z s r e)
+
+first_more : (o : Ordering) (a b : Bool) → by_first o a ≡ true → (a ≡ true → b ≡ true) → by_first o b ≡ true
+first_more Less a b e more = refl
+first_more Equal a b e more = more e
+first_more Greater a b e more = absurd (let f : false ≡ true = e in cc)
+
+-- beyond a path is beyond all that it begins
+pub beyond_longer : (p s q : Path) → is_beyond p q ≡ true → is_beyond (p ++ s) q ≡ true
+beyond_longer [] s q e = absurd (let f : false ≡ true = e in cc)
+beyond_longer (x ∷ p) s [] e = e
+beyond_longer (x ∷ p) s (y ∷ q) e = first_more (key_cmp x y) (is_beyond p q) (is_beyond (p ++ s) q) e (beyond_longer p s q)
+
+-- and what stands behind that is beyond the path too
+chain : (x y z : Key) (p q t : Path) (o r : Ordering) → key_cmp x y ≡ o → key_cmp y z ≡ r → by_first o (is_beyond p q) ≡ true
+    → ordering_then r (path_cmp q t) ≡ Less → (is_beyond p q ≡ true → path_cmp q t ≡ Less → is_beyond p t ≡ true)
+    → by_first (key_cmp x z) (is_beyond p t) ≡ true
+chain x y z p q t Less Less e f h g more = rw (key_total.trans x y z e f) refl
+chain x y z p q t Less Equal e f h g more = let same = key_exact y z f in rw (← same) (rw e refl)
+chain x y z p q t Equal Less e f h g more = let same = key_exact x y e in rw same (rw f refl)
+chain x y z p q t Equal Equal e f h g more = rw (key_total.congr x y z e) (rw f (more h g))
+chain x y z p q t Greater r e f h g more = absurd (let c : false ≡ true = h in cc)
+chain x y z p q t Less Greater e f h g more = absurd (let c : Greater ≡ Less = g in cc)
+chain x y z p q t Equal Greater e f h g more = absurd (let c : Greater ≡ Less = g in cc)
+
+pub beyond_up : (p q t : Path) → is_beyond p q ≡ true → path_cmp q t ≡ Less → is_beyond p t ≡ true
+beyond_up [] q t e h = e
+beyond_up (x ∷ p) [] t e h = absurd (let f : false ≡ true = e in cc)
+beyond_up (x ∷ p) (y ∷ q) [] e h = absurd (let f : Greater ≡ Less = h in cc)
+beyond_up (x ∷ p) (y ∷ q) (z ∷ t) e h = chain x y z p q t (key_cmp x y) (key_cmp y z) refl refl e h (beyond_up p q t)

@@ -1,0 +1,19 @@
+-- A listing is one: it rises by the order of paths, which is total.
+use Rattle.std.proofs.Common.{◌≡◌, ℕ, List}
+use Rattle.std.specs.Cmp.{IsTotalOrder}
+use Rattle.std.specs.Ordering.{on}
+use Rattle.std.proofs.lemmas.Cmp.{on_total}
+use Rattle.bolt_format.specs.Elements.{LeafElement}
+use Rattle.bolt_tree.specs.Entries.{Start}
+use Rattle.bolt_tree.specs.Listing.{Lists, Member, member_cmp}
+use Rattle.bolt_tree.proofs.Lists.{rises_once}
+use Rattle.bolt_tree.proofs.PathOrder.{path_total}
+
+pub member_total : IsTotalOrder member_cmp
+member_total = on_total (λ (m : Member). m.0) path_total
+
+pub lists_once : (Entry : Start → LeafElement → Type 0) (from : Start) (a b : List Member) → Lists Entry from a → Lists Entry from b → a ≡ b
+lists_once Entry from a b h k =
+    rises_once member_total a b h.rises k.rises
+    (λ m in_a. (k.exact m.0 m.1).1 ((h.exact m.0 m.1).0 in_a))
+    (λ m in_b. (h.exact m.0 m.1).1 ((k.exact m.0 m.1).0 in_b))

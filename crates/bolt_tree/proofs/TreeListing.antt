@@ -1,0 +1,206 @@
+-- What a tree lists is the listing of what it shows: each path that is held, with its item, once, in path order.
+use Rattle.std.proofs.Common.{◌≡◌, ◌∙◌, ◌⊎◌, inl, inr, Bool, true, false, IsTrue, ℕ, List, [], ◌∷◌, ◌++◌, refl, sym, ap, subst, append_assoc}
+use Rattle.std.specs.List.{Contains}
+use Rattle.std.specs.declared.cmp.Ordering.{Ordering}
+use Rattle.std.specs.declared.cmp.Ordering.TheVariants.{Less, Equal, Greater}
+use Rattle.std.proofs.lemmas.List.Elements.{Contains-append_cases, Contains-append_left, Contains-append_right}
+use Rattle.bolt_format.specs.Elements.{LeafElement, head_sequence}
+use Rattle.bolt_check.specs.Keys.{Key, key_cmp}
+use Rattle.bolt_tree.specs.Entries.{AreEntries, Bucket, Item, Start, Value, entry_cmp, item_of, start_of}
+use Rattle.bolt_tree.specs.Listing.{Lists, Member, member_cmp}
+use Rattle.bolt_tree.specs.Order.{IsBelow, Rises}
+use Rattle.bolt_tree.specs.Paths.{Holds, Path, path_cmp}
+use Rattle.bolt_tree.specs.Tree.{IsTreeOf, Shows, Tree, end, listing_below, listing_of, with_bucket, with_value}
+use Rattle.bolt_tree.proofs.Lists.{contains_cases, contains_head, contains_none, contains_tail}
+use Rattle.bolt_tree.proofs.PathOrder.{before_longer, same_front}
+
+-- lists that rise, one after the other
+pub rises_append : {A : Type 0} (cmp : A → A → Ordering) (xs ys : List A) → Rises cmp xs → Rises cmp ys → ((x y : A) → Contains xs x → Contains ys y → cmp x y ≡ Less) → Rises cmp (xs ++ ys)
+rises_append cmp [] ys r s between = s
+rises_append cmp (x ∷ xs) ys r s between = (
+  λ y h. elim (Contains-append_cases xs ys y h) [ inl a ↦ r.0 y a | inr b ↦ between x y (contains_head x xs) b ],
+  rises_append cmp xs ys r.1 s (λ a b h k. between a b (contains_tail x a xs h) k),
+)
+
+plain : (e : LeafElement) → e.is_bucket ≡ false → item_of e ≡ Value e.value
+plain e h = rw h refl
+
+bucketed : (e : LeafElement) → e.is_bucket ≡ true → item_of e ≡ Bucket (head_sequence e.value)
+bucketed e h = rw h refl
+
+module _ (Entry : Start → LeafElement → Type 0) where
+  -- a path holds an item by one of these entries
+  abbrev pub HoldsBy : List LeafElement → Path → Item → Type 0
+  HoldsBy entries [] item = ⊥
+  HoldsBy entries (key ∷ []) item = (e : LeafElement) × Contains entries e × (e.key ≡ key) × (item_of e ≡ item)
+  HoldsBy entries (key ∷ next ∷ path) item = (e : LeafElement) × Contains entries e × (e.key ≡ key) × IsTrue e.is_bucket × Holds Entry (start_of e.value) (next ∷ path) item
+
+  held_by : (bucket : Start) (entries : List LeafElement) → AreEntries Entry bucket entries → (path : Path) (item : Item) → Holds Entry bucket path item → HoldsBy entries path item
+  held_by bucket entries are [] item h = h
+  held_by bucket entries are (key ∷ []) item (e, is, same, of) = (e, (are.exact e).1 is, same, of)
+  held_by bucket entries are (key ∷ next ∷ path) item (e, is, same, b, more) = (e, (are.exact e).1 is, same, b, more)
+
+  held_of : (bucket : Start) (entries : List LeafElement) → AreEntries Entry bucket entries → (path : Path) (item : Item) → HoldsBy entries path item → Holds Entry bucket path item
+  held_of bucket entries are [] item h = h
+  held_of bucket entries are (key ∷ []) item (e, is, same, of) = (e, (are.exact e).0 is, same, of)
+  held_of bucket entries are (key ∷ next ∷ path) item (e, is, same, b, more) = (e, (are.exact e).0 is, same, b, more)
+
+  more_entries : (x : LeafElement) (entries : List LeafElement) (path : Path) (item : Item) → HoldsBy entries path item → HoldsBy (x ∷ entries) path item
+  more_entries x entries [] item h = h
+  more_entries x entries (key ∷ []) item (e, is, same, of) = (e, contains_tail x e entries is, same, of)
+  more_entries x entries (key ∷ next ∷ path) item (e, is, same, b, more) = (e, contains_tail x e entries is, same, b, more)
+
+  -- an entry's own item, or what its bucket holds, or that of a later entry
+  data Way (x : LeafElement) (entries : List LeafElement) (path : Path) (item : Item) : Type 0 where
+    own : path ≡ x.key ∷ [] → item_of x ≡ item → Way x entries path item
+    inner : (rest : Path) → path ≡ x.key ∷ rest → IsTrue x.is_bucket → Holds Entry (start_of x.value) rest item → Way x entries path item
+    later : HoldsBy entries path item → Way x entries path item
+
+  way_own : (x e : LeafElement) (entries : List LeafElement) (key : Key) (item : Item) → (x ≡ e) ⊎ Contains entries e → e.key ≡ key → item_of e ≡ item → Way x entries (key ∷ []) item
+  way_own x e entries key item (inl s) same of =
+      own (ap (λ (k : Key). k ∷ []) (sym (ap (λ (y : LeafElement). y.key) s ∙ same))) (ap item_of s ∙ of)
+  way_own x e entries key item (inr h) same of = later (e, h, same, of)
+
+  way_inner : (x e : LeafElement) (entries : List LeafElement) (key next : Key) (path : Path) (item : Item) → (x ≡ e) ⊎ Contains entries e → e.key ≡ key → IsTrue e.is_bucket
+      → Holds Entry (start_of e.value) (next ∷ path) item → Way x entries (key ∷ next ∷ path) item
+  way_inner x e entries key next path item (inl s) same b more =
+      inner (next ∷ path) (ap (λ (k : Key). k ∷ next ∷ path) (sym (ap (λ (y : LeafElement). y.key) s ∙ same)))
+      (subst (λ (y : LeafElement). IsTrue y.is_bucket) (sym s) b) (subst (λ (y : LeafElement). Holds Entry (start_of y.value) (next ∷ path) item) (sym s) more)
+  way_inner x e entries key next path item (inr h) same b more = later (e, h, same, b, more)
+
+  way : (x : LeafElement) (entries : List LeafElement) (path : Path) (item : Item) → HoldsBy (x ∷ entries) path item → Way x entries path item
+  way x entries [] item h = absurd h
+  way x entries (key ∷ []) item (e, is, same, of) = way_own x e entries key item (contains_cases x e entries is) same of
+  way x entries (key ∷ next ∷ path) item (e, is, same, b, more) = way_inner x e entries key next path item (contains_cases x e entries is) same b more
+
+  -- through the bucket of an entry
+  into : (x : LeafElement) (entries : List LeafElement) (path : Path) (item : Item) → IsTrue x.is_bucket → Holds Entry (start_of x.value) path item → HoldsBy (x ∷ entries) (x.key ∷ path) item
+  into x entries [] item b h = absurd h
+  into x entries (next ∷ path) item b h = (x, contains_head x entries, refl, b, h)
+
+  -- what a tree lists below a path is what its entries hold
+  pub listed : (tree : Tree) (entries : List LeafElement) → Shows Entry tree entries → (front : Path) (member : Member) → Contains (listing_below front tree) member
+      → (path : Path) × (member.0 ≡ front ++ path) × HoldsBy entries path member.1
+  listed end [] s front member h = absurd (contains_none member h)
+  listed end (e ∷ entries) s front member h = absurd s
+  listed (with_value key value after) [] s front member h = absurd s
+  listed (with_value key value after) (e ∷ entries) (b, k, v, more) front member h =
+      elim (contains_cases (front ++ key ∷ [], Value value) member (listing_below front after) h) [
+        | inl same ↦ (
+          key ∷ [],
+          sym (ap (λ (m : Member). m.0) same),
+          (e, contains_head e entries, k, plain e b ∙ (ap Value v ∙ ap (λ (m : Member). m.1) same)),
+        )
+        | inr further ↦ let (path, at, held) = listed after entries more front member further in (path, at, more_entries e entries path member.1 held)
+      ]
+  listed (with_bucket key sequence inside after) [] s front member h = absurd s
+  listed (with_bucket key sequence inside after) (e ∷ entries) (b, k, q, (own_entries, are, shows), more) front member h =
+      elim (contains_cases (front ++ key ∷ [], Bucket sequence) member (listing_below (front ++ key ∷ []) inside ++ listing_below front after) h) [
+        | inl same ↦ (
+          key ∷ [],
+          sym (ap (λ (m : Member). m.0) same),
+          (e, contains_head e entries, k, bucketed e b ∙ (ap Bucket q ∙ ap (λ (m : Member). m.1) same)),
+        )
+        | inr further ↦ elim (Contains-append_cases (listing_below (front ++ key ∷ []) inside) (listing_below front after) member further) [
+          | inl within ↦
+              let (path, at, held) = listed inside own_entries shows (front ++ key ∷ []) member within in
+              let deep = into e entries path member.1 b (held_of (start_of e.value) own_entries are path member.1 held) in
+              (key ∷ path, at ∙ append_assoc front (key ∷ []) path, subst (λ (j : Key). HoldsBy (e ∷ entries) (j ∷ path) member.1) k deep)
+          | inr behind ↦ let (path, at, held) = listed after entries more front member behind in (path, at, more_entries e entries path member.1 held)
+        ]
+      ]
+
+  at_member : (members : List Member) (a b : Path) (i j : Item) → a ≡ b → i ≡ j → Contains members (a, i) → Contains members (b, j)
+  at_member members a b i j p q h = subst (λ (i : Item). Contains members (b, i)) q (subst (λ (p : Path). Contains members (p, i)) p h)
+
+  -- and the other way round
+  pub lists_all : (tree : Tree) (entries : List LeafElement) → Shows Entry tree entries → (front path : Path) (item : Item) → HoldsBy entries path item
+      → Contains (listing_below front tree) (front ++ path, item)
+  lists_all end [] s front [] item h = absurd h
+  lists_all end [] s front (key ∷ []) item (e, is, same, of) = absurd (contains_none e is)
+  lists_all end [] s front (key ∷ next ∷ path) item (e, is, same, b, more) = absurd (contains_none e is)
+  lists_all end (e ∷ entries) s front path item h = absurd s
+  lists_all (with_value key value after) [] s front path item h = absurd s
+  lists_all (with_value key value after) (e ∷ entries) (b, k, v, more) front path item h =
+      let all : List Member = (front ++ key ∷ [], Value value) ∷ listing_below front after in
+      elim (way e entries path item h) [
+        | own at of ↦
+            let same : front ++ key ∷ [] ≡ front ++ path = ap (λ (p : Path). front ++ p) (ap (λ (j : Key). j ∷ []) (sym k) ∙ sym at) in
+            at_member all (front ++ key ∷ []) (front ++ path) (Value value) item same (ap Value (sym v) ∙ (sym (plain e b) ∙ of)) (contains_head (front ++ key ∷ [], Value value) (listing_below front after))
+        | inner rest at bucket held ↦ absurd (let t : e.is_bucket ≡ true = bucket in cc)
+        | later held ↦ contains_tail (front ++ key ∷ [], Value value) (front ++ path, item) (listing_below front after) (lists_all after entries more front path item held)
+      ]
+  lists_all (with_bucket key sequence inside after) [] s front path item h = absurd s
+  lists_all (with_bucket key sequence inside after) (e ∷ entries) (b, k, q, (own_entries, are, shows), more) front path item h =
+      let deep : List Member = listing_below (front ++ key ∷ []) inside in
+      let behind : List Member = listing_below front after in
+      let all : List Member = (front ++ key ∷ [], Bucket sequence) ∷ (deep ++ behind) in
+      elim (way e entries path item h) [
+        | own at of ↦
+            let same : front ++ key ∷ [] ≡ front ++ path = ap (λ (p : Path). front ++ p) (ap (λ (j : Key). j ∷ []) (sym k) ∙ sym at) in
+            at_member all (front ++ key ∷ []) (front ++ path) (Bucket sequence) item same (ap Bucket (sym q) ∙ (sym (bucketed e b) ∙ of)) (contains_head (front ++ key ∷ [], Bucket sequence) (deep ++ behind))
+        | inner rest at bucket held ↦
+            let there = lists_all inside own_entries shows (front ++ key ∷ []) rest item (held_by (start_of e.value) own_entries are rest item held) in
+            let same : (front ++ key ∷ []) ++ rest ≡ front ++ path = append_assoc front (key ∷ []) rest ∙ ap (λ (p : Path). front ++ p) (ap (λ (j : Key). j ∷ rest) (sym k) ∙ sym at) in
+            contains_tail (front ++ key ∷ [], Bucket sequence) (front ++ path, item) (deep ++ behind)
+            (Contains-append_left deep behind (front ++ path, item) (at_member deep ((front ++ key ∷ []) ++ rest) (front ++ path) item item same refl there))
+        | later held ↦
+            contains_tail (front ++ key ∷ [], Bucket sequence) (front ++ path, item) (deep ++ behind)
+            (Contains-append_right deep behind (front ++ path, item) (lists_all after entries more front path item held))
+      ]
+
+  -- each member begins with the key of an entry
+  first_key : (entries : List LeafElement) (path : Path) (item : Item) → HoldsBy entries path item → (e : LeafElement) × (rest : Path) × Contains entries e × (path ≡ e.key ∷ rest)
+  first_key entries [] item h = absurd h
+  first_key entries (key ∷ []) item (e, is, same, of) = (e, [], is, ap (λ (k : Key). k ∷ []) (sym same))
+  first_key entries (key ∷ next ∷ path) item (e, is, same, b, more) = (e, next ∷ path, is, ap (λ (k : Key). k ∷ next ∷ path) (sym same))
+
+  behind_key : (front s t : Path) (j k : Key) → key_cmp j k ≡ Less → path_cmp (front ++ j ∷ s) (front ++ k ∷ t) ≡ Less
+  behind_key front s t j k e = rw same_front (rw e refl)
+
+  -- what stands below an entry comes before what the later entries hold
+  before_after : (x : LeafElement) (entries : List LeafElement) (after : Tree) → Shows Entry after entries → IsBelow entry_cmp x entries → (front s : Path) (member : Member)
+      → Contains (listing_below front after) member → path_cmp (front ++ x.key ∷ s) member.0 ≡ Less
+  before_after x entries after shows below front s member h =
+      let (path, at, held) = listed after entries shows front member h in
+      let (e, rest, is, first) = first_key entries path member.1 held in
+      let whole : member.0 ≡ front ++ e.key ∷ rest = at ∙ ap (λ (p : Path). front ++ p) first in
+      subst (λ (p : Path). path_cmp (front ++ x.key ∷ s) p ≡ Less) (sym whole) (behind_key front s rest x.key e.key (below e is))
+
+  pub listing_rises : (tree : Tree) (entries : List LeafElement) → Shows Entry tree entries → Rises entry_cmp entries → (front : Path) → Rises member_cmp (listing_below front tree)
+  listing_rises end [] s r front = tt
+  listing_rises end (e ∷ entries) s r front = absurd s
+  listing_rises (with_value key value after) [] s r front = absurd s
+  listing_rises (with_value key value after) (e ∷ entries) (b, k, v, more) r front = (
+    λ m h. subst (λ (j : Key). path_cmp (front ++ j ∷ []) m.0 ≡ Less) k (before_after e entries after more r.0 front [] m h),
+    listing_rises after entries more r.1 front,
+  )
+  listing_rises (with_bucket key sequence inside after) [] s r front = absurd s
+  listing_rises (with_bucket key sequence inside after) (e ∷ entries) (b, k, q, (own_entries, are, shows), more) r front =
+      let deep : List Member = listing_below (front ++ key ∷ []) inside in
+      let behind : List Member = listing_below front after in
+      let to_behind : (s : Path) (m : Member) → Contains behind m → path_cmp (front ++ key ∷ s) m.0 ≡ Less = λ s m h.
+      subst (λ (j : Key). path_cmp (front ++ j ∷ s) m.0 ≡ Less) k (before_after e entries after more r.0 front s m h) in
+      let to_deep : (m : Member) → Contains deep m → path_cmp (front ++ key ∷ []) m.0 ≡ Less = λ m h.
+      let (path, at, held) = listed inside own_entries shows (front ++ key ∷ []) m h in
+      let (f, rest, is, first) = first_key own_entries path m.1 held in
+      let whole : m.0 ≡ (front ++ key ∷ []) ++ f.key ∷ rest = at ∙ ap (λ (p : Path). (front ++ key ∷ []) ++ p) first in
+      subst (λ (p : Path). path_cmp (front ++ key ∷ []) p ≡ Less) (sym whole) (before_longer (front ++ key ∷ []) f.key rest) in
+      let deep_behind : (a c : Member) → Contains deep a → Contains behind c → path_cmp a.0 c.0 ≡ Less = λ a c h g.
+      let (path, at, held) = listed inside own_entries shows (front ++ key ∷ []) a h in
+      let whole : a.0 ≡ front ++ key ∷ path = at ∙ append_assoc front (key ∷ []) path in
+      subst (λ (p : Path). path_cmp p c.0 ≡ Less) (sym whole) (to_behind path c g) in (
+        λ m h. elim (Contains-append_cases deep behind m h) [ inl a ↦ to_deep m a | inr c ↦ to_behind [] m c ],
+        rises_append member_cmp deep behind (listing_rises inside own_entries shows are.rises (front ++ key ∷ [])) (listing_rises after entries more r.1 front) deep_behind,
+      )
+
+  -- the listing of a bucket's tree
+  pub tree_lists : (bucket : Start) (tree : Tree) → IsTreeOf Entry bucket tree → Lists Entry bucket (listing_of tree)
+  tree_lists bucket tree (entries, are, shows) = record {
+    rises = listing_rises tree entries shows are.rises [];
+    exact = λ path item. (
+      λ h. let (own_path, at, held) = listed tree entries shows [] (path, item) h in
+          held_of bucket entries are path item (subst (λ (p : Path). HoldsBy entries p item) (sym at) held),
+      λ h. lists_all tree entries shows [] path item (held_by bucket entries are path item h),
+    );
+  }

@@ -1,0 +1,45 @@
+-- What a bucket has: entries, by the addresses of its leaf pages or in its value: docs/FORMAT.md, "Buckets".
+use Rattle.std.specs.Prelude.{◌≡◌, ◌==◌, ◌↔◌, ℕ, List, Option, Some, Contains, if◌then◌else◌}
+use Rattle.std.specs.declared.cmp.Ordering.{Ordering}
+use Rattle.bolt_format.specs.Elements.{LeafElement, head_root, head_sequence, inline_elements}
+use Rattle.bolt_format.specs.Pages.{PageView, page_at}
+use Rattle.bolt_format.specs.declared.meta.Meta.{Meta}
+use Rattle.bolt_format.specs.declared.kind.Kind.TheVariants as kind
+use Rattle.bolt_check.specs.Keys.{key_cmp}
+use Rattle.bolt_check.specs.Nodes.{node_at}
+use Rattle.bolt_check.specs.Shape.{leads}
+use Rattle.bolt_tree.specs.Order.{Rises}
+
+-- where a bucket's tree begins: at a root page, or with the elements in its own value
+pub data Start : Type 0 where
+  Root_page : ℕ → Start
+  Inline_page : List LeafElement → Start
+
+abbrev pub start_of : List ℕ → Start
+start_of value = if head_root value == 0 then Inline_page (inline_elements value) else Root_page (head_root value)
+
+-- page n is a leaf that shows e
+abbrev pub ShowsEntry : List ℕ → Meta → ℕ → LeafElement → Type 0
+ShowsEntry file meta n e = (view : PageView) × (page_at file meta n ≡ Some view) × (view.kind ≡ kind.Leaf) × Contains view.leaves e
+
+-- e is an entry of a bucket: an element of a leaf page that an address leads to, or one in the bucket's value
+abbrev pub IsEntry : List ℕ → Meta → Start → LeafElement → Type 0
+IsEntry file meta (Root_page root) e = (address : List ℕ) × (n : ℕ) × (leads (node_at file meta) (Some root) address ≡ Some n) × ShowsEntry file meta n e
+IsEntry file meta (Inline_page elements) e = Contains elements e
+
+-- an entry is a value, or a bucket with its sequence
+pub data Item : Type 0 where
+  Value : List ℕ → Item
+  Bucket : (sequence : ℕ) → Item
+
+abbrev pub item_of : LeafElement → Item
+item_of e = if e.is_bucket then Bucket (head_sequence e.value) else Value e.value
+
+-- entries by their keys
+abbrev pub entry_cmp : LeafElement → LeafElement → Ordering
+entry_cmp a b = key_cmp a.key b.key
+
+-- the entries of a bucket, their keys rising
+pub record AreEntries (Entry : Start → LeafElement → Type 0) (bucket : Start) (entries : List LeafElement) : Type 0 where
+  pub rises : Rises entry_cmp entries
+  pub exact : (e : LeafElement) → Contains entries e ↔ Entry bucket e

@@ -1,0 +1,64 @@
+-- A tree of buckets as data, apart from pages, and what it lists: docs/LISTING.md, "The listing".
+-- It shows the sorted entries of a bucket, and of each bucket among them; and it is read off its listing.
+use Rattle.std.specs.Prelude.{◌≡◌, ℕ, Bool, true, false, List, [], ◌∷◌, ◌++◌}
+use Rattle.bolt_format.specs.Elements.{LeafElement, head_sequence}
+use Rattle.bolt_check.specs.Keys.{Key}
+use Rattle.bolt_tree.specs.Entries.{AreEntries, Bucket, Item, Start, Value, start_of}
+use Rattle.bolt_tree.specs.Listing.{Member}
+use Rattle.bolt_tree.specs.Paths.{Path}
+
+-- the entries of a bucket in order: each a key with a value, or a key with a bucket, which has a sequence and entries of its own
+pub data Tree : Type 0 where
+  end : Tree
+  with_value : (key value : List ℕ) → (after : Tree) → Tree
+  with_bucket : (key : List ℕ) → (sequence : ℕ) → (inside after : Tree) → Tree
+
+-- the members below a path: an entry, what it holds, and then the entries after it
+abbrev pub listing_below : Path → Tree → List Member
+listing_below path end = []
+listing_below path (with_value key value after) = (path ++ key ∷ [], Value value) ∷ listing_below path after
+listing_below path (with_bucket key sequence inside after) =
+    (path ++ key ∷ [], Bucket sequence) ∷ (listing_below (path ++ key ∷ []) inside ++ listing_below path after)
+
+abbrev pub listing_of : Tree → List Member
+listing_of tree = listing_below [] tree
+
+-- the tree shows these entries, and of each bucket among them the entries that it has in order
+abbrev pub Shows : (Start → LeafElement → Type 0) → Tree → List LeafElement → Type 0
+Shows Entry end [] = Unit {0}
+Shows Entry end (e ∷ entries) = ⊥
+Shows Entry (with_value key value after) [] = ⊥
+Shows Entry (with_value key value after) (e ∷ entries) = (e.is_bucket ≡ false) × (e.key ≡ key) × (e.value ≡ value) × Shows Entry after entries
+Shows Entry (with_bucket key sequence inside after) [] = ⊥
+Shows Entry (with_bucket key sequence inside after) (e ∷ entries) =
+    (e.is_bucket ≡ true) × (e.key ≡ key) × (head_sequence e.value ≡ sequence)
+    × ((own : List LeafElement) × AreEntries Entry (start_of e.value) own × Shows Entry inside own) × Shows Entry after entries
+
+-- the tree of a bucket
+abbrev pub IsTreeOf : (Start → LeafElement → Type 0) → Start → Tree → Type 0
+IsTreeOf Entry bucket tree = (entries : List LeafElement) × AreEntries Entry bucket entries × Shows Entry tree entries
+
+-- Back again. The rows of a listing are its entries by depth: those of the outermost bucket, and then, for each bucket further in,
+-- those that stand before the next member of a bucket further out.
+abbrev pub first_row : List Tree → Tree
+first_row [] = end
+first_row (row ∷ rows) = row
+
+abbrev pub later_rows : List Tree → List Tree
+later_rows [] = []
+later_rows (row ∷ rows) = rows
+
+-- a member goes to the front of the row at its depth; a bucket takes the row below it
+abbrev pub put_first : Path → Item → List Tree → List Tree
+put_first [] item rows = rows
+put_first (key ∷ []) (Value value) rows = with_value key value (first_row rows) ∷ []
+put_first (key ∷ []) (Bucket sequence) rows = with_bucket key sequence (first_row (later_rows rows)) (first_row rows) ∷ []
+put_first (part ∷ next ∷ path) item rows = first_row rows ∷ put_first (next ∷ path) item (later_rows rows)
+
+abbrev pub rows_of : List Member → List Tree
+rows_of [] = []
+rows_of (member ∷ listing) = put_first member.0 member.1 (rows_of listing)
+
+-- the tree that has this listing
+abbrev pub tree_of : List Member → Tree
+tree_of listing = first_row (rows_of listing)
