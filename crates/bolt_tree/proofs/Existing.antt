@@ -4,7 +4,7 @@ use Rattle.std.proofs.Common.{◌≡◌, ◌∙◌, ◌<◌, ap, ℕ, List, Some
 use Rattle.bolt_format.specs.Elements.{LeafElement}
 use Rattle.bolt_format.specs.Pages.{page_at}
 use Rattle.bolt_format.specs.declared.meta.Meta.{Meta}
-use Rattle.bolt_format.proofs.PageFacts.{below_mark, bucket_value, flat_inline}
+use Rattle.bolt_format.proofs.PageFacts.{below_mark}
 use Rattle.bolt_check.specs.Nodes.{node_at}
 use Rattle.bolt_check.specs.Sound.{HasSoundTrees}
 use Rattle.bolt_check.specs.Ways.{At_page, PageSpot, reached}
@@ -12,13 +12,11 @@ use Rattle.bolt_check.proofs.CheckedLemmas.{good_page}
 use Rattle.bolt_tree.specs.Entries.{IsEntry, Root_page}
 use Rattle.bolt_tree.specs.Listing.{HasAllEntries, IsListing, Member}
 use Rattle.bolt_tree.specs.Tree.{IsTreeOf, Tree, listing_of, tree_of}
-use Rattle.bolt_tree.proofs.Nesting.{IsFlat, root_tree}
-use Rattle.bolt_tree.proofs.Rows.{tree_back}
+use Rattle.bolt_tree.proofs.Nesting.{root_tree}
+use Rattle.bolt_tree.proofs.BucketWays.{flat, starts_named, root_starts}
+use Rattle.bolt_tree.proofs.ReadBack.{tree_back}
 use Rattle.bolt_tree.proofs.Single.{lists_once}
 use Rattle.bolt_tree.proofs.TreeListing.{tree_lists}
-
-flat : (file : List ℕ) (meta : Meta) → IsFlat file meta
-flat file meta n e f (view, at, leaf, has) bucket root inner = flat_inline e.value f (bucket_value file meta n view e at leaf has bucket) root inner
 
 below : (file : List ℕ) (meta : Meta) → HasSoundTrees file meta → (w : List ℕ) (s : PageSpot) → reached (node_at file meta) meta.root w ≡ Some (At_page s) → s.number < meta.high_water
 below file meta sound w s at = below_mark file meta s.number (good_page file meta w s sound at)

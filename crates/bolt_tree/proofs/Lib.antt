@@ -1,3 +1,4 @@
+mod BucketWays
 mod EntryOrder
 mod Existing
 mod Filters
@@ -6,7 +7,7 @@ mod Lists
 mod Named
 mod Nesting
 mod PathOrder
-mod Rows
+mod ReadBack
 mod Seeking
 mod Single
 mod TreeListing

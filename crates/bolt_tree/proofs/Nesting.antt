@@ -16,40 +16,12 @@ use Rattle.bolt_tree.specs.Paths.{HasEntries, Names}
 use Rattle.bolt_tree.specs.Tree.{IsTreeOf, Shows, Tree, end, with_bucket, with_value}
 use Rattle.bolt_tree.proofs.Lists.{contains_cases, contains_head, contains_none, contains_tail}
 use Rattle.bolt_tree.proofs.Named.{entries_below}
+use Rattle.bolt_tree.proofs.BucketWays.{IsFlat, at_root, bucket_way, follow_append, in_itself, in_own_span}
+use Rattle.bolt_tree.proofs.Filters.{filter_less, kept}
 
 -- Numbers without one of them.
 abbrev without : ℕ → List ℕ → List ℕ
 without n ns = filter (λ m. not (eqb m n)) ns
-
-kept_by : {A : Type 0} (p : A → Bool) (x : A) (xs : List A) (b : Bool) → p x ≡ b → (y : A) → (x ≡ y) ⊎ Contains (filter p xs) y → p y ≡ true → Contains (cond b (x ∷ filter p xs) (filter p xs)) y
-kept_by p x xs true e y (inl s) h = subst (λ z. Contains (x ∷ filter p xs) z) s (contains_head x (filter p xs))
-kept_by p x xs true e y (inr g) h = contains_tail x y (filter p xs) g
-kept_by p x xs false e y (inl s) h = absurd (let f = ap p s in cc)
-kept_by p x xs false e y (inr g) h = g
-
-pub kept : {A : Type 0} (p : A → Bool) (xs : List A) (y : A) → Contains xs y → p y ≡ true → Contains (filter p xs) y
-kept p [] y h e = absurd (contains_none y h)
-kept p (x ∷ xs) y h e =
-    kept_by p x xs (p x) refl y (elim (contains_cases x y xs h) [ inl s ↦ inl s | inr g ↦ inr (kept p xs y g e) ]) e
-
-still_short : {A : Type 0} (x : A) (xs ys : List A) (b : Bool) → length ys ≤ length xs → length (cond b (x ∷ ys) ys) ≤ length (x ∷ xs)
-still_short x xs ys true h = omega (arith, h)
-still_short x xs ys false h = omega (arith, h)
-
-filter_short : {A : Type 0} (p : A → Bool) (xs : List A) → length (filter p xs) ≤ length xs
-filter_short p [] = omega arith
-filter_short p (x ∷ xs) = still_short x xs (filter p xs) (p x) (filter_short p xs)
-
-one_less : {A : Type 0} (p : A → Bool) (x y : A) (xs : List A) (b : Bool) → p x ≡ b → p y ≡ false → (x ≡ y) ⊎ (length (filter p xs) < length xs)
-    → length (cond b (x ∷ filter p xs) (filter p xs)) < length (x ∷ xs)
-one_less p x y xs true e out (inl s) = absurd (let f = ap p s in cc)
-one_less p x y xs true e out (inr h) = omega (arith, h)
-one_less p x y xs false e out h = let k = filter_short p xs in omega (arith, k)
-
-pub filter_less : {A : Type 0} (p : A → Bool) (xs : List A) (y : A) → Contains xs y → p y ≡ false → length (filter p xs) < length xs
-filter_less p [] y h out = absurd (contains_none y h)
-filter_less p (x ∷ xs) y h out =
-    one_less p x y xs (p x) refl out (elim (contains_cases x y xs h) [ inl s ↦ inl s | inr g ↦ inr (filter_less p xs y g out) ])
 
 -- the numbers below n
 abbrev numbers : ℕ → List ℕ
@@ -64,94 +36,6 @@ has_number (suc n) k h =
       | inr above ↦ let same : n ≡ k = omega arith in subst (λ (j : ℕ). Contains (n ∷ numbers n) j) same (contains_head n (numbers n))
     ]
 
--- Ways and addresses.
-pub follow_append : (nodes : Nodes) (here : Option Spot) (v w : List ℕ) → follow nodes here (v ++ w) ≡ follow nodes (follow nodes here v) w
-follow_append nodes here [] w = refl
-follow_append nodes here (i ∷ v) w = follow_append nodes (Rattle.bolt_check.specs.Ways.step nodes here i) v w
-
-leads_none : (nodes : Nodes) (address : List ℕ) → leads nodes None address ≡ None
-leads_none nodes [] = refl
-leads_none nodes (i ∷ address) = leads_none nodes address
-
-nowhere : (n : ℕ) → None ≡ Some n → ⊥
-nowhere n e = cc
-
--- an address from a page is a way from it
-LeadsTo : Nodes → PageSpot → List ℕ → ℕ → Type 0
-LeadsTo nodes s address n = (t : PageSpot) × (follow nodes (Some (At_page s)) address ≡ Some (At_page t)) × (t.number ≡ n)
-
-by_entry : (nodes : Nodes) (s : PageSpot) (is_leaf : Bool) (o next : Option Entry) (address : List ℕ) (n : ℕ) → leads nodes (child_of is_leaf o) address ≡ Some n
-    → ((t : PageSpot) → leads nodes (Some t.number) address ≡ Some n → (u : PageSpot) × (follow nodes (Some (At_page t)) address ≡ Some (At_page u)) × (u.number ≡ n))
-    → (u : PageSpot) × (follow nodes (step_entry is_leaf s o next) address ≡ Some (At_page u)) × (u.number ≡ n)
-by_entry nodes s true o next address n e more = absurd (nowhere n (sym (leads_none nodes address) ∙ by o e))
-  where
-    by : (o : Option Entry) → leads nodes (child_of true o) address ≡ Some n → leads nodes None address ≡ Some n
-    by None e = e
-    by (Some x) e = e
-by_entry nodes s false None next address n e more = absurd (nowhere n (sym (leads_none nodes address) ∙ e))
-by_entry nodes s false (Some x) next address n e more = more (child_spot s x (upper_from next s.upper)) e
-
-by_node : (nodes : Nodes) (s : PageSpot) (r : Result Node ℕ) (i : ℕ) (address : List ℕ) (n : ℕ) → leads nodes (child_in r i) address ≡ Some n
-    → ((t : PageSpot) → leads nodes (Some t.number) address ≡ Some n → (u : PageSpot) × (follow nodes (Some (At_page t)) address ≡ Some (At_page u)) × (u.number ≡ n))
-    → (u : PageSpot) × (follow nodes (step_at r s i) address ≡ Some (At_page u)) × (u.number ≡ n)
-by_node nodes s (Err fault) i address n e more = absurd (nowhere n (sym (leads_none nodes address) ∙ e))
-by_node nodes s (Ok node) i address n e more = by_entry nodes s node.is_leaf (slice_get node.entries i) (slice_get node.entries (suc i)) address n e more
-
-number_is : (a b : ℕ) → Some a ≡ Some b → a ≡ b
-number_is a b e = cc
-
-pub leads_follow : (nodes : Nodes) (s : PageSpot) (address : List ℕ) (n : ℕ) → leads nodes (Some s.number) address ≡ Some n
-    → (t : PageSpot) × (follow nodes (Some (At_page s)) address ≡ Some (At_page t)) × (t.number ≡ n)
-leads_follow nodes s [] n e = (s, refl, number_is s.number n e)
-leads_follow nodes s (i ∷ address) n e = by_node nodes s (nodes s.number) i address n e (λ t h. leads_follow nodes t address n h)
-
--- a leaf page as a node
-leaf_is : (view : PageView) (k : Kind) → k ≡ kind.Leaf → node_of k view ≡ Ok (record { is_leaf = true; overflow = view.overflow; entries = map leaf_entry view.leaves })
-leaf_is view k e = rw e refl
-
-seen_is : (o : Option PageView) (fault : Option ℕ) (view : PageView) → o ≡ Some view → node_seen o fault ≡ node_of view.kind view
-seen_is o fault view e = rw e refl
-
-pub leaf_node : (file : List ℕ) (meta : Meta) (n : ℕ) (view : PageView) → page_at file meta n ≡ Some view → view.kind ≡ kind.Leaf
-    → node_at file meta n ≡ Ok (record { is_leaf = true; overflow = view.overflow; entries = map leaf_entry view.leaves })
-unfolding node_at
-leaf_node file meta n view e k = seen_is (page_at file meta n) (page_fault file meta n) view e ∙ leaf_is view view.kind k
-
--- an element has its place among the entries
-pub place_of : (leaves : List LeafElement) (e : LeafElement) → Contains leaves e → (i : ℕ) × (slice_get (map leaf_entry leaves) i ≡ Some (leaf_entry e))
-place_of [] e h = absurd (contains_none e h)
-place_of (x ∷ leaves) e h =
-    elim (contains_cases x e leaves h) [
-      | inl s ↦ (0, ap (λ (y : LeafElement). Some (leaf_entry y)) s)
-      | inr g ↦ let (i, at) = place_of leaves e g in (suc i, at)
-    ]
-
-spot_for : (host : ℕ) (e : LeafElement) → e.is_bucket ≡ true → eqb (head_root e.value) 0 ≡ false → Rattle.bolt_check.specs.Ways.bucket_spots host (leaf_entry e) ≡ Some (At_page (page_start (head_root e.value)))
-spot_for host e b page = rw (b, page) refl
-
-entry_step : (t : PageSpot) (o next : Option Entry) (e : LeafElement) → o ≡ Some (leaf_entry e) → e.is_bucket ≡ true → eqb (head_root e.value) 0 ≡ false
-    → step_entry true t o next ≡ Some (At_page (page_start (head_root e.value)))
-entry_step t o next e at b page = rw at (spot_for t.number e b page)
-
-node_step : (t : PageSpot) (r : Result Node ℕ) (entries : List Entry) (overflow i : ℕ) (e : LeafElement) → r ≡ Ok (record { is_leaf = true; overflow = overflow; entries = entries })
-    → slice_get entries i ≡ Some (leaf_entry e) → e.is_bucket ≡ true → eqb (head_root e.value) 0 ≡ false → step_at r t i ≡ Some (At_page (page_start (head_root e.value)))
-node_step t r entries overflow i e is at b page = rw is (entry_step t (slice_get entries i) (slice_get entries (suc i)) e at b page)
-
--- the way on from a bucket's root page to that of a bucket among its entries
-pub bucket_way : (file : List ℕ) (meta : Meta) (s : PageSpot) (e : LeafElement) → IsEntry file meta (Root_page s.number) e → e.is_bucket ≡ true → eqb (head_root e.value) 0 ≡ false
-    → (address : List ℕ) × (i : ℕ) × (follow (node_at file meta) (Some (At_page s)) (address ++ i ∷ []) ≡ Some (At_page (page_start (head_root e.value))))
-bucket_way file meta s e (address, n, lead, (view, at, k, is)) b page =
-    let nodes : Nodes = node_at file meta in
-    let (t, on, number) = leads_follow nodes s address n lead in
-    let (i, place) = place_of view.leaves e is in
-    let node = ap nodes number ∙ leaf_node file meta n view at k in
-    let last : follow nodes (Some (At_page t)) (i ∷ []) ≡ Some (At_page (page_start (head_root e.value))) = node_step t (nodes t.number) (map leaf_entry view.leaves) view.overflow i e node place b page in
-    (address, i, follow_append nodes (Some (At_page s)) address (i ∷ []) ∙ (ap (λ (o : Option Spot). follow nodes o (i ∷ [])) on ∙ last))
-
--- a page lies in its own span
-pub in_own_span : (nodes : Nodes) (s : PageSpot) (node : Node) → nodes s.number ≡ Ok node → SpanHas nodes (Some (At_page s)) s.number
-in_own_span nodes s node e = subst (λ (r : Result Node ℕ). Rattle.bolt_check.specs.Ways.SpanOf r s.number s.number) (sym e) (omega arith, omega arith)
-
 no_longer : (w v : List ℕ) (i : ℕ) (x : List ℕ) → w ≡ (w ++ (v ++ i ∷ [])) ++ x → ⊥
 no_longer w v i x e =
     let n = ap length e in
@@ -160,16 +44,6 @@ no_longer w v i x e =
     let c = Rattle.std.proofs.Common.length-append v (i ∷ []) in
     let one : length (i ∷ []) ≡ 1 = refl in
     omega (arith, n, a, b, c, one)
-
-at_root : (value : List ℕ) → eqb (head_root value) 0 ≡ false → start_of value ≡ Root_page (head_root value)
-at_root value e = rw e refl
-
-in_itself : (value : List ℕ) → eqb (head_root value) 0 ≡ true → start_of value ≡ Inline_page (inline_elements value)
-in_itself value e = rw e refl
-
--- no inline bucket has a bucket
-abbrev pub IsFlat : List ℕ → Meta → Type 0
-IsFlat file meta = (n : ℕ) (e f : LeafElement) → ShowsEntry file meta n e → IsTrue e.is_bucket → head_root e.value ≡ 0 → Contains (inline_elements e.value) f → f.is_bucket ≡ false
 
 module _ (Own : Start → LeafElement → Type 0) where
   tree_with : (e : LeafElement) (entries : List LeafElement) (after : Tree) (b : Bool) → e.is_bucket ≡ b → Shows Own after entries

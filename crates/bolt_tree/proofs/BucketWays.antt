@@ -1,0 +1,174 @@
+-- Ways from bucket to bucket: an address inside a bucket is a way, and so is a bucket among its entries. So each bucket that a path
+-- names begins where a bucket of the tree does.
+use Rattle.std.proofs.Common.{◌≡◌, ◌∙◌, ◌⊎◌, ◌≤◌, ◌<◌, inl, inr, Bool, true, false, not, IsTrue, ℕ, zero, suc, eqb, eq-eqb, eqb-true, List, [], ◌∷◌, ◌++◌, length, map, filter, cond, Option, Some, None, Result, Ok, Err, slice_get, refl, sym, ap, subst, arith, append_assoc}
+use Rattle.std.specs.List.{Contains}
+use Rattle.std.proofs.lemmas.Bool.{cases_lt}
+use Rattle.bolt_format.specs.Elements.{LeafElement, head_root, head_sequence, inline_elements}
+use Rattle.bolt_format.specs.Pages.{PageView, page_at, page_fault}
+use Rattle.bolt_format.specs.declared.meta.Meta.{Meta}
+use Rattle.bolt_format.specs.declared.kind.Kind.{Kind}
+use Rattle.bolt_format.specs.declared.kind.Kind.TheVariants as kind
+use Rattle.bolt_check.specs.Nodes.{Entry, Node, Nodes, leaf_entry, node_at, node_of, node_seen}
+use Rattle.bolt_check.specs.Shape.{HasShape, child_in, child_of, leads}
+use Rattle.bolt_check.specs.Ways.{At_inline, At_page, PageSpot, Spot, SpanHas, child_spot, follow, reached, spot_of, start_of as page_start, step_at, step_entry, step_on, upper_from}
+use Rattle.bolt_tree.specs.Entries.{Inline_page, IsEntry, IsStart, Root_page, ShowsEntry, Start, start_of}
+use Rattle.bolt_check.specs.OnWays.{IsOnWay}
+use Rattle.bolt_format.proofs.PageFacts.{bucket_value, flat_inline}
+use Rattle.bolt_tree.specs.Paths.{Names, Path}
+use Rattle.bolt_tree.proofs.Lists.{contains_cases, contains_head, contains_none, contains_tail}
+
+pub follow_append : (nodes : Nodes) (here : Option Spot) (v w : List ℕ) → follow nodes here (v ++ w) ≡ follow nodes (follow nodes here v) w
+follow_append nodes here [] w = refl
+follow_append nodes here (i ∷ v) w = follow_append nodes (Rattle.bolt_check.specs.Ways.step nodes here i) v w
+
+leads_none : (nodes : Nodes) (address : List ℕ) → leads nodes None address ≡ None
+leads_none nodes [] = refl
+leads_none nodes (i ∷ address) = leads_none nodes address
+
+nowhere : (n : ℕ) → None ≡ Some n → ⊥
+nowhere n e = cc
+
+-- an address from a page is a way from it
+LeadsTo : Nodes → PageSpot → List ℕ → ℕ → Type 0
+LeadsTo nodes s address n = (t : PageSpot) × (follow nodes (Some (At_page s)) address ≡ Some (At_page t)) × (t.number ≡ n)
+
+by_entry : (nodes : Nodes) (s : PageSpot) (is_leaf : Bool) (o next : Option Entry) (address : List ℕ) (n : ℕ) → leads nodes (child_of is_leaf o) address ≡ Some n
+    → ((t : PageSpot) → leads nodes (Some t.number) address ≡ Some n → (u : PageSpot) × (follow nodes (Some (At_page t)) address ≡ Some (At_page u)) × (u.number ≡ n))
+    → (u : PageSpot) × (follow nodes (step_entry is_leaf s o next) address ≡ Some (At_page u)) × (u.number ≡ n)
+by_entry nodes s true o next address n e more = absurd (nowhere n (sym (leads_none nodes address) ∙ by o e))
+  where
+    by : (o : Option Entry) → leads nodes (child_of true o) address ≡ Some n → leads nodes None address ≡ Some n
+    by None e = e
+    by (Some x) e = e
+by_entry nodes s false None next address n e more = absurd (nowhere n (sym (leads_none nodes address) ∙ e))
+by_entry nodes s false (Some x) next address n e more = more (child_spot s x (upper_from next s.upper)) e
+
+by_node : (nodes : Nodes) (s : PageSpot) (r : Result Node ℕ) (i : ℕ) (address : List ℕ) (n : ℕ) → leads nodes (child_in r i) address ≡ Some n
+    → ((t : PageSpot) → leads nodes (Some t.number) address ≡ Some n → (u : PageSpot) × (follow nodes (Some (At_page t)) address ≡ Some (At_page u)) × (u.number ≡ n))
+    → (u : PageSpot) × (follow nodes (step_at r s i) address ≡ Some (At_page u)) × (u.number ≡ n)
+by_node nodes s (Err fault) i address n e more = absurd (nowhere n (sym (leads_none nodes address) ∙ e))
+by_node nodes s (Ok node) i address n e more = by_entry nodes s node.is_leaf (slice_get node.entries i) (slice_get node.entries (suc i)) address n e more
+
+number_is : (a b : ℕ) → Some a ≡ Some b → a ≡ b
+number_is a b e = cc
+
+pub leads_follow : (nodes : Nodes) (s : PageSpot) (address : List ℕ) (n : ℕ) → leads nodes (Some s.number) address ≡ Some n
+    → (t : PageSpot) × (follow nodes (Some (At_page s)) address ≡ Some (At_page t)) × (t.number ≡ n)
+leads_follow nodes s [] n e = (s, refl, number_is s.number n e)
+leads_follow nodes s (i ∷ address) n e = by_node nodes s (nodes s.number) i address n e (λ t h. leads_follow nodes t address n h)
+
+-- a leaf page as a node
+leaf_is : (view : PageView) (k : Kind) → k ≡ kind.Leaf → node_of k view ≡ Ok (record { is_leaf = true; overflow = view.overflow; entries = map leaf_entry view.leaves })
+leaf_is view k e = rw e refl
+
+seen_is : (o : Option PageView) (fault : Option ℕ) (view : PageView) → o ≡ Some view → node_seen o fault ≡ node_of view.kind view
+seen_is o fault view e = rw e refl
+
+pub leaf_node : (file : List ℕ) (meta : Meta) (n : ℕ) (view : PageView) → page_at file meta n ≡ Some view → view.kind ≡ kind.Leaf
+    → node_at file meta n ≡ Ok (record { is_leaf = true; overflow = view.overflow; entries = map leaf_entry view.leaves })
+unfolding node_at
+leaf_node file meta n view e k = seen_is (page_at file meta n) (page_fault file meta n) view e ∙ leaf_is view view.kind k
+
+-- an element has its place among the entries
+pub place_of : (leaves : List LeafElement) (e : LeafElement) → Contains leaves e → (i : ℕ) × (slice_get (map leaf_entry leaves) i ≡ Some (leaf_entry e))
+place_of [] e h = absurd (contains_none e h)
+place_of (x ∷ leaves) e h =
+    elim (contains_cases x e leaves h) [
+      | inl s ↦ (0, ap (λ (y : LeafElement). Some (leaf_entry y)) s)
+      | inr g ↦ let (i, at) = place_of leaves e g in (suc i, at)
+    ]
+
+spot_for : (host : ℕ) (e : LeafElement) → e.is_bucket ≡ true → eqb (head_root e.value) 0 ≡ false → Rattle.bolt_check.specs.Ways.bucket_spots host (leaf_entry e) ≡ Some (At_page (page_start (head_root e.value)))
+spot_for host e b page = rw (b, page) refl
+
+entry_step : (t : PageSpot) (o next : Option Entry) (e : LeafElement) → o ≡ Some (leaf_entry e) → e.is_bucket ≡ true → eqb (head_root e.value) 0 ≡ false
+    → step_entry true t o next ≡ Some (At_page (page_start (head_root e.value)))
+entry_step t o next e at b page = rw at (spot_for t.number e b page)
+
+node_step : (t : PageSpot) (r : Result Node ℕ) (entries : List Entry) (overflow i : ℕ) (e : LeafElement) → r ≡ Ok (record { is_leaf = true; overflow = overflow; entries = entries })
+    → slice_get entries i ≡ Some (leaf_entry e) → e.is_bucket ≡ true → eqb (head_root e.value) 0 ≡ false → step_at r t i ≡ Some (At_page (page_start (head_root e.value)))
+node_step t r entries overflow i e is at b page = rw is (entry_step t (slice_get entries i) (slice_get entries (suc i)) e at b page)
+
+-- the way on from a bucket's root page to that of a bucket among its entries
+pub bucket_way : (file : List ℕ) (meta : Meta) (s : PageSpot) (e : LeafElement) → IsEntry file meta (Root_page s.number) e → e.is_bucket ≡ true → eqb (head_root e.value) 0 ≡ false
+    → (address : List ℕ) × (i : ℕ) × (follow (node_at file meta) (Some (At_page s)) (address ++ i ∷ []) ≡ Some (At_page (page_start (head_root e.value))))
+bucket_way file meta s e (address, n, lead, (view, at, k, is)) b page =
+    let nodes : Nodes = node_at file meta in
+    let (t, on, number) = leads_follow nodes s address n lead in
+    let (i, place) = place_of view.leaves e is in
+    let node = ap nodes number ∙ leaf_node file meta n view at k in
+    let last : follow nodes (Some (At_page t)) (i ∷ []) ≡ Some (At_page (page_start (head_root e.value))) = node_step t (nodes t.number) (map leaf_entry view.leaves) view.overflow i e node place b page in
+    (address, i, follow_append nodes (Some (At_page s)) address (i ∷ []) ∙ (ap (λ (o : Option Spot). follow nodes o (i ∷ [])) on ∙ last))
+
+-- a page lies in its own span
+pub in_own_span : (nodes : Nodes) (s : PageSpot) (node : Node) → nodes s.number ≡ Ok node → SpanHas nodes (Some (At_page s)) s.number
+in_own_span nodes s node e = subst (λ (r : Result Node ℕ). Rattle.bolt_check.specs.Ways.SpanOf r s.number s.number) (sym e) (omega arith, omega arith)
+
+pub at_root : (value : List ℕ) → eqb (head_root value) 0 ≡ false → start_of value ≡ Root_page (head_root value)
+at_root value e = rw e refl
+
+pub in_itself : (value : List ℕ) → eqb (head_root value) 0 ≡ true → start_of value ≡ Inline_page (inline_elements value)
+in_itself value e = rw e refl
+
+-- no inline bucket has a bucket
+abbrev pub IsFlat : List ℕ → Meta → Type 0
+IsFlat file meta = (n : ℕ) (e f : LeafElement) → ShowsEntry file meta n e → IsTrue e.is_bucket → head_root e.value ≡ 0 → Contains (inline_elements e.value) f → f.is_bucket ≡ false
+
+pub flat : (file : List ℕ) (meta : Meta) → IsFlat file meta
+flat file meta n e f (view, at, leaf, has) bucket root inner = flat_inline e.value f (bucket_value file meta n view e at leaf has bucket) root inner
+
+no_root : (n : ℕ) (elements : List LeafElement) → Root_page n ≡ Inline_page elements → ⊥
+no_root n elements e = cc
+
+same_elements : (a b : List LeafElement) → Inline_page a ≡ Inline_page b → a ≡ b
+same_elements a b e = cc
+
+module _ (file : List ℕ) (meta : Meta) where
+  -- where an address from a page on a way leads to, a way leads too
+  address_way : (root depth : ℕ) (address : List ℕ) (n : ℕ) → IsOnWay file meta root depth → leads (node_at file meta) (Some root) address ≡ Some n → (deep : ℕ) × IsOnWay file meta n deep
+  address_way root depth address n on lead =
+      let nodes : Nodes = node_at file meta in
+      let (t, reach, number) = leads_follow nodes on.spot address n (subst (λ (r : ℕ). leads nodes (Some r) address ≡ Some n) (sym on.is) lead) in
+      (t.depth, record {
+        way = on.way ++ address;
+        spot = t;
+        led = follow_append nodes (Some (At_page (page_start meta.root))) on.way address ∙ (ap (λ (o : Option Spot). follow nodes o address) on.led ∙ reach);
+        is = number;
+        deep = refl;
+      })
+
+  from_page : (root : ℕ) (e : LeafElement) (b : Bool) → eqb (head_root e.value) 0 ≡ b → IsOnWay file meta root 1 → IsEntry file meta (Root_page root) e → e.is_bucket ≡ true → IsStart file meta (start_of e.value)
+  from_page root e true zero_root on (address, n, lead, shows) bucket =
+      let (deep, way) = address_way root 1 address n on lead in
+      let inside = in_itself e.value zero_root in
+      subst (λ (from : Start). IsStart file meta from) (sym inside) (n, deep, e, way, shows, bucket, inside)
+  from_page root e false own_root on is bucket =
+      let nodes : Nodes = node_at file meta in
+      let (address, i, reach) = bucket_way file meta on.spot e (subst (λ (r : ℕ). IsEntry file meta (Root_page r) e) (sym on.is) is) bucket own_root in
+      subst (λ (from : Start). IsStart file meta from) (sym (at_root e.value own_root)) (record {
+        way = on.way ++ (address ++ i ∷ []);
+        spot = page_start (head_root e.value);
+        led = follow_append nodes (Some (At_page (page_start meta.root))) on.way (address ++ i ∷ []) ∙ (ap (λ (o : Option Spot). follow nodes o (address ++ i ∷ [])) on.led ∙ reach);
+        is = refl;
+        deep = refl;
+      })
+
+  none_inside : (value : List ℕ) (elements : List LeafElement) (b : Bool) → eqb (head_root value) 0 ≡ b → start_of value ≡ Inline_page elements → (head_root value ≡ 0) × (inline_elements value ≡ elements)
+  none_inside value elements true e same = (eqb-true (head_root value) 0 e, same_elements (inline_elements value) elements (sym (in_itself value e) ∙ same))
+  none_inside value elements false e same = absurd (no_root (head_root value) elements (sym (at_root value e) ∙ same))
+
+  -- a bucket among the entries of a bucket of the tree is one of the tree
+  pub starts_below : (from : Start) (e : LeafElement) → IsStart file meta from → IsEntry file meta from e → e.is_bucket ≡ true → IsStart file meta (start_of e.value)
+  starts_below (Root_page root) e on is bucket = from_page root e (eqb (head_root e.value) 0) refl on is bucket
+  starts_below (Inline_page elements) e (n, depth, outer, way, shows, inner, same) is bucket =
+      let (root, own) = none_inside outer.value elements (eqb (head_root outer.value) 0) refl same in
+      let value : e.is_bucket ≡ false = flat file meta n outer e shows inner root (subst (λ (es : List LeafElement). Contains es e) (sym own) is) in
+      absurd (let c : true ≡ false = sym bucket ∙ value in cc)
+
+  -- and so is each that a path from there names
+  pub starts_named : (from : Start) (path : Path) (bucket : Start) → IsStart file meta from → Names (IsEntry file meta) from path bucket → IsStart file meta bucket
+  starts_named from [] bucket start same = subst (λ (s : Start). IsStart file meta s) same start
+  starts_named from (key ∷ path) bucket start (e, is, own, b, names) = starts_named (start_of e.value) path bucket (starts_below from e start is b) names
+
+  pub root_starts : IsStart file meta (Root_page meta.root)
+  root_starts = record { way = []; spot = page_start meta.root; led = refl; is = refl; deep = refl }
