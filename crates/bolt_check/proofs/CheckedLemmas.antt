@@ -24,7 +24,12 @@ good_page file meta way s trees leads =
     let good = (trees.good way s leads).1 in
     seen (page_at file meta s.number) (page_fault file meta s.number) good.0 good.1
 
+-- what follows of sound trees, and has one proof, holds of a checked file
+pub with_trees : (checked : Checked) (P : Type 0) → IsProp P → (HasSoundTrees (bytes_of checked) (meta_of checked) → P) → P
+unfolding bytes_of meta_of
+with_trees checked P prop f = ∥∥₁_elim checked.sound prop (λ sound. f sound.trees)
+
 -- the root page is good
 pub good_root : (checked : Checked) → IsSome (page_at (bytes_of checked) (meta_of checked) (meta_of checked).root)
-unfolding bytes_of meta_of
-good_root checked = ∥∥₁_elim checked.sound (Prim.hlevel props) (λ sound. good_page checked.bytes.now checked.meta [] (start_of checked.meta.root) sound.trees refl)
+good_root checked = with_trees checked (IsSome (page_at (bytes_of checked) (meta_of checked) (meta_of checked).root)) (Prim.hlevel props)
+    (λ trees. good_page (bytes_of checked) (meta_of checked) [] (start_of (meta_of checked).root) trees refl)

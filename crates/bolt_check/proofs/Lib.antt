@@ -1,3 +1,5 @@
+mod AccountFindingLemmas
+mod AccountFindingsOnce
 mod AccountLemmas
 mod AccountsAlong
 pub mod CheckedLemmas
@@ -6,7 +8,7 @@ mod CountLemmas
 mod Forest
 mod FreelistLemmas
 mod Judging
-mod KeyLaws
+pub mod KeyLaws
 mod KeyOrder
 mod Lawful
 mod ListLemmas
@@ -20,9 +22,8 @@ mod Shaping
 mod Single
 mod SoundLemmas
 mod TableLemmas
-mod ToldLemmas
-mod ToldOnce
 mod VisitLemmas
 mod Visited
 mod Visiting
-mod WayOrder
+pub mod WayFacts
+pub mod WayOrder

@@ -10,9 +10,9 @@ use Rattle.bolt_check.specs.declared.search.SearchFault.TheVariants.{Found, Memo
 use Rattle.bolt_check.specs.Nodes.{Nodes, Node, IsInSpan}
 use Rattle.bolt_check.specs.Ways.{Spot, At_page, Reach, reached, start_of}
 use Rattle.bolt_check.specs.Findings.{PagePasses, IsClaimedBefore, IsCovered, IsClean, IsFirst, IsMetaPage}
-use Rattle.bolt_check.specs.Search.{Told}
-use Rattle.bolt_check.specs.Pending.{Claims, forest, kids, spot_at, spots_of}
-use Rattle.bolt_check.specs.Tables.{IsClaimed, IsUnclaimed, is_used, use_at}
+use Rattle.bolt_check.specs.Private.SearchFaults.{IsSearchFault}
+use Rattle.bolt_check.specs.Private.Pending.{Claims, forest, kids, spot_at, spots_of}
+use Rattle.bolt_check.specs.Private.Tables.{IsClaimed, IsUnclaimed, is_used, use_at}
 use Rattle.bolt_check.specs.declared.table.PageUse.{PageUse}
 use Rattle.bolt_check.proofs.Judging.{tests_same, passes_fewer}
 use Rattle.bolt_check.proofs.Forest.{covered_step, covered_up, covered_down, covered_end, clean_step, first_step, clean_end, clean_root, first_root}
@@ -108,7 +108,7 @@ page_first nodes s node rest after table new kept k page pushed claims passes x 
 
 -- a fault told of what is left is told of the whole
 pub told_back : (nodes : Nodes) (old new : Reach) (c d : ℕ → Type 0) (fault : SearchFault) → ((x : Finding) → IsFirst nodes new d x → IsFirst nodes old c x)
-    → Told nodes new d fault → Told nodes old c fault
+    → IsSearchFault nodes new d fault → IsSearchFault nodes old c fault
 told_back nodes old new c d (Found x) f h = f x h
 told_back nodes old new c d Memory f h = tt
 

@@ -7,7 +7,7 @@ use Rattle.bolt_check.specs.Accounts.{HasAccounts}
 use Rattle.bolt_check.specs.Findings.{IsCovered, IsFirst, IsMetaPage}
 use Rattle.bolt_check.specs.Nodes.{node_at}
 use Rattle.bolt_check.specs.Shape.{HasShape}
-use Rattle.bolt_check.specs.Told.{AreTold}
+use Rattle.bolt_check.specs.AccountFindings.{AreAccountFindings}
 use Rattle.bolt_check.specs.Ways.{reached}
 use Rattle.bolt_check.specs.declared.fault.CheckFault.{CheckFault}
 use Rattle.bolt_check.specs.declared.fault.CheckFault.TheVariants.{Accounts, Memory, Open, Structure}
@@ -42,5 +42,5 @@ IsRefused file (Open fault) = HasMetaFault file 0 fault × ((slot : Slot) (meta 
 IsRefused file (Structure x) = (slot : Slot) × (meta : Meta) × IsChosen file slot meta × IsFirstFinding file meta x
 IsRefused file (Accounts told) =
     (slot : Slot) × (meta : Meta) × IsChosen file slot meta × HasSoundTrees file meta × (HasRightAccounts file meta → ⊥)
-    × AreTold file meta (IsUsed file meta) told.items × (told.items ≢ [])
+    × AreAccountFindings file meta (IsUsed file meta) told.items × (told.items ≢ [])
 IsRefused file Memory = Unit {0}

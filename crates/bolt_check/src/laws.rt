@@ -2,7 +2,7 @@
 ghost use Rattle.std.specs.Prelude.{◌≡◌, ℕ, List};
 ghost use Rattle.bolt_format.specs.declared.meta.Meta.{Meta};
 ghost use Rattle.bolt_check.specs.Sound.{HasSoundTrees, IsFirstFinding, IsUsed};
-ghost use Rattle.bolt_check.specs.Told.{AreTold};
+ghost use Rattle.bolt_check.specs.AccountFindings.{AreAccountFindings};
 ghost use Rattle.bolt_check.specs.declared.finding.Finding.{Finding};
 
 /// Sound trees have no finding.
@@ -16,6 +16,6 @@ pub fn first_finding_is_one()
 {}
 
 /// What is told of the accounts is one list.
-pub fn told_accounts_are_one()
-    ensures { (file : List ℕ) (meta : Meta) (a b : List Finding) → AreTold file meta (IsUsed file meta) a → AreTold file meta (IsUsed file meta) b → a ≡ b }
+pub fn account_findings_are_one()
+    ensures { (file : List ℕ) (meta : Meta) (a b : List Finding) → AreAccountFindings file meta (IsUsed file meta) a → AreAccountFindings file meta (IsUsed file meta) b → a ≡ b }
 {}

@@ -1,12 +1,12 @@
 //! The search of all ways from the root page, in their order, for the first finding.
 ghost use Rattle.std.specs.Prelude.{◌≡◌, ℕ, ◌<◌, ◌≤◌, ◌+◌, ◌*◌, ◌++◌, ◌∷◌, ◌↔◌, [], IfErr, IfOk, OnOk, Ok, length, max, vec_len};
 ghost use Rattle.bolt_check.specs.Findings.{IsClean, IsCovered, IsFirst, IsMetaPage};
-ghost use Rattle.bolt_check.specs.Listings.{IsUnlisted};
+ghost use Rattle.bolt_check.specs.Private.Listings.{IsUnlisted};
 ghost use Rattle.bolt_check.specs.Nodes.{node_at};
-ghost use Rattle.bolt_check.specs.Pending.{forest, inline_keys, kids, page_spot, spot_at, spots_of};
-ghost use Rattle.bolt_check.specs.Search.{Told};
-ghost use Rattle.bolt_check.specs.ShownNodes.{shown_node};
-ghost use Rattle.bolt_check.specs.Tables.{HasRoom, IsClaimed, unclaimed};
+ghost use Rattle.bolt_check.specs.Private.Pending.{forest, kids, page_spot, spot_at, spots_of};
+ghost use Rattle.bolt_check.specs.Private.SearchFaults.{IsSearchFault};
+ghost use Rattle.bolt_check.specs.Private.ShownNodes.{shown_node};
+ghost use Rattle.bolt_check.specs.Private.Tables.{HasRoom, IsClaimed, unclaimed};
 ghost use Rattle.bolt_check.specs.Ways.{At_page, reached, start_of};
 ghost use Rattle.bolt_check.specs.declared.finding.Finding.{Finding};
 
@@ -96,7 +96,7 @@ fn step<'a>(
         → IsFirst (node_at file.now meta.now) (forest (node_at file.now meta.now) (spot_at stop.entry ∷ spots_of pending.old.items)) (IsClaimed table.old.items) x) }
     ensures covered { OnOk result ((n : ℕ) → IsCovered (node_at file.now meta.now) (forest (node_at file.now meta.now) (spots_of pending.new.items)) (IsClaimed table.new.items) n
         ↔ IsCovered (node_at file.now meta.now) (forest (node_at file.now meta.now) (spot_at stop.entry ∷ spots_of pending.old.items)) (IsClaimed table.old.items) n) }
-    ensures told { IfErr result (Told (node_at file.now meta.now) (forest (node_at file.now meta.now) (spot_at stop.entry ∷ spots_of pending.old.items)) (IsClaimed table.old.items)) }
+    ensures told { IfErr result (IsSearchFault (node_at file.now meta.now) (forest (node_at file.now meta.now) (spot_at stop.entry ∷ spots_of pending.old.items)) (IsClaimed table.old.items)) }
 {
     match stop {
         Stop::Page(stop) => {
@@ -125,7 +125,7 @@ pub(crate) fn search(alloc: Global, file: &[u8], meta: &Meta) -> Result<Vec<Page
     ensures room { IfOk result (λ table. HasRoom file.now meta.now table.items) }
     ensures unlisted { IfOk result (λ table. IsUnlisted table.items) }
     ensures below { IfOk result (λ table. length table.items ≤ max 2 meta.now.high_water) }
-    ensures first { IfErr result (Told (node_at file.now meta.now) (reached (node_at file.now meta.now) meta.now.root) IsMetaPage) }
+    ensures first { IfErr result (IsSearchFault (node_at file.now meta.now) (reached (node_at file.now meta.now) meta.now.root) IsMetaPage) }
 {
     let mut table = match new_table(alloc, file, meta) {
         Ok(table) => table,

@@ -2,8 +2,7 @@
 //! them.
 
 use crate::maker::{MetaFields, NO_FREELIST, database, database_of, file, flip, meta_page, patch};
-use bolt_format::meta::PAGE_SIZES;
-use bolt_format::{Meta, MetaFault, Slot, choose, fnv1a, meta_at, page_size_ok};
+use bolt_format::{Meta, MetaFault, PAGE_SIZES, Slot, choose, fnv1a, meta_at, page_size_ok};
 use std::alloc::{AllocError, Global};
 use std::process::Abort;
 use std::test::Fail;

@@ -1,8 +1,8 @@
 use Rattle.std.proofs.Common.{◌∷◌, arith, vec_len}
 use Rattle.bolt_check.specs.Findings.{IsMetaPage}
 use Rattle.bolt_check.specs.Nodes.{node_at}
-use Rattle.bolt_check.specs.Pending.{forest, spot_at, spots_of}
-use Rattle.bolt_check.specs.Tables.{IsClaimed}
+use Rattle.bolt_check.specs.Private.Pending.{forest, spot_at, spots_of}
+use Rattle.bolt_check.specs.Private.Tables.{IsClaimed}
 use Rattle.bolt_check.specs.Ways.{reached}
 use Rattle.bolt_check.proofs.Visited.{begin_covered, both_ways, end_covered, begin_clean, begin_first, spots_pop, none_left, step_end, told_back}
 use Rattle.bolt_check.proofs.search.search.Goals as goal

@@ -1,10 +1,10 @@
 use Rattle.std.proofs.Common.{◌↔◌, ◌≤◌, ℕ, ◌+◌, ◌*◌, length, max, vec_len}
 use Rattle.bolt_check.specs.declared.finding.Finding.{Finding}
 use Rattle.bolt_check.specs.Findings.{IsClean, IsCovered, IsFirst, IsMetaPage}
-use Rattle.bolt_check.specs.Listings.{IsUnlisted}
+use Rattle.bolt_check.specs.Private.Listings.{IsUnlisted}
 use Rattle.bolt_check.specs.Nodes.{node_at}
-use Rattle.bolt_check.specs.Pending.{forest, spots_of}
-use Rattle.bolt_check.specs.Tables.{HasRoom, IsClaimed, unclaimed}
+use Rattle.bolt_check.specs.Private.Pending.{forest, spots_of}
+use Rattle.bolt_check.specs.Private.Tables.{HasRoom, IsClaimed, unclaimed}
 use Rattle.bolt_check.specs.Ways.{reached}
 use Rattle.bolt_check.proofs.search.search.Given as goal
 

@@ -1,10 +1,10 @@
 use Rattle.std.proofs.Common.{◌≡◌, length, drop, sym, arith, ap}
 use Rattle.std.proofs.lemmas.Grind.{common_steps}
-use Rattle.bolt_check.specs.Findings.{told_of}
+use Rattle.bolt_check.specs.Findings.{finding_of}
 use Rattle.bolt_check.specs.Nodes.{node_at}
-use Rattle.bolt_check.specs.Pending.{inline_keys, page_spot, spots_of}
-use Rattle.bolt_check.specs.ShownNodes.{shown_node}
-use Rattle.bolt_check.specs.Tables.{IsClaimed}
+use Rattle.bolt_check.specs.Private.Pending.{inline_keys, page_spot, spots_of}
+use Rattle.bolt_check.specs.Private.ShownNodes.{shown_node}
+use Rattle.bolt_check.specs.Private.Tables.{IsClaimed}
 use Rattle.bolt_check.specs.Ways.{At_inline, At_page}
 use Rattle.bolt_check.proofs.Forest.{found_step, clean_inline, first_inline, covered_inline}
 use Rattle.bolt_check.proofs.Visited.{page_clean, page_first, page_covered, written}
@@ -52,19 +52,19 @@ pub returns-in-Err-test_inline_keys-clause-told : goal.returns-in-Err-test_inlin
 returns-in-Err-test_inline_keys-clause-told c =
     rw c.in-Bucket.is
     (found_step (node_at c.args.file.now c.args.meta.now) (IsClaimed c.args.table.now.items) (At_inline c.in-Bucket.stop.host (inline_keys c.in-Bucket.stop.page)) (spots_of c.args.pending.now.items)
-    c.of_page.result (rw c.of_page.ensures (ap (λ o. told_of o c.in-Bucket.stop.host) (sym c.in-Err-test_inline_keys.ensures))))
+    c.of_page.result (rw c.of_page.ensures (ap (λ o. finding_of o c.in-Bucket.stop.host) (sym c.in-Err-test_inline_keys.ensures))))
 
 pub returns-in-Ok-test_inline_keys-clause-clean : goal.returns-in-Ok-test_inline_keys-clause-clean
 returns-in-Ok-test_inline_keys-clause-clean c =
     rw c.in-Bucket.is
     (clean_inline (node_at c.args.file.now c.args.meta.now) (IsClaimed c.args.table.now.items) c.in-Bucket.stop.host (inline_keys c.in-Bucket.stop.page) (spots_of c.args.pending.now.items)
-    (ap (λ o. told_of o c.in-Bucket.stop.host) (sym c.in-Ok-test_inline_keys.ensures)))
+    (ap (λ o. finding_of o c.in-Bucket.stop.host) (sym c.in-Ok-test_inline_keys.ensures)))
 
 pub returns-in-Ok-test_inline_keys-clause-first : goal.returns-in-Ok-test_inline_keys-clause-first
 returns-in-Ok-test_inline_keys-clause-first c =
     rw c.in-Bucket.is
     (first_inline (node_at c.args.file.now c.args.meta.now) (IsClaimed c.args.table.now.items) c.in-Bucket.stop.host (inline_keys c.in-Bucket.stop.page) (spots_of c.args.pending.now.items)
-    (ap (λ o. told_of o c.in-Bucket.stop.host) (sym c.in-Ok-test_inline_keys.ensures)))
+    (ap (λ o. finding_of o c.in-Bucket.stop.host) (sym c.in-Ok-test_inline_keys.ensures)))
 
 pub returns-in-Ok-test_inline_keys-clause-covered : goal.returns-in-Ok-test_inline_keys-clause-covered
 returns-in-Ok-test_inline_keys-clause-covered c =

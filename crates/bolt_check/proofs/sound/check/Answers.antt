@@ -4,7 +4,7 @@ use Rattle.bolt_check.specs.CheckedFiles.{bytes_of, has_accounts, meta_of}
 use Rattle.bolt_check.specs.Nodes.{node_at}
 use Rattle.bolt_check.proofs.MarkLemmas.{mark_above}
 use Rattle.bolt_check.proofs.Shaping.{shape_of}
-use Rattle.bolt_check.proofs.SoundLemmas.{no_items, some_items, sound_of, told_of_file, wrong_of}
+use Rattle.bolt_check.proofs.SoundLemmas.{no_items, some_items, sound_of, findings_of_file, wrong_of}
 use Rattle.bolt_check.proofs.sound.check.Goals as goal
 
 pub test_accounts-requires-clause-below : goal.test_accounts-requires-clause-below
@@ -47,6 +47,6 @@ returns-in-Ok-2-clause-refused c =
       c.in-Ok.ensures.chosen,
       shape_of (node_at c.args.file.now c.in-Ok.meta) c.in-Ok.meta.root c.in-Ok-search.ensures.clean,
       wrong_of c.args.file.now c.in-Ok.meta c.in-Ok-search.table.items c.in-Ok-search.ensures.covered (wrong some),
-      told_of_file c.args.file.now c.in-Ok.meta c.in-Ok-search.table.items c.in-Ok-test_accounts.told.items c.in-Ok-search.ensures.covered (told some),
+      findings_of_file c.args.file.now c.in-Ok.meta c.in-Ok-search.table.items c.in-Ok-test_accounts.told.items c.in-Ok-search.ensures.covered (told some),
       some,
     )
