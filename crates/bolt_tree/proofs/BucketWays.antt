@@ -13,61 +13,10 @@ use Rattle.bolt_check.specs.Shape.{HasShape, child_in, child_of, leads}
 use Rattle.bolt_check.specs.Ways.{At_inline, At_page, PageSpot, Spot, SpanHas, child_spot, follow, reached, spot_of, start_of as page_start, step_at, step_entry, step_on, upper_from}
 use Rattle.bolt_tree.specs.Entries.{Inline_page, IsEntry, IsStart, Root_page, ShowsEntry, Start, start_of}
 use Rattle.bolt_check.specs.OnWays.{IsOnWay}
+use Rattle.bolt_check.proofs.WayFacts.{follow_append, leads_follow, leaf_node}
 use Rattle.bolt_format.proofs.PageFacts.{bucket_value, flat_inline}
 use Rattle.bolt_tree.specs.Paths.{Names, Path}
 use Rattle.bolt_tree.proofs.Lists.{contains_cases, contains_head, contains_none, contains_tail}
-
-pub follow_append : (nodes : Nodes) (here : Option Spot) (v w : List ℕ) → follow nodes here (v ++ w) ≡ follow nodes (follow nodes here v) w
-follow_append nodes here [] w = refl
-follow_append nodes here (i ∷ v) w = follow_append nodes (Rattle.bolt_check.specs.Ways.step nodes here i) v w
-
-leads_none : (nodes : Nodes) (address : List ℕ) → leads nodes None address ≡ None
-leads_none nodes [] = refl
-leads_none nodes (i ∷ address) = leads_none nodes address
-
-nowhere : (n : ℕ) → None ≡ Some n → ⊥
-nowhere n e = cc
-
--- an address from a page is a way from it
-LeadsTo : Nodes → PageSpot → List ℕ → ℕ → Type 0
-LeadsTo nodes s address n = (t : PageSpot) × (follow nodes (Some (At_page s)) address ≡ Some (At_page t)) × (t.number ≡ n)
-
-by_entry : (nodes : Nodes) (s : PageSpot) (is_leaf : Bool) (o next : Option Entry) (address : List ℕ) (n : ℕ) → leads nodes (child_of is_leaf o) address ≡ Some n
-    → ((t : PageSpot) → leads nodes (Some t.number) address ≡ Some n → (u : PageSpot) × (follow nodes (Some (At_page t)) address ≡ Some (At_page u)) × (u.number ≡ n))
-    → (u : PageSpot) × (follow nodes (step_entry is_leaf s o next) address ≡ Some (At_page u)) × (u.number ≡ n)
-by_entry nodes s true o next address n e more = absurd (nowhere n (sym (leads_none nodes address) ∙ by o e))
-  where
-    by : (o : Option Entry) → leads nodes (child_of true o) address ≡ Some n → leads nodes None address ≡ Some n
-    by None e = e
-    by (Some x) e = e
-by_entry nodes s false None next address n e more = absurd (nowhere n (sym (leads_none nodes address) ∙ e))
-by_entry nodes s false (Some x) next address n e more = more (child_spot s x (upper_from next s.upper)) e
-
-by_node : (nodes : Nodes) (s : PageSpot) (r : Result Node ℕ) (i : ℕ) (address : List ℕ) (n : ℕ) → leads nodes (child_in r i) address ≡ Some n
-    → ((t : PageSpot) → leads nodes (Some t.number) address ≡ Some n → (u : PageSpot) × (follow nodes (Some (At_page t)) address ≡ Some (At_page u)) × (u.number ≡ n))
-    → (u : PageSpot) × (follow nodes (step_at r s i) address ≡ Some (At_page u)) × (u.number ≡ n)
-by_node nodes s (Err fault) i address n e more = absurd (nowhere n (sym (leads_none nodes address) ∙ e))
-by_node nodes s (Ok node) i address n e more = by_entry nodes s node.is_leaf (slice_get node.entries i) (slice_get node.entries (suc i)) address n e more
-
-number_is : (a b : ℕ) → Some a ≡ Some b → a ≡ b
-number_is a b e = cc
-
-pub leads_follow : (nodes : Nodes) (s : PageSpot) (address : List ℕ) (n : ℕ) → leads nodes (Some s.number) address ≡ Some n
-    → (t : PageSpot) × (follow nodes (Some (At_page s)) address ≡ Some (At_page t)) × (t.number ≡ n)
-leads_follow nodes s [] n e = (s, refl, number_is s.number n e)
-leads_follow nodes s (i ∷ address) n e = by_node nodes s (nodes s.number) i address n e (λ t h. leads_follow nodes t address n h)
-
--- a leaf page as a node
-leaf_is : (view : PageView) (k : Kind) → k ≡ kind.Leaf → node_of k view ≡ Ok (record { is_leaf = true; overflow = view.overflow; entries = map leaf_entry view.leaves })
-leaf_is view k e = rw e refl
-
-seen_is : (o : Option PageView) (fault : Option ℕ) (view : PageView) → o ≡ Some view → node_seen o fault ≡ node_of view.kind view
-seen_is o fault view e = rw e refl
-
-pub leaf_node : (file : List ℕ) (meta : Meta) (n : ℕ) (view : PageView) → page_at file meta n ≡ Some view → view.kind ≡ kind.Leaf
-    → node_at file meta n ≡ Ok (record { is_leaf = true; overflow = view.overflow; entries = map leaf_entry view.leaves })
-unfolding node_at
-leaf_node file meta n view e k = seen_is (page_at file meta n) (page_fault file meta n) view e ∙ leaf_is view view.kind k
 
 -- an element has its place among the entries
 pub place_of : (leaves : List LeafElement) (e : LeafElement) → Contains leaves e → (i : ℕ) × (slice_get (map leaf_entry leaves) i ≡ Some (leaf_entry e))
@@ -100,10 +49,6 @@ bucket_way file meta s e (address, n, lead, (view, at, k, is)) b page =
     let last : follow nodes (Some (At_page t)) (i ∷ []) ≡ Some (At_page (page_start (head_root e.value))) = node_step t (nodes t.number) (map leaf_entry view.leaves) view.overflow i e node place b page in
     (address, i, follow_append nodes (Some (At_page s)) address (i ∷ []) ∙ (ap (λ (o : Option Spot). follow nodes o (i ∷ [])) on ∙ last))
 
--- a page lies in its own span
-pub in_own_span : (nodes : Nodes) (s : PageSpot) (node : Node) → nodes s.number ≡ Ok node → SpanHas nodes (Some (At_page s)) s.number
-in_own_span nodes s node e = subst (λ (r : Result Node ℕ). Rattle.bolt_check.specs.Ways.SpanOf r s.number s.number) (sym e) (omega arith, omega arith)
-
 pub at_root : (value : List ℕ) → eqb (head_root value) 0 ≡ false → start_of value ≡ Root_page (head_root value)
 at_root value e = rw e refl
 
@@ -128,14 +73,16 @@ module _ (file : List ℕ) (meta : Meta) where
   address_way : (root depth : ℕ) (address : List ℕ) (n : ℕ) → IsOnWay file meta root depth → leads (node_at file meta) (Some root) address ≡ Some n → (deep : ℕ) × IsOnWay file meta n deep
   address_way root depth address n on lead =
       let nodes : Nodes = node_at file meta in
-      let (t, reach, number) = leads_follow nodes on.spot address n (subst (λ (r : ℕ). leads nodes (Some r) address ≡ Some n) (sym on.is) lead) in
-      (t.depth, record {
-        way = on.way ++ address;
-        spot = t;
-        led = follow_append nodes (Some (At_page (page_start meta.root))) on.way address ∙ (ap (λ (o : Option Spot). follow nodes o address) on.led ∙ reach);
-        is = number;
-        deep = refl;
-      })
+      let (t, reach, number) = leads_follow nodes on.spot address n (subst (λ (r : ℕ). leads nodes (Some r) address ≡ Some n) (sym on.is) lead) in (
+        t.depth,
+        record {
+          way = on.way ++ address;
+          spot = t;
+          led = follow_append nodes (Some (At_page (page_start meta.root))) on.way address ∙ (ap (λ (o : Option Spot). follow nodes o address) on.led ∙ reach);
+          is = number;
+          deep = refl;
+        },
+      )
 
   from_page : (root : ℕ) (e : LeafElement) (b : Bool) → eqb (head_root e.value) 0 ≡ b → IsOnWay file meta root 1 → IsEntry file meta (Root_page root) e → e.is_bucket ≡ true → IsStart file meta (start_of e.value)
   from_page root e true zero_root on (address, n, lead, shows) bucket =

@@ -10,10 +10,11 @@ use Rattle.bolt_check.specs.Sound.{HasSoundTrees}
 use Rattle.bolt_check.specs.Ways.{At_page, PageSpot, reached}
 use Rattle.bolt_check.proofs.CheckedLemmas.{good_page}
 use Rattle.bolt_tree.specs.Entries.{IsEntry, Root_page}
-use Rattle.bolt_tree.specs.Listing.{HasAllEntries, IsListing, Member}
+use Rattle.bolt_tree.specs.Listing.{IsListing, Member}
 use Rattle.bolt_tree.specs.Tree.{IsTreeOf, Tree, listing_of, tree_of}
 use Rattle.bolt_tree.proofs.Nesting.{root_tree}
-use Rattle.bolt_tree.proofs.BucketWays.{flat, starts_named, root_starts}
+use Rattle.bolt_tree.proofs.AllEntries.{all_entries}
+use Rattle.bolt_tree.proofs.BucketWays.{flat}
 use Rattle.bolt_tree.proofs.ReadBack.{tree_back}
 use Rattle.bolt_tree.proofs.Single.{lists_once}
 use Rattle.bolt_tree.proofs.TreeListing.{tree_lists}
@@ -21,21 +22,21 @@ use Rattle.bolt_tree.proofs.TreeListing.{tree_lists}
 below : (file : List ℕ) (meta : Meta) → HasSoundTrees file meta → (w : List ℕ) (s : PageSpot) → reached (node_at file meta) meta.root w ≡ Some (At_page s) → s.number < meta.high_water
 below file meta sound w s at = below_mark file meta s.number (good_page file meta w s sound at)
 
-pub file_tree : (file : List ℕ) (meta : Meta) → HasSoundTrees file meta → HasAllEntries file meta → (tree : Tree) × IsTreeOf (IsEntry file meta) (Root_page meta.root) tree
-file_tree file meta sound all = root_tree file meta sound (flat file meta) (below file meta sound) all
+pub file_tree : (file : List ℕ) (meta : Meta) → HasSoundTrees file meta → (tree : Tree) × IsTreeOf (IsEntry file meta) (Root_page meta.root) tree
+file_tree file meta sound = root_tree file meta sound (flat file meta) (below file meta sound) (all_entries file meta sound)
 
-pub has_listing : (file : List ℕ) (meta : Meta) → HasSoundTrees file meta → HasAllEntries file meta → (listing : List Member) × IsListing file meta listing
-has_listing file meta sound all =
-    let (tree, is) = file_tree file meta sound all in (listing_of tree, tree_lists (IsEntry file meta) (Root_page meta.root) tree is)
+pub has_listing : (file : List ℕ) (meta : Meta) → HasSoundTrees file meta → (listing : List Member) × IsListing file meta listing
+has_listing file meta sound =
+    let (tree, is) = file_tree file meta sound in (listing_of tree, tree_lists (IsEntry file meta) (Root_page meta.root) tree is)
 
-pub listing_tree : (file : List ℕ) (meta : Meta) (listing : List Member) → HasSoundTrees file meta → HasAllEntries file meta → IsListing file meta listing
+pub listing_tree : (file : List ℕ) (meta : Meta) (listing : List Member) → HasSoundTrees file meta → IsListing file meta listing
     → (tree : Tree) × IsTreeOf (IsEntry file meta) (Root_page meta.root) tree × (listing ≡ listing_of tree)
-listing_tree file meta listing sound all lists =
-    let (tree, is) = file_tree file meta sound all in
+listing_tree file meta listing sound lists =
+    let (tree, is) = file_tree file meta sound in
     (tree, is, lists_once (IsEntry file meta) (Root_page meta.root) listing (listing_of tree) lists (tree_lists (IsEntry file meta) (Root_page meta.root) tree is))
 
 -- and the tree can be read off it
-pub listing_back : (file : List ℕ) (meta : Meta) (listing : List Member) → HasSoundTrees file meta → HasAllEntries file meta → IsListing file meta listing → listing_of (tree_of listing) ≡ listing
-listing_back file meta listing sound all lists =
-    let (tree, is, same) = listing_tree file meta listing sound all lists in
+pub listing_back : (file : List ℕ) (meta : Meta) (listing : List Member) → HasSoundTrees file meta → IsListing file meta listing → listing_of (tree_of listing) ≡ listing
+listing_back file meta listing sound lists =
+    let (tree, is, same) = listing_tree file meta listing sound lists in
     ap (λ (ms : List Member). listing_of (tree_of ms)) same ∙ (ap listing_of (tree_back tree) ∙ sym same)

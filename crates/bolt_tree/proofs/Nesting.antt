@@ -16,7 +16,8 @@ use Rattle.bolt_tree.specs.Paths.{HasEntries, Names}
 use Rattle.bolt_tree.specs.Tree.{IsTreeOf, Shows, Tree, end, with_bucket, with_value}
 use Rattle.bolt_tree.proofs.Lists.{contains_cases, contains_head, contains_none, contains_tail}
 use Rattle.bolt_tree.proofs.Named.{entries_below}
-use Rattle.bolt_tree.proofs.BucketWays.{IsFlat, at_root, bucket_way, follow_append, in_itself, in_own_span}
+use Rattle.bolt_check.proofs.WayFacts.{follow_append, one_way}
+use Rattle.bolt_tree.proofs.BucketWays.{IsFlat, at_root, bucket_way, in_itself}
 use Rattle.bolt_tree.proofs.Filters.{filter_less, kept}
 
 -- Numbers without one of them.
@@ -70,15 +71,6 @@ same_number : (m : ℕ) → not (eqb m m) ≡ false
 same_number m = ap not (eq-eqb m m refl)
 
 module _ (file : List ℕ) (meta : Meta) (shape : HasShape (node_at file meta) meta.root) (flat : IsFlat file meta) where
-  -- two ways to one page are one
-  one_way : (v w : List ℕ) (s t : PageSpot) → reached (node_at file meta) meta.root v ≡ Some (At_page s) → reached (node_at file meta) meta.root w ≡ Some (At_page t) → s.number ≡ t.number → v ≡ w
-  one_way v w s t at_v at_w same =
-      let good_v = (shape.good v s at_v).1 in
-      let good_w = (shape.good w t at_w).1 in
-      let span_v = subst (λ (o : Option Spot). SpanHas (node_at file meta) o s.number) (sym at_v) (in_own_span (node_at file meta) s good_v.0 good_v.1) in
-      let span_w = subst (λ (o : Option Spot). SpanHas (node_at file meta) o t.number) (sym at_w) (in_own_span (node_at file meta) t good_w.0 good_w.1) in
-      shape.apart v w t.number (subst (λ (n : ℕ). SpanHas (node_at file meta) (reached (node_at file meta) meta.root v) n) same span_v) span_w
-
   -- the tree of an inline bucket
   flat_tree : (n : ℕ) (e : LeafElement) → ShowsEntry file meta n e → e.is_bucket ≡ true → head_root e.value ≡ 0 → HasEntries (IsEntry file meta) (Inline_page (inline_elements e.value))
       → (tree : Tree) × IsTreeOf (IsEntry file meta) (Inline_page (inline_elements e.value)) tree
@@ -120,7 +112,7 @@ module _ (file : List ℕ) (meta : Meta) (shape : HasShape (node_at file meta) m
             let whole : reached (node_at file meta) meta.root ((w ++ (address ++ i ∷ [])) ++ x) ≡ Some (At_page t) =
             follow_append (node_at file meta) (Some (At_page (page_start meta.root))) (w ++ (address ++ i ∷ [])) x ∙ (ap (λ (o : Option Spot). follow (node_at file meta) o x) there ∙ reach) in
             kept (λ m. not (eqb m s.number)) pages t.number (all_in ((address ++ i ∷ []) ++ x) t here)
-            (other_number t.number s.number (λ same. no_longer w address i x (one_way w ((w ++ (address ++ i ∷ [])) ++ x) s t at whole (sym same)))))
+            (other_number t.number s.number (λ same. no_longer w address i x (one_way (node_at file meta) meta.root shape w ((w ++ (address ++ i ∷ [])) ++ x) s t at whole (sym same)))))
             (subst (λ (from : Start). HasEntries (IsEntry file meta) from) start all_below))
       ] in by (eqb (head_root e.value) 0) refl in
       let (tree, made) = list_tree (IsEntry file meta) entries inside in (tree, (entries, are, made))

@@ -1,7 +1,16 @@
 pub mod Behind
+pub mod BucketViews
+pub mod Buckets
+pub mod Cursors
 pub mod Entries
+pub mod FileListings
 pub mod Listing
+pub mod Lookups
+pub mod OpenBuckets
 pub mod Order
 pub mod Paths
 pub mod Places
+pub mod ShownEntries
+pub mod Starts
 pub mod Tree
+pub mod Walks

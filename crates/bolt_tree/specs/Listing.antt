@@ -7,7 +7,7 @@ use Rattle.bolt_format.specs.Elements.{LeafElement}
 use Rattle.bolt_format.specs.declared.meta.Meta.{Meta}
 use Rattle.bolt_tree.specs.Entries.{IsEntry, Item, Root_page, Start}
 use Rattle.bolt_tree.specs.Order.{Rises}
-use Rattle.bolt_tree.specs.Paths.{HasEntries, Holds, Path, path_cmp}
+use Rattle.bolt_tree.specs.Paths.{Holds, Path, path_cmp}
 
 -- a path with its item
 abbrev pub Member : Type 0
@@ -28,7 +28,3 @@ IsListing file meta listing = Lists (IsEntry file meta) (Root_page meta.root) li
 -- the members whose path does not stand before this one
 abbrev pub rest_from : Path → List Member → List Member
 rest_from path listing = filter (λ m. not (is_lt (path_cmp m.0 path))) listing
-
--- each bucket of the file's tree has its entries in order
-abbrev pub HasAllEntries : List ℕ → Meta → Type 0
-HasAllEntries file meta = HasEntries (IsEntry file meta) (Root_page meta.root)

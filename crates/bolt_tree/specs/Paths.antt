@@ -1,6 +1,7 @@
 -- Paths: the keys from one bucket down, and what they hold: docs/LISTING.md, "Paths".
 -- Over any relation that says which elements a bucket has.
-use Rattle.std.specs.Prelude.{◌≡◌, List, [], ◌∷◌, IsTrue}
+use Rattle.std.specs.Prelude.{◌≡◌, ℕ, List, [], ◌∷◌, IsTrue, map}
+use Rattle.std.specs.Borrow.{Bor}
 use Rattle.std.specs.Cmp.Lexicographic.{slice_cmp}
 use Rattle.std.specs.declared.cmp.Ordering.{Ordering}
 use Rattle.bolt_format.specs.Elements.{LeafElement}
@@ -29,3 +30,7 @@ Holds Entry from (key ∷ next ∷ path) item = (e : LeafElement) × Entry from 
 -- each bucket that a path leads to has its entries in order
 abbrev pub HasEntries : (Start → LeafElement → Type 0) → Start → Type 0
 HasEntries Entry from = (path : Path) (bucket : Start) → Names Entry from path bucket → (entries : List LeafElement) × AreEntries Entry bucket entries
+
+-- the path that the code holds as slices
+abbrev pub path_of : List (Bor (List ℕ)) → Path
+path_of parts = map (λ (part : Bor (List ℕ)). part.now) parts

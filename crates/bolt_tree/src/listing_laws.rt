@@ -3,7 +3,7 @@ ghost use Rattle.std.specs.Prelude.{◌≡◌, ℕ, List};
 ghost use Rattle.bolt_format.specs.declared.meta.Meta.{Meta};
 ghost use Rattle.bolt_check.specs.Sound.{HasSoundTrees};
 ghost use Rattle.bolt_tree.specs.Entries.{IsEntry, Root_page};
-ghost use Rattle.bolt_tree.specs.Listing.{HasAllEntries, IsListing, Member};
+ghost use Rattle.bolt_tree.specs.Listing.{IsListing, Member};
 ghost use Rattle.bolt_tree.specs.Tree.{IsTreeOf, Tree, listing_of, tree_of};
 
 /// A file has at most one listing.
@@ -13,12 +13,12 @@ pub fn listing_is_one()
 
 /// A file with sound trees has a listing.
 pub fn sound_trees_have_a_listing()
-    ensures { (file : List ℕ) (meta : Meta) → HasSoundTrees file meta → HasAllEntries file meta → (listing : List Member) × IsListing file meta listing }
+    ensures { (file : List ℕ) (meta : Meta) → HasSoundTrees file meta → (listing : List Member) × IsListing file meta listing }
 {}
 
 /// It is what a tree of buckets lists, which is that of the root bucket.
 pub fn listing_is_of_a_tree()
-    ensures { (file : List ℕ) (meta : Meta) (listing : List Member) → HasSoundTrees file meta → HasAllEntries file meta → IsListing file meta listing
+    ensures { (file : List ℕ) (meta : Meta) (listing : List Member) → HasSoundTrees file meta → IsListing file meta listing
         → (tree : Tree) × IsTreeOf (IsEntry file meta) (Root_page meta.root) tree × (listing ≡ listing_of tree) }
 {}
 
@@ -29,5 +29,5 @@ pub fn a_tree_is_of_its_listing()
 
 /// A file's listing is that of the tree that is read off it.
 pub fn a_listing_is_of_its_tree()
-    ensures { (file : List ℕ) (meta : Meta) (listing : List Member) → HasSoundTrees file meta → HasAllEntries file meta → IsListing file meta listing → listing_of (tree_of listing) ≡ listing }
+    ensures { (file : List ℕ) (meta : Meta) (listing : List Member) → HasSoundTrees file meta → IsListing file meta listing → listing_of (tree_of listing) ≡ listing }
 {}

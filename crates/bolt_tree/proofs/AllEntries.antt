@@ -1,0 +1,25 @@
+-- Each bucket that a path of a sound file names has its entries in order.
+-- Rests on the law that a bucket of the tree has them, and on that each such bucket is one of the tree (BucketWays).
+use Rattle.std.proofs.Common.{ℕ, List}
+use Rattle.std.proofs.Math.Logic.{∥∥₁_prop}
+use Rattle.bolt_format.specs.Elements.{LeafElement}
+use Rattle.bolt_format.specs.declared.meta.Meta.{Meta}
+use Rattle.bolt_check.specs.CheckedFiles.{bytes_of, meta_of}
+use Rattle.bolt_check.specs.Sound.{HasSoundTrees}
+use Rattle.bolt_check.specs.declared.checked_file.Checked.{Checked}
+use Rattle.bolt_check.proofs.CheckedLemmas.{with_trees}
+use Rattle.bolt_tree.specs.BucketViews.{entries_of}
+use Rattle.bolt_tree.specs.Entries.{AreEntries, IsEntry, IsStart, Root_page, Start}
+use Rattle.bolt_tree.specs.FileListings.{root_of}
+use Rattle.bolt_tree.specs.Paths.{HasEntries}
+use Rattle.bolt_tree.specs.Starts.{HasStart}
+use Rattle.bolt_tree.proofs.BucketWays.{root_starts, starts_below, starts_named}
+
+pub sorted : (file : List ℕ) (meta : Meta) → HasSoundTrees file meta → (start : Start) → IsStart file meta start → (entries : List LeafElement) × AreEntries (IsEntry file meta) start entries
+sorted = ?
+
+pub all_entries : (file : List ℕ) (meta : Meta) → HasSoundTrees file meta → HasEntries (IsEntry file meta) (Root_page meta.root)
+all_entries file meta sound = λ path bucket names. sorted file meta sound bucket (starts_named file meta (Root_page meta.root) path bucket (root_starts file meta) names)
+
+pub checked_entries : (checked : Checked) → ∥ HasEntries (entries_of checked) (root_of checked) ∥₁
+checked_entries checked = with_trees checked (∥ HasEntries (entries_of checked) (root_of checked) ∥₁) ∥∥₁_prop (λ trees. ∣ all_entries (bytes_of checked) (meta_of checked) trees ∣₁)

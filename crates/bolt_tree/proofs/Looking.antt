@@ -1,0 +1,72 @@
+-- What a seek says of a bucket's entry with a key.
+use Rattle.std.proofs.Common.{◌≡◌, ◌∙◌, Bool, true, false, IsTrue, List, [], ◌∷◌, ◌++◌, Option, Some, None, slice_get, refl, sym, ap, subst}
+use Rattle.std.proofs.Math.Logic.{∥∥₁_elim, ∥∥₁_map, ∥∥₁_prop}
+use Rattle.std.proofs.Props.{props}
+use Rattle.std.specs.Ordering.{is_lt}
+use Rattle.bolt_format.specs.Elements.{LeafElement}
+use Rattle.bolt_check.specs.CheckedFiles.{bytes_of, meta_of}
+use Rattle.bolt_check.specs.Keys.{Key, key_cmp}
+use Rattle.bolt_check.specs.declared.checked_file.Checked.{Checked}
+use Rattle.bolt_tree.specs.Cursors.{cursor_checked, cursor_place, cursor_start}
+use Rattle.bolt_tree.specs.Entries.{AreEntries, Start, start_of}
+use Rattle.bolt_tree.specs.BucketViews.{entries_of}
+use Rattle.bolt_tree.specs.Starts.{HasStart}
+use Rattle.bolt_check.proofs.CheckedLemmas.{with_trees}
+use Rattle.bolt_tree.proofs.AllEntries.{sorted}
+use Rattle.bolt_tree.proofs.BucketWays.{starts_below}
+use Rattle.bolt_tree.specs.Places.{Moves, Place, least_from, seek_move}
+use Rattle.bolt_tree.specs.declared.cursor.Cursor.{Cursor}
+use Rattle.bolt_tree.proofs.Coming.{neither}
+use Rattle.bolt_tree.proofs.CursorMoves.{comes_from}
+use Rattle.bolt_tree.proofs.EntryOrder.{contains_at, seek_from, seek_least, seek_none}
+use Rattle.bolt_tree.proofs.Named.{entry_once}
+use Rattle.bolt_tree.proofs.PathOrder.{key_same}
+
+not_less_itself : (a b : Key) → a ≡ b → is_lt (key_cmp a b) ≡ false
+not_less_itself a b e = rw e (ap is_lt (key_same b))
+
+-- a bucket of the tree has its entries in order
+pub own_entries : (checked : Checked) (bucket : Start) → HasStart checked bucket → ∥ ((entries : List LeafElement) × AreEntries (entries_of checked) bucket entries) ∥₁
+own_entries checked bucket begins =
+    with_trees checked (∥ ((entries : List LeafElement) × AreEntries (entries_of checked) bucket entries) ∥₁) ∥∥₁_prop
+    (λ trees. ∥∥₁_map begins (λ start. sorted (bytes_of checked) (meta_of checked) trees bucket start))
+
+module _ (checked : Checked) (bucket : Start) (fresh moved : Cursor) (key : Key) (known : ∥ ((entries : List LeafElement) × AreEntries (entries_of checked) bucket entries) ∥₁)
+    (file : cursor_checked fresh ≡ checked) (start : cursor_start fresh ≡ bucket) where
+  abbrev MovesFrom : Option LeafElement → Type 0
+  MovesFrom o = Moves (entries_of (cursor_checked fresh)) (cursor_start fresh) (λ entries place. seek_move key entries) (cursor_place fresh) (cursor_place moved) o
+
+  here : (o : Option LeafElement) → MovesFrom o → Moves (entries_of checked) bucket (λ entries place. seek_move key entries) (cursor_place fresh) (cursor_place moved) o
+  here o moves =
+      subst (λ (s : Start). Moves (entries_of checked) s (λ entries place. seek_move key entries) (cursor_place fresh) (cursor_place moved) o) start
+      (subst (λ (c : Checked). Moves (entries_of c) (cursor_start fresh) (λ entries place. seek_move key entries) (cursor_place fresh) (cursor_place moved) o) file moves)
+
+  pub look_none : MovesFrom None → (e : LeafElement) → entries_of checked bucket e → e.key ≡ key → ⊥
+  look_none moves e is same =
+      ∥∥₁_elim known (hlevel props) (λ (entries, are).
+      let long = comes_from key entries (cursor_place moved) None (here None moves entries are) in
+      let before = seek_none key entries e long ((are.exact e).1 is) in
+      let not_before = not_less_itself e.key key same in cc)
+
+  pub look_greater : (l : LeafElement) → MovesFrom (Some l) → is_lt (key_cmp key l.key) ≡ true → (e : LeafElement) → entries_of checked bucket e → e.key ≡ key → ⊥
+  look_greater l moves less e is same =
+      ∥∥₁_elim known (hlevel props) (λ (entries, are).
+      let came = comes_from key entries (cursor_place moved) (Some l) (here (Some l) moves entries are) in
+      let least = (seek_least key entries l e are.rises came.1 ((are.exact e).1 is) (not_less_itself e.key key same)).1 in
+      let f : is_lt (key_cmp key l.key) ≡ false = subst (λ (k : Key). is_lt (key_cmp k l.key) ≡ false) same least in cc)
+
+  pub look_found : (l : LeafElement) → MovesFrom (Some l) → is_lt (key_cmp key l.key) ≡ false → ∥ entries_of checked bucket l × (l.key ≡ key) ∥₁
+  look_found l moves not_less =
+      ∥∥₁_map known (λ (entries, are).
+      let came = comes_from key entries (cursor_place moved) (Some l) (here (Some l) moves entries are) in
+      ((are.exact l).0 (contains_at entries (least_from key entries) l came.1), sym (neither key l.key (key_cmp key l.key) refl not_less (seek_from key entries l came.1))))
+
+  pub look_same : (l : LeafElement) → MovesFrom (Some l) → is_lt (key_cmp key l.key) ≡ false → (e : LeafElement) → entries_of checked bucket e → e.key ≡ key → e.is_bucket ≡ l.is_bucket
+  look_same l moves not_less e is same =
+      ∥∥₁_elim known (hlevel props) (λ (entries, are). ∥∥₁_elim (look_found l moves not_less) (hlevel props) (λ (own, at).
+      ap (λ (x : LeafElement). x.is_bucket) (entry_once (entries_of checked) bucket entries are e l is own (same ∙ sym at))))
+
+  -- a bucket that is found is one of the tree
+  pub look_inside : (l : LeafElement) → HasStart checked bucket → MovesFrom (Some l) → is_lt (key_cmp key l.key) ≡ false → l.is_bucket ≡ true → HasStart checked (start_of l.value)
+  look_inside l begins moves not_less b =
+      ∥∥₁_elim begins ∥∥₁_prop (λ start. ∥∥₁_map (look_found l moves not_less) (λ (own, at). starts_below (bytes_of checked) (meta_of checked) bucket l start own b))

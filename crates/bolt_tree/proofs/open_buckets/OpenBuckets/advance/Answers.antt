@@ -1,0 +1,27 @@
+use Rattle.std.proofs.Common.{◌≡◌, ◌∙◌, List, [], ◌∷◌, MatchOption, sym, ap, subst}
+use Rattle.bolt_format.specs.ElementPlaces.{leaf_view}
+use Rattle.bolt_format.specs.declared.element.Leaf.{Leaf}
+use Rattle.bolt_tree.specs.Entries.{item_of}
+use Rattle.bolt_tree.specs.Listing.{Member}
+use Rattle.bolt_tree.specs.Paths.{Path, path_of}
+use Rattle.bolt_tree.specs.OpenBuckets.{left_by, open_path}
+use Rattle.bolt_tree.specs.Behind.{behind, beyond}
+use Rattle.bolt_tree.proofs.Climbing.{listed_in}
+use Rattle.bolt_tree.proofs.Entering.{itself}
+use Rattle.bolt_tree.proofs.open_buckets.OpenBuckets.advance.Goals as goal
+
+pub returns-in-Give-clause-left : goal.returns-in-Give-clause-left
+returns-in-Give-clause-left c = λ listing lists.
+    let on = rw c.in-Give.is at c.requires.ahead in
+    rw c.in-Give.is
+    (itself c.args.self.now.checked c.args.self.now.cursors.items (path_of c.args.self.now.path.items) (leaf_view c.in-Give.leaf) c.requires.placed on.1 listing lists)
+
+pub returns-in-Ok-None-clause-left : goal.returns-in-Ok-None-clause-left
+returns-in-Ok-None-clause-left c = λ listing lists.
+    let entered = rw c.in-Ok-None.field-0-is at c.in-Ok-None.ensures.left in
+    let same = rw c.in-Ok-None.field-0-is at c.in-Ok-None.ensures.none in
+    let left : left_by c.args.ahead (open_path c.args.self.now) listing ≡ beyond (open_path c.enter.new.self) listing =
+    rw c.in-Enter.is (entered listing lists ∙ ap (λ (p : Path). beyond p listing) (sym same)) in
+    let there = c.climb.ensures.left listing (listed_in c.enter.new.self.checked c.args.self.now.checked listing c.in-Ok-None.ensures.checked lists) in
+    subst (λ (xs : List Member). MatchOption c.climb.result (xs ≡ []) (λ (leaf : Leaf). xs ≡ (open_path c.climb.new.self, item_of (leaf_view leaf)) ∷ behind (open_path c.climb.new.self) listing))
+    (sym left) there

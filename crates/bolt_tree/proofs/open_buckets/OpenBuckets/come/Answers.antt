@@ -1,0 +1,17 @@
+use Rattle.bolt_tree.specs.Paths.{path_of}
+use Rattle.std.proofs.Common.{◌≡◌, ◌∙◌, sym, ap, subst}
+use Rattle.bolt_format.specs.ElementPlaces.{leaf_view}
+use Rattle.bolt_tree.specs.OpenBuckets.{open_path}
+use Rattle.bolt_tree.proofs.Climbing.{listed_in, none_beyond}
+use Rattle.bolt_tree.proofs.Entering.{itself}
+use Rattle.bolt_tree.proofs.open_buckets.OpenBuckets.come.Goals as goal
+
+pub returns-in-Some-clause-left : goal.returns-in-Some-clause-left
+returns-in-Some-clause-left c = λ listing lists.
+    let there = listed_in c.climb.new.self.checked c.args.self.now.checked listing c.in-Some.ensures.checked lists in
+    itself c.climb.new.self.checked c.climb.new.self.cursors.items (path_of c.climb.new.self.path.items) (leaf_view c.in-Some.leaf) c.in-Some.ensures.placed c.in-Some.ensures.on.1 listing there
+    ∙ sym (c.in-Some.ensures.left listing lists)
+
+pub returns-in-None-clause-left : goal.returns-in-None-clause-left
+returns-in-None-clause-left c = λ listing lists.
+    none_beyond (open_path c.climb.new.self) listing c.in-None.ensures.ended ∙ sym (c.in-None.ensures.left listing lists)

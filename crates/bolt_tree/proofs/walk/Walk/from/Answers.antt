@@ -1,0 +1,16 @@
+use Rattle.std.proofs.Common.{◌≡◌, ◌∙◌, sym, ap, subst}
+use Rattle.std.proofs.Math.Logic.{∥∥₁_elim, ∥∥₁_prop}
+use Rattle.bolt_tree.specs.Walks.{left_of}
+use Rattle.bolt_tree.proofs.Climbing.{listed_in}
+use Rattle.bolt_tree.proofs.Walking.{begins}
+use Rattle.bolt_tree.proofs.walk.Walk.from.Goals as goal
+
+pub seek-requires-clause-placed : goal.seek-requires-clause-placed
+seek-requires-clause-placed c =
+    ∥∥₁_elim (begins c.args.checked c.new-buckets.result c.root.result c.new-buckets.ensures.checked c.new-buckets.ensures.cursors c.new-buckets.ensures.path c.root.ensures.checked c.root.ensures.start)
+    ∥∥₁_prop (λ p. p.0)
+
+pub returns-in-Ok-clause-rest : goal.returns-in-Ok-clause-rest
+unfolding left_of
+returns-in-Ok-clause-rest c = λ listing lists.
+    c.in-Ok.ensures.left listing (listed_in c.new-buckets.result.checked c.args.checked listing c.new-buckets.ensures.checked lists)

@@ -1,0 +1,45 @@
+use Rattle.std.proofs.Common.{◌≡◌, ◌∙◌, List, [], ◌∷◌, sym, ap, subst}
+use Rattle.std.proofs.Math.Logic.{∥∥₁_elim, ∥∥₁_prop, ∥∥₁_map}
+use Rattle.bolt_format.specs.ElementPlaces.{leaf_view}
+use Rattle.bolt_tree.specs.Entries.{Item, item_of}
+use Rattle.bolt_tree.specs.Items.{item_view}
+use Rattle.bolt_tree.specs.Listing.{Member}
+use Rattle.bolt_tree.specs.Paths.{Path}
+use Rattle.bolt_tree.specs.OpenBuckets.{left_by, told_path, open_path}
+use Rattle.bolt_tree.specs.Behind.{behind, beyond}
+use Rattle.bolt_tree.specs.Walks.{left_of, walk_checked, walk_path}
+use Rattle.bolt_tree.proofs.Climbing.{listed_in, none_beyond}
+use Rattle.bolt_tree.proofs.Walking.{ahead_in, ahead_prop}
+use Rattle.bolt_tree.proofs.walk.Walk.next.Goals as goal
+
+pub advance-requires-clause-placed : goal.advance-requires-clause-placed
+advance-requires-clause-placed c = ∥∥₁_elim c.args.self.now.placed ∥∥₁_prop (λ p. p.0)
+
+pub advance-requires-clause-ahead : goal.advance-requires-clause-ahead
+advance-requires-clause-ahead c = ∥∥₁_elim c.args.self.now.placed (ahead_prop c.args.self.now.buckets c.args.self.now.ahead) (λ p. p.1)
+
+pub invariant_of-self-in-Err-1 : goal.invariant_of-self-in-Err-1
+invariant_of-self-in-Err-1 c = record {
+  placed = ∥∥₁_map c.args.self.now.placed (λ p. (
+    c.in-Err.ensures.placed,
+    ahead_in c.args.self.now.buckets c.advance.new.self c.args.self.now.ahead c.in-Err.ensures.checked c.in-Err.ensures.same p.1,
+  ));
+}
+
+pub returns-in-Ok-Some-clause-given : goal.returns-in-Ok-Some-clause-given
+unfolding left_of walk_checked walk_path
+returns-in-Ok-Some-clause-given c = λ listing lists.
+    let came = rw c.in-Ok-Some.field-0-is at c.in-Ok-Some.ensures.left in
+    let first = came listing lists in
+    let then = c.after-self.ensures.left listing (listed_in c.advance.new.self.checked c.args.self.now.buckets.checked listing c.in-Ok-Some.ensures.checked lists) in
+    first
+    ∙ ap (λ (i : Item). (open_path c.advance.new.self, i) ∷ behind (open_path c.advance.new.self) listing) (sym c.of.ensures)
+    ∙ ap (λ (p : Path). (p, item_view c.of.result) ∷ behind (open_path c.advance.new.self) listing) (sym c.after-self.ensures.told)
+    ∙ ap (λ (ms : List Member). (told_path c.after-self.result (open_path c.advance.new.self), item_view c.of.result) ∷ ms) (sym then)
+
+pub returns-in-Ok-None-clause-given : goal.returns-in-Ok-None-clause-given
+unfolding left_of walk_checked walk_path
+returns-in-Ok-None-clause-given c = λ listing lists.
+    let came = rw c.in-Ok-None.field-0-is at c.in-Ok-None.ensures.left in
+    let ended = rw c.in-Ok-None.field-0-is at c.in-Ok-None.ensures.ended in
+    (came listing lists, none_beyond (open_path c.advance.new.self) listing ended, ended)

@@ -1,0 +1,15 @@
+-- The listing of a checked file: docs/LISTING.md, "The listing".
+-- What is promised of it is promised for each listing of the file; there is exactly one (`listing_laws`).
+use Rattle.std.specs.Prelude.{List}
+use Rattle.bolt_check.specs.CheckedFiles.{bytes_of, meta_of}
+use Rattle.bolt_check.specs.declared.checked_file.Checked.{Checked}
+use Rattle.bolt_tree.specs.Entries.{Root_page, Start}
+use Rattle.bolt_tree.specs.Listing.{IsListing, Member}
+
+-- where the root bucket begins
+abbrev pub root_of : Checked → Start
+root_of checked = Root_page (meta_of checked).root
+
+-- this holds of the listing
+abbrev pub ForListing : Checked → (List Member → Type 0) → Type 0
+ForListing checked P = (listing : List Member) → IsListing (bytes_of checked) (meta_of checked) listing → P listing

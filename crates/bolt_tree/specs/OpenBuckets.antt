@@ -1,0 +1,88 @@
+-- The open buckets of a walk: docs/LISTING.md, "The walk".
+-- A cursor for each, and the keys on which they stand: the path of what comes next, or came last.
+use Rattle.std.specs.Prelude.{◌≡◌, ℕ, Bool, true, false, IsTrue, List, [], ◌∷◌, ◌++◌, map, Some, slice_get}
+use Rattle.std.specs.Borrow.{Bor}
+use Rattle.bolt_format.specs.Elements.{IsBucketValue, LeafElement}
+use Rattle.bolt_format.specs.ElementPlaces.{leaf_view}
+use Rattle.bolt_format.specs.declared.element.Leaf.{Leaf}
+use Rattle.bolt_check.specs.CheckedFiles.{bytes_of, meta_of}
+use Rattle.bolt_check.specs.Keys.{Key}
+use Rattle.bolt_check.specs.declared.checked_file.Checked.{Checked}
+use Rattle.bolt_tree.specs.Buckets.{bucket_checked, bucket_start}
+use Rattle.bolt_tree.specs.BucketViews.{entries_of}
+use Rattle.bolt_tree.specs.FileListings.{ForListing, root_of}
+use Rattle.bolt_tree.specs.Cursors.{cursor_checked, cursor_place, cursor_start}
+use Rattle.bolt_tree.specs.Entries.{AreEntries, Start}
+use Rattle.bolt_tree.specs.Listing.{IsListing, Member, rest_from}
+use Rattle.bolt_tree.specs.Paths.{HasEntries, Names, Path, path_of}
+use Rattle.bolt_tree.specs.Places.{On}
+use Rattle.bolt_tree.specs.Behind.{behind, beyond}
+use Rattle.bolt_tree.specs.declared.bucket.Bucket.{Bucket}
+use Rattle.bolt_tree.specs.declared.cursor.Cursor.{Cursor}
+use Rattle.bolt_tree.specs.declared.open_buckets.Ahead.{Ahead}
+use Rattle.bolt_tree.specs.declared.open_buckets.Ahead.TheVariants.{Enter, Give, Leave}
+use Rattle.bolt_tree.specs.declared.open_buckets.Sought.{Sought}
+use Rattle.bolt_tree.specs.declared.open_buckets.Sought.TheVariants.{Here, Inside}
+use Rattle.bolt_tree.specs.declared.open_buckets.OpenBuckets.{OpenBuckets}
+
+abbrev pub open_path : OpenBuckets → Path
+open_path buckets = path_of buckets.path.items
+
+-- a cursor stands on an entry with this key
+abbrev pub StandsOn : (Start → LeafElement → Type 0) → Cursor → Key → Type 0
+StandsOn Entry cursor key = (entries : List LeafElement) → AreEntries Entry (cursor_start cursor) entries
+    → (i : ℕ) × (e : LeafElement) × (cursor_place cursor ≡ On i) × (slice_get entries i ≡ Some e) × (e.key ≡ key)
+
+-- Each of these cursors is over the bucket that the keys before it name, and stands on the key in its place.
+abbrev pub AreOpen : Checked → Path → List Cursor → Path → Type 0
+AreOpen checked before [] [] = Unit {0}
+AreOpen checked before [] (key ∷ keys) = ⊥
+AreOpen checked before (cursor ∷ cursors) [] = ⊥
+AreOpen checked before (cursor ∷ cursors) (key ∷ keys) =
+    (cursor_checked cursor ≡ checked) × Names (entries_of checked) (root_of checked) before (cursor_start cursor) × StandsOn (entries_of checked) cursor key
+    × AreOpen checked (before ++ key ∷ []) cursors keys
+
+abbrev pub IsInPlace : OpenBuckets → Type 0
+IsInPlace buckets = ∥ HasEntries (entries_of buckets.checked) (root_of buckets.checked) × AreOpen buckets.checked [] buckets.cursors.items (open_path buckets) ∥₁
+
+-- the path leads to this element
+abbrev pub IsAt : OpenBuckets → Leaf → Type 0
+IsAt buckets leaf =
+    (IsTrue leaf.is_bucket → IsBucketValue leaf.value.now)
+    × ∥ ((path : Path) × (bucket : Start) × (open_path buckets ≡ path ++ leaf.key.now ∷ []) × Names (entries_of buckets.checked) (root_of buckets.checked) path bucket
+    × entries_of buckets.checked bucket (leaf_view leaf)) ∥₁
+
+-- the bucket is one of the same file, and the path names it
+abbrev pub IsNamed : OpenBuckets → Bucket → Type 0
+IsNamed buckets bucket = ∥ (bucket_checked bucket ≡ buckets.checked) × Names (entries_of buckets.checked) (root_of buckets.checked) (open_path buckets) (bucket_start bucket) ∥₁
+
+-- open buckets from which this may be done next
+abbrev pub IsAhead : OpenBuckets → Ahead → Type 0
+IsAhead buckets (Enter bucket) = IsNamed buckets bucket
+IsAhead buckets (Give leaf) = IsAt buckets leaf
+IsAhead buckets Leave = Unit {0}
+
+-- what is left of a listing: where a bucket is entered, all behind the path; where an element is given, all from there; else all beyond
+abbrev pub left_by : Ahead → Path → List Member → List Member
+left_by (Enter bucket) path listing = behind path listing
+left_by (Give leaf) path listing = rest_from path listing
+left_by Leave path listing = beyond path listing
+
+-- the path of what was given last
+abbrev pub told_path : Ahead → Path → Path
+told_path (Enter bucket) path = path
+told_path (Give leaf) path = []
+told_path Leave path = path
+
+-- nothing of a path is left
+abbrev pub is_end : Path → Bool
+is_end [] = true
+is_end (key ∷ path) = false
+
+-- One part of a path was sought, and the path goes on behind it or not: it names a bucket, and the path goes on; or the rest from the path
+-- is what is left.
+abbrev pub IsSought : OpenBuckets → OpenBuckets → Key → Bool → Sought → Type 0
+IsSought old new part is_last (Inside bucket) = (open_path new ≡ open_path old ++ part ∷ []) × IsNamed new bucket × (is_last ≡ false)
+IsSought old new part is_last (Here ahead) =
+    IsAhead new ahead × (told_path ahead (open_path new) ≡ [])
+    × ((rest : Path) → is_end rest ≡ is_last → ForListing old.checked (λ listing. left_by ahead (open_path new) listing ≡ rest_from (open_path old ++ part ∷ rest) listing))

@@ -1,0 +1,24 @@
+-- What is left of a walk, and the path that it tells.
+use Rattle.std.specs.Prelude.{◌≡◌, List, [], ◌∷◌, Option, Some, None}
+use Rattle.bolt_tree.specs.Entries.{Item}
+use Rattle.bolt_check.specs.declared.checked_file.Checked.{Checked}
+use Rattle.bolt_tree.specs.Listing.{Member}
+use Rattle.bolt_tree.specs.Paths.{Path}
+use Rattle.bolt_tree.specs.OpenBuckets.{left_by, told_path, open_path}
+use Rattle.bolt_tree.specs.declared.walk.Walk.{Walk}
+
+unfoldable pub walk_checked : Walk → Checked
+walk_checked walk = walk.buckets.checked
+
+-- what of a listing is before the walk
+unfoldable pub left_of : Walk → List Member → List Member
+left_of walk listing = left_by walk.ahead (open_path walk.buckets) listing
+
+-- the path of what it gave last
+unfoldable pub walk_path : Walk → Path
+walk_path walk = told_path walk.ahead (open_path walk.buckets)
+
+-- The first member of what was left is given, and the others are left; or none was left, none is, and no path is told.
+abbrev pub GivesNext : List Member → List Member → Path → Option Item → Type 0
+GivesNext old new path (Some item) = old ≡ (path, item) ∷ new
+GivesNext old new path None = (old ≡ []) × (new ≡ []) × (path ≡ [])

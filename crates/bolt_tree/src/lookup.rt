@@ -1,0 +1,85 @@
+//! What a bucket has under a key (docs/LISTING.md, "A key in a bucket").
+ghost use Rattle.std.specs.Prelude.{◌≡◌, IfSome};
+ghost use Rattle.std.specs.Option.{option_map};
+ghost use Rattle.bolt_format.specs.Elements.{IsBucketValue, head_sequence};
+ghost use Rattle.bolt_tree.specs.Buckets.{bucket_checked, bucket_sequence, bucket_start};
+ghost use Rattle.bolt_tree.specs.BucketViews.{entries_of};
+ghost use Rattle.bolt_tree.specs.Entries.{start_of};
+ghost use Rattle.bolt_tree.specs.Lookups.{IsBucketAt, IsValueAt};
+ghost use Rattle.bolt_tree.specs.Starts.{HasStart, start_at};
+
+use crate::at::At;
+use crate::bucket::Bucket;
+use bolt_check::Checked;
+use bolt_format::{Leaf, head, inline};
+
+/// Where the tree of a bucket with this value begins.
+fn at_of(value: &[u8]) -> At<'_>
+    requires { IsBucketValue value.now }
+    ensures { start_at result ≡ start_of value.now }
+{
+    let root = head(value).root;
+    if root == 0 {
+        At::Inline(inline(value))
+    } else {
+        At::Page(root)
+    }
+}
+
+impl<'a> Bucket<'a> {
+    /// The bucket that a leaf element is.
+    #[tactic(auto, unfolding(crate::specs::Buckets::bucket_checked, crate::specs::Buckets::bucket_start, crate::specs::Buckets::bucket_sequence))]
+    pub(crate) fn of(checked: Checked<'a>, leaf: &Leaf<'a>) -> Bucket<'a>
+        requires value { IsBucketValue leaf.now.value.now }
+        requires begins { HasStart checked (start_of leaf.now.value.now) }
+        ensures checked { bucket_checked result ≡ checked.entry }
+        ensures start { bucket_start result ≡ start_of leaf.now.value.now }
+        ensures sequence { bucket_sequence result ≡ head_sequence leaf.now.value.now }
+    {
+        let head = head(leaf.value);
+        Bucket {
+            checked,
+            at: at_of(leaf.value),
+            sequence: head.sequence,
+        }
+    }
+
+    /// The value under a key: `None` where the bucket has no entry with that key, and where that
+    /// entry is a bucket. It goes down once, as a cursor's `seek` does, and takes no memory.
+    pub fn get(&self, key: &[u8]) -> Option<&'a [u8]>
+        ensures { IsValueAt (entries_of (bucket_checked self.now)) (bucket_start self.now) key.now (option_map (λ value. value.now) result) }
+    {
+        let mut cursor = self.cursor();
+        let leaf = match cursor.seek_element(key) {
+            Some(leaf) => leaf,
+            None => return None,
+        };
+        if key.cmp(leaf.key).is_lt() {
+            return None;
+        }
+        if leaf.is_bucket {
+            return None;
+        }
+        Some(leaf.value)
+    }
+
+    /// The bucket under a key: `None` where this bucket has no entry with that key, and where that
+    /// entry is a value. It goes down once, as a cursor's `seek` does, and takes no memory.
+    pub fn bucket(&self, key: &[u8]) -> Option<Bucket<'a>>
+        ensures checked { IfSome result (λ inner. bucket_checked inner ≡ bucket_checked self.now) }
+        ensures bucket { IsBucketAt (entries_of (bucket_checked self.now)) (bucket_start self.now) key.now result }
+    {
+        let mut cursor = self.cursor();
+        let leaf = match cursor.seek_element(key) {
+            Some(leaf) => leaf,
+            None => return None,
+        };
+        if key.cmp(leaf.key).is_lt() {
+            return None;
+        }
+        if !leaf.is_bucket {
+            return None;
+        }
+        Some(Bucket::of(self.checked, &leaf))
+    }
+}

@@ -1,0 +1,231 @@
+//! The open buckets of a walk, and the path that it has come to.
+ghost use Rattle.std.specs.Option.{IfNone};
+ghost use Rattle.std.specs.Prelude.{◌≡◌, ◌++◌, ◌∷◌, [], IfSome, IfOk, MatchOption, MatchResult, OnOk, OnErr, IsTrue};
+ghost use Rattle.bolt_format.specs.Elements.{IsBucketValue};
+ghost use Rattle.bolt_format.specs.ElementPlaces.{leaf_view};
+ghost use Rattle.bolt_tree.specs.Buckets.{bucket_checked, bucket_start};
+ghost use Rattle.bolt_tree.specs.Entries.{item_of};
+ghost use Rattle.bolt_tree.specs.Listing.{rest_from};
+ghost use Rattle.bolt_tree.specs.Behind.{behind, beyond};
+ghost use Rattle.bolt_tree.specs.FileListings.{ForListing};
+ghost use Rattle.bolt_tree.specs.Paths.{path_of};
+
+use crate::bucket::Bucket;
+use crate::cursor::Cursor;
+use crate::no_memory::NoMemory;
+use bolt_check::Checked;
+use bolt_format::Leaf;
+use std::alloc::Global;
+
+/// What a walk does next.
+#[derive(Clone, Copy)]
+pub(crate) enum Ahead<'a> {
+    /// It enters the bucket that its path names.
+    Enter(Bucket<'a>),
+    /// It gives the element that its path leads to.
+    Give(Leaf<'a>),
+    /// It leaves what its path begins.
+    Leave,
+}
+
+/// What the search for one part of a path comes to.
+#[derive(Clone, Copy)]
+pub(crate) enum Sought<'a> {
+    /// The part names this bucket, and the path goes on.
+    Inside(Bucket<'a>),
+    /// The walk goes on from here.
+    Here(Ahead<'a>),
+}
+
+/// A cursor for each open bucket, from the root on, and the keys that they stand on.
+#[derive(Drop)]
+pub(crate) struct OpenBuckets<'a> {
+    pub checked: Checked<'a>,
+    pub cursors: Vec<Cursor<'a>>,
+    pub path: Vec<&'a [u8]>,
+}
+
+impl<'a> OpenBuckets<'a> {
+    ghost use Rattle.bolt_tree.specs.OpenBuckets.{IsAhead, IsAt, IsInPlace, IsNamed, IsSought, left_by, open_path, told_path};
+
+    /// No open bucket.
+    pub fn new(alloc: Global, checked: Checked<'a>) -> OpenBuckets<'a>
+        ensures checked { result.checked ≡ checked.entry }
+        ensures cursors { result.cursors.items ≡ [] }
+        ensures path { result.path.items ≡ [] }
+    {
+        OpenBuckets {
+            checked,
+            cursors: Vec::new(alloc),
+            path: Vec::new(alloc),
+        }
+    }
+
+    /// Adds an open bucket. Where memory runs out, nothing has changed.
+    fn push(&mut self, cursor: Cursor<'a>, key: &'a [u8]) -> Result<(), NoMemory>
+        ensures checked { self.new.checked ≡ self.old.checked }
+        ensures cursors { OnOk result (self.new.cursors.items ≡ self.old.cursors.items ++ cursor.entry ∷ []) }
+        ensures path { OnOk result (open_path self.new ≡ open_path self.old ++ key.now ∷ []) }
+        ensures same { OnErr result ((self.new.cursors.items ≡ self.old.cursors.items) × (self.new.path.items ≡ self.old.path.items)) }
+    {
+        self.cursors.reserve(1)?;
+        self.path.reserve(1)?;
+        self.cursors.push_reserved(cursor);
+        self.path.push_reserved(key);
+        Ok(())
+    }
+
+    /// Opens the bucket that the path names, and comes to its first entry. Where it has none, or
+    /// memory runs out, nothing has changed.
+    fn enter(&mut self, bucket: Bucket<'a>) -> Result<Option<Leaf<'a>>, NoMemory>
+        requires placed { IsInPlace self.old }
+        requires named { IsNamed self.old bucket }
+        ensures checked { self.new.checked ≡ self.old.checked }
+        ensures placed { IsInPlace self.new }
+        ensures on { IfOk result (λ found. IfSome found (IsAt self.new)) }
+        ensures none { IfOk result (λ found. IfNone found (open_path self.new ≡ open_path self.old)) }
+        ensures same { OnErr result (open_path self.new ≡ open_path self.old) }
+        ensures left { IfOk result (λ found. ForListing self.old.checked (λ listing. MatchOption found (behind (open_path self.old) listing ≡ beyond (open_path self.old) listing)
+            (λ leaf. behind (open_path self.old) listing ≡ (open_path self.new, item_of (leaf_view leaf)) ∷ behind (open_path self.new) listing))) }
+    {
+        let mut cursor = bucket.cursor();
+        let leaf = match cursor.first_element() {
+            Some(leaf) => leaf,
+            None => return Ok(None),
+        };
+        match self.push(cursor, leaf.key) {
+            Ok(()) => Ok(Some(leaf)),
+            Err(e) => Err(e),
+        }
+    }
+
+    /// Comes to the next entry to be given. Where memory runs out, nothing has changed.
+    pub fn advance(&mut self, ahead: Ahead<'a>) -> Result<Option<Leaf<'a>>, NoMemory>
+        requires placed { IsInPlace self.old }
+        requires ahead { IsAhead self.old ahead }
+        ensures checked { self.new.checked ≡ self.old.checked }
+        ensures placed { IsInPlace self.new }
+        ensures on { IfOk result (λ found. IfSome found (IsAt self.new)) }
+        ensures ended { IfOk result (λ found. IfNone found (open_path self.new ≡ [])) }
+        ensures same { OnErr result (open_path self.new ≡ open_path self.old) }
+        ensures left { IfOk result (λ found. ForListing self.old.checked (λ listing. MatchOption found (left_by ahead.entry (open_path self.old) listing ≡ [])
+            (λ leaf. left_by ahead.entry (open_path self.old) listing ≡ (open_path self.new, item_of (leaf_view leaf)) ∷ behind (open_path self.new) listing))) }
+    {
+        match ahead {
+            Ahead::Give(leaf) => Ok(Some(leaf)),
+            Ahead::Enter(bucket) => match self.enter(bucket) {
+                Ok(Some(leaf)) => Ok(Some(leaf)),
+                Ok(None) => Ok(self.climb()),
+                Err(e) => Err(e),
+            },
+            Ahead::Leave => Ok(self.climb()),
+        }
+    }
+
+    /// What is to be done after the element that the path leads to was given.
+    pub fn after(&self, leaf: &Leaf<'a>) -> Ahead<'a>
+        requires placed { IsInPlace self.now }
+        requires on { IsAt self.now leaf.now }
+        ensures ahead { IsAhead self.now result }
+        ensures left { ForListing self.now.checked (λ listing. left_by result (open_path self.now) listing ≡ behind (open_path self.now) listing) }
+        ensures told { told_path result (open_path self.now) ≡ open_path self.now }
+    {
+        if leaf.is_bucket {
+            Ahead::Enter(Bucket::of(self.checked, leaf))
+        } else {
+            Ahead::Leave
+        }
+    }
+
+    /// Comes to the next entry behind all that the path begins, to give it.
+    fn come(&mut self) -> Ahead<'a>
+        requires { IsInPlace self.old }
+        ensures checked { self.new.checked ≡ self.old.checked }
+        ensures placed { IsInPlace self.new }
+        ensures ahead { IsAhead self.new result }
+        ensures untold { told_path result (open_path self.new) ≡ [] }
+        ensures left { ForListing self.old.checked (λ listing. left_by result (open_path self.new) listing ≡ beyond (open_path self.old) listing) }
+    {
+        match self.climb() {
+            Some(leaf) => Ahead::Give(leaf),
+            None => Ahead::Leave,
+        }
+    }
+
+    /// Seeks one part of a path in the bucket that the parts before it name.
+    fn seek_part(
+        &mut self,
+        bucket: Bucket<'a>,
+        part: &[u8],
+        is_last: bool,
+    ) -> Result<Sought<'a>, NoMemory>
+        requires placed { IsInPlace self.old }
+        requires named { IsNamed self.old bucket }
+        ensures checked { OnOk result (self.new.checked ≡ self.old.checked) }
+        ensures placed { OnOk result (IsInPlace self.new) }
+        ensures sought { IfOk result (IsSought self.old self.new part.now is_last) }
+    {
+        let mut cursor = bucket.cursor();
+        let leaf = match cursor.seek_element(part) {
+            Some(leaf) => leaf,
+            None => return Ok(Sought::Here(self.come())),
+        };
+        if let Err(e) = self.push(cursor, leaf.key) {
+            return Err(e);
+        }
+        if part.cmp(leaf.key).is_lt() {
+            return Ok(Sought::Here(Ahead::Give(leaf)));
+        }
+        if is_last {
+            return Ok(Sought::Here(Ahead::Give(leaf)));
+        }
+        if leaf.is_bucket {
+            return Ok(Sought::Inside(Bucket::of(self.checked, &leaf)));
+        }
+        Ok(Sought::Here(self.come()))
+    }
+
+    /// Seeks a path from the root bucket on.
+    pub fn seek(&mut self, root: Bucket<'a>, path: &[&[u8]]) -> Result<Ahead<'a>, NoMemory>
+        requires placed { IsInPlace self.old }
+        requires named { IsNamed self.old root }
+        requires empty { open_path self.old ≡ [] }
+        ensures checked { OnOk result (self.new.checked ≡ self.old.checked) }
+        ensures placed { OnOk result (IsInPlace self.new) }
+        ensures ahead { IfOk result (IsAhead self.new) }
+        ensures untold { IfOk result (λ ahead. told_path ahead (open_path self.new) ≡ []) }
+        ensures left { IfOk result (λ ahead. ForListing self.old.checked (λ listing. left_by ahead (open_path self.new) listing ≡ rest_from (path_of path.now) listing)) }
+    {
+        let mut bucket = root;
+        for (i, part) in path.iter().enumerate() {
+            match self.seek_part(bucket, part, i + 1 == path.len()) {
+                Ok(Sought::Inside(inside)) => bucket = inside,
+                Ok(Sought::Here(ahead)) => return Ok(ahead),
+                Err(e) => return Err(e),
+            }
+        }
+        Ok(Ahead::Enter(bucket))
+    }
+
+    /// Comes to the next entry behind all that the path begins, and closes the buckets that have
+    /// none.
+    pub fn climb(&mut self) -> Option<Leaf<'a>>
+        requires { IsInPlace self.old }
+        ensures checked { self.new.checked ≡ self.old.checked }
+        ensures placed { IsInPlace self.new }
+        ensures on { IfSome result (IsAt self.new) }
+        ensures ended { IfNone result (open_path self.new ≡ []) }
+        ensures left { ForListing self.old.checked (λ listing. MatchOption result (beyond (open_path self.old) listing ≡ [])
+            (λ leaf. beyond (open_path self.old) listing ≡ (open_path self.new, item_of (leaf_view leaf)) ∷ behind (open_path self.new) listing)) }
+    {
+        while let Some(mut cursor) = self.cursors.pop() {
+            let _ = self.path.pop();
+            if let Some(leaf) = cursor.next_element() {
+                self.cursors.push_reserved(cursor);
+                self.path.push_reserved(leaf.key);
+                return Some(leaf);
+            }
+        }
+        None
+    }
+}

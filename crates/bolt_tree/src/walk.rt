@@ -1,0 +1,88 @@
+//! A walk over all that a file holds.
+ghost use Rattle.std.specs.Option.{option_map};
+ghost use Rattle.std.specs.Prelude.{◌≡◌, [], IfOk, OnErr};
+ghost use Rattle.bolt_tree.specs.ShownEntries.{item_view};
+ghost use Rattle.bolt_tree.specs.Listing.{rest_from};
+ghost use Rattle.bolt_tree.specs.OpenBuckets.{IsAhead, IsInPlace};
+
+use crate::bucket::Bucket;
+use crate::entry::Item;
+use crate::no_memory::NoMemory;
+use crate::open_buckets::{Ahead, OpenBuckets};
+use bolt_check::Checked;
+use std::alloc::Global;
+
+/// A walk over all that a file holds, in the order of the paths.
+#[derive(Drop)]
+pub struct Walk<'a> {
+    buckets: OpenBuckets<'a>,
+    ahead: Ahead<'a>,
+    ghost placed: { ∥ IsInPlace buckets × IsAhead buckets ahead ∥₁ },
+}
+
+impl<'a> Walk<'a> {
+    ghost use Rattle.bolt_tree.specs.FileListings.{ForListing};
+    ghost use Rattle.bolt_tree.specs.Paths.{path_of};
+    ghost use Rattle.bolt_tree.specs.Walks.{GivesNext, left_of, walk_checked, walk_path};
+
+    /// A walk that has all of the file before it.
+    #[tactic(auto, unfolding(crate::specs::Walks::left_of, crate::specs::Walks::walk_checked, crate::specs::Walks::walk_path))]
+    pub fn new(alloc: Global, checked: Checked<'a>) -> Walk<'a>
+        ensures checked { walk_checked result ≡ checked.entry }
+        ensures all { ForListing checked.entry (λ listing. left_of result listing ≡ listing) }
+        ensures path { walk_path result ≡ [] }
+    {
+        Walk {
+            buckets: OpenBuckets::new(alloc, checked),
+            ahead: Ahead::Enter(Bucket::root(checked)),
+        }
+    }
+
+    /// A walk that has the rest of the file from a path on before it: all that does not stand
+    /// before that path, which may be in the tree or not.
+    #[tactic(auto, unfolding(crate::specs::Walks::left_of, crate::specs::Walks::walk_checked, crate::specs::Walks::walk_path))]
+    pub fn from(alloc: Global, checked: Checked<'a>, path: &[&[u8]]) -> Result<Walk<'a>, NoMemory>
+        ensures checked { IfOk result (λ walk. walk_checked walk ≡ checked.entry) }
+        ensures rest { IfOk result (λ walk. ForListing checked.entry (λ listing. left_of walk listing ≡ rest_from (path_of path.now) listing)) }
+        ensures path { IfOk result (λ walk. walk_path walk ≡ []) }
+    {
+        let mut buckets = OpenBuckets::new(alloc, checked);
+        match buckets.seek(Bucket::root(checked), path) {
+            Ok(ahead) => Ok(Walk { buckets, ahead }),
+            Err(e) => Err(e),
+        }
+    }
+
+    /// Gives what comes next, or `None` where nothing is left. Where memory runs out, the walk has
+    /// not changed and may be asked again.
+    #[tactic(auto, unfolding(crate::specs::Walks::left_of, crate::specs::Walks::walk_checked, crate::specs::Walks::walk_path))]
+    pub fn next(&mut self) -> Result<Option<Item<'a>>, NoMemory>
+        ensures checked { walk_checked self.new ≡ walk_checked self.old }
+        ensures given { IfOk result (λ given. ForListing (walk_checked self.old) (λ listing. GivesNext (left_of self.old listing) (left_of self.new listing) (walk_path self.new) (option_map item_view given))) }
+        ensures same { OnErr result (ForListing (walk_checked self.old) (λ listing. left_of self.new listing ≡ left_of self.old listing)) }
+        ensures same_path { OnErr result (walk_path self.new ≡ walk_path self.old) }
+    {
+        match self.buckets.advance(self.ahead) {
+            Ok(Some(leaf)) => {
+                self.ahead = self.buckets.after(&leaf);
+                Ok(Some(Item::of(&leaf)))
+            }
+            Ok(None) => {
+                self.ahead = Ahead::Leave;
+                Ok(None)
+            }
+            Err(e) => Err(e),
+        }
+    }
+
+    /// The path of the item given last; empty before the first one and after the last.
+    #[tactic(auto, unfolding(crate::specs::Walks::walk_path))]
+    pub fn path(&self) -> &[&'a [u8]]
+        ensures { path_of result.now ≡ walk_path self.now }
+    {
+        match self.ahead {
+            Ahead::Give(_) => &[],
+            Ahead::Enter(_) | Ahead::Leave => self.buckets.path.as_slice(),
+        }
+    }
+}
