@@ -4,6 +4,7 @@ pub mod Findings
 pub mod Keys
 pub mod Listings
 pub mod Nodes
+pub mod OnWays
 pub mod Pending
 pub mod Search
 pub mod Shape
