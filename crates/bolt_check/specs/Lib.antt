@@ -4,6 +4,7 @@ pub mod CheckedFiles
 pub mod Findings
 pub mod Keys
 pub mod Nodes
+pub mod OnWays
 pub mod Private
 pub mod Shape
 pub mod Sound

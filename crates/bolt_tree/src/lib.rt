@@ -1,14 +1,26 @@
-//! What a database file holds: its buckets, their entries in order, and a walk over all of them.
+//! What a sound file holds: its buckets, a cursor over the entries of one, and a walk over all that
+//! the file holds. A cursor keeps the pages that it has opened on a stack, from the bucket's root
+//! page to a leaf, and opens each page by its pager alone. A walk keeps a cursor for each open
+//! bucket.
 #![tactic(auto)]
 
 mod at;
 mod bucket;
+mod calls;
 mod cursor;
+mod descent;
 mod entry;
+mod halves;
+pub mod laws;
 pub mod listing_laws;
 mod lookup;
+mod moves;
 mod no_memory;
 mod open_buckets;
+mod opened;
+mod pager;
+mod position;
+mod trail;
 mod walk;
 
 pub use at::At;
@@ -16,4 +28,5 @@ pub use bucket::Bucket;
 pub use cursor::Cursor;
 pub use entry::{Entry, Item};
 pub use no_memory::NoMemory;
+pub use pager::Pager;
 pub use walk::Walk;

@@ -1,0 +1,13 @@
+-- The pages that ways lead to: docs/SOUND.md, "Ways".
+use Rattle.std.specs.Prelude.{◌≡◌, ℕ, List, Some}
+use Rattle.bolt_format.specs.declared.meta.Meta.{Meta}
+use Rattle.bolt_check.specs.Nodes.{node_at}
+use Rattle.bolt_check.specs.Ways.{At_page, PageSpot, reached}
+
+-- A way leads to this page, so deep in its bucket.
+pub record IsOnWay (file : List ℕ) (meta : Meta) (number depth : ℕ) : Type 0 where
+  pub way : List ℕ
+  pub spot : PageSpot
+  pub led : reached (node_at file meta) meta.root way ≡ Some (At_page spot)
+  pub is : spot.number ≡ number
+  pub deep : spot.depth ≡ depth

@@ -1,0 +1,44 @@
+-- The way down to the leaf that is nearest to a key.
+use Rattle.std.specs.Prelude.{◌≡◌, ◌+◌, ℕ, Bool, true, false, List, [], ◌∷◌, ◌++◌, Some, length, drop, slice_get}
+use Rattle.bolt_format.specs.Elements.{LeafElement}
+use Rattle.bolt_format.specs.declared.meta.Meta.{Meta}
+use Rattle.bolt_check.specs.Keys.{Key, key_lt}
+use Rattle.bolt_check.specs.OnWays.{IsOnWay}
+use Rattle.bolt_tree.specs.BucketViews.{BucketView}
+use Rattle.bolt_tree.specs.Contents.{Content, Contents, Of_leaf, content_at}
+use Rattle.bolt_tree.specs.Entries.{Inline_page, Root_page, Start}
+use Rattle.bolt_tree.specs.Openings.{IsNear, IsNearFrom}
+use Rattle.bolt_tree.specs.Places.{least_from}
+use Rattle.bolt_tree.specs.Stacks.{Frame, address_on, left_of, right_of}
+use Rattle.bolt_tree.specs.Tours.{elements_of}
+
+-- every element of a list has a key below this one, or none has
+abbrev pub AreBelow : Bool → Key → List LeafElement → Type 0
+AreBelow below key elements = (k : ℕ) (e : LeafElement) → slice_get elements k ≡ Some e → key_lt e.key key ≡ below
+
+-- A key stands between what lies left of a stack and what lies right of it.
+pub record IsBetween (contents : Contents) (key : Key) (frames : List Frame) : Type 0 where
+  pub left : AreBelow true key (elements_of (left_of contents frames))
+  pub right : AreBelow false key (elements_of (right_of contents frames))
+
+-- from a page that shows this, at this address, the way to the nearest leaf goes on
+abbrev pub IsNearTo : List ℕ → Meta → Start → Key → List ℕ → Content → Type 0
+IsNearTo file meta (Root_page root) key address content = (number : ℕ) × (depth : ℕ) × IsOnWay file meta number depth × (content_at file meta number ≡ content)
+    × ((rest : List ℕ) → IsNearFrom file meta number key rest → IsNearFrom file meta root key (address ++ rest))
+IsNearTo file meta (Inline_page elements) key address content = (address ≡ []) × (Of_leaf elements ≡ content)
+
+abbrev pub IsOnWayDown : BucketView → Key → List Frame → Content → Type 0
+IsOnWayDown b key frames content = ∥ IsNearTo b.file b.meta b.start key (address_on frames) content ∥₁
+
+-- the address of the page on top
+abbrev pub top_address : List Frame → List ℕ
+top_address [] = []
+top_address (frame ∷ below) = address_on below
+
+abbrev pub IsNearTop : BucketView → Key → List Frame → Type 0
+IsNearTop b key frames = ∥ IsNear b.file b.meta b.start key (top_address frames) ∥₁
+
+-- What is ahead is what begins with the least entry whose key is not below this one.
+pub record IsSought (elements : List LeafElement) (key : Key) (after : List LeafElement) : Type 0 where
+  pub number : least_from key elements + length after ≡ length elements
+  pub rest : drop (least_from key elements) elements ≡ after

@@ -1,0 +1,136 @@
+-- The stack of a cursor: what lies to its left and to its right among the pages of the bucket. Stacks have their top first.
+use Rattle.std.specs.Prelude.{◌≡◌, ◌≤◌, ℕ, suc, ◌+◌, ◌-◌, List, [], ◌∷◌, ◌++◌, drop, take, length, Some, slice_get}
+use Rattle.bolt_format.specs.Elements.{BranchElement, LeafElement}
+use Rattle.bolt_check.specs.OnWays.{IsOnWay}
+use Rattle.bolt_tree.specs.BucketViews.{BucketView, IsSoundBucket, contents_in, pages_in}
+use Rattle.bolt_tree.specs.Contents.{Content, Contents, Of_branch, Of_leaf, content_length}
+use Rattle.bolt_tree.specs.Tours.{Visit, all_under, elements_of, tour}
+
+-- A page on the stack, and how many of its elements are taken.
+pub record Frame : Type 0 where
+  pub content : Content
+  pub taken : ℕ
+
+-- the address of the page that stands on a stack
+abbrev pub address_on : List Frame → List ℕ
+address_on [] = []
+address_on (frame ∷ below) = address_on below ++ (frame.taken - 1) ∷ []
+
+-- what lies under the elements of a branch, at this height and address
+abbrev pub under_at : Contents → ℕ → List ℕ → ℕ → List BranchElement → List Visit
+under_at contents height address i elements = all_under (λ i child. tour contents (62 - height) (address ++ i ∷ []) (contents child)) i elements
+
+-- the pages to the right of what is taken, one level after another
+abbrev pub right_under : Contents → ℕ → List ℕ → Content → ℕ → List Visit
+right_under contents height address (Of_leaf elements) taken = []
+right_under contents height address (Of_branch elements) taken = under_at contents height address taken (drop taken elements)
+
+abbrev pub right_of : Contents → List Frame → List Visit
+right_of contents [] = []
+right_of contents (frame ∷ below) = right_under contents (length below) (address_on below) frame.content frame.taken ++ right_of contents below
+
+-- the pages to the left of the page that stands on a stack: those on the stack, and those under what was taken before
+abbrev pub left_under : Contents → ℕ → List ℕ → Content → ℕ → List Visit
+left_under contents height address (Of_leaf elements) taken = []
+left_under contents height address (Of_branch elements) taken = record { address = address; entries = [] } ∷ under_at contents height address 0 (take taken elements)
+
+abbrev pub left_of : Contents → List Frame → List Visit
+left_of contents [] = []
+left_of contents (frame ∷ below) = left_of contents below ++ left_under contents (length below) (address_on below) frame.content (frame.taken - 1)
+
+-- the entries of the page on top that are not taken
+abbrev pub here_under : Content → ℕ → List LeafElement
+here_under (Of_leaf elements) taken = drop taken elements
+here_under (Of_branch elements) taken = []
+
+abbrev pub here_of : List Frame → List LeafElement
+here_of [] = []
+here_of (frame ∷ below) = here_under frame.content frame.taken
+
+-- the entries that lie ahead
+abbrev pub ahead_of : Contents → List Frame → List LeafElement
+ahead_of contents frames = here_of frames ++ elements_of (right_of contents frames)
+
+-- the pages to the left of what is taken that are not on the stack
+abbrev pub before_under : Contents → ℕ → List ℕ → Content → ℕ → List Visit
+before_under contents height address (Of_leaf elements) taken = []
+before_under contents height address (Of_branch elements) taken = under_at contents height address 0 (take taken elements)
+
+abbrev pub before_of : Contents → List Frame → List Visit
+before_of contents [] = []
+before_of contents (frame ∷ below) = before_of contents below ++ before_under contents (length below) (address_on below) frame.content (frame.taken - 1)
+
+-- the entries of the page on top before the last one that is taken
+abbrev pub done_under : Content → ℕ → List LeafElement
+done_under (Of_leaf elements) taken = take (taken - 1) elements
+done_under (Of_branch elements) taken = []
+
+abbrev pub done_of : List Frame → List LeafElement
+done_of [] = []
+done_of (frame ∷ below) = done_under frame.content frame.taken
+
+-- the entries that lie behind
+abbrev pub behind_of : Contents → List Frame → List LeafElement
+behind_of contents frames = elements_of (before_of contents frames) ++ done_of frames
+
+-- a branch is the page of a way, so deep
+abbrev pub IsGoodContent : BucketView → ℕ → Content → Type 0
+IsGoodContent b depth (Of_leaf elements) = Unit {0}
+IsGoodContent b depth (Of_branch elements) = (number : ℕ) × IsOnWay b.file b.meta number depth × (contents_in b number ≡ Of_branch elements)
+
+abbrev pub IsBranchContent : Content → Type 0
+IsBranchContent (Of_leaf elements) = ⊥
+IsBranchContent (Of_branch elements) = Unit {0}
+
+abbrev pub IsBranchTop : List Frame → Type 0
+IsBranchTop [] = Unit {0}
+IsBranchTop (frame ∷ below) = IsBranchContent frame.content
+
+-- A page stands on a stack where its tour lies between what is left and right of it.
+pub record IsOver (b : BucketView) (frame : Frame) (below : List Frame) : Type 0 where
+  pub shallow : suc (length below) ≤ 64
+  pub good : IsGoodContent b (suc (length below)) frame.content
+  pub bound : frame.taken ≤ suc (content_length frame.content)
+  pub branch : IsBranchTop below
+  pub placed : pages_in b ≡ left_of (contents_in b) below
+      ++ (tour (contents_in b) (63 - length below) (address_on below) frame.content ++ right_of (contents_in b) below)
+
+abbrev pub IsStack : BucketView → List Frame → Type 0
+IsStack b [] = Unit {0}
+IsStack b (frame ∷ below) = IsOver b frame below × IsStack b below
+
+-- the frames are a stack of a bucket of a sound tree
+abbrev pub HasStack : BucketView → List Frame → Type 0
+HasStack b frames = ∥ IsSoundBucket b × IsStack b frames ∥₁
+
+-- the number of the entry on which a stack stands
+abbrev pub index_of : Contents → List Frame → ℕ
+index_of contents [] = 0
+index_of contents (frame ∷ below) = length (elements_of (left_of contents below)) + (frame.taken - 1)
+
+-- a cursor rests on an entry of a leaf, or nowhere
+abbrev pub RestsOn : Content → ℕ → Type 0
+RestsOn (Of_leaf elements) taken = (1 ≤ taken) × (taken ≤ length elements)
+RestsOn (Of_branch elements) taken = ⊥
+
+abbrev pub IsAtRest : List Frame → Type 0
+IsAtRest [] = Unit {0}
+IsAtRest (frame ∷ below) = RestsOn frame.content frame.taken
+
+-- the leaf on top stands on this entry
+abbrev pub StandsOn : Content → ℕ → LeafElement → Type 0
+StandsOn (Of_leaf elements) taken e = (1 ≤ taken) × (slice_get elements (taken - 1) ≡ Some e)
+StandsOn (Of_branch elements) taken e = ⊥
+
+abbrev pub IsOn : List Frame → LeafElement → Type 0
+IsOn [] e = ⊥
+IsOn (frame ∷ below) e = StandsOn frame.content frame.taken e
+
+-- a leaf is on top
+abbrev pub IsLeafContent : Content → Type 0
+IsLeafContent (Of_leaf elements) = Unit {0}
+IsLeafContent (Of_branch elements) = ⊥
+
+abbrev pub IsLeafTop : List Frame → Type 0
+IsLeafTop [] = ⊥
+IsLeafTop (frame ∷ below) = IsLeafContent frame.content

@@ -1,0 +1,49 @@
+-- What a trail shows: its bucket, and its stack with the top first.
+use Rattle.std.specs.Prelude.{◌≡◌, List, map, reverse}
+use Rattle.bolt_format.specs.Elements.{LeafElement}
+use Rattle.bolt_tree.specs.BucketViews.{BucketView, IsSoundBucket, bucket_in, contents_in}
+use Rattle.bolt_tree.specs.Pagers.{pager_checked}
+use Rattle.bolt_tree.specs.ShownPages.{opened_content}
+use Rattle.bolt_tree.specs.Stacks.{Frame, HasStack, ahead_of, before_of, behind_of, right_of}
+use Rattle.bolt_tree.specs.Starts.{start_at}
+use Rattle.bolt_tree.specs.Tours.{Visit}
+use Rattle.bolt_tree.specs.declared.position.Position.{Position}
+use Rattle.bolt_tree.specs.declared.trail.Trail.{Trail}
+
+abbrev pub frame_of : Position → Frame
+frame_of position = record { content = opened_content position.page; taken = position.taken }
+
+abbrev pub frames_of : List Position → List Frame
+frames_of positions = map frame_of (reverse positions)
+
+abbrev pub trail_bucket : Trail → BucketView
+trail_bucket trail = bucket_in (pager_checked trail.pager) (start_at trail.at)
+
+abbrev pub trail_frames : Trail → List Frame
+trail_frames trail = frames_of trail.stack.items
+
+-- it is over a bucket of a sound tree, and its stack is one of that bucket
+abbrev pub HasBucket : Trail → Type 0
+HasBucket trail = ∥ IsSoundBucket (trail_bucket trail) ∥₁
+
+abbrev pub HasTrail : Trail → Type 0
+HasTrail trail = HasStack (trail_bucket trail) (trail_frames trail)
+
+-- still over the same bucket of the same file
+pub record IsSameBucket (old new : Trail) : Type 0 where
+  pub file : pager_checked new.pager ≡ pager_checked old.pager
+  pub at : new.at ≡ old.at
+
+-- the entries ahead of the stack, and the pages to its right
+abbrev pub ahead : Trail → List LeafElement
+ahead trail = ahead_of (contents_in (trail_bucket trail)) (trail_frames trail)
+
+abbrev pub right : Trail → List Visit
+right trail = right_of (contents_in (trail_bucket trail)) (trail_frames trail)
+
+-- the entries behind the stack, and the pages to its left
+abbrev pub behind : Trail → List LeafElement
+behind trail = behind_of (contents_in (trail_bucket trail)) (trail_frames trail)
+
+abbrev pub before : Trail → List Visit
+before trail = before_of (contents_in (trail_bucket trail)) (trail_frames trail)

@@ -1,0 +1,165 @@
+//! A cursor over the entries of a bucket.
+ghost use Rattle.std.specs.Prelude.{◌≡◌, IsTrue, IfSome};
+ghost use Rattle.std.specs.Option.{option_map};
+ghost use Rattle.bolt_format.specs.ElementPlaces.{leaf_view};
+ghost use Rattle.bolt_format.specs.Elements.{IsBucketValue};
+ghost use Rattle.bolt_tree.specs.BucketViews.{entries_of};
+ghost use Rattle.bolt_tree.specs.CursorBounds.{OpensByNext, OpensGap, OpensSeek, SeeksInBounds};
+ghost use Rattle.bolt_tree.specs.Held.{IsHeld};
+ghost use Rattle.bolt_tree.specs.Pagers.{pager_checked, pager_opened};
+ghost use Rattle.bolt_tree.specs.Places.{Fresh, Moves, first_move, last_move, next_move, prev_move, seek_move};
+ghost use Rattle.bolt_tree.specs.Starts.{HasStart, start_at};
+
+use crate::at::At;
+use crate::pager::Pager;
+use crate::position::Stack;
+use crate::trail::Trail;
+use bolt_format::Leaf;
+
+/// A cursor over the entries of a bucket, in byte order of their keys. It stands before the first
+/// call, on an entry, or past the last one (docs/TREE.md, "Places"). None of its calls takes
+/// memory.
+#[derive(Drop)]
+pub struct Cursor<'a> {
+    trail: Trail<'a>,
+    is_past: bool,
+    compared: u64,
+    ghost held: { ∥ IsHeld trail is_past ∥₁ },
+}
+
+impl<'a> Cursor<'a> {
+    ghost use Rattle.bolt_tree.specs.Cursors.{cursor_bucket, cursor_checked, cursor_compared, cursor_opened, cursor_place, cursor_start};
+
+    /// A cursor before the first call, over a bucket of the pager's file. It reaches pages with a
+    /// number by its pager alone.
+    #[tactic(auto, unfolding(crate::specs::Cursors::cursor_checked, crate::specs::Cursors::cursor_compared, crate::specs::Cursors::cursor_opened, crate::specs::Cursors::cursor_place, crate::specs::Cursors::cursor_start))]
+    pub fn new(pager: Pager<'a>, at: At<'a>) -> Cursor<'a>
+        requires { HasStart (pager_checked pager) (start_at at) }
+        ensures checked { cursor_checked result ≡ pager_checked pager.entry }
+        ensures start { cursor_start result ≡ start_at at.entry }
+        ensures place { cursor_place result ≡ Fresh }
+        ensures opened { cursor_opened result ≡ pager_opened pager.entry }
+        ensures compared { cursor_compared result ≡ 0 }
+    {
+        let trail = Trail {
+            pager,
+            at,
+            stack: Stack::new(),
+        };
+        Cursor {
+            trail,
+            is_past: false,
+            compared: 0,
+        }
+    }
+
+    /// How many pages its pager has opened.
+    #[tactic(auto, unfolding(crate::specs::Cursors::cursor_opened))]
+    pub fn opened(&self) -> u64
+        ensures { result ≡ cursor_opened self.now }
+    {
+        self.trail.pager.opened()
+    }
+
+    /// How many keys were compared from the last `first`, `last` or `seek` on, that call
+    /// included.
+    #[tactic(auto, unfolding(crate::specs::Cursors::cursor_compared))]
+    pub fn compared(&self) -> u64
+        ensures { result ≡ cursor_compared self.now }
+    {
+        self.compared
+    }
+
+    /// Moves to the first entry, and answers its element.
+    #[tactic(auto, unfolding(crate::specs::Cursors::cursor_checked, crate::specs::Cursors::cursor_compared, crate::specs::Cursors::cursor_opened, crate::specs::Cursors::cursor_place, crate::specs::Cursors::cursor_start))]
+    pub(crate) fn first_element(&mut self) -> Option<Leaf<'a>>
+        ensures checked { cursor_checked self.new ≡ cursor_checked self.old }
+        ensures start { cursor_start self.new ≡ cursor_start self.old }
+        ensures moves { Moves (entries_of (cursor_checked self.old)) (cursor_start self.old) (λ entries place. first_move entries) (cursor_place self.old) (cursor_place self.new) (option_map leaf_view result) }
+        ensures opens { OpensGap (cursor_bucket self.old) 0 (cursor_opened self.old) (cursor_opened self.new) }
+        ensures compared { cursor_compared self.new ≡ 0 }
+        ensures bucket { IfSome result (λ leaf. IsTrue leaf.is_bucket → IsBucketValue leaf.value.now) }
+    {
+        self.compared = 0;
+        self.is_past = false;
+        self.trail.first()
+    }
+
+    /// Moves to the last entry, and answers its element.
+    #[tactic(auto, unfolding(crate::specs::Cursors::cursor_checked, crate::specs::Cursors::cursor_compared, crate::specs::Cursors::cursor_opened, crate::specs::Cursors::cursor_place, crate::specs::Cursors::cursor_start))]
+    pub(crate) fn last_element(&mut self) -> Option<Leaf<'a>>
+        ensures checked { cursor_checked self.new ≡ cursor_checked self.old }
+        ensures start { cursor_start self.new ≡ cursor_start self.old }
+        ensures moves { Moves (entries_of (cursor_checked self.old)) (cursor_start self.old) (λ entries place. last_move entries) (cursor_place self.old) (cursor_place self.new) (option_map leaf_view result) }
+        ensures compared { cursor_compared self.new ≡ 0 }
+        ensures bucket { IfSome result (λ leaf. IsTrue leaf.is_bucket → IsBucketValue leaf.value.now) }
+    {
+        self.compared = 0;
+        self.is_past = false;
+        self.trail.last()
+    }
+
+    /// Moves to the next entry, and answers its element. It stays where it is if there is none.
+    #[tactic(auto, unfolding(crate::specs::Cursors::cursor_checked, crate::specs::Cursors::cursor_compared, crate::specs::Cursors::cursor_opened, crate::specs::Cursors::cursor_place, crate::specs::Cursors::cursor_start))]
+    pub(crate) fn next_element(&mut self) -> Option<Leaf<'a>>
+        ensures checked { cursor_checked self.new ≡ cursor_checked self.old }
+        ensures start { cursor_start self.new ≡ cursor_start self.old }
+        ensures moves { Moves (entries_of (cursor_checked self.old)) (cursor_start self.old) next_move (cursor_place self.old) (cursor_place self.new) (option_map leaf_view result) }
+        ensures opens { OpensByNext (cursor_bucket self.old) (cursor_place self.old) (cursor_opened self.old) (cursor_opened self.new) }
+        ensures compared { cursor_compared self.new ≡ cursor_compared self.old }
+        ensures bucket { IfSome result (λ leaf. IsTrue leaf.is_bucket → IsBucketValue leaf.value.now) }
+    {
+        if self.is_past {
+            return None;
+        }
+        if self.trail.stack.is_empty() {
+            let compared = self.compared;
+            let found = self.first_element();
+            self.compared = compared;
+            return found;
+        }
+        self.trail.next()
+    }
+
+    /// Moves to the entry before, and answers its element. It stays where it is if there is none.
+    #[tactic(auto, unfolding(crate::specs::Cursors::cursor_checked, crate::specs::Cursors::cursor_compared, crate::specs::Cursors::cursor_opened, crate::specs::Cursors::cursor_place, crate::specs::Cursors::cursor_start))]
+    pub(crate) fn prev_element(&mut self) -> Option<Leaf<'a>>
+        ensures checked { cursor_checked self.new ≡ cursor_checked self.old }
+        ensures start { cursor_start self.new ≡ cursor_start self.old }
+        ensures moves { Moves (entries_of (cursor_checked self.old)) (cursor_start self.old) prev_move (cursor_place self.old) (cursor_place self.new) (option_map leaf_view result) }
+        ensures compared { cursor_compared self.new ≡ cursor_compared self.old }
+        ensures bucket { IfSome result (λ leaf. IsTrue leaf.is_bucket → IsBucketValue leaf.value.now) }
+    {
+        if self.trail.stack.is_empty() {
+            let compared = self.compared;
+            let found = self.last_element();
+            self.compared = compared;
+            return found;
+        }
+        self.trail.prev()
+    }
+
+    /// Moves to the first entry whose key is not below `key`, and answers its element, or moves
+    /// past the last entry.
+    #[tactic(auto, unfolding(crate::specs::Cursors::cursor_checked, crate::specs::Cursors::cursor_compared, crate::specs::Cursors::cursor_opened, crate::specs::Cursors::cursor_place, crate::specs::Cursors::cursor_start))]
+    pub(crate) fn seek_element(&mut self, key: &[u8]) -> Option<Leaf<'a>>
+        ensures checked { cursor_checked self.new ≡ cursor_checked self.old }
+        ensures start { cursor_start self.new ≡ cursor_start self.old }
+        ensures moves { Moves (entries_of (cursor_checked self.old)) (cursor_start self.old) (λ entries place. seek_move key.now entries) (cursor_place self.old) (cursor_place self.new) (option_map leaf_view result) }
+        ensures opens { OpensSeek (cursor_bucket self.old) key.now (cursor_opened self.old) (cursor_opened self.new) }
+        ensures compared { SeeksInBounds (cursor_bucket self.old) key.now (cursor_compared self.new) }
+        ensures bucket { IfSome result (λ leaf. IsTrue leaf.is_bucket → IsBucketValue leaf.value.now) }
+    {
+        self.is_past = false;
+        let sought = self.trail.seek(key);
+        self.compared = sought.compared;
+        let found = sought.found;
+        match found {
+            Some(leaf) => Some(leaf),
+            None => {
+                self.is_past = true;
+                None
+            }
+        }
+    }
+}

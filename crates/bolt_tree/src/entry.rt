@@ -1,0 +1,55 @@
+//! What a cursor answers.
+ghost use Rattle.std.specs.Prelude.{◌≡◌, IsTrue};
+ghost use Rattle.bolt_format.specs.ElementPlaces.{leaf_view};
+ghost use Rattle.bolt_format.specs.Elements.{IsBucketValue};
+ghost use Rattle.bolt_tree.specs.Entries.{entry_view, item_of};
+
+use bolt_format::{Leaf, head};
+
+/// What stands under a key: a value, or a bucket with its sequence.
+#[derive(Clone, Copy, Debug, PartialEq, Eq)]
+pub enum Item<'a> {
+    Value(&'a [u8]),
+    Bucket { sequence: u64 },
+}
+
+/// An entry of a bucket.
+#[derive(Clone, Copy, Debug, PartialEq, Eq)]
+pub struct Entry<'a> {
+    pub key: &'a [u8],
+    pub item: Item<'a>,
+}
+
+impl<'a> Item<'a> {
+    ghost use Rattle.bolt_tree.specs.ShownEntries.{item_view};
+
+    /// What stands under the key of a leaf element.
+    pub(crate) fn of(leaf: &Leaf<'a>) -> Item<'a>
+        requires { IsTrue leaf.now.is_bucket → IsBucketValue leaf.now.value.now }
+        ensures { item_view result ≡ item_of (leaf_view leaf.now) }
+    {
+        if leaf.is_bucket {
+            let head = head(leaf.value);
+            Item::Bucket {
+                sequence: head.sequence,
+            }
+        } else {
+            Item::Value(leaf.value)
+        }
+    }
+}
+
+impl<'a> Entry<'a> {
+    ghost use Rattle.bolt_tree.specs.ShownEntries.{shown_entry};
+
+    /// The entry that a leaf element is.
+    pub(crate) fn of(leaf: &Leaf<'a>) -> Entry<'a>
+        requires { IsTrue leaf.now.is_bucket → IsBucketValue leaf.now.value.now }
+        ensures { shown_entry result ≡ entry_view (leaf_view leaf.now) }
+    {
+        Entry {
+            key: leaf.key,
+            item: Item::of(leaf),
+        }
+    }
+}

@@ -1,0 +1,52 @@
+//! The search of a page by halves.
+ghost use Rattle.std.specs.Prelude.{◌≡◌, ◌≤◌};
+ghost use Rattle.bolt_check.specs.Keys.{KeysRise};
+ghost use Rattle.bolt_tree.specs.PageKeys.{IsPlaceOf, stands_before};
+ghost use Rattle.bolt_tree.specs.ShownPages.{opened_content};
+ghost use Rattle.bolt_tree.specs.Contents.{content_keys, content_length};
+
+use crate::opened::Opened;
+
+/// Where a search has come to, and how many keys it has compared.
+#[derive(Clone, Copy)]
+pub(crate) struct Found {
+    pub before: u16,
+    pub compared: u64,
+}
+
+/// Whether a key stands before the place that is sought: it is below the key, or equal to it where
+/// that is asked.
+fn is_before(key: &[u8], sought: &[u8], or_equal: bool) -> bool
+    ensures { result ≡ stands_before or_equal key.now sought.now }
+{
+    if or_equal {
+        !sought.cmp(key).is_lt()
+    } else {
+        key.cmp(sought).is_lt()
+    }
+}
+
+/// How many keys of a page are below a key, or not above it. It compares at most 16 keys.
+pub(crate) fn keys_before(page: &Opened<'_>, sought: &[u8], or_equal: bool) -> Found
+    requires { KeysRise (content_keys (opened_content page.now)) }
+    ensures within { result.before ≤ content_length (opened_content page.now) }
+    ensures place { IsPlaceOf (content_keys (opened_content page.now)) or_equal sought.now result.before }
+    ensures few { result.compared ≤ 16 }
+{
+    let mut from = 0;
+    let mut to = page.count();
+    let mut compared = 0;
+    while from < to {
+        let middle = from + (to - from) / 2;
+        compared += 1;
+        if is_before(page.key(middle), sought, or_equal) {
+            from = middle + 1;
+        } else {
+            to = middle;
+        }
+    }
+    Found {
+        before: from,
+        compared,
+    }
+}

@@ -1,0 +1,198 @@
+//! The moves of a trail, from entry to entry.
+ghost use Rattle.std.specs.Prelude.{◌≡◌, ◌∷◌, ◌++◌, [], ◌≤◌, ◌-◌, IsTrue, IfSome, MatchOption, drop, length};
+ghost use Rattle.std.specs.Option.{option_map};
+ghost use Rattle.bolt_format.specs.ElementPlaces.{leaf_view};
+ghost use Rattle.bolt_format.specs.Elements.{IsBucketValue};
+ghost use Rattle.bolt_tree.specs.BucketViews.{elements_in, pages_in};
+ghost use Rattle.bolt_tree.specs.CursorBounds.{OpensSeek, SeeksInBounds};
+ghost use Rattle.bolt_tree.specs.Entered.{opened_to};
+ghost use Rattle.bolt_tree.specs.Pagers.{counted, pager_opened};
+ghost use Rattle.bolt_tree.specs.Places.{least_from};
+ghost use Rattle.bolt_tree.specs.Stacks.{IsAtRest, IsOn};
+
+use crate::position::copy_of;
+use crate::trail::Trail;
+use bolt_format::Leaf;
+
+/// What a search found, and how many keys it compared.
+#[derive(Clone, Copy)]
+pub(crate) struct Sought<'a> {
+    pub found: Option<Leaf<'a>>,
+    pub compared: u64,
+}
+
+impl<'a> Trail<'a> {
+    ghost use Rattle.bolt_tree.specs.Trails.{HasBucket, HasTrail, IsSameBucket, ahead, behind, right, trail_bucket, trail_frames};
+
+    /// Stands on the first entry, or where there is none, before the first call.
+    pub fn first(&mut self) -> Option<Leaf<'a>>
+        requires { HasBucket self.old }
+        ensures same { IsSameBucket self.old self.new }
+        ensures stack { HasTrail self.new }
+        ensures rest { IsAtRest (trail_frames self.new) }
+        ensures found { MatchOption result ((elements_in (trail_bucket self.old) ≡ []) × (trail_frames self.new ≡ []))
+            (λ leaf. (elements_in (trail_bucket self.old) ≡ leaf_view leaf ∷ ahead self.new) × IsOn (trail_frames self.new) (leaf_view leaf)) }
+        ensures bucket { IfSome result (λ leaf. IsTrue leaf.is_bucket → IsBucketValue leaf.value.now) }
+        ensures opened { pager_opened self.new.pager ≡ counted (pager_opened self.old.pager) (length (pages_in (trail_bucket self.old)) - length (right self.new)) }
+    {
+        self.begin(false);
+        self.advance()
+    }
+
+    /// Stands on the last entry, or where there is none, before the first call.
+    pub fn last(&mut self) -> Option<Leaf<'a>>
+        requires { HasBucket self.old }
+        ensures same { IsSameBucket self.old self.new }
+        ensures stack { HasTrail self.new }
+        ensures rest { IsAtRest (trail_frames self.new) }
+        ensures found { MatchOption result ((elements_in (trail_bucket self.old) ≡ []) × (trail_frames self.new ≡ []))
+            (λ leaf. (elements_in (trail_bucket self.old) ≡ behind self.new ++ leaf_view leaf ∷ []) × IsOn (trail_frames self.new) (leaf_view leaf)) }
+        ensures bucket { IfSome result (λ leaf. IsTrue leaf.is_bucket → IsBucketValue leaf.value.now) }
+    {
+        self.begin(true);
+        self.retreat()
+    }
+
+    /// Moves on to the next entry. Where there is none, it stays.
+    pub fn next(&mut self) -> Option<Leaf<'a>>
+        requires stack { HasTrail self.old }
+        requires rest { IsAtRest (trail_frames self.old) }
+        ensures same { IsSameBucket self.old self.new }
+        ensures stack { HasTrail self.new }
+        ensures rest { IsAtRest (trail_frames self.new) }
+        ensures found { MatchOption result ((ahead self.old ≡ []) × (trail_frames self.new ≡ trail_frames self.old))
+            (λ leaf. (ahead self.old ≡ leaf_view leaf ∷ ahead self.new) × IsOn (trail_frames self.new) (leaf_view leaf)) }
+        ensures bucket { IfSome result (λ leaf. IsTrue leaf.is_bucket → IsBucketValue leaf.value.now) }
+        ensures opened { pager_opened self.new.pager ≡ counted (pager_opened self.old.pager) (length (right self.old) - opened_to (option_map leaf_view result) (right self.new)) }
+    {
+        match self.next_here() {
+            Some(leaf) => Some(leaf),
+            None => self.next_further(),
+        }
+    }
+
+    /// Moves back to the entry before. Where there is none, it stays.
+    pub fn prev(&mut self) -> Option<Leaf<'a>>
+        requires stack { HasTrail self.old }
+        requires rest { IsAtRest (trail_frames self.old) }
+        ensures same { IsSameBucket self.old self.new }
+        ensures stack { HasTrail self.new }
+        ensures rest { IsAtRest (trail_frames self.new) }
+        ensures found { MatchOption result ((behind self.old ≡ []) × (trail_frames self.new ≡ trail_frames self.old))
+            (λ leaf. (behind self.old ≡ behind self.new ++ leaf_view leaf ∷ []) × IsOn (trail_frames self.new) (leaf_view leaf)) }
+        ensures bucket { IfSome result (λ leaf. IsTrue leaf.is_bucket → IsBucketValue leaf.value.now) }
+    {
+        match self.prev_here() {
+            Some(leaf) => Some(leaf),
+            None => self.prev_further(),
+        }
+    }
+
+    /// Stands on the first entry whose key is not below `key`. Where there is none, the stack is
+    /// empty.
+    pub fn seek(&mut self, key: &[u8]) -> Sought<'a>
+        requires { HasBucket self.old }
+        ensures same { IsSameBucket self.old self.new }
+        ensures stack { HasTrail self.new }
+        ensures rest { IsAtRest (trail_frames self.new) }
+        ensures found { MatchOption result.found ((drop (least_from key.now (elements_in (trail_bucket self.old))) (elements_in (trail_bucket self.old)) ≡ []) × (trail_frames self.new ≡ []))
+            (λ leaf. (drop (least_from key.now (elements_in (trail_bucket self.old))) (elements_in (trail_bucket self.old)) ≡ leaf_view leaf ∷ ahead self.new) × IsOn (trail_frames self.new) (leaf_view leaf)) }
+        ensures number { least_from key.now (elements_in (trail_bucket self.old)) ≤ length (elements_in (trail_bucket self.old)) }
+        ensures bucket { IfSome result.found (λ leaf. IsTrue leaf.is_bucket → IsBucketValue leaf.value.now) }
+        ensures opened { OpensSeek (trail_bucket self.old) key.now (pager_opened self.old.pager) (pager_opened self.new.pager) }
+        ensures compared { SeeksInBounds (trail_bucket self.old) key.now result.compared }
+    {
+        let root = self.open_root();
+        let compared = self.descend(root, key);
+        let found = self.advance();
+        Sought { found, compared }
+    }
+
+    /// Moves on to the next entry where it is in the same leaf. Otherwise it stays.
+    fn next_here(&mut self) -> Option<Leaf<'a>>
+        requires stack { HasTrail self.old }
+        requires rest { IsAtRest (trail_frames self.old) }
+        ensures same { IsSameBucket self.old self.new }
+        ensures stack { HasTrail self.new }
+        ensures found { MatchOption result (trail_frames self.new ≡ trail_frames self.old)
+            (λ leaf. (ahead self.old ≡ leaf_view leaf ∷ ahead self.new) × IsOn (trail_frames self.new) (leaf_view leaf) × (right self.old ≡ right self.new)) }
+        ensures bucket { IfSome result (λ leaf. IsTrue leaf.is_bucket → IsBucketValue leaf.value.now) }
+        ensures opened { pager_opened self.new.pager ≡ pager_opened self.old.pager }
+    {
+        let top = match self.stack.pop() {
+            Some(top) => top,
+            None => return None,
+        };
+        if top.taken < u32::from(top.page.count()) {
+            return self.enter(top.page, top.taken as u16, false);
+        }
+        self.stack.push(top);
+        None
+    }
+
+    /// Moves back to the entry before where it is in the same leaf. Otherwise it stays.
+    fn prev_here(&mut self) -> Option<Leaf<'a>>
+        requires stack { HasTrail self.old }
+        requires rest { IsAtRest (trail_frames self.old) }
+        ensures same { IsSameBucket self.old self.new }
+        ensures stack { HasTrail self.new }
+        ensures found { MatchOption result (trail_frames self.new ≡ trail_frames self.old)
+            (λ leaf. (behind self.old ≡ behind self.new ++ leaf_view leaf ∷ []) × IsOn (trail_frames self.new) (leaf_view leaf)) }
+        ensures bucket { IfSome result (λ leaf. IsTrue leaf.is_bucket → IsBucketValue leaf.value.now) }
+    {
+        let top = match self.stack.pop() {
+            Some(top) => top,
+            None => return None,
+        };
+        if top.taken > 1 {
+            return self.enter(top.page, (top.taken - 2) as u16, true);
+        }
+        self.stack.push(top);
+        None
+    }
+
+    /// Moves on to the next entry, over the leaf's end. Where there is none, it puts its stack
+    /// back as it was.
+    fn next_further(&mut self) -> Option<Leaf<'a>>
+        requires stack { HasTrail self.old }
+        requires rest { IsAtRest (trail_frames self.old) }
+        ensures same { IsSameBucket self.old self.new }
+        ensures stack { HasTrail self.new }
+        ensures rest { IsAtRest (trail_frames self.new) }
+        ensures found { MatchOption result ((ahead self.old ≡ []) × (trail_frames self.new ≡ trail_frames self.old))
+            (λ leaf. (ahead self.old ≡ leaf_view leaf ∷ ahead self.new) × IsOn (trail_frames self.new) (leaf_view leaf)) }
+        ensures bucket { IfSome result (λ leaf. IsTrue leaf.is_bucket → IsBucketValue leaf.value.now) }
+        ensures opened { pager_opened self.new.pager ≡ counted (pager_opened self.old.pager) (length (right self.old) - opened_to (option_map leaf_view result) (right self.new)) }
+    {
+        let kept = copy_of(&self.stack);
+        match self.advance() {
+            Some(leaf) => Some(leaf),
+            None => {
+                self.stack = kept;
+                None
+            }
+        }
+    }
+
+    /// Moves back to the entry before, over the leaf's beginning. Where there is none, it puts its
+    /// stack back as it was.
+    fn prev_further(&mut self) -> Option<Leaf<'a>>
+        requires stack { HasTrail self.old }
+        requires rest { IsAtRest (trail_frames self.old) }
+        ensures same { IsSameBucket self.old self.new }
+        ensures stack { HasTrail self.new }
+        ensures rest { IsAtRest (trail_frames self.new) }
+        ensures found { MatchOption result ((behind self.old ≡ []) × (trail_frames self.new ≡ trail_frames self.old))
+            (λ leaf. (behind self.old ≡ behind self.new ++ leaf_view leaf ∷ []) × IsOn (trail_frames self.new) (leaf_view leaf)) }
+        ensures bucket { IfSome result (λ leaf. IsTrue leaf.is_bucket → IsBucketValue leaf.value.now) }
+    {
+        let kept = copy_of(&self.stack);
+        match self.retreat() {
+            Some(leaf) => Some(leaf),
+            None => {
+                self.stack = kept;
+                None
+            }
+        }
+    }
+}

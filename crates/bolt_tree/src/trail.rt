@@ -1,0 +1,171 @@
+//! A stack of opened pages that goes along the pages of a bucket.
+ghost use Rattle.std.specs.Prelude.{◌≡◌, ◌∷◌, [], ◌<◌, ◌≤◌, ◌+◌, ◌-◌, ◌++◌, IsTrue, IfSome, MatchOption, Some, length, slice_get};
+ghost use Rattle.std.specs.Option.{option_map};
+ghost use Rattle.bolt_format.specs.ElementPlaces.{leaf_view};
+ghost use Rattle.bolt_format.specs.Elements.{BranchElement, IsBucketValue};
+ghost use Rattle.bolt_format.specs.Shown.{shown};
+ghost use Rattle.bolt_tree.specs.BucketViews.{contents_in, root_content};
+ghost use Rattle.bolt_tree.specs.Contents.{Of_branch, content_length};
+ghost use Rattle.bolt_tree.specs.Entered.{IsEntered, entered_pages, taken_at};
+ghost use Rattle.bolt_tree.specs.Pagers.{counted, pager_opened};
+ghost use Rattle.bolt_tree.specs.ShownPages.{opened_content};
+ghost use Rattle.bolt_tree.specs.Stacks.{HasStack, IsOn};
+
+use crate::at::At;
+use crate::opened::{BranchPage, Opened};
+use crate::pager::Pager;
+use crate::position::{Position, Stack};
+use bolt_format::Leaf;
+
+/// The pages that are open in a bucket, from its root page on, each with how many of its elements
+/// are taken.
+#[derive(Drop)]
+pub(crate) struct Trail<'a> {
+    pub pager: Pager<'a>,
+    pub at: At<'a>,
+    pub stack: Stack<'a>,
+}
+
+impl<'a> Trail<'a> {
+    ghost use Rattle.bolt_tree.specs.Trails.{HasBucket, HasTrail, IsSameBucket, ahead, behind, right, trail_bucket, trail_frames};
+
+    /// Puts a page on the stack.
+    pub fn push(&mut self, page: Opened<'a>, taken: u32)
+        requires { HasStack (trail_bucket self.old) (record { content = opened_content page; taken = taken } ∷ trail_frames self.old) }
+        ensures same { IsSameBucket self.old self.new }
+        ensures stack { HasTrail self.new }
+        ensures frames { trail_frames self.new ≡ record { content = opened_content page.entry; taken = taken } ∷ trail_frames self.old }
+        ensures opened { pager_opened self.new.pager ≡ pager_opened self.old.pager }
+    {
+        self.stack.push(Position { page, taken });
+    }
+
+    /// Puts a page on the stack, before its first element or behind its last.
+    fn stand(&mut self, page: Opened<'a>, at_end: bool)
+        requires { HasStack (trail_bucket self.old) (record { content = opened_content page; taken = 0 } ∷ trail_frames self.old) }
+        ensures same { IsSameBucket self.old self.new }
+        ensures stack { HasTrail self.new }
+        ensures frames { trail_frames self.new ≡ record { content = opened_content page.entry; taken = taken_at at_end (opened_content page.entry) } ∷ trail_frames self.old }
+        ensures opened { pager_opened self.new.pager ≡ pager_opened self.old.pager }
+    {
+        if at_end {
+            self.push(page, u32::from(page.count()) + 1);
+        } else {
+            self.push(page, 0);
+        }
+    }
+
+    /// Opens the root page of the bucket, or its inline page, which is on no stack yet.
+    pub fn open_root(&mut self) -> Opened<'a>
+        requires { HasBucket self.old }
+        ensures same { IsSameBucket self.old self.new }
+        ensures content { opened_content result ≡ root_content (trail_bucket self.old) }
+        ensures empty { trail_frames self.new ≡ [] }
+        ensures opened { pager_opened self.new.pager ≡ counted (pager_opened self.old.pager) 1 }
+    {
+        self.stack.clear();
+        match self.at {
+            At::Page(id) => Opened::of_page(self.pager.open(id)),
+            At::Inline(page) => {
+                self.pager.note();
+                Opened::Inline(page)
+            }
+        }
+    }
+
+    /// Opens the root page, and stands before its first element or behind its last.
+    pub fn begin(&mut self, at_end: bool)
+        requires { HasBucket self.old }
+        ensures same { IsSameBucket self.old self.new }
+        ensures stack { HasTrail self.new }
+        ensures frames { let root = root_content (trail_bucket self.old) in trail_frames self.new ≡ record { content = root; taken = taken_at at_end root } ∷ [] }
+        ensures opened { pager_opened self.new.pager ≡ counted (pager_opened self.old.pager) 1 }
+    {
+        let page = self.open_root();
+        self.stand(page, at_end);
+    }
+
+    /// Opens the page under element `i` of a branch, which is put on the stack.
+    pub fn go_under(&mut self, page: BranchPage<'a>, i: u16) -> Opened<'a>
+        requires stack { HasStack (trail_bucket self.old) (record { content = Of_branch (shown page.page).branches; taken = 0 } ∷ trail_frames self.old) }
+        requires below { i < length (shown page.page).branches }
+        ensures same { IsSameBucket self.old self.new }
+        ensures frames { trail_frames self.new ≡ record { content = Of_branch (shown page.entry.page).branches; taken = i + 1 } ∷ trail_frames self.old }
+        ensures child { (e : BranchElement) × (slice_get (shown page.entry.page).branches i ≡ Some e) × (opened_content result ≡ contents_in (trail_bucket self.old) e.child) }
+        ensures stack { HasStack (trail_bucket self.new) (record { content = opened_content result; taken = 0 } ∷ trail_frames self.new) }
+        ensures opened { pager_opened self.new.pager ≡ counted (pager_opened self.old.pager) 1 }
+    {
+        self.push(Opened::Branch(page), u32::from(i) + 1);
+        Opened::of_page(self.pager.open(page.element(i).child))
+    }
+
+    /// Takes element `i` of a page, which is put back on the stack: an entry of a leaf, or of a
+    /// branch the page under it, which is opened and put on top, before its first element or
+    /// behind its last.
+    pub fn enter(&mut self, page: Opened<'a>, i: u16, at_end: bool) -> Option<Leaf<'a>>
+        requires stack { HasStack (trail_bucket self.old) (record { content = opened_content page; taken = 0 } ∷ trail_frames self.old) }
+        requires below { i < content_length (opened_content page) }
+        ensures same { IsSameBucket self.old self.new }
+        ensures stack { HasTrail self.new }
+        ensures entered { IsEntered (contents_in (trail_bucket self.old)) at_end (opened_content page.entry) i (trail_frames self.old) (trail_frames self.new) (option_map leaf_view result) }
+        ensures opened { pager_opened self.new.pager ≡ counted (pager_opened self.old.pager) (entered_pages (option_map leaf_view result)) }
+        ensures bucket { IfSome result (λ leaf. IsTrue leaf.is_bucket → IsBucketValue leaf.value.now) }
+    {
+        match page {
+            Opened::Nothing => unreachable!(),
+            Opened::Leaf(leaf) => {
+                self.push(page, u32::from(i) + 1);
+                Some(leaf.element(i))
+            }
+            Opened::Inline(inline) => {
+                self.push(page, u32::from(i) + 1);
+                Some(inline.leaf(i))
+            }
+            Opened::Branch(branch) => {
+                let child = self.go_under(branch, i);
+                self.stand(child, at_end);
+                None
+            }
+        }
+    }
+
+    /// Moves on to the next entry. The stack is empty where there is none.
+    pub fn advance(&mut self) -> Option<Leaf<'a>>
+        requires { HasTrail self.old }
+        ensures same { IsSameBucket self.old self.new }
+        ensures stack { HasTrail self.new }
+        ensures found { MatchOption result ((ahead self.old ≡ []) × (trail_frames self.new ≡ []))
+            (λ leaf. (ahead self.old ≡ leaf_view leaf ∷ ahead self.new) × IsOn (trail_frames self.new) (leaf_view leaf)) }
+        ensures bucket { IfSome result (λ leaf. IsTrue leaf.is_bucket → IsBucketValue leaf.value.now) }
+        ensures less { length (right self.new) ≤ length (right self.old) }
+        ensures opened { pager_opened self.new.pager ≡ counted (pager_opened self.old.pager) (length (right self.old) - length (right self.new)) }
+    {
+        while let Some(top) = self.stack.pop() {
+            if top.taken < u32::from(top.page.count()) {
+                if let Some(leaf) = self.enter(top.page, top.taken as u16, false) {
+                    return Some(leaf);
+                }
+            }
+        }
+        None
+    }
+
+    /// Moves back to the entry before. The stack is empty where there is none.
+    pub fn retreat(&mut self) -> Option<Leaf<'a>>
+        requires { HasTrail self.old }
+        ensures same { IsSameBucket self.old self.new }
+        ensures stack { HasTrail self.new }
+        ensures found { MatchOption result ((behind self.old ≡ []) × (trail_frames self.new ≡ []))
+            (λ leaf. (behind self.old ≡ behind self.new ++ leaf_view leaf ∷ []) × IsOn (trail_frames self.new) (leaf_view leaf)) }
+        ensures bucket { IfSome result (λ leaf. IsTrue leaf.is_bucket → IsBucketValue leaf.value.now) }
+    {
+        while let Some(top) = self.stack.pop() {
+            if top.taken > 1 {
+                if let Some(leaf) = self.enter(top.page, (top.taken - 2) as u16, true) {
+                    return Some(leaf);
+                }
+            }
+        }
+        None
+    }
+}
