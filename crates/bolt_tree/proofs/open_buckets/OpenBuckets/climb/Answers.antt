@@ -46,7 +46,7 @@ loop-cursor-preserved c =
     (vec_len c.loop-cursor.self.path) (vec_len c.pop-in-Some.new.self) c.loop-cursor.invariant.placed c.in-Some.ensures.items c.pop-in-Some.ensures.items c.pop-in-Some.ensures.rest c.pop-in-Some.ensures.cases in
     record {
       checked = c.loop-cursor.invariant.checked;
-      buckets = stays c.loop-cursor.self.checked c.pop.new.self.items c.in-Some.cursor c.next_element.new.self (path_of c.loop-cursor.self.path.items) (path_of c.pop-in-Some.new.self.items) known;
+      placed = stays c.loop-cursor.self.checked c.pop.new.self.items c.in-Some.cursor c.next_element.new.self (path_of c.loop-cursor.self.path.items) (path_of c.pop-in-Some.new.self.items) known;
       left = λ listing lists. c.loop-cursor.invariant.left listing lists
           ∙ ends c.loop-cursor.self.checked c.pop.new.self.items c.in-Some.cursor c.next_element.new.self (path_of c.loop-cursor.self.path.items) (path_of c.pop-in-Some.new.self.items) known
           c.in_default-next_element.ensures.moves listing lists;

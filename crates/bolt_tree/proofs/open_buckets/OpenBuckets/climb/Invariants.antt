@@ -9,7 +9,7 @@ use Rattle.bolt_tree.proofs.open_buckets.OpenBuckets.climb.Given as goal
 abbrev pub invariant-loop-cursor : goal.invariant-loop-cursor
 invariant-loop-cursor l = record {
   checked : l.self.checked ≡ l.initial.self.checked;
-  buckets : IsInPlace l.self;
+  placed : IsInPlace l.self;
   left : ForListing l.self.checked (λ listing. beyond (open_path l.initial.self) listing ≡ beyond (open_path l.self) listing);
 }
 

@@ -7,7 +7,7 @@ use Rattle.bolt_tree.proofs.open_buckets.OpenBuckets.seek.Given as goal
 abbrev pub invariant-loop-i : goal.invariant-loop-i
 invariant-loop-i l = record {
   checked : l.self.checked ≡ l.initial.self.checked;
-  buckets : IsInPlace l.self;
+  placed : IsInPlace l.self;
   named : IsNamed l.self l.bucket;
   parts : open_path l.self ≡ path_of (take l.i l.path);
   more : 0 < l.i → l.i < length l.path;
