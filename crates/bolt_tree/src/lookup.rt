@@ -50,9 +50,8 @@ impl<'a> Bucket<'a> {
         ensures { IsValueAt (entries_of (bucket_checked self.now)) (bucket_start self.now) key.now (option_map (λ value. value.now) result) }
     {
         let mut cursor = self.cursor();
-        let leaf = match cursor.seek_element(key) {
-            Some(leaf) => leaf,
-            None => return None,
+        let Some(leaf) = cursor.seek_element(key) else {
+            return None;
         };
         if key.cmp(leaf.key).is_lt() {
             return None;
@@ -70,9 +69,8 @@ impl<'a> Bucket<'a> {
         ensures bucket { IsBucketAt (entries_of (bucket_checked self.now)) (bucket_start self.now) key.now result }
     {
         let mut cursor = self.cursor();
-        let leaf = match cursor.seek_element(key) {
-            Some(leaf) => leaf,
-            None => return None,
+        let Some(leaf) = cursor.seek_element(key) else {
+            return None;
         };
         if key.cmp(leaf.key).is_lt() {
             return None;

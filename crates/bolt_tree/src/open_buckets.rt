@@ -89,14 +89,11 @@ impl<'a> OpenBuckets<'a> {
             (λ leaf. behind (open_path self.old) listing ≡ (open_path self.new, item_of (leaf_view leaf)) ∷ behind (open_path self.new) listing))) }
     {
         let mut cursor = bucket.cursor();
-        let leaf = match cursor.first_element() {
-            Some(leaf) => leaf,
-            None => return Ok(None),
+        let Some(leaf) = cursor.first_element() else {
+            return Ok(None);
         };
-        match self.push(cursor, leaf.key) {
-            Ok(()) => Ok(Some(leaf)),
-            Err(e) => Err(e),
-        }
+        self.push(cursor, leaf.key)?;
+        Ok(Some(leaf))
     }
 
     /// Comes to the next entry to be given. Where memory runs out, nothing has changed.
@@ -113,10 +110,9 @@ impl<'a> OpenBuckets<'a> {
     {
         match ahead {
             Ahead::Give(leaf) => Ok(Some(leaf)),
-            Ahead::Enter(bucket) => match self.enter(bucket) {
-                Ok(Some(leaf)) => Ok(Some(leaf)),
-                Ok(None) => Ok(self.climb()),
-                Err(e) => Err(e),
+            Ahead::Enter(bucket) => match self.enter(bucket)? {
+                Some(leaf) => Ok(Some(leaf)),
+                None => Ok(self.climb()),
             },
             Ahead::Leave => Ok(self.climb()),
         }
@@ -166,13 +162,10 @@ impl<'a> OpenBuckets<'a> {
         ensures sought { IfOk result (IsSought self.old self.new part.now is_last) }
     {
         let mut cursor = bucket.cursor();
-        let leaf = match cursor.seek_element(part) {
-            Some(leaf) => leaf,
-            None => return Ok(Sought::Here(self.come())),
+        let Some(leaf) = cursor.seek_element(part) else {
+            return Ok(Sought::Here(self.come()));
         };
-        if let Err(e) = self.push(cursor, leaf.key) {
-            return Err(e);
-        }
+        self.push(cursor, leaf.key)?;
         if part.cmp(leaf.key).is_lt() {
             return Ok(Sought::Here(Ahead::Give(leaf)));
         }
@@ -198,10 +191,9 @@ impl<'a> OpenBuckets<'a> {
     {
         let mut bucket = root;
         for (i, part) in path.iter().enumerate() {
-            match self.seek_part(bucket, part, i + 1 == path.len()) {
-                Ok(Sought::Inside(inside)) => bucket = inside,
-                Ok(Sought::Here(ahead)) => return Ok(ahead),
-                Err(e) => return Err(e),
+            match self.seek_part(bucket, part, i + 1 == path.len())? {
+                Sought::Inside(inside) => bucket = inside,
+                Sought::Here(ahead) => return Ok(ahead),
             }
         }
         Ok(Ahead::Enter(bucket))

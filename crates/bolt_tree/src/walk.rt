@@ -47,10 +47,8 @@ impl<'a> Walk<'a> {
         ensures path { IfOk result (λ walk. walk_path walk ≡ []) }
     {
         let mut buckets = OpenBuckets::new(alloc, checked);
-        match buckets.seek(Bucket::root(checked), path) {
-            Ok(ahead) => Ok(Walk { buckets, ahead }),
-            Err(e) => Err(e),
-        }
+        let ahead = buckets.seek(Bucket::root(checked), path)?;
+        Ok(Walk { buckets, ahead })
     }
 
     /// Gives what comes next, or `None` where nothing is left. Where memory runs out, the walk has
@@ -62,16 +60,15 @@ impl<'a> Walk<'a> {
         ensures same { OnErr result (ForListing (walk_checked self.old) (λ listing. left_of self.new listing ≡ left_of self.old listing)) }
         ensures same_path { OnErr result (walk_path self.new ≡ walk_path self.old) }
     {
-        match self.buckets.advance(self.ahead) {
-            Ok(Some(leaf)) => {
+        match self.buckets.advance(self.ahead)? {
+            Some(leaf) => {
                 self.ahead = self.buckets.after(&leaf);
                 Ok(Some(Item::of(&leaf)))
             }
-            Ok(None) => {
+            None => {
                 self.ahead = Ahead::Leave;
                 Ok(None)
             }
-            Err(e) => Err(e),
         }
     }
 

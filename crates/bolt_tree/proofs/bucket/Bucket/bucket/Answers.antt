@@ -7,9 +7,9 @@ use Rattle.bolt_tree.specs.Starts.{start_at}
 use Rattle.bolt_tree.proofs.Looking.{look_found, look_greater, look_inside, look_none, look_same, own_entries}
 use Rattle.bolt_tree.proofs.bucket.Bucket.bucket.Goals as goal
 
-pub returns-in-None-clause-bucket : goal.returns-in-None-clause-bucket
+pub returns-in_default-clause-bucket : goal.returns-in_default-clause-bucket
 unfolding bucket_checked bucket_start
-returns-in-None-clause-bucket c = λ e is same. absurd (look_none c.args.self.now.checked (start_at c.args.self.now.at) c.cursor-cursor.result c.seek_element.new.self c.args.key.now (own_entries c.args.self.now.checked (start_at c.args.self.now.at) c.args.self.now.begins) c.cursor-cursor.ensures.checked c.cursor-cursor.ensures.start c.in-None.ensures.moves e is same)
+returns-in_default-clause-bucket c = λ e is same. absurd (look_none c.args.self.now.checked (start_at c.args.self.now.at) c.cursor-cursor.result c.seek_element.new.self c.args.key.now (own_entries c.args.self.now.checked (start_at c.args.self.now.at) c.args.self.now.begins) c.cursor-cursor.ensures.checked c.cursor-cursor.ensures.start c.in_default.ensures.moves e is same)
 
 pub returns-then-is_lt-clause-bucket : goal.returns-then-is_lt-clause-bucket
 unfolding bucket_checked bucket_start

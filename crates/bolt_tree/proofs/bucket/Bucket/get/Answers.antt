@@ -7,9 +7,9 @@ use Rattle.bolt_tree.specs.Starts.{start_at}
 use Rattle.bolt_tree.proofs.Looking.{look_found, look_greater, look_inside, look_none, look_same, own_entries}
 use Rattle.bolt_tree.proofs.bucket.Bucket.get.Goals as goal
 
-pub returns-in-None : goal.returns-in-None
+pub returns-in_default : goal.returns-in_default
 unfolding bucket_checked bucket_start
-returns-in-None c = λ e is same. absurd (look_none c.args.self.now.checked (start_at c.args.self.now.at) c.cursor-cursor.result c.seek_element.new.self c.args.key.now (own_entries c.args.self.now.checked (start_at c.args.self.now.at) c.args.self.now.begins) c.cursor-cursor.ensures.checked c.cursor-cursor.ensures.start c.in-None.ensures.moves e is same)
+returns-in_default c = λ e is same. absurd (look_none c.args.self.now.checked (start_at c.args.self.now.at) c.cursor-cursor.result c.seek_element.new.self c.args.key.now (own_entries c.args.self.now.checked (start_at c.args.self.now.at) c.args.self.now.begins) c.cursor-cursor.ensures.checked c.cursor-cursor.ensures.start c.in_default.ensures.moves e is same)
 
 pub returns-then-is_lt : goal.returns-then-is_lt
 unfolding bucket_checked bucket_start

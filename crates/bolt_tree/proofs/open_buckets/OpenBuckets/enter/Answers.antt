@@ -4,37 +4,37 @@ use Rattle.bolt_tree.proofs.Entering.{first_gives, first_leads, first_none, firs
 use Rattle.bolt_tree.proofs.open_buckets.OpenBuckets.enter.Goals as goal
 use Rattle.std.proofs.Common.{ap, refl}
 
-pub returns-in-None-clause-left : goal.returns-in-None-clause-left
-returns-in-None-clause-left c = λ listing lists.
+pub returns-in_default-clause-left : goal.returns-in_default-clause-left
+returns-in_default-clause-left c = λ listing lists.
     first_none c.args.self.now.checked c.args.self.now.cursors.items (path_of c.args.self.now.path.items) c.cursor-cursor.result c.first_element.new.self
     (made c.args.self.now.checked c.args.self.now.cursors.items (path_of c.args.self.now.path.items) c.args.bucket c.cursor-cursor.result c.requires.placed c.requires.named c.cursor-cursor.ensures.checked c.cursor-cursor.ensures.start)
-    c.in-None.ensures.moves listing lists
+    c.in_default.ensures.moves listing lists
 
-pub returns-in-Ok-clause-placed : goal.returns-in-Ok-clause-placed
-returns-in-Ok-clause-placed c =
+pub returns-clause-placed : goal.returns-clause-placed
+returns-clause-placed c =
     let known = made c.args.self.now.checked c.args.self.now.cursors.items (path_of c.args.self.now.path.items) c.args.bucket c.cursor-cursor.result c.requires.placed c.requires.named c.cursor-cursor.ensures.checked c.cursor-cursor.ensures.start in
     placed_in c.args.self.now.checked c.push.new.self.checked c.push.new.self.cursors.items c.push.new.self.cursors.items (path_of c.push.new.self.path.items) (path_of c.push.new.self.path.items)
-    c.in-Ok.ensures.checked refl refl
+    c.in_ok-push.ensures.checked refl refl
     (first_opens c.args.self.now.checked c.args.self.now.cursors.items (path_of c.args.self.now.path.items) c.cursor-cursor.result c.first_element.new.self known
     (leaf_view c.in-Some.leaf) c.push.new.self.cursors.items (path_of c.push.new.self.path.items) c.in-Some.ensures.checked c.in-Some.ensures.start c.in-Some.ensures.moves
-    c.in-Ok.ensures.cursors c.in-Ok.ensures.path)
+    c.in_ok-push.ensures.cursors c.in_ok-push.ensures.path)
 
-pub returns-in-Ok-clause-on : goal.returns-in-Ok-clause-on
-returns-in-Ok-clause-on c =
+pub returns-clause-on : goal.returns-clause-on
+returns-clause-on c =
     let known = made c.args.self.now.checked c.args.self.now.cursors.items (path_of c.args.self.now.path.items) c.args.bucket c.cursor-cursor.result c.requires.placed c.requires.named c.cursor-cursor.ensures.checked c.cursor-cursor.ensures.start in (
       c.in-Some.ensures.bucket,
-      leads_in c.args.self.now.checked c.push.new.self.checked (path_of c.push.new.self.path.items) (leaf_view c.in-Some.leaf) c.in-Ok.ensures.checked
+      leads_in c.args.self.now.checked c.push.new.self.checked (path_of c.push.new.self.path.items) (leaf_view c.in-Some.leaf) c.in_ok-push.ensures.checked
           (first_leads c.args.self.now.checked c.args.self.now.cursors.items (path_of c.args.self.now.path.items) c.cursor-cursor.result c.first_element.new.self known
-          (leaf_view c.in-Some.leaf) (path_of c.push.new.self.path.items) c.in-Some.ensures.moves c.in-Ok.ensures.path),
+          (leaf_view c.in-Some.leaf) (path_of c.push.new.self.path.items) c.in-Some.ensures.moves c.in_ok-push.ensures.path),
     )
 
-pub returns-in-Ok-clause-left : goal.returns-in-Ok-clause-left
-returns-in-Ok-clause-left c = λ listing lists.
+pub returns-clause-left : goal.returns-clause-left
+returns-clause-left c = λ listing lists.
     let known = made c.args.self.now.checked c.args.self.now.cursors.items (path_of c.args.self.now.path.items) c.args.bucket c.cursor-cursor.result c.requires.placed c.requires.named c.cursor-cursor.ensures.checked c.cursor-cursor.ensures.start in
     first_gives c.args.self.now.checked c.args.self.now.cursors.items (path_of c.args.self.now.path.items) c.cursor-cursor.result c.first_element.new.self known
-    (leaf_view c.in-Some.leaf) (path_of c.push.new.self.path.items) c.in-Some.ensures.moves c.in-Ok.ensures.path listing lists
+    (leaf_view c.in-Some.leaf) (path_of c.push.new.self.path.items) c.in-Some.ensures.moves c.in_ok-push.ensures.path listing lists
 
-pub returns-in-Err-clause-placed : goal.returns-in-Err-clause-placed
-returns-in-Err-clause-placed c =
+pub returns-in_err-push-clause-placed : goal.returns-in_err-push-clause-placed
+returns-in_err-push-clause-placed c =
     placed_in c.args.self.now.checked c.push.new.self.checked c.args.self.now.cursors.items c.push.new.self.cursors.items (path_of c.args.self.now.path.items) (path_of c.push.new.self.path.items)
-    c.in-Err.ensures.checked c.in-Err.ensures.same.0 (ap path_of c.in-Err.ensures.same.1) c.requires.placed
+    c.in_err-push.ensures.checked c.in_err-push.ensures.same.0 (ap path_of c.in_err-push.ensures.same.1) c.requires.placed

@@ -7,9 +7,9 @@ use Rattle.bolt_tree.proofs.Climbing.{listed_in}
 use Rattle.bolt_tree.proofs.Parts.{ends_at, from_start, none_left, parts_whole, take_none}
 use Rattle.bolt_tree.proofs.open_buckets.OpenBuckets.seek.Goals as goal
 
-pub returns-in-Ok-Here-clause-left : goal.returns-in-Ok-Here-clause-left
-returns-in-Ok-Here-clause-left c = λ listing lists.
-    let came = rw c.in-Ok-Here.field-0-is at c.in-Ok-Here.ensures.sought in
+pub returns-in-Here-clause-left : goal.returns-in-Here-clause-left
+returns-in-Here-clause-left c = λ listing lists.
+    let came = rw c.in-Here.is at c.in_ok-inside.ensures.sought in
     let none : Bor (List ℕ) = record { ref_ptr = (0, 0); now = [] } in
     let rest : Path = path_of (drop (suc c.loop-i.i) c.args.path.now) in
     came.2 rest (ends_at c.args.path.now c.loop-i.i (length c.args.path.now) refl c.loop-i-test.true) listing

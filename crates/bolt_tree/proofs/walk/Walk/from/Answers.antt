@@ -10,7 +10,7 @@ seek-requires-clause-placed c =
     ∥∥₁_elim (begins c.args.checked c.new-buckets.result c.root.result c.new-buckets.ensures.checked c.new-buckets.ensures.cursors c.new-buckets.ensures.path c.root.ensures.checked c.root.ensures.start)
     ∥∥₁_prop (λ p. p.0)
 
-pub returns-in-Ok-clause-rest : goal.returns-in-Ok-clause-rest
+pub returns-clause-rest : goal.returns-clause-rest
 unfolding left_of
-returns-in-Ok-clause-rest c = λ listing lists.
-    c.in-Ok.ensures.left listing (listed_in c.new-buckets.result.checked c.args.checked listing c.new-buckets.ensures.checked lists)
+returns-clause-rest c = λ listing lists.
+    c.in_ok-ahead.ensures.left listing (listed_in c.new-buckets.result.checked c.args.checked listing c.new-buckets.ensures.checked lists)

@@ -18,28 +18,28 @@ advance-requires-clause-placed c = ∥∥₁_elim c.args.self.now.placed ∥∥�
 pub advance-requires-clause-ahead : goal.advance-requires-clause-ahead
 advance-requires-clause-ahead c = ∥∥₁_elim c.args.self.now.placed (ahead_prop c.args.self.now.buckets c.args.self.now.ahead) (λ p. p.1)
 
-pub invariant_of-self-in-Err-1 : goal.invariant_of-self-in-Err-1
-invariant_of-self-in-Err-1 c = record {
+pub invariant_of-self : goal.invariant_of-self
+invariant_of-self c = record {
   placed = ∥∥₁_map c.args.self.now.placed (λ p. (
-    c.in-Err.ensures.placed,
-    ahead_in c.args.self.now.buckets c.advance.new.self c.args.self.now.ahead c.in-Err.ensures.checked c.in-Err.ensures.same p.1,
+    c.in_err-leaf.ensures.placed,
+    ahead_in c.args.self.now.buckets c.advance.new.self c.args.self.now.ahead c.in_err-leaf.ensures.checked c.in_err-leaf.ensures.same p.1,
   ));
 }
 
-pub returns-in-Ok-Some-clause-given : goal.returns-in-Ok-Some-clause-given
+pub returns-in-Some-clause-given : goal.returns-in-Some-clause-given
 unfolding left_of walk_checked walk_path
-returns-in-Ok-Some-clause-given c = λ listing lists.
-    let came = rw c.in-Ok-Some.field-0-is at c.in-Ok-Some.ensures.left in
+returns-in-Some-clause-given c = λ listing lists.
+    let came = rw c.in-Some.is at c.in_ok-leaf.ensures.left in
     let first = came listing lists in
-    let then = c.after-self.ensures.left listing (listed_in c.advance.new.self.checked c.args.self.now.buckets.checked listing c.in-Ok-Some.ensures.checked lists) in
+    let then = c.after-self.ensures.left listing (listed_in c.advance.new.self.checked c.args.self.now.buckets.checked listing c.in_ok-leaf.ensures.checked lists) in
     first
     ∙ ap (λ (i : Item). (open_path c.advance.new.self, i) ∷ behind (open_path c.advance.new.self) listing) (sym c.of.ensures)
     ∙ ap (λ (p : Path). (p, item_view c.of.result) ∷ behind (open_path c.advance.new.self) listing) (sym c.after-self.ensures.told)
     ∙ ap (λ (ms : List Member). (told_path c.after-self.result (open_path c.advance.new.self), item_view c.of.result) ∷ ms) (sym then)
 
-pub returns-in-Ok-None-clause-given : goal.returns-in-Ok-None-clause-given
+pub returns-in-None-clause-given : goal.returns-in-None-clause-given
 unfolding left_of walk_checked walk_path
-returns-in-Ok-None-clause-given c = λ listing lists.
-    let came = rw c.in-Ok-None.field-0-is at c.in-Ok-None.ensures.left in
-    let ended = rw c.in-Ok-None.field-0-is at c.in-Ok-None.ensures.ended in
+returns-in-None-clause-given c = λ listing lists.
+    let came = rw c.in-None.is at c.in_ok-leaf.ensures.left in
+    let ended = rw c.in-None.is at c.in_ok-leaf.ensures.ended in
     (came listing lists, none_beyond (open_path c.advance.new.self) listing ended, ended)
