@@ -27,4 +27,6 @@ mod samples;
 #[cfg(test)]
 mod sink_rows;
 #[cfg(test)]
+mod walk_rows;
+#[cfg(test)]
 mod word_rows;
