@@ -6,7 +6,7 @@ mod CountLemmas
 mod Forest
 mod FreelistLemmas
 mod Judging
-mod KeyLaws
+pub mod KeyLaws
 mod KeyOrder
 mod Lawful
 mod ListLemmas
@@ -16,13 +16,14 @@ mod NodeLemmas
 mod PageLemmas
 mod Pendings
 mod SettledLemmas
-mod Shaping
+pub mod Shaping
 mod Single
 mod SoundLemmas
 mod TableLemmas
 mod ToldLemmas
 mod ToldOnce
+pub mod TreePages
 mod VisitLemmas
 mod Visited
 mod Visiting
-mod WayOrder
+pub mod WayOrder

@@ -1,0 +1,16 @@
+pub mod CountLemmas
+pub mod CursorLemmas
+pub mod FurtherLemmas
+pub mod GapLemmas
+pub mod HalvesLemmas
+pub mod ListLemmas
+pub mod MoveLemmas
+pub mod PagerLemmas
+pub mod PlaceLemmas
+pub mod RootLemmas
+pub mod SeekCounts
+pub mod SortedLemmas
+pub mod StackLemmas
+pub mod TourLemmas
+pub mod TrailLemmas
+pub mod WayPages
