@@ -1,12 +1,13 @@
 -- What a checked file is known to be.
-use Rattle.std.proofs.Common.{◌≡◌, ℕ, List, [], Option, Some, None, Ok, refl}
+use Rattle.std.proofs.Common.{◌≡◌, ℕ, List, [], Option, Some, None, Ok, refl, subst}
 use Rattle.std.specs.Prelude.{IsSome}
-use Rattle.std.proofs.Math.Logic.{∥∥₁_elim}
+use Rattle.std.proofs.Math.Logic.{∥∥₁_elim, ∥∥₁_map}
 use Rattle.std.proofs.Props.{props}
 use Rattle.bolt_format.specs.Pages.{PageView, page_at, page_fault}
 use Rattle.bolt_format.specs.declared.meta.Meta.{Meta}
 use Rattle.bolt_check.specs.CheckedFiles.{bytes_of, meta_of}
 use Rattle.bolt_check.specs.Nodes.{Node, node_at, node_seen}
+use Rattle.bolt_check.specs.OnWays.{IsOnWay}
 use Rattle.bolt_check.specs.Sound.{HasSoundTrees}
 use Rattle.bolt_check.specs.Ways.{At_page, PageSpot, reached, start_of}
 use Rattle.bolt_check.specs.declared.checked_file.Checked.{Checked}
@@ -33,3 +34,13 @@ with_trees checked P prop f = ∥∥₁_elim checked.sound prop (λ sound. f sou
 pub good_root : (checked : Checked) → IsSome (page_at (bytes_of checked) (meta_of checked) (meta_of checked).root)
 good_root checked = with_trees checked (IsSome (page_at (bytes_of checked) (meta_of checked) (meta_of checked).root)) (Prim.hlevel props)
     (λ trees. good_page (bytes_of checked) (meta_of checked) [] (start_of (meta_of checked).root) trees refl)
+
+-- its trees are sound
+pub checked_trees : (checked : Checked) → ∥ HasSoundTrees (bytes_of checked) (meta_of checked) ∥₁
+unfolding bytes_of meta_of
+checked_trees checked = ∥∥₁_map checked.sound (λ sound. sound.trees)
+
+-- a page that a way leads to is good
+pub good_on_way : (checked : Checked) (number : ℕ) → ∥ ((depth : ℕ) × IsOnWay (bytes_of checked) (meta_of checked) number depth) ∥₁ → IsSome (page_at (bytes_of checked) (meta_of checked) number)
+good_on_way checked number on = ∥∥₁_elim on (Prim.hlevel props) (λ (depth, w). ∥∥₁_elim (checked_trees checked) (Prim.hlevel props) (λ trees.
+    subst (λ (n : ℕ). IsSome (page_at (bytes_of checked) (meta_of checked) n)) w.is (good_page (bytes_of checked) (meta_of checked) w.way w.spot trees w.led)))

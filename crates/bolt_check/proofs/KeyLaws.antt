@@ -6,7 +6,7 @@ use Rattle.std.specs.declared.cmp.Ordering.TheVariants.{Less, Equal, Greater}
 use Rattle.std.proofs.lemmas.Cmp.{nat_list_cmp_total}
 use Rattle.bolt_check.specs.Keys.{Key, key_cmp, key_lt, is_above, is_from, is_below}
 
-less_of : (o : Ordering) → is_lt o ≡ true → o ≡ Less
+pub less_of : (o : Ordering) → is_lt o ≡ true → o ≡ Less
 less_of Less e = refl
 less_of Equal e = absurd (cc)
 less_of Greater e = absurd (cc)
@@ -45,3 +45,19 @@ by_test x a b true e h k = let r : key_lt a x ≡ true = not_lt_trans a b x k e 
 pub from_more : (lower : Option Key) (a b : Key) → is_from lower a ≡ true → key_lt b a ≡ false → is_from lower b ≡ true
 from_more None a b e h = refl
 from_more (Some x) a b e h = by_test x a b (key_lt b x) refl (not_true (key_lt a x) e) h
+
+same_less : (a : Key) (o : Ordering) → key_cmp a a ≡ o → is_lt o ≡ true → ⊥
+same_less a Less e h = let r : key_cmp a a ≡ Greater = nat_list_cmp_total.antisymm a a ∙ (rw e refl) in cc
+same_less a Equal e h = cc
+same_less a Greater e h = cc
+
+pub lt_strict : (a b : Key) → key_lt a b ≡ true → key_lt b a ≡ true → ⊥
+lt_strict a b h k = same_less a (key_cmp a a) refl (lt_trans a b a h k)
+
+by_other : (a b c : Key) (t : Bool) → key_lt a c ≡ t → key_lt a b ≡ true → key_lt c b ≡ false → t ≡ true
+by_other a b c true e h k = refl
+by_other a b c false e h k = let r : key_lt c b ≡ true = not_lt_trans c a b e h in absurd (cc)
+
+-- from a < b and b ≤ c
+pub lt_not_trans : (a b c : Key) → key_lt a b ≡ true → key_lt c b ≡ false → key_lt a c ≡ true
+lt_not_trans a b c h k = by_other a b c (key_lt a c) refl h k

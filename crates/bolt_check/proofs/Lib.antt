@@ -18,10 +18,11 @@ mod NodeLemmas
 mod PageLemmas
 mod Pendings
 mod SettledLemmas
-mod Shaping
+pub mod Shaping
 mod Single
 mod SoundLemmas
 mod TableLemmas
+pub mod TreePages
 mod VisitLemmas
 mod Visited
 mod Visiting

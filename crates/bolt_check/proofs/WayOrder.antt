@@ -34,3 +34,6 @@ before_total (i ∷ v) (j ∷ w) =
       ]
       | inr h ↦ inr (elim h [ inl k ↦ inl (inl k) | inr k ↦ inr (inl k) ])
     ]
+
+pub before_strict : (v w : List ℕ) → Before v w → Before w v → ⊥
+before_strict v w h k = before_irreflexive v (before_trans v w v h k)

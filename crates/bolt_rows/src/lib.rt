@@ -8,6 +8,7 @@ mod bucket_command_rows;
 mod check_command_rows;
 #[cfg(test)]
 mod commands;
+mod cursor_rows;
 #[cfg(test)]
 mod fault_rows;
 #[cfg(test)]

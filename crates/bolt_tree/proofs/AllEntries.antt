@@ -13,13 +13,15 @@ use Rattle.bolt_tree.specs.Entries.{AreEntries, IsEntry, IsStart, Root_page, Sta
 use Rattle.bolt_tree.specs.FileListings.{root_of}
 use Rattle.bolt_tree.specs.Paths.{HasEntries}
 use Rattle.bolt_tree.specs.Starts.{HasStart}
+use Rattle.bolt_tree.specs.Tours.{elements_of, pages_at}
+use Rattle.bolt_tree.proofs.SortedLemmas.{sorted}
 use Rattle.bolt_tree.proofs.BucketWays.{root_starts, starts_below, starts_named}
 
-pub sorted : (file : List ℕ) (meta : Meta) → HasSoundTrees file meta → (start : Start) → IsStart file meta start → (entries : List LeafElement) × AreEntries (IsEntry file meta) start entries
-sorted = ?
+pub sorted_at : (file : List ℕ) (meta : Meta) → HasSoundTrees file meta → (start : Start) → IsStart file meta start → (entries : List LeafElement) × AreEntries (IsEntry file meta) start entries
+sorted_at file meta sound start is = (elements_of (pages_at file meta start), sorted file meta sound start is)
 
 pub all_entries : (file : List ℕ) (meta : Meta) → HasSoundTrees file meta → HasEntries (IsEntry file meta) (Root_page meta.root)
-all_entries file meta sound = λ path bucket names. sorted file meta sound bucket (starts_named file meta (Root_page meta.root) path bucket (root_starts file meta) names)
+all_entries file meta sound = λ path bucket names. sorted_at file meta sound bucket (starts_named file meta (Root_page meta.root) path bucket (root_starts file meta) names)
 
 pub checked_entries : (checked : Checked) → ∥ HasEntries (entries_of checked) (root_of checked) ∥₁
 checked_entries checked = with_trees checked (∥ HasEntries (entries_of checked) (root_of checked) ∥₁) ∥∥₁_prop (λ trees. ∣ all_entries (bytes_of checked) (meta_of checked) trees ∣₁)

@@ -12,7 +12,7 @@ use Rattle.bolt_tree.specs.Entries.{AreEntries, Start, start_of}
 use Rattle.bolt_tree.specs.BucketViews.{entries_of}
 use Rattle.bolt_tree.specs.Starts.{HasStart}
 use Rattle.bolt_check.proofs.CheckedLemmas.{with_trees}
-use Rattle.bolt_tree.proofs.AllEntries.{sorted}
+use Rattle.bolt_tree.proofs.AllEntries.{sorted_at}
 use Rattle.bolt_tree.proofs.BucketWays.{starts_below}
 use Rattle.bolt_tree.specs.Places.{Moves, Place, least_from, seek_move}
 use Rattle.bolt_tree.specs.declared.cursor.Cursor.{Cursor}
@@ -29,7 +29,7 @@ not_less_itself a b e = rw e (ap is_lt (key_same b))
 pub own_entries : (checked : Checked) (bucket : Start) → HasStart checked bucket → ∥ ((entries : List LeafElement) × AreEntries (entries_of checked) bucket entries) ∥₁
 own_entries checked bucket begins =
     with_trees checked (∥ ((entries : List LeafElement) × AreEntries (entries_of checked) bucket entries) ∥₁) ∥∥₁_prop
-    (λ trees. ∥∥₁_map begins (λ start. sorted (bytes_of checked) (meta_of checked) trees bucket start))
+    (λ trees. ∥∥₁_map begins (λ start. sorted_at (bytes_of checked) (meta_of checked) trees bucket start))
 
 module _ (checked : Checked) (bucket : Start) (fresh moved : Cursor) (key : Key) (known : ∥ ((entries : List LeafElement) × AreEntries (entries_of checked) bucket entries) ∥₁)
     (file : cursor_checked fresh ≡ checked) (start : cursor_start fresh ≡ bucket) where

@@ -91,6 +91,7 @@ pub record IsOver (b : BucketView) (frame : Frame) (below : List Frame) : Type 0
   pub shallow : suc (length below) ≤ 64
   pub good : IsGoodContent b (suc (length below)) frame.content
   pub bound : frame.taken ≤ suc (content_length frame.content)
+  pub fits : frame.taken ≤ 65536
   pub branch : IsBranchTop below
   pub placed : pages_in b ≡ left_of (contents_in b) below
       ++ (tour (contents_in b) (63 - length below) (address_on below) frame.content ++ right_of (contents_in b) below)

@@ -1,0 +1,172 @@
+-- Pages that ways lead to: each is a leaf or a branch, as bolt_format's page and as the rules' node; where its elements lead.
+use Rattle.std.proofs.Common.{◌≡◌, ◌==◌, ℕ, suc, ◌≤◌, List, [], ◌∷◌, ◌++◌, true, false, Option, Some, None, Result, Ok, Err, IsTrue, slice_get, map, refl, sym, ap, ◌∙◌, arith, subst}
+use Rattle.std.specs.Option.{option_map}
+use Rattle.std.proofs.lemmas.Option.{slice_get-map}
+use Rattle.bolt_format.specs.Elements.{BranchElement, LeafElement, head_root, inline_elements}
+use Rattle.bolt_format.specs.Pages.{PageView, page_at, page_fault}
+use Rattle.bolt_format.specs.declared.kind.Kind.{Kind}
+use Rattle.bolt_format.specs.declared.kind.Kind.TheVariants as kind
+use Rattle.bolt_format.specs.declared.meta.Meta.{Meta}
+use Rattle.bolt_check.specs.Findings.{keys_of}
+use Rattle.bolt_check.specs.Keys.{Key}
+use Rattle.bolt_check.specs.Nodes.{Entry, Node, Nodes, branch_entry, leaf_entry, node_at, node_of, node_seen}
+use Rattle.bolt_check.specs.OnWays.{IsOnWay}
+use Rattle.bolt_check.specs.Shape.{child_at, child_in, leads}
+use Rattle.bolt_check.specs.Sound.{HasSoundTrees}
+use Rattle.bolt_check.specs.Ways.{At_inline, At_page, PageSpot, Spot, bucket_spot, child_spot, follow, reached, start_of, step, upper_from}
+use Rattle.bolt_check.proofs.WayFacts.{follow_append, key_at, step_child}
+
+abbrev pub leaf_node : PageView → Node
+leaf_node view = record { is_leaf = true; overflow = view.overflow; entries = map leaf_entry view.leaves }
+
+abbrev pub branch_node : PageView → Node
+branch_node view = record { is_leaf = false; overflow = view.overflow; entries = map branch_entry view.branches }
+
+-- a good page of the tree is a leaf or a branch
+pub data IsTreePage (file : List ℕ) (meta : Meta) (number : ℕ) : Type 0 where
+  a_leaf : (view : PageView) → page_at file meta number ≡ Some view → view.kind ≡ kind.Leaf → node_at file meta number ≡ Ok (leaf_node view) → IsTreePage file meta number
+  a_branch : (view : PageView) → page_at file meta number ≡ Some view → view.kind ≡ kind.Branch → node_at file meta number ≡ Ok (branch_node view) → IsTreePage file meta number
+
+-- a page as a node
+pub node_is : (file : List ℕ) (meta : Meta) (number : ℕ) (view : PageView) (k : Kind) → page_at file meta number ≡ Some view → view.kind ≡ k → node_at file meta number ≡ node_of k view
+unfolding node_at
+node_is file meta number view k at is = ap (λ (o : Option PageView). node_seen o (page_fault file meta number)) at ∙ ap (λ (x : Kind). node_of x view) is
+
+by_kind : (file : List ℕ) (meta : Meta) (number : ℕ) (view : PageView) (k : Kind) (node : Node) → page_at file meta number ≡ Some view → view.kind ≡ k → node_of k view ≡ Ok node
+    → IsTreePage file meta number
+by_kind file meta number view kind.Branch node at is e = a_branch view at is (node_is file meta number view kind.Branch at is)
+by_kind file meta number view kind.Leaf node at is e = a_leaf view at is (node_is file meta number view kind.Leaf at is)
+by_kind file meta number view kind.Meta node at is e = absurd (cc)
+by_kind file meta number view kind.Freelist node at is e = absurd (cc)
+
+by_page : (file : List ℕ) (meta : Meta) (number : ℕ) (o : Option PageView) (fault : Option ℕ) (node : Node) → page_at file meta number ≡ o
+    → node_seen o fault ≡ Ok node → IsTreePage file meta number
+by_page file meta number (Some view) fault node at e = by_kind file meta number view view.kind node at refl e
+by_page file meta number None (Some f) node at e = absurd (cc)
+by_page file meta number None None node at e = absurd (cc)
+
+pub tree_page : (file : List ℕ) (meta : Meta) (number : ℕ) (node : Node) → node_at file meta number ≡ Ok node → IsTreePage file meta number
+unfolding node_at
+tree_page file meta number node e = by_page file meta number (page_at file meta number) (page_fault file meta number) node refl e
+
+-- the entry of an element
+pub branch_entry_at : (elements : List BranchElement) (i : ℕ) (e : BranchElement) → slice_get elements i ≡ Some e → slice_get (map branch_entry elements) i ≡ Some (branch_entry e)
+branch_entry_at elements i e g = slice_get-map branch_entry elements i ∙ ap (option_map branch_entry) g
+
+pub leaf_entry_at : (elements : List LeafElement) (i : ℕ) (e : LeafElement) → slice_get elements i ≡ Some e → slice_get (map leaf_entry elements) i ≡ Some (leaf_entry e)
+leaf_entry_at elements i e g = slice_get-map leaf_entry elements i ∙ ap (option_map leaf_entry) g
+
+-- the key of an element, among those of the page as a node
+pub branch_key : (elements : List BranchElement) (i : ℕ) (e : BranchElement) → slice_get elements i ≡ Some e → slice_get (keys_of (map branch_entry elements)) i ≡ Some e.key
+branch_key elements i e g = key_at (map branch_entry elements) i (branch_entry e) (branch_entry_at elements i e g)
+
+pub leaf_key : (elements : List LeafElement) (i : ℕ) (e : LeafElement) → slice_get elements i ≡ Some e → slice_get (keys_of (map leaf_entry elements)) i ≡ Some e.key
+leaf_key elements i e g = key_at (map leaf_entry elements) i (leaf_entry e) (leaf_entry_at elements i e g)
+
+-- where a bucket on a leaf leads
+step_bucket : (nodes : Nodes) (s : PageSpot) (i : ℕ) (node : Node) (e : Entry) → nodes s.number ≡ Ok node → node.is_leaf ≡ true → slice_get node.entries i ≡ Some e
+    → e.is_bucket ≡ true → step nodes (Some (At_page s)) i ≡ Some (bucket_spot s.number e)
+step_bucket nodes s i node e q leaf g b = rw (q, leaf, g, b) refl
+
+-- one step after a way
+pub step_after : (nodes : Nodes) (root i : ℕ) (way : List ℕ) (s : Spot) (o : Option Spot) → reached nodes root way ≡ Some s → step nodes (Some s) i ≡ o → reached nodes root (way ++ i ∷ []) ≡ o
+step_after nodes root i way s o led st =
+    follow_append nodes (Some (At_page (start_of root))) way (i ∷ []) ∙ (ap (λ (x : Option Spot). step nodes x i) led ∙ st)
+
+module _ (file : List ℕ) (meta : Meta) where
+  -- the node of a page on a way, by its spot
+  pub spot_node : (number depth : ℕ) (node : Node) (on : IsOnWay file meta number depth) → node_at file meta number ≡ Ok node → node_at file meta on.spot.number ≡ Ok node
+  spot_node number depth node on e = ap (node_at file meta) on.is ∙ e
+
+  -- a child of a branch
+  pub on_child : (number depth i : ℕ) (view : PageView) (e : BranchElement) → IsOnWay file meta number depth → node_at file meta number ≡ Ok (branch_node view)
+      → slice_get view.branches i ≡ Some e → IsOnWay file meta e.child (suc depth)
+  on_child number depth i view e on node g =
+      let entries : List Entry = map branch_entry view.branches in
+      let t : PageSpot = child_spot on.spot (branch_entry e) (upper_from (slice_get entries (suc i)) on.spot.upper) in
+      let st = step_child (node_at file meta) on.spot i (branch_node view) (branch_entry e) (spot_node number depth (branch_node view) on node) refl (branch_entry_at view.branches i e g) in
+      record {
+        way = on.way ++ i ∷ [];
+        spot = t;
+        led = step_after (node_at file meta) meta.root i on.way (At_page on.spot) (Some (At_page t)) on.led st;
+        is = refl;
+        deep = ap suc on.deep;
+      }
+
+  after_bucket : (number depth i : ℕ) (view : PageView) (e : LeafElement) (on : IsOnWay file meta number depth) → node_at file meta number ≡ Ok (leaf_node view)
+      → slice_get view.leaves i ≡ Some e → e.is_bucket ≡ true → reached (node_at file meta) meta.root (on.way ++ i ∷ []) ≡ Some (bucket_spot on.spot.number (leaf_entry e))
+  after_bucket number depth i view e on node g b =
+      step_after (node_at file meta) meta.root i on.way (At_page on.spot) (Some (bucket_spot on.spot.number (leaf_entry e))) on.led
+      (step_bucket (node_at file meta) on.spot i (leaf_node view) (leaf_entry e) (spot_node number depth (leaf_node view) on node) refl (leaf_entry_at view.leaves i e g) b)
+
+  -- the root page of a bucket on a leaf
+  pub on_bucket : (number depth i : ℕ) (view : PageView) (e : LeafElement) → IsOnWay file meta number depth → node_at file meta number ≡ Ok (leaf_node view)
+      → slice_get view.leaves i ≡ Some e → e.is_bucket ≡ true → (head_root e.value == 0) ≡ false → IsOnWay file meta (head_root e.value) 1
+  on_bucket number depth i view e on node g b page = record {
+    way = on.way ++ i ∷ [];
+    spot = start_of (head_root e.value);
+    led = after_bucket number depth i view e on node g b ∙ rw page refl;
+    is = refl;
+    deep = refl;
+  }
+
+  -- the inline page of one
+  pub inline_reached : (number depth i : ℕ) (view : PageView) (e : LeafElement) (on : IsOnWay file meta number depth) → node_at file meta number ≡ Ok (leaf_node view)
+      → slice_get view.leaves i ≡ Some e → e.is_bucket ≡ true → (head_root e.value == 0) ≡ true
+      → reached (node_at file meta) meta.root (on.way ++ i ∷ []) ≡ Some (At_inline on.spot.number (map (λ (x : LeafElement). x.key) (inline_elements e.value)))
+  inline_reached number depth i view e on node g b inline = after_bucket number depth i view e on node g b ∙ rw inline refl
+
+  -- where the first step of an address leads
+  pub leads_child : (number i : ℕ) (view : PageView) (e : BranchElement) (rest : List ℕ) → node_at file meta number ≡ Ok (branch_node view)
+      → slice_get view.branches i ≡ Some e → leads (node_at file meta) (Some number) (i ∷ rest) ≡ leads (node_at file meta) (Some e.child) rest
+  leads_child number i view e rest node g =
+      let c : child_at (node_at file meta) (Some number) i ≡ Some e.child = ap (λ (o : Result Node ℕ). child_in o i) node ∙ rw (branch_entry_at view.branches i e g) refl in
+      ap (λ (o : Option ℕ). leads (node_at file meta) o rest) c
+
+leads_none : (nodes : Nodes) (address : List ℕ) → leads nodes None address ≡ None
+leads_none nodes [] = refl
+leads_none nodes (i ∷ address) = leads_none nodes address
+
+none_number : (x : ℕ) → None ≡ Some x → ⊥
+none_number x e = cc
+
+-- no address goes on from a leaf
+pub leaf_ends : (nodes : Nodes) (number i m : ℕ) (view : PageView) (rest : List ℕ) → nodes number ≡ Ok (leaf_node view) → leads nodes (Some number) (i ∷ rest) ≡ Some m → ⊥
+leaf_ends nodes number i m view rest node l =
+    let c : child_at nodes (Some number) i ≡ None = ap (λ (o : Result Node ℕ). child_in o i) node in
+    none_number m (sym (leads_none nodes rest) ∙ (sym (ap (λ (o : Option ℕ). leads nodes o rest) c) ∙ l))
+
+child_by : (elements : List BranchElement) (i : ℕ) (o : Option BranchElement) → slice_get elements i ≡ o → (rest : List ℕ) (nodes : Nodes) (number m : ℕ) (view : PageView)
+    → view.branches ≡ elements → nodes number ≡ Ok (branch_node view) → leads nodes (Some number) (i ∷ rest) ≡ Some m
+    → (e : BranchElement) × (slice_get elements i ≡ Some e)
+child_by elements i (Some e) g rest nodes number m view is node l = (e, g)
+child_by elements i None g rest nodes number m view is node l =
+    let n : slice_get (map branch_entry view.branches) i ≡ None = slice_get-map branch_entry view.branches i ∙ ap (option_map branch_entry) (ap (λ (es : List BranchElement). slice_get es i) is ∙ g) in
+    let c : child_at nodes (Some number) i ≡ None = ap (λ (o : Result Node ℕ). child_in o i) node ∙ rw n refl in
+    absurd (none_number m (sym (leads_none nodes rest) ∙ (sym (ap (λ (o : Option ℕ). leads nodes o rest) c) ∙ l)))
+
+-- a step of an address takes an element of a branch
+pub branch_step : (nodes : Nodes) (number i m : ℕ) (view : PageView) (rest : List ℕ) → nodes number ≡ Ok (branch_node view) → leads nodes (Some number) (i ∷ rest) ≡ Some m
+    → (e : BranchElement) × (slice_get view.branches i ≡ Some e)
+branch_step nodes number i m view rest node l = child_by view.branches i (slice_get view.branches i) refl rest nodes number m view refl node l
+
+module _ (file : List ℕ) (meta : Meta) (trees : HasSoundTrees file meta) where
+  pub on_way_page : (number depth : ℕ) → IsOnWay file meta number depth → IsTreePage file meta number
+  on_way_page number depth on =
+      let good = (trees.good on.way on.spot on.led).1 in
+      let at : node_at file meta on.spot.number ≡ Ok good.0 = good.1 in
+      tree_page file meta number good.0 (sym (ap (node_at file meta) on.is) ∙ at)
+
+  pub shallow : (number depth : ℕ) → IsOnWay file meta number depth → depth ≤ 64
+  shallow number depth on = let d = (trees.good on.way on.spot on.led).0 in let e = on.deep in omega (arith, d, e)
+
+  -- the page that an address leads to
+  pub on_address : (number depth n : ℕ) (address : List ℕ) → IsOnWay file meta number depth → leads (node_at file meta) (Some number) address ≡ Some n
+      → (d : ℕ) × IsOnWay file meta n d
+  on_address number depth n [] on l = let same : number ≡ n = cc in (depth, subst (λ (m : ℕ). IsOnWay file meta m depth) same on)
+  on_address number depth n (i ∷ rest) on l = elim (on_way_page number depth on) [
+    | a_leaf view at is node ↦ absurd (leaf_ends (node_at file meta) number i n view rest node l)
+    | a_branch view at is node ↦ (
+        let e = branch_step (node_at file meta) number i n view rest node l in
+        on_address e.0.child (suc depth) n rest (on_child file meta number depth i view e.0 on node e.1) (sym (leads_child file meta number i view e.0 rest node e.1) ∙ l))
+  ]

@@ -1,0 +1,158 @@
+-- What a push does to a stack.
+use Rattle.std.proofs.Common.{◌≡◌, ℕ, zero, suc, ◌+◌, ◌-◌, ◌≤◌, ◌<◌, List, [], ◌∷◌, ◌++◌, Some, None, slice_get, length, drop, take, refl, sym, ap, ◌∙◌, subst, arith, append_assoc}
+use Rattle.std.proofs.Math.Logic.{∥∥₁_elim, ∥∥₁_map}
+use Rattle.std.proofs.Props.{props}
+use Rattle.bolt_format.specs.Elements.{BranchElement, LeafElement}
+use Rattle.bolt_check.specs.OnWays.{IsOnWay}
+use Rattle.bolt_check.specs.Sound.{HasSoundTrees}
+use Rattle.bolt_check.proofs.TreePages.{on_child, shallow}
+use Rattle.bolt_tree.specs.BucketViews.{BucketView, contents_in, pages_in}
+use Rattle.bolt_tree.specs.Contents.{Content, Contents, Of_branch, Of_leaf, content_length}
+use Rattle.bolt_tree.specs.Stacks.{Frame, HasStack, IsGoodContent, IsStack, address_on, left_of, left_under, right_of, right_under}
+use Rattle.bolt_tree.specs.Tours.{Visit, all_under, tour}
+use Rattle.bolt_tree.proofs.TourLemmas.{not_deepest}
+use Rattle.bolt_tree.proofs.WayPages.{IsWayPage, a_branch, a_leaf, on_way_page}
+
+no_element : (e : BranchElement) → None ≡ Some e → ⊥
+no_element e h = cc
+
+-- what lies under the elements of a branch, cut at one
+pub under_cut : (f : ℕ → ℕ → List Visit) (i k j : ℕ) (elements : List BranchElement) (e : BranchElement) → slice_get elements k ≡ Some e → j ≡ i + k
+    → all_under f i elements ≡ all_under f i (take k elements) ++ (f j e.child ++ all_under f (suc j) (drop (suc k) elements))
+under_cut f i k j [] e g s = absurd (no_element e g)
+under_cut f i zero j (x ∷ elements) e g s =
+    let same : x ≡ e = cc in
+    let here : j ≡ i = omega arith in
+    rw (same, here) refl
+under_cut f i (suc k) j (x ∷ elements) e g s =
+    let next : j ≡ suc i + k = omega arith in
+    ap (λ (vs : List Visit). f i x.child ++ vs) (under_cut f (suc i) k j elements e g next) ∙ sym (append_assoc (f i x.child) (all_under f (suc i) (take k elements)) (f j e.child ++ all_under f (suc j) (drop (suc k) elements)))
+
+-- what lies to the right of what is taken, from the next element on
+pub under_next : (f : ℕ → ℕ → List Visit) (i k : ℕ) (elements : List BranchElement) (e : BranchElement) → slice_get elements k ≡ Some e
+    → all_under f i (drop k elements) ≡ f i e.child ++ all_under f (suc i) (drop (suc k) elements)
+under_next f i k [] e g = absurd (no_element e g)
+under_next f i zero (x ∷ elements) e g = let same : x ≡ e = cc in rw same refl
+under_next f i (suc k) (x ∷ elements) e g = under_next f i k elements e g
+
+regroup : (l a b c r : List Visit) (v : Visit) → l ++ ((v ∷ (a ++ (b ++ c))) ++ r) ≡ (l ++ v ∷ a) ++ (b ++ (c ++ r))
+regroup l a b c r v = simp append_assoc
+
+cut_between : (l r whole part : List Visit) (v : Visit) (a b c : List Visit) → whole ≡ l ++ (part ++ r) → part ≡ v ∷ (a ++ (b ++ c)) → whole ≡ (l ++ v ∷ a) ++ (b ++ (c ++ r))
+cut_between l r whole part v a b c p q = p ∙ (ap (λ (x : List Visit). l ++ (x ++ r)) q ∙ regroup l a b c r v)
+
+abbrev under : Contents → ℕ → List ℕ → ℕ → ℕ → List Visit
+under contents n address i child = tour contents n (address ++ i ∷ []) (contents child)
+
+-- the tour of a branch, cut at an element
+tour_cut : (contents : Contents) (m n k : ℕ) (address : List ℕ) (elements : List BranchElement) (e : BranchElement) → m ≡ suc n → slice_get elements k ≡ Some e
+    → tour contents m address (Of_branch elements) ≡ record { address = address; entries = [] } ∷ (all_under (under contents n address) 0 (take k elements)
+    ++ (under contents n address k e.child ++ all_under (under contents n address) (suc k) (drop (suc k) elements)))
+tour_cut contents m n k address elements e same g =
+    ap (λ (x : ℕ). tour contents x address (Of_branch elements)) same
+    ∙ ap (λ (vs : List Visit). record { address = address; entries = [] } ∷ vs) (under_cut (λ i child. tour contents n (address ++ i ∷ []) (contents child)) 0 k k elements e g (omega arith))
+
+pub in_range : {X : Type 0} (xs : List X) (k : ℕ) (x : X) → slice_get xs k ≡ Some x → k < length xs
+in_range [] k x g = absurd (let h : (None ≡ Some x → ⊥) = λ e. cc in h g)
+in_range (y ∷ xs) zero x g = omega arith
+in_range (y ∷ xs) (suc k) x g = let r = in_range xs k x g in omega (arith, r)
+
+same_branch : (o : Content) (a c : List BranchElement) → o ≡ Of_branch a → o ≡ Of_branch c → a ≡ c
+same_branch o a c e h = cc
+
+pub not_leaf : (o : Content) (a : List LeafElement) (c : List BranchElement) → o ≡ Of_leaf a → o ≡ Of_branch c → ⊥
+not_leaf o a c e h = cc
+
+module _ (bucket : BucketView) (trees : HasSoundTrees bucket.file bucket.meta) where
+  pub page_on : (number depth : ℕ) → IsOnWay bucket.file bucket.meta number depth → IsWayPage bucket.file bucket.meta number
+  page_on number depth on = on_way_page bucket.file bucket.meta trees number depth on
+
+  pub good_content : (number depth : ℕ) → IsOnWay bucket.file bucket.meta number depth → IsGoodContent bucket depth (contents_in bucket number)
+  good_content number depth on = elim (page_on number depth on) [
+    | a_leaf view at is node content ↦ subst (IsGoodContent bucket depth) (sym content) tt
+    | a_branch view at is node content ↦ subst (IsGoodContent bucket depth) (sym content) (number, on, content)
+  ]
+
+  -- a branch that is the page of a way: where its elements lead
+  branch_child : (number depth k : ℕ) (elements : List BranchElement) (e : BranchElement) → IsOnWay bucket.file bucket.meta number depth → contents_in bucket number ≡ Of_branch elements
+      → slice_get elements k ≡ Some e → IsOnWay bucket.file bucket.meta e.child (suc depth)
+  branch_child number depth k elements e on is g = elim (page_on number depth on) [
+    | a_leaf view at kind node content ↦ absurd (not_leaf (contents_in bucket number) view.leaves elements content is)
+    | a_branch view at kind node content ↦ (
+        let same = same_branch (contents_in bucket number) view.branches elements content is in
+        on_child bucket.file bucket.meta number depth k view e on node (ap (λ (es : List BranchElement). slice_get es k) same ∙ g))
+  ]
+
+  -- it has room for a page above it
+  pub room_above : (number depth : ℕ) (elements : List BranchElement) → IsOnWay bucket.file bucket.meta number depth → contents_in bucket number ≡ Of_branch elements → suc depth ≤ 64
+  room_above number depth elements on is = elim (page_on number depth on) [
+    | a_leaf view at kind node content ↦ absurd (not_leaf (contents_in bucket number) view.leaves elements content is)
+    | a_branch view at kind node content ↦ not_deepest bucket.file bucket.meta trees number depth view on node
+  ]
+
+  -- the way to the page under an element of the branch on top
+  pub way_under : (elements : List BranchElement) (t k : ℕ) (e : BranchElement) (below : List Frame) → IsStack bucket (record { content = Of_branch elements; taken = t } ∷ below)
+      → slice_get elements k ≡ Some e → IsOnWay bucket.file bucket.meta e.child (suc (suc (length below)))
+  way_under elements t k e below stack g = branch_child stack.0.good.0 (suc (length below)) k elements e stack.0.good.1 stack.0.good.2 g
+
+  -- the page under the last element that is taken, put on the stack
+  pub push_child : (elements : List BranchElement) (t : ℕ) (e : BranchElement) (below : List Frame) → IsStack bucket (record { content = Of_branch elements; taken = t + 1 } ∷ below)
+      → slice_get elements t ≡ Some e → IsStack bucket (record { content = contents_in bucket e.child; taken = 0 } ∷ record { content = Of_branch elements; taken = t + 1 } ∷ below)
+  push_child elements t e below stack g =
+      let over = stack.0 in
+      let contents = contents_in bucket in
+      let on = way_under elements (t + 1) t e below stack g in
+      let deep = shallow bucket.file bucket.meta trees e.child (suc (suc (length below))) on in
+      let fuel : 63 - length below ≡ suc (62 - length below) = omega (arith, deep) in
+      let fuel2 : 62 - length below ≡ 63 - suc (length below) = omega (arith, deep) in
+      let back : t ≡ (t + 1) - 1 = omega arith in
+      let next : suc t ≡ t + 1 = omega arith in
+      let address = address_on below in
+      let cut = tour_cut contents (63 - length below) (62 - length below) t address elements e fuel g in
+      let placed : pages_in bucket ≡ (left_of contents below ++ left_under contents (length below) address (Of_branch elements) t)
+      ++ (tour contents (62 - length below) (address ++ t ∷ []) (contents e.child) ++ (right_under contents (length below) address (Of_branch elements) (suc t) ++ right_of contents below)) =
+      cut_between (left_of contents below) (right_of contents below) (pages_in bucket) (tour contents (63 - length below) address (Of_branch elements)) (record { address = address; entries = [] })
+      (all_under (under contents (62 - length below) address) 0 (take t elements)) (under contents (62 - length below) address t e.child)
+      (all_under (under contents (62 - length below) address) (suc t) (drop (suc t) elements)) over.placed cut in (
+        record {
+          shallow = deep;
+          good = good_content e.child (suc (suc (length below))) on;
+          bound = omega arith;
+          fits = omega arith;
+          branch = tt;
+          placed = rw (← back, ← next, ← fuel2) placed;
+        },
+        stack,
+      )
+
+-- the same for a stack of a sound bucket
+module _ (bucket : BucketView) where
+  pub stack_short : (f : Frame) (below : List Frame) → HasStack bucket (f ∷ below) → suc (length below) ≤ 64
+  stack_short f below stack = ∥∥₁_elim stack (Prim.hlevel props) (λ s. s.1.0.shallow)
+
+  -- how much of the page on top is taken is no matter of where it stands
+  pub retaken : (content : Content) (t u : ℕ) (below : List Frame) → HasStack bucket (record { content = content; taken = t } ∷ below) → u ≤ suc (content_length content) → u ≤ 65536
+      → HasStack bucket (record { content = content; taken = u } ∷ below)
+  retaken content t u below stack h k = ∥∥₁_map stack (λ s.
+      (s.0, (record { shallow = s.1.0.shallow; good = s.1.0.good; bound = h; fits = k; branch = s.1.0.branch; placed = s.1.0.placed }, s.1.1)))
+
+  pub taken_bound : (f : Frame) (below : List Frame) → HasStack bucket (f ∷ below) → f.taken ≤ suc (content_length f.content)
+  taken_bound f below stack = ∥∥₁_elim stack (Prim.hlevel props) (λ s. s.1.0.bound)
+
+  pub taken_fits : (f : Frame) (below : List Frame) → HasStack bucket (f ∷ below) → f.taken ≤ 65536
+  taken_fits f below stack = ∥∥₁_elim stack (Prim.hlevel props) (λ s. s.1.0.fits)
+
+  pub popped : (f : Frame) (below : List Frame) → HasStack bucket (f ∷ below) → HasStack bucket below
+  popped f below stack = ∥∥₁_map stack (λ s. (s.0, s.1.1))
+
+  pub child_way : (elements : List BranchElement) (t k : ℕ) (e : BranchElement) (below : List Frame) → HasStack bucket (record { content = Of_branch elements; taken = t } ∷ below)
+      → slice_get elements k ≡ Some e → ∥ ((depth : ℕ) × IsOnWay bucket.file bucket.meta e.child depth) ∥₁
+  child_way elements t k e below stack g = ∥∥₁_map stack (λ s. (suc (suc (length below)), way_under bucket s.0.trees elements t k e below s.1 g))
+
+  pub child_pushed : (elements : List BranchElement) (t : ℕ) (e : BranchElement) (below : List Frame) → HasStack bucket (record { content = Of_branch elements; taken = t + 1 } ∷ below)
+      → slice_get elements t ≡ Some e → HasStack bucket (record { content = contents_in bucket e.child; taken = 0 } ∷ record { content = Of_branch elements; taken = t + 1 } ∷ below)
+  child_pushed elements t e below stack g = ∥∥₁_map stack (λ s. (s.0, push_child bucket s.0.trees elements t e below s.1 g))
+
+  -- a branch on a stack has room for a page above it
+  pub branch_room : (elements : List BranchElement) (t : ℕ) (below : List Frame) → HasStack bucket (record { content = Of_branch elements; taken = t } ∷ below) → suc (suc (length below)) ≤ 64
+  branch_room elements t below stack = ∥∥₁_elim stack (Prim.hlevel props) (λ s. room_above bucket s.0.trees s.1.0.good.0 (suc (length below)) elements s.1.0.good.1 s.1.0.good.2)

@@ -1,0 +1,160 @@
+-- What the moves of a trail do to its stack.
+use Rattle.std.proofs.Common.{◌≡◌, ◌==◌, ℕ, zero, suc, ◌+◌, ◌-◌, ◌≤◌, ◌<◌, Bool, true, false, List, [], ◌∷◌, ◌++◌, Some, None, Option, slice_get, length, map, reverse, drop, refl, sym, ap, ◌∙◌, subst, arith, append_assoc}
+use Rattle.std.specs.Option.{option_to_list}
+use Rattle.std.specs.Prelude.{IsTrue}
+use Rattle.std.proofs.Math.Logic.{∥∥₁_elim}
+use Rattle.std.proofs.Props.{props}
+use Rattle.std.proofs.lemmas.Bool.Decides.{nat_tests}
+use Rattle.std.proofs.lemmas.List.{drop_all, length-map, length-reverse, reverse-append}
+use Rattle.bolt_format.specs.Elements.{BranchElement, LeafElement}
+use Rattle.bolt_format.specs.Pages.{PageView, page_at}
+use Rattle.bolt_format.specs.declared.meta.Meta.{Meta}
+use Rattle.bolt_check.specs.CheckedFiles.{bytes_of, meta_of}
+use Rattle.bolt_check.specs.OnWays.{IsOnWay}
+use Rattle.bolt_check.specs.declared.checked_file.Checked.{Checked}
+use Rattle.bolt_check.proofs.CheckedLemmas.{checked_trees}
+use Rattle.bolt_tree.specs.BucketViews.{BucketView, contents_in}
+use Rattle.bolt_tree.specs.Contents.{Content, Contents, Of_branch, Of_leaf, content_length, is_tree_kind}
+use Rattle.bolt_tree.specs.Entered.{IsEntered, taken_at}
+use Rattle.bolt_tree.specs.Stacks.{Frame, HasStack, IsBranchContent, IsBranchTop, IsOn, address_on, ahead_of, here_of, here_under, right_of, right_under, under_at}
+use Rattle.bolt_tree.specs.Tours.{Visit, elements_of, tour}
+use Rattle.bolt_tree.specs.Trails.{IsSameBucket, frame_of, frames_of, trail_bucket}
+use Rattle.bolt_tree.specs.declared.position.Position.{Position}
+use Rattle.bolt_tree.specs.declared.trail.Trail.{Trail}
+use Rattle.bolt_tree.proofs.StackLemmas.{branch_room, stack_short, under_next}
+use Rattle.bolt_tree.proofs.WayPages.{IsWayPage, a_branch, a_leaf, on_way_page}
+
+-- one equation moves every fact of a bucket
+pub same_bucket : (old new : Trail) → IsSameBucket old new → trail_bucket new ≡ trail_bucket old
+same_bucket old new same = rw (same.file, same.at) refl
+
+pub frames_push : (items : List Position) (position : Position) → frames_of (items ++ position ∷ []) ≡ frame_of position ∷ frames_of items
+frames_push items position = ap (map frame_of) (reverse-append items (position ∷ []))
+
+pub length-frames : (items : List Position) → length (frames_of items) ≡ length items
+length-frames items = length-map (reverse items) frame_of ∙ length-reverse items
+
+pub stack_room : (bucket : BucketView) (f : Frame) (items : List Position) → HasStack bucket (f ∷ frames_of items) → length items < 64
+stack_room bucket f items stack = let h = stack_short bucket f (frames_of items) stack in let l = length-frames items in omega (arith, h, l)
+
+pub nonempty : (items : List Position) (empty : Bool) → empty ≡ (length items == 0) → empty ≡ false → frames_of items ≡ [] → ⊥
+nonempty items empty e f nil =
+    let l = length-frames items in
+    let z : length (frames_of items) ≡ 0 = ap length nil in
+    grind (arith, nat_tests, l, z, e, f)
+
+-- the pages of the tree have its kinds
+same_view : (o : Option PageView) (a c : PageView) → o ≡ Some a → o ≡ Some c → a ≡ c
+same_view o a c e h = cc
+
+tree_kind_at : (file : List ℕ) (meta : Meta) (number : ℕ) (view : PageView) → IsWayPage file meta number → page_at file meta number ≡ Some view → IsTrue (is_tree_kind view.kind)
+tree_kind_at file meta number view (a_leaf v at is node content) e = let same = same_view (page_at file meta number) v view at e in ap is_tree_kind (sym (ap (λ (w : PageView). w.kind) same) ∙ is)
+tree_kind_at file meta number view (a_branch v at is node content) e = let same = same_view (page_at file meta number) v view at e in ap is_tree_kind (sym (ap (λ (w : PageView). w.kind) same) ∙ is)
+
+pub way_kind : (checked : Checked) (number : ℕ) (view : PageView) → ∥ ((depth : ℕ) × IsOnWay (bytes_of checked) (meta_of checked) number depth) ∥₁
+    → page_at (bytes_of checked) (meta_of checked) number ≡ Some view → IsTrue (is_tree_kind view.kind)
+way_kind checked number view on e = ∥∥₁_elim on (Prim.hlevel props) (λ (depth, w). ∥∥₁_elim (checked_trees checked) (Prim.hlevel props) (λ trees.
+    tree_kind_at (bytes_of checked) (meta_of checked) number view (on_way_page (bytes_of checked) (meta_of checked) trees number depth w) e))
+
+-- the tour of a page is the page and what lies under it
+tour_top : (contents : Contents) (n h : ℕ) (address : List ℕ) (content : Content) → ((elements : List BranchElement) → content ≡ Of_branch elements → n ≡ suc (62 - h))
+    → tour contents n address content ≡ record { address = address; entries = here_under content 0 } ∷ right_under contents h address content 0
+tour_top contents n h address (Of_leaf elements) same = refl
+tour_top contents n h address (Of_branch elements) same = ap (λ (m : ℕ). tour contents m address (Of_branch elements)) (same elements refl)
+
+drop_next : {X : Type 0} (xs : List X) (i : ℕ) (x : X) → slice_get xs i ≡ Some x → drop i xs ≡ x ∷ drop (suc i) xs
+drop_next [] i x g = absurd (let h : (None ≡ Some x → ⊥) = λ e. cc in h g)
+drop_next {X = X} (y ∷ xs) zero x g = let same : y ≡ x = cc in ap (λ (z : X). z ∷ xs) same
+drop_next (y ∷ xs) (suc i) x g = drop_next xs i x g
+
+-- an entry is taken
+pub entered_some : (contents : Contents) (content : Content) (i : ℕ) (below new : List Frame) (e : LeafElement) → IsEntered contents false content i below new (Some e)
+    → (ahead_of contents (record { content = content; taken = i } ∷ below) ≡ e ∷ ahead_of contents new) × (right_of contents (record { content = content; taken = i } ∷ below) ≡ right_of contents new) × IsOn new e
+entered_some contents (Of_leaf elements) i below new e h =
+    let next : suc i ≡ i + 1 = omega arith in
+    let back : i ≡ (i + 1) - 1 = omega arith in
+    let cut : drop i elements ≡ e ∷ drop (i + 1) elements = rw (← next) (drop_next elements i e h.0) in
+    let on : IsOn (record { content = Of_leaf elements; taken = i + 1 } ∷ below) e = (omega arith, rw (← back) h.0) in
+    (rw (h.1, cut) refl, rw h.1 refl, subst (λ (fs : List Frame). IsOn fs e) (sym h.1) on)
+entered_some contents (Of_branch elements) i below new e h = absurd h
+
+nothing_here : (content : Content) (taken : ℕ) → content_length content ≤ taken → here_under content taken ≡ []
+nothing_here (Of_leaf elements) taken h = drop_all taken elements h
+nothing_here (Of_branch elements) taken h = refl
+
+nothing_under : (contents : Contents) (H : ℕ) (address : List ℕ) (content : Content) (taken : ℕ) → content_length content ≤ taken → right_under contents H address content taken ≡ []
+nothing_under contents H address (Of_leaf elements) taken h = refl
+nothing_under contents H address (Of_branch elements) taken h = ap (λ (es : List BranchElement). under_at contents H address taken es) (drop_all taken elements h)
+
+by_content : (content : Content) (taken : ℕ) → IsBranchContent content → here_under content taken ≡ []
+by_content (Of_leaf elements) taken h = absurd h
+by_content (Of_branch elements) taken h = refl
+
+branch_here : (frames : List Frame) → IsBranchTop frames → here_of frames ≡ []
+branch_here [] h = refl
+branch_here (f ∷ below) h = by_content f.content f.taken h
+
+-- what lies to the right, with the page that is opened first
+opened_right : (contents : Contents) (H i : ℕ) (address : List ℕ) (elements : List BranchElement) (b : BranchElement) (rest : List Visit) → slice_get elements i ≡ Some b
+    → ((cs : List BranchElement) → contents b.child ≡ Of_branch cs → 62 - H ≡ suc (62 - suc H))
+    → under_at contents H address i (drop i elements) ++ rest ≡ record { address = address ++ i ∷ []; entries = here_under (contents b.child) 0 }
+    ∷ (right_under contents (suc H) (address ++ i ∷ []) (contents b.child) 0 ++ (under_at contents H address (suc i) (drop (suc i) elements) ++ rest))
+opened_right contents H i address elements b rest g same =
+    let f : ℕ → ℕ → List Visit = λ j child. tour contents (62 - H) (address ++ j ∷ []) (contents child) in
+    let tail : List Visit = under_at contents H address (suc i) (drop (suc i) elements) in
+    let v : Visit = record { address = address ++ i ∷ []; entries = here_under (contents b.child) 0 } in
+    let more : List Visit = right_under contents (suc H) (address ++ i ∷ []) (contents b.child) 0 in
+    let first : under_at contents H address i (drop i elements) ≡ f i b.child ++ tail = under_next f i i elements b g in
+    let top : f i b.child ≡ v ∷ more = tour_top contents (62 - H) (suc H) (address ++ i ∷ []) (contents b.child) same in
+    ap (λ (vs : List Visit). vs ++ rest) first ∙ (ap (λ (vs : List Visit). (vs ++ tail) ++ rest) top ∙ ap (λ (vs : List Visit). v ∷ vs) (append_assoc more tail rest))
+
+-- a page is opened
+pub entered_none : (bucket : BucketView) (content : Content) (i : ℕ) (below new : List Frame) → IsEntered (contents_in bucket) false content i below new None → HasStack bucket new
+    → (ahead_of (contents_in bucket) (record { content = content; taken = i } ∷ below) ≡ ahead_of (contents_in bucket) new)
+    × (length (right_of (contents_in bucket) (record { content = content; taken = i } ∷ below)) ≡ suc (length (right_of (contents_in bucket) new)))
+entered_none bucket (Of_leaf elements) i below new h stack = absurd h
+entered_none bucket (Of_branch elements) i below new h stack =
+    let contents = contents_in bucket in
+    let b = h.0 in
+    let placed = rw h.2 at stack in
+    let right = opened_right contents (length below) i (address_on below) elements b (right_of contents below) h.1 (λ cs e.
+    let room = branch_room bucket cs 0 (record { content = Of_branch elements; taken = i + 1 } ∷ below) (rw e at placed) in omega (arith, room)) in
+    let next : suc i ≡ i + 1 = omega arith in
+    let back : i ≡ (i + 1) - 1 = omega arith in
+    (rw (h.2, ← back, ← next) (ap elements_of right), rw (h.2, ← back, ← next) (ap length right))
+
+-- a page of which all is taken leaves the stack
+pub exhausted : (bucket : BucketView) (f : Frame) (below : List Frame) → HasStack bucket (f ∷ below) → content_length f.content ≤ f.taken
+    → (ahead_of (contents_in bucket) below ≡ ahead_of (contents_in bucket) (f ∷ below)) × (right_of (contents_in bucket) below ≡ right_of (contents_in bucket) (f ∷ below))
+exhausted bucket f below stack h =
+    let here = nothing_here f.content f.taken h in
+    let under = nothing_under (contents_in bucket) (length below) (address_on below) f.content f.taken h in
+    let top : here_of below ≡ [] = ∥∥₁_elim stack (Prim.hlevel props) (λ s. branch_here below s.1.0.branch) in
+    (rw (here, under, top) refl, rw under refl)
+
+-- one step of a move forward
+pub step_some : (old now : BucketView) (whole below new : List Frame) (f : Frame) (e : LeafElement) → now ≡ old → whole ≡ f ∷ below → IsEntered (contents_in old) false f.content f.taken below new (Some e)
+    → (ahead_of (contents_in old) whole ≡ e ∷ ahead_of (contents_in now) new) × (right_of (contents_in old) whole ≡ right_of (contents_in now) new) × IsOn new e
+step_some old now whole below new f e same frames h =
+    let r = entered_some (contents_in old) f.content f.taken below new e h in
+    (rw (frames, same) (r.0), rw (frames, same) (r.1), r.2)
+
+pub step_none : (old now : BucketView) (whole below new : List Frame) (f : Frame) → now ≡ old → whole ≡ f ∷ below → IsEntered (contents_in old) false f.content f.taken below new None
+    → HasStack now new
+    → (ahead_of (contents_in old) whole ≡ ahead_of (contents_in now) new) × (length (right_of (contents_in old) whole) ≡ suc (length (right_of (contents_in now) new)))
+step_none old now whole below new f same frames h stack =
+    let s : HasStack old new = subst (λ (k : BucketView). HasStack k new) same stack in
+    let r = entered_none old f.content f.taken below new h s in
+    (rw (frames, same) (r.0), rw (frames, same) (r.1))
+
+pub frames_pop : (old new : List Position) (top : Position) → old ≡ new ++ option_to_list (Some top) → frames_of old ≡ frame_of top ∷ frames_of new
+frames_pop old new top e = ap frames_of e ∙ frames_push new top
+
+pub entered_length : (contents : Contents) (at_end : Bool) (content : Content) (i : ℕ) (below new : List Frame) → IsEntered contents at_end content i below new None → length new ≡ suc (suc (length below))
+entered_length contents at_end (Of_leaf elements) i below new h = absurd h
+entered_length contents at_end (Of_branch elements) i below new h = ap length h.2
+
+pub taken_within : (at_end : Bool) (content : Content) → taken_at at_end content ≤ suc (content_length content)
+taken_within true content = omega arith
+taken_within false content = omega arith
+
