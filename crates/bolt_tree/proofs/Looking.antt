@@ -61,12 +61,13 @@ module _ (checked : Checked) (bucket : Start) (fresh moved : Cursor) (key : Key)
       let came = comes_from key entries (cursor_place moved) (Some l) (here (Some l) moves entries are) in
       ((are.exact l).0 (contains_at entries (least_from key entries) l came.1), sym (neither key l.key (key_cmp key l.key) refl not_less (seek_from key entries l came.1))))
 
-  pub look_same : (l : LeafElement) → MovesFrom (Some l) → is_lt (key_cmp key l.key) ≡ false → (e : LeafElement) → entries_of checked bucket e → e.key ≡ key → e.is_bucket ≡ l.is_bucket
-  look_same l moves not_less e is same =
-      ∥∥₁_elim known (hlevel props) (λ (entries, are). ∥∥₁_elim (look_found l moves not_less) (hlevel props) (λ (own, at).
+-- what is found is the one entry with that key
+module _ (checked : Checked) (bucket : Start) (key : Key) (l : LeafElement) (begins : HasStart checked bucket) (found : ∥ entries_of checked bucket l × (l.key ≡ key) ∥₁) where
+  pub same_kind : (e : LeafElement) → entries_of checked bucket e → e.key ≡ key → e.is_bucket ≡ l.is_bucket
+  same_kind e is same =
+      ∥∥₁_elim (own_entries checked bucket begins) (hlevel props) (λ (entries, are). ∥∥₁_elim found (hlevel props) (λ (own, at).
       ap (λ (x : LeafElement). x.is_bucket) (entry_once (entries_of checked) bucket entries are e l is own (same ∙ sym at))))
 
   -- a bucket that is found is one of the tree
-  pub look_inside : (l : LeafElement) → HasStart checked bucket → MovesFrom (Some l) → is_lt (key_cmp key l.key) ≡ false → l.is_bucket ≡ true → HasStart checked (start_of l.value)
-  look_inside l begins moves not_less b =
-      ∥∥₁_elim begins ∥∥₁_prop (λ start. ∥∥₁_map (look_found l moves not_less) (λ (own, at). starts_below (bytes_of checked) (meta_of checked) bucket l start own b))
+  pub begins_inside : l.is_bucket ≡ true → HasStart checked (start_of l.value)
+  begins_inside b = ∥∥₁_elim begins ∥∥₁_prop (λ start. ∥∥₁_map found (λ (own, at). starts_below (bytes_of checked) (meta_of checked) bucket l start own b))

@@ -7,6 +7,11 @@ use Rattle.bolt_tree.specs.Buckets.{bucket_sequence, bucket_start}
 use Rattle.bolt_tree.specs.Entries.{Start, start_of}
 use Rattle.bolt_tree.specs.declared.bucket.Bucket.{Bucket}
 
+-- the entry with the key, or none has it
+abbrev pub IsElementAt : (Start → LeafElement → Type 0) → Start → Key → Option LeafElement → Type 0
+IsElementAt Entry bucket key (Some e) = ∥ Entry bucket e × (e.key ≡ key) ∥₁
+IsElementAt Entry bucket key None = (e : LeafElement) → Entry bucket e → e.key ≡ key → ⊥
+
 -- the value of an entry with the key; or no entry with the key is a value
 abbrev pub IsValueAt : (Start → LeafElement → Type 0) → Start → Key → Option (List ℕ) → Type 0
 IsValueAt Entry bucket key (Some value) = ∥ ((e : LeafElement) × Entry bucket e × (e.key ≡ key) × (e.is_bucket ≡ false) × (e.value ≡ value)) ∥₁

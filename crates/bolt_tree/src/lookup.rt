@@ -1,11 +1,12 @@
 //! What a bucket has under a key (docs/LISTING.md, "A key in a bucket").
-ghost use Rattle.std.specs.Prelude.{◌≡◌, IfSome};
+ghost use Rattle.std.specs.Prelude.{◌≡◌, IfSome, IsTrue};
 ghost use Rattle.std.specs.Option.{option_map};
+ghost use Rattle.bolt_format.specs.ElementPlaces.{leaf_view};
 ghost use Rattle.bolt_format.specs.Elements.{IsBucketValue, head_sequence};
 ghost use Rattle.bolt_tree.specs.Buckets.{bucket_checked, bucket_sequence, bucket_start};
 ghost use Rattle.bolt_tree.specs.BucketViews.{entries_of};
 ghost use Rattle.bolt_tree.specs.Entries.{start_of};
-ghost use Rattle.bolt_tree.specs.Lookups.{IsBucketAt, IsValueAt};
+ghost use Rattle.bolt_tree.specs.Lookups.{IsBucketAt, IsElementAt, IsValueAt};
 ghost use Rattle.bolt_tree.specs.Starts.{HasStart, start_at};
 
 use crate::at::At;
@@ -44,10 +45,10 @@ impl<'a> Bucket<'a> {
         }
     }
 
-    /// The value under a key: `None` where the bucket has no entry with that key, and where that
-    /// entry is a bucket. It goes down once, as a cursor's `seek` does, and takes no memory.
-    pub fn get(&self, key: &[u8]) -> Option<&'a [u8]>
-        ensures { IsValueAt (entries_of (bucket_checked self.now)) (bucket_start self.now) key.now (option_map (λ value. value.now) result) }
+    /// The element with a key, if there is one. It goes down once, as a cursor's `seek` does.
+    fn element(&self, key: &[u8]) -> Option<Leaf<'a>>
+        ensures element { IsElementAt (entries_of (bucket_checked self.now)) (bucket_start self.now) key.now (option_map leaf_view result) }
+        ensures bucket { IfSome result (λ leaf. IsTrue leaf.is_bucket → IsBucketValue leaf.value.now) }
     {
         let mut cursor = self.cursor();
         let Some(leaf) = cursor.seek_element(key) else {
@@ -56,6 +57,17 @@ impl<'a> Bucket<'a> {
         if key.cmp(leaf.key).is_lt() {
             return None;
         }
+        Some(leaf)
+    }
+
+    /// The value under a key: `None` where the bucket has no entry with that key, and where that
+    /// entry is a bucket. It opens as many pages as a cursor's `seek`, and takes no memory.
+    pub fn get(&self, key: &[u8]) -> Option<&'a [u8]>
+        ensures { IsValueAt (entries_of (bucket_checked self.now)) (bucket_start self.now) key.now (option_map (λ value. value.now) result) }
+    {
+        let Some(leaf) = self.element(key) else {
+            return None;
+        };
         if leaf.is_bucket {
             return None;
         }
@@ -63,18 +75,14 @@ impl<'a> Bucket<'a> {
     }
 
     /// The bucket under a key: `None` where this bucket has no entry with that key, and where that
-    /// entry is a value. It goes down once, as a cursor's `seek` does, and takes no memory.
+    /// entry is a value. It opens as many pages as a cursor's `seek`, and takes no memory.
     pub fn bucket(&self, key: &[u8]) -> Option<Bucket<'a>>
         ensures checked { IfSome result (λ inner. bucket_checked inner ≡ bucket_checked self.now) }
         ensures bucket { IsBucketAt (entries_of (bucket_checked self.now)) (bucket_start self.now) key.now result }
     {
-        let mut cursor = self.cursor();
-        let Some(leaf) = cursor.seek_element(key) else {
+        let Some(leaf) = self.element(key) else {
             return None;
         };
-        if key.cmp(leaf.key).is_lt() {
-            return None;
-        }
         if !leaf.is_bucket {
             return None;
         }
