@@ -1,12 +1,15 @@
+pub mod BackLemmas
 pub mod CountLemmas
-pub mod CursorLemmas
 pub mod FurtherLemmas
 pub mod GapLemmas
 pub mod HalvesLemmas
+pub mod HeldLemmas
 pub mod ListLemmas
 pub mod MoveLemmas
+pub mod OpeningMoves
 pub mod PagerLemmas
 pub mod PlaceLemmas
+pub mod PlaceMoves
 pub mod RootLemmas
 pub mod SeekCounts
 pub mod SortedLemmas
