@@ -1,7 +1,7 @@
 -- What a cursor keeps, and its moves by those of its trail.
 use Rattle.std.proofs.Common.{◌≡◌, ◌==◌, ℕ, ◌-◌, ◌≤◌, Bool, true, false, List, [], ◌∷◌, Option, length, drop, refl, ap, sym, ◌∙◌, subst, arith}
 use Rattle.std.specs.Option.{option_map}
-use Rattle.std.proofs.Math.Logic.{∥∥₁_elim}
+use Rattle.std.proofs.Math.Logic.{∥∥₁_elim, ∥∥₁_map}
 use Rattle.std.proofs.Props.{props}
 use Rattle.std.proofs.lemmas.Bool.Decides.{nat_tests}
 use Rattle.bolt_format.specs.ElementPlaces.{leaf_view}
@@ -32,6 +32,15 @@ rest_on_prop (Of_branch elements) taken = Prim.hlevel props
 rest_prop : (frames : List Frame) → IsProp (IsAtRest frames)
 rest_prop [] = Prim.hlevel props
 rest_prop (f ∷ below) = rest_on_prop f.content f.taken
+
+-- before the first call
+pub fresh_held : (trail : Trail) → HasBucket trail → trail_frames trail ≡ [] → ∥ IsHeld trail false ∥₁
+fresh_held trail is none =
+    let held : IsHeld trail false = record {
+      stack = subst (HasStack (trail_bucket trail)) (sym none) (∥∥₁_map is (λ s. (s, tt)));
+      rest = subst IsAtRest (sym none) tt;
+      empty = λ e. none;
+    } in ∣ held ∣₁
 
 pub held_stack : (trail : Trail) (is_past : Bool) → ∥ IsHeld trail is_past ∥₁ → HasTrail trail
 held_stack trail is_past held = ∥∥₁_elim held (Prim.hlevel props) (λ h. h.stack)

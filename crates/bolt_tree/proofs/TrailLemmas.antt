@@ -158,3 +158,10 @@ pub taken_within : (at_end : Bool) (content : Content) → taken_at at_end conte
 taken_within true content = omega arith
 taken_within false content = omega arith
 
+-- the same stack, as it is shown otherwise
+pub moved_stack : (old now : BucketView) (a d : Content) (under below : List Frame) → now ≡ old → d ≡ a → below ≡ under
+    → HasStack old (record { content = a; taken = 0 } ∷ under) → HasStack now (record { content = d; taken = 0 } ∷ below)
+moved_stack old now a d under below e f g stack =
+    let one : HasStack now (record { content = a; taken = 0 } ∷ under) = subst (λ (k : BucketView). HasStack k (record { content = a; taken = 0 } ∷ under)) (sym e) stack in
+    let two : HasStack now (record { content = d; taken = 0 } ∷ under) = subst (λ (c : Content). HasStack now (record { content = c; taken = 0 } ∷ under)) (sym f) one in
+    subst (λ (fs : List Frame). HasStack now (record { content = d; taken = 0 } ∷ fs)) (sym g) two
