@@ -72,10 +72,13 @@ prev_is_last true contents frames (x ∷ entries) e = refl
 prev_is_last false contents frames [] e = refl
 prev_is_last false contents frames (x ∷ entries) e = rw e refl
 
--- The moves of a trail within one bucket, as moves of a cursor over the bucket's entries.
-module _ (bucket : BucketView) (is : ∥ IsSoundBucket bucket ∥₁) (found : Option Leaf) (new : List Frame) (stack : HasStack bucket new) where
+-- The moves of a trail within one bucket, which is still the same after them, as moves of a cursor over the bucket's entries.
+module _ (bucket other : BucketView) (same : other ≡ bucket) (is : ∥ IsSoundBucket bucket ∥₁) (found : Option Leaf) (new : List Frame) (stack : HasStack other new) where
   abbrev MovesTo : (List LeafElement → Place → Move) → Place → Place → Type 0
   MovesTo move from to = Moves (IsEntry bucket.file bucket.meta) bucket.start move from to (option_map leaf_view found)
+
+  there : HasStack bucket new
+  there = subst (λ (b : BucketView). HasStack b new) same stack
 
   -- what holds of the elements along the tour holds of the entries
   moves_by : (move : List LeafElement → Place → Move) (from to : Place) → Comes (elements_in bucket) (move (elements_in bucket) (place_in (elements_in bucket) from)) to (option_map leaf_view found)
@@ -83,49 +86,55 @@ module _ (bucket : BucketView) (is : ∥ IsSoundBucket bucket ∥₁) (found : O
   moves_by move from to comes = λ entries are.
       subst (λ (es : List LeafElement). Comes es (move es (place_in es from)) to (option_map leaf_view found)) (the_entries bucket entries is are) comes
 
-  pub moves_first : (from : Place) → Finds found (elements_in bucket) (ahead_of (contents_in bucket) new) new []
-      → MovesTo (λ entries place. first_move entries) from (place_on (contents_in bucket) new)
-  moves_first from h = moves_by (λ entries place. first_move entries) from (place_on (contents_in bucket) new) (first_moves bucket found new stack h)
+  pub moves_first : (from : Place) → Finds found (elements_in bucket) (ahead_of (contents_in other) new) new [] → MovesTo (λ entries place. first_move entries) from (place_on (contents_in other) new)
+  moves_first from = subst (λ (b : BucketView). Finds found (elements_in bucket) (ahead_of (contents_in b) new) new [] → MovesTo (λ entries place. first_move entries) from (place_on (contents_in b) new)) (sym same)
+      (λ h. moves_by (λ entries place. first_move entries) from (place_on (contents_in bucket) new) (first_moves bucket found new there h))
 
-  pub opens_first : (before after : ℕ) → Finds found (elements_in bucket) (ahead_of (contents_in bucket) new) new []
-      → after ≡ counted before (length (pages_in bucket) - length (right_of (contents_in bucket) new)) → OpensGap bucket 0 before after
-  opens_first before after h opened = first_opens bucket found new before after is stack h opened
+  pub opens_first : (before after : ℕ) → Finds found (elements_in bucket) (ahead_of (contents_in other) new) new []
+      → after ≡ counted before (length (pages_in bucket) - length (right_of (contents_in other) new)) → OpensGap bucket 0 before after
+  opens_first before after = subst (λ (b : BucketView). Finds found (elements_in bucket) (ahead_of (contents_in b) new) new []
+      → after ≡ counted before (length (pages_in bucket) - length (right_of (contents_in b) new)) → OpensGap bucket 0 before after) (sym same)
+      (λ h opened. first_opens bucket found new before after is there h opened)
 
-  pub moves_last : (from : Place) → FindsBack found (elements_in bucket) (behind_of (contents_in bucket) new) new []
-      → MovesTo (λ entries place. last_move entries) from (place_on (contents_in bucket) new)
-  moves_last from h = moves_by (λ entries place. last_move entries) from (place_on (contents_in bucket) new) (last_moves bucket found new stack h)
+  pub moves_last : (from : Place) → FindsBack found (elements_in bucket) (behind_of (contents_in other) new) new [] → MovesTo (λ entries place. last_move entries) from (place_on (contents_in other) new)
+  moves_last from = subst (λ (b : BucketView). FindsBack found (elements_in bucket) (behind_of (contents_in b) new) new [] → MovesTo (λ entries place. last_move entries) from (place_on (contents_in b) new)) (sym same)
+      (λ h. moves_by (λ entries place. last_move entries) from (place_on (contents_in bucket) new) (last_moves bucket found new there h))
 
-  pub moves_seek : (key : Key) (from : Place) → Finds found (drop (least_from key (elements_in bucket)) (elements_in bucket)) (ahead_of (contents_in bucket) new) new []
-      → least_from key (elements_in bucket) ≤ length (elements_in bucket) → MovesTo (λ entries place. seek_move key entries) from (sought_place found (contents_in bucket) new)
-  moves_seek key from h number = moves_by (λ entries place. seek_move key entries) from (sought_place found (contents_in bucket) new) (seek_moves bucket key found new stack h number)
+  pub moves_seek : (key : Key) (from : Place) → Finds found (drop (least_from key (elements_in bucket)) (elements_in bucket)) (ahead_of (contents_in other) new) new []
+      → least_from key (elements_in bucket) ≤ length (elements_in bucket) → MovesTo (λ entries place. seek_move key entries) from (sought_place found (contents_in other) new)
+  moves_seek key from = subst (λ (b : BucketView). Finds found (drop (least_from key (elements_in bucket)) (elements_in bucket)) (ahead_of (contents_in b) new) new []
+      → least_from key (elements_in bucket) ≤ length (elements_in bucket) → MovesTo (λ entries place. seek_move key entries) from (sought_place found (contents_in b) new)) (sym same)
+      (λ h number. moves_by (λ entries place. seek_move key entries) from (sought_place found (contents_in bucket) new) (seek_moves bucket key found new there h number))
 
   -- a move from where a stack stands
   module _ (old : List Frame) (is_past : Bool) (here : is_past ≡ false) (from : HasStack bucket old) (rest : IsAtRest old) (nonempty : old ≡ [] → ⊥) where
     next_on : (frames : List Frame) → HasStack bucket frames → IsAtRest frames → (frames ≡ [] → ⊥) → Finds found (ahead_of (contents_in bucket) frames) (ahead_of (contents_in bucket) new) new frames
         → MovesTo next_move (place_on (contents_in bucket) frames) (place_on (contents_in bucket) new)
     next_on [] s r n h = absurd (n refl)
-    next_on (f ∷ below) s r n h = moves_by next_move (place_on (contents_in bucket) (f ∷ below)) (place_on (contents_in bucket) new) (next_moves bucket found f below new s r stack h)
+    next_on (f ∷ below) s r n h = moves_by next_move (place_on (contents_in bucket) (f ∷ below)) (place_on (contents_in bucket) new) (next_moves bucket found f below new s r there h)
 
     prev_on : (frames : List Frame) → HasStack bucket frames → IsAtRest frames → (frames ≡ [] → ⊥) → FindsBack found (behind_of (contents_in bucket) frames) (behind_of (contents_in bucket) new) new frames
         → MovesTo prev_move (place_on (contents_in bucket) frames) (place_on (contents_in bucket) new)
     prev_on [] s r n h = absurd (n refl)
-    prev_on (f ∷ below) s r n h = moves_by prev_move (place_on (contents_in bucket) (f ∷ below)) (place_on (contents_in bucket) new) (prev_moves bucket found f below new s r stack h)
+    prev_on (f ∷ below) s r n h = moves_by prev_move (place_on (contents_in bucket) (f ∷ below)) (place_on (contents_in bucket) new) (prev_moves bucket found f below new s r there h)
 
     opens_on : (frames : List Frame) (before after : ℕ) → HasStack bucket frames → IsAtRest frames → (frames ≡ [] → ⊥) → Finds found (ahead_of (contents_in bucket) frames) (ahead_of (contents_in bucket) new) new frames
         → after ≡ counted before (length (right_of (contents_in bucket) frames) - opened_to (option_map leaf_view found) (right_of (contents_in bucket) new))
         → OpensByNext bucket (place_on (contents_in bucket) frames) before after
     opens_on [] before after s r n h opened = absurd (n refl)
-    opens_on (f ∷ below) before after s r n h opened = next_opens bucket found f below new before after is s r stack h opened
+    opens_on (f ∷ below) before after s r n h opened = next_opens bucket found f below new before after is s r there h opened
 
-    pub moves_next : Finds found (ahead_of (contents_in bucket) old) (ahead_of (contents_in bucket) new) new old
-        → MovesTo next_move (place_by is_past (contents_in bucket) old) (place_by is_past (contents_in bucket) new)
-    moves_next h = rw here (next_on old from rest nonempty h)
+    pub moves_next : Finds found (ahead_of (contents_in bucket) old) (ahead_of (contents_in other) new) new old → MovesTo next_move (place_by is_past (contents_in bucket) old) (place_by is_past (contents_in other) new)
+    moves_next = subst (λ (b : BucketView). Finds found (ahead_of (contents_in bucket) old) (ahead_of (contents_in b) new) new old → MovesTo next_move (place_by is_past (contents_in bucket) old) (place_by is_past (contents_in b) new))
+        (sym same) (λ h. rw here (next_on old from rest nonempty h))
 
-    pub moves_prev : FindsBack found (behind_of (contents_in bucket) old) (behind_of (contents_in bucket) new) new old
-        → MovesTo prev_move (place_by is_past (contents_in bucket) old) (place_by is_past (contents_in bucket) new)
-    moves_prev h = rw here (prev_on old from rest nonempty h)
+    pub moves_prev : FindsBack found (behind_of (contents_in bucket) old) (behind_of (contents_in other) new) new old → MovesTo prev_move (place_by is_past (contents_in bucket) old) (place_by is_past (contents_in other) new)
+    moves_prev = subst (λ (b : BucketView). FindsBack found (behind_of (contents_in bucket) old) (behind_of (contents_in b) new) new old → MovesTo prev_move (place_by is_past (contents_in bucket) old) (place_by is_past (contents_in b) new))
+        (sym same) (λ h. rw here (prev_on old from rest nonempty h))
 
-    pub opens_next : (before after : ℕ) → Finds found (ahead_of (contents_in bucket) old) (ahead_of (contents_in bucket) new) new old
-        → after ≡ counted before (length (right_of (contents_in bucket) old) - opened_to (option_map leaf_view found) (right_of (contents_in bucket) new))
+    pub opens_next : (before after : ℕ) → Finds found (ahead_of (contents_in bucket) old) (ahead_of (contents_in other) new) new old
+        → after ≡ counted before (length (right_of (contents_in bucket) old) - opened_to (option_map leaf_view found) (right_of (contents_in other) new))
         → OpensByNext bucket (place_by is_past (contents_in bucket) old) before after
-    opens_next before after h opened = rw here (opens_on old before after from rest nonempty h opened)
+    opens_next before after = subst (λ (b : BucketView). Finds found (ahead_of (contents_in bucket) old) (ahead_of (contents_in b) new) new old
+        → after ≡ counted before (length (right_of (contents_in bucket) old) - opened_to (option_map leaf_view found) (right_of (contents_in b) new))
+        → OpensByNext bucket (place_by is_past (contents_in bucket) old) before after) (sym same) (λ h opened. rw here (opens_on old before after from rest nonempty h opened))
