@@ -16,6 +16,7 @@ pub mod RootLemmas
 pub mod SeekCounts
 pub mod SeekLemmas
 pub mod SortedLemmas
+pub mod SoughtLemmas
 pub mod StackLemmas
 pub mod TourLemmas
 pub mod TrailLemmas
