@@ -10,6 +10,7 @@ ghost use Rattle.bolt_check.specs.Private.Tables.{HasRoom, IsClaimed, unclaimed}
 ghost use Rattle.bolt_check.specs.Ways.{At_page, reached, start_of};
 ghost use Rattle.bolt_check.specs.declared.finding.Finding.{Finding};
 
+use crate::fault::CheckFault;
 use crate::finding::Finding;
 use crate::keys::test_inline_keys;
 use crate::stop::{PageStop, Stop};
@@ -18,13 +19,6 @@ use crate::tree_page::TreePage;
 use crate::visit::visit;
 use bolt_format::Meta;
 use std::alloc::{AllocError, Global};
-
-/// Why a search stops.
-#[derive(Clone, Copy)]
-pub(crate) enum SearchFault {
-    Found(Finding),
-    Memory,
-}
 
 /// Puts what a page leads to on top of what is to be visited, the first uppermost.
 #[tactic(auto, using(crate::proofs::Pendings::kids_none, crate::proofs::Pendings::kids_some, crate::proofs::Pendings::kids_end, crate::proofs::Pendings::kids_all, crate::proofs::Pendings::spots_push))]
@@ -84,7 +78,7 @@ fn step<'a>(
     stop: Stop<'a>,
     table: &mut Vec<PageUse>,
     pending: &mut Vec<Stop<'a>>,
-) -> Result<(), SearchFault>
+) -> Result<(), CheckFault>
     requires { HasRoom file.now meta.now table.old.items }
     ensures room { OnOk result (HasRoom file.now meta.now table.new.items) }
     ensures unlisted { OnOk result (IsUnlisted table.old.items → IsUnlisted table.new.items) }
@@ -102,23 +96,21 @@ fn step<'a>(
         Stop::Page(stop) => {
             let node = match visit(file, meta, &stop, table) {
                 Ok(node) => node,
-                Err(finding) => return Err(SearchFault::Found(finding)),
+                Err(finding) => return Err(CheckFault::Structure(finding)),
             };
-            match push_kids(&node, &stop, pending) {
-                Ok(()) => Ok(()),
-                Err(_) => Err(SearchFault::Memory),
-            }
+            push_kids(&node, &stop, pending)?;
+            Ok(())
         }
         Stop::Bucket(stop) => match test_inline_keys(&stop.page) {
             Ok(()) => Ok(()),
-            Err(number) => Err(SearchFault::Found(Finding::of_page(number, stop.host))),
+            Err(number) => Err(CheckFault::Structure(Finding::of_page(number, stop.host))),
         },
     }
 }
 
 /// Searches all ways from the root page, in their order, for a finding. The table is left with
 /// the pages of all spans claimed.
-pub(crate) fn search(alloc: Global, file: &[u8], meta: &Meta) -> Result<Vec<PageUse>, SearchFault>
+pub(crate) fn search(alloc: Global, file: &[u8], meta: &Meta) -> Result<Vec<PageUse>, CheckFault>
     requires { 0 < meta.now.page_size }
     ensures clean { OnOk result (IsClean (node_at file.now meta.now) (reached (node_at file.now meta.now) meta.now.root) IsMetaPage) }
     ensures covered { IfOk result (λ table. (n : ℕ) → IsClaimed table.items n ↔ IsCovered (node_at file.now meta.now) (reached (node_at file.now meta.now) meta.now.root) IsMetaPage n) }
@@ -127,18 +119,10 @@ pub(crate) fn search(alloc: Global, file: &[u8], meta: &Meta) -> Result<Vec<Page
     ensures below { IfOk result (λ table. length table.items ≤ max 2 meta.now.high_water) }
     ensures first { IfErr result (IsSearchFault (node_at file.now meta.now) (reached (node_at file.now meta.now) meta.now.root) IsMetaPage) }
 {
-    let mut table = match new_table(alloc, file, meta) {
-        Ok(table) => table,
-        Err(_) => return Err(SearchFault::Memory),
-    };
-    let mut pending = match new_pending(alloc, meta.root) {
-        Ok(pending) => pending,
-        Err(_) => return Err(SearchFault::Memory),
-    };
+    let mut table = new_table(alloc, file, meta)?;
+    let mut pending = new_pending(alloc, meta.root)?;
     while let Some(stop) = pending.pop() {
-        if let Err(fault) = step(file, meta, stop, &mut table, &mut pending) {
-            return Err(fault);
-        }
+        step(file, meta, stop, &mut table, &mut pending)?;
     }
     Ok(table)
 }

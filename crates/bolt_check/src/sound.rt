@@ -7,7 +7,7 @@ ghost use Rattle.bolt_check.specs.Sound.{IsRefused, IsSound};
 use crate::accounts::test_accounts;
 use crate::checked_file::Checked;
 use crate::fault::CheckFault;
-use crate::search::{SearchFault, search};
+use crate::search::search;
 use bolt_format::choose;
 use std::alloc::Global;
 
@@ -25,18 +25,14 @@ pub fn check<'a>(alloc: Global, file: &'a [u8]) -> Result<Checked<'a>, CheckFaul
         Ok((_, meta)) => meta,
         Err(fault) => return Err(CheckFault::Open(fault)),
     };
-    let mut table = match search(alloc, file, &meta) {
-        Ok(table) => table,
-        Err(SearchFault::Found(finding)) => return Err(CheckFault::Structure(finding)),
-        Err(SearchFault::Memory) => return Err(CheckFault::Memory),
-    };
-    match test_accounts(alloc, file, &meta, &mut table) {
-        Ok(told) if told.is_empty() => Ok(Checked {
-            bytes: file,
-            meta,
-            accounts: true,
-        }),
-        Ok(told) => Err(CheckFault::Accounts(told)),
-        Err(_) => Err(CheckFault::Memory),
+    let mut table = search(alloc, file, &meta)?;
+    let findings = test_accounts(alloc, file, &meta, &mut table)?;
+    if !findings.is_empty() {
+        return Err(CheckFault::Accounts(findings));
     }
+    Ok(Checked {
+        bytes: file,
+        meta,
+        accounts: true,
+    })
 }
