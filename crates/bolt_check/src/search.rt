@@ -1,12 +1,12 @@
 //! The search of all ways from the root page, in their order, for the first finding.
-ghost use Rattle.std.specs.Prelude.{◌≡◌, ℕ, ◌<◌, ◌≤◌, ◌+◌, ◌*◌, ◌++◌, ◌∷◌, ◌↔◌, [], IfErr, IfOk, OnOk, Ok, length, max, vec_len};
+ghost use Rattle.std.specs.Prelude.{◌≡◌, ℕ, ◌<◌, ◌≤◌, ◌+◌, ◌*◌, ◌++◌, ◌∷◌, ◌↔◌, [], IfErr, IfOk, OnOk, Ok, length, vec_len};
 ghost use Rattle.bolt_check.specs.Findings.{IsClean, IsCovered, IsFirst, IsMetaPage};
 ghost use Rattle.bolt_check.specs.Private.Listings.{IsUnlisted};
 ghost use Rattle.bolt_check.specs.Nodes.{node_at};
 ghost use Rattle.bolt_check.specs.Private.Pending.{forest, kids, page_spot, spot_at, spots_of};
 ghost use Rattle.bolt_check.specs.Private.SearchFaults.{IsSearchFault};
 ghost use Rattle.bolt_check.specs.Private.ShownNodes.{shown_node};
-ghost use Rattle.bolt_check.specs.Private.Tables.{HasRoom, IsClaimed, unclaimed};
+ghost use Rattle.bolt_check.specs.Private.Tables.{HasRoom, IsClaimed, table_length, unclaimed};
 ghost use Rattle.bolt_check.specs.Ways.{At_page, reached, start_of};
 ghost use Rattle.bolt_check.specs.declared.finding.Finding.{Finding};
 
@@ -41,14 +41,14 @@ fn push_kids<'a>(
     Ok(())
 }
 
-/// A table in which the two meta pages are claimed, with a place for each page that lies in the
-/// file and below the high-water mark.
+/// A table in which the two meta pages are claimed, with a place for each whole page that lies in
+/// the file and below the high-water mark, and no other but the two.
 fn new_table(alloc: Global, file: &[u8], meta: &Meta) -> Result<Vec<PageUse>, AllocError>
     requires { 0 < meta.now.page_size }
     ensures metas { IfOk result (λ table. (n : ℕ) → IsClaimed table.items n ↔ IsMetaPage n) }
     ensures room { IfOk result (λ table. HasRoom file.now meta.now table.items) }
     ensures unlisted { IfOk result (λ table. IsUnlisted table.items) }
-    ensures below { IfOk result (λ table. length table.items ≤ max 2 meta.now.high_water) }
+    ensures length { IfOk result (λ table. length table.items ≡ table_length file.now meta.now) }
 {
     let pages = (file.len() / meta.page_size as usize) as u64;
     let mut table = vec![in alloc; PageUse::Unused; pages.min(meta.high_water).max(2) as usize]?;
@@ -116,7 +116,7 @@ pub(crate) fn search(alloc: Global, file: &[u8], meta: &Meta) -> Result<Vec<Page
     ensures covered { IfOk result (λ table. (n : ℕ) → IsClaimed table.items n ↔ IsCovered (node_at file.now meta.now) (reached (node_at file.now meta.now) meta.now.root) IsMetaPage n) }
     ensures room { IfOk result (λ table. HasRoom file.now meta.now table.items) }
     ensures unlisted { IfOk result (λ table. IsUnlisted table.items) }
-    ensures below { IfOk result (λ table. length table.items ≤ max 2 meta.now.high_water) }
+    ensures length { IfOk result (λ table. length table.items ≡ table_length file.now meta.now) }
     ensures first { IfErr result (IsSearchFault (node_at file.now meta.now) (reached (node_at file.now meta.now) meta.now.root) IsMetaPage) }
 {
     let mut table = new_table(alloc, file, meta)?;

@@ -1,4 +1,4 @@
-use Rattle.std.proofs.Common.{◌∷◌, arith, vec_len}
+use Rattle.std.proofs.Common.{◌∙◌, ◌∷◌, vec_len}
 use Rattle.bolt_check.specs.Findings.{IsMetaPage}
 use Rattle.bolt_check.specs.Nodes.{node_at}
 use Rattle.bolt_check.specs.Private.Pending.{forest, spot_at, spots_of}
@@ -12,7 +12,7 @@ pub loop-stop-init : goal.loop-stop-init
 loop-stop-init c = record {
   room = c.in_ok-table.ensures.room;
   unlisted = c.in_ok-table.ensures.unlisted;
-  below = c.in_ok-table.ensures.below;
+  long = c.in_ok-table.ensures.length;
   clean = begin_clean (node_at c.args.file.now c.args.meta.now) c.args.meta.now.root c.in_ok-pending.pending.items c.in_ok-table.table.items c.in_ok-pending.ensures c.in_ok-table.ensures.metas;
   covered = begin_covered (node_at c.args.file.now c.args.meta.now) c.args.meta.now.root c.in_ok-pending.pending.items c.in_ok-table.table.items c.in_ok-pending.ensures c.in_ok-table.ensures.metas;
   first = begin_first (node_at c.args.file.now c.args.meta.now) c.args.meta.now.root c.in_ok-pending.pending.items c.in_ok-table.table.items c.in_ok-pending.ensures c.in_ok-table.ensures.metas;
@@ -24,7 +24,7 @@ loop-stop-preserved c =
     record {
       room = c.in_ok-step.ensures.room;
       unlisted = c.in_ok-step.ensures.unlisted c.loop-stop.invariant.unlisted;
-      below = omega (arith, c.in_ok-step.ensures.length, c.loop-stop.invariant.below);
+      long = c.in_ok-step.ensures.length ∙ c.loop-stop.invariant.long;
       clean = λ h. let i = rw popped at c.loop-stop.invariant.clean in i (c.in_ok-step.ensures.clean h);
       covered = λ n. let i = rw popped at c.loop-stop.invariant.covered in both_ways _ _ _ (c.in_ok-step.ensures.covered n) (i n);
       first = λ x h. let i = rw popped at c.loop-stop.invariant.first in i x (c.in_ok-step.ensures.first x h);

@@ -10,7 +10,7 @@ use Rattle.bolt_check.proofs.sound.check.Goals as goal
 pub test_accounts-requires-clause-below : goal.test_accounts-requires-clause-below
 test_accounts-requires-clause-below c =
     let same : length c.deref_mut.result.now ≡ length c.in_ok-table.table.items = ap length c.deref_mut.ensures.value in
-    omega (arith, same, c.in_ok-table.ensures.below, mark_above c.args.file.now c.in-Ok.meta c.in_ok-table.ensures.clean)
+    omega (arith, same, c.in_ok-table.ensures.length, mark_above c.args.file.now c.in-Ok.meta c.in_ok-table.ensures.clean)
 
 pub invariant_of-result : goal.invariant_of-result
 invariant_of-result c =
