@@ -12,8 +12,8 @@ use bolt_format::choose;
 use std::alloc::Global;
 
 /// Tests a file under the meta in force: its trees, and then its accounts (docs/SOUND.md). It
-/// takes a byte for each page that begins in the file and lies below the high-water mark, and
-/// room for the pages that are still to be visited.
+/// takes a byte for each whole page that lies in the file and below the high-water mark, room for
+/// the pages that are still to be visited, and room for the freelist's ids past the table.
 pub fn check<'a>(alloc: Global, file: &'a [u8]) -> Result<Checked<'a>, CheckFault>
     ensures bytes { IfOk result (λ checked. bytes_of checked ≡ file.now) }
     ensures meta { IfOk result (λ checked. (slot : _) × IsChosen file.now slot (meta_of checked)) }
