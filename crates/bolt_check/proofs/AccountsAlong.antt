@@ -2,7 +2,7 @@
 use Rattle.std.proofs.Common.{ℕ, inl, inr, List, refl}
 use Rattle.bolt_format.specs.declared.meta.Meta.{Meta}
 use Rattle.bolt_check.specs.Accounts.{HasAccounts, IsFree, IsInUse, ListsFree, times_in}
-use Rattle.bolt_check.specs.Told.{AreTold, IsFreelistFinding, bad, shared}
+use Rattle.bolt_check.specs.AccountFindings.{AreAccountFindings, IsFreelistFinding, bad, shared}
 use Rattle.bolt_check.specs.declared.finding.Finding.{Finding}
 use Rattle.bolt_check.proofs.AccountLemmas.{finding_along, finding_back}
 
@@ -43,8 +43,8 @@ module _ (file : List ℕ) (meta : Meta) (used also : ℕ → Type 0) (there : (
   page_finding_back x (bad e) = bad e
   page_finding_back x (shared {n = n} is at lowest) = shared is (back n at) (λ k in_span is. lowest k in_span (there k is))
 
-  pub are_told_along : (findings : List Finding) → AreTold file meta used findings → AreTold file meta also findings
-  are_told_along findings told = record {
+  pub account_findings_along : (findings : List Finding) → AreAccountFindings file meta used findings → AreAccountFindings file meta also findings
+  account_findings_along findings told = record {
     written = told.written;
     of_page = λ x is. told.of_page x (page_finding_back x is);
     rises = λ none. told.rises (λ x is. none x (page_finding_along x is));

@@ -6,9 +6,8 @@ use Rattle.bolt_format.specs.Pages.{page_overflow}
 use Rattle.bolt_format.specs.declared.meta.Meta.{Meta}
 use Rattle.bolt_format.specs.declared.meta.TheConstants.{NO_FREELIST}
 use Rattle.bolt_check.specs.Accounts.{IsInFreelist}
-use Rattle.bolt_check.specs.Listings.{ClaimsFreelist, IsUnlisted}
-use Rattle.bolt_check.specs.Tables.{HasRoom, IsClaimed, IsUnclaimed, is_used, use_at}
-use Rattle.bolt_check.specs.Uses.{times_of}
+use Rattle.bolt_check.specs.Private.Listings.{ClaimsFreelist, IsUnlisted}
+use Rattle.bolt_check.specs.Private.Tables.{HasRoom, IsClaimed, IsUnclaimed, is_used, use_at, times_of}
 use Rattle.bolt_check.specs.declared.table.PageUse.{PageUse}
 use Rattle.bolt_check.specs.declared.table.PageUse.TheVariants.{Unused, Used}
 use Rattle.bolt_check.proofs.FreelistLemmas.{freelist_within}

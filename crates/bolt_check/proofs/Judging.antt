@@ -4,7 +4,7 @@ use Rattle.bolt_check.specs.Ways.{PageSpot}
 use Rattle.bolt_check.specs.declared.finding.Finding.{Finding}
 use Rattle.bolt_check.specs.Nodes.{Nodes}
 use Rattle.bolt_check.specs.Ways.{Spot, At_page, At_inline, SpanHas}
-use Rattle.bolt_check.specs.Findings.{early_fault, content_fault, inline_fault, Tests, PageTests, early, twice, late, Passes, PagePasses}
+use Rattle.bolt_check.specs.Findings.{early_finding, node_finding, inline_finding, Tests, PageTests, early, twice, late, Passes, PagePasses}
 
 page_same : (nodes : Nodes) (a b : ℕ → Type 0) (s : PageSpot) (x : Finding) → ((n : ℕ) → a n → b n) → ((n : ℕ) → b n → a n)
     → PageTests nodes a s x → PageTests nodes b s x
@@ -25,7 +25,7 @@ fault_none : (x : Finding) (o : Option Finding) → o ≡ None → o ≡ Some x 
 fault_none x o e h = cc
 
 page_silent : (nodes : Nodes) (a : ℕ → Type 0) (s : PageSpot) (x : Finding) → PagePasses nodes a s → PageTests nodes a s x → ⊥
-page_silent nodes a s x h (early e) = fault_none x (early_fault nodes s) h.early e
+page_silent nodes a s x h (early e) = fault_none x (early_finding nodes s) h.early e
 page_silent nodes a s x h (twice node e p l k) =
     let q : nodes s.number ≡ Ok h.node = h.page in
     let r : node ≡ h.node = cc in
@@ -33,11 +33,11 @@ page_silent nodes a s x h (twice node e p l k) =
 page_silent nodes a s x h (late node e p f c) =
     let q : nodes s.number ≡ Ok h.node = h.page in
     let r : node ≡ h.node = cc in
-    fault_none x (content_fault h.node s) h.content (rw (← r) c)
+    fault_none x (node_finding h.node s) h.content (rw (← r) c)
 
 pub passes_silent : (nodes : Nodes) (a : ℕ → Type 0) (s : Spot) (x : Finding) → Passes nodes a s → Tests nodes a s x → ⊥
 passes_silent nodes a (At_page s) x h t = page_silent nodes a s x h t
-passes_silent nodes a (At_inline host keys) x h t = fault_none x (inline_fault host keys) h t
+passes_silent nodes a (At_inline host keys) x h t = fault_none x (inline_finding host keys) h t
 
 pub span_spot : (nodes : Nodes) (o : Option Spot) (n : ℕ) → SpanHas nodes o n → (t : Spot) × ((o ≡ Some t) × SpanHas nodes (Some t) n)
 span_spot nodes None n h = absurd h

@@ -1,16 +1,12 @@
 -- That the tests of the keys tell nothing, in the words of the shape.
 use Rattle.std.proofs.Common.{◌≡◌, ℕ, zero, suc, Bool, true, false, not, if◌then◌else◌, List, [], ◌∷◌, Option, Some, None, slice_get, refl, arith}
-use Rattle.bolt_format.specs.Elements.{first_of}
-use Rattle.bolt_check.specs.Keys.{Key, KeysRise, is_above, is_below, is_from, key_fault, key_lt, one_key_fault}
+use Rattle.bolt_format.proofs.FaultLemmas.{first_of-none}
+use Rattle.bolt_check.specs.Keys.{Key, KeysRise, is_above, is_below, is_from, keys_order_fault, key_lt, key_order_fault}
 use Rattle.bolt_check.specs.declared.finding.TheConstants.Finding.{ORDER, BELOW_PARENT, ABOVE_NEXT}
 use Rattle.bolt_check.proofs.KeyLaws.{above_more}
 
 none_key : (x : Key) → None ≡ Some x → ⊥
 none_key x e = cc
-
-pub first_none : (a b : Option ℕ) → first_of a b ≡ None → (a ≡ None) × (b ≡ None)
-first_none (Some f) b e = absurd (cc)
-first_none None b e = (refl, e)
 
 told : (x : ℕ) → Some x ≡ None → ⊥
 told x e = cc
@@ -22,15 +18,15 @@ three_none x y z true true false e = absurd (told z e)
 three_none x y z true false c e = absurd (told y e)
 three_none x y z false b c e = absurd (told x e)
 
-pub key_each : (before lower upper : Option Key) (keys : List Key) → key_fault before lower upper keys ≡ None → (j : ℕ) (q : Key) → slice_get keys j ≡ Some q
+pub key_each : (before lower upper : Option Key) (keys : List Key) → keys_order_fault before lower upper keys ≡ None → (j : ℕ) (q : Key) → slice_get keys j ≡ Some q
     → (is_above before q ≡ true) × (is_from lower q ≡ true) × (is_below upper q ≡ true)
 key_each before lower upper [] e j q g = absurd (none_key q g)
 key_each before lower upper (p ∷ keys) e zero q g =
-    let f = first_none (one_key_fault before lower upper p) (key_fault (Some p) lower upper keys) e in
+    let f = first_of-none (key_order_fault before lower upper p) (keys_order_fault (Some p) lower upper keys) e in
     let same : p ≡ q = cc in
     rw (← same) (three_none ORDER BELOW_PARENT ABOVE_NEXT (is_above before p) (is_from lower p) (is_below upper p) f.0)
 key_each before lower upper (p ∷ keys) e (suc j) q g =
-    let f = first_none (one_key_fault before lower upper p) (key_fault (Some p) lower upper keys) e in
+    let f = first_of-none (key_order_fault before lower upper p) (keys_order_fault (Some p) lower upper keys) e in
     let t = three_none ORDER BELOW_PARENT ABOVE_NEXT (is_above before p) (is_from lower p) (is_below upper p) f.0 in
     let r = key_each (Some p) lower upper keys f.1 j q g in
     (above_more before p q t.0 (r.0), r.1, r.2)
@@ -40,10 +36,10 @@ rise_cons p keys first rest i zero a b lt g h = absurd (omega arith)
 rise_cons p keys first rest zero (suc j) a b lt g h = let same : p ≡ a = cc in rw (← same) (first j b h)
 rise_cons p keys first rest (suc i) (suc j) a b lt g h = rest i j a b (omega arith) g h
 
-pub key_rise : (before lower upper : Option Key) (keys : List Key) → key_fault before lower upper keys ≡ None → KeysRise keys
+pub key_rise : (before lower upper : Option Key) (keys : List Key) → keys_order_fault before lower upper keys ≡ None → KeysRise keys
 key_rise before lower upper [] e = λ i j a b lt g h. absurd (none_key a g)
 key_rise before lower upper (p ∷ keys) e =
-    let f = first_none (one_key_fault before lower upper p) (key_fault (Some p) lower upper keys) e in
+    let f = first_of-none (key_order_fault before lower upper p) (keys_order_fault (Some p) lower upper keys) e in
     rise_cons p keys (λ j q g. (key_each (Some p) lower upper keys f.1 j q g).0) (key_rise (Some p) lower upper keys f.1)
 
 -- and the other way round
@@ -52,12 +48,12 @@ three_pass m n k a b c x y z = rw (x, y, z) refl
 
 pub key_passes : (before lower upper : Option Key) (keys : List Key) → KeysRise keys
     → ((j : ℕ) (q : Key) → slice_get keys j ≡ Some q → (is_above before q ≡ true) × (is_from lower q ≡ true) × (is_below upper q ≡ true))
-    → key_fault before lower upper keys ≡ None
+    → keys_order_fault before lower upper keys ≡ None
 key_passes before lower upper [] rise each = refl
 key_passes before lower upper (p ∷ keys) rise each =
     let t = each 0 p refl in
-    let o : one_key_fault before lower upper p ≡ None = three_pass ORDER BELOW_PARENT ABOVE_NEXT (is_above before p) (is_from lower p) (is_below upper p) t.0 t.1 t.2 in
-    let r : key_fault (Some p) lower upper keys ≡ None =
+    let o : key_order_fault before lower upper p ≡ None = three_pass ORDER BELOW_PARENT ABOVE_NEXT (is_above before p) (is_from lower p) (is_below upper p) t.0 t.1 t.2 in
+    let r : keys_order_fault (Some p) lower upper keys ≡ None =
     key_passes (Some p) lower upper keys (λ i j a b lt g h. rise (suc i) (suc j) a b (omega arith) g h)
     (λ j q g. (rise 0 (suc j) p q (omega arith) refl g, (each (suc j) q g).1, (each (suc j) q g).2)) in
     rw (o, r) refl

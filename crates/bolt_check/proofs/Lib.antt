@@ -1,3 +1,5 @@
+mod AccountFindingLemmas
+mod AccountFindingsOnce
 mod AccountLemmas
 mod AccountsAlong
 pub mod CheckedLemmas
@@ -16,14 +18,13 @@ mod NodeLemmas
 mod PageLemmas
 mod Pendings
 mod SettledLemmas
-pub mod Shaping
+mod Shaping
 mod Single
 mod SoundLemmas
 mod TableLemmas
-mod ToldLemmas
-mod ToldOnce
 pub mod TreePages
 mod VisitLemmas
 mod Visited
 mod Visiting
+pub mod WayFacts
 pub mod WayOrder

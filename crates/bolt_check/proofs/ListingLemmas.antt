@@ -5,10 +5,9 @@ use Rattle.std.proofs.lemmas.List.{get_or_past}
 use Rattle.std.proofs.lemmas.List.Elements.{All-contains}
 use Rattle.bolt_check.specs.Accounts.{times_in}
 use Rattle.bolt_check.specs.Findings.{finding}
-use Rattle.bolt_check.specs.Listings.{AreAllTold, AreToldBelow, IsBeyondTo, IsPastTo, IsRun, IsSettled, IsToldTo, is_in_use, listed_times, is_repeated, page_findings, repeat_findings, run_findings}
-use Rattle.bolt_check.specs.Tables.{is_used, use_at}
-use Rattle.bolt_check.specs.Told.{IsAccountFinding, IsInRange, IsLost}
-use Rattle.bolt_check.specs.Uses.{times_of}
+use Rattle.bolt_check.specs.Private.Listings.{AreAllFindings, AreFindingsBelow, IsBeyondTo, IsPastTo, IsRun, IsSettled, HasFindingsTo, is_in_use, listed_times, is_repeated, page_findings, repeat_findings, run_findings}
+use Rattle.bolt_check.specs.Private.Tables.{is_used, use_at, times_of}
+use Rattle.bolt_check.specs.AccountFindings.{IsAccountFinding, IsInRange, IsLost}
 use Rattle.bolt_check.specs.declared.finding.Finding.{Finding}
 use Rattle.bolt_check.specs.declared.finding.TheConstants.Finding.{FREED_TWICE, FREE_RANGE}
 use Rattle.bolt_check.specs.declared.listing.Listing.{Listing}
@@ -16,7 +15,7 @@ use Rattle.bolt_check.specs.declared.table.PageUse.{PageUse}
 use Rattle.bolt_check.specs.declared.table.PageUse.TheVariants.{Unused, Used, Free, FreeTwice, UsedFree, UsedFreeTwice}
 use Rattle.bolt_check.proofs.CountLemmas.{place_of, times_none, times_once, times_some, times_twice}
 use Rattle.bolt_check.proofs.PageLemmas.{twice, reached, lost, range, not_lost_listed, on_own_page, tells_page, tells_range, tells_twice, tells_well}
-use Rattle.bolt_check.proofs.ToldLemmas.{Tells, told_append, tells_none, tells_run}
+use Rattle.bolt_check.proofs.AccountFindingLemmas.{Tells, told_append, tells_none, tells_run}
 
 module _ (listing : Listing) (settled : IsSettled listing) where
   table_end : 2 ≤ length listing.table.now
@@ -58,7 +57,7 @@ module _ (listing : Listing) (settled : IsSettled listing) where
   kept_here n UsedFree h e ne gone = gone.free.unused (ap is_used e)
   kept_here n UsedFreeTwice h e ne gone = gone.free.unused (ap is_used e)
 
-  pub table_none : AreToldBelow listing.mark (is_in_use listing) (listed_times listing) 0 []
+  pub table_none : AreFindingsBelow listing.mark (is_in_use listing) (listed_times listing) 0 []
   table_none = record {
     sound = λ k d h. absurd (omega arith);
     below = λ k d h. absurd (omega arith);
@@ -68,7 +67,7 @@ module _ (listing : Listing) (settled : IsSettled listing) where
   }
 
   pub table_lost : (n from : ℕ) (findings : List Finding) → n < length listing.table.now → use_at listing.table.now n ≡ Unused
-      → IsToldTo listing from n findings → IsToldTo listing from (suc n) findings
+      → HasFindingsTo listing from n findings → HasFindingsTo listing from (suc n) findings
   table_lost n from findings h e told = record {
     told = told.told;
     run = record {
@@ -87,7 +86,7 @@ module _ (listing : Listing) (settled : IsSettled listing) where
   }
 
   pub table_told : (n from : ℕ) (findings : List Finding) (page_use : PageUse) → n < length listing.table.now → from ≤ n → use_at listing.table.now n ≡ page_use → (page_use ≡ Unused → ⊥)
-      → IsToldTo listing from n findings → IsToldTo listing (suc n) (suc n) ((findings ++ run_findings from n) ++ page_findings n page_use)
+      → HasFindingsTo listing from n findings → HasFindingsTo listing (suc n) (suc n) ((findings ++ run_findings from n) ++ page_findings n page_use)
   table_told n from findings page_use h order e ne told =
       let kept = kept_here n page_use h e ne in
       let before = told_append listing.mark (is_in_use listing) (listed_times listing) from n findings (run_findings from n) told.told order
@@ -99,7 +98,7 @@ module _ (listing : Listing) (settled : IsSettled listing) where
         run = run_after n kept;
       }
 
-  pub past_start : (from : ℕ) (findings : List Finding) → IsToldTo listing from (length listing.table.now) findings → IsPastTo listing from 0 findings
+  pub past_start : (from : ℕ) (findings : List Finding) → HasFindingsTo listing from (length listing.table.now) findings → IsPastTo listing from 0 findings
   past_start from findings told = record {
     told = told.told;
     begins = told.run.begins;
@@ -199,24 +198,24 @@ module _ (listing : Listing) (settled : IsSettled listing) where
           (eq-eqb (get_or listing.past.now (i + 1) 0) (get_or listing.past.now i 0) (ap (λ j. get_or listing.past.now j 0) (add-one i) ∙ same)))))
     ]
 
-  pub past_end : (from i : ℕ) (findings : List Finding) → length listing.past.now ≤ i → IsPastTo listing from i findings → IsToldTo listing from listing.mark findings
+  pub past_end : (from i : ℕ) (findings : List Finding) → length listing.past.now ≤ i → IsPastTo listing from i findings → HasFindingsTo listing from listing.mark findings
   past_end from i findings h told = record {
     told = told.told;
     run = record { begins = told.begins; lost = λ n low high. told.left n low high (λ k order l. absurd (omega arith)) };
   }
 
   -- the run of lost pages up to the mark
-  pub mark_told : (from : ℕ) (findings : List Finding) → from ≤ listing.mark → IsToldTo listing from listing.mark findings
-      → AreToldBelow listing.mark (is_in_use listing) (listed_times listing) listing.mark (findings ++ run_findings from listing.mark)
+  pub mark_told : (from : ℕ) (findings : List Finding) → from ≤ listing.mark → HasFindingsTo listing from listing.mark findings
+      → AreFindingsBelow listing.mark (is_in_use listing) (listed_times listing) listing.mark (findings ++ run_findings from listing.mark)
   mark_told from findings order told =
       told_append listing.mark (is_in_use listing) (listed_times listing) from listing.mark findings (run_findings from listing.mark) told.told order
       (tells_run listing.mark (is_in_use listing) (listed_times listing) from listing.mark order told.run (λ gone. (let under = gone.free.below in omega (arith, under))))
 
-  pub beyond_start : (findings : List Finding) → AreToldBelow listing.mark (is_in_use listing) (listed_times listing) listing.mark findings → IsBeyondTo listing 0 0 findings
+  pub beyond_start : (findings : List Finding) → AreFindingsBelow listing.mark (is_in_use listing) (listed_times listing) listing.mark findings → IsBeyondTo listing 0 0 findings
   beyond_start findings told =
       let end = settled.below in let two = table_end in let same : listing.mark ≡ max listing.mark 1 = omega (arith, end, two) in
       record {
-        told = subst (λ (next : ℕ). AreToldBelow listing.mark (is_in_use listing) (listed_times listing) next findings) same told;
+        told = subst (λ (next : ℕ). AreFindingsBelow listing.mark (is_in_use listing) (listed_times listing) next findings) same told;
         done = λ k h. absurd (omega arith);
       }
 
@@ -259,14 +258,14 @@ module _ (listing : Listing) (settled : IsSettled listing) where
       let some = times_some listing.past.now (get_or listing.past.now i 0) i h refl in
       let gap = tells_none listing.mark (is_in_use listing) (listed_times listing) (max listing.mark (suc last)) (get_or listing.past.now i 0)
       (λ n low high gone. (let under = gone.free.below in omega (arith, under))) (gap_none last i h told.done) in
-      let before = subst (AreToldBelow listing.mark (is_in_use listing) (listed_times listing) (get_or listing.past.now i 0)) (append-nil findings)
+      let before = subst (AreFindingsBelow listing.mark (is_in_use listing) (listed_times listing) (get_or listing.past.now i 0)) (append-nil findings)
       (told_append listing.mark (is_in_use listing) (listed_times listing) (max listing.mark (suc last)) (get_or listing.past.now i 0) findings [] told.told (omega arith) gap) in
       let here = tells_range listing.mark (is_in_use listing) (listed_times listing) (get_or listing.past.now i 0) (omega (arith, e, some)) (inr above) (λ r. (let under = r.1 in omega (arith, under, above))) in
       let after = told_append listing.mark (is_in_use listing) (listed_times listing) (get_or listing.past.now i 0) (suc (get_or listing.past.now i 0)) findings (finding FREE_RANGE (get_or listing.past.now i 0) ∷ [])
       before (omega arith) here in
       let next : suc (get_or listing.past.now i 0) ≡ max listing.mark (suc (get_or listing.past.now i 0)) = omega (arith, above) in
       record {
-        told = subst (λ (next : ℕ). AreToldBelow listing.mark (is_in_use listing) (listed_times listing) next (findings ++ finding FREE_RANGE (get_or listing.past.now i 0) ∷ [])) next after;
+        told = subst (λ (next : ℕ). AreFindingsBelow listing.mark (is_in_use listing) (listed_times listing) next (findings ++ finding FREE_RANGE (get_or listing.past.now i 0) ∷ [])) next after;
         done = λ k l. (let up = settled.sorted k i 0 (omega arith) h in omega (arith, up));
       }
 
@@ -283,7 +282,7 @@ module _ (listing : Listing) (settled : IsSettled listing) where
     ]
   ]
 
-  pub beyond_end : (last i : ℕ) (findings : List Finding) → length listing.past.now ≤ i → IsBeyondTo listing last i findings → AreAllTold listing.mark (is_in_use listing) (listed_times listing) findings
+  pub beyond_end : (last i : ℕ) (findings : List Finding) → length listing.past.now ≤ i → IsBeyondTo listing last i findings → AreAllFindings listing.mark (is_in_use listing) (listed_times listing) findings
   beyond_end last i findings h told = record {
     exact = λ x. (
       λ in_list. All-contains (IsAccountFinding listing.mark (is_in_use listing) (listed_times listing)) findings x told.told.sound in_list,

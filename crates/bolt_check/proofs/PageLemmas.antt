@@ -4,15 +4,14 @@ use Rattle.std.proofs.lemmas.Bool.{cases_lt, lt-ltb, le-ltb, false≢true}
 use Rattle.std.proofs.lemmas.List.Elements.{All-cons, All-nil}
 use Rattle.std.proofs.lemmas.List.Kept.{AllPairs-cons}
 use Rattle.bolt_check.specs.Findings.{finding}
-use Rattle.bolt_check.specs.Listings.{meta_findings, page_findings, use_findings}
-use Rattle.bolt_check.specs.Tables.{is_used}
-use Rattle.bolt_check.specs.Told.{IsAccountFinding, IsBefore, IsInRange, IsLost, freed_twice, reached_freed, unreachable, out_of_range}
-use Rattle.bolt_check.specs.Uses.{times_of}
+use Rattle.bolt_check.specs.Private.Listings.{meta_findings, page_findings, use_findings}
+use Rattle.bolt_check.specs.Private.Tables.{is_used, times_of}
+use Rattle.bolt_check.specs.AccountFindings.{IsAccountFinding, IsBefore, IsInRange, IsLost, freed_twice, reached_freed, unreachable, out_of_range}
 use Rattle.bolt_check.specs.declared.finding.Finding.{Finding}
 use Rattle.bolt_check.specs.declared.finding.TheConstants.Finding.{FREED_TWICE, FREE_RANGE, REACHED_FREED}
 use Rattle.bolt_check.specs.declared.table.PageUse.{PageUse}
 use Rattle.bolt_check.specs.declared.table.PageUse.TheVariants.{Unused, Used, Free, FreeTwice, UsedFree, UsedFreeTwice}
-use Rattle.bolt_check.proofs.ToldLemmas.{Tells, tells_none, tells_one, one_rises}
+use Rattle.bolt_check.proofs.AccountFindingLemmas.{Tells, tells_none, tells_one, one_rises}
 
 -- a finding on a page, by its number
 pub data OnPage (mark : ℕ) (in_use : ℕ → Type 0) (times : ℕ → ℕ) (x : Finding) (n : ℕ) : Type 0 where

@@ -10,9 +10,8 @@ use Rattle.bolt_check.specs.Accounts.{times_in}
 use Rattle.std.specs.declared.alloc.AllocError.{AllocError}
 use Rattle.std.proofs.lemmas.Result.{IfOk-weaker}
 use Rattle.bolt_check.specs.declared.finding.Finding.{Finding}
-use Rattle.bolt_check.specs.Listings.{AreAllTold, IsSettled, is_in_use, listed_times}
-use Rattle.bolt_check.specs.Tables.{IsClaimed, is_used, use_at}
-use Rattle.bolt_check.specs.Uses.{times_of}
+use Rattle.bolt_check.specs.Private.Listings.{AreAllFindings, IsSettled, is_in_use, listed_times}
+use Rattle.bolt_check.specs.Private.Tables.{IsClaimed, is_used, use_at, times_of}
 use Rattle.bolt_check.specs.declared.listing.Listing.{Listing}
 use Rattle.bolt_check.specs.declared.table.PageUse.{PageUse}
 use Rattle.bolt_check.proofs.CountLemmas.{times_there}
@@ -63,9 +62,9 @@ module _ (old : List PageUse) (ids past items : List ℕ) (listing : Listing) (l
 
   -- what is told of the listing is told of the ids
   pub listing_told : IsSettled listing → ((n : ℕ) → n < length old → times_of (use_at listing.table.now n) ≡ min 2 (times_in ids n))
-      → (r : Result (Vec Finding Global) AllocError) → IfOk r (λ told. AreAllTold listing.mark (is_in_use listing) (listed_times listing) told.items)
-      → IfOk r (λ told. AreAllTold listing.mark (IsClaimed old) (times_in ids) told.items)
+      → (r : Result (Vec Finding Global) AllocError) → IfOk r (λ told. AreAllFindings listing.mark (is_in_use listing) (listed_times listing) told.items)
+      → IfOk r (λ told. AreAllFindings listing.mark (IsClaimed old) (times_in ids) told.items)
   listing_told ok times r told =
-      IfOk-weaker r (λ told. AreAllTold listing.mark (is_in_use listing) (listed_times listing) told.items) (λ told. AreAllTold listing.mark (IsClaimed old) (times_in ids) told.items)
+      IfOk-weaker r (λ told. AreAllFindings listing.mark (is_in_use listing) (listed_times listing) told.items) (λ told. AreAllFindings listing.mark (IsClaimed old) (times_in ids) told.items)
       (λ v. told_along listing.mark (is_in_use listing) (IsClaimed old) (listed_times listing) (times_in ids) (λ n claimed. sym (used n) ∙ claimed) (λ n claimed. used n ∙ claimed)
       (same_times ok times) v.items) told

@@ -7,54 +7,39 @@ use Rattle.bolt_check.specs.declared.finding.TheConstants.Finding.{EMPTY_BRANCH,
 use Rattle.bolt_check.specs.declared.finding.Finding.{Finding}
 use Rattle.bolt_check.specs.Nodes.{Nodes, Node, Entry}
 use Rattle.bolt_check.specs.Ways.{Spot, At_page, At_inline, Reach, SpanHas, SpanAt, SpanOf, child_spot, step, upper_from, follow, reached, start_of}
-use Rattle.bolt_check.specs.Findings.{keys_of, early_fault, node_fault, content_fault, told_of, finding, Passes, PagePasses, IsClaimedBefore, IsClean, IsMetaPage}
-use Rattle.bolt_check.specs.Keys.{Key, is_below, is_from, key_fault, key_lt}
+use Rattle.bolt_check.specs.Findings.{keys_of, early_finding, open_finding, node_finding, finding_of, finding, Passes, PagePasses, IsClaimedBefore, IsClean, IsMetaPage}
+use Rattle.bolt_check.specs.Keys.{Key, is_below, is_from, keys_order_fault, key_lt}
 use Rattle.bolt_check.specs.Shape.{child_of, child_in, child_at, leads, HasShape}
 use Rattle.bolt_check.proofs.WayOrder.{before_total}
 use Rattle.bolt_check.proofs.KeyLaws.{below_less, from_more, not_true}
 use Rattle.bolt_check.proofs.KeyOrder.{key_each, key_rise}
-
-pub follow_append : (nodes : Nodes) (here : Option Spot) (v w : List ℕ) → follow nodes here (v ++ w) ≡ follow nodes (follow nodes here v) w
-follow_append nodes here [] w = refl
-follow_append nodes here (i ∷ v) w = follow_append nodes (step nodes here i) v w
+use Rattle.bolt_check.proofs.WayFacts.{follow_append, key_at, leads_none, none_number, step_child}
 
 pub same_spot : (o : Option Spot) (s t : PageSpot) → o ≡ Some (At_page s) → o ≡ Some (At_page t) → s ≡ t
 same_spot o s t e h = cc
 
-pub no_entry : (e : Entry) → None ≡ Some e → ⊥
-no_entry e h = cc
-
--- the key of an entry
-pub key_at : (entries : List Entry) (i : ℕ) (e : Entry) → slice_get entries i ≡ Some e → slice_get (keys_of entries) i ≡ Some e.key
-key_at [] i e h = absurd (no_entry e h)
-key_at (x ∷ entries) zero e h = let same : x ≡ e = cc in let f : Entry → Key = λ y. y.key in let k = ap f same in cc
-key_at (x ∷ entries) (suc i) e h = key_at entries i e h
-
 -- the content's tests tell nothing
-pub told_none : (o : Option ℕ) (page : ℕ) → told_of o page ≡ None → o ≡ None
-told_none None page e = refl
-told_none (Some number) page e = absurd (cc)
+pub finding_none : (o : Option ℕ) (page : ℕ) → finding_of o page ≡ None → o ≡ None
+finding_none None page e = refl
+finding_none (Some number) page e = absurd (cc)
 
 filled_if : (b : Bool) (x : Finding) (o : Option Finding) → (if b then Some x else o) ≡ None → (b ≡ false) × (o ≡ None)
 filled_if true x o e = absurd (cc)
 filled_if false x o e = (refl, e)
 
-content_keys : (node : Node) (s : PageSpot) → content_fault node s ≡ None → key_fault None s.lower s.upper (keys_of node.entries) ≡ None
-content_keys node s e = told_none (key_fault None s.lower s.upper (keys_of node.entries)) s.number
-    (filled_if (not node.is_leaf && (length node.entries == 0)) (finding EMPTY_BRANCH s.number) (told_of (key_fault None s.lower s.upper (keys_of node.entries)) s.number) e).1
+content_keys : (node : Node) (s : PageSpot) → node_finding node s ≡ None → keys_order_fault None s.lower s.upper (keys_of node.entries) ≡ None
+content_keys node s e = finding_none (keys_order_fault None s.lower s.upper (keys_of node.entries)) s.number
+    (filled_if (not node.is_leaf && (length node.entries == 0)) (finding EMPTY_BRANCH s.number) (finding_of (keys_order_fault None s.lower s.upper (keys_of node.entries)) s.number) e).1
 
-content_filled : (node : Node) (s : PageSpot) → content_fault node s ≡ None → node.is_leaf ≡ false → node.entries ≢ []
+content_filled : (node : Node) (s : PageSpot) → node_finding node s ≡ None → node.is_leaf ≡ false → node.entries ≢ []
 content_filled node s e leaf nil =
-    let f = (filled_if (not node.is_leaf && (length node.entries == 0)) (finding EMPTY_BRANCH s.number) (told_of (key_fault None s.lower s.upper (keys_of node.entries)) s.number) e).0 in
+    let f = (filled_if (not node.is_leaf && (length node.entries == 0)) (finding EMPTY_BRANCH s.number) (finding_of (keys_order_fault None s.lower s.upper (keys_of node.entries)) s.number) e).0 in
     let g = rw (leaf, nil) at f in
     let t : true ≡ false = g in cc
 
 -- the keys of this page are as its bounds say
 abbrev pub KeysFine : Nodes → PageSpot → Type 0
-KeysFine nodes s = (node : Node) → nodes s.number ≡ Ok node → key_fault None s.lower s.upper (keys_of node.entries) ≡ None
-
-none_number : (x : ℕ) → None ≡ Some x → ⊥
-none_number x e = cc
+KeysFine nodes s = (node : Node) → nodes s.number ≡ Ok node → keys_order_fault None s.lower s.upper (keys_of node.entries) ≡ None
 
 is_entry : (leaf : Bool) (o : Option Entry) (c : ℕ) → child_of leaf o ≡ Some c → (e : Entry) × (leaf ≡ false) × (o ≡ Some e) × (e.child ≡ c)
 is_entry true o c h = absurd (none_number c h)
@@ -67,17 +52,9 @@ is_child : (nodes : Nodes) (s : PageSpot) (i : ℕ) (o : Result Node ℕ) (c : �
 is_child nodes s i (Err f) c q h = absurd (none_number c h)
 is_child nodes s i (Ok node) c q h = let p = is_entry node.is_leaf (slice_get node.entries i) c h in (node, p.0, q, p.1, p.2, p.3)
 
-leads_none : (nodes : Nodes) (address : List ℕ) → leads nodes None address ≡ None
-leads_none nodes [] = refl
-leads_none nodes (i ∷ address) = leads_none nodes address
-
 leads_some : (nodes : Nodes) (o : Option ℕ) (address : List ℕ) (below : ℕ) → leads nodes o address ≡ Some below → (c : ℕ) × (o ≡ Some c)
 leads_some nodes None address below e = absurd (none_number below (sym (leads_none nodes address) ∙ e))
 leads_some nodes (Some c) address below e = (c, refl)
-
-pub step_child : (nodes : Nodes) (s : PageSpot) (i : ℕ) (node : Node) (e : Entry) → nodes s.number ≡ Ok node → node.is_leaf ≡ false → slice_get node.entries i ≡ Some e
-    → step nodes (Some (At_page s)) i ≡ Some (At_page (child_spot s e (upper_from (slice_get node.entries (suc i)) s.upper)))
-step_child nodes s i node e q leaf g = rw (q, leaf, g) refl
 
 upper_less : (next : Option Entry) (upper : Option Key) (key : Key) → ((n : Entry) → next ≡ Some n → is_below upper n.key ≡ true) → is_below (upper_from next upper) key ≡ true → is_below upper key ≡ true
 upper_less None upper key h e = e
@@ -115,9 +92,9 @@ snoc_reached nodes root way i s o e st v =
     let g : Option Spot → Option Spot = λ x. follow nodes x v in
     follow_append nodes (Some (At_page (start_of root))) way (i ∷ v) ∙ (ap f e ∙ ap g st)
 
-early_depth : (nodes : Nodes) (s : PageSpot) → early_fault nodes s ≡ None → s.depth ≤ 64
+early_depth : (nodes : Nodes) (s : PageSpot) → early_finding nodes s ≡ None → s.depth ≤ 64
 early_depth nodes s e =
-    let b : nat_lt 64 s.depth ≡ false = (filled_if (nat_lt 64 s.depth) (finding TOO_DEEP s.number) (node_fault (nodes s.number) s.number) e).0 in
+    let b : nat_lt 64 s.depth ≡ false = (filled_if (nat_lt 64 s.depth) (finding TOO_DEEP s.number) (open_finding (nodes s.number) s.number) e).0 in
     grind (arith, nat_tests, b)
 
 same_node : (o : Result Node ℕ) (a b : Node) → o ≡ Ok a → o ≡ Ok b → a ≡ b
@@ -158,7 +135,7 @@ shape_of nodes root clean = record {
     | inr ge ↦ ge
   ];
   rising = λ way s node e h. key_rise None s.lower s.upper (keys_of node.entries) (fine_at nodes root clean way s e node h);
-  rising_inline = λ way host keys e. key_rise None None None keys (told_none (key_fault None None None keys) host (clean.passes way (At_inline host keys) e));
+  rising_inline = λ way host keys e. key_rise None None None keys (finding_none (keys_order_fault None None None keys) host (clean.passes way (At_inline host keys) e));
   bounded = λ way address s node under i j below key e q h leaf g l u k.
       let t = child_spot s e (upper_from (slice_get node.entries (suc i)) s.upper) in
       let st = step_child nodes s i node e h leaf g in

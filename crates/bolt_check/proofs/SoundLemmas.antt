@@ -7,12 +7,12 @@ use Rattle.bolt_check.specs.Accounts.{HasAccounts}
 use Rattle.bolt_check.specs.Findings.{IsClean, IsMetaPage}
 use Rattle.bolt_check.specs.Nodes.{node_at}
 use Rattle.bolt_check.specs.Sound.{HasRightAccounts, IsSound, IsUsed}
-use Rattle.bolt_check.specs.Tables.{IsClaimed}
-use Rattle.bolt_check.specs.Told.{AreTold}
+use Rattle.bolt_check.specs.Private.Tables.{IsClaimed}
+use Rattle.bolt_check.specs.AccountFindings.{AreAccountFindings}
 use Rattle.bolt_check.specs.Ways.{reached}
 use Rattle.bolt_check.specs.declared.finding.Finding.{Finding}
 use Rattle.bolt_check.specs.declared.table.PageUse.{PageUse}
-use Rattle.bolt_check.proofs.AccountsAlong.{are_told_along, has_accounts_along}
+use Rattle.bolt_check.proofs.AccountsAlong.{account_findings_along, has_accounts_along}
 use Rattle.bolt_check.proofs.Shaping.{shape_of}
 
 pub right_of : (file : List ℕ) (meta : Meta) (table : List PageUse) → ((n : ℕ) → IsClaimed table n ↔ IsUsed file meta n)
@@ -23,9 +23,9 @@ pub wrong_of : (file : List ℕ) (meta : Meta) (table : List PageUse) → ((n : 
     → (HasAccounts file meta (IsClaimed table) → ⊥) → HasRightAccounts file meta → ⊥
 wrong_of file meta table same wrong right = wrong (has_accounts_along file meta (IsUsed file meta) (IsClaimed table) (λ n. (same n).1) (λ n. (same n).0) right)
 
-pub told_of_file : (file : List ℕ) (meta : Meta) (table : List PageUse) (told : List Finding) → ((n : ℕ) → IsClaimed table n ↔ IsUsed file meta n)
-    → AreTold file meta (IsClaimed table) told → AreTold file meta (IsUsed file meta) told
-told_of_file file meta table told same = are_told_along file meta (IsClaimed table) (IsUsed file meta) (λ n. (same n).0) (λ n. (same n).1) told
+pub findings_of_file : (file : List ℕ) (meta : Meta) (table : List PageUse) (told : List Finding) → ((n : ℕ) → IsClaimed table n ↔ IsUsed file meta n)
+    → AreAccountFindings file meta (IsClaimed table) told → AreAccountFindings file meta (IsUsed file meta) told
+findings_of_file file meta table told same = account_findings_along file meta (IsClaimed table) (IsUsed file meta) (λ n. (same n).0) (λ n. (same n).1) told
 
 pub sound_of : (file : List ℕ) (slot : Slot) (meta : Meta) (table : List PageUse) → IsChosen file slot meta
     → IsClean (node_at file meta) (reached (node_at file meta) meta.root) IsMetaPage → ((n : ℕ) → IsClaimed table n ↔ IsUsed file meta n)

@@ -3,7 +3,7 @@ use Rattle.std.proofs.Common.{◌≡◌, ◌≢◌, ℕ, ◌+◌, ◌<◌, ◌�
 use Rattle.std.proofs.lemmas.List.{set_past}
 use Rattle.std.proofs.lemmas.List.Sums.{sum_by-set}
 use Rattle.std.proofs.lemmas.Bool.{cases_lt}
-use Rattle.bolt_check.specs.Tables.{IsClaimed, IsUnclaimed, is_used, unclaimed, use_at}
+use Rattle.bolt_check.specs.Private.Tables.{IsClaimed, IsUnclaimed, is_used, unclaimed, use_at}
 use Rattle.bolt_check.specs.declared.table.PageUse.{PageUse}
 use Rattle.bolt_check.specs.declared.table.PageUse.TheVariants.{Unused, Used}
 

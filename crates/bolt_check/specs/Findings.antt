@@ -1,6 +1,6 @@
 -- What the tests of the structure tell, and which finding is the first: docs/SOUND.md, "Structure".
 use Rattle.std.specs.Prelude.{◌≡◌, ℕ, ◌<◌, ◌⊎◌, not, ◌&&◌, List, length, map, Option, Some, None, Result, Ok, Err, if◌then◌else◌, nat_lt, ◌==◌}
-use Rattle.bolt_check.specs.Keys.{Key, key_fault}
+use Rattle.bolt_check.specs.Keys.{Key, keys_order_fault}
 use Rattle.bolt_check.specs.Nodes.{Entry, IsInSpan, Node, Nodes}
 use Rattle.bolt_check.specs.Ways.{At_inline, At_page, Before, PageSpot, Reach, SpanHas, Spot}
 use Rattle.bolt_check.specs.declared.finding.Finding.{Finding}
@@ -10,30 +10,30 @@ use Rattle.bolt_check.specs.declared.finding.TheConstants.Finding.{EMPTY_BRANCH,
 abbrev pub finding : ℕ → ℕ → Finding
 finding number page = record { number = number; page = page; last = page }
 
-abbrev pub told_of : Option ℕ → ℕ → Option Finding
-told_of None page = None
-told_of (Some number) page = Some (finding number page)
+abbrev pub finding_of : Option ℕ → ℕ → Option Finding
+finding_of None page = None
+finding_of (Some number) page = Some (finding number page)
 
-abbrev pub node_fault : Result Node ℕ → ℕ → Option Finding
-node_fault (Err fault) number = Some (finding fault number)
-node_fault (Ok node) number = None
+abbrev pub open_finding : Result Node ℕ → ℕ → Option Finding
+open_finding (Err fault) number = Some (finding fault number)
+open_finding (Ok node) number = None
 
 -- the 65th page on the way from the bucket's root page, and then the faults of the page itself
-abbrev pub early_fault : Nodes → PageSpot → Option Finding
-early_fault nodes s = if nat_lt 64 s.depth then Some (finding TOO_DEEP s.number) else node_fault (nodes s.number) s.number
+abbrev pub early_finding : Nodes → PageSpot → Option Finding
+early_finding nodes s = if nat_lt 64 s.depth then Some (finding TOO_DEEP s.number) else open_finding (nodes s.number) s.number
 
 abbrev pub keys_of : List Entry → List Key
 keys_of entries = map (λ (e : Entry). e.key) entries
 
 -- an empty branch, and then the keys
-abbrev pub content_fault : Node → PageSpot → Option Finding
-content_fault node s =
+abbrev pub node_finding : Node → PageSpot → Option Finding
+node_finding node s =
     if not node.is_leaf && (length node.entries == 0) then Some (finding EMPTY_BRANCH s.number)
-    else told_of (key_fault None s.lower s.upper (keys_of node.entries)) s.number
+    else finding_of (keys_order_fault None s.lower s.upper (keys_of node.entries)) s.number
 
 -- the keys of an inline bucket are told of the page that holds it
-abbrev pub inline_fault : ℕ → List Key → Option Finding
-inline_fault host keys = told_of (key_fault None None None keys) host
+abbrev pub inline_finding : ℕ → List Key → Option Finding
+inline_finding host keys = finding_of (keys_order_fault None None None keys) host
 
 -- the meta pages are claimed from the start
 abbrev pub IsMetaPage : ℕ → Type 0
@@ -47,27 +47,27 @@ pub record IsLowestClaimed (before : ℕ → Type 0) (node : Node) (number n : �
 
 -- at this page, where these pages were claimed before, the tests tell this finding
 pub data PageTests (nodes : Nodes) (before : ℕ → Type 0) (s : PageSpot) (x : Finding) : Type 0 where
-  early : early_fault nodes s ≡ Some x → PageTests nodes before s x
-  twice : (node : Node) → early_fault nodes s ≡ None → nodes s.number ≡ Ok node
+  early : early_finding nodes s ≡ Some x → PageTests nodes before s x
+  twice : (node : Node) → early_finding nodes s ≡ None → nodes s.number ≡ Ok node
       → IsLowestClaimed before node s.number x.page → x ≡ finding TWICE x.page → PageTests nodes before s x
-  late : (node : Node) → early_fault nodes s ≡ None → nodes s.number ≡ Ok node
-      → ((n : ℕ) → IsInSpan node s.number n → before n → ⊥) → content_fault node s ≡ Some x → PageTests nodes before s x
+  late : (node : Node) → early_finding nodes s ≡ None → nodes s.number ≡ Ok node
+      → ((n : ℕ) → IsInSpan node s.number n → before n → ⊥) → node_finding node s ≡ Some x → PageTests nodes before s x
 
 -- at this page the tests tell nothing
 pub record PagePasses (nodes : Nodes) (before : ℕ → Type 0) (s : PageSpot) : Type 0 where
   pub node : Node
-  pub early : early_fault nodes s ≡ None
+  pub early : early_finding nodes s ≡ None
   pub page : nodes s.number ≡ Ok node
   pub free : (n : ℕ) → IsInSpan node s.number n → before n → ⊥
-  pub content : content_fault node s ≡ None
+  pub content : node_finding node s ≡ None
 
 abbrev pub Tests : Nodes → (ℕ → Type 0) → Spot → Finding → Type 0
 Tests nodes before (At_page s) x = PageTests nodes before s x
-Tests nodes before (At_inline host keys) x = inline_fault host keys ≡ Some x
+Tests nodes before (At_inline host keys) x = inline_finding host keys ≡ Some x
 
 abbrev pub Passes : Nodes → (ℕ → Type 0) → Spot → Type 0
 Passes nodes before (At_page s) = PagePasses nodes before s
-Passes nodes before (At_inline host keys) = inline_fault host keys ≡ None
+Passes nodes before (At_inline host keys) = inline_finding host keys ≡ None
 
 -- page n was claimed from the start, or lies in the span of a way before this one
 abbrev pub IsClaimedBefore : Nodes → Reach → (ℕ → Type 0) → List ℕ → ℕ → Type 0

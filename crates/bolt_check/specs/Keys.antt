@@ -32,14 +32,14 @@ is_below None key = true
 is_below (Some bound) key = key_lt key bound
 
 -- the tests of one key: above the one before it, not below the lower bound, below the upper
-abbrev pub one_key_fault : (before lower upper : Option Key) → Key → Option ℕ
-one_key_fault before lower upper key =
+abbrev pub key_order_fault : (before lower upper : Option Key) → Key → Option ℕ
+key_order_fault before lower upper key =
     if not (is_above before key) then Some ORDER
     else (if not (is_from lower key) then Some BELOW_PARENT
     else (if not (is_below upper key) then Some ABOVE_NEXT
     else None))
 
 -- the tests of the keys, one after another
-abbrev pub key_fault : (before lower upper : Option Key) → List Key → Option ℕ
-key_fault before lower upper [] = None
-key_fault before lower upper (key ∷ keys) = first_of (one_key_fault before lower upper key) (key_fault (Some key) lower upper keys)
+abbrev pub keys_order_fault : (before lower upper : Option Key) → List Key → Option ℕ
+keys_order_fault before lower upper [] = None
+keys_order_fault before lower upper (key ∷ keys) = first_of (key_order_fault before lower upper key) (keys_order_fault (Some key) lower upper keys)

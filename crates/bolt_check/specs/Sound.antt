@@ -4,10 +4,10 @@ use Rattle.bolt_format.specs.Metas.{HasMetaFault, IsChosen, IsInSlot}
 use Rattle.bolt_format.specs.declared.meta.Meta.{Meta}
 use Rattle.bolt_format.specs.declared.meta.Slot.{Slot}
 use Rattle.bolt_check.specs.Accounts.{HasAccounts}
-use Rattle.bolt_check.specs.Findings.{IsCovered, IsFirst, IsMetaPage}
+use Rattle.bolt_check.specs.Findings.{IsClean, IsCovered, IsFirst, IsMetaPage}
 use Rattle.bolt_check.specs.Nodes.{node_at}
 use Rattle.bolt_check.specs.Shape.{HasShape}
-use Rattle.bolt_check.specs.Told.{AreTold}
+use Rattle.bolt_check.specs.AccountFindings.{AreAccountFindings}
 use Rattle.bolt_check.specs.Ways.{reached}
 use Rattle.bolt_check.specs.declared.fault.CheckFault.{CheckFault}
 use Rattle.bolt_check.specs.declared.fault.CheckFault.TheVariants.{Accounts, Memory, Open, Structure}
@@ -20,6 +20,10 @@ IsUsed file meta n = IsCovered (node_at file meta) (reached (node_at file meta) 
 -- the trees of the file, for this meta, are sound
 abbrev pub HasSoundTrees : List ℕ → Meta → Type 0
 HasSoundTrees file meta = HasShape (node_at file meta) meta.root
+
+-- no test of the trees of the file, for this meta, fails
+abbrev pub PassesTests : List ℕ → Meta → Type 0
+PassesTests file meta = IsClean (node_at file meta) (reached (node_at file meta) meta.root) IsMetaPage
 
 -- the accounts of the file, for this meta, are right
 abbrev pub HasRightAccounts : List ℕ → Meta → Type 0
@@ -42,5 +46,5 @@ IsRefused file (Open fault) = HasMetaFault file 0 fault × ((slot : Slot) (meta 
 IsRefused file (Structure x) = (slot : Slot) × (meta : Meta) × IsChosen file slot meta × IsFirstFinding file meta x
 IsRefused file (Accounts told) =
     (slot : Slot) × (meta : Meta) × IsChosen file slot meta × HasSoundTrees file meta × (HasRightAccounts file meta → ⊥)
-    × AreTold file meta (IsUsed file meta) told.items × (told.items ≢ [])
+    × AreAccountFindings file meta (IsUsed file meta) told.items × (told.items ≢ [])
 IsRefused file Memory = Unit {0}

@@ -1,12 +1,12 @@
 //! Does the freelist account for every page that is not in use? (docs/SOUND.md, "Accounts").
-ghost use Rattle.std.specs.Prelude.{◌≡◌, ◌≢◌, ◌≤◌, ◌<◌, ◌+◌, ◌*◌, ◌∷◌, ℕ, [], IfOk, IfSome, MatchOption, None, length};
+ghost use Rattle.std.specs.Prelude.{◌≡◌, ◌≢◌, ◌≤◌, ◌<◌, ◌+◌, ◌∷◌, ℕ, [], IfOk, IfSome, MatchOption, None, length};
 ghost use Rattle.bolt_format.specs.Freelists.{freelist_fault_of};
 ghost use Rattle.bolt_format.specs.declared.meta.TheConstants.{NO_FREELIST};
 ghost use Rattle.bolt_format.specs.ShownIds.{shown_ids};
 ghost use Rattle.bolt_check.specs.Accounts.{HasAccounts, IsInFreelist, times_in};
-ghost use Rattle.bolt_check.specs.Listings.{AreAllTold, ClaimsFreelist, IsUnlisted};
-ghost use Rattle.bolt_check.specs.Tables.{HasRoom, IsClaimed};
-ghost use Rattle.bolt_check.specs.Told.{AreTold};
+ghost use Rattle.bolt_check.specs.Private.Listings.{AreAllFindings, ClaimsFreelist, IsUnlisted};
+ghost use Rattle.bolt_check.specs.Private.Tables.{HasRoom, IsClaimed};
+ghost use Rattle.bolt_check.specs.AccountFindings.{AreAccountFindings};
 
 use crate::finding::Finding;
 use crate::listing::{Listing, list_ids};
@@ -29,7 +29,7 @@ pub(crate) fn test_accounts(
     requires room { HasRoom file.now meta.now table.old }
     ensures right { IfOk result (λ told. told.items ≡ [] → HasAccounts file.now meta.now (IsClaimed table.old)) }
     ensures wrong { IfOk result (λ told. told.items ≢ [] → HasAccounts file.now meta.now (IsClaimed table.old) → ⊥) }
-    ensures told { IfOk result (λ told. told.items ≢ [] → AreTold file.now meta.now (IsClaimed table.old) told.items) }
+    ensures told { IfOk result (λ told. told.items ≢ [] → AreAccountFindings file.now meta.now (IsClaimed table.old) told.items) }
 {
     let ids = match free_ids(file, meta) {
         Ok(Some(ids)) => ids,
@@ -79,7 +79,7 @@ fn test_ids(
     requires unlisted { IsUnlisted table.old }
     requires metas { (n : ℕ) → n < 2 → IsClaimed table.old n }
     requires below { length table.old ≤ mark }
-    ensures { IfOk result (λ told. AreAllTold mark (IsClaimed table.old) (times_in (shown_ids ids.entry)) told.items) }
+    ensures { IfOk result (λ told. AreAllFindings mark (IsClaimed table.old) (times_in (shown_ids ids.entry)) told.items) }
 {
     let mut past = list_ids(alloc, ids, table)?;
     past.sort_unstable();

@@ -3,9 +3,9 @@ ghost use Rattle.std.specs.Prelude.{◌≡◌, ◌<◌, None, Some, length, slic
 ghost use Rattle.std.specs.Result.{result_err};
 ghost use Rattle.bolt_format.specs.ShownInline.{shown_inline};
 ghost use Rattle.bolt_check.specs.Findings.{keys_of};
-ghost use Rattle.bolt_check.specs.Keys.{key_fault, key_lt, one_key_fault};
-ghost use Rattle.bolt_check.specs.Pending.{bound_of, inline_keys};
-ghost use Rattle.bolt_check.specs.ShownNodes.{shown_node};
+ghost use Rattle.bolt_check.specs.Keys.{keys_order_fault, key_lt, key_order_fault};
+ghost use Rattle.bolt_check.specs.Private.Pending.{bound_of, inline_keys};
+ghost use Rattle.bolt_check.specs.Private.ShownNodes.{shown_node};
 
 use crate::finding::Finding;
 use crate::tree_page::TreePage;
@@ -25,7 +25,7 @@ fn test_key(
     upper: Option<&[u8]>,
     key: &[u8],
 ) -> Result<(), u8>
-    ensures { result_err result ≡ one_key_fault (bound_of before.entry) (bound_of lower.entry) (bound_of upper.entry) key.now }
+    ensures { result_err result ≡ key_order_fault (bound_of before.entry) (bound_of lower.entry) (bound_of upper.entry) key.now }
 {
     if let Some(bound) = before {
         if !is_below(bound, key) {
@@ -52,7 +52,7 @@ pub(crate) fn test_keys(
     lower: Option<&[u8]>,
     upper: Option<&[u8]>,
 ) -> Result<(), u8>
-    ensures { result_err result ≡ key_fault None (bound_of lower.entry) (bound_of upper.entry) (keys_of (shown_node node.now).entries) }
+    ensures { result_err result ≡ keys_order_fault None (bound_of lower.entry) (bound_of upper.entry) (keys_of (shown_node node.now).entries) }
 {
     let mut before: Option<&[u8]> = None;
     for i in 0..node.count() {
@@ -74,7 +74,7 @@ fn inline_key<'a>(page: &Inline<'a>, i: u16) -> &'a [u8]
 /// Tests that the keys of an inline bucket rise.
 #[tactic(auto, using(bolt_format::proofs::ListLemmas::drop_next, std::proofs::lemmas::List::drop_all))]
 pub(crate) fn test_inline_keys(page: &Inline<'_>) -> Result<(), u8>
-    ensures { result_err result ≡ key_fault None None None (inline_keys page.now) }
+    ensures { result_err result ≡ keys_order_fault None None None (inline_keys page.now) }
 {
     let mut before: Option<&[u8]> = None;
     for i in 0..page.count() {

@@ -1,9 +1,14 @@
 //! What the definitions of sound files imply.
-ghost use Rattle.std.specs.Prelude.{◌≡◌, ℕ, List};
+ghost use Rattle.std.specs.Prelude.{◌≡◌, ◌↔◌, ℕ, List};
 ghost use Rattle.bolt_format.specs.declared.meta.Meta.{Meta};
-ghost use Rattle.bolt_check.specs.Sound.{HasSoundTrees, IsFirstFinding, IsUsed};
-ghost use Rattle.bolt_check.specs.Told.{AreTold};
+ghost use Rattle.bolt_check.specs.Sound.{HasSoundTrees, IsFirstFinding, IsUsed, PassesTests};
+ghost use Rattle.bolt_check.specs.AccountFindings.{AreAccountFindings};
 ghost use Rattle.bolt_check.specs.declared.finding.Finding.{Finding};
+
+/// No test of the trees fails exactly where they are sound.
+pub fn sound_trees_pass_the_tests()
+    ensures { (file : List ℕ) (meta : Meta) → HasSoundTrees file meta ↔ PassesTests file meta }
+{}
 
 /// Sound trees have no finding.
 pub fn sound_trees_have_no_finding()
@@ -16,6 +21,6 @@ pub fn first_finding_is_one()
 {}
 
 /// What is told of the accounts is one list.
-pub fn told_accounts_are_one()
-    ensures { (file : List ℕ) (meta : Meta) (a b : List Finding) → AreTold file meta (IsUsed file meta) a → AreTold file meta (IsUsed file meta) b → a ≡ b }
+pub fn account_findings_are_one()
+    ensures { (file : List ℕ) (meta : Meta) (a b : List Finding) → AreAccountFindings file meta (IsUsed file meta) a → AreAccountFindings file meta (IsUsed file meta) b → a ≡ b }
 {}

@@ -3,15 +3,15 @@
 #![tactic(auto)]
 
 mod accounts;
-pub mod checked_file;
-pub mod fault;
-pub mod finding;
+mod checked_file;
+mod fault;
+mod finding;
 mod keys;
 pub mod laws;
 mod listing;
 mod node;
 mod search;
-pub mod sound;
+mod sound;
 mod stop;
 mod table;
 mod telling;

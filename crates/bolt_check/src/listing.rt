@@ -2,9 +2,8 @@
 ghost use Rattle.std.specs.Prelude.{◌≡◌, ◌==◌, ◌<◌, ◌+◌, ◌++◌, ◌∷◌, ℕ, [], IfOk, OnOk, filter, if◌then◌else◌, length, min, nat_le};
 ghost use Rattle.bolt_format.specs.ShownIds.{shown_ids};
 ghost use Rattle.bolt_check.specs.Accounts.{times_in};
-ghost use Rattle.bolt_check.specs.Tables.{is_used, use_at};
-ghost use Rattle.bolt_check.specs.Listings.{IsUnlisted};
-ghost use Rattle.bolt_check.specs.Uses.{times_of};
+ghost use Rattle.bolt_check.specs.Private.Tables.{is_used, use_at, times_of};
+ghost use Rattle.bolt_check.specs.Private.Listings.{IsUnlisted};
 
 use crate::table::PageUse;
 use bolt_format::FreeIds;

@@ -1,7 +1,7 @@
-//! The table of pages: one byte for each page that begins in the file and lies below the
-//! high-water mark.
+//! The table of pages: one byte for each whole page that lies in the file and below the high-water
+//! mark, and at least two.
 ghost use Rattle.std.specs.Prelude.{◌≡◌, ℕ, ◌<◌, ◌≤◌, ◌+◌, length, IfSome, MatchOption};
-ghost use Rattle.bolt_check.specs.Tables.{IsClaimed, IsUnclaimed, is_used, unclaimed, use_at};
+ghost use Rattle.bolt_check.specs.Private.Tables.{IsClaimed, IsUnclaimed, is_used, unclaimed, use_at};
 
 /// What a page is found to be for.
 #[derive(Clone, Copy, Debug, PartialEq, Eq)]

@@ -1,6 +1,6 @@
 //! Tells what is wrong with the pages of a listing, in the order of the pages.
-ghost use Rattle.std.specs.Prelude.{◌≡◌, ◌≤◌, ◌<◌, ◌+◌, ◌++◌, ◌↔◌, ℕ, [], IfOk, IsTrue, OnOk, length, slice_index};
-ghost use Rattle.bolt_check.specs.Listings.{AreAllTold, AreToldBelow, IsBeyondTo, IsPastTo, IsSettled, IsToldTo, is_in_use, is_repeated, listed_times, meta_findings, page_findings, repeat_findings, run_findings, use_findings};
+ghost use Rattle.std.specs.Prelude.{◌≡◌, ◌≤◌, ◌<◌, ◌+◌, ◌++◌, ◌↔◌, [], IfOk, IsTrue, OnOk, length};
+ghost use Rattle.bolt_check.specs.Private.Listings.{AreAllFindings, AreFindingsBelow, IsBeyondTo, IsPastTo, IsSettled, HasFindingsTo, is_in_use, is_repeated, listed_times, meta_findings, page_findings, repeat_findings, run_findings, use_findings};
 
 use crate::finding::Finding;
 use crate::listing::Listing;
@@ -86,9 +86,9 @@ fn tell_entry(
     requires settled { IsSettled listing.now }
     requires inside { n < length listing.now.table.now }
     requires order { from ≤ n }
-    requires told { IsToldTo listing.now from n findings.old.items }
+    requires told { HasFindingsTo listing.now from n findings.old.items }
     ensures order { IfOk result (λ next. next ≤ n + 1) }
-    ensures told { IfOk result (λ next. IsToldTo listing.now next (n + 1) findings.new.items) }
+    ensures told { IfOk result (λ next. HasFindingsTo listing.now next (n + 1) findings.new.items) }
 {
     let page_use = listing.table[n];
     if is_unused(page_use) {
@@ -106,7 +106,7 @@ fn tell_table(listing: &Listing<'_>, findings: &mut Vec<Finding>) -> Result<u64,
     requires settled { IsSettled listing.now }
     requires none { findings.old.items ≡ [] }
     ensures within { IfOk result (λ from. from ≤ length listing.now.table.now) }
-    ensures told { IfOk result (λ from. IsToldTo listing.now from (length listing.now.table.now) findings.new.items) }
+    ensures told { IfOk result (λ from. HasFindingsTo listing.now from (length listing.now.table.now) findings.new.items) }
 {
     let mut from = 0;
     for n in 0..listing.table.len() {
@@ -166,9 +166,9 @@ fn tell_past(
 ) -> Result<u64, AllocError>
     requires settled { IsSettled listing.now }
     requires start { start ≤ length listing.now.table.now }
-    requires told { IsToldTo listing.now start (length listing.now.table.now) findings.old.items }
+    requires told { HasFindingsTo listing.now start (length listing.now.table.now) findings.old.items }
     ensures within { IfOk result (λ from. from ≤ listing.now.mark) }
-    ensures told { IfOk result (λ from. IsToldTo listing.now from listing.now.mark findings.new.items) }
+    ensures told { IfOk result (λ from. HasFindingsTo listing.now from listing.now.mark findings.new.items) }
 {
     let mut from = start;
     for i in 0..listing.past.len() {
@@ -201,8 +201,8 @@ fn tell_high_id(
 /// Tells the ids from the mark on, each once.
 fn tell_beyond(listing: &Listing<'_>, findings: &mut Vec<Finding>) -> Result<(), AllocError>
     requires settled { IsSettled listing.now }
-    requires told { AreToldBelow listing.now.mark (is_in_use listing.now) (listed_times listing.now) listing.now.mark findings.old.items }
-    ensures { OnOk result (AreAllTold listing.now.mark (is_in_use listing.now) (listed_times listing.now) findings.new.items) }
+    requires told { AreFindingsBelow listing.now.mark (is_in_use listing.now) (listed_times listing.now) listing.now.mark findings.old.items }
+    ensures { OnOk result (AreAllFindings listing.now.mark (is_in_use listing.now) (listed_times listing.now) findings.new.items) }
 {
     let mut last = 0;
     for i in 0..listing.past.len() {
@@ -214,7 +214,7 @@ fn tell_beyond(listing: &Listing<'_>, findings: &mut Vec<Finding>) -> Result<(),
 /// All that is wrong with the pages of a listing.
 pub(crate) fn tell_listing(alloc: Global, listing: &Listing<'_>) -> Result<Vec<Finding>, AllocError>
     requires { IsSettled listing.now }
-    ensures { IfOk result (λ told. AreAllTold listing.now.mark (is_in_use listing.now) (listed_times listing.now) told.items) }
+    ensures { IfOk result (λ told. AreAllFindings listing.now.mark (is_in_use listing.now) (listed_times listing.now) told.items) }
 {
     let mut findings = Vec::new(alloc);
     let past_table = tell_table(listing, &mut findings)?;

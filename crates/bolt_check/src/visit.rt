@@ -1,12 +1,12 @@
 //! The visit of one page: its tests, and the claim of its span.
 ghost use Rattle.std.specs.Prelude.{◌≡◌, ◌<◌, ◌≤◌, IfErr, IfOk, Ok, OnOk};
 ghost use Rattle.std.specs.Result.{result_err};
-ghost use Rattle.bolt_check.specs.Findings.{PagePasses, PageTests, content_fault};
-ghost use Rattle.bolt_check.specs.Listings.{IsUnlisted};
+ghost use Rattle.bolt_check.specs.Findings.{PagePasses, PageTests, node_finding};
+ghost use Rattle.bolt_check.specs.Private.Listings.{IsUnlisted};
 ghost use Rattle.bolt_check.specs.Nodes.{node_at};
-ghost use Rattle.bolt_check.specs.Pending.{Claims, page_spot};
-ghost use Rattle.bolt_check.specs.ShownNodes.{shown_node};
-ghost use Rattle.bolt_check.specs.Tables.{HasRoom, IsClaimed, unclaimed};
+ghost use Rattle.bolt_check.specs.Private.Pending.{Claims, page_spot};
+ghost use Rattle.bolt_check.specs.Private.ShownNodes.{shown_node};
+ghost use Rattle.bolt_check.specs.Private.Tables.{HasRoom, IsClaimed, unclaimed};
 ghost use Rattle.bolt_check.specs.Ways.{At_page};
 
 use crate::finding::Finding;
@@ -48,7 +48,7 @@ pub(crate) fn visit<'a>(
     if let Some(n) = first_claimed(table, from, last) {
         return Err(Finding::of_page(Finding::TWICE, n as u64));
     }
-    if let Err(finding) = test_content(&node, stop) {
+    if let Err(finding) = test_node(&node, stop) {
         return Err(finding);
     }
     claim(table, from, last);
@@ -56,9 +56,9 @@ pub(crate) fn visit<'a>(
 }
 
 /// Tests what a page holds: a branch has an element, and then the keys.
-#[tactic(auto, unfolding(crate::specs::ShownNodes::shown_node))]
-fn test_content(node: &TreePage<'_>, stop: &PageStop<'_>) -> Result<(), Finding>
-    ensures { result_err result ≡ content_fault (shown_node node.now) (page_spot stop.now) }
+#[tactic(auto, unfolding(crate::specs::Private::ShownNodes::shown_node))]
+fn test_node(node: &TreePage<'_>, stop: &PageStop<'_>) -> Result<(), Finding>
+    ensures { result_err result ≡ node_finding (shown_node node.now) (page_spot stop.now) }
 {
     if !node.is_leaf && node.count() == 0 {
         return Err(Finding::of_page(Finding::EMPTY_BRANCH, stop.number));

@@ -1,7 +1,12 @@
--- Elements one after the other: their first fault, and whether one passes a test.
-use Rattle.std.proofs.Common.{◌≡◌, ◌∙◌, ℕ, suc, ◌+◌, ◌-◌, ◌<◌, ◌≤◌, Bool, false, ◌||◌, Option, None, arith, ap}
+-- Tests one after the other: their first fault, and whether an element passes a test.
+use Rattle.std.proofs.Common.{◌≡◌, ◌∙◌, ℕ, suc, ◌+◌, ◌-◌, ◌<◌, ◌≤◌, Bool, false, ◌||◌, Option, None, Some, arith, ap, refl}
 use Rattle.std.specs.List.{list_any, range_with_len}
 use Rattle.bolt_format.specs.Elements.{faults_from, first_of}
+
+-- neither of two has a fault
+pub first_of-none : (a b : Option ℕ) → first_of a b ≡ None → (a ≡ None) × (b ≡ None)
+first_of-none None b e = (refl, e)
+first_of-none (Some fault) b e = absurd (cc)
 
 -- element i, and then the rest
 pub faults_from_step : (fault : ℕ → ℕ → Option ℕ) (end : ℕ → ℕ) (free i count : ℕ) → i < count

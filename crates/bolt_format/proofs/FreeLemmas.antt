@@ -3,7 +3,7 @@ use Rattle.std.proofs.Common.{◌≡◌, ◌+◌, ◌*◌, ◌<◌, ℕ, length,
 use Rattle.std.proofs.lemmas.List.FromFn.{length-map-range_with_len}
 use Rattle.bolt_format.specs.Bytes.{number_at}
 use Rattle.bolt_format.specs.ShownIds.{shown_ids}
-use Rattle.bolt_format.specs.declared.free.FreeIds.{FreeIds}
+use Rattle.bolt_format.specs.declared.freelist.FreeIds.{FreeIds}
 
 pub length-shown_ids : (ids : FreeIds) → length (shown_ids ids) ≡ ids.len
 unfolding shown_ids

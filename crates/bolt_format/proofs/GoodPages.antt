@@ -6,18 +6,14 @@ use Rattle.std.proofs.lemmas.Bool.Decides.{nat_tests}
 use Rattle.std.proofs.lemmas.List.FromFn.{get_or-map-range_with_len, get_or-range_with_len, length-map-range_with_len, length-range_with_len}
 use Rattle.std.proofs.lemmas.List.Folds.{list_any_at}
 use Rattle.std.proofs.lemmas.Option.{slice_get-get_or}
-use Rattle.bolt_format.specs.Elements.{IsBucketValue, branch_element, branch_elements, branch_end, branch_fault, branch_key_length, branch_key_start, branches_fault, data_fault, element_at, faults_from, has_bucket, head_fault, head_root, inline_bytes, inline_fault, inline_page_fault, first_of, is_bucket_at, key_fault, leaf_element, leaf_elements, leaf_end, leaf_flags, leaf_flags_fault, leaf_key_length, leaf_key_start, leaf_value, leaf_value_length, leaves_fault, plain_leaf_fault, table_fault, value_fault, value_length_fault}
+use Rattle.bolt_format.specs.Elements.{IsBucketValue, branch_element, branch_elements, branch_end, branch_fault, branch_key_length, branch_key_start, branches_fault, data_fault, element_at, faults_from, has_bucket, head_fault, head_root, inline_bytes, inline_fault, inline_page_fault, first_of, is_bucket_at, key_length_fault, leaf_element, leaf_elements, leaf_end, leaf_flags, leaf_flags_fault, leaf_key_length, leaf_key_start, leaf_value, leaf_value_length, leaves_fault, plain_leaf_fault, table_fault, value_fault, value_length_fault}
 use Rattle.bolt_format.specs.Headers.{count_field, flags_field, id_field, kind_of}
 use Rattle.bolt_format.specs.Pages.{content_fault, fault_as, from_page, page_at, page_fault, page_overflow, shown_as, span_bytes, span_fault}
-use Rattle.bolt_format.specs.Spans.{IsSpan, IsWithin}
+use Rattle.bolt_format.specs.Private.Spans.{IsSpan, IsWithin}
 use Rattle.bolt_format.specs.declared.meta.Meta.{Meta}
-use Rattle.bolt_format.specs.declared.open.Span.{Span}
+use Rattle.bolt_format.specs.declared.open_page.Span.{Span}
 use Rattle.bolt_format.specs.declared.kind.Kind.{Kind}
-
--- neither of the two
-first_of-none : (a b : Option ℕ) → first_of a b ≡ None → (a ≡ None) × (b ≡ None)
-first_of-none None b e = (refl, e)
-first_of-none (Some fault) b e = absurd (cc)
+use Rattle.bolt_format.proofs.FaultLemmas.{first_of-none}
 
 -- a test that told nothing
 guard-none : (test : Bool) (fault : ℕ) (next : Option ℕ) → cond test (Some fault) next ≡ None → (test ≡ false) × (next ≡ None)
@@ -52,14 +48,14 @@ good_branch bytes count i e h =
     let both = first_of-none (table_fault bytes count) _ e in
     let table = table-none bytes count both.0 in
     let (before, one) = faults_from-none _ _ (element_at count) 0 count both.1 i (omega arith) (omega arith) in
-    (omega (arith, table), data-none bytes before (branch_key_start bytes i) _ (first_of-none (key_fault (branch_key_length bytes i)) _ one).1)
+    (omega (arith, table), data-none bytes before (branch_key_start bytes i) _ (first_of-none (key_length_fault (branch_key_length bytes i)) _ one).1)
 
 -- a plain element ends within the bytes
 plain-none : (bytes : List ℕ) (free i : ℕ) → plain_leaf_fault bytes free i ≡ None → leaf_end bytes i ≤ length bytes
 unfolding plain_leaf_fault
 plain-none bytes free i e =
     let flags = first_of-none (leaf_flags_fault (leaf_flags bytes i)) _ e in
-    let key = first_of-none (key_fault (leaf_key_length bytes i)) _ flags.1 in
+    let key = first_of-none (key_length_fault (leaf_key_length bytes i)) _ flags.1 in
     let value = first_of-none (value_length_fault (leaf_value_length bytes i)) _ key.1 in
     data-none bytes free (leaf_key_start bytes i) _ value.1
 

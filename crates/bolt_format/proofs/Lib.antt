@@ -1,7 +1,8 @@
-mod FaultLemmas
+pub mod FaultLemmas
 mod FreeLemmas
 mod GoodPages
 pub mod ListLemmas
 mod MetaLemmas
+pub mod PageFacts
 pub mod PageLaws
 pub mod SinkLemmas

@@ -4,7 +4,7 @@ use Rattle.bolt_format.specs.Pages.{shown_branches, shown_leaves}
 use Rattle.bolt_format.specs.Shown.{shown}
 use Rattle.bolt_format.specs.declared.kind.Kind.{Kind}
 use Rattle.bolt_format.specs.declared.kind.Kind.TheVariants as kind
-use Rattle.bolt_format.specs.declared.pages.Page.{Page}
+use Rattle.bolt_format.specs.declared.good_page.Page.{Page}
 use Rattle.bolt_format.proofs.GoodPages.{length-branch_elements, length-leaf_elements}
 
 -- a branch shows as many elements as its count says

@@ -90,8 +90,8 @@ abbrev pub table_fault : List ℕ → ℕ → Option ℕ
 table_fault bytes count = if nat_lt (length bytes) (element_at count) then Some ELEMENT_CUT else None
 
 -- a key has from 1 to 2^30 bytes
-abbrev pub key_fault : ℕ → Option ℕ
-key_fault n = if n == 0 || nat_lt 0x40000000 n then Some KEY_LENGTH else None
+abbrev pub key_length_fault : ℕ → Option ℕ
+key_length_fault n = if n == 0 || nat_lt 0x40000000 n then Some KEY_LENGTH else None
 
 -- a value has at most 2^31 - 2 bytes
 abbrev pub value_length_fault : ℕ → Option ℕ
@@ -111,13 +111,13 @@ data_fault bytes free start end =
 -- the tests of branch element i
 unfoldable pub branch_fault : List ℕ → ℕ → ℕ → Option ℕ
 branch_fault bytes free i =
-    first_of (key_fault (branch_key_length bytes i)) (data_fault bytes free (branch_key_start bytes i) (branch_end bytes i))
+    first_of (key_length_fault (branch_key_length bytes i)) (data_fault bytes free (branch_key_start bytes i) (branch_end bytes i))
 
 -- the tests of leaf element i, but for those of a bucket's value
 unfoldable pub plain_leaf_fault : List ℕ → ℕ → ℕ → Option ℕ
 plain_leaf_fault bytes free i =
     first_of (leaf_flags_fault (leaf_flags bytes i))
-    (first_of (key_fault (leaf_key_length bytes i))
+    (first_of (key_length_fault (leaf_key_length bytes i))
     (first_of (value_length_fault (leaf_value_length bytes i))
     (data_fault bytes free (leaf_key_start bytes i) (leaf_end bytes i))))
 

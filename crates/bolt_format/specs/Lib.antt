@@ -5,8 +5,8 @@ pub mod Freelists
 pub mod Headers
 pub mod Metas
 pub mod Pages
+pub mod Private
 pub mod Shown
 pub mod ShownIds
 pub mod ShownInline
 pub mod Sinks
-pub mod Spans

@@ -1,8 +1,8 @@
 //! The elements of branch and leaf pages. The bytes are those from the page's first one to the end
 //! of its span, or of an inline bucket's value.
-ghost use Rattle.std.specs.Prelude.{◌≡◌, ◌+◌, ◌≤◌, length, slice_range, IfOk};
+ghost use Rattle.std.specs.Prelude.{◌≡◌, ◌+◌, ◌≤◌, length, IfOk};
 ghost use Rattle.std.specs.Result.{result_err};
-ghost use Rattle.bolt_format.specs.Elements.{branch_child, branch_element, branch_end, branch_fault, branch_key_start, data_fault, element_at, is_bucket_at, key_fault, leaf_element, leaf_end, leaf_flags, plain_leaf_fault, table_fault};
+ghost use Rattle.bolt_format.specs.Elements.{branch_child, branch_element, branch_end, branch_fault, branch_key_start, data_fault, element_at, is_bucket_at, key_length_fault, leaf_element, leaf_end, leaf_flags, plain_leaf_fault, table_fault};
 ghost use Rattle.bolt_format.specs.ElementPlaces.{IsBranchPlace, IsLeafPlace, branch_view, leaf_view};
 
 use crate::bytes::{u32_at, u64_at};
@@ -69,7 +69,7 @@ pub(crate) fn test_table(bytes: &[u8], count: u16) -> Result<usize, u8>
 }
 
 fn test_key_length(length: usize) -> Result<(), u8>
-    ensures { result_err result ≡ key_fault length }
+    ensures { result_err result ≡ key_length_fault length }
 {
     if length == 0 || length > MAX_KEY_LEN {
         return Err(PageFault::KEY_LENGTH);

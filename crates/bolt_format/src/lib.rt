@@ -1,5 +1,6 @@
 //! The bytes of a bbolt database file: its metas, its pages and their elements, and the sinks that
-//! take what is written. Nothing above this crate speaks of bytes: a page is what it shows.
+//! take what is written. What stands above this crate sees of a page what it shows, and none of its
+//! layout.
 #![tactic(auto)]
 
 mod bucket;
@@ -8,29 +9,29 @@ mod checksum;
 mod content;
 mod element;
 mod fault;
-mod free;
 mod freelist;
+mod good_page;
 mod header;
 mod kind;
 mod mem_sink;
-pub mod meta;
-mod open;
-mod pages;
+mod meta;
+mod open_bucket;
+mod open_freelist;
+mod open_page;
 mod sink;
-mod value;
 mod write_sink;
 
 pub use bucket::{Head, Inline};
 pub use checksum::fnv1a;
 pub use element::{Branch, Leaf};
 pub use fault::PageFault;
-pub use free::FreeIds;
-pub use freelist::free_ids;
+pub use freelist::FreeIds;
+pub use good_page::Page;
 pub use kind::Kind;
 pub use mem_sink::MemSink;
-pub use meta::{Meta, MetaFault, Slot, choose, meta_at, page_size_ok};
-pub use open::{known, page};
-pub use pages::Page;
+pub use meta::{Meta, MetaFault, NO_FREELIST, PAGE_SIZES, Slot, choose, meta_at, page_size_ok};
+pub use open_bucket::{head, inline};
+pub use open_freelist::free_ids;
+pub use open_page::{known, page};
 pub use sink::{Sink, SinkFault};
-pub use value::{head, inline};
 pub use write_sink::WriteSink;

@@ -5,7 +5,7 @@ use Rattle.bolt_format.specs.Elements.{branch_element, branch_elements, leaf_ele
 use Rattle.bolt_format.specs.Pages.{shown_branches, shown_leaves}
 use Rattle.bolt_format.specs.Shown.{shown}
 use Rattle.bolt_format.specs.declared.kind.Kind.TheVariants as kind
-use Rattle.bolt_format.specs.declared.pages.Page.{Page}
+use Rattle.bolt_format.specs.declared.good_page.Page.{Page}
 
 pub length-branches : (page : Page) → (shown page).kind ≡ kind.Branch → length (shown page).branches ≡ (shown page).count
 unfolding shown branch_elements

@@ -7,8 +7,7 @@ ghost use Rattle.bolt_report.specs.MetaLines.{freelist_line, info_text, slot_num
 use crate::fault::ReportFault;
 use crate::puts::put;
 use crate::text::{TEXT_LEN, Text, push_bytes, push_figure, push_number};
-use bolt_format::meta::NO_FREELIST;
-use bolt_format::{Meta, Sink, Slot};
+use bolt_format::{Meta, NO_FREELIST, Sink, Slot};
 
 /// Puts the seven lines of a meta and its slot (docs/COMMANDS.md, "What is printed"). `Sink` says
 /// that the sink failed, and no other fault comes; the sink then took a beginning of the text.

@@ -1,12 +1,12 @@
 use Rattle.std.proofs.Common.{◌≡◌, None, drop}
 use Rattle.bolt_check.specs.Findings.{keys_of}
-use Rattle.bolt_check.specs.Keys.{key_fault}
-use Rattle.bolt_check.specs.Pending.{bound_of}
-use Rattle.bolt_check.specs.ShownNodes.{shown_node}
+use Rattle.bolt_check.specs.Keys.{keys_order_fault}
+use Rattle.bolt_check.specs.Private.Pending.{bound_of}
+use Rattle.bolt_check.specs.Private.ShownNodes.{shown_node}
 use Rattle.bolt_check.proofs.keys.test_keys.Given as goal
 
 -- the first fault from here on is that of all keys
 abbrev pub invariant-loop-i : goal.invariant-loop-i
 invariant-loop-i l =
     let keys = keys_of (shown_node l.node).entries in
-    key_fault (bound_of l.before) (bound_of l.lower) (bound_of l.upper) (drop l.i keys) ≡ key_fault None (bound_of l.lower) (bound_of l.upper) keys
+    keys_order_fault (bound_of l.before) (bound_of l.lower) (bound_of l.upper) (drop l.i keys) ≡ keys_order_fault None (bound_of l.lower) (bound_of l.upper) keys

@@ -1,8 +1,7 @@
 use Rattle.std.proofs.Common.{◌≡◌, ℕ, ◌<◌, filter, length, min, nat_le, take}
 use Rattle.bolt_format.specs.ShownIds.{shown_ids}
 use Rattle.bolt_check.specs.Accounts.{times_in}
-use Rattle.bolt_check.specs.Tables.{is_used, use_at}
-use Rattle.bolt_check.specs.Uses.{times_of}
+use Rattle.bolt_check.specs.Private.Tables.{is_used, use_at, times_of}
 use Rattle.bolt_check.proofs.listing.list_ids.Given as goal
 
 -- the ids so far are listed

@@ -1,5 +1,5 @@
 use Rattle.std.proofs.Common.{◌≡◌, ℕ, ◌<◌, ◌≤◌}
-use Rattle.bolt_check.specs.Tables.{IsClaimed, unclaimed, use_at}
+use Rattle.bolt_check.specs.Private.Tables.{IsClaimed, unclaimed, use_at}
 use Rattle.bolt_check.specs.declared.table.PageUse.TheVariants.{Used}
 use Rattle.bolt_check.proofs.table.claim.Given as goal
 

@@ -1,4 +1,4 @@
-use Rattle.bolt_check.specs.Listings.{IsBeyondTo}
+use Rattle.bolt_check.specs.Private.Listings.{IsBeyondTo}
 use Rattle.bolt_check.proofs.telling.tell_beyond.Given as goal
 
 abbrev pub invariant-loop-i : goal.invariant-loop-i

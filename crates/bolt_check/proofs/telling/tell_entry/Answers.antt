@@ -1,6 +1,6 @@
 use Rattle.std.proofs.Common.{◌∙◌, add-one, refl, sym}
 use Rattle.std.proofs.lemmas.Bool.{false≢true}
-use Rattle.bolt_check.specs.Tables.{use_at}
+use Rattle.bolt_check.specs.Private.Tables.{use_at}
 use Rattle.bolt_check.proofs.ListingLemmas.{table_lost, table_told}
 use Rattle.bolt_check.proofs.telling.tell_entry.Goals as goal
 

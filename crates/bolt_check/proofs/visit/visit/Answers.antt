@@ -1,8 +1,8 @@
 use Rattle.std.proofs.Common.{sym, refl, arith}
 use Rattle.bolt_check.specs.Findings.{twice, late}
 use Rattle.bolt_check.specs.Nodes.{node_at}
-use Rattle.bolt_check.specs.Pending.{page_spot}
-use Rattle.bolt_check.specs.ShownNodes.{shown_node}
+use Rattle.bolt_check.specs.Private.Pending.{page_spot}
+use Rattle.bolt_check.specs.Private.ShownNodes.{shown_node}
 use Rattle.bolt_check.proofs.Lawful.{early_passes}
 use Rattle.bolt_check.proofs.Visited.{claims_made, not_both}
 use Rattle.bolt_check.proofs.VisitLemmas.{in_room, overflow-is}
@@ -25,12 +25,12 @@ returns-in-Some-clause-found c =
     (twice (shown_node node) (early_passes (node_at c.args.file.now c.args.meta.now) (page_spot c.args.stop.now) (shown_node node) c.if-stop-gt-MAX_DEPTH.false c.in-Ok.ensures.node) c.in-Ok.ensures.node
     (record { in_span = (from, omega (arith, to, last)); was = was; lowest = λ k span lt h. not_both c.args.table.now k (lowest k span.0 lt) h }) refl)
 
-pub returns-in-Err-test_content-clause-found : goal.returns-in-Err-test_content-clause-found
-returns-in-Err-test_content-clause-found c =
+pub returns-in-Err-test_node-clause-found : goal.returns-in-Err-test_node-clause-found
+returns-in-Err-test_node-clause-found c =
     let node = c.in-Ok.node in
     let last = overflow-is node _ c.overflow.ensures in
     late (shown_node node) (early_passes (node_at c.args.file.now c.args.meta.now) (page_spot c.args.stop.now) (shown_node node) c.if-stop-gt-MAX_DEPTH.false c.in-Ok.ensures.node) c.in-Ok.ensures.node
-    (λ n span h. not_both c.args.table.now n (c.in_default.ensures.none n span.0 (let to = span.1 in omega (arith, to, last))) h) (sym c.in-Err-test_content.ensures)
+    (λ n span h. not_both c.args.table.now n (c.in_default.ensures.none n span.0 (let to = span.1 in omega (arith, to, last))) h) (sym c.in-Err-test_node.ensures)
 
 pub returns-clause-passes : goal.returns-clause-passes
 returns-clause-passes c =
@@ -41,7 +41,7 @@ returns-clause-passes c =
       early = early_passes (node_at c.args.file.now c.args.meta.now) (page_spot c.args.stop.now) (shown_node node) c.if-stop-gt-MAX_DEPTH.false c.in-Ok.ensures.node;
       page = c.in-Ok.ensures.node;
       free = λ n span h. not_both c.args.table.now n (c.in_default.ensures.none n span.0 (let to = span.1 in omega (arith, to, last))) h;
-      content = sym c.in_default-test_content.ensures;
+      content = sym c.in_default-test_node.ensures;
     }
 
 pub returns-clause-claims : goal.returns-clause-claims

@@ -1,0 +1,114 @@
+-- Findings told page after page.
+use Rattle.std.proofs.Common.{◌≡◌, ℕ, suc, ◌-◌, ◌<◌, ◌≤◌, inl, inr, List, [], ◌∷◌, ◌++◌, length, refl, sym, subst, arith, length-append, All, AllPairs, Contains}
+use Rattle.std.proofs.lemmas.Bool.{cases_lt, cases_order, lt-ltb, le-ltb}
+use Rattle.std.proofs.lemmas.List.{get_or_append_left}
+use Rattle.std.proofs.Math.Seq.{get_or-append_right}
+use Rattle.std.proofs.lemmas.List.Elements.{All-append, All-cons, All-nil, All-weaker, Contains-append_left, Contains-append_right}
+use Rattle.bolt_check.specs.Private.Listings.{AreFindingsBelow, IsRun, run_findings}
+use Rattle.bolt_check.specs.AccountFindings.{IsAccountFinding, IsBefore, IsLost, freed_twice, reached_freed, unreachable, out_of_range}
+use Rattle.bolt_check.specs.declared.finding.Finding.{Finding}
+use Rattle.bolt_check.specs.declared.finding.TheConstants.Finding.{UNREACHABLE}
+
+-- what is told of the pages from one to before another
+pub record Tells (mark : ℕ) (in_use : ℕ → Type 0) (times : ℕ → ℕ) (from next : ℕ) (ys : List Finding) : Type 0 where
+  pub sound : All (IsAccountFinding mark in_use times) ys
+  pub within : All (λ x. (from ≤ x.page) × (x.page < next)) ys
+  pub complete : (x : Finding) → IsAccountFinding mark in_use times x → from ≤ x.page → x.page < next → Contains ys x
+  pub rises : AllPairs IsBefore ys
+  pub silent : ys ≡ [] → (n : ℕ) → from ≤ n → n < next → IsLost mark in_use times n → ⊥
+
+append_empty : (xs ys : List Finding) → xs ++ ys ≡ [] → (xs ≡ []) × (ys ≡ [])
+append_empty [] ys e = (refl, e)
+append_empty (x ∷ xs) ys e = absurd (cc)
+
+rises_append : (xs ys : List Finding) (from : ℕ) → AllPairs IsBefore xs → AllPairs IsBefore ys → All (λ x. x.page < from) xs → All (λ x. from ≤ x.page) ys
+    → AllPairs IsBefore (xs ++ ys)
+rises_append xs ys from rx ry below above i j d h l =
+    let len = length-append xs ys in
+    elim (cases_lt j (length xs)) [
+      | inl left ↦ rw (get_or_append_left xs ys d i (omega arith), get_or_append_left xs ys d j left) (rx i j d h left)
+      | inr right ↦ elim (cases_lt i (length xs)) [
+        | inl near ↦ rw (get_or_append_left xs ys d i near, get_or-append_right xs ys j d right)
+            (inl (let a = below i d near in let b = above (j - length xs) d (omega (arith, len)) in omega (arith, a, b)))
+        | inr far ↦ rw (get_or-append_right xs ys i d far, get_or-append_right xs ys j d right) (ry (i - length xs) (j - length xs) d (omega arith) (omega (arith, len)))
+      ]
+    ]
+
+pub is_one : (x y : Finding) → x ≡ y → Contains (y ∷ []) x
+is_one x y e = (0, omega arith, sym e)
+
+pub one_rises : (y : Finding) → AllPairs IsBefore (y ∷ [])
+one_rises y i j d h l = absurd (omega arith)
+
+module _ (mark : ℕ) (in_use : ℕ → Type 0) (times : ℕ → ℕ) where
+  pub told_append : (from next : ℕ) (findings ys : List Finding) → AreFindingsBelow mark in_use times from findings → from ≤ next → Tells mark in_use times from next ys
+      → AreFindingsBelow mark in_use times next (findings ++ ys)
+  told_append from next findings ys told order more = record {
+    sound = All-append (IsAccountFinding mark in_use times) findings ys told.sound more.sound;
+    below = All-append (λ x. x.page < next) findings ys (All-weaker (λ x. x.page < from) (λ x. x.page < next) (λ x h. omega arith) findings told.below)
+        (All-weaker (λ x. (from ≤ x.page) × (x.page < next)) (λ x. x.page < next) (λ x h. h.1) ys more.within);
+    complete = λ x is h. elim (cases_lt x.page from) [
+      | inl before ↦ Contains-append_left findings ys x (told.complete x is before)
+      | inr after ↦ Contains-append_right findings ys x (more.complete x is after h)
+    ];
+    rises = rises_append findings ys from told.rises more.rises told.below (All-weaker (λ x. (from ≤ x.page) × (x.page < next)) (λ x. from ≤ x.page) (λ x h. h.0) ys more.within);
+    silent = λ e n h gone. let both = append_empty findings ys e in elim (cases_lt n from) [
+      | inl before ↦ told.silent both.0 n before gone
+      | inr after ↦ more.silent both.1 n after h gone
+    ];
+  }
+
+  pub tells_none : (from next : ℕ) → ((n : ℕ) → from ≤ n → n < next → IsLost mark in_use times n → ⊥)
+      → ((x : Finding) → IsAccountFinding mark in_use times x → from ≤ x.page → x.page < next → ⊥) → Tells mark in_use times from next []
+  tells_none from next kept none = record {
+    sound = All-nil (IsAccountFinding mark in_use times);
+    within = All-nil (λ x. (from ≤ x.page) × (x.page < next));
+    complete = λ x is low high. absurd (none x is low high);
+    rises = λ i j d h l. absurd (omega arith);
+    silent = λ e. kept;
+  }
+
+  pub tells_one : (from next : ℕ) (y : Finding) → IsAccountFinding mark in_use times y → from ≤ y.page → y.page < next
+      → ((x : Finding) → IsAccountFinding mark in_use times x → from ≤ x.page → x.page < next → x ≡ y) → Tells mark in_use times from next (y ∷ [])
+  tells_one from next y is low high only = record {
+    sound = All-cons (IsAccountFinding mark in_use times) y [] is (All-nil (IsAccountFinding mark in_use times));
+    within = All-cons (λ x. (from ≤ x.page) × (x.page < next)) y [] (low, high) (All-nil (λ x. (from ≤ x.page) × (x.page < next)));
+    complete = λ x is low high. is_one x y (only x is low high);
+    rises = one_rises y;
+    silent = λ e. absurd (cc);
+  }
+
+  -- a finding on a page of a run of lost pages is the run
+  run_is : (from page : ℕ) → IsRun mark in_use times from page → (IsLost mark in_use times page → ⊥)
+      → (x : Finding) → IsAccountFinding mark in_use times x → from ≤ x.page → x.page < page → x ≡ record { number = UNREACHABLE; page = from; last = page - 1 }
+  run_is from page run ends x (freed_twice {n = n} range two) low high = let zero = (run.lost n low high).unlisted in absurd (omega arith)
+  run_is from page run ends x (reached_freed {n = n} range one used) low high = absurd ((run.lost n low high).free.unused used)
+  run_is from page run ends x (out_of_range {n = n} out one) low high = let zero = (run.lost n low high).unlisted in absurd (omega arith)
+  run_is from page run ends x (unreachable {page = first} {last = last} order lost after before) low high =
+      let same_first : first ≡ from = elim (cases_order first from) [
+        | inl e ↦ e
+        | inr (inl less) ↦ absurd (omega arith)
+        | inr (inr more) ↦ absurd (before (first - 1) (omega arith) (run.lost (first - 1) (omega arith) (omega arith)))
+      ] in
+      let same_last : last ≡ page - 1 = elim (cases_order last (page - 1)) [
+        | inl e ↦ e
+        | inr (inl less) ↦ absurd (after (run.lost (suc last) (omega arith) (omega arith)))
+        | inr (inr more) ↦ absurd (ends (lost page (omega arith) (omega arith)))
+      ] in
+      rw (same_first, same_last) refl
+
+  run_found : (from page : ℕ) → from < page → IsRun mark in_use times from page → (IsLost mark in_use times page → ⊥)
+      → IsAccountFinding mark in_use times (record { number = UNREACHABLE; page = from; last = page - 1 })
+  run_found from page some run ends =
+      let next : suc (page - 1) ≡ page = omega arith in
+      unreachable (omega arith) (λ n low high. run.lost n low (omega arith)) (λ lost. ends (subst (IsLost mark in_use times) next lost)) run.begins
+
+  -- the lost pages before a page that is not lost
+  pub tells_run : (from page : ℕ) → from ≤ page → IsRun mark in_use times from page → (IsLost mark in_use times page → ⊥)
+      → Tells mark in_use times from page (run_findings from page)
+  tells_run from page order run ends =
+      elim (cases_lt from page) [
+        | inl some ↦ rw (lt-ltb from page some) (tells_one from page (record { number = UNREACHABLE; page = from; last = page - 1 }) (run_found from page some run ends) (omega arith) some
+            (run_is from page run ends))
+        | inr none ↦ rw (le-ltb from page none) (tells_none from page (λ n low high. absurd (omega arith)) (λ x is low high. absurd (omega arith)))
+      ]

@@ -1,0 +1,87 @@
+-- Ways, addresses and the pages that they lead to, for the crates above too.
+use Rattle.std.proofs.Common.{◌≡◌, ◌∙◌, ℕ, zero, suc, ◌≤◌, Bool, true, false, List, [], ◌∷◌, ◌++◌, map, Option, Some, None, Result, Ok, Err, slice_get, refl, sym, ap, subst, arith}
+use Rattle.bolt_format.specs.Pages.{PageView, page_at, page_fault}
+use Rattle.bolt_format.specs.declared.kind.Kind.{Kind}
+use Rattle.bolt_format.specs.declared.kind.Kind.TheVariants as kind
+use Rattle.bolt_format.specs.declared.meta.Meta.{Meta}
+use Rattle.bolt_check.specs.Findings.{keys_of}
+use Rattle.bolt_check.specs.Keys.{Key}
+use Rattle.bolt_check.specs.Nodes.{Entry, Node, Nodes, leaf_entry, node_at, node_of, node_seen}
+use Rattle.bolt_check.specs.Shape.{HasShape, child_in, child_of, leads}
+use Rattle.bolt_check.specs.Ways.{At_page, PageSpot, SpanHas, SpanOf, Spot, child_spot, follow, reached, step, step_at, step_entry, upper_from}
+
+-- one way after another
+pub follow_append : (nodes : Nodes) (here : Option Spot) (v w : List ℕ) → follow nodes here (v ++ w) ≡ follow nodes (follow nodes here v) w
+follow_append nodes here [] w = refl
+follow_append nodes here (i ∷ v) w = follow_append nodes (step nodes here i) v w
+
+no_entry : (e : Entry) → None ≡ Some e → ⊥
+no_entry e h = cc
+
+-- the key of an entry
+pub key_at : (entries : List Entry) (i : ℕ) (e : Entry) → slice_get entries i ≡ Some e → slice_get (keys_of entries) i ≡ Some e.key
+key_at [] i e h = absurd (no_entry e h)
+key_at (x ∷ entries) zero e h = let same : x ≡ e = cc in let f : Entry → Key = λ y. y.key in let k = ap f same in cc
+key_at (x ∷ entries) (suc i) e h = key_at entries i e h
+
+-- a step to a child of a branch
+pub step_child : (nodes : Nodes) (s : PageSpot) (i : ℕ) (node : Node) (e : Entry) → nodes s.number ≡ Ok node → node.is_leaf ≡ false → slice_get node.entries i ≡ Some e
+    → step nodes (Some (At_page s)) i ≡ Some (At_page (child_spot s e (upper_from (slice_get node.entries (suc i)) s.upper)))
+step_child nodes s i node e q leaf g = rw (q, leaf, g) refl
+
+pub none_number : (x : ℕ) → None ≡ Some x → ⊥
+none_number x e = cc
+
+-- no address leads on from nowhere
+pub leads_none : (nodes : Nodes) (address : List ℕ) → leads nodes None address ≡ None
+leads_none nodes [] = refl
+leads_none nodes (i ∷ address) = leads_none nodes address
+
+-- an address from a page is a way from it
+by_entry : (nodes : Nodes) (s : PageSpot) (is_leaf : Bool) (o next : Option Entry) (address : List ℕ) (n : ℕ) → leads nodes (child_of is_leaf o) address ≡ Some n
+    → ((t : PageSpot) → leads nodes (Some t.number) address ≡ Some n → (u : PageSpot) × (follow nodes (Some (At_page t)) address ≡ Some (At_page u)) × (u.number ≡ n))
+    → (u : PageSpot) × (follow nodes (step_entry is_leaf s o next) address ≡ Some (At_page u)) × (u.number ≡ n)
+by_entry nodes s true None next address n e more = absurd (none_number n (sym (leads_none nodes address) ∙ e))
+by_entry nodes s true (Some x) next address n e more = absurd (none_number n (sym (leads_none nodes address) ∙ e))
+by_entry nodes s false None next address n e more = absurd (none_number n (sym (leads_none nodes address) ∙ e))
+by_entry nodes s false (Some x) next address n e more = more (child_spot s x (upper_from next s.upper)) e
+
+by_node : (nodes : Nodes) (s : PageSpot) (r : Result Node ℕ) (i : ℕ) (address : List ℕ) (n : ℕ) → leads nodes (child_in r i) address ≡ Some n
+    → ((t : PageSpot) → leads nodes (Some t.number) address ≡ Some n → (u : PageSpot) × (follow nodes (Some (At_page t)) address ≡ Some (At_page u)) × (u.number ≡ n))
+    → (u : PageSpot) × (follow nodes (step_at r s i) address ≡ Some (At_page u)) × (u.number ≡ n)
+by_node nodes s (Err fault) i address n e more = absurd (none_number n (sym (leads_none nodes address) ∙ e))
+by_node nodes s (Ok node) i address n e more = by_entry nodes s node.is_leaf (slice_get node.entries i) (slice_get node.entries (suc i)) address n e more
+
+number_is : (a b : ℕ) → Some a ≡ Some b → a ≡ b
+number_is a b e = cc
+
+pub leads_follow : (nodes : Nodes) (s : PageSpot) (address : List ℕ) (n : ℕ) → leads nodes (Some s.number) address ≡ Some n
+    → (t : PageSpot) × (follow nodes (Some (At_page s)) address ≡ Some (At_page t)) × (t.number ≡ n)
+leads_follow nodes s [] n e = (s, refl, number_is s.number n e)
+leads_follow nodes s (i ∷ address) n e = by_node nodes s (nodes s.number) i address n e (λ t h. leads_follow nodes t address n h)
+
+-- a good leaf page as a node
+leaf_is : (view : PageView) (k : Kind) → k ≡ kind.Leaf → node_of k view ≡ Ok (record { is_leaf = true; overflow = view.overflow; entries = map leaf_entry view.leaves })
+leaf_is view k e = rw e refl
+
+seen_is : (o : Option PageView) (fault : Option ℕ) (view : PageView) → o ≡ Some view → node_seen o fault ≡ node_of view.kind view
+seen_is o fault view e = rw e refl
+
+pub leaf_node : (file : List ℕ) (meta : Meta) (n : ℕ) (view : PageView) → page_at file meta n ≡ Some view → view.kind ≡ kind.Leaf
+    → node_at file meta n ≡ Ok (record { is_leaf = true; overflow = view.overflow; entries = map leaf_entry view.leaves })
+unfolding node_at
+leaf_node file meta n view e k = seen_is (page_at file meta n) (page_fault file meta n) view e ∙ leaf_is view view.kind k
+
+-- a page lies in its own span
+pub in_own_span : (nodes : Nodes) (s : PageSpot) (node : Node) → nodes s.number ≡ Ok node → SpanHas nodes (Some (At_page s)) s.number
+in_own_span nodes s node e = subst (λ (r : Result Node ℕ). SpanOf r s.number s.number) (sym e) (omega arith, omega arith)
+
+-- so two ways to one page are one
+pub one_way : (nodes : Nodes) (root : ℕ) → HasShape nodes root → (v w : List ℕ) (s t : PageSpot)
+    → reached nodes root v ≡ Some (At_page s) → reached nodes root w ≡ Some (At_page t) → s.number ≡ t.number → v ≡ w
+one_way nodes root shape v w s t at_v at_w same =
+    let good_v = (shape.good v s at_v).1 in
+    let good_w = (shape.good w t at_w).1 in
+    let span_v = subst (λ (o : Option Spot). SpanHas nodes o s.number) (sym at_v) (in_own_span nodes s good_v.0 good_v.1) in
+    let span_w = subst (λ (o : Option Spot). SpanHas nodes o t.number) (sym at_w) (in_own_span nodes t good_w.0 good_w.1) in
+    shape.apart v w t.number (subst (λ (n : ℕ). SpanHas nodes (reached nodes root v) n) same span_v) span_w

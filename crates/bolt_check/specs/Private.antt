@@ -1,0 +1,7 @@
+-- What private contracts and proofs cite, and no public one.
+pub mod Listings
+pub mod Pending
+pub mod SearchFaults
+pub mod ShownNodes
+pub mod Tables
+pub mod TreeKinds

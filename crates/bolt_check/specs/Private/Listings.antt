@@ -1,0 +1,111 @@
+-- What the table and the ids past it say together, and what is told of it up to a page.
+use Rattle.std.specs.Prelude.{◌≡◌, ◌≤◌, ◌<◌, ◌==◌, ◌⊎◌, ◌&&◌, ℕ, suc, ◌+◌, ◌-◌, max, slice_index, Bool, List, [], ◌∷◌, ◌↔◌, All, AllPairs, Contains, length, nat_lt, if◌then◌else◌}
+use Rattle.std.specs.List.Sorted.{IsNonDecreasing}
+use Rattle.bolt_format.specs.declared.meta.Meta.{Meta}
+use Rattle.bolt_check.specs.Accounts.{IsInFreelist, times_in}
+use Rattle.bolt_check.specs.Findings.{finding}
+use Rattle.bolt_check.specs.Private.Tables.{IsClaimed, use_at, times_of}
+use Rattle.bolt_check.specs.AccountFindings.{IsAccountFinding, IsBefore, IsLost}
+use Rattle.bolt_check.specs.declared.finding.Finding.{Finding}
+use Rattle.bolt_check.specs.declared.finding.TheConstants.Finding.{FREED_TWICE, FREE_RANGE, REACHED_FREED, UNREACHABLE}
+use Rattle.bolt_check.specs.declared.listing.Listing.{Listing}
+use Rattle.bolt_check.specs.declared.table.PageUse.{PageUse}
+use Rattle.bolt_check.specs.declared.table.PageUse.TheVariants.{Unused, Used, Free, FreeTwice, UsedFree, UsedFreeTwice}
+
+-- nothing is listed yet
+abbrev pub IsUnlisted : List PageUse → Type 0
+IsUnlisted table = (n : ℕ) → times_of (use_at table n) ≡ 0
+
+-- how often a page is listed: by the table, and past it by the ids
+unfoldable pub listed_times : Listing → ℕ → ℕ
+listed_times listing n = times_of (use_at listing.table.now n) + times_in listing.past.now n
+
+abbrev pub is_in_use : Listing → ℕ → Type 0
+is_in_use listing n = IsClaimed listing.table.now n
+
+-- the ids past the table are sorted, and the table has the meta pages and ends below the mark
+pub record IsSettled (listing : Listing) : Type 0 where
+  pub sorted : IsNonDecreasing listing.past.now
+  pub past : All (λ id. length listing.table.now ≤ id) listing.past.now
+  pub metas : (n : ℕ) → n < 2 → IsClaimed listing.table.now n
+  pub below : length listing.table.now ≤ listing.mark
+
+-- the run of lost pages from a page to before another
+abbrev pub run_findings : ℕ → ℕ → List Finding
+run_findings from page = if nat_lt from page then record { number = UNREACHABLE; page = from; last = page - 1 } ∷ [] else []
+
+-- whether the next of sorted ids is the same
+abbrev pub is_repeated : List ℕ → ℕ → Bool
+is_repeated ids i = nat_lt (i + 1) (length ids) && (slice_index ids (i + 1) == slice_index ids i)
+
+abbrev pub repeat_findings : List ℕ → ℕ → List Finding
+repeat_findings ids i = if is_repeated ids i then finding FREED_TWICE (slice_index ids i) ∷ [] else []
+
+-- what is told of a page in range
+abbrev pub use_findings : ℕ → PageUse → List Finding
+use_findings page Unused = []
+use_findings page Used = []
+use_findings page Free = []
+use_findings page FreeTwice = finding FREED_TWICE page ∷ []
+use_findings page UsedFree = finding REACHED_FREED page ∷ []
+use_findings page UsedFreeTwice = finding FREED_TWICE page ∷ finding REACHED_FREED page ∷ []
+
+-- what is told of a meta page
+abbrev pub meta_findings : ℕ → PageUse → List Finding
+meta_findings page Unused = []
+meta_findings page Used = []
+meta_findings page Free = finding FREE_RANGE page ∷ []
+meta_findings page FreeTwice = finding FREE_RANGE page ∷ []
+meta_findings page UsedFree = finding FREE_RANGE page ∷ []
+meta_findings page UsedFreeTwice = finding FREE_RANGE page ∷ []
+
+abbrev pub page_findings : ℕ → PageUse → List Finding
+page_findings page page_use = if nat_lt page 2 then meta_findings page page_use else use_findings page page_use
+
+module _ (mark : ℕ) (in_use : ℕ → Type 0) (times : ℕ → ℕ) where
+  -- these are all findings on pages below this one, in order
+  pub record AreFindingsBelow (next : ℕ) (findings : List Finding) : Type 0 where
+    pub sound : All (IsAccountFinding mark in_use times) findings
+    pub below : All (λ x. x.page < next) findings
+    pub complete : (x : Finding) → IsAccountFinding mark in_use times x → x.page < next → Contains findings x
+    pub rises : AllPairs IsBefore findings
+    -- where there is none, no page is lost
+    pub silent : findings ≡ [] → (n : ℕ) → n < next → IsLost mark in_use times n → ⊥
+
+  -- A run of lost pages may begin at this page, and goes on to the end.
+  pub record IsRun (from end : ℕ) : Type 0 where
+    pub begins : (before : ℕ) → suc before ≡ from → IsLost mark in_use times before → ⊥
+    pub lost : (n : ℕ) → from ≤ n → n < end → IsLost mark in_use times n
+
+  -- these are all findings, in order
+  pub record AreAllFindings (findings : List Finding) : Type 0 where
+    pub exact : (x : Finding) → Contains findings x ↔ IsAccountFinding mark in_use times x
+    pub rises : AllPairs IsBefore findings
+    pub silent : findings ≡ [] → (n : ℕ) → IsLost mark in_use times n → ⊥
+
+-- told below a page from which on those up to the end are lost
+pub record HasFindingsTo (listing : Listing) (from end : ℕ) (findings : List Finding) : Type 0 where
+  pub told : AreFindingsBelow listing.mark (is_in_use listing) (listed_times listing) from findings
+  pub run : IsRun listing.mark (is_in_use listing) (listed_times listing) from end
+
+module _ (listing : Listing) where
+  -- told of the ids past the table and below the mark, as far as place i
+  pub record IsPastTo (from i : ℕ) (findings : List Finding) : Type 0 where
+    pub told : AreFindingsBelow listing.mark (is_in_use listing) (listed_times listing) from findings
+    pub begins : (before : ℕ) → suc before ≡ from → IsLost listing.mark (is_in_use listing) (listed_times listing) before → ⊥
+    pub done : (k : ℕ) → k < i → slice_index listing.past.now k < listing.mark → slice_index listing.past.now k < from
+    pub left : (n : ℕ) → from ≤ n → n < listing.mark → ((k : ℕ) → i ≤ k → k < length listing.past.now → slice_index listing.past.now k ≡ n → ⊥)
+        → IsLost listing.mark (is_in_use listing) (listed_times listing) n
+
+  -- told of the ids from the mark on, as far as place i
+  pub record IsBeyondTo (last i : ℕ) (findings : List Finding) : Type 0 where
+    pub told : AreFindingsBelow listing.mark (is_in_use listing) (listed_times listing) (max listing.mark (suc last)) findings
+    pub done : (k : ℕ) → k < i → slice_index listing.past.now k < max listing.mark (suc last)
+
+-- the table after the freelist's span, of which nothing was claimed, was claimed
+pub record ClaimsFreelist (file : List ℕ) (meta : Meta) (old new : List PageUse) : Type 0 where
+  pub apart : (n : ℕ) → IsInFreelist file meta n → IsClaimed old n → ⊥
+  pub split : (n : ℕ) → IsClaimed new n → IsClaimed old n ⊎ IsInFreelist file meta n
+  pub kept : (n : ℕ) → IsClaimed old n → IsClaimed new n
+  pub span : (n : ℕ) → IsInFreelist file meta n → IsClaimed new n
+  pub unlisted : IsUnlisted old → IsUnlisted new

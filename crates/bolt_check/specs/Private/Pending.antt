@@ -1,0 +1,57 @@
+-- The spots that are still to be visited, as ways: the first number of a way picks the spot.
+use Rattle.std.specs.Prelude.{ℕ, ◌⊎◌, Bool, List, [], ◌∷◌, map, reverse, Option, Some, None, slice_get}
+use Rattle.std.specs.Borrow.{Bor}
+use Rattle.bolt_format.specs.ShownInline.{shown_inline}
+use Rattle.bolt_format.specs.Elements.{LeafElement}
+use Rattle.bolt_format.specs.declared.bucket.Inline.{Inline}
+use Rattle.bolt_check.specs.Keys.{Key}
+use Rattle.bolt_check.specs.Nodes.{Entry, Node, Nodes}
+use Rattle.bolt_check.specs.Ways.{At_inline, At_page, PageSpot, Reach, SpanHas, Spot, follow, spot_of, upper_from}
+use Rattle.bolt_check.specs.Private.Tables.{IsClaimed}
+use Rattle.bolt_check.specs.declared.table.PageUse.{PageUse}
+use Rattle.bolt_check.specs.declared.stop.PageStop.{PageStop}
+use Rattle.bolt_check.specs.declared.stop.Stop.{Stop}
+use Rattle.bolt_check.specs.declared.stop.Stop.TheVariants.{Page, Bucket}
+
+-- a stop of the code as a spot
+abbrev pub bound_of : Option (Bor (List ℕ)) → Option (List ℕ)
+bound_of None = None
+bound_of (Some bound) = Some bound.now
+
+abbrev pub page_spot : PageStop → PageSpot
+page_spot stop = record { number = stop.number; depth = stop.depth; lower = bound_of stop.lower; upper = bound_of stop.upper }
+
+abbrev pub inline_keys : Inline → List Key
+inline_keys page = map (λ (e : LeafElement). e.key) (shown_inline page)
+
+abbrev pub spot_at : Stop → Spot
+spot_at (Page stop) = At_page (page_spot stop)
+spot_at (Bucket stop) = At_inline stop.host (inline_keys stop.page)
+
+-- the pending spots, the first to be visited first
+abbrev pub spots_of : List Stop → List Spot
+spots_of stops = map spot_at (reverse stops)
+
+-- what the ways from these spots lead to
+abbrev pub forest : Nodes → List Spot → Reach
+forest nodes spots [] = None
+forest nodes spots (k ∷ way) = follow nodes (slice_get spots k) way
+
+-- where each entry leads
+abbrev pub places : Bool → PageSpot → List Entry → List (Option Spot)
+places is_leaf s [] = []
+places is_leaf s (e ∷ entries) = spot_of is_leaf s (upper_from (slice_get entries 0) s.upper) e ∷ places is_leaf s entries
+
+abbrev pub somes : List (Option Spot) → List Spot
+somes [] = []
+somes (None ∷ os) = somes os
+somes (Some s ∷ os) = s ∷ somes os
+
+unfoldable pub kids : Node → PageSpot → List Spot
+kids node s = somes (places node.is_leaf s node.entries)
+
+-- the table after a visit: what was claimed before, and the spot's span
+pub record Claims (nodes : Nodes) (s : Spot) (old new : List PageUse) : Type 0 where
+  pub split : (n : ℕ) → IsClaimed new n → IsClaimed old n ⊎ SpanHas nodes (Some s) n
+  pub kept : (n : ℕ) → IsClaimed old n → IsClaimed new n
+  pub span : (n : ℕ) → SpanHas nodes (Some s) n → IsClaimed new n

@@ -1,0 +1,45 @@
+-- The table of pages.
+use Rattle.std.specs.Prelude.{◌≡◌, ◌<◌, ◌≤◌, ◌+◌, ◌*◌, ◌/◌, ℕ, Bool, true, false, not, List, count_by, length, max, min, slice_index_or}
+use Rattle.bolt_format.specs.declared.meta.Meta.{Meta}
+use Rattle.bolt_check.specs.declared.table.PageUse.{PageUse}
+use Rattle.bolt_check.specs.declared.table.PageUse.TheVariants.{Unused, Used, Free, FreeTwice, UsedFree, UsedFreeTwice}
+
+-- what the table says of page n; behind its end, nothing
+abbrev pub use_at : List PageUse → ℕ → PageUse
+use_at table n = slice_index_or table n Unused
+
+abbrev pub is_used : PageUse → Bool
+is_used Unused = false
+is_used Used = true
+is_used Free = false
+is_used FreeTwice = false
+is_used UsedFree = true
+is_used UsedFreeTwice = true
+
+-- how often a page is listed, where 2 stands for any higher number
+abbrev pub times_of : PageUse → ℕ
+times_of Unused = 0
+times_of Used = 0
+times_of Free = 1
+times_of UsedFree = 1
+times_of FreeTwice = 2
+times_of UsedFreeTwice = 2
+
+-- page n is claimed, or not
+abbrev pub IsClaimed : List PageUse → ℕ → Type 0
+IsClaimed table n = is_used (use_at table n) ≡ true
+
+abbrev pub IsUnclaimed : List PageUse → ℕ → Type 0
+IsUnclaimed table n = is_used (use_at table n) ≡ false
+
+-- how many are not claimed
+abbrev pub unclaimed : List PageUse → ℕ
+unclaimed table = count_by (λ page_use. not (is_used page_use)) table
+
+-- how long the table is: the whole pages that lie in the file and below the mark, and at least the two meta pages
+abbrev pub table_length : List ℕ → Meta → ℕ
+table_length file meta = max 2 (min (length file / meta.page_size) meta.high_water)
+
+-- the table has a place for each page that lies in the file and below the mark
+abbrev pub HasRoom : List ℕ → Meta → List PageUse → Type 0
+HasRoom file meta table = (n : ℕ) → (n + 1) * meta.page_size ≤ length file → n < meta.high_water → n < length table

@@ -1,0 +1,65 @@
+-- What holds of each page that shows something, for the crates above.
+use Rattle.std.proofs.Common.{◌≡◌, ◌∙◌, ◌+◌, ◌<◌, ◌≤◌, ℕ, List, Bool, true, false, Option, Some, None, IsSome, IsTrue, length, map, get_or, arith, ap, refl, sym, subst}
+use Rattle.std.specs.List.{Contains, range_with_len}
+use Rattle.std.proofs.lemmas.List.FromFn.{get_or-map-range_with_len, length-map-range_with_len}
+use Rattle.bolt_format.specs.Elements.{IsBucketValue, LeafElement, first_of, head_root, head_fault, inline_bytes, inline_elements, is_bucket_at, leaf_element, leaf_elements, leaf_value, leaves_fault, value_fault}
+use Rattle.bolt_format.specs.Headers.{count_field, flags_field, kind_of}
+use Rattle.bolt_format.specs.Pages.{PageView, content_fault, fault_as, from_page, page_at, page_fault, page_overflow, shown_as, span_bytes, span_fault, view_of}
+use Rattle.bolt_format.specs.declared.meta.Meta.{Meta}
+use Rattle.bolt_format.specs.declared.kind.Kind.{Kind}
+use Rattle.bolt_format.specs.declared.kind.Kind.TheVariants as kind
+use Rattle.bolt_format.proofs.FaultLemmas.{first_of-none}
+use Rattle.bolt_format.proofs.GoodPages.{good_fault, good_inline, good_leaf, good_within, no_bucket-at}
+
+-- its number is below the high-water mark
+pub below_mark : (file : List ℕ) (meta : Meta) (id : ℕ) → IsSome (page_at file meta id) → id < meta.high_water
+below_mark file meta id e = let within = good_within file meta id e in omega (arith, within.below)
+
+-- an element of a list that is made of a function
+made_at : (f : ℕ → LeafElement) (count k : ℕ) (e : LeafElement) → k < length (map f (range_with_len 0 count)) → get_or (map f (range_with_len 0 count)) k e ≡ e → (k < count) × (e ≡ f k)
+made_at f count k e h at =
+    let n = length-map-range_with_len f 0 count in
+    let low : k < count = omega (arith, n, h) in
+    (low, sym at ∙ get_or-map-range_with_len f 0 count k k e low (omega arith))
+
+element_of : (bytes : List ℕ) (count : ℕ) (e : LeafElement) → Contains (leaf_elements bytes count) e → (i : ℕ) × (i < count) × (e ≡ leaf_element bytes i)
+unfolding leaf_elements
+element_of bytes count e (k, h, at) = let (low, same) = made_at (leaf_element bytes) count k e h at in (k, low, same)
+
+-- a leaf that shows something has good leaves
+leaves_good : (fault : Option ℕ) (k : Option Kind) (count overflow : ℕ) (bytes : List ℕ) (view : PageView) → shown_as fault k count overflow bytes ≡ Some view → view.kind ≡ kind.Leaf
+    → fault_as k count bytes ≡ None → (view.leaves ≡ leaf_elements bytes count) × (leaves_fault value_fault bytes count ≡ None)
+leaves_good (Some fault) k count overflow bytes view e leaf good = absurd (let c : None ≡ Some view = e in cc)
+leaves_good None None count overflow bytes view e leaf good = absurd (let c : None ≡ Some view = e in cc)
+leaves_good None (Some kind.Leaf) count overflow bytes view e leaf good =
+    let same : view_of kind.Leaf count overflow bytes ≡ view = cc in (sym (ap (λ (v : PageView). v.leaves) same), good)
+leaves_good None (Some kind.Branch) count overflow bytes view e leaf good =
+    absurd (let same : view_of kind.Branch count overflow bytes ≡ view = cc in let k : kind.Branch ≡ kind.Leaf = ap (λ (v : PageView). v.kind) same ∙ leaf in cc)
+leaves_good None (Some kind.Meta) count overflow bytes view e leaf good =
+    absurd (let same : view_of kind.Meta count overflow bytes ≡ view = cc in let k : kind.Meta ≡ kind.Leaf = ap (λ (v : PageView). v.kind) same ∙ leaf in cc)
+leaves_good None (Some kind.Freelist) count overflow bytes view e leaf good =
+    absurd (let same : view_of kind.Freelist count overflow bytes ≡ view = cc in let k : kind.Freelist ≡ kind.Leaf = ap (λ (v : PageView). v.kind) same ∙ leaf in cc)
+
+is_some_of : (o : Option PageView) (view : PageView) → o ≡ Some view → IsSome o
+is_some_of o view e = rw e refl
+
+-- a bucket on it has a good value
+pub bucket_value : (file : List ℕ) (meta : Meta) (id : ℕ) (view : PageView) (e : LeafElement) → page_at file meta id ≡ Some view → view.kind ≡ kind.Leaf → Contains view.leaves e
+    → e.is_bucket ≡ true → IsBucketValue e.value
+unfolding page_at page_fault
+bucket_value file meta id view e shows leaf has bucket =
+    let none = good_fault file meta id (is_some_of (page_at file meta id) view shows) in
+    let content = (first_of-none (span_fault file meta id) _ none).1 in
+    let bytes : List ℕ = span_bytes file meta id in
+    let count : ℕ = count_field (from_page file meta id) in
+    let (leaves, good) = leaves_good (page_fault file meta id) (kind_of (flags_field (from_page file meta id))) count (page_overflow file meta id) bytes view shows leaf content in
+    let (i, low, same) = element_of bytes count e (subst (λ (ls : List LeafElement). Contains ls e) leaves has) in
+    subst (λ (v : List ℕ). value_fault v ≡ None) (sym (ap (λ (x : LeafElement). x.value) same))
+    ((good_leaf value_fault bytes count i good low).2 (sym (ap (λ (x : LeafElement). x.is_bucket) same) ∙ bucket))
+
+-- and what lies in it is no bucket
+pub flat_inline : (value : List ℕ) (e : LeafElement) → IsBucketValue value → head_root value ≡ 0 → Contains (inline_elements value) e → e.is_bucket ≡ false
+flat_inline value e good root has =
+    let page = good_inline value (inline_bytes value) refl good root in
+    let (i, low, same) = element_of (inline_bytes value) (count_field (inline_bytes value)) e has in
+    ap (λ (x : LeafElement). x.is_bucket) same ∙ no_bucket-at (inline_bytes value) (count_field (inline_bytes value)) i page.flat low
