@@ -25,22 +25,21 @@ good_page file meta way s trees leads =
     let good = (trees.good way s leads).1 in
     seen (page_at file meta s.number) (page_fault file meta s.number) good.0 good.1
 
+-- its trees are sound
+pub checked_trees : (checked : Checked) → ∥ HasSoundTrees (bytes_of checked) (meta_of checked) ∥₁
+unfolding bytes_of meta_of
+checked_trees checked = ∥∥₁_map checked.sound (λ sound. sound.trees)
+
 -- what follows of sound trees, and has one proof, holds of a checked file
 pub with_trees : (checked : Checked) (P : Type 0) → IsProp P → (HasSoundTrees (bytes_of checked) (meta_of checked) → P) → P
-unfolding bytes_of meta_of
-with_trees checked P prop f = ∥∥₁_elim checked.sound prop (λ sound. f sound.trees)
+with_trees checked P prop f = ∥∥₁_elim (checked_trees checked) prop f
 
 -- the root page is good
 pub good_root : (checked : Checked) → IsSome (page_at (bytes_of checked) (meta_of checked) (meta_of checked).root)
 good_root checked = with_trees checked (IsSome (page_at (bytes_of checked) (meta_of checked) (meta_of checked).root)) (Prim.hlevel props)
     (λ trees. good_page (bytes_of checked) (meta_of checked) [] (start_of (meta_of checked).root) trees refl)
 
--- its trees are sound
-pub checked_trees : (checked : Checked) → ∥ HasSoundTrees (bytes_of checked) (meta_of checked) ∥₁
-unfolding bytes_of meta_of
-checked_trees checked = ∥∥₁_map checked.sound (λ sound. sound.trees)
-
 -- a page that a way leads to is good
 pub good_on_way : (checked : Checked) (number : ℕ) → ∥ ((depth : ℕ) × IsOnWay (bytes_of checked) (meta_of checked) number depth) ∥₁ → IsSome (page_at (bytes_of checked) (meta_of checked) number)
-good_on_way checked number on = ∥∥₁_elim on (Prim.hlevel props) (λ (depth, w). ∥∥₁_elim (checked_trees checked) (Prim.hlevel props) (λ trees.
+good_on_way checked number on = ∥∥₁_elim on (Prim.hlevel props) (λ (depth, w). with_trees checked (IsSome (page_at (bytes_of checked) (meta_of checked) number)) (Prim.hlevel props) (λ trees.
     subst (λ (n : ℕ). IsSome (page_at (bytes_of checked) (meta_of checked) n)) w.is (good_page (bytes_of checked) (meta_of checked) w.way w.spot trees w.led)))

@@ -5,11 +5,12 @@ use Rattle.bolt_check.specs.Ways.{PageSpot}
 use Rattle.bolt_check.specs.declared.finding.Finding.{Finding}
 use Rattle.bolt_check.specs.Nodes.{Nodes, Node, Entry, IsInSpan}
 use Rattle.bolt_check.specs.Ways.{Spot, At_page, At_inline, SpanHas, step, step_at, step_entry, bucket_spot, child_spot, upper_from, follow, reached, start_of}
-use Rattle.bolt_check.specs.Findings.{keys_of, early_finding, node_finding, inline_finding, Tests, PageTests, early, twice, late, IsClaimedBefore, IsFirst, IsMetaPage}
+use Rattle.bolt_check.specs.Findings.{keys_of, early_finding, node_finding, inline_finding, PagePasses, Passes, IsClaimedBefore, IsClean, IsFirst, IsMetaPage}
 use Rattle.bolt_check.specs.Keys.{Key, is_below, is_from, keys_order_fault, key_lt}
 use Rattle.bolt_check.specs.Shape.{leads, HasShape}
 use Rattle.bolt_check.proofs.WayOrder.{before_irreflexive}
 use Rattle.bolt_check.proofs.Forest.{follow_some, nothing_is}
+use Rattle.bolt_check.proofs.Judging.{passes_silent}
 use Rattle.bolt_check.proofs.KeyOrder.{key_passes}
 use Rattle.bolt_check.proofs.Shaping.{snoc_reached}
 
@@ -104,26 +105,32 @@ claimed_none nodes root shape way s node e h n i (inr (v, (lt, b))) =
     let same : v ≡ way = shape.apart v way n b here in
     before_irreflexive way (rw same at lt)
 
-fault_none : (x : Finding) (o : Option Finding) → o ≡ None → o ≡ Some x → ⊥
-fault_none x o e h = cc
+page_passes : (nodes : Nodes) (root : ℕ) → HasShape nodes root → (way : List ℕ) (s : PageSpot) → reached nodes root way ≡ Some (At_page s)
+    → PagePasses nodes (IsClaimedBefore nodes (reached nodes root) IsMetaPage way) s
+page_passes nodes root shape way s e =
+    let good = shape.good way s e in
+    let node : Node = good.1.0 in
+    let page : nodes s.number ≡ Ok node = good.1.1 in
+    let keys = key_passes None s.lower s.upper (keys_of node.entries) (shape.rising way s node e page)
+    (λ j key at. let b = all_bounded nodes root shape way (At_page s) e [] s.number j key node refl page at in (refl, b.0, b.1)) in
+    record {
+      node = node;
+      early = early_passes nodes s node good.0 page;
+      page = page;
+      free = claimed_none nodes root shape way s node e page;
+      content = content_none node s (shape.filled way s node e page) keys;
+    }
 
-page_tells_nothing : (nodes : Nodes) (root : ℕ) → HasShape nodes root → (way : List ℕ) (s : PageSpot) (x : Finding) → reached nodes root way ≡ Some (At_page s)
-    → PageTests nodes (IsClaimedBefore nodes (reached nodes root) IsMetaPage way) s x → ⊥
-page_tells_nothing nodes root shape way s x e (early f) =
-    let g = shape.good way s e in fault_none x (early_finding nodes s) (early_passes nodes s g.1.0 g.0 g.1.1) f
-page_tells_nothing nodes root shape way s x e (twice node f p l k) = claimed_none nodes root shape way s node e p x.page l.in_span l.was
-page_tells_nothing nodes root shape way s x e (late node f p free c) =
-    let keys = key_passes None s.lower s.upper (keys_of node.entries) (shape.rising way s node e p)
-    (λ j key g. let b = all_bounded nodes root shape way (At_page s) e [] s.number j key node refl p g in (refl, b.0, b.1)) in
-    fault_none x (node_finding node s) (content_none node s (shape.filled way s node e p) keys) c
+passes : (nodes : Nodes) (root : ℕ) → HasShape nodes root → (way : List ℕ) (s : Spot) → reached nodes root way ≡ Some s
+    → Passes nodes (IsClaimedBefore nodes (reached nodes root) IsMetaPage way) s
+passes nodes root shape way (At_page s) e = page_passes nodes root shape way s e
+passes nodes root shape way (At_inline host keys) e =
+    let k = key_passes None None None keys (shape.rising_inline way host keys e) (λ j key at. (refl, refl, refl)) in rw k refl
 
-tells_nothing : (nodes : Nodes) (root : ℕ) → HasShape nodes root → (way : List ℕ) (s : Spot) (x : Finding) → reached nodes root way ≡ Some s
-    → Tests nodes (IsClaimedBefore nodes (reached nodes root) IsMetaPage way) s x → ⊥
-tells_nothing nodes root shape way (At_page s) x e t = page_tells_nothing nodes root shape way s x e t
-tells_nothing nodes root shape way (At_inline host keys) x e t =
-    let k = key_passes None None None keys (shape.rising_inline way host keys e) (λ j key g. (refl, refl, refl)) in
-    let n : inline_finding host keys ≡ None = rw k refl in
-    fault_none x (inline_finding host keys) n t
+-- where the shape is right, the tests tell nothing at any way
+pub shape_passes : (nodes : Nodes) (root : ℕ) → HasShape nodes root → IsClean nodes (reached nodes root) IsMetaPage
+shape_passes nodes root shape = record { passes = passes nodes root shape }
 
 pub sound_tells_nothing : (nodes : Nodes) (root : ℕ) (x : Finding) → HasShape nodes root → IsFirst nodes (reached nodes root) IsMetaPage x → ⊥
-sound_tells_nothing nodes root x shape h = tells_nothing nodes root shape h.way h.spot x h.leads h.told
+sound_tells_nothing nodes root x shape h =
+    passes_silent nodes (IsClaimedBefore nodes (reached nodes root) IsMetaPage h.way) h.spot x (passes nodes root shape h.way h.spot h.leads) h.told

@@ -18,7 +18,7 @@ mod NodeLemmas
 mod PageLemmas
 mod Pendings
 mod SettledLemmas
-pub mod Shaping
+mod Shaping
 mod Single
 mod SoundLemmas
 mod TableLemmas

@@ -14,7 +14,7 @@ use Rattle.bolt_check.specs.OnWays.{IsOnWay}
 use Rattle.bolt_check.specs.Shape.{child_at, child_in, leads}
 use Rattle.bolt_check.specs.Sound.{HasSoundTrees}
 use Rattle.bolt_check.specs.Ways.{At_inline, At_page, PageSpot, Spot, bucket_spot, child_spot, follow, reached, start_of, step, upper_from}
-use Rattle.bolt_check.proofs.WayFacts.{follow_append, key_at, step_child}
+use Rattle.bolt_check.proofs.WayFacts.{follow_append, key_at, leads_none, none_number, step_child}
 
 abbrev pub leaf_node : PageView → Node
 leaf_node view = record { is_leaf = true; overflow = view.overflow; entries = map leaf_entry view.leaves }
@@ -122,13 +122,6 @@ module _ (file : List ℕ) (meta : Meta) where
   leads_child number i view e rest node g =
       let c : child_at (node_at file meta) (Some number) i ≡ Some e.child = ap (λ (o : Result Node ℕ). child_in o i) node ∙ rw (branch_entry_at view.branches i e g) refl in
       ap (λ (o : Option ℕ). leads (node_at file meta) o rest) c
-
-leads_none : (nodes : Nodes) (address : List ℕ) → leads nodes None address ≡ None
-leads_none nodes [] = refl
-leads_none nodes (i ∷ address) = leads_none nodes address
-
-none_number : (x : ℕ) → None ≡ Some x → ⊥
-none_number x e = cc
 
 -- no address goes on from a leaf
 pub leaf_ends : (nodes : Nodes) (number i m : ℕ) (view : PageView) (rest : List ℕ) → nodes number ≡ Ok (leaf_node view) → leads nodes (Some number) (i ∷ rest) ≡ Some m → ⊥

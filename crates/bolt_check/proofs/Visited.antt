@@ -1,12 +1,13 @@
 -- What a visit of one spot shows, of tables and lists.
-use Rattle.std.proofs.Common.{◌≡◌, ℕ, ◌+◌, ◌-◌, ◌<◌, ◌≤◌, ◌↔◌, inl, inr, true, List, [], ◌∷◌, ◌++◌, Ok, length, take, sym, subst}
+use Rattle.std.proofs.Common.{◌≡◌, ℕ, ◌+◌, ◌-◌, ◌<◌, ◌≤◌, ◌↔◌, inl, inr, true, List, [], ◌∷◌, ◌++◌, Result, Ok, Err, length, take, sym, subst}
+use Rattle.std.specs.Prelude.{IfErr, IsErrAnd}
 use Rattle.std.proofs.lemmas.Bool.{cases_lt}
 use Rattle.std.proofs.lemmas.List.{take_at}
 use Rattle.bolt_check.specs.Ways.{PageSpot}
 use Rattle.bolt_check.specs.declared.stop.Stop.{Stop}
 use Rattle.bolt_check.specs.declared.finding.Finding.{Finding}
-use Rattle.bolt_check.specs.declared.search.SearchFault.{SearchFault}
-use Rattle.bolt_check.specs.declared.search.SearchFault.TheVariants.{Found, Memory}
+use Rattle.bolt_check.specs.declared.fault.CheckFault.{CheckFault}
+use Rattle.bolt_check.specs.declared.fault.CheckFault.TheVariants.{Accounts, Memory, Open, Structure}
 use Rattle.bolt_check.specs.Nodes.{Nodes, Node, IsInSpan}
 use Rattle.bolt_check.specs.Ways.{Spot, At_page, Reach, reached, start_of}
 use Rattle.bolt_check.specs.Findings.{PagePasses, IsClaimedBefore, IsCovered, IsClean, IsFirst, IsMetaPage}
@@ -107,10 +108,17 @@ page_first nodes s node rest after table new kept k page pushed claims passes x 
     first_step nodes (IsClaimed table) (IsClaimed new) s rest node page claims.split claims.kept claims.span passes x h2
 
 -- a fault told of what is left is told of the whole
-pub told_back : (nodes : Nodes) (old new : Reach) (c d : ℕ → Type 0) (fault : SearchFault) → ((x : Finding) → IsFirst nodes new d x → IsFirst nodes old c x)
+pub told_back : (nodes : Nodes) (old new : Reach) (c d : ℕ → Type 0) (fault : CheckFault) → ((x : Finding) → IsFirst nodes new d x → IsFirst nodes old c x)
     → IsSearchFault nodes new d fault → IsSearchFault nodes old c fault
-told_back nodes old new c d (Found x) f h = f x h
+told_back nodes old new c d (Structure x) f h = f x h
 told_back nodes old new c d Memory f h = tt
+told_back nodes old new c d (Open fault) f h = h
+told_back nodes old new c d (Accounts findings) f h = h
+
+-- and so is one that is passed on as it is
+pub passed_on : {T : Type 0} (r : Result T CheckFault) (fault : CheckFault) (P : CheckFault → Type 0) → P fault → IsErrAnd r (λ e. e ≡ fault) → IfErr r P
+passed_on (Ok x) fault P told e = tt
+passed_on (Err other) fault P told e = subst P (sym e) told
 
 -- what is covered, from the beginning to the end
 start_covered : (nodes : Nodes) (reach : Reach) (c d : ℕ → Type 0) {n : ℕ} → (c n → d n) → IsCovered nodes reach c n → IsCovered nodes reach d n

@@ -4,7 +4,7 @@ use Rattle.bolt_format.specs.Metas.{HasMetaFault, IsChosen, IsInSlot}
 use Rattle.bolt_format.specs.declared.meta.Meta.{Meta}
 use Rattle.bolt_format.specs.declared.meta.Slot.{Slot}
 use Rattle.bolt_check.specs.Accounts.{HasAccounts}
-use Rattle.bolt_check.specs.Findings.{IsCovered, IsFirst, IsMetaPage}
+use Rattle.bolt_check.specs.Findings.{IsClean, IsCovered, IsFirst, IsMetaPage}
 use Rattle.bolt_check.specs.Nodes.{node_at}
 use Rattle.bolt_check.specs.Shape.{HasShape}
 use Rattle.bolt_check.specs.AccountFindings.{AreAccountFindings}
@@ -20,6 +20,10 @@ IsUsed file meta n = IsCovered (node_at file meta) (reached (node_at file meta) 
 -- the trees of the file, for this meta, are sound
 abbrev pub HasSoundTrees : List ℕ → Meta → Type 0
 HasSoundTrees file meta = HasShape (node_at file meta) meta.root
+
+-- no test of the trees of the file, for this meta, fails
+abbrev pub PassesTests : List ℕ → Meta → Type 0
+PassesTests file meta = IsClean (node_at file meta) (reached (node_at file meta) meta.root) IsMetaPage
 
 -- the accounts of the file, for this meta, are right
 abbrev pub HasRightAccounts : List ℕ → Meta → Type 0

@@ -1,7 +1,10 @@
 //! Why a file is refused.
+ghost use Rattle.std.specs.Prelude.{◌≡◌};
+ghost use Rattle.bolt_check.specs.declared.fault.CheckFault.TheVariants as refused;
 
 use crate::finding::Finding;
 use bolt_format::MetaFault;
+use std::alloc::AllocError;
 use thiserror::Error;
 
 /// Why a file is refused.
@@ -19,4 +22,12 @@ pub enum CheckFault {
     /// Memory ran out.
     #[error("out of memory")]
     Memory,
+}
+
+impl From<AllocError> for CheckFault {
+    ghost from_gives = { λ _ fault. fault ≡ refused.Memory };
+
+    fn from(_error: AllocError) -> Self {
+        CheckFault::Memory
+    }
 }

@@ -1,9 +1,14 @@
 //! What the definitions of sound files imply.
-ghost use Rattle.std.specs.Prelude.{◌≡◌, ℕ, List};
+ghost use Rattle.std.specs.Prelude.{◌≡◌, ◌↔◌, ℕ, List};
 ghost use Rattle.bolt_format.specs.declared.meta.Meta.{Meta};
-ghost use Rattle.bolt_check.specs.Sound.{HasSoundTrees, IsFirstFinding, IsUsed};
+ghost use Rattle.bolt_check.specs.Sound.{HasSoundTrees, IsFirstFinding, IsUsed, PassesTests};
 ghost use Rattle.bolt_check.specs.AccountFindings.{AreAccountFindings};
 ghost use Rattle.bolt_check.specs.declared.finding.Finding.{Finding};
+
+/// No test of the trees fails exactly where they are sound.
+pub fn sound_trees_pass_the_tests()
+    ensures { (file : List ℕ) (meta : Meta) → HasSoundTrees file meta ↔ PassesTests file meta }
+{}
 
 /// Sound trees have no finding.
 pub fn sound_trees_have_no_finding()

@@ -1,15 +1,16 @@
 //! The search of all ways from the root page, in their order, for the first finding.
-ghost use Rattle.std.specs.Prelude.{◌≡◌, ℕ, ◌<◌, ◌≤◌, ◌+◌, ◌*◌, ◌++◌, ◌∷◌, ◌↔◌, [], IfErr, IfOk, OnOk, Ok, length, max, vec_len};
+ghost use Rattle.std.specs.Prelude.{◌≡◌, ℕ, ◌<◌, ◌≤◌, ◌+◌, ◌*◌, ◌++◌, ◌∷◌, ◌↔◌, [], IfErr, IfOk, OnOk, Ok, length, vec_len};
 ghost use Rattle.bolt_check.specs.Findings.{IsClean, IsCovered, IsFirst, IsMetaPage};
 ghost use Rattle.bolt_check.specs.Private.Listings.{IsUnlisted};
 ghost use Rattle.bolt_check.specs.Nodes.{node_at};
 ghost use Rattle.bolt_check.specs.Private.Pending.{forest, kids, page_spot, spot_at, spots_of};
 ghost use Rattle.bolt_check.specs.Private.SearchFaults.{IsSearchFault};
 ghost use Rattle.bolt_check.specs.Private.ShownNodes.{shown_node};
-ghost use Rattle.bolt_check.specs.Private.Tables.{HasRoom, IsClaimed, unclaimed};
+ghost use Rattle.bolt_check.specs.Private.Tables.{HasRoom, IsClaimed, table_length, unclaimed};
 ghost use Rattle.bolt_check.specs.Ways.{At_page, reached, start_of};
 ghost use Rattle.bolt_check.specs.declared.finding.Finding.{Finding};
 
+use crate::fault::CheckFault;
 use crate::finding::Finding;
 use crate::keys::test_inline_keys;
 use crate::stop::{PageStop, Stop};
@@ -18,13 +19,6 @@ use crate::tree_page::TreePage;
 use crate::visit::visit;
 use bolt_format::Meta;
 use std::alloc::{AllocError, Global};
-
-/// Why a search stops.
-#[derive(Clone, Copy)]
-pub(crate) enum SearchFault {
-    Found(Finding),
-    Memory,
-}
 
 /// Puts what a page leads to on top of what is to be visited, the first uppermost.
 #[tactic(auto, using(crate::proofs::Pendings::kids_none, crate::proofs::Pendings::kids_some, crate::proofs::Pendings::kids_end, crate::proofs::Pendings::kids_all, crate::proofs::Pendings::spots_push))]
@@ -47,14 +41,14 @@ fn push_kids<'a>(
     Ok(())
 }
 
-/// A table in which the two meta pages are claimed, with a place for each page that lies in the
-/// file and below the high-water mark.
+/// A table in which the two meta pages are claimed, with a place for each whole page that lies in
+/// the file and below the high-water mark, and no other but the two.
 fn new_table(alloc: Global, file: &[u8], meta: &Meta) -> Result<Vec<PageUse>, AllocError>
     requires { 0 < meta.now.page_size }
     ensures metas { IfOk result (λ table. (n : ℕ) → IsClaimed table.items n ↔ IsMetaPage n) }
     ensures room { IfOk result (λ table. HasRoom file.now meta.now table.items) }
     ensures unlisted { IfOk result (λ table. IsUnlisted table.items) }
-    ensures below { IfOk result (λ table. length table.items ≤ max 2 meta.now.high_water) }
+    ensures length { IfOk result (λ table. length table.items ≡ table_length file.now meta.now) }
 {
     let pages = (file.len() / meta.page_size as usize) as u64;
     let mut table = vec![in alloc; PageUse::Unused; pages.min(meta.high_water).max(2) as usize]?;
@@ -84,7 +78,7 @@ fn step<'a>(
     stop: Stop<'a>,
     table: &mut Vec<PageUse>,
     pending: &mut Vec<Stop<'a>>,
-) -> Result<(), SearchFault>
+) -> Result<(), CheckFault>
     requires { HasRoom file.now meta.now table.old.items }
     ensures room { OnOk result (HasRoom file.now meta.now table.new.items) }
     ensures unlisted { OnOk result (IsUnlisted table.old.items → IsUnlisted table.new.items) }
@@ -102,43 +96,33 @@ fn step<'a>(
         Stop::Page(stop) => {
             let node = match visit(file, meta, &stop, table) {
                 Ok(node) => node,
-                Err(finding) => return Err(SearchFault::Found(finding)),
+                Err(finding) => return Err(CheckFault::Structure(finding)),
             };
-            match push_kids(&node, &stop, pending) {
-                Ok(()) => Ok(()),
-                Err(_) => Err(SearchFault::Memory),
-            }
+            push_kids(&node, &stop, pending)?;
+            Ok(())
         }
         Stop::Bucket(stop) => match test_inline_keys(&stop.page) {
             Ok(()) => Ok(()),
-            Err(number) => Err(SearchFault::Found(Finding::of_page(number, stop.host))),
+            Err(number) => Err(CheckFault::Structure(Finding::of_page(number, stop.host))),
         },
     }
 }
 
 /// Searches all ways from the root page, in their order, for a finding. The table is left with
 /// the pages of all spans claimed.
-pub(crate) fn search(alloc: Global, file: &[u8], meta: &Meta) -> Result<Vec<PageUse>, SearchFault>
+pub(crate) fn search(alloc: Global, file: &[u8], meta: &Meta) -> Result<Vec<PageUse>, CheckFault>
     requires { 0 < meta.now.page_size }
     ensures clean { OnOk result (IsClean (node_at file.now meta.now) (reached (node_at file.now meta.now) meta.now.root) IsMetaPage) }
     ensures covered { IfOk result (λ table. (n : ℕ) → IsClaimed table.items n ↔ IsCovered (node_at file.now meta.now) (reached (node_at file.now meta.now) meta.now.root) IsMetaPage n) }
     ensures room { IfOk result (λ table. HasRoom file.now meta.now table.items) }
     ensures unlisted { IfOk result (λ table. IsUnlisted table.items) }
-    ensures below { IfOk result (λ table. length table.items ≤ max 2 meta.now.high_water) }
+    ensures length { IfOk result (λ table. length table.items ≡ table_length file.now meta.now) }
     ensures first { IfErr result (IsSearchFault (node_at file.now meta.now) (reached (node_at file.now meta.now) meta.now.root) IsMetaPage) }
 {
-    let mut table = match new_table(alloc, file, meta) {
-        Ok(table) => table,
-        Err(_) => return Err(SearchFault::Memory),
-    };
-    let mut pending = match new_pending(alloc, meta.root) {
-        Ok(pending) => pending,
-        Err(_) => return Err(SearchFault::Memory),
-    };
+    let mut table = new_table(alloc, file, meta)?;
+    let mut pending = new_pending(alloc, meta.root)?;
     while let Some(stop) = pending.pop() {
-        if let Err(fault) = step(file, meta, stop, &mut table, &mut pending) {
-            return Err(fault);
-        }
+        step(file, meta, stop, &mut table, &mut pending)?;
     }
     Ok(table)
 }

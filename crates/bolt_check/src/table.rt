@@ -1,5 +1,5 @@
-//! The table of pages: one byte for each page that begins in the file and lies below the
-//! high-water mark.
+//! The table of pages: one byte for each whole page that lies in the file and below the high-water
+//! mark, and at least two.
 ghost use Rattle.std.specs.Prelude.{◌≡◌, ℕ, ◌<◌, ◌≤◌, ◌+◌, length, IfSome, MatchOption};
 ghost use Rattle.bolt_check.specs.Private.Tables.{IsClaimed, IsUnclaimed, is_used, unclaimed, use_at};
 

@@ -8,7 +8,7 @@ use Rattle.std.proofs.lemmas.List.FromFn.{get_or-map-range_with_len}
 use Rattle.bolt_format.specs.declared.meta.Meta.{Meta}
 use Rattle.bolt_format.specs.declared.meta.Slot.{Slot}
 use Rattle.bolt_format.specs.declared.meta.Slot.TheVariants.{Zero, One}
-use Rattle.bolt_format.specs.Metas.{IsChosen, IsInOne, IsInSlot, IsLoneMeta, IsMeta, IsPageSize, page_sizes}
+use Rattle.bolt_format.specs.Metas.{IsChosen, IsInOne, IsInSlot, IsLoneMeta, IsMeta, IsPageSize, page_size_count, page_sizes}
 
 -- a page has one record
 pub IsMeta-one : (file : List ℕ) (at : ℕ) (a b : Meta) → IsMeta file at a → IsMeta file at b → a ≡ b
@@ -74,14 +74,14 @@ IsInSlot-none file none no_lone Zero meta valid = none meta valid
 IsInSlot-none file none no_lone One meta valid = no_lone meta (IsInOne-alone file meta none valid)
 
 -- The accepted page sizes in their order.
-page_sizes-at : (k : ℕ) → k < 7 → get_or page_sizes k 0 ≡ 1024 * 2 ^ k
-page_sizes-at k h = get_or-map-range_with_len (λ k. 1024 * 2 ^ k) 0 7 k k 0 h (omega arith)
+page_sizes-at : (k : ℕ) → k < page_size_count → get_or page_sizes k 0 ≡ 1024 * 2 ^ k
+page_sizes-at k h = get_or-map-range_with_len (λ k. 1024 * 2 ^ k) 0 page_size_count k k 0 h (omega arith)
 
-IsPageSize-at : (k : ℕ) → k < 7 → IsPageSize (get_or page_sizes k 0)
+IsPageSize-at : (k : ℕ) → k < page_size_count → IsPageSize (get_or page_sizes k 0)
 IsPageSize-at k h = list_any_at (λ size. size == get_or page_sizes k 0) page_sizes k 0 h (eq-eqb (get_or page_sizes k 0) _ refl)
 
 -- a smaller one comes before
-page_sizes-before : (n k : ℕ) → k < 7 → IsPageSize n → n < get_or page_sizes k 0 → (j : ℕ) × (j < k) × (n ≡ get_or page_sizes j 0)
+page_sizes-before : (n k : ℕ) → k < page_size_count → IsPageSize n → n < get_or page_sizes k 0 → (j : ℕ) × (j < k) × (n ≡ get_or page_sizes j 0)
 page_sizes-before n k h size less =
     let (j, x, below, here, same) = Any-from_list_any (λ size. size == n) page_sizes size in
     let is_n : n ≡ get_or page_sizes j 0 = sym (eqb-true x n same) ∙ get_or_read page_sizes j x below (sym here) 0 in
@@ -91,7 +91,7 @@ page_sizes-before n k h size less =
     ]
 
 -- the first place with a record is the least
-pub IsLoneMeta-at : (file : List ℕ) (k : ℕ) (meta : Meta) → k < 7
+pub IsLoneMeta-at : (file : List ℕ) (k : ℕ) (meta : Meta) → k < page_size_count
     → ((j : ℕ) → j < k → (other : Meta) → IsMeta file (get_or page_sizes j 0) other → ⊥)
     → IsMeta file (get_or page_sizes k 0) meta → IsLoneMeta file meta
 IsLoneMeta-at file k meta h none valid = record {
@@ -104,7 +104,7 @@ IsLoneMeta-at file k meta h none valid = record {
 }
 
 -- with no record at any place there is none
-pub IsLoneMeta-none : (file : List ℕ) (k : ℕ) → 7 ≤ k
+pub IsLoneMeta-none : (file : List ℕ) (k : ℕ) → page_size_count ≤ k
     → ((j : ℕ) → j < k → (other : Meta) → IsMeta file (get_or page_sizes j 0) other → ⊥)
     → (meta : Meta) → IsLoneMeta file meta → ⊥
 IsLoneMeta-none file k h none meta lone =

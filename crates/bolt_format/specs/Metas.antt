@@ -8,9 +8,12 @@ use Rattle.bolt_format.specs.declared.meta.Slot.TheVariants.{Zero, One}
 use Rattle.bolt_format.specs.declared.meta.MetaFault.{MetaFault}
 use Rattle.bolt_format.specs.declared.meta.MetaFault.TheVariants.{Cut, Magic, Version, Sum, PageSize}
 
--- the powers of two from 1,024 to 65,536
+-- the 16 powers of two from 1,024 to 33,554,432
+abbrev pub page_size_count : ℕ
+page_size_count = 16
+
 abbrev pub page_sizes : List ℕ
-page_sizes = map (λ k. 1024 * 2 ^ k) (range_with_len 0 7)
+page_sizes = map (λ k. 1024 * 2 ^ k) (range_with_len 0 page_size_count)
 
 abbrev pub IsPageSize : ℕ → Type 0
 IsPageSize n = IsTrue (list_any (λ size. size == n) page_sizes)

@@ -6,7 +6,10 @@ use crate::bytes::{u32_at, u64_at};
 use crate::checksum::fnv1a;
 
 /// The page sizes that are accepted, in bytes, from the smallest up.
-pub const PAGE_SIZES: [u64; 7] = [1024, 2048, 4096, 8192, 16384, 32768, 65536];
+pub const PAGE_SIZES: [u64; 16] = [
+    1024, 2048, 4096, 8192, 16_384, 32_768, 65_536, 131_072, 262_144, 524_288, 1_048_576,
+    2_097_152, 4_194_304, 8_388_608, 16_777_216, 33_554_432,
+];
 
 /// The freelist field of a meta without a freelist.
 pub const NO_FREELIST: u64 = u64::MAX;
@@ -60,7 +63,8 @@ pub enum MetaFault {
     PageSize = 5,
 }
 
-/// Whether pages may have this many bytes: a power of two from 1,024 to 65,536.
+/// Whether pages may have this many bytes: a power of two from 1,024 to
+/// 33,554,432.
 pub fn page_size_ok(n: u64) -> bool
     ensures { IsTrue result ↔ IsPageSize n }
 {

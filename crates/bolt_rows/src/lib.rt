@@ -14,6 +14,8 @@ mod fault_rows;
 #[cfg(test)]
 mod free_rows;
 #[cfg(test)]
+mod large_page_rows;
+#[cfg(test)]
 mod maker;
 #[cfg(test)]
 mod meta_rows;

@@ -2,7 +2,7 @@
 //! them.
 
 use crate::maker::{MetaFields, NO_FREELIST, database, database_of, file, flip, meta_page, patch};
-use bolt_format::{Meta, MetaFault, PAGE_SIZES, Slot, choose, fnv1a, meta_at, page_size_ok};
+use bolt_format::{Meta, MetaFault, Slot, choose, fnv1a, meta_at, page_size_ok};
 use std::alloc::{AllocError, Global};
 use std::process::Abort;
 use std::test::Fail;
@@ -19,10 +19,15 @@ fn checksum_vectors(rt: HostRuntime) {
     }
 }
 
+static ACCEPTED: [u32; 16] = [
+    1024, 2048, 4096, 8192, 16_384, 32_768, 65_536, 131_072, 262_144, 524_288, 1_048_576,
+    2_097_152, 4_194_304, 8_388_608, 16_777_216, 33_554_432,
+];
+
 #[test]
 fn accepted_page_sizes(rt: HostRuntime) {
-    for size in [1024, 2048, 4096, 8192, 16_384, 32_768, 65_536] {
-        assert!(rt; page_size_ok(size), "page size {size}");
+    for size in ACCEPTED {
+        assert!(rt; page_size_ok(u64::from(size)), "page size {size}");
     }
     let refused = [
         0,
@@ -36,8 +41,11 @@ fn accepted_page_sizes(rt: HostRuntime) {
         3072,
         65_535,
         65_537,
-        131_072,
-        33_554_432,
+        1_000_000,
+        33_554_431,
+        33_554_433,
+        50_331_648,
+        67_108_864,
         0x1_0000_0000,
         0x1_0000_1000,
         u64::MAX,
@@ -270,7 +278,7 @@ fn choice_of_two(rt: HostRuntime) -> Result<(), Fail> {
         };
         check_choice(&rt, rt.alloc(), &row)?;
     }
-    for size in [0, 512, 1000, 1536, 131_072, 67_108_864, 1 << 31] {
+    for size in [0, 512, 1000, 1536, 33_554_433, 67_108_864, 1 << 31] {
         check_choice(&rt, rt.alloc(), &with_page_size(size))?;
     }
     Ok(())
@@ -356,8 +364,7 @@ fn lone(alloc: Global, page_size: u32) -> Result<Vec<u8>, AllocError> {
 
 #[test]
 fn second_meta_alone(rt: HostRuntime) -> Result<(), Fail> {
-    for size in PAGE_SIZES {
-        let size = u32::try_from(size).unwrap_or(0);
+    for size in ACCEPTED {
         let mut bytes = lone(rt.alloc(), size)?;
         let want = (Slot::One, told(&MetaFields::fresh(size)));
         assert_eq!(rt; choose(bytes.as_slice()), Ok(want), "page size {size}");
@@ -368,7 +375,7 @@ fn second_meta_alone(rt: HostRuntime) -> Result<(), Fail> {
             "page size {size}, cut"
         );
     }
-    for size in [512, 131_072] {
+    for size in [512, 67_108_864] {
         let bytes = lone(rt.alloc(), size)?;
         assert_eq!(rt;
             choose(bytes.as_slice()),

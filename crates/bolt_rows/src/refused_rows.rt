@@ -47,7 +47,7 @@ static FIELDS: [(&'static str, MetaFields, &'static str); 2] = [
     ),
 ];
 
-static PAGE_SIZES: [u32; 6] = [0, 512, 1000, 1536, 131_072, 1 << 31];
+static PAGE_SIZES: [u32; 6] = [0, 512, 1000, 1536, 67_108_864, 1 << 31];
 
 #[test]
 fn refused_metas(rt: HostRuntime) -> Result<(), Fail> {

@@ -1,10 +1,11 @@
 mod AllEntries
+pub mod BackLemmas
 mod BucketWays
 mod Climbing
 mod Coming
 pub mod CountLemmas
-pub mod CursorLemmas
 mod CursorMoves
+pub mod DescentLemmas
 mod Entering
 mod EntryOrder
 mod Existing
@@ -13,24 +14,30 @@ pub mod FurtherLemmas
 pub mod GapLemmas
 mod Giving
 pub mod HalvesLemmas
+pub mod HeldLemmas
 pub mod ListLemmas
 mod Lists
 mod Looking
 mod Measured
 pub mod MoveLemmas
 mod Named
+pub mod NearLemmas
 mod Nesting
 mod OpenSteps
+pub mod OpeningMoves
 pub mod PagerLemmas
 mod Parts
 mod PathOrder
 pub mod PlaceLemmas
+pub mod PlaceMoves
 mod ReadBack
 pub mod RootLemmas
 pub mod SeekCounts
+pub mod SeekLemmas
 mod Seeking
 mod Single
 pub mod SortedLemmas
+pub mod SoughtLemmas
 pub mod StackLemmas
 pub mod TourLemmas
 pub mod TrailLemmas

@@ -1,5 +1,5 @@
 -- Lists: members, and lists that rise by a relation.
-use Rattle.std.proofs.Common.{◌≡◌, ℕ, zero, suc, ◌<◌, ◌⊎◌, inl, inr, List, [], ◌∷◌, ◌++◌, length, get_or, Some, None, slice_get, map, refl, sym, ap, subst, arith}
+use Rattle.std.proofs.Common.{◌≡◌, ℕ, zero, suc, ◌+◌, ◌<◌, ◌⊎◌, inl, inr, List, [], ◌∷◌, ◌++◌, length, get_or, Some, None, slice_get, map, refl, sym, ap, subst, arith}
 use Rattle.std.specs.List.{AllPairs, All, Contains, flat_map}
 use Rattle.std.proofs.lemmas.List.Elements.{All-cons, All-nil, All-head, All-tail}
 use Rattle.std.proofs.lemmas.List.Kept.{AllPairs-cons}
@@ -116,6 +116,22 @@ module _ {X : Type 0} where
   get_before (y ∷ xs) k zero x h g = absurd (omega arith)
   get_before (y ∷ xs) zero (suc l) x h g = (y, refl)
   get_before (y ∷ xs) (suc k) (suc l) x h g = get_before xs k l x (omega arith) g
+
+  pub get_exists : (xs : List X) (k : ℕ) → k < length xs → (x : X) × (slice_get xs k ≡ Some x)
+  get_exists [] k h = absurd (omega arith)
+  get_exists (x ∷ xs) zero h = (x, refl)
+  get_exists (x ∷ xs) (suc k) h = get_exists xs k (omega arith)
+
+  -- an element of two lists, one after the other
+  pub get_behind : (xs ys : List X) (n k : ℕ) → n ≡ length xs + k → slice_get (xs ++ ys) n ≡ slice_get ys k
+  get_behind [] ys n k e = let same : n ≡ k = omega arith in ap (slice_get ys) same
+  get_behind (x ∷ xs) ys zero k e = absurd (omega arith)
+  get_behind (x ∷ xs) ys (suc n) k e = get_behind xs ys n k (omega arith)
+
+  pub get_front : (xs ys : List X) (k : ℕ) (x : X) → slice_get xs k ≡ Some x → slice_get (xs ++ ys) k ≡ Some x
+  get_front [] ys k x g = absurd (no_member x g)
+  get_front (y ∷ xs) ys zero x g = g
+  get_front (y ∷ xs) ys (suc k) x g = get_front xs ys k x g
 
   -- Two lists that rise by a strict order and have the same members are one.
   module _ (R : X → X → Type 0) (strict : (x y : X) → R x y → R y x → ⊥) where

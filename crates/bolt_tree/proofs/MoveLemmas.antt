@@ -1,11 +1,17 @@
 -- Moves from entry to entry.
-use Rattle.std.proofs.Common.{◌≡◌, List, [], ◌∷◌, ◌++◌, Some, None, Option, sym, ◌∙◌, subst}
+use Rattle.std.proofs.Common.{◌≡◌, ℕ, ◌+◌, Bool, true, false, List, [], ◌∷◌, ◌++◌, Some, None, Option, refl, sym, ◌∙◌, subst}
+use Rattle.std.specs.Option.{option_map}
 use Rattle.std.specs.Prelude.{MatchOption}
 use Rattle.bolt_format.specs.ElementPlaces.{leaf_view}
 use Rattle.bolt_format.specs.Elements.{LeafElement}
 use Rattle.bolt_format.specs.declared.element.Leaf.{Leaf}
-use Rattle.bolt_tree.specs.Stacks.{Frame, IsAtRest, IsOn}
+use Rattle.bolt_tree.specs.BucketViews.{BucketView, contents_in}
+use Rattle.bolt_tree.specs.Contents.{Content, Contents, Of_branch, Of_leaf}
+use Rattle.bolt_tree.specs.Entered.{IsEntered, entered_pages}
+use Rattle.bolt_tree.specs.Stacks.{Frame, IsAtRest, IsOn, RestsOn, ahead_of, behind_of, right_of}
+use Rattle.bolt_tree.proofs.BackLemmas.{step_back_some}
 use Rattle.bolt_tree.proofs.PlaceLemmas.{on_rests}
+use Rattle.bolt_tree.proofs.TrailLemmas.{step_some}
 
 -- what a move to the next entry finds, over what was ahead
 abbrev pub Finds : Option Leaf → List LeafElement → List LeafElement → List Frame → List Frame → Type 0
@@ -31,3 +37,28 @@ back_over (Some leaf) whole before after frames end e h = (e ∙ h.0, h.1)
 pub back_rests : (found : Option Leaf) (before after : List LeafElement) (frames end : List Frame) → IsAtRest end → FindsBack found before after frames end → IsAtRest frames
 back_rests None before after frames end rest h = subst IsAtRest (sym h.1) rest
 back_rests (Some leaf) before after frames end rest h = on_rests frames (leaf_view leaf) h.1
+
+-- What a step within a leaf finds: where it rests on a leaf, taking an element of that leaf answers it and opens nothing.
+leaf_taken : (contents : Contents) (at_end : Bool) (content : Content) (t i : ℕ) (below new : List Frame) → RestsOn content t → IsEntered contents at_end content i below new None → ⊥
+leaf_taken contents at_end (Of_leaf es) t i below new rest h = h
+leaf_taken contents at_end (Of_branch bs) t i below new rest h = rest
+
+pub none_opened : (contents : Contents) (at_end : Bool) (content : Content) (t i : ℕ) (below new : List Frame) (found : Option LeafElement) → RestsOn content t
+    → IsEntered contents at_end content i below new found → entered_pages found ≡ 0
+none_opened contents at_end content t i below new (Some e) rest h = refl
+none_opened contents at_end content t i below new None rest h = absurd (leaf_taken contents at_end content t i below new rest h)
+
+pub next_in_leaf : (old now : BucketView) (whole below new : List Frame) (f : Frame) (found : Option Leaf) → now ≡ old → whole ≡ f ∷ below → RestsOn f.content f.taken
+    → IsEntered (contents_in old) false f.content f.taken below new (option_map leaf_view found)
+    → MatchOption found (new ≡ whole) (λ leaf. (ahead_of (contents_in old) whole ≡ leaf_view leaf ∷ ahead_of (contents_in now) new) × IsOn new (leaf_view leaf) × (right_of (contents_in old) whole ≡ right_of (contents_in now) new))
+next_in_leaf old now whole below new f None same frames rest h = absurd (leaf_taken (contents_in old) false f.content f.taken f.taken below new rest h)
+next_in_leaf old now whole below new f (Some leaf) same frames rest h = let r = step_some old now whole below new f (leaf_view leaf) same frames h in (r.0, r.2, r.1)
+
+pub prev_in_leaf : (old now : BucketView) (whole below new : List Frame) (f : Frame) (i : ℕ) (found : Option Leaf) → f.taken ≡ i + 2 → now ≡ old → whole ≡ f ∷ below → RestsOn f.content f.taken
+    → IsEntered (contents_in old) true f.content i below new (option_map leaf_view found)
+    → MatchOption found (new ≡ whole) (λ leaf. (behind_of (contents_in old) whole ≡ behind_of (contents_in now) new ++ leaf_view leaf ∷ []) × IsOn new (leaf_view leaf))
+prev_in_leaf old now whole below new f i None two same frames rest h = absurd (leaf_taken (contents_in old) true f.content f.taken i below new rest h)
+prev_in_leaf old now whole below new f i (Some leaf) two same frames rest h = step_back_some old now whole below new f i (leaf_view leaf) two same frames h
+
+pub rest_on_top : (whole below : List Frame) (f : Frame) → whole ≡ f ∷ below → IsAtRest whole → RestsOn f.content f.taken
+rest_on_top whole below f e rest = rw e at rest

@@ -57,7 +57,7 @@ in_range [] k x g = absurd (let h : (None ≡ Some x → ⊥) = λ e. cc in h g)
 in_range (y ∷ xs) zero x g = omega arith
 in_range (y ∷ xs) (suc k) x g = let r = in_range xs k x g in omega (arith, r)
 
-same_branch : (o : Content) (a c : List BranchElement) → o ≡ Of_branch a → o ≡ Of_branch c → a ≡ c
+pub same_branch : (o : Content) (a c : List BranchElement) → o ≡ Of_branch a → o ≡ Of_branch c → a ≡ c
 same_branch o a c e h = cc
 
 pub not_leaf : (o : Content) (a : List LeafElement) (c : List BranchElement) → o ≡ Of_leaf a → o ≡ Of_branch c → ⊥

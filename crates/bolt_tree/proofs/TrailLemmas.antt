@@ -1,5 +1,5 @@
 -- What the moves of a trail do to its stack.
-use Rattle.std.proofs.Common.{◌≡◌, ◌==◌, ℕ, zero, suc, ◌+◌, ◌-◌, ◌≤◌, ◌<◌, Bool, true, false, List, [], ◌∷◌, ◌++◌, Some, None, Option, slice_get, length, map, reverse, drop, refl, sym, ap, ◌∙◌, subst, arith, append_assoc}
+use Rattle.std.proofs.Common.{◌≡◌, ◌==◌, ℕ, zero, suc, ◌+◌, ◌-◌, ◌≤◌, ◌<◌, Bool, true, false, List, [], ◌∷◌, ◌++◌, Some, None, Option, slice_get, length, map, reverse, drop, refl, sym, ap, ◌∙◌, subst, arith, append_assoc, append-nil}
 use Rattle.std.specs.Option.{option_to_list}
 use Rattle.std.specs.Prelude.{IsTrue}
 use Rattle.std.proofs.Math.Logic.{∥∥₁_elim}
@@ -18,7 +18,7 @@ use Rattle.bolt_tree.specs.Contents.{Content, Contents, Of_branch, Of_leaf, cont
 use Rattle.bolt_tree.specs.Entered.{IsEntered, taken_at}
 use Rattle.bolt_tree.specs.Stacks.{Frame, HasStack, IsBranchContent, IsBranchTop, IsOn, address_on, ahead_of, here_of, here_under, right_of, right_under, under_at}
 use Rattle.bolt_tree.specs.Tours.{Visit, elements_of, tour}
-use Rattle.bolt_tree.specs.Trails.{IsSameBucket, frame_of, frames_of, trail_bucket}
+use Rattle.bolt_tree.specs.Trails.{HasTrail, IsSameBucket, frame_of, frames_of, trail_bucket}
 use Rattle.bolt_tree.specs.declared.position.Position.{Position}
 use Rattle.bolt_tree.specs.declared.trail.Trail.{Trail}
 use Rattle.bolt_tree.proofs.StackLemmas.{branch_room, stack_short, under_next}
@@ -158,3 +158,23 @@ pub taken_within : (at_end : Bool) (content : Content) → taken_at at_end conte
 taken_within true content = omega arith
 taken_within false content = omega arith
 
+-- the same stack, as it is shown otherwise
+pub moved_stack : (old now : BucketView) (a d : Content) (under below : List Frame) → now ≡ old → d ≡ a → below ≡ under
+    → HasStack old (record { content = a; taken = 0 } ∷ under) → HasStack now (record { content = d; taken = 0 } ∷ below)
+moved_stack old now a d under below e f g stack =
+    let one : HasStack now (record { content = a; taken = 0 } ∷ under) = subst (λ (k : BucketView). HasStack k (record { content = a; taken = 0 } ∷ under)) (sym e) stack in
+    let two : HasStack now (record { content = d; taken = 0 } ∷ under) = subst (λ (c : Content). HasStack now (record { content = c; taken = 0 } ∷ under)) (sym f) one in
+    subst (λ (fs : List Frame). HasStack now (record { content = d; taken = 0 } ∷ fs)) (sym g) two
+
+-- the stack when its top page was taken from it, and when there was none
+pub popped_stack : (trail : Trail) (items : List Position) (top : Position) → trail.stack.items ≡ items ++ option_to_list (Some top) → HasTrail trail
+    → HasStack (trail_bucket trail) (frame_of top ∷ frames_of items)
+popped_stack trail items top e stack = subst (HasStack (trail_bucket trail)) (frames_pop trail.stack.items items top e) stack
+
+pub popped_none : (trail : Trail) (items : List Position) → trail.stack.items ≡ items ++ [] → HasTrail trail → HasStack (trail_bucket trail) (frames_of items)
+popped_none trail items e stack = subst (λ (ps : List Position). HasStack (trail_bucket trail) (frames_of ps)) (e ∙ append-nil items) stack
+
+-- a stack that was kept is still one of the bucket
+pub kept_stack : (old new : Trail) (items : List Position) → IsSameBucket old new → items ≡ old.stack.items → HasTrail old → HasStack (trail_bucket new) (frames_of items)
+kept_stack old new items same e stack =
+    subst (λ (b : BucketView). HasStack b (frames_of items)) (sym (same_bucket old new same)) (subst (λ (ps : List Position). HasStack (trail_bucket old) (frames_of ps)) (sym e) stack)

@@ -126,7 +126,7 @@ impl<'a> Trail<'a> {
         if top.taken < u32::from(top.page.count()) {
             return self.enter(top.page, top.taken as u16, false);
         }
-        self.stack.push(top);
+        self.push(top.page, top.taken);
         None
     }
 
@@ -147,7 +147,7 @@ impl<'a> Trail<'a> {
         if top.taken > 1 {
             return self.enter(top.page, (top.taken - 2) as u16, true);
         }
-        self.stack.push(top);
+        self.push(top.page, top.taken);
         None
     }
 

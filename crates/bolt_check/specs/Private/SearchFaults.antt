@@ -1,11 +1,14 @@
--- What the search tells where it stops.
+-- Why the search stops.
 use Rattle.std.specs.Prelude.{ℕ}
 use Rattle.bolt_check.specs.Findings.{IsFirst}
 use Rattle.bolt_check.specs.Nodes.{Nodes}
 use Rattle.bolt_check.specs.Ways.{Reach}
-use Rattle.bolt_check.specs.declared.search.SearchFault.{SearchFault}
-use Rattle.bolt_check.specs.declared.search.SearchFault.TheVariants.{Found, Memory}
+use Rattle.bolt_check.specs.declared.fault.CheckFault.{CheckFault}
+use Rattle.bolt_check.specs.declared.fault.CheckFault.TheVariants.{Accounts, Memory, Open, Structure}
 
-abbrev pub IsSearchFault : Nodes → Reach → (ℕ → Type 0) → SearchFault → Type 0
-IsSearchFault nodes reach start (Found x) = IsFirst nodes reach start x
+-- at the first finding, or for want of memory
+abbrev pub IsSearchFault : Nodes → Reach → (ℕ → Type 0) → CheckFault → Type 0
+IsSearchFault nodes reach start (Structure x) = IsFirst nodes reach start x
 IsSearchFault nodes reach start Memory = Unit {0}
+IsSearchFault nodes reach start (Open fault) = ⊥
+IsSearchFault nodes reach start (Accounts findings) = ⊥

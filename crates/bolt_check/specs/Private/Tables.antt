@@ -1,5 +1,5 @@
 -- The table of pages.
-use Rattle.std.specs.Prelude.{◌≡◌, ◌<◌, ◌≤◌, ◌+◌, ◌*◌, ℕ, Bool, true, false, not, List, count_by, length, slice_index_or}
+use Rattle.std.specs.Prelude.{◌≡◌, ◌<◌, ◌≤◌, ◌+◌, ◌*◌, ◌/◌, ℕ, Bool, true, false, not, List, count_by, length, max, min, slice_index_or}
 use Rattle.bolt_format.specs.declared.meta.Meta.{Meta}
 use Rattle.bolt_check.specs.declared.table.PageUse.{PageUse}
 use Rattle.bolt_check.specs.declared.table.PageUse.TheVariants.{Unused, Used, Free, FreeTwice, UsedFree, UsedFreeTwice}
@@ -35,6 +35,10 @@ IsUnclaimed table n = is_used (use_at table n) ≡ false
 -- how many are not claimed
 abbrev pub unclaimed : List PageUse → ℕ
 unclaimed table = count_by (λ page_use. not (is_used page_use)) table
+
+-- how long the table is: the whole pages that lie in the file and below the mark, and at least the two meta pages
+abbrev pub table_length : List ℕ → Meta → ℕ
+table_length file meta = max 2 (min (length file / meta.page_size) meta.high_water)
 
 -- the table has a place for each page that lies in the file and below the mark
 abbrev pub HasRoom : List ℕ → Meta → List PageUse → Type 0

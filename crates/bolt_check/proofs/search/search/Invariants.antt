@@ -1,10 +1,10 @@
-use Rattle.std.proofs.Common.{◌↔◌, ◌≤◌, ℕ, ◌+◌, ◌*◌, length, max, vec_len}
+use Rattle.std.proofs.Common.{◌≡◌, ◌↔◌, ℕ, ◌+◌, ◌*◌, length, vec_len}
 use Rattle.bolt_check.specs.declared.finding.Finding.{Finding}
 use Rattle.bolt_check.specs.Findings.{IsClean, IsCovered, IsFirst, IsMetaPage}
 use Rattle.bolt_check.specs.Private.Listings.{IsUnlisted}
 use Rattle.bolt_check.specs.Nodes.{node_at}
 use Rattle.bolt_check.specs.Private.Pending.{forest, spots_of}
-use Rattle.bolt_check.specs.Private.Tables.{HasRoom, IsClaimed, unclaimed}
+use Rattle.bolt_check.specs.Private.Tables.{HasRoom, IsClaimed, table_length, unclaimed}
 use Rattle.bolt_check.specs.Ways.{reached}
 use Rattle.bolt_check.proofs.search.search.Given as goal
 
@@ -13,7 +13,7 @@ abbrev pub invariant-loop-stop : goal.invariant-loop-stop
 invariant-loop-stop l = record {
   room : HasRoom l.file l.meta l.table.items;
   unlisted : IsUnlisted l.table.items;
-  below : length l.table.items ≤ max 2 l.meta.high_water;
+  long : length l.table.items ≡ table_length l.file l.meta;
   clean : IsClean (node_at l.file l.meta) (forest (node_at l.file l.meta) (spots_of l.pending.items)) (IsClaimed l.table.items)
       → IsClean (node_at l.file l.meta) (reached (node_at l.file l.meta) l.meta.root) IsMetaPage;
   covered : (n : ℕ) → IsCovered (node_at l.file l.meta) (forest (node_at l.file l.meta) (spots_of l.pending.items)) (IsClaimed l.table.items) n

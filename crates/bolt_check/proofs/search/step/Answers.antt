@@ -16,8 +16,8 @@ returns-in-Err-clause-told c =
     (found_step (node_at c.args.file.now c.args.meta.now) (IsClaimed c.args.table.now.items) (At_page (page_spot c.in-Page.stop)) (spots_of c.args.pending.now.items) c.in-Err.finding
     (rw c.deref_mut.ensures.value at c.in-Err.ensures.found))
 
-pub returns-in-Ok-push_kids-clause-clean : goal.returns-in-Ok-push_kids-clause-clean
-returns-in-Ok-push_kids-clause-clean c =
+pub returns-in_ok-push_kids-in-Page-clause-clean : goal.returns-in_ok-push_kids-in-Page-clause-clean
+returns-in_ok-push_kids-in-Page-clause-clean c =
     let now : length c.deref_mut.result.now ≡ length c.args.table.now.items = ap length c.deref_mut.ensures.value in
     let len : length c.visit.new.table ≡ c.args.table.now.len = grind (arith, common_steps, now, c.visit.auto.table) in
     let kept = written c.args.table.now.len c.visit.new.table (drop (length c.visit.new.table) c.args.table.now.items) len in
@@ -25,10 +25,10 @@ returns-in-Ok-push_kids-clause-clean c =
     let passes = rw c.deref_mut.ensures.value at c.in-Ok.ensures.passes in
     rw c.in-Page.is
     (page_clean (node_at c.args.file.now c.args.meta.now) (page_spot c.in-Page.stop) (shown_node c.in-Ok.node) (spots_of c.args.pending.now.items) (spots_of c.push_kids.new.pending.items)
-    c.args.table.now.items c.visit.new.table _ kept c.in-Ok.ensures.node c.in-Ok-push_kids.ensures.kids claims passes)
+    c.args.table.now.items c.visit.new.table _ kept c.in-Ok.ensures.node c.in_ok-push_kids-in-Page.ensures.kids claims passes)
 
-pub returns-in-Ok-push_kids-clause-first : goal.returns-in-Ok-push_kids-clause-first
-returns-in-Ok-push_kids-clause-first c =
+pub returns-in_ok-push_kids-in-Page-clause-first : goal.returns-in_ok-push_kids-in-Page-clause-first
+returns-in_ok-push_kids-in-Page-clause-first c =
     let now : length c.deref_mut.result.now ≡ length c.args.table.now.items = ap length c.deref_mut.ensures.value in
     let len : length c.visit.new.table ≡ c.args.table.now.len = grind (arith, common_steps, now, c.visit.auto.table) in
     let kept = written c.args.table.now.len c.visit.new.table (drop (length c.visit.new.table) c.args.table.now.items) len in
@@ -36,17 +36,17 @@ returns-in-Ok-push_kids-clause-first c =
     let passes = rw c.deref_mut.ensures.value at c.in-Ok.ensures.passes in
     rw c.in-Page.is
     (page_first (node_at c.args.file.now c.args.meta.now) (page_spot c.in-Page.stop) (shown_node c.in-Ok.node) (spots_of c.args.pending.now.items) (spots_of c.push_kids.new.pending.items)
-    c.args.table.now.items c.visit.new.table _ kept c.in-Ok.ensures.node c.in-Ok-push_kids.ensures.kids claims passes)
+    c.args.table.now.items c.visit.new.table _ kept c.in-Ok.ensures.node c.in_ok-push_kids-in-Page.ensures.kids claims passes)
 
-pub returns-in-Ok-push_kids-clause-covered : goal.returns-in-Ok-push_kids-clause-covered
-returns-in-Ok-push_kids-clause-covered c =
+pub returns-in_ok-push_kids-in-Page-clause-covered : goal.returns-in_ok-push_kids-in-Page-clause-covered
+returns-in_ok-push_kids-in-Page-clause-covered c =
     let now : length c.deref_mut.result.now ≡ length c.args.table.now.items = ap length c.deref_mut.ensures.value in
     let len : length c.visit.new.table ≡ c.args.table.now.len = grind (arith, common_steps, now, c.visit.auto.table) in
     let kept = written c.args.table.now.len c.visit.new.table (drop (length c.visit.new.table) c.args.table.now.items) len in
     let claims = rw c.deref_mut.ensures.value at c.in-Ok.ensures.claims in
     rw c.in-Page.is
     (page_covered (node_at c.args.file.now c.args.meta.now) (page_spot c.in-Page.stop) (shown_node c.in-Ok.node) (spots_of c.args.pending.now.items) (spots_of c.push_kids.new.pending.items)
-    c.args.table.now.items c.visit.new.table _ kept c.in-Ok.ensures.node c.in-Ok-push_kids.ensures.kids claims)
+    c.args.table.now.items c.visit.new.table _ kept c.in-Ok.ensures.node c.in_ok-push_kids-in-Page.ensures.kids claims)
 
 pub returns-in-Err-test_inline_keys-clause-told : goal.returns-in-Err-test_inline_keys-clause-told
 returns-in-Err-test_inline_keys-clause-told c =

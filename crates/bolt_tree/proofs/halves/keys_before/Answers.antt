@@ -1,5 +1,5 @@
 use Rattle.std.proofs.Common.{◌+◌, ◌-◌, ◌/◌, arith, sym, ◌∙◌}
-use Rattle.bolt_tree.specs.Keys.{content_keys}
+use Rattle.bolt_tree.specs.Contents.{content_keys}
 use Rattle.bolt_tree.specs.ShownPages.{opened_content}
 use Rattle.bolt_tree.proofs.HalvesLemmas.{above_middle, below_middle, halved, sixteen}
 use Rattle.bolt_tree.proofs.halves.keys_before.Goals as goal

@@ -1,0 +1,133 @@
+//! Rows of the greatest pages: as large as a page may be, and with as many elements as it may have.
+
+use crate::commands::{CHECK, INFO, Outcome, check_refused, check_row};
+use crate::maker::{
+    Element, MetaFields, branch, database, file, inline, leaf, meta_page, reference,
+};
+use Element::Bucket;
+use Outcome::Prints;
+use std::alloc::{AllocError, Global};
+use std::test::Fail;
+
+const GREATEST_PAGE: u32 = 33_554_432;
+
+/// Zeros up to a meta at the greatest page size, alone.
+#[test]
+fn greatest_page_size(rt: HostRuntime) -> Result<(), Fail> {
+    let alloc = rt.alloc();
+    let fields = MetaFields {
+        txid: 1,
+        ..MetaFields::fresh(GREATEST_PAGE)
+    };
+    let page = meta_page(alloc, 1, &fields)?;
+    let bytes = file(alloc, GREATEST_PAGE as usize, 0, &[(1, page.as_slice())])?;
+    assert_eq!(rt; bytes.len(), 33_554_512);
+    let text = "page size 33554432\nmeta 1\ntxid 1\nroot 3\nsequence 0\nfreelist 2\nhigh water 4\n";
+    let row = (INFO, Prints(text));
+    check_row(&rt, alloc, "a meta alone", bytes.as_slice(), row)?;
+    Ok(())
+}
+
+/// All keys of two bytes, in their order.
+fn pairs(alloc: Global) -> Result<Vec<[u8; 2]>, AllocError> {
+    let mut keys = Vec::new(alloc);
+    for high in 0..=u8::MAX {
+        for low in 0..=u8::MAX {
+            keys.push([high, low])?;
+        }
+    }
+    Ok(keys)
+}
+
+/// Empty values under the keys.
+fn values(alloc: Global, keys: &[[u8; 2]]) -> Result<Vec<Element<'_>>, AllocError> {
+    let mut elements = Vec::new(alloc);
+    for key in keys {
+        elements.push(Element::of_value(key, b""))?;
+    }
+    Ok(elements)
+}
+
+/// A file with one leaf, its root.
+fn with_leaf(
+    alloc: Global,
+    page_size: u32,
+    elements: &[Element<'_>],
+) -> Result<Vec<u8>, AllocError> {
+    let root = leaf(alloc, 3, elements)?;
+    let fields = MetaFields::fresh(page_size);
+    database(alloc, 4, &fields, &[(3, root.as_slice())])
+}
+
+/// A file with the bucket `b` on the leaves 3 and 4, the second of which begins with key 65,534.
+fn with_bucket(
+    alloc: Global,
+    page_size: u32,
+    first: &[Element<'_>],
+    second: &[Element<'_>],
+) -> Result<Vec<u8>, AllocError> {
+    let first = leaf(alloc, 3, first)?;
+    let second = leaf(alloc, 4, second)?;
+    let children: [(&[u8], u64); 2] = [(&[0, 0], 3), (&[0xFF, 0xFE], 4)];
+    let top = branch(alloc, 5, &children)?;
+    let rooted = reference(alloc, 5, 0)?;
+    let root = leaf(alloc, 6, &[Bucket(b"b", rooted.as_slice())])?;
+    let fields = MetaFields {
+        root: 6,
+        mark: 7,
+        ..MetaFields::fresh(page_size)
+    };
+    let pages = [
+        (3, first.as_slice()),
+        (4, second.as_slice()),
+        (5, top.as_slice()),
+        (6, root.as_slice()),
+    ];
+    database(alloc, 7, &fields, &pages)
+}
+
+/// A file of pages of 2,097,152 bytes with a leaf of empty values under the keys.
+fn with_keys(alloc: Global, keys: &[[u8; 2]]) -> Result<Vec<u8>, AllocError> {
+    let elements = values(alloc, keys)?;
+    with_leaf(alloc, 2_097_152, elements.as_slice())
+}
+
+#[test]
+fn greatest_leaf(rt: HostRuntime) -> Result<(), Fail> {
+    let alloc = rt.alloc();
+    let mut keys = pairs(alloc)?;
+    keys.pop();
+    assert_eq!(rt; keys.len(), 65_535);
+    let bytes = with_keys(alloc, keys.as_slice())?;
+    let row = (CHECK, Prints("OK\n"));
+    check_row(&rt, alloc, "65,535 elements", bytes.as_slice(), row)?;
+    if let Some(last) = keys.last_mut() {
+        *last = [0xFF, 0xFD];
+    }
+    let bytes = with_keys(alloc, keys.as_slice())?;
+    let text = "page 3: keys not rising\n1 errors found\n";
+    check_refused(&rt, alloc, "the last of them twice", bytes.as_slice(), text)?;
+    Ok(())
+}
+
+#[test]
+fn greatest_buckets(rt: HostRuntime) -> Result<(), Fail> {
+    let alloc = rt.alloc();
+    let keys = pairs(alloc)?;
+    let elements = values(alloc, keys.as_slice())?;
+    assert_eq!(rt; elements.len(), 65_536);
+    let (first, rest) = elements.split_at(65_534);
+    let (one, _) = rest.split_at(1);
+    let row = (CHECK, Prints("OK\n"));
+    let bytes = with_bucket(alloc, 2_097_152, first, rest)?;
+    assert_eq!(rt; bytes.len(), 14_680_064);
+    check_row(&rt, alloc, "65,536 keys", bytes.as_slice(), row)?;
+    let bytes = with_bucket(alloc, 8_388_608, first, one)?;
+    assert_eq!(rt; bytes.len(), 58_720_256);
+    check_row(&rt, alloc, "65,535 keys", bytes.as_slice(), row)?;
+    let stored = inline(alloc, 0, first)?;
+    let bytes = with_leaf(alloc, 8_388_608, &[Bucket(b"b", stored.as_slice())])?;
+    assert_eq!(rt; bytes.len(), 33_554_432);
+    check_row(&rt, alloc, "65,534 keys inline", bytes.as_slice(), row)?;
+    Ok(())
+}

@@ -1,0 +1,172 @@
+-- What the moves of a trail back do to its stack.
+use Rattle.std.proofs.Common.{◌≡◌, ℕ, zero, suc, ◌+◌, ◌-◌, ◌≤◌, true, List, [], ◌∷◌, ◌++◌, Some, None, slice_get, length, take, refl, sym, ap, ◌∙◌, subst, arith, append_assoc, append-nil, length-append}
+use Rattle.std.proofs.Math.Logic.{∥∥₁_elim}
+use Rattle.std.proofs.Props.{props}
+use Rattle.std.proofs.lemmas.List.{length-take, take_all}
+use Rattle.std.proofs.lemmas.List.Concat.{flat_map-append}
+use Rattle.bolt_format.specs.Elements.{BranchElement, LeafElement}
+use Rattle.bolt_tree.specs.BucketViews.{BucketView, contents_in, elements_in, root_content}
+use Rattle.bolt_tree.specs.Contents.{Content, Contents, Of_branch, Of_leaf, content_length}
+use Rattle.bolt_tree.specs.Entered.{IsEntered}
+use Rattle.bolt_tree.specs.Stacks.{Frame, HasStack, IsAtRest, IsBranchContent, IsBranchTop, IsOn, RestsOn, address_on, before_of, before_under, behind_of, done_of, done_under, index_of, left_of, left_under, under_at}
+use Rattle.bolt_tree.specs.Tours.{Visit, all_under, elements_of, tour}
+use Rattle.bolt_tree.proofs.StackLemmas.{branch_room}
+
+take_next : {X : Type 0} (xs : List X) (i : ℕ) (x : X) → slice_get xs i ≡ Some x → take (suc i) xs ≡ take i xs ++ x ∷ []
+take_next [] i x g = absurd (let h : (None ≡ Some x → ⊥) = λ e. cc in h g)
+take_next (y ∷ xs) zero x g = let same : y ≡ x = cc in rw same refl
+take_next {X = X} (y ∷ xs) (suc i) x g = ap (λ (l : List X). y ∷ l) (take_next xs i x g)
+
+take_none : {X : Type 0} (xs : List X) → take 0 xs ≡ []
+take_none [] = refl
+take_none (x ∷ xs) = refl
+
+no_element : (e : BranchElement) → None ≡ Some e → ⊥
+no_element e h = cc
+
+-- what lies under one more element
+under_more : (f : ℕ → ℕ → List Visit) (i k j : ℕ) (elements : List BranchElement) (e : BranchElement) → slice_get elements k ≡ Some e → j ≡ i + k
+    → all_under f i (take (suc k) elements) ≡ all_under f i (take k elements) ++ f j e.child
+under_more f i k j [] e g s = absurd (no_element e g)
+under_more f i zero j (x ∷ elements) e g s =
+    let same : x ≡ e = cc in
+    let here : j ≡ i = omega arith in
+    rw (same, here) (append-nil (f i e.child))
+under_more f i (suc k) j (x ∷ elements) e g s =
+    let next : j ≡ suc i + k = omega arith in
+    ap (λ (vs : List Visit). f i x.child ++ vs) (under_more f (suc i) k j elements e g next) ∙ sym (append_assoc (f i x.child) (all_under f (suc i) (take k elements)) (f j e.child))
+
+-- the tour of a page that stands behind its last element
+pub tour_done : (contents : Contents) (n h : ℕ) (address : List ℕ) (content : Content) → ((elements : List BranchElement) → content ≡ Of_branch elements → n ≡ suc (62 - h))
+    → (elements_of (tour contents n address content) ≡ elements_of (before_under contents h address content (suc (content_length content) - 1)) ++ done_under content (suc (content_length content)))
+    × (length (tour contents n address content) ≡ suc (length (before_under contents h address content (suc (content_length content) - 1))))
+tour_done contents n h address (Of_leaf es) same =
+    let all : take (suc (length es) - 1) es ≡ es = take_all (suc (length es) - 1) es (omega arith) in
+    (append-nil es ∙ sym all, refl)
+tour_done contents n h address (Of_branch bs) same =
+    let all : take (suc (length bs) - 1) bs ≡ bs = take_all (suc (length bs) - 1) bs (omega arith) in
+    let t : tour contents n address (Of_branch bs) ≡ record { address = address; entries = [] } ∷ under_at contents h address 0 bs = ap (λ (m : ℕ). tour contents m address (Of_branch bs)) (same bs refl) in
+    (rw (t, all) (sym (append-nil (elements_of (under_at contents h address 0 bs)))), rw (t, all) refl)
+
+-- an entry is taken
+pub back_some : (contents : Contents) (content : Content) (i t : ℕ) (below new : List Frame) (e : LeafElement) → t ≡ i + 2 → IsEntered contents true content i below new (Some e)
+    → (behind_of contents (record { content = content; taken = t } ∷ below) ≡ behind_of contents new ++ e ∷ []) × IsOn new e
+back_some contents (Of_leaf es) i t below new e two h =
+    let old : t - 1 ≡ suc i = omega arith in
+    let back : (i + 1) - 1 ≡ i = omega arith in
+    let cut : take (suc i) es ≡ take i es ++ e ∷ [] = take_next es i e h.0 in
+    let on : IsOn (record { content = Of_leaf es; taken = i + 1 } ∷ below) e = (omega arith, rw back h.0) in
+    (rw (h.1, old, back, cut) (sym (append_assoc (elements_of (before_of contents below ++ [])) (take i es) (e ∷ []))), subst (λ (fs : List Frame). IsOn fs e) (sym h.1) on)
+back_some contents (Of_branch bs) i t below new e two h = absurd h
+
+regroup : (b a t u : List LeafElement) → t ≡ u → (b ++ (a ++ t)) ++ [] ≡ (b ++ a) ++ u
+regroup b a t u e = append-nil (b ++ (a ++ t)) ∙ (ap (λ (x : List LeafElement). b ++ (a ++ x)) e ∙ sym (append_assoc b a u))
+
+-- a page is opened
+pub back_none : (bucket : BucketView) (content : Content) (i t : ℕ) (below new : List Frame) → t ≡ i + 2 → IsEntered (contents_in bucket) true content i below new None → HasStack bucket new
+    → (behind_of (contents_in bucket) (record { content = content; taken = t } ∷ below) ≡ behind_of (contents_in bucket) new)
+    × (length (before_of (contents_in bucket) (record { content = content; taken = t } ∷ below)) ≡ suc (length (before_of (contents_in bucket) new)))
+back_none bucket (Of_leaf es) i t below new two h stack = absurd h
+back_none bucket (Of_branch bs) i t below new two h stack =
+    let contents = contents_in bucket in
+    let b = h.0 in
+    let H = length below in
+    let address = address_on below in
+    let child = contents b.child in
+    let old : t - 1 ≡ suc i = omega arith in
+    let back : (i + 1) - 1 ≡ i = omega arith in
+    let placed = rw h.2 at stack in
+    let f : ℕ → ℕ → List Visit = λ j c. tour contents (62 - H) (address ++ j ∷ []) (contents c) in
+    let B = before_of contents below in
+    let A = under_at contents H address 0 (take i bs) in
+    let U = before_under contents (suc H) (address ++ i ∷ []) child (suc (content_length child) - 1) in
+    let more : under_at contents H address 0 (take (suc i) bs) ≡ A ++ f i b.child = under_more f 0 i i bs b h.1 (omega arith) in
+    let done = tour_done contents (62 - H) (suc H) (address ++ i ∷ []) child (λ cs e.
+    let room = branch_room bucket cs (suc (length cs)) (record { content = Of_branch bs; taken = i + 1 } ∷ below) (rw e at placed) in omega (arith, room)) in
+    let E : List Visit → List LeafElement = λ vs. elements_of vs in
+    let left : elements_of (B ++ (A ++ f i b.child)) ++ [] ≡ elements_of ((B ++ A) ++ U) ++ done_under child (suc (content_length child)) =
+    ap (λ (x : List LeafElement). x ++ []) (flat_map-append (λ (v : Visit). v.entries) B (A ++ f i b.child) ∙ ap (λ (x : List LeafElement). elements_of B ++ x) (flat_map-append (λ (v : Visit). v.entries) A (f i b.child)))
+    ∙ (regroup (elements_of B) (elements_of A) (elements_of (f i b.child)) (elements_of U ++ done_under child (suc (content_length child))) done.0
+    ∙ (sym (append_assoc (elements_of B ++ elements_of A) (elements_of U) (done_under child (suc (content_length child))))
+    ∙ ap (λ (x : List LeafElement). x ++ done_under child (suc (content_length child)))
+    (ap (λ (x : List LeafElement). x ++ elements_of U) (sym (flat_map-append (λ (v : Visit). v.entries) B A)) ∙ sym (flat_map-append (λ (v : Visit). v.entries) (B ++ A) U)))) in
+    let l1 = length-append B (A ++ f i b.child) in
+    let l2 = length-append A (f i b.child) in
+    let l3 = length-append (B ++ A) U in
+    let l4 = length-append B A in
+    let l5 = done.1 in
+    let size : length (B ++ (A ++ f i b.child)) ≡ suc (length ((B ++ A) ++ U)) = omega (arith, l1, l2, l3, l4, l5) in
+    (rw (h.2, old, back, more) left, rw (h.2, old, back, more) size)
+
+nothing_done : (content : Content) (t : ℕ) → t ≤ 1 → done_under content t ≡ []
+nothing_done (Of_leaf es) t h = let z : t - 1 ≡ 0 = omega arith in rw z (take_none es)
+nothing_done (Of_branch bs) t h = refl
+
+nothing_before : (contents : Contents) (H : ℕ) (address : List ℕ) (content : Content) (t : ℕ) → t ≤ 1 → before_under contents H address content (t - 1) ≡ []
+nothing_before contents H address (Of_leaf es) t h = refl
+nothing_before contents H address (Of_branch bs) t h = let z : t - 1 ≡ 0 = omega arith in rw z (ap (under_at contents H address 0) (take_none bs))
+
+by_content : (content : Content) (t : ℕ) → IsBranchContent content → done_under content t ≡ []
+by_content (Of_leaf es) t h = absurd h
+by_content (Of_branch bs) t h = refl
+
+branch_done : (frames : List Frame) → IsBranchTop frames → done_of frames ≡ []
+branch_done [] h = refl
+branch_done (f ∷ below) h = by_content f.content f.taken h
+
+-- a page of which nothing before is taken leaves the stack
+pub left_out : (bucket : BucketView) (f : Frame) (below : List Frame) → HasStack bucket (f ∷ below) → f.taken ≤ 1
+    → (behind_of (contents_in bucket) below ≡ behind_of (contents_in bucket) (f ∷ below)) × (before_of (contents_in bucket) below ≡ before_of (contents_in bucket) (f ∷ below))
+left_out bucket f below stack h =
+    let here = nothing_done f.content f.taken h in
+    let under = nothing_before (contents_in bucket) (length below) (address_on below) f.content f.taken h in
+    let top : done_of below ≡ [] = ∥∥₁_elim stack (Prim.hlevel props) (λ s. branch_done below s.1.0.branch) in
+    let same : before_of (contents_in bucket) below ≡ before_of (contents_in bucket) below ++ before_under (contents_in bucket) (length below) (address_on below) f.content (f.taken - 1) =
+    rw under (sym (append-nil (before_of (contents_in bucket) below))) in
+    (rw (here, top) (ap (λ (vs : List Visit). elements_of vs ++ []) same), same)
+
+pub step_back_some : (old now : BucketView) (whole below new : List Frame) (f : Frame) (i : ℕ) (e : LeafElement) → f.taken ≡ i + 2 → now ≡ old → whole ≡ f ∷ below → IsEntered (contents_in old) true f.content i below new (Some e)
+    → (behind_of (contents_in old) whole ≡ behind_of (contents_in now) new ++ e ∷ []) × IsOn new e
+step_back_some old now whole below new f i e two same frames h = let r = back_some (contents_in old) f.content i f.taken below new e two h in (rw (frames, same) (r.0), r.1)
+
+pub step_back_none : (old now : BucketView) (whole below new : List Frame) (f : Frame) (i : ℕ) → f.taken ≡ i + 2 → now ≡ old → whole ≡ f ∷ below → IsEntered (contents_in old) true f.content i below new None → HasStack now new
+    → (behind_of (contents_in old) whole ≡ behind_of (contents_in now) new) × (length (before_of (contents_in old) whole) ≡ suc (length (before_of (contents_in now) new)))
+step_back_none old now whole below new f i two same frames h stack =
+    let s : HasStack old new = subst (λ (k : BucketView). HasStack k new) same stack in
+    let r = back_none old f.content i f.taken below new two h s in
+    (rw (frames, same) (r.0), rw (frames, same) (r.1))
+
+-- behind the root page's last element, everything is behind
+pub root_behind : (bucket : BucketView) → elements_in bucket
+    ≡ behind_of (contents_in bucket) (record { content = root_content bucket; taken = suc (content_length (root_content bucket)) } ∷ [])
+root_behind bucket = (tour_done (contents_in bucket) 63 0 [] (root_content bucket) (λ bs e. refl)).0
+
+-- the pages on the stack have no entries of their own
+left_entries : (contents : Contents) (H : ℕ) (address : List ℕ) (content : Content) (k : ℕ) → elements_of (left_under contents H address content k) ≡ elements_of (before_under contents H address content k)
+left_entries contents H address (Of_leaf es) k = refl
+left_entries contents H address (Of_branch bs) k = refl
+
+pub left_elements : (contents : Contents) (frames : List Frame) → elements_of (left_of contents frames) ≡ elements_of (before_of contents frames)
+left_elements contents [] = refl
+left_elements contents (f ∷ below) =
+    let r = left_elements contents below in
+    let q = left_entries contents (length below) (address_on below) f.content (f.taken - 1) in
+    flat_map-append (λ (v : Visit). v.entries) (left_of contents below) (left_under contents (length below) (address_on below) f.content (f.taken - 1))
+    ∙ (rw (r, q) (sym (flat_map-append (λ (v : Visit). v.entries) (before_of contents below) (before_under contents (length below) (address_on below) f.content (f.taken - 1)))))
+
+-- the number of the entry on which a stack stands is that of those behind
+behind_leaf : (contents : Contents) (es : List LeafElement) (t : ℕ) (below : List Frame) → 1 ≤ t → t ≤ length es
+    → length (behind_of contents (record { content = Of_leaf es; taken = t } ∷ below)) ≡ index_of contents (record { content = Of_leaf es; taken = t } ∷ below)
+behind_leaf contents es t below one most =
+    let a = ap length (left_elements contents below) in
+    let b = length-append (elements_of (before_of contents below ++ [])) (take (t - 1) es) in
+    let n = ap (λ (vs : List Visit). length (elements_of vs)) (append-nil (before_of contents below)) in
+    let m = length-take (t - 1) es in
+    omega (arith, a, b, n, m, one, most)
+
+behind_content : (contents : Contents) (content : Content) (t : ℕ) (below : List Frame) → RestsOn content t → length (behind_of contents (record { content = content; taken = t } ∷ below)) ≡ index_of contents (record { content = content; taken = t } ∷ below)
+behind_content contents (Of_leaf es) t below rest = behind_leaf contents es t below rest.0 rest.1
+behind_content contents (Of_branch bs) t below rest = absurd rest
+
+pub behind_index : (contents : Contents) (f : Frame) (below : List Frame) → IsAtRest (f ∷ below) → length (behind_of contents (f ∷ below)) ≡ index_of contents (f ∷ below)
+behind_index contents f below rest = behind_content contents f.content f.taken below rest

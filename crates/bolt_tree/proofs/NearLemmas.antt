@@ -1,0 +1,162 @@
+-- The nearest leaf to a key: the way down to it, and what lies ahead of the key there.
+use Rattle.std.proofs.Common.{◌≡◌, ℕ, zero, suc, ◌+◌, ◌-◌, ◌≤◌, ◌<◌, inl, inr, Bool, true, false, List, [], ◌∷◌, ◌++◌, Some, None, Option, Ok, slice_get, length, map, drop, take, refl, sym, ap, ◌∙◌, subst, arith, append_assoc, length-append, append-nil}
+use Rattle.std.specs.Option.{option_map}
+use Rattle.std.proofs.Math.Logic.{∥∥₁_elim, ∥∥₁_map, ∥∥₁_prop}
+use Rattle.std.proofs.Props.{props}
+use Rattle.std.proofs.lemmas.Bool.{cases_lt}
+use Rattle.std.proofs.lemmas.List.{take-append-drop}
+use Rattle.std.proofs.lemmas.List.Concat.{flat_map-append}
+use Rattle.std.proofs.lemmas.Option.{slice_get-map}
+use Rattle.bolt_format.specs.Elements.{BranchElement, LeafElement}
+use Rattle.bolt_format.specs.declared.meta.Meta.{Meta}
+use Rattle.bolt_check.specs.Keys.{Key, KeysRise, key_lt}
+use Rattle.bolt_check.specs.OnWays.{IsOnWay}
+use Rattle.bolt_check.specs.Sound.{HasSoundTrees}
+use Rattle.bolt_check.proofs.TreePages.{branch_key, branch_node, on_child, spot_node}
+use Rattle.bolt_tree.specs.BucketViews.{BucketView, IsSoundBucket, contents_in, elements_in, pages_in, root_content}
+use Rattle.bolt_tree.specs.Contents.{Content, Contents, Of_branch, Of_leaf, content_at, content_keys}
+use Rattle.bolt_tree.specs.Entries.{Inline_page, IsStart, Root_page, Start}
+use Rattle.bolt_tree.specs.Openings.{IsNear, IsNearFrom, IsNearest}
+use Rattle.bolt_tree.specs.PageKeys.{IsPlaceOf}
+use Rattle.bolt_tree.specs.Places.{least_from}
+use Rattle.bolt_tree.specs.Seeks.{AreBelow, IsBetween, IsNearTo, IsNearTop, IsOnWayDown, IsSought}
+use Rattle.bolt_tree.specs.Stacks.{Frame, HasStack, address_on, ahead_of, left_of, right_of}
+use Rattle.bolt_tree.specs.Tours.{Visit, content_at_start, elements_of, tour}
+use Rattle.bolt_tree.proofs.ListLemmas.{Has, has_right, rises_gets}
+use Rattle.bolt_tree.proofs.PlaceLemmas.{drop_front}
+use Rattle.bolt_tree.proofs.SeekLemmas.{are_append, branch_page, drop_get, is_above, not_above, take_get}
+use Rattle.bolt_tree.proofs.SortedLemmas.{visit_is}
+use Rattle.bolt_tree.proofs.TourLemmas.{IsBelowElement}
+use Rattle.bolt_tree.proofs.WayPages.{a_branch, a_leaf, on_way_page}
+
+-- the key of an entry, and of its element
+key_some : (o : Option BranchElement) (a : Key) → option_map (λ (e : BranchElement). e.key) o ≡ Some a → (e : BranchElement) × (o ≡ Some e) × (e.key ≡ a)
+key_some None a g = absurd (let n : (None ≡ Some a → ⊥) = λ e. cc in n g)
+key_some (Some e) a g = (e, refl, cc)
+
+leaf_key_some : (o : Option LeafElement) (a : Key) → option_map (λ (e : LeafElement). e.key) o ≡ Some a → (e : LeafElement) × (o ≡ Some e) × (e.key ≡ a)
+leaf_key_some None a g = absurd (let n : (None ≡ Some a → ⊥) = λ e. cc in n g)
+leaf_key_some (Some e) a g = (e, refl, cc)
+
+branch_at : (elements : List BranchElement) (i : ℕ) (a : Key) → slice_get (map (λ (e : BranchElement). e.key) elements) i ≡ Some a → (e : BranchElement) × (slice_get elements i ≡ Some e) × (e.key ≡ a)
+branch_at elements i a g = key_some (slice_get elements i) a (sym (slice_get-map (λ (e : BranchElement). e.key) elements i) ∙ g)
+
+leaf_at : (elements : List LeafElement) (i : ℕ) (a : Key) → slice_get (map (λ (e : LeafElement). e.key) elements) i ≡ Some a → (e : LeafElement) × (slice_get elements i ≡ Some e) × (e.key ≡ a)
+leaf_at elements i a g = leaf_key_some (slice_get elements i) a (sym (slice_get-map (λ (e : LeafElement). e.key) elements i) ∙ g)
+
+-- the keys of a page on a stack rise
+leaf_rises : (bucket : BucketView) (es : List LeafElement) (t : ℕ) (below : List Frame) → HasStack bucket (record { content = Of_leaf es; taken = t } ∷ below) → KeysRise (content_keys (Of_leaf es))
+leaf_rises bucket es t below stack = λ i j a c l g h.
+    let x = leaf_at es i a g in
+    let y = leaf_at es j c h in
+    let less : key_lt x.0.key y.0.key ≡ true = ∥∥₁_elim stack (Prim.hlevel props) (λ k.
+    let v : Visit = record { address = address_on below; entries = es } in
+    let here : Has (pages_in bucket) v = subst (λ (vs : List Visit). Has vs v) (sym k.1.0.placed) (has_right (left_of (contents_in bucket) below) (v ∷ right_of (contents_in bucket) below) v (inl refl)) in
+    rises_gets IsBelowElement es i j x.0 y.0 (visit_is bucket.file bucket.meta k.0.trees bucket.start v k.0.start here).rises l x.1 y.1) in
+    rw (← x.2, ← y.2) less
+
+branch_rises : (bucket : BucketView) (bs : List BranchElement) (t : ℕ) (below : List Frame) → HasStack bucket (record { content = Of_branch bs; taken = t } ∷ below) → KeysRise (content_keys (Of_branch bs))
+branch_rises bucket bs t below stack = λ i j a c l g h.
+    let x = branch_at bs i a g in
+    let y = branch_at bs j c h in
+    let less : key_lt x.0.key y.0.key ≡ true = ∥∥₁_elim stack (Prim.hlevel props) (λ k.
+    let on = k.1.0.good.1 in
+    let page = branch_page bucket.file bucket.meta k.0.trees k.1.0.good.0 (suc (length below)) bs on k.1.0.good.2 in
+    let here = spot_node bucket.file bucket.meta k.1.0.good.0 (suc (length below)) (branch_node page.view) on page.node in
+    let get : (m : ℕ) (e : BranchElement) → slice_get bs m ≡ Some e → slice_get page.view.branches m ≡ Some e = λ m e s. ap (λ (es : List BranchElement). slice_get es m) page.branches ∙ s in
+    k.0.trees.rising on.way on.spot (branch_node page.view) on.led here i j x.0.key y.0.key l (branch_key page.view.branches i x.0 (get i x.0 x.1)) (branch_key page.view.branches j y.0 (get j y.0 y.1))) in
+    rw (← x.2, ← y.2) less
+
+pub stack_rises : (bucket : BucketView) (content : Content) (t : ℕ) (below : List Frame) → HasStack bucket (record { content = content; taken = t } ∷ below) → KeysRise (content_keys content)
+stack_rises bucket (Of_leaf es) t below stack = leaf_rises bucket es t below stack
+stack_rises bucket (Of_branch bs) t below stack = branch_rises bucket bs t below stack
+
+-- the way down begins at the root page
+near_begin : (file : List ℕ) (meta : Meta) (start : Start) (key : Key) → IsStart file meta start → IsNearTo file meta start key [] (content_at_start (content_at file meta) start)
+near_begin file meta (Root_page number) key is = (number, 1, is, refl, λ rest n. n)
+near_begin file meta (Inline_page elements) key is = (refl, refl)
+
+pub way_begins : (bucket : BucketView) (key : Key) → ∥ IsSoundBucket bucket ∥₁ → IsOnWayDown bucket key [] (root_content bucket)
+way_begins bucket key is = ∥∥₁_map is (λ s. near_begin bucket.file bucket.meta bucket.start key s.start)
+
+leaf_no_branch : (a : List LeafElement) (b : List BranchElement) → Of_leaf a ≡ Of_branch b → ⊥
+leaf_no_branch a b e = cc
+
+near_down : (file : List ℕ) (meta : Meta) (trees : HasSoundTrees file meta) (start : Start) (key : Key) (address : List ℕ) (bs : List BranchElement) (i : ℕ) (e : BranchElement)
+    → IsNearTo file meta start key address (Of_branch bs) → IsNearest bs key i → slice_get bs i ≡ Some e → IsNearTo file meta start key (address ++ i ∷ []) (content_at file meta e.child)
+near_down file meta trees (Root_page root) key address bs i e (number, depth, on, shown, on_from) nearest g =
+    let page = branch_page file meta trees number depth bs on shown in
+    let at : slice_get page.view.branches i ≡ Some e = ap (λ (es : List BranchElement). slice_get es i) page.branches ∙ g in
+    let best : IsNearest page.view.branches key i = subst (λ (es : List BranchElement). IsNearest es key i) (sym page.branches) nearest in (
+      e.child,
+      suc depth,
+      on_child file meta number depth i page.view e on page.node at,
+      refl,
+      λ rest n. (let r = on_from (i ∷ rest) (page.view, e, page.at, page.is, best, at, n) in
+          subst (λ (a : List ℕ). IsNearFrom file meta root key a) (sym (append_assoc address (i ∷ []) rest)) r),
+    )
+near_down file meta trees (Inline_page elements) key address bs i e near nearest g = absurd (leaf_no_branch elements bs near.1)
+
+nearest_of : (bs : List BranchElement) (key : Key) (n i : ℕ) (e : BranchElement) → IsPlaceOf (content_keys (Of_branch bs)) true key n → i ≡ n - 1 → slice_get bs i ≡ Some e → IsNearest bs key i
+nearest_of bs key n i e place is g = elim (cases_lt i n) [
+  | inl lt ↦ inl (e, g, not_above bs key n i e place lt g, λ j f l h. is_above bs key n j f place (omega arith) h)
+  | inr ge ↦ inr (omega arith, λ j f h. is_above bs key n j f place (omega arith) h)
+]
+
+pub way_down : (bucket : BucketView) (key : Key) (below : List Frame) (bs : List BranchElement) (n i t : ℕ) (e : BranchElement) → HasStack bucket (record { content = Of_branch bs; taken = t } ∷ below)
+    → IsOnWayDown bucket key below (Of_branch bs) → IsPlaceOf (content_keys (Of_branch bs)) true key n → i ≡ n - 1 → slice_get bs i ≡ Some e
+    → IsOnWayDown bucket key (record { content = Of_branch bs; taken = i + 1 } ∷ below) (contents_in bucket e.child)
+way_down bucket key below bs n i t e stack near place is g = ∥∥₁_elim stack ∥∥₁_prop (λ s. ∥∥₁_map near (λ k.
+    let back : (i + 1) - 1 ≡ i = omega arith in
+    rw back (near_down bucket.file bucket.meta s.0.trees bucket.start key (address_on below) bs i e k (nearest_of bs key n i e place is g) g)))
+
+-- and ends at a leaf
+near_end : (file : List ℕ) (meta : Meta) (trees : HasSoundTrees file meta) (start : Start) (key : Key) (address : List ℕ) (es : List LeafElement) → IsNearTo file meta start key address (Of_leaf es) → IsNear file meta start key address
+near_end file meta trees (Root_page root) key address es near = elim (on_way_page file meta trees near.0 near.1 near.2) [
+  | a_leaf view at k node content ↦ (let r = near.4 [] (view, at, k) in subst (λ (a : List ℕ). IsNearFrom file meta root key a) (append-nil address) r)
+  | a_branch view at k node content ↦ absurd (leaf_no_branch es view.branches (sym near.3 ∙ content))
+]
+near_end file meta trees (Inline_page page) key address es near = near.0
+
+pub way_ends : (bucket : BucketView) (key : Key) (below : List Frame) (es : List LeafElement) (t u : ℕ) → HasStack bucket (record { content = Of_leaf es; taken = u } ∷ below) → IsOnWayDown bucket key below (Of_leaf es)
+    → IsNearTop bucket key (record { content = Of_leaf es; taken = t } ∷ below)
+way_ends bucket key below es t u stack near = ∥∥₁_elim stack ∥∥₁_prop (λ s. ∥∥₁_map near (λ k. near_end bucket.file bucket.meta s.0.trees bucket.start key (address_on below) es k))
+
+-- the least entry that is not below the key
+least_is : (key : Key) (front back : List LeafElement) → AreBelow true key front → AreBelow false key back → least_from key ((front ++ back)) ≡ length front
+least_is key [] [] f b = refl
+least_is key [] (y ∷ back) f b = let t : key_lt y.key key ≡ false = b 0 y refl in rw t refl
+least_is key (x ∷ front) back f b =
+    let t : key_lt x.key key ≡ true = f 0 x refl in
+    let r = least_is key front back (λ k e g. f (suc k) e g) b in
+    rw (t, r) (omega arith)
+
+-- what a key stands between in the nearest leaf
+leaf_key_at : (es : List LeafElement) (k : ℕ) (e : LeafElement) → slice_get es k ≡ Some e → slice_get (content_keys (Of_leaf es)) k ≡ Some e.key
+leaf_key_at es k e g = slice_get-map (λ (x : LeafElement). x.key) es k ∙ ap (option_map (λ (x : LeafElement). x.key)) g
+
+sought_leaf : (contents : Contents) (n : ℕ) (whole : List Visit) (key : Key) (es : List LeafElement) (t : ℕ) (below : List Frame) → whole ≡ left_of contents below ++ (tour contents n (address_on below) (Of_leaf es) ++ right_of contents below)
+    → IsPlaceOf (content_keys (Of_leaf es)) false key t → t ≤ length es → IsBetween contents key below → IsSought (elements_of whole) key (ahead_of contents (record { content = Of_leaf es; taken = t } ∷ below))
+sought_leaf contents n whole key es t below placed place most between =
+    let left = elements_of (left_of contents below) in
+    let right = elements_of (right_of contents below) in
+    let e1 : elements_of whole ≡ left ++ (es ++ right) =
+    ap elements_of placed ∙ flat_map-append (λ (v : Visit). v.entries) (left_of contents below) (record { address = address_on below; entries = es } ∷ right_of contents below) in
+    let cut : left ++ (es ++ right) ≡ (left ++ take t es) ++ (drop t es ++ right) =
+    ap (λ (l : List LeafElement). left ++ (l ++ right)) (sym (take-append-drop t es)) ∙ simp append_assoc in
+    let front : AreBelow true key (left ++ take t es) = are_append true key left (take t es) between.left
+    (λ k e g. let r = take_get es t k e g in place.below k e.key r.1 (leaf_key_at es k e r.0)) in
+    let back : AreBelow false key (drop t es ++ right) = are_append false key (drop t es) right
+    (λ k e g. let r = drop_get es t k (t + k) e refl g in place.above (t + k) e.key (omega arith) (leaf_key_at es (t + k) e r)) between.right in
+    let least : least_from key ((elements_of whole)) ≡ length (left ++ take t es) = ap (λ (l : List LeafElement). least_from key (l)) (e1 ∙ cut) ∙ least_is key (left ++ take t es) (drop t es ++ right) front back in
+    let len : length (elements_of whole) ≡ length (left ++ take t es) + length (drop t es ++ right) = ap length (e1 ∙ cut) ∙ length-append (left ++ take t es) (drop t es ++ right) in
+    record {
+      number = omega (arith, least, len);
+      rest = ap (λ (k : ℕ). drop k (elements_of whole)) least ∙ (ap (drop (length (left ++ take t es))) (e1 ∙ cut) ∙ drop_front (left ++ take t es) (drop t es ++ right) (length (left ++ take t es)) refl);
+    }
+
+pub sought : (bucket : BucketView) (key : Key) (es : List LeafElement) (t u : ℕ) (below : List Frame) → HasStack bucket (record { content = Of_leaf es; taken = u } ∷ below)
+    → IsPlaceOf (content_keys (Of_leaf es)) false key t → t ≤ length es → IsBetween (contents_in bucket) key below
+    → IsSought (elements_in bucket) key (ahead_of (contents_in bucket) (record { content = Of_leaf es; taken = t } ∷ below))
+sought bucket key es t u below stack place most between = ∥∥₁_elim stack (Prim.hlevel props) (λ s.
+    sought_leaf (contents_in bucket) (63 - length below) (pages_in bucket) key es t below s.1.0.placed place most between)

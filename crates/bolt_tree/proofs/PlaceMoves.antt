@@ -1,0 +1,196 @@
+-- What the moves of a trail are to a cursor's place among the entries.
+use Rattle.std.proofs.Common.{◌≡◌, ℕ, suc, ◌+◌, ◌-◌, ◌≤◌, ◌<◌, List, [], ◌∷◌, ◌++◌, Some, None, Option, slice_get, length, drop, refl, sym, ap, ◌∙◌, arith, length-append}
+use Rattle.std.specs.Option.{option_map}
+use Rattle.std.proofs.Math.Logic.{∥∥₁_elim, ∥∥₁_map}
+use Rattle.std.proofs.Props.{props}
+use Rattle.std.proofs.lemmas.Bool.{lt-ltb, le-ltb}
+use Rattle.std.proofs.lemmas.List.{length-drop}
+use Rattle.std.proofs.lemmas.List.Concat.{flat_map-append}
+use Rattle.bolt_format.specs.ElementPlaces.{leaf_view}
+use Rattle.bolt_format.specs.Elements.{LeafElement}
+use Rattle.bolt_format.specs.declared.element.Leaf.{Leaf}
+use Rattle.bolt_check.specs.Keys.{Key}
+use Rattle.bolt_tree.specs.BucketViews.{AreSorted, BucketView, IsSoundBucket, contents_in, elements_in, pages_in}
+use Rattle.bolt_tree.specs.Contents.{Content, Contents, Of_branch, Of_leaf}
+use Rattle.bolt_tree.specs.Held.{place_on}
+use Rattle.bolt_tree.specs.Places.{Move, On, Past, Place, first_move, last_move, least_from, next_move, place_in, prev_move, seek_move}
+use Rattle.bolt_tree.specs.Stacks.{Frame, HasStack, IsAtRest, IsOn, StandsOn, address_on, ahead_of, behind_of, index_of, left_of, right_of}
+use Rattle.bolt_tree.specs.Tours.{Visit, elements_of, tour}
+use Rattle.bolt_tree.proofs.BackLemmas.{behind_index}
+use Rattle.bolt_tree.proofs.ListLemmas.{get_behind, get_front}
+use Rattle.bolt_tree.proofs.MoveLemmas.{Finds, FindsBack}
+use Rattle.bolt_tree.proofs.PlaceLemmas.{IsSplit, get_next, on_rests, split}
+use Rattle.bolt_tree.proofs.SortedLemmas.{sorted, sorted_one}
+
+-- a stack is one of a sound bucket
+pub stack_bucket : (bucket : BucketView) (frames : List Frame) → HasStack bucket frames → ∥ IsSoundBucket bucket ∥₁
+stack_bucket bucket frames stack = ∥∥₁_map stack (λ s. s.0)
+
+-- the entries of a bucket of a sound tree are the elements along its tour
+pub the_entries : (bucket : BucketView) (entries : List LeafElement) → ∥ IsSoundBucket bucket ∥₁ → AreSorted bucket entries → elements_in bucket ≡ entries
+the_entries bucket entries is are = ∥∥₁_elim is (Prim.hlevel props) (λ s.
+    sorted_one bucket.file bucket.meta bucket.start (elements_in bucket) entries (sorted bucket.file bucket.meta s.trees bucket.start s.start) are)
+
+-- a cursor comes to a move's place, with its answer
+abbrev pub Comes : List LeafElement → Move → Place → Option LeafElement → Type 0
+Comes entries move place answer = (place_in entries place ≡ move.place) × (answer ≡ move.answer)
+
+comes_by : (entries : List LeafElement) (move : Move) (place : Place) (answer : Option LeafElement) → move ≡ record { place = place_in entries place; answer = answer } → Comes entries move place answer
+comes_by entries move place answer e = (sym (ap (λ (m : Move). m.place) e), sym (ap (λ (m : Move). m.answer) e))
+
+-- the place, where there are entries
+pub place_there : (entries : List LeafElement) (place : Place) → 0 < length entries → place_in entries place ≡ place
+place_there [] place h = absurd (omega arith)
+place_there (e ∷ entries) place h = refl
+
+-- the moves over a list
+first_none : (entries : List LeafElement) (place : Place) → entries ≡ [] → Comes entries (first_move entries) place None
+first_none entries place e = rw e (refl, refl)
+
+first_onto : (entries : List LeafElement) (i : ℕ) (e : LeafElement) → i ≡ 0 → slice_get entries i ≡ Some e → Comes entries (first_move entries) (On i) (Some e)
+first_onto [] i e z g = absurd (let h : (None ≡ Some e → ⊥) = λ x. cc in h g)
+first_onto (x ∷ entries) i e z g = (rw z refl, sym (rw z at g))
+
+last_none : (entries : List LeafElement) (place : Place) → entries ≡ [] → Comes entries (last_move entries) place None
+last_none entries place e = rw e (refl, refl)
+
+last_onto : (entries : List LeafElement) (i : ℕ) (answer : Option LeafElement) → suc i ≡ length entries → slice_get entries i ≡ answer → Comes entries (last_move entries) (On i) answer
+last_onto [] i answer e g = absurd (omega arith)
+last_onto (x ∷ entries) i answer e g = let same : length entries ≡ i = omega arith in rw (same, g) (refl, refl)
+
+next_onto : (entries : List LeafElement) (i k : ℕ) (answer : Option LeafElement) → k ≡ suc i → slice_get entries (suc i) ≡ answer → suc i < length entries
+    → Comes entries (next_move entries (place_in entries (On i))) (On k) answer
+next_onto entries i k answer e g h =
+    let there = place_there entries (On i) (omega (arith, h)) in
+    let there2 = place_there entries (On k) (omega (arith, h)) in
+    let b = lt-ltb (suc i) (length entries) h in
+    rw (there, there2, e, b, g) (refl, refl)
+
+next_stays : (entries : List LeafElement) (i : ℕ) → 0 < length entries → length entries ≤ suc i → Comes entries (next_move entries (place_in entries (On i))) (On i) None
+next_stays entries i some h =
+    let there = place_there entries (On i) some in
+    let b = le-ltb (suc i) (length entries) h in
+    rw (there, b) (refl, refl)
+
+prev_onto : (entries : List LeafElement) (i k : ℕ) (answer : Option LeafElement) → i ≡ suc k → slice_get entries k ≡ answer → 0 < length entries
+    → Comes entries (prev_move entries (place_in entries (On i))) (On k) answer
+prev_onto entries i k answer e g some =
+    let there = place_there entries (On i) some in
+    let there2 = place_there entries (On k) some in
+    rw (there, there2, e, g) (refl, refl)
+
+prev_stays : (entries : List LeafElement) (i : ℕ) → i ≡ 0 → 0 < length entries → Comes entries (prev_move entries (place_in entries (On i))) (On i) None
+prev_stays entries i e some = let there = place_there entries (On i) some in rw (there, e) (refl, refl)
+
+seek_onto : (key : Key) (entries : List LeafElement) (i k : ℕ) (answer : Option LeafElement) → least_from key entries ≡ i → k ≡ i → slice_get entries i ≡ answer → i < length entries
+    → Comes entries (seek_move key entries) (On k) answer
+seek_onto key [] i k answer e s g h = absurd (omega arith)
+seek_onto key (x ∷ entries) i k answer e s g h = let b = lt-ltb i (length (x ∷ entries)) h in rw (e, b, s, g) (refl, refl)
+
+seek_past : (key : Key) (entries : List LeafElement) → length entries ≤ least_from key entries → Comes entries (seek_move key entries) Past None
+seek_past key [] h = (refl, refl)
+seek_past key (x ∷ entries) h = let b = le-ltb (least_from key (x ∷ entries)) (length (x ∷ entries)) h in rw b (refl, refl)
+
+-- where it stands after a seek
+abbrev pub sought_place : Option Leaf → Contents → List Frame → Place
+sought_place None contents frames = Past
+sought_place (Some leaf) contents frames = place_on contents frames
+
+-- the entry on which a stack stands
+current_content : (contents : Contents) (n : ℕ) (whole : List Visit) (content : Content) (t : ℕ) (below : List Frame) (e : LeafElement) → StandsOn content t e
+    → whole ≡ left_of contents below ++ (tour contents n (address_on below) content ++ right_of contents below)
+    → slice_get (elements_of whole) (index_of contents (record { content = content; taken = t } ∷ below)) ≡ Some e
+current_content contents n whole (Of_leaf es) t below e at placed =
+    let left = elements_of (left_of contents below) in
+    let right = elements_of (right_of contents below) in
+    let all : elements_of whole ≡ left ++ (es ++ right) =
+    ap elements_of placed ∙ flat_map-append (λ (v : Visit). v.entries) (left_of contents below) (record { address = address_on below; entries = es } ∷ right_of contents below) in
+    ap (λ (xs : List LeafElement). slice_get xs (length left + (t - 1))) all ∙ (get_behind left (es ++ right) (length left + (t - 1)) (t - 1) refl ∙ get_front es right (t - 1) e at.1)
+current_content contents n whole (Of_branch bs) t below e at placed = absurd at
+
+pub current : (bucket : BucketView) (f : Frame) (below : List Frame) (e : LeafElement) → HasStack bucket (f ∷ below) → IsOn (f ∷ below) e
+    → slice_get (elements_in bucket) (index_of (contents_in bucket) (f ∷ below)) ≡ Some e
+current bucket f below e stack at = ∥∥₁_elim stack (Prim.hlevel props) (λ s. current_content (contents_in bucket) (63 - length below) (pages_in bucket) f.content f.taken below e at s.1.0.placed)
+
+-- how many entries lie ahead of where a stack stands
+pub ahead_number : (elements : List LeafElement) (contents : Contents) (f : Frame) (below : List Frame) → IsSplit elements contents (f ∷ below)
+    → length elements ≡ suc (index_of contents (f ∷ below)) + length (ahead_of contents (f ∷ below))
+ahead_number elements contents f below s =
+    let a : length elements - suc (index_of contents (f ∷ below)) ≡ length (ahead_of contents (f ∷ below)) = sym (length-drop (suc (index_of contents (f ∷ below))) elements) ∙ ap length s.after in
+    let w = s.within in
+    omega (arith, a, w)
+
+module _ (bucket : BucketView) where
+  abbrev here : List Frame → Place
+  here frames = place_on (contents_in bucket) frames
+
+  pub first_moves : (found : Option Leaf) (frames : List Frame) → HasStack bucket frames → Finds found (elements_in bucket) (ahead_of (contents_in bucket) frames) frames []
+      → Comes (elements_in bucket) (first_move (elements_in bucket)) (here frames) (option_map leaf_view found)
+  first_moves None frames stack h = first_none (elements_in bucket) (here frames) h.0
+  first_moves (Some leaf) [] stack h = absurd h.1
+  first_moves (Some leaf) (f ∷ below) stack h =
+      let s = split bucket f below stack (on_rests (f ∷ below) (leaf_view leaf) h.1) in
+      let a = ahead_number (elements_in bucket) (contents_in bucket) f below s in
+      let b = ap length h.0 in
+      first_onto (elements_in bucket) (index_of (contents_in bucket) (f ∷ below)) (leaf_view leaf) (omega (arith, a, b)) (current bucket f below (leaf_view leaf) stack h.1)
+
+  pub last_moves : (found : Option Leaf) (frames : List Frame) → HasStack bucket frames → FindsBack found (elements_in bucket) (behind_of (contents_in bucket) frames) frames []
+      → Comes (elements_in bucket) (last_move (elements_in bucket)) (here frames) (option_map leaf_view found)
+  last_moves None frames stack h = last_none (elements_in bucket) (here frames) h.0
+  last_moves (Some leaf) [] stack h = absurd h.1
+  last_moves (Some leaf) (f ∷ below) stack h =
+      let b = behind_index (contents_in bucket) f below (on_rests (f ∷ below) (leaf_view leaf) h.1) in
+      let m = ap length h.0 in
+      let l = length-append (behind_of (contents_in bucket) (f ∷ below)) (leaf_view leaf ∷ []) in
+      last_onto (elements_in bucket) (index_of (contents_in bucket) (f ∷ below)) (Some (leaf_view leaf)) (omega (arith, b, m, l)) (current bucket f below (leaf_view leaf) stack h.1)
+
+  pub next_moves : (found : Option Leaf) (f : Frame) (below frames : List Frame) → HasStack bucket (f ∷ below) → IsAtRest (f ∷ below) → HasStack bucket frames
+      → Finds found (ahead_of (contents_in bucket) (f ∷ below)) (ahead_of (contents_in bucket) frames) frames (f ∷ below)
+      → Comes (elements_in bucket) (next_move (elements_in bucket) (place_in (elements_in bucket) (here (f ∷ below)))) (here frames) (option_map leaf_view found)
+  next_moves None f below frames old rest new h =
+      let a = ahead_number (elements_in bucket) (contents_in bucket) f below (split bucket f below old rest) in
+      let none = ap length h.0 in
+      rw h.1 (next_stays (elements_in bucket) (index_of (contents_in bucket) (f ∷ below)) (omega (arith, a)) (omega (arith, a, none)))
+  next_moves (Some leaf) f below [] old rest new h = absurd h.1
+  next_moves (Some leaf) f below (g ∷ under) old rest new h =
+      let s = split bucket f below old rest in
+      let a = ahead_number (elements_in bucket) (contents_in bucket) f below s in
+      let b = ahead_number (elements_in bucket) (contents_in bucket) g under (split bucket g under new (on_rests (g ∷ under) (leaf_view leaf) h.1)) in
+      let c = ap length h.0 in
+      let i = index_of (contents_in bucket) (f ∷ below) in
+      next_onto (elements_in bucket) i (index_of (contents_in bucket) (g ∷ under)) (Some (leaf_view leaf)) (omega (arith, a, b, c))
+      (get_next (elements_in bucket) (suc i) (leaf_view leaf) (ahead_of (contents_in bucket) (g ∷ under)) (s.after ∙ h.0)) (omega (arith, a, c))
+
+  pub prev_moves : (found : Option Leaf) (f : Frame) (below frames : List Frame) → HasStack bucket (f ∷ below) → IsAtRest (f ∷ below) → HasStack bucket frames
+      → FindsBack found (behind_of (contents_in bucket) (f ∷ below)) (behind_of (contents_in bucket) frames) frames (f ∷ below)
+      → Comes (elements_in bucket) (prev_move (elements_in bucket) (place_in (elements_in bucket) (here (f ∷ below)))) (here frames) (option_map leaf_view found)
+  prev_moves None f below frames old rest new h =
+      let a = ahead_number (elements_in bucket) (contents_in bucket) f below (split bucket f below old rest) in
+      let b = behind_index (contents_in bucket) f below rest in
+      let none = ap length h.0 in
+      rw h.1 (prev_stays (elements_in bucket) (index_of (contents_in bucket) (f ∷ below)) (omega (arith, b, none)) (omega (arith, a)))
+  prev_moves (Some leaf) f below [] old rest new h = absurd h.1
+  prev_moves (Some leaf) f below (g ∷ under) old rest new h =
+      let a = ahead_number (elements_in bucket) (contents_in bucket) f below (split bucket f below old rest) in
+      let b = behind_index (contents_in bucket) f below rest in
+      let d = behind_index (contents_in bucket) g under (on_rests (g ∷ under) (leaf_view leaf) h.1) in
+      let m = ap length h.0 in
+      let l = length-append (behind_of (contents_in bucket) (g ∷ under)) (leaf_view leaf ∷ []) in
+      prev_onto (elements_in bucket) (index_of (contents_in bucket) (f ∷ below)) (index_of (contents_in bucket) (g ∷ under)) (Some (leaf_view leaf)) (omega (arith, b, d, m, l))
+      (current bucket g under (leaf_view leaf) new h.1) (omega (arith, a))
+
+  pub seek_moves : (key : Key) (found : Option Leaf) (frames : List Frame) → HasStack bucket frames
+      → Finds found (drop (least_from key (elements_in bucket)) (elements_in bucket)) (ahead_of (contents_in bucket) frames) frames []
+      → least_from key (elements_in bucket) ≤ length (elements_in bucket)
+      → Comes (elements_in bucket) (seek_move key (elements_in bucket)) (sought_place found (contents_in bucket) frames) (option_map leaf_view found)
+  seek_moves key None frames stack h number =
+      let least = least_from key (elements_in bucket) in
+      let none : length (elements_in bucket) - least ≡ 0 = sym (length-drop least (elements_in bucket)) ∙ ap length h.0 in
+      seek_past key (elements_in bucket) (omega (arith, none))
+  seek_moves key (Some leaf) [] stack h number = absurd h.1
+  seek_moves key (Some leaf) (g ∷ under) stack h number =
+      let least = least_from key (elements_in bucket) in
+      let b = ahead_number (elements_in bucket) (contents_in bucket) g under (split bucket g under stack (on_rests (g ∷ under) (leaf_view leaf) h.1)) in
+      let a : length (elements_in bucket) - least ≡ suc (length (ahead_of (contents_in bucket) (g ∷ under))) = sym (length-drop least (elements_in bucket)) ∙ ap length h.0 in
+      seek_onto key (elements_in bucket) least (index_of (contents_in bucket) (g ∷ under)) (Some (leaf_view leaf)) refl (omega (arith, a, b))
+      (get_next (elements_in bucket) least (leaf_view leaf) (ahead_of (contents_in bucket) (g ∷ under)) h.0) (omega (arith, a))

@@ -1,0 +1,164 @@
+-- On the way down to the leaf that is nearest to a key, the key stands between what is left and what is right.
+use Rattle.std.proofs.Common.{◌≡◌, ℕ, zero, suc, ◌+◌, ◌-◌, ◌≤◌, ◌<◌, inl, inr, Bool, true, false, not, List, [], ◌∷◌, ◌++◌, Some, None, Ok, slice_get, length, drop, take, refl, sym, ap, ◌∙◌, subst, arith}
+use Rattle.std.specs.Option.{option_map}
+use Rattle.std.proofs.Math.Logic.{∥∥₁_elim}
+use Rattle.std.proofs.Props.{props}
+use Rattle.std.proofs.lemmas.Bool.{cases_lt}
+use Rattle.std.proofs.lemmas.List.Concat.{flat_map-append}
+use Rattle.std.proofs.lemmas.Option.{slice_get-map}
+use Rattle.bolt_format.specs.Elements.{BranchElement, LeafElement}
+use Rattle.bolt_format.specs.Pages.{PageView, page_at}
+use Rattle.bolt_format.specs.declared.kind.Kind.TheVariants as kind
+use Rattle.bolt_format.specs.declared.meta.Meta.{Meta}
+use Rattle.bolt_check.specs.Keys.{Key, key_lt}
+use Rattle.bolt_check.specs.Nodes.{node_at}
+use Rattle.bolt_check.specs.OnWays.{IsOnWay}
+use Rattle.bolt_check.specs.Sound.{HasSoundTrees}
+use Rattle.bolt_check.proofs.KeyLaws.{lt_not_trans, lt_trans, not_true}
+use Rattle.bolt_check.proofs.TreePages.{branch_node, on_child}
+use Rattle.bolt_tree.specs.BucketViews.{BucketView, contents_in}
+use Rattle.bolt_tree.specs.Contents.{Contents, Of_branch, content_at, content_keys}
+use Rattle.bolt_tree.specs.PageKeys.{IsPlaceOf}
+use Rattle.bolt_tree.specs.Seeks.{AreBelow, IsBetween}
+use Rattle.bolt_tree.specs.Stacks.{Frame, HasStack, address_on, left_of, right_of, under_at}
+use Rattle.bolt_tree.specs.Tours.{Visit, elements_of, tour}
+use Rattle.bolt_tree.proofs.ListLemmas.{Has, at_has, flat_has, get_before, has_at, has_split}
+use Rattle.bolt_tree.proofs.StackLemmas.{not_leaf, same_branch}
+use Rattle.bolt_tree.proofs.TourLemmas.{IsUnder, branches_rise, tour_led, under_child, under_has}
+use Rattle.bolt_tree.proofs.WayPages.{a_branch, a_leaf, on_way_page}
+
+module _ {X : Type 0} where
+  pub take_get : (xs : List X) (i j : ℕ) (x : X) → slice_get (take i xs) j ≡ Some x → (slice_get xs j ≡ Some x) × (j < i)
+  take_get [] zero j x g = absurd (let h : (None ≡ Some x → ⊥) = λ e. cc in h g)
+  take_get [] (suc i) j x g = absurd (let h : (None ≡ Some x → ⊥) = λ e. cc in h g)
+  take_get (y ∷ xs) zero j x g = absurd (let h : (None ≡ Some x → ⊥) = λ e. cc in h g)
+  take_get (y ∷ xs) (suc i) zero x g = (g, omega arith)
+  take_get (y ∷ xs) (suc i) (suc j) x g = let r = take_get xs i j x g in let l = r.1 in (r.0, omega (arith, l))
+
+  pub drop_get : (xs : List X) (i j m : ℕ) (x : X) → m ≡ i + j → slice_get (drop i xs) j ≡ Some x → slice_get xs m ≡ Some x
+  drop_get [] zero j m x e g = absurd (let h : (None ≡ Some x → ⊥) = λ e. cc in h g)
+  drop_get [] (suc i) j m x e g = absurd (let h : (None ≡ Some x → ⊥) = λ e. cc in h g)
+  drop_get (y ∷ xs) zero j m x e g = let same : m ≡ j = omega arith in ap (slice_get (y ∷ xs)) same ∙ g
+  drop_get (y ∷ xs) (suc i) j zero x e g = absurd (omega arith)
+  drop_get (y ∷ xs) (suc i) j (suc m) x e g = drop_get xs i j m x (omega arith) g
+
+not_test : (x d key : Key) (t : Bool) → key_lt x key ≡ t → key_lt x d ≡ false → key_lt key d ≡ true → t ≡ false
+not_test x d key false e h k = refl
+not_test x d key true e h k = let r : key_lt x d ≡ true = lt_trans x key d e k in absurd (cc)
+
+not_below : (x d key : Key) → key_lt x d ≡ false → key_lt key d ≡ true → key_lt x key ≡ false
+not_below x d key h k = not_test x d key (key_lt x key) refl h k
+
+module _ (file : List ℕ) (meta : Meta) (trees : HasSoundTrees file meta) where
+  -- the page of a branch
+  pub record IsBranchPage (number : ℕ) (elements : List BranchElement) : Type 0 where
+    pub view : PageView
+    pub at : page_at file meta number ≡ Some view
+    pub is : view.kind ≡ kind.Branch
+    pub node : node_at file meta number ≡ Ok (branch_node view)
+    pub branches : view.branches ≡ elements
+
+  pub branch_page : (number depth : ℕ) (elements : List BranchElement) → IsOnWay file meta number depth → content_at file meta number ≡ Of_branch elements → IsBranchPage number elements
+  branch_page number depth elements on is = elim (on_way_page file meta trees number depth on) [
+    | a_leaf view at is_leaf node content ↦ absurd (not_leaf (content_at file meta number) view.leaves elements content is)
+    | a_branch view at is_branch node content ↦ record { view = view; at = at; is = is_branch; node = node; branches = same_branch (content_at file meta number) view.branches elements content is }
+  ]
+
+  -- an element that lies under one of a branch, not below its key, and below those behind it
+  module _ (number H : ℕ) (view : PageView) (on : IsOnWay file meta number (suc H)) (node : node_at file meta number ≡ Ok (branch_node view)) (deep : suc (suc H) ≤ 64) (address : List ℕ) where
+    under_led : (k j : ℕ) (d : BranchElement) (v : Visit) → slice_get view.branches k ≡ Some d → Has (tour (content_at file meta) (62 - H) (address ++ j ∷ []) (content_at file meta d.child)) v
+        → IsUnder file meta d.child (address ++ j ∷ []) v
+    under_led k j d v g h = tour_led file meta trees (62 - H) d.child (suc (suc H)) (address ++ j ∷ []) v (on_child file meta number (suc H) k view d on node g) (omega (arith, deep)) h
+
+    pub from_under : (k j : ℕ) (d : BranchElement) (v : Visit) (x : LeafElement) → slice_get view.branches k ≡ Some d → Has (tour (content_at file meta) (62 - H) (address ++ j ∷ []) (content_at file meta d.child)) v
+        → Has v.entries x → key_lt x.key d.key ≡ false
+    from_under k j d v x g h m = (under_child file meta trees number (suc H) k (address ++ j ∷ []) view d v x on node g (under_led k j d v g h) m).0
+
+    pub below_later : (k l j : ℕ) (d e : BranchElement) (v : Visit) (x : LeafElement) → k < l → slice_get view.branches k ≡ Some d → slice_get view.branches l ≡ Some e
+        → Has (tour (content_at file meta) (62 - H) (address ++ j ∷ []) (content_at file meta d.child)) v → Has v.entries x → key_lt x.key e.key ≡ true
+    below_later k l j d e v x lt g h led m =
+        let a = under_child file meta trees number (suc H) k (address ++ j ∷ []) view d v x on node g (under_led k j d v g led) m in
+        elim (cases_lt (suc k) l) [
+          | inl more ↦ (let f = get_before view.branches (suc k) l e more h in lt_trans x.key f.0.key e.key (a.1 f.0 f.1) (branches_rise file meta trees number (suc H) (suc k) l view f.0 e on node more f.1 h))
+          | inr less ↦ (let same : l ≡ suc k = omega arith in let h2 : slice_get view.branches (suc k) ≡ Some e = ap (slice_get view.branches) (sym same) ∙ h in a.1 e h2)
+        ]
+
+    abbrev under_all : ℕ → List BranchElement → List Visit
+    under_all i elements = under_at (content_at file meta) H address i elements
+
+    pub side_left : (i : ℕ) (e : BranchElement) (key : Key) (x : LeafElement) → slice_get view.branches i ≡ Some e → key_lt key e.key ≡ false
+        → Has (elements_of (under_all 0 (take i view.branches))) x → key_lt x.key key ≡ true
+    side_left i e key x g h m =
+        let r = flat_has (λ (v : Visit). v.entries) (under_all 0 (take i view.branches)) x m in
+        let q = under_has (λ j child. tour (content_at file meta) (62 - H) (address ++ j ∷ []) (content_at file meta child)) 0 (take i view.branches) r.0 r.1 in
+        let d = take_get view.branches i q.0 q.2 q.3 in
+        lt_not_trans x.key e.key key (below_later q.0 i q.1 q.2 e r.0 x d.1 d.0 g q.5 r.2) h
+
+    pub side_right : (i : ℕ) (key : Key) (x : LeafElement) → ((k : ℕ) (d : BranchElement) → i ≤ k → slice_get view.branches k ≡ Some d → key_lt key d.key ≡ true)
+        → Has (elements_of (under_all i (drop i view.branches))) x → key_lt x.key key ≡ false
+    side_right i key x later m =
+        let r = flat_has (λ (v : Visit). v.entries) (under_all i (drop i view.branches)) x m in
+        let q = under_has (λ j child. tour (content_at file meta) (62 - H) (address ++ j ∷ []) (content_at file meta child)) i (drop i view.branches) r.0 r.1 in
+        let at : slice_get view.branches (i + q.0) ≡ Some q.2 = drop_get view.branches i q.0 (i + q.0) q.2 refl q.3 in
+        not_below x.key q.2.key key (from_under (i + q.0) q.1 q.2 r.0 x at q.5 r.2) (later (i + q.0) q.2 (omega arith) at)
+
+not_false : (b : Bool) → not b ≡ false → b ≡ true
+not_false true e = refl
+not_false false e = absurd (cc)
+
+branch_key_at : (elements : List BranchElement) (k : ℕ) (d : BranchElement) → slice_get elements k ≡ Some d → slice_get (content_keys (Of_branch elements)) k ≡ Some d.key
+branch_key_at elements k d g = slice_get-map (λ (e : BranchElement). e.key) elements k ∙ ap (option_map (λ (e : BranchElement). e.key)) g
+
+-- keys by the place of one among them
+pub not_above : (elements : List BranchElement) (key : Key) (n k : ℕ) (d : BranchElement) → IsPlaceOf (content_keys (Of_branch elements)) true key n → k < n → slice_get elements k ≡ Some d → key_lt key d.key ≡ false
+not_above elements key n k d place h g = not_true (key_lt key d.key) (place.below k d.key h (branch_key_at elements k d g))
+
+pub is_above : (elements : List BranchElement) (key : Key) (n k : ℕ) (d : BranchElement) → IsPlaceOf (content_keys (Of_branch elements)) true key n → n ≤ k → slice_get elements k ≡ Some d → key_lt key d.key ≡ true
+is_above elements key n k d place h g = not_false (key_lt key d.key) (place.above k d.key h (branch_key_at elements k d g))
+
+pub are_append : (below : Bool) (key : Key) (xs ys : List LeafElement) → AreBelow below key xs → AreBelow below key ys → AreBelow below key (xs ++ ys)
+are_append below key xs ys a b k e g = elim (has_split xs ys e (at_has (xs ++ ys) k e g)) [
+  | inl l ↦ (let p = has_at xs e l in a p.0 e p.1)
+  | inr r ↦ (let p = has_at ys e r in b p.0 e p.1)
+]
+
+nothing_left : (contents : Contents) (H : ℕ) (address : List ℕ) (i : ℕ) (elements : List BranchElement) (x : LeafElement) → i ≡ 0 → Has (elements_of (under_at contents H address 0 (take i elements))) x → ⊥
+nothing_left contents H address zero [] x e h = h
+nothing_left contents H address zero (y ∷ elements) x e h = h
+nothing_left contents H address (suc i) elements x e h = omega arith
+
+-- under the nearest element the key still stands between
+pub between_down : (bucket : BucketView) (key : Key) (elements : List BranchElement) (i n t : ℕ) (e : BranchElement) (below : List Frame)
+    → HasStack bucket (record { content = Of_branch elements; taken = t } ∷ below) → i ≡ n - 1 → slice_get elements i ≡ Some e
+    → IsPlaceOf (content_keys (Of_branch elements)) true key n → (suc (suc (length below)) ≤ 64) → IsBetween (contents_in bucket) key below
+    → IsBetween (contents_in bucket) key (record { content = Of_branch elements; taken = i + 1 } ∷ below)
+between_down bucket key elements i n t e below stack is g place deep between =
+    let contents = contents_in bucket in
+    let back : (i + 1) - 1 ≡ i = omega arith in
+    let next : i + 1 ≡ suc i = omega arith in
+    record {
+      left =
+          let inner : AreBelow true key (elements_of (under_at contents (length below) (address_on below) 0 (take i elements))) = λ k x h.
+          ∥∥₁_elim stack (Prim.hlevel props) (λ s.
+          let page = branch_page bucket.file bucket.meta s.0.trees s.1.0.good.0 (suc (length below)) elements s.1.0.good.1 s.1.0.good.2 in
+          let m = rw (← page.branches) at (at_has (elements_of (under_at contents (length below) (address_on below) 0 (take i elements))) k x h) in
+          elim (cases_lt i n) [
+            | inl lt ↦ side_left bucket.file bucket.meta s.0.trees s.1.0.good.0 (length below) page.view s.1.0.good.1 page.node deep (address_on below) i e key x (rw page.branches g) (not_above elements key n i e place lt g) m
+            | inr ge ↦ (let zero_i : i ≡ 0 = omega arith in absurd (nothing_left contents (length below) (address_on below) i elements x zero_i (at_has (elements_of (under_at contents (length below) (address_on below) 0 (take i elements))) k x h)))
+          ]) in
+          let whole : elements_of (left_of contents (record { content = Of_branch elements; taken = i + 1 } ∷ below)) ≡ elements_of (left_of contents below) ++ elements_of (under_at contents (length below) (address_on below) 0 (take i elements)) =
+          flat_map-append (λ (v : Visit). v.entries) (left_of contents below) (record { address = address_on below; entries = [] } ∷ under_at contents (length below) (address_on below) 0 (take ((i + 1) - 1) elements))
+          ∙ ap (λ (j : ℕ). elements_of (left_of contents below) ++ elements_of (under_at contents (length below) (address_on below) 0 (take j elements))) back in
+          subst (AreBelow true key) (sym whole) (are_append true key (elements_of (left_of contents below)) (elements_of (under_at contents (length below) (address_on below) 0 (take i elements))) between.left inner);
+      right =
+          let inner : AreBelow false key (elements_of (under_at contents (length below) (address_on below) (suc i) (drop (suc i) elements))) = λ k x h.
+          ∥∥₁_elim stack (Prim.hlevel props) (λ s.
+          let page = branch_page bucket.file bucket.meta s.0.trees s.1.0.good.0 (suc (length below)) elements s.1.0.good.1 s.1.0.good.2 in
+          let m = rw (← page.branches) at (at_has (elements_of (under_at contents (length below) (address_on below) (suc i) (drop (suc i) elements))) k x h) in
+          side_right bucket.file bucket.meta s.0.trees s.1.0.good.0 (length below) page.view s.1.0.good.1 page.node deep (address_on below) (suc i) key x
+          (λ j d l gd. is_above elements key n j d place (omega (arith, l, is)) (ap (λ (es : List BranchElement). slice_get es j) (sym page.branches) ∙ gd)) m) in
+          let whole : elements_of (right_of contents (record { content = Of_branch elements; taken = i + 1 } ∷ below)) ≡ elements_of (under_at contents (length below) (address_on below) (suc i) (drop (suc i) elements)) ++ elements_of (right_of contents below) =
+          flat_map-append (λ (v : Visit). v.entries) (under_at contents (length below) (address_on below) (i + 1) (drop (i + 1) elements)) (right_of contents below)
+          ∙ ap (λ (j : ℕ). elements_of (under_at contents (length below) (address_on below) j (drop j elements)) ++ elements_of (right_of contents below)) next in
+          subst (AreBelow false key) (sym whole) (are_append false key (elements_of (under_at contents (length below) (address_on below) (suc i) (drop (suc i) elements))) (elements_of (right_of contents below)) inner between.right);
+    }

@@ -1,0 +1,27 @@
+use Rattle.bolt_tree.specs.Cursors.{cursor_checked, cursor_opened, cursor_place, cursor_start}
+use Rattle.bolt_tree.specs.Pagers.{pager_opened}
+use Rattle.bolt_tree.specs.Trails.{trail_bucket, trail_frames}
+use Rattle.bolt_tree.proofs.HeldLemmas.{held_bucket, held_rest, held_stack, moves_next, opens_next}
+use Rattle.bolt_tree.proofs.TrailLemmas.{nonempty, same_bucket}
+use Rattle.bolt_tree.proofs.cursor.Cursor.next_element.Goals as goal
+
+pub next-requires-clause-stack : goal.next-requires-clause-stack
+next-requires-clause-stack c = held_stack c.args.self.now.trail c.args.self.now.is_past c.args.self.now.held
+
+pub next-requires-clause-rest : goal.next-requires-clause-rest
+next-requires-clause-rest c = held_rest c.args.self.now.trail c.args.self.now.is_past c.args.self.now.held
+
+pub returns-clause-moves : goal.returns-clause-moves
+unfolding cursor_checked cursor_place cursor_start
+returns-clause-moves c = moves_next (trail_bucket c.args.self.now.trail) (trail_bucket c.next.new.self) (same_bucket c.args.self.now.trail c.next.new.self c.next.ensures.same)
+    (held_bucket c.args.self.now.trail c.args.self.now.is_past c.args.self.now.held) c.next.result (trail_frames c.next.new.self) c.next.ensures.stack
+    (trail_frames c.args.self.now.trail) c.args.self.now.is_past c.if-self.false (held_stack c.args.self.now.trail c.args.self.now.is_past c.args.self.now.held)
+    (held_rest c.args.self.now.trail c.args.self.now.is_past c.args.self.now.held) (nonempty c.args.self.now.trail.stack.items c.is_empty.result c.is_empty.ensures c.if-is_empty.false) c.next.ensures.found
+
+pub returns-clause-opens : goal.returns-clause-opens
+unfolding cursor_checked cursor_opened cursor_place cursor_start
+returns-clause-opens c = opens_next (trail_bucket c.args.self.now.trail) (trail_bucket c.next.new.self) (same_bucket c.args.self.now.trail c.next.new.self c.next.ensures.same)
+    (held_bucket c.args.self.now.trail c.args.self.now.is_past c.args.self.now.held) c.next.result (trail_frames c.next.new.self) c.next.ensures.stack
+    (trail_frames c.args.self.now.trail) c.args.self.now.is_past c.if-self.false (held_stack c.args.self.now.trail c.args.self.now.is_past c.args.self.now.held)
+    (held_rest c.args.self.now.trail c.args.self.now.is_past c.args.self.now.held) (nonempty c.args.self.now.trail.stack.items c.is_empty.result c.is_empty.ensures c.if-is_empty.false)
+    (pager_opened c.args.self.now.trail.pager) (pager_opened c.next.new.self.pager) c.next.ensures.found c.next.ensures.opened

@@ -1,0 +1,21 @@
+use Rattle.std.proofs.Common.{◌≡◌, ◌∷◌, ◌≤◌, ◌-◌, ◌*◌, length}
+use Rattle.bolt_tree.specs.BucketViews.{contents_in}
+use Rattle.bolt_tree.specs.Pagers.{counted, pager_opened}
+use Rattle.bolt_tree.specs.Seeks.{IsBetween, IsOnWayDown}
+use Rattle.bolt_tree.specs.ShownPages.{opened_content}
+use Rattle.bolt_tree.specs.Stacks.{HasStack}
+use Rattle.bolt_tree.specs.Trails.{IsSameBucket, trail_bucket, trail_frames}
+use Rattle.bolt_tree.proofs.trail.Trail.descend.Given as goal
+
+abbrev pub invariant-loop-opened : goal.invariant-loop-opened
+invariant-loop-opened l = record {
+  same : IsSameBucket l.initial.self l.self;
+  stack : HasStack (trail_bucket l.self) (record { content = opened_content l.opened; taken = 0 } ∷ trail_frames l.self);
+  between : IsBetween (contents_in (trail_bucket l.self)) l.key (trail_frames l.self);
+  way : IsOnWayDown (trail_bucket l.self) l.key (trail_frames l.self) (opened_content l.opened);
+  compared : l.compared ≤ 16 * length (trail_frames l.self);
+  opened : pager_opened l.self.pager ≡ counted (pager_opened l.initial.self.pager) (length (trail_frames l.self));
+}
+
+abbrev pub decreases-loop-opened : goal.decreases-loop-opened
+decreases-loop-opened l = 64 - length (trail_frames l.self)

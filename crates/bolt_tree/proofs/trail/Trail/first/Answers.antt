@@ -1,0 +1,26 @@
+use Rattle.std.proofs.Common.{◌≡◌, [], ◌∙◌, ◌+◌, ◌-◌, suc, ℕ, length, refl, sym, ap, arith}
+use Rattle.bolt_tree.specs.BucketViews.{elements_in, pages_in}
+use Rattle.bolt_tree.specs.Pagers.{counted, pager_opened}
+use Rattle.bolt_tree.specs.Trails.{ahead, right, trail_bucket, trail_frames}
+use Rattle.bolt_tree.proofs.MoveLemmas.{found_over}
+use Rattle.bolt_tree.proofs.PagerLemmas.{counted_more}
+use Rattle.bolt_tree.proofs.RootLemmas.{root_ahead, root_right}
+use Rattle.bolt_tree.proofs.trail.Trail.first.Goals as goal
+
+all_ahead : (c : goal.After-advance) → elements_in (trail_bucket c.args.self.now) ≡ ahead c.begin.new.self
+all_ahead c = rw (c.begin.ensures.same.file, c.begin.ensures.frames) (sym (root_ahead (trail_bucket c.args.self.now)))
+
+all_right : (c : goal.After-advance) → length (pages_in (trail_bucket c.args.self.now)) ≡ suc (length (right c.begin.new.self))
+all_right c = rw (c.begin.ensures.same.file, c.begin.ensures.frames) (root_right (trail_bucket c.args.self.now))
+
+pub returns-clause-found : goal.returns-clause-found
+returns-clause-found c = found_over c.advance.result (elements_in (trail_bucket c.args.self.now)) (ahead c.begin.new.self) (ahead c.advance.new.self) (trail_frames c.advance.new.self) [] (all_ahead c) c.advance.ensures.found
+
+pub returns-clause-opened : goal.returns-clause-opened
+returns-clause-opened c =
+    let a = all_right c in
+    let l = c.advance.ensures.less in
+    let gone = length (right c.begin.new.self) - length (right c.advance.new.self) in
+    let more : 1 + gone ≡ length (pages_in (trail_bucket c.args.self.now)) - length (right c.advance.new.self) = omega (arith, a, l) in
+    c.advance.ensures.opened ∙ (ap (λ (n : ℕ). counted n gone) c.begin.ensures.opened
+    ∙ (counted_more (pager_opened c.args.self.now.pager) 1 gone ∙ ap (counted (pager_opened c.args.self.now.pager)) more))
