@@ -5,7 +5,7 @@ use Rattle.bolt_format.specs.Elements.{LeafElement}
 use Rattle.bolt_check.specs.Keys.{Key}
 use Rattle.bolt_tree.specs.Places.{Fresh, Move, On, Past, Place, first_move, least_from, next_move, nothing_at, onto, place_in, seek_move}
 
-none_past : (entries : List LeafElement) (i : ℕ) → None ≡ slice_get entries i → length entries ≤ i
+pub none_past : (entries : List LeafElement) (i : ℕ) → None ≡ slice_get entries i → length entries ≤ i
 none_past [] i e = omega arith
 none_past (x ∷ entries) zero e = absurd (cc)
 none_past (x ∷ entries) (suc i) e = let h = none_past entries i e in omega (arith, h)
@@ -15,7 +15,7 @@ some_within [] i h = absurd (omega arith)
 some_within (x ∷ entries) zero h = (x, refl)
 some_within (x ∷ entries) (suc i) h = some_within entries i (omega arith)
 
-not_below : (m n : ℕ) → nat_lt m n ≡ false → n ≤ m
+pub not_below : (m n : ℕ) → nat_lt m n ≡ false → n ≤ m
 not_below m n e = grind (arith, nat_tests)
 
 -- where the next move comes to

@@ -16,9 +16,10 @@ mod Giving
 pub mod HalvesLemmas
 pub mod HeldLemmas
 pub mod ListLemmas
+pub mod Leaving
 mod Lists
 mod Looking
-mod Measured
+pub mod Measured
 pub mod MoveLemmas
 mod Named
 pub mod NearLemmas

@@ -6,6 +6,7 @@ pub mod CursorBounds
 pub mod Cursors
 pub mod Entered
 pub mod Entries
+pub mod EntriesLeft
 pub mod FileListings
 pub mod Held
 pub mod Listing

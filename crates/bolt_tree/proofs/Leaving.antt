@@ -1,0 +1,94 @@
+-- A loop over a cursor: each call takes the first of the entries that are left, and there are fewer left then.
+-- Rests on that the entries of a bucket in order exist, and are one.
+use Rattle.std.proofs.Common.{◌≡◌, ◌∙◌, ◌<◌, ◌≤◌, Bool, true, false, ℕ, zero, suc, List, [], ◌∷◌, length, drop, cond, nat_lt, Option, Some, None, MatchOption, slice_get, refl, sym, ap, subst, add-one, arith}
+use Rattle.std.proofs.Math.Logic.{∥∥₁_elim, ∥∥₁_map, ∥∥₁_prop}
+use Rattle.std.proofs.Props.{props}
+use Rattle.std.specs.Option.{option_map}
+use Rattle.std.proofs.lemmas.List.{drop_all}
+use mathlib.Core.HLevel.{Σ_prop_path}
+use Rattle.bolt_format.specs.Elements.{LeafElement}
+use Rattle.bolt_format.proofs.ListLemmas.{drop_next}
+use Rattle.bolt_check.specs.CheckedFiles.{bytes_of, meta_of}
+use Rattle.bolt_check.specs.declared.checked_file.Checked.{Checked}
+use Rattle.bolt_tree.specs.Buckets.{bucket_checked, bucket_start}
+use Rattle.bolt_tree.specs.BucketViews.{entries_of}
+use Rattle.bolt_tree.specs.Entries.{AreEntries, EntryView, Start, entry_view}
+use Rattle.bolt_tree.specs.EntriesLeft.{ForEntries, entries_left}
+use Rattle.bolt_tree.specs.Places.{Fresh, On, Past, Place, ShowsMove, next_move, nothing_at, onto, place_in}
+use Rattle.bolt_tree.specs.declared.bucket.Bucket.{Bucket}
+use Rattle.bolt_tree.proofs.CursorMoves.{none_past, not_below}
+use Rattle.bolt_tree.proofs.Looking.{own_entries}
+use Rattle.bolt_tree.proofs.SortedLemmas.{sorted_one}
+
+-- the entries of a bucket in order, taken out of what is only known to be
+abbrev pub TheEntries : Checked → Start → Type 0
+TheEntries checked start = (entries : List LeafElement) × ∥ AreEntries (entries_of checked) start entries ∥₁
+
+the_one : (checked : Checked) (start : Start) → IsProp (TheEntries checked start)
+the_one checked start = λ a b.
+    Σ_prop_path (λ l. ∥∥₁_prop) (∥∥₁_elim a.1 (hlevel props) (λ h. ∥∥₁_elim b.1 (hlevel props) (λ k. sorted_one (bytes_of checked) (meta_of checked) start a.0 b.0 h k)))
+
+pub the_entries : (bucket : Bucket) → TheEntries (bucket_checked bucket) (bucket_start bucket)
+unfolding bucket_checked bucket_start
+the_entries bucket =
+    ∥∥₁_elim (own_entries (bucket_checked bucket) (bucket_start bucket) bucket.begins) (the_one (bucket_checked bucket) (bucket_start bucket)) (λ (entries, are). (entries, ∣ are ∣₁))
+
+-- the first of what was left is answered; or nothing was left
+abbrev pub TakesFirst : List LeafElement → List LeafElement → Option LeafElement → Type 0
+TakesFirst old new None = old ≡ []
+TakesFirst old new (Some e) = old ≡ e ∷ new
+
+none_left : (place : Place) → entries_left [] place ≡ []
+none_left Fresh = refl
+none_left (On i) = refl
+none_left Past = refl
+
+drop_more : (entries : List LeafElement) (i : ℕ) (e : LeafElement) → slice_get entries i ≡ Some e → drop i entries ≡ e ∷ drop (suc i) entries
+drop_more entries i e at = drop_next entries i e at ∙ ap (λ (k : ℕ). e ∷ drop k entries) (add-one i)
+
+by_length : (entries : List LeafElement) (i : ℕ) (after : Place) (o : Option LeafElement) (b : Bool) → nat_lt (suc i) (length entries) ≡ b
+    → after ≡ (cond b (onto entries (suc i)) (nothing_at (On i))).place → o ≡ (cond b (onto entries (suc i)) (nothing_at (On i))).answer
+    → TakesFirst (drop (suc i) entries) (entries_left entries after) o
+by_length entries i after None true t p a = drop_all (suc i) entries (none_past entries (suc i) a)
+by_length entries i after None false t p a = drop_all (suc i) entries (not_below (suc i) (length entries) t)
+by_length entries i after (Some e) true t p a = drop_more entries (suc i) e (sym a) ∙ ap (λ (q : Place). e ∷ entries_left entries q) (sym p)
+by_length entries i after (Some e) false t p a = absurd (let c : Some e ≡ None = a in cc)
+
+pub next_takes : (entries : List LeafElement) (before after : Place) (o : Option LeafElement)
+    → (place_in entries after ≡ (next_move entries (place_in entries before)).place) × (o ≡ (next_move entries (place_in entries before)).answer)
+    → TakesFirst (entries_left entries before) (entries_left entries after) o
+next_takes [] before after None (p, a) = none_left before
+next_takes [] before after (Some e) (p, a) = absurd (let c : Some e ≡ None = a in cc)
+next_takes (x ∷ entries) Fresh after None (p, a) = absurd (let c : None ≡ Some x = a in cc)
+next_takes (x ∷ entries) Fresh after (Some e) (p, a) = let same : e ≡ x = cc in ap (λ y. y ∷ entries) (sym same) ∙ ap (λ (q : Place). e ∷ entries_left (x ∷ entries) q) (sym p)
+next_takes (x ∷ entries) (On i) after o (p, a) = by_length (x ∷ entries) i after o (nat_lt (suc i) (length (x ∷ entries))) refl p a
+next_takes (x ∷ entries) Past after None (p, a) = refl
+next_takes (x ∷ entries) Past after (Some e) (p, a) = absurd (let c : Some e ≡ None = a in cc)
+
+-- the same of what is answered: what the first of what was left shows
+abbrev pub ShowsFirst : List LeafElement → List LeafElement → Option EntryView → Type 0
+ShowsFirst old new None = old ≡ []
+ShowsFirst old new (Some x) = (e : LeafElement) × (x ≡ entry_view e) × (old ≡ e ∷ new)
+
+shows_first : (old new : List LeafElement) (x : Option EntryView) (o : Option LeafElement) → x ≡ option_map entry_view o → TakesFirst old new o → ShowsFirst old new x
+shows_first old new None None a taken = taken
+shows_first old new None (Some e) a taken = absurd (let c : None ≡ Some (entry_view e) = a in cc)
+shows_first old new (Some x) None a taken = absurd (let c : Some x ≡ None = a in cc)
+shows_first old new (Some x) (Some e) a taken = (e, (let c : Some x ≡ Some (entry_view e) = a in cc), taken)
+
+pub next_shows : (a b : Checked) (s t : Start) (before after : Place) (x : Option EntryView) → a ≡ b → s ≡ t → ShowsMove (entries_of a) s next_move before after x
+    → ForEntries b t (λ entries. ShowsFirst (entries_left entries before) (entries_left entries after) x)
+next_shows a b s t before after x file start moves entries are =
+    let here = subst (λ (f : Checked). ShowsMove (entries_of f) t next_move before after x) file (subst (λ (q : Start). ShowsMove (entries_of a) q next_move before after x) start moves) in
+    let (p, shown) = here entries are in
+    shows_first (entries_left entries before) (entries_left entries after) x (next_move entries (place_in entries before)).answer shown
+    (next_takes entries before after (next_move entries (place_in entries before)).answer (p, refl))
+
+-- and so fewer are left
+pub fewer_left : (bucket : Bucket) (file : Checked) (start : Start) (before after : Place) (x : EntryView) → file ≡ bucket_checked bucket → start ≡ bucket_start bucket
+    → ShowsMove (entries_of file) start next_move before after (Some x)
+    → length (entries_left (the_entries bucket).0 after) < length (entries_left (the_entries bucket).0 before)
+fewer_left bucket file start before after x same at moves =
+    ∥∥₁_elim (the_entries bucket).1 (hlevel props) (λ are.
+    let (e, shown, taken) = next_shows file (bucket_checked bucket) start (bucket_start bucket) before after (Some x) same at moves (the_entries bucket).0 are in
+    let n = ap length taken in omega (arith, n))
