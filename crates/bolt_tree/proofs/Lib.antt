@@ -13,6 +13,7 @@ pub mod PagerLemmas
 pub mod PlaceLemmas
 pub mod PlaceMoves
 pub mod RootLemmas
+pub mod SeekBounds
 pub mod SeekCounts
 pub mod SeekLemmas
 pub mod SortedLemmas
