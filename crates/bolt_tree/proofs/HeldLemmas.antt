@@ -1,5 +1,5 @@
 -- What a cursor keeps, and its moves by those of its trail.
-use Rattle.std.proofs.Common.{◌≡◌, ◌==◌, ℕ, ◌-◌, ◌≤◌, Bool, true, false, List, [], ◌∷◌, Option, length, drop, refl, ap, sym, ◌∙◌, subst, arith}
+use Rattle.std.proofs.Common.{◌≡◌, ◌==◌, ℕ, ◌-◌, ◌≤◌, Bool, true, false, List, [], ◌∷◌, Option, Some, None, is_some, length, drop, refl, ap, sym, ◌∙◌, subst, arith}
 use Rattle.std.specs.Option.{option_map}
 use Rattle.std.proofs.Math.Logic.{∥∥₁_elim, ∥∥₁_map}
 use Rattle.std.proofs.Props.{props}
@@ -15,7 +15,7 @@ use Rattle.bolt_tree.specs.Entered.{opened_to}
 use Rattle.bolt_tree.specs.Entries.{IsEntry}
 use Rattle.bolt_tree.specs.Held.{IsHeld, place_by, place_on}
 use Rattle.bolt_tree.specs.Pagers.{counted}
-use Rattle.bolt_tree.specs.Places.{Move, Moves, Place, first_move, last_move, least_from, next_move, place_in, prev_move, seek_move}
+use Rattle.bolt_tree.specs.Places.{Fresh, Move, Moves, Place, first_move, last_move, least_from, next_move, place_in, prev_move, seek_move}
 use Rattle.bolt_tree.specs.Stacks.{Frame, HasStack, IsAtRest, RestsOn, ahead_of, behind_of, right_of}
 use Rattle.bolt_tree.specs.Trails.{HasBucket, HasTrail, frames_of, trail_bucket, trail_frames}
 use Rattle.bolt_tree.specs.declared.position.Position.{Position}
@@ -54,6 +54,20 @@ held_rest trail is_past held = ∥∥₁_elim held (rest_prop (trail_frames trai
 pub not_past : (trail : Trail) (is_past : Bool) → ∥ IsHeld trail is_past ∥₁ → (trail_frames trail ≡ [] → ⊥) → is_past ≡ false
 not_past trail false held h = refl
 not_past trail true held h = absurd (h (∥∥₁_elim held (Prim.hlevel props) (λ k. k.empty refl)))
+
+-- a stack is empty where it stands before the first call
+fresh_frames : (was : Bool) (contents : Contents) (frames : List Frame) → place_by was contents frames ≡ Fresh → frames ≡ []
+fresh_frames true contents frames e = absurd (cc)
+fresh_frames false contents [] e = refl
+fresh_frames false contents (f ∷ below) e = absurd (cc)
+
+pub held_again : (trail : Trail) (was is_past : Bool) → ∥ IsHeld trail was ∥₁ → place_by was (contents_in (trail_bucket trail)) (trail_frames trail) ≡ Fresh → ∥ IsHeld trail is_past ∥₁
+held_again trail was is_past held fresh = ∥∥₁_map held (λ h.
+    record { stack = h.stack; rest = h.rest; empty = λ e. fresh_frames was (contents_in (trail_bucket trail)) (trail_frames trail) fresh })
+
+pub found_none : (found : Option Leaf) → is_some found ≡ false → found ≡ None
+found_none (Some leaf) e = absurd (cc)
+found_none None e = refl
 
 no_frames : (frames : List Frame) → length frames ≡ 0 → frames ≡ []
 no_frames [] e = refl

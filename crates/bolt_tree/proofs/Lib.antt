@@ -33,6 +33,7 @@ pub mod PlaceLemmas
 pub mod PlaceMoves
 mod ReadBack
 pub mod RootLemmas
+pub mod SeekBounds
 pub mod SeekCounts
 pub mod SeekLemmas
 mod Seeking

@@ -20,7 +20,7 @@ use Rattle.bolt_tree.proofs.CountLemmas.{address_visited, counts}
 use Rattle.std.proofs.Common.{length-append}
 use Rattle.bolt_tree.proofs.CountLemmas.{home_is}
 use Rattle.bolt_tree.proofs.FurtherLemmas.{IsExactly, after_exact, between_exact}
-use Rattle.bolt_tree.proofs.GapLemmas.{entry_at, first_cut, has_cut}
+use Rattle.bolt_tree.proofs.GapLemmas.{IsAt, entry_at, first_cut, has_cut}
 use Rattle.bolt_tree.proofs.ListLemmas.{Has, RisesBy, at_has, contains_from_has, map_has, rises_across}
 use Rattle.bolt_tree.proofs.SortedLemmas.{start_rises}
 use Rattle.bolt_tree.proofs.TourLemmas.{IsApart}
@@ -97,32 +97,34 @@ counted : (Is : List ℕ → Type 0) (n : ℕ) → IsExactly Is n → (m : ℕ) 
 counted Is n x = (length x.members, counts Is x.members x.rises x.sound x.complete)
 
 module _ (file : List ℕ) (meta : Meta) (trees : HasSoundTrees file meta) (start : Start) (is : IsStart file meta start) where
+  -- no page lies after a page and up to that of an entry before it
+  pub none_between : (left right : List Visit) (v : Visit) (x : LeafElement) (at : IsAt file meta trees start is x) → pages_at file meta start ≡ left ++ (v ∷ right) → length right < length at.right
+      → (a : List ℕ) → IsSeekPage file meta start v.address (Some x) a → ⊥
+  none_between left right v x at cut lt a page =
+      let w = at.visit in
+      let one = ap length cut in
+      let two = ap length at.cut in
+      let l1 = length-append left (v ∷ right) in
+      let l2 = length-append at.left (w ∷ at.right) in
+      let before : Has left w = first_cut at.left at.right left right w v (sym at.cut ∙ cut) (omega (arith, lt, one, two, l1, l2)) in
+      let rising : RisesBy IsApart (left ++ (v ∷ right)) = subst (RisesBy IsApart) cut (start_rises file meta trees start is) in
+      let apart = (rises_across IsApart left (v ∷ right) rising w v before (inl refl)).addresses in
+      let home : page.1.0 ≡ w.address = home_is file meta trees start is at.left at.right w at.cut x page.1.0 at.has page.1.1 in
+      let up : (a ≡ w.address) ⊎ Before a w.address = elim page.1.2 as (λ _. (a ≡ w.address) ⊎ Before a w.address) [ inl e ↦ inl (e ∙ home) | inr b ↦ inr (subst (Before a) home b) ] in
+      elim up as (λ _. ⊥) [
+        | inl e ↦ before_strict w.address v.address apart (subst (Before v.address) e page.0.1)
+        | inr b ↦ before_strict w.address v.address apart (before_trans v.address a w.address page.0.1 b)
+      ]
+
   -- how many pages lie after a page, up to that of an entry
   seek_pages : (left right : List Visit) (v : Visit) (o : Option LeafElement) → pages_at file meta start ≡ left ++ (v ∷ right) → ((x : LeafElement) → o ≡ Some x → IsEntry file meta start x)
       → (m : ℕ) × HasCount (IsSeekPage file meta start v.address o) m
   seek_pages left right v None cut entry = counted (IsAfter file meta start v.address) (length right) (after_exact file meta trees start is left right v cut)
   seek_pages left right v (Some x) cut entry =
       let at = entry_at file meta trees start is x (entry x refl) in
-      let w = at.visit in
       elim (cases_lt (length right) (length at.right)) [
-        | inr le ↦ counted (IsSeekPage file meta start v.address (Some x)) (length right - length at.right) (between_exact file meta trees start is left right at.left at.right v w x cut at.cut le at.has)
-        | inl lt ↦ (
-          0,
-          counts (IsSeekPage file meta start v.address (Some x)) [] tt (λ a h. absurd h) (λ a page.
-              let one = ap length cut in
-              let two = ap length at.cut in
-              let l1 = length-append left (v ∷ right) in
-              let l2 = length-append at.left (w ∷ at.right) in
-              let before : Has left w = first_cut at.left at.right left right w v (sym at.cut ∙ cut) (omega (arith, lt, one, two, l1, l2)) in
-              let rising : RisesBy IsApart (left ++ (v ∷ right)) = subst (RisesBy IsApart) cut (start_rises file meta trees start is) in
-              let apart = (rises_across IsApart left (v ∷ right) rising w v before (inl refl)).addresses in
-              let home : page.1.0 ≡ w.address = home_is file meta trees start is at.left at.right w at.cut x page.1.0 at.has page.1.1 in
-              let up : (a ≡ w.address) ⊎ Before a w.address = elim page.1.2 as (λ _. (a ≡ w.address) ⊎ Before a w.address) [ inl e ↦ inl (e ∙ home) | inr b ↦ inr (subst (Before a) home b) ] in
-              elim up as (λ _. ⊥) [
-                | inl e ↦ before_strict w.address v.address apart (subst (Before v.address) e page.0.1)
-                | inr b ↦ before_strict w.address v.address apart (before_trans v.address a w.address page.0.1 b)
-              ]),
-        )
+        | inr le ↦ counted (IsSeekPage file meta start v.address (Some x)) (length right - length at.right) (between_exact file meta trees start is left right at.left at.right v at.visit x cut at.cut le at.has)
+        | inl lt ↦ (0, counts (IsSeekPage file meta start v.address (Some x)) [] tt (λ a h. absurd h) (λ a page. absurd (none_between left right v x at cut lt a page)))
       ]
 
   pub seek_counted : (entries : List LeafElement) (key : Key) → AreEntries (IsEntry file meta) start entries → (n : ℕ) × IsSeekCount file meta start entries key n
@@ -138,6 +140,6 @@ module _ (file : List ℕ) (meta : Meta) (trees : HasSoundTrees file meta) (star
           down = near.1;
           further = m.0;
           counted = subst (λ (a : List ℕ). HasCount (IsSeekPage file meta start a o) m.0) r.2 m.1;
-          sum = refl;
+          sum = refl {a = 1 + length near.0 + m.0};
         },
       )

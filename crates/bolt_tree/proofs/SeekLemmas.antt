@@ -46,7 +46,7 @@ not_test : (x d key : Key) (t : Bool) → key_lt x key ≡ t → key_lt x d ≡ 
 not_test x d key false e h k = refl
 not_test x d key true e h k = let r : key_lt x d ≡ true = lt_trans x key d e k in absurd (cc)
 
-not_below : (x d key : Key) → key_lt x d ≡ false → key_lt key d ≡ true → key_lt x key ≡ false
+pub not_below : (x d key : Key) → key_lt x d ≡ false → key_lt key d ≡ true → key_lt x key ≡ false
 not_below x d key h k = not_test x d key (key_lt x key) refl h k
 
 module _ (file : List ℕ) (meta : Meta) (trees : HasSoundTrees file meta) where

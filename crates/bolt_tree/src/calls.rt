@@ -6,7 +6,7 @@ ghost use Rattle.bolt_format.specs.Elements.{IsBucketValue};
 ghost use Rattle.bolt_tree.specs.BucketViews.{entries_of};
 ghost use Rattle.bolt_tree.specs.CursorBounds.{OpensByNext, OpensGap, OpensSeek, SeeksInBounds};
 ghost use Rattle.bolt_tree.specs.Entries.{entry_view};
-ghost use Rattle.bolt_tree.specs.Places.{ShowsMove, first_move, last_move, next_move, prev_move, seek_move};
+ghost use Rattle.bolt_tree.specs.Places.{Fresh, Past, ShowsMove, first_move, last_move, next_move, prev_move, seek_move};
 ghost use Rattle.bolt_tree.specs.ShownEntries.{shown_entry};
 
 use crate::cursor::Cursor;
@@ -16,7 +16,8 @@ use bolt_format::Leaf;
 /// The entry that an element is, if there is one.
 fn entry_of(found: Option<Leaf<'_>>) -> Option<Entry<'_>>
     requires { IfSome found (λ leaf. IsTrue leaf.is_bucket → IsBucketValue leaf.value.now) }
-    ensures { option_map shown_entry result ≡ option_map entry_view (option_map leaf_view found.entry) }
+    ensures entry { option_map shown_entry result ≡ option_map entry_view (option_map leaf_view found.entry) }
+    ensures none { result ≡ None → found.entry ≡ None }
 {
     match found {
         Some(leaf) => Some(Entry::of(&leaf)),
@@ -33,6 +34,7 @@ impl<'a> Cursor<'a> {
         ensures start { cursor_start self.new ≡ cursor_start self.old }
         ensures moves { ShowsMove (entries_of (cursor_checked self.old)) (cursor_start self.old) (λ entries place. first_move entries) (cursor_place self.old) (cursor_place self.new) (option_map shown_entry result) }
         ensures opens { OpensGap (cursor_bucket self.old) 0 (cursor_opened self.old) (cursor_opened self.new) }
+        ensures none { result ≡ None → cursor_place self.new ≡ Fresh }
         ensures compared { cursor_compared self.new ≡ 0 }
     {
         entry_of(self.first_element())
@@ -43,6 +45,7 @@ impl<'a> Cursor<'a> {
         ensures checked { cursor_checked self.new ≡ cursor_checked self.old }
         ensures start { cursor_start self.new ≡ cursor_start self.old }
         ensures moves { ShowsMove (entries_of (cursor_checked self.old)) (cursor_start self.old) (λ entries place. last_move entries) (cursor_place self.old) (cursor_place self.new) (option_map shown_entry result) }
+        ensures none { result ≡ None → cursor_place self.new ≡ Fresh }
         ensures compared { cursor_compared self.new ≡ 0 }
     {
         entry_of(self.last_element())
@@ -54,6 +57,7 @@ impl<'a> Cursor<'a> {
         ensures start { cursor_start self.new ≡ cursor_start self.old }
         ensures moves { ShowsMove (entries_of (cursor_checked self.old)) (cursor_start self.old) next_move (cursor_place self.old) (cursor_place self.new) (option_map shown_entry result) }
         ensures opens { OpensByNext (cursor_bucket self.old) (cursor_place self.old) (cursor_opened self.old) (cursor_opened self.new) }
+        ensures none { result ≡ None → cursor_place self.new ≡ cursor_place self.old }
         ensures compared { cursor_compared self.new ≡ cursor_compared self.old }
     {
         entry_of(self.next_element())
@@ -64,6 +68,7 @@ impl<'a> Cursor<'a> {
         ensures checked { cursor_checked self.new ≡ cursor_checked self.old }
         ensures start { cursor_start self.new ≡ cursor_start self.old }
         ensures moves { ShowsMove (entries_of (cursor_checked self.old)) (cursor_start self.old) prev_move (cursor_place self.old) (cursor_place self.new) (option_map shown_entry result) }
+        ensures none { result ≡ None → cursor_place self.new ≡ cursor_place self.old }
         ensures compared { cursor_compared self.new ≡ cursor_compared self.old }
     {
         entry_of(self.prev_element())
@@ -76,6 +81,7 @@ impl<'a> Cursor<'a> {
         ensures start { cursor_start self.new ≡ cursor_start self.old }
         ensures moves { ShowsMove (entries_of (cursor_checked self.old)) (cursor_start self.old) (λ entries place. seek_move key.now entries) (cursor_place self.old) (cursor_place self.new) (option_map shown_entry result) }
         ensures opens { OpensSeek (cursor_bucket self.old) key.now (cursor_opened self.old) (cursor_opened self.new) }
+        ensures none { result ≡ None → cursor_place self.new ≡ Past }
         ensures compared { SeeksInBounds (cursor_bucket self.old) key.now (cursor_compared self.new) }
     {
         entry_of(self.seek_element(key))

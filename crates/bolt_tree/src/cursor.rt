@@ -7,7 +7,7 @@ ghost use Rattle.bolt_tree.specs.BucketViews.{entries_of};
 ghost use Rattle.bolt_tree.specs.CursorBounds.{OpensByNext, OpensGap, OpensSeek, SeeksInBounds};
 ghost use Rattle.bolt_tree.specs.Held.{IsHeld};
 ghost use Rattle.bolt_tree.specs.Pagers.{pager_checked, pager_opened};
-ghost use Rattle.bolt_tree.specs.Places.{Fresh, Moves, first_move, last_move, next_move, prev_move, seek_move};
+ghost use Rattle.bolt_tree.specs.Places.{Fresh, Moves, Past, first_move, last_move, next_move, prev_move, seek_move};
 ghost use Rattle.bolt_tree.specs.Starts.{HasStart, start_at};
 
 use crate::at::At;
@@ -77,6 +77,7 @@ impl<'a> Cursor<'a> {
         ensures start { cursor_start self.new ≡ cursor_start self.old }
         ensures moves { Moves (entries_of (cursor_checked self.old)) (cursor_start self.old) (λ entries place. first_move entries) (cursor_place self.old) (cursor_place self.new) (option_map leaf_view result) }
         ensures opens { OpensGap (cursor_bucket self.old) 0 (cursor_opened self.old) (cursor_opened self.new) }
+        ensures none { result ≡ None → cursor_place self.new ≡ Fresh }
         ensures compared { cursor_compared self.new ≡ 0 }
         ensures bucket { IfSome result (λ leaf. IsTrue leaf.is_bucket → IsBucketValue leaf.value.now) }
     {
@@ -91,6 +92,7 @@ impl<'a> Cursor<'a> {
         ensures checked { cursor_checked self.new ≡ cursor_checked self.old }
         ensures start { cursor_start self.new ≡ cursor_start self.old }
         ensures moves { Moves (entries_of (cursor_checked self.old)) (cursor_start self.old) (λ entries place. last_move entries) (cursor_place self.old) (cursor_place self.new) (option_map leaf_view result) }
+        ensures none { result ≡ None → cursor_place self.new ≡ Fresh }
         ensures compared { cursor_compared self.new ≡ 0 }
         ensures bucket { IfSome result (λ leaf. IsTrue leaf.is_bucket → IsBucketValue leaf.value.now) }
     {
@@ -106,6 +108,7 @@ impl<'a> Cursor<'a> {
         ensures start { cursor_start self.new ≡ cursor_start self.old }
         ensures moves { Moves (entries_of (cursor_checked self.old)) (cursor_start self.old) next_move (cursor_place self.old) (cursor_place self.new) (option_map leaf_view result) }
         ensures opens { OpensByNext (cursor_bucket self.old) (cursor_place self.old) (cursor_opened self.old) (cursor_opened self.new) }
+        ensures none { result ≡ None → cursor_place self.new ≡ cursor_place self.old }
         ensures compared { cursor_compared self.new ≡ cursor_compared self.old }
         ensures bucket { IfSome result (λ leaf. IsTrue leaf.is_bucket → IsBucketValue leaf.value.now) }
     {
@@ -127,13 +130,18 @@ impl<'a> Cursor<'a> {
         ensures checked { cursor_checked self.new ≡ cursor_checked self.old }
         ensures start { cursor_start self.new ≡ cursor_start self.old }
         ensures moves { Moves (entries_of (cursor_checked self.old)) (cursor_start self.old) prev_move (cursor_place self.old) (cursor_place self.new) (option_map leaf_view result) }
+        ensures none { result ≡ None → cursor_place self.new ≡ cursor_place self.old }
         ensures compared { cursor_compared self.new ≡ cursor_compared self.old }
         ensures bucket { IfSome result (λ leaf. IsTrue leaf.is_bucket → IsBucketValue leaf.value.now) }
     {
         if self.trail.stack.is_empty() {
             let compared = self.compared;
+            let is_past = self.is_past;
             let found = self.last_element();
             self.compared = compared;
+            if found.is_none() {
+                self.is_past = is_past;
+            }
             return found;
         }
         self.trail.prev()
@@ -147,6 +155,7 @@ impl<'a> Cursor<'a> {
         ensures start { cursor_start self.new ≡ cursor_start self.old }
         ensures moves { Moves (entries_of (cursor_checked self.old)) (cursor_start self.old) (λ entries place. seek_move key.now entries) (cursor_place self.old) (cursor_place self.new) (option_map leaf_view result) }
         ensures opens { OpensSeek (cursor_bucket self.old) key.now (cursor_opened self.old) (cursor_opened self.new) }
+        ensures none { result ≡ None → cursor_place self.new ≡ Past }
         ensures compared { SeeksInBounds (cursor_bucket self.old) key.now (cursor_compared self.new) }
         ensures bucket { IfSome result (λ leaf. IsTrue leaf.is_bucket → IsBucketValue leaf.value.now) }
     {

@@ -27,3 +27,10 @@ pub fn gaps_cover_all()
 pub fn seeks_are_counted()
     ensures { (file : List ℕ) (meta : Meta) (start : Start) (entries : List LeafElement) (key : List ℕ) → HasSoundTrees file meta → IsStart file meta start → AreEntries (IsEntry file meta) start entries → (n : ℕ) × IsSeekCount file meta start entries key n }
 {}
+
+/// It is at most the 64 pages of the longest way down, and the pages between the entry that the
+/// seek comes to and the one before.
+pub fn seeks_are_bounded()
+    ensures { (file : List ℕ) (meta : Meta) (start : Start) (entries : List LeafElement) (key : List ℕ) (n gap : ℕ) → HasSoundTrees file meta → IsStart file meta start → AreEntries (IsEntry file meta) start entries
+        → IsSeekCount file meta start entries key n → IsGap file meta start entries (least_from key entries) gap → n ≤ 64 + gap }
+{}

@@ -1,6 +1,7 @@
+use Rattle.std.proofs.Common.{◌∙◌, ap, not}
 use Rattle.bolt_tree.specs.Cursors.{cursor_checked, cursor_place, cursor_start}
 use Rattle.bolt_tree.specs.Trails.{trail_bucket, trail_frames}
-use Rattle.bolt_tree.proofs.HeldLemmas.{held_bucket, held_rest, held_stack, moves_prev, not_past}
+use Rattle.bolt_tree.proofs.HeldLemmas.{found_none, held_again, held_bucket, held_rest, held_stack, moves_prev, not_past}
 use Rattle.bolt_tree.proofs.TrailLemmas.{nonempty, same_bucket}
 use Rattle.bolt_tree.proofs.cursor.Cursor.prev_element.Goals as goal
 
@@ -9,6 +10,13 @@ prev-requires-clause-stack c = held_stack c.args.self.now.trail c.args.self.now.
 
 pub prev-requires-clause-rest : goal.prev-requires-clause-rest
 prev-requires-clause-rest c = held_rest c.args.self.now.trail c.args.self.now.is_past c.args.self.now.held
+
+pub invariant_of-self : goal.invariant_of-self
+unfolding cursor_place
+invariant_of-self c = record {
+  held = held_again c.last_element-found.new.self.trail c.last_element-found.new.self.is_past c.args.self.now.is_past c.last_element-found.new.self.held
+      (c.last_element-found.ensures.none (found_none c.last_element-found.result (c.is_none.ensures ∙ ap not c.if-is_none.true)));
+}
 
 pub invariant_of-self-2 : goal.invariant_of-self-2
 invariant_of-self-2 c =
