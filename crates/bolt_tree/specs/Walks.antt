@@ -1,4 +1,5 @@
--- What is left of a walk, and the path that it tells.
+-- What is left of a walk, and the path that it tells: docs/LISTING.md, "The walk".
+-- A walk has a part of each listing of its file before it; it has not got the list.
 use Rattle.std.specs.Prelude.{◌≡◌, List, [], ◌∷◌, Option, Some, None}
 use Rattle.bolt_tree.specs.Entries.{Item}
 use Rattle.bolt_check.specs.declared.checked_file.Checked.{Checked}

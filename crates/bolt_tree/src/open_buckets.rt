@@ -1,4 +1,5 @@
-//! The open buckets of a walk, and the path that it has come to.
+//! The open buckets of a walk, and the path that it has come to. What is left of a listing is told
+//! by that path alone; the cursors say where to go on.
 ghost use Rattle.std.specs.Option.{IfNone};
 ghost use Rattle.std.specs.Prelude.{◌≡◌, ◌++◌, ◌∷◌, [], IfSome, IfOk, MatchOption, MatchResult, OnOk, OnErr, IsTrue};
 ghost use Rattle.bolt_format.specs.Elements.{IsBucketValue};
@@ -37,7 +38,8 @@ pub(crate) enum Sought<'a> {
     Here(Ahead<'a>),
 }
 
-/// A cursor for each open bucket, from the root on, and the keys that they stand on.
+/// A cursor for each open bucket, from the root on, and the keys that they stand on, which are the
+/// path. Both have the same length.
 #[derive(Drop)]
 pub(crate) struct OpenBuckets<'a> {
     pub checked: Checked<'a>,

@@ -1,4 +1,4 @@
-//! A walk over all that a file holds.
+//! A walk over all that a file holds (docs/LISTING.md, "The walk").
 ghost use Rattle.std.specs.Option.{option_map};
 ghost use Rattle.std.specs.Prelude.{◌≡◌, [], IfOk, OnErr};
 ghost use Rattle.bolt_tree.specs.ShownEntries.{item_view};
@@ -12,7 +12,8 @@ use crate::open_buckets::{Ahead, OpenBuckets};
 use bolt_check::Checked;
 use std::alloc::Global;
 
-/// A walk over all that a file holds, in the order of the paths.
+/// A walk over all that a file holds, in the order of the paths: each value and each bucket once,
+/// a bucket before what it holds. It keeps a cursor for each open bucket, and calls itself nowhere.
 #[derive(Drop)]
 pub struct Walk<'a> {
     buckets: OpenBuckets<'a>,
@@ -25,7 +26,7 @@ impl<'a> Walk<'a> {
     ghost use Rattle.bolt_tree.specs.Paths.{path_of};
     ghost use Rattle.bolt_tree.specs.Walks.{GivesNext, left_of, walk_checked, walk_path};
 
-    /// A walk that has all of the file before it.
+    /// A walk that has all of the file before it. It takes no memory.
     #[tactic(auto, unfolding(crate::specs::Walks::left_of, crate::specs::Walks::walk_checked, crate::specs::Walks::walk_path))]
     pub fn new(alloc: Global, checked: Checked<'a>) -> Walk<'a>
         ensures checked { walk_checked result ≡ checked.entry }
@@ -38,8 +39,12 @@ impl<'a> Walk<'a> {
         }
     }
 
-    /// A walk that has the rest of the file from a path on before it: all that does not stand
-    /// before that path, which may be in the tree or not.
+    /// A walk that has the rest of the file from a path on before it: all that doesn't stand before
+    /// that path, which may be in the tree or not. The empty path is that of the beginning.
+    ///
+    /// # Errors
+    ///
+    /// `NoMemory` where there is no room for the buckets that it opens on the way.
     #[tactic(auto, unfolding(crate::specs::Walks::left_of, crate::specs::Walks::walk_checked, crate::specs::Walks::walk_path))]
     pub fn from(alloc: Global, checked: Checked<'a>, path: &[&[u8]]) -> Result<Walk<'a>, NoMemory>
         ensures checked { IfOk result (λ walk. walk_checked walk ≡ checked.entry) }
@@ -51,8 +56,12 @@ impl<'a> Walk<'a> {
         Ok(Walk { buckets, ahead })
     }
 
-    /// Gives what comes next, or `None` where nothing is left. Where memory runs out, the walk has
-    /// not changed and may be asked again.
+    /// Gives what comes next, or `None` where nothing is left, then and ever after.
+    ///
+    /// # Errors
+    ///
+    /// `NoMemory` where there is no room for one more open bucket. The walk then has the same before
+    /// it and tells the same path, and may be asked again.
     #[tactic(auto, unfolding(crate::specs::Walks::left_of, crate::specs::Walks::walk_checked, crate::specs::Walks::walk_path))]
     pub fn next(&mut self) -> Result<Option<Item<'a>>, NoMemory>
         ensures checked { walk_checked self.new ≡ walk_checked self.old }
@@ -72,7 +81,8 @@ impl<'a> Walk<'a> {
         }
     }
 
-    /// The path of the item given last; empty before the first one and after the last.
+    /// The path of the item given last, from the root bucket down; empty before the first one and
+    /// after the last.
     #[tactic(auto, unfolding(crate::specs::Walks::walk_path))]
     pub fn path(&self) -> &[&'a [u8]]
         ensures { path_of result.now ≡ walk_path self.now }
