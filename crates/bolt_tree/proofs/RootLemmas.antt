@@ -6,12 +6,13 @@ use Rattle.bolt_check.specs.OnWays.{IsOnWay}
 use Rattle.bolt_check.specs.Sound.{HasSoundTrees}
 use Rattle.bolt_check.specs.declared.checked_file.Checked.{Checked}
 use Rattle.bolt_check.proofs.CheckedLemmas.{checked_trees}
-use Rattle.bolt_tree.specs.BucketViews.{BucketView, IsSoundBucket, bucket_in, contents_in, elements_in, pages_in, root_content}
-use Rattle.bolt_tree.specs.Contents.{Content, Contents, Of_branch, Of_leaf}
+use Rattle.bolt_tree.specs.BucketViews.{BucketView, bucket_in}
+use Rattle.bolt_tree.specs.Private.BucketPages.{IsSoundBucket, contents_in, elements_in, pages_in, root_content}
+use Rattle.bolt_tree.specs.Private.Contents.{Content, Contents, Of_branch, Of_leaf}
 use Rattle.bolt_tree.specs.Entries.{Inline_page, IsStart, Root_page, Start}
-use Rattle.bolt_tree.specs.Stacks.{HasStack, IsGoodContent, ahead_of, here_under, right_of, right_under}
+use Rattle.bolt_tree.specs.Private.Stacks.{HasStack, IsGoodContent, ahead_of, here_under, right_of, right_under}
 use Rattle.bolt_tree.specs.Starts.{HasStart}
-use Rattle.bolt_tree.specs.Tours.{Visit, content_at_start, elements_of, tour}
+use Rattle.bolt_tree.specs.Private.Tours.{Visit, content_at_start, elements_of, tour}
 use Rattle.bolt_tree.proofs.StackLemmas.{good_content}
 
 -- a bucket of a checked file is one of a sound tree

@@ -12,11 +12,11 @@ use Rattle.bolt_check.specs.Shape.{leads}
 use Rattle.bolt_check.specs.Sound.{HasSoundTrees}
 use Rattle.bolt_check.proofs.KeyLaws.{less_of, lt_strict}
 use Rattle.bolt_check.proofs.TreePages.{inline_reached, leaf_node, node_is}
-use Rattle.bolt_tree.specs.Contents.{content_at}
+use Rattle.bolt_tree.specs.Private.Contents.{content_at}
 use Rattle.bolt_tree.specs.Entries.{AreEntries, Inline_page, IsEntry, IsStart, Root_page, Start, entry_cmp, start_of}
 use Rattle.bolt_tree.specs.Openings.{IsHome}
 use Rattle.bolt_tree.specs.Order as order
-use Rattle.bolt_tree.specs.Tours.{Visit, elements_of, pages_at}
+use Rattle.bolt_tree.specs.Private.Tours.{Visit, elements_of, pages_at}
 use Rattle.bolt_tree.proofs.ListLemmas.{Has, RisesBy, contains_from_has, flat_has, has_at, has_flat, has_from_contains, one_list, rises_flat, rises_from_gets, rises_weaker}
 use Rattle.bolt_tree.proofs.TourLemmas.{IsApart, IsBelowElement, entries_shown, leaf_of, led_tour, page_rises, tour_led, tour_rises}
 use Rattle.bolt_tree.proofs.WayPages.{content_is}

@@ -1,0 +1,11 @@
+-- What private contracts and proofs cite, and no public one.
+pub mod BucketPages
+pub mod Contents
+pub mod Entered
+pub mod Held
+pub mod PageKeys
+pub mod Seeks
+pub mod ShownPages
+pub mod Stacks
+pub mod Tours
+pub mod Trails
