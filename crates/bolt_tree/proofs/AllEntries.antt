@@ -13,7 +13,7 @@ use Rattle.bolt_tree.specs.Entries.{AreEntries, IsEntry, IsStart, Root_page, Sta
 use Rattle.bolt_tree.specs.FileListings.{root_of}
 use Rattle.bolt_tree.specs.Paths.{HasEntries}
 use Rattle.bolt_tree.specs.Starts.{HasStart}
-use Rattle.bolt_tree.specs.Tours.{elements_of, pages_at}
+use Rattle.bolt_tree.specs.Private.Tours.{elements_of, pages_at}
 use Rattle.bolt_tree.proofs.SortedLemmas.{sorted}
 use Rattle.bolt_tree.proofs.BucketWays.{root_starts, starts_below, starts_named}
 

@@ -5,11 +5,12 @@ use Rattle.std.proofs.Props.{props}
 use Rattle.std.proofs.lemmas.List.{length-take, take_all}
 use Rattle.std.proofs.lemmas.List.Concat.{flat_map-append}
 use Rattle.bolt_format.specs.Elements.{BranchElement, LeafElement}
-use Rattle.bolt_tree.specs.BucketViews.{BucketView, contents_in, elements_in, root_content}
-use Rattle.bolt_tree.specs.Contents.{Content, Contents, Of_branch, Of_leaf, content_length}
-use Rattle.bolt_tree.specs.Entered.{IsEntered}
-use Rattle.bolt_tree.specs.Stacks.{Frame, HasStack, IsAtRest, IsBranchContent, IsBranchTop, IsOn, RestsOn, address_on, before_of, before_under, behind_of, done_of, done_under, index_of, left_of, left_under, under_at}
-use Rattle.bolt_tree.specs.Tours.{Visit, all_under, elements_of, tour}
+use Rattle.bolt_tree.specs.BucketViews.{BucketView}
+use Rattle.bolt_tree.specs.Private.BucketPages.{contents_in, elements_in, root_content}
+use Rattle.bolt_tree.specs.Private.Contents.{Content, Contents, Of_branch, Of_leaf, content_length}
+use Rattle.bolt_tree.specs.Private.Entered.{IsEntered}
+use Rattle.bolt_tree.specs.Private.Stacks.{Frame, HasStack, IsAtRest, IsBranchContent, IsBranchTop, IsOn, RestsOn, address_on, before_of, before_under, behind_of, done_of, done_under, index_of, left_of, left_under, under_at}
+use Rattle.bolt_tree.specs.Private.Tours.{Visit, all_under, elements_of, tour}
 use Rattle.bolt_tree.proofs.StackLemmas.{branch_room}
 
 take_next : {X : Type 0} (xs : List X) (i : ℕ) (x : X) → slice_get xs i ≡ Some x → take (suc i) xs ≡ take i xs ++ x ∷ []

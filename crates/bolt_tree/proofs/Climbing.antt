@@ -12,8 +12,8 @@ use Rattle.bolt_tree.specs.Entries.{Start, item_of}
 use Rattle.bolt_tree.specs.Listing.{Lists, Member}
 use Rattle.bolt_tree.specs.Paths.{HasEntries, Names, Path, path_of}
 use Rattle.bolt_tree.specs.Places.{Moves, next_move}
-use Rattle.bolt_tree.specs.OpenBuckets.{AreOpen}
-use Rattle.bolt_tree.specs.Behind.{behind, beyond, is_beyond}
+use Rattle.bolt_tree.specs.Private.OpenBuckets.{AreOpen}
+use Rattle.bolt_tree.specs.Private.Behind.{behind, beyond, is_beyond}
 use Rattle.bolt_tree.specs.declared.cursor.Cursor.{Cursor}
 use Rattle.bolt_tree.proofs.Filters.{filter_none}
 use Rattle.bolt_tree.proofs.OpenSteps.{Top, path_popped, next_ended, next_entry, next_given, next_open, open_pop}

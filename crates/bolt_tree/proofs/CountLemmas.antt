@@ -9,8 +9,8 @@ use Rattle.bolt_check.specs.Sound.{HasSoundTrees}
 use Rattle.bolt_check.specs.Ways.{Before}
 use Rattle.bolt_tree.specs.Entries.{Inline_page, IsStart, Root_page, Start}
 use Rattle.bolt_tree.specs.Openings.{HasCount, IsAddress, IsAllPages, IsHome, IsPagesUpTo, IsUpTo}
-use Rattle.bolt_tree.specs.Contents.{content_at}
-use Rattle.bolt_tree.specs.Tours.{Visit, pages_at}
+use Rattle.bolt_tree.specs.Private.Contents.{content_at}
+use Rattle.bolt_tree.specs.Private.Tours.{Visit, pages_at}
 use Rattle.bolt_check.proofs.KeyLaws.{lt_strict}
 use Rattle.bolt_check.proofs.WayOrder.{before_irreflexive, before_strict}
 use Rattle.bolt_tree.proofs.ListLemmas.{Has, RisesBy, contains_from_has, has_from_contains, has_left, has_map, has_right, has_split, map_has, one_list, pairs_from_rises, rises_across, rises_from_pairs, rises_left, rises_map, rises_weaker}

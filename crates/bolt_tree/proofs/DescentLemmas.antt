@@ -6,12 +6,13 @@ use Rattle.bolt_format.specs.Elements.{BranchElement, LeafElement}
 use Rattle.bolt_format.specs.Shown.{shown}
 use Rattle.bolt_format.specs.ShownInline.{shown_inline}
 use Rattle.bolt_check.specs.Keys.{Key}
-use Rattle.bolt_tree.specs.BucketViews.{BucketView, contents_in, elements_in}
-use Rattle.bolt_tree.specs.Contents.{Content, Contents, Of_branch, Of_leaf, content_keys, content_length}
-use Rattle.bolt_tree.specs.PageKeys.{IsPlaceOf}
-use Rattle.bolt_tree.specs.Seeks.{IsBetween, IsNearTop, IsOnWayDown, IsSought}
-use Rattle.bolt_tree.specs.ShownPages.{opened_content}
-use Rattle.bolt_tree.specs.Stacks.{Frame, HasStack, IsLeafTop, ahead_of}
+use Rattle.bolt_tree.specs.BucketViews.{BucketView}
+use Rattle.bolt_tree.specs.Private.BucketPages.{contents_in, elements_in}
+use Rattle.bolt_tree.specs.Private.Contents.{Content, Contents, Of_branch, Of_leaf, content_keys, content_length}
+use Rattle.bolt_tree.specs.Private.PageKeys.{IsPlaceOf}
+use Rattle.bolt_tree.specs.Private.Seeks.{IsBetween, IsNearTop, IsOnWayDown, IsSought}
+use Rattle.bolt_tree.specs.Private.ShownPages.{opened_content}
+use Rattle.bolt_tree.specs.Private.Stacks.{Frame, HasStack, IsLeafTop, ahead_of}
 use Rattle.bolt_tree.specs.declared.opened.BranchPage.{BranchPage}
 use Rattle.bolt_tree.specs.declared.opened.Opened.{Opened}
 use Rattle.bolt_tree.specs.declared.opened.Opened.TheVariants.{Branch, Inline, Leaf, Nothing}

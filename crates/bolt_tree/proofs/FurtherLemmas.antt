@@ -12,7 +12,7 @@ use Rattle.bolt_check.specs.Ways.{Before}
 use Rattle.bolt_check.proofs.WayOrder.{before_irreflexive, before_strict}
 use Rattle.bolt_tree.specs.Entries.{Inline_page, IsStart, Root_page, Start}
 use Rattle.bolt_tree.specs.Openings.{HasCount, IsAfter, IsHome, IsNear, IsNearFrom, IsNearest, IsSeekPage}
-use Rattle.bolt_tree.specs.Tours.{Visit, pages_at}
+use Rattle.bolt_tree.specs.Private.Tours.{Visit, pages_at}
 use Rattle.bolt_tree.proofs.CountLemmas.{address_visited, addresses_of, count_is, home_is, visit_address}
 use Rattle.bolt_tree.proofs.ListLemmas.{Has, RisesBy, has_left, has_map, has_right, has_split, map_has, rises_across, rises_left, rises_map, rises_right, rises_weaker}
 use Rattle.bolt_tree.proofs.SortedLemmas.{start_rises, visit_is}

@@ -8,7 +8,7 @@ use Rattle.bolt_check.specs.Keys.{key_lt}
 use Rattle.bolt_check.specs.Sound.{HasSoundTrees}
 use Rattle.bolt_tree.specs.Entries.{AreEntries, IsEntry, IsStart, Start}
 use Rattle.bolt_tree.specs.Openings.{IsAddress, IsAllPages, IsGap, IsPagesUpTo, IsUpTo, sum_to}
-use Rattle.bolt_tree.specs.Tours.{Visit, pages_at}
+use Rattle.bolt_tree.specs.Private.Tours.{Visit, pages_at}
 use Rattle.bolt_tree.proofs.CountLemmas.{address_visited, addresses_of, addresses_rise, all_is, counts, from_up_to, members_rise, up_to, upto_is, visit_address}
 use Rattle.bolt_check.proofs.KeyLaws.{lt_strict}
 use Rattle.bolt_tree.proofs.ListLemmas.{Has, RisesBy, at_has, contains_from_has, flat_has, map_has, rises_across, rises_gets}

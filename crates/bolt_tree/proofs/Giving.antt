@@ -10,7 +10,7 @@ use Rattle.bolt_check.specs.Keys.{Key, key_cmp}
 use Rattle.bolt_tree.specs.Entries.{AreEntries, Item, Start, entry_cmp, item_of, start_of}
 use Rattle.bolt_tree.specs.Listing.{Lists, Member, member_cmp, rest_from}
 use Rattle.bolt_tree.specs.Paths.{HasEntries, Holds, Names, Path, path_cmp}
-use Rattle.bolt_tree.specs.Behind.{is_beyond, behind, beyond}
+use Rattle.bolt_tree.specs.Private.Behind.{is_beyond, behind, beyond}
 use Rattle.bolt_tree.proofs.EntryOrder.{contains_at, first_least, last_greatest, next_least, next_less}
 use Rattle.bolt_tree.proofs.Filters.{filter_first, filter_none, filter_same, lt_of, not_true, same_bool}
 use Rattle.bolt_tree.proofs.Lists.{contains_none, irreflexive}

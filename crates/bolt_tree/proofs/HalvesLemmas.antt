@@ -3,7 +3,7 @@ use Rattle.std.proofs.Common.{◌≡◌, ℕ, zero, suc, ◌+◌, ◌*◌, ◌�
 use Rattle.std.proofs.Math.Nat.{mul-le-mul_left}
 use Rattle.std.proofs.lemmas.Bool.{cases_lt}
 use Rattle.bolt_check.specs.Keys.{Key, KeysRise, key_lt}
-use Rattle.bolt_tree.specs.PageKeys.{doubled, stands_before}
+use Rattle.bolt_tree.specs.Private.PageKeys.{doubled, stands_before}
 use Rattle.bolt_check.proofs.KeyLaws.{lt_trans}
 
 not_false : (b : Bool) → not b ≡ true → b ≡ false

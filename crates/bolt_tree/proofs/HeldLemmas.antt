@@ -8,16 +8,17 @@ use Rattle.bolt_format.specs.ElementPlaces.{leaf_view}
 use Rattle.bolt_format.specs.Elements.{LeafElement}
 use Rattle.bolt_format.specs.declared.element.Leaf.{Leaf}
 use Rattle.bolt_check.specs.Keys.{Key}
-use Rattle.bolt_tree.specs.BucketViews.{AreSorted, BucketView, IsSoundBucket, contents_in, elements_in, pages_in}
-use Rattle.bolt_tree.specs.Contents.{Content, Contents, Of_branch, Of_leaf}
+use Rattle.bolt_tree.specs.BucketViews.{AreSorted, BucketView}
+use Rattle.bolt_tree.specs.Private.BucketPages.{IsSoundBucket, contents_in, elements_in, pages_in}
+use Rattle.bolt_tree.specs.Private.Contents.{Content, Contents, Of_branch, Of_leaf}
 use Rattle.bolt_tree.specs.CursorBounds.{OpensByNext, OpensGap}
-use Rattle.bolt_tree.specs.Entered.{opened_to}
+use Rattle.bolt_tree.specs.Private.Entered.{opened_to}
 use Rattle.bolt_tree.specs.Entries.{IsEntry}
-use Rattle.bolt_tree.specs.Held.{IsHeld, place_by, place_on}
+use Rattle.bolt_tree.specs.Private.Held.{IsHeld, place_by, place_on}
 use Rattle.bolt_tree.specs.Pagers.{counted}
 use Rattle.bolt_tree.specs.Places.{Fresh, Move, Moves, Place, first_move, last_move, least_from, next_move, place_in, prev_move, seek_move}
-use Rattle.bolt_tree.specs.Stacks.{Frame, HasStack, IsAtRest, RestsOn, ahead_of, behind_of, right_of}
-use Rattle.bolt_tree.specs.Trails.{HasBucket, HasTrail, frames_of, trail_bucket, trail_frames}
+use Rattle.bolt_tree.specs.Private.Stacks.{Frame, HasStack, IsAtRest, RestsOn, ahead_of, behind_of, right_of}
+use Rattle.bolt_tree.specs.Private.Trails.{HasBucket, HasTrail, frames_of, trail_bucket, trail_frames}
 use Rattle.bolt_tree.specs.declared.position.Position.{Position}
 use Rattle.bolt_tree.specs.declared.trail.Trail.{Trail}
 use Rattle.bolt_tree.proofs.MoveLemmas.{Finds, FindsBack}

@@ -5,10 +5,11 @@ use Rattle.std.specs.Prelude.{MatchOption}
 use Rattle.bolt_format.specs.ElementPlaces.{leaf_view}
 use Rattle.bolt_format.specs.Elements.{LeafElement}
 use Rattle.bolt_format.specs.declared.element.Leaf.{Leaf}
-use Rattle.bolt_tree.specs.BucketViews.{BucketView, contents_in}
-use Rattle.bolt_tree.specs.Contents.{Content, Contents, Of_branch, Of_leaf}
-use Rattle.bolt_tree.specs.Entered.{IsEntered, entered_pages}
-use Rattle.bolt_tree.specs.Stacks.{Frame, IsAtRest, IsOn, RestsOn, ahead_of, behind_of, right_of}
+use Rattle.bolt_tree.specs.BucketViews.{BucketView}
+use Rattle.bolt_tree.specs.Private.BucketPages.{contents_in}
+use Rattle.bolt_tree.specs.Private.Contents.{Content, Contents, Of_branch, Of_leaf}
+use Rattle.bolt_tree.specs.Private.Entered.{IsEntered, entered_pages}
+use Rattle.bolt_tree.specs.Private.Stacks.{Frame, IsAtRest, IsOn, RestsOn, ahead_of, behind_of, right_of}
 use Rattle.bolt_tree.proofs.BackLemmas.{step_back_some}
 use Rattle.bolt_tree.proofs.PlaceLemmas.{on_rests}
 use Rattle.bolt_tree.proofs.TrailLemmas.{step_some}

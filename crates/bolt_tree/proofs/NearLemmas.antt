@@ -13,15 +13,16 @@ use Rattle.bolt_check.specs.Keys.{Key, KeysRise, key_lt}
 use Rattle.bolt_check.specs.OnWays.{IsOnWay}
 use Rattle.bolt_check.specs.Sound.{HasSoundTrees}
 use Rattle.bolt_check.proofs.TreePages.{branch_key, branch_node, on_child, spot_node}
-use Rattle.bolt_tree.specs.BucketViews.{BucketView, IsSoundBucket, contents_in, elements_in, pages_in, root_content}
-use Rattle.bolt_tree.specs.Contents.{Content, Contents, Of_branch, Of_leaf, content_at, content_keys}
+use Rattle.bolt_tree.specs.BucketViews.{BucketView}
+use Rattle.bolt_tree.specs.Private.BucketPages.{IsSoundBucket, contents_in, elements_in, pages_in, root_content}
+use Rattle.bolt_tree.specs.Private.Contents.{Content, Contents, Of_branch, Of_leaf, content_at, content_keys}
 use Rattle.bolt_tree.specs.Entries.{Inline_page, IsStart, Root_page, Start}
 use Rattle.bolt_tree.specs.Openings.{IsNear, IsNearFrom, IsNearest}
-use Rattle.bolt_tree.specs.PageKeys.{IsPlaceOf}
+use Rattle.bolt_tree.specs.Private.PageKeys.{IsPlaceOf}
 use Rattle.bolt_tree.specs.Places.{least_from}
-use Rattle.bolt_tree.specs.Seeks.{AreBelow, IsBetween, IsNearTo, IsNearTop, IsOnWayDown, IsSought}
-use Rattle.bolt_tree.specs.Stacks.{Frame, HasStack, address_on, ahead_of, left_of, right_of}
-use Rattle.bolt_tree.specs.Tours.{Visit, content_at_start, elements_of, tour}
+use Rattle.bolt_tree.specs.Private.Seeks.{AreBelow, IsBetween, IsNearTo, IsNearTop, IsOnWayDown, IsSought}
+use Rattle.bolt_tree.specs.Private.Stacks.{Frame, HasStack, address_on, ahead_of, left_of, right_of}
+use Rattle.bolt_tree.specs.Private.Tours.{Visit, content_at_start, elements_of, tour}
 use Rattle.bolt_tree.proofs.ListLemmas.{Has, has_right, rises_gets}
 use Rattle.bolt_tree.proofs.PlaceLemmas.{drop_front}
 use Rattle.bolt_tree.proofs.SeekLemmas.{are_append, branch_page, drop_get, is_above, not_above, take_get}

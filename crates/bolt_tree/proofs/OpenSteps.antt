@@ -12,8 +12,8 @@ use Rattle.bolt_tree.specs.Entries.{AreEntries, Item, Start, item_of}
 use Rattle.bolt_tree.specs.Listing.{Lists, Member}
 use Rattle.bolt_tree.specs.Paths.{HasEntries, Names, Path, path_of}
 use Rattle.bolt_tree.specs.Places.{Moves, On, Place, next_move}
-use Rattle.bolt_tree.specs.OpenBuckets.{AreOpen, StandsOn}
-use Rattle.bolt_tree.specs.Behind.{behind, beyond}
+use Rattle.bolt_tree.specs.Private.OpenBuckets.{AreOpen, StandsOn}
+use Rattle.bolt_tree.specs.Private.Behind.{behind, beyond}
 use Rattle.bolt_tree.specs.declared.cursor.Cursor.{Cursor}
 use Rattle.bolt_tree.proofs.CursorMoves.{comes_next, comes_first}
 use Rattle.bolt_tree.proofs.EntryOrder.{contains_at}

@@ -8,14 +8,15 @@ use Rattle.std.proofs.lemmas.Option.{slice_get_past}
 use Rattle.bolt_format.specs.ElementPlaces.{leaf_view}
 use Rattle.bolt_format.specs.Elements.{LeafElement}
 use Rattle.bolt_format.specs.declared.element.Leaf.{Leaf}
-use Rattle.bolt_tree.specs.BucketViews.{BucketView, IsSoundBucket, contents_in, elements_in, pages_in}
-use Rattle.bolt_tree.specs.Contents.{Content, Of_branch, Of_leaf}
+use Rattle.bolt_tree.specs.BucketViews.{BucketView}
+use Rattle.bolt_tree.specs.Private.BucketPages.{IsSoundBucket, contents_in, elements_in, pages_in}
+use Rattle.bolt_tree.specs.Private.Contents.{Content, Of_branch, Of_leaf}
 use Rattle.bolt_tree.specs.CursorBounds.{OpensGap}
-use Rattle.bolt_tree.specs.Entered.{opened_to}
+use Rattle.bolt_tree.specs.Private.Entered.{opened_to}
 use Rattle.bolt_tree.specs.Openings.{IsPagesUpTo}
 use Rattle.bolt_tree.specs.Pagers.{counted}
-use Rattle.bolt_tree.specs.Stacks.{Frame, HasStack, IsAtRest, RestsOn, address_on, ahead_of, index_of, left_of, right_of}
-use Rattle.bolt_tree.specs.Tours.{Visit, elements_of, tour}
+use Rattle.bolt_tree.specs.Private.Stacks.{Frame, HasStack, IsAtRest, RestsOn, address_on, ahead_of, index_of, left_of, right_of}
+use Rattle.bolt_tree.specs.Private.Tours.{Visit, elements_of, tour}
 use Rattle.bolt_tree.proofs.CountLemmas.{all_is, upto_is}
 use Rattle.bolt_tree.proofs.ListLemmas.{at_has, get_behind, get_exists, get_front}
 use Rattle.bolt_tree.proofs.MoveLemmas.{Finds}

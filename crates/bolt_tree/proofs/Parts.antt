@@ -9,8 +9,8 @@ use Rattle.bolt_tree.specs.BucketViews.{entries_of}
 use Rattle.bolt_tree.specs.FileListings.{root_of}
 use Rattle.bolt_tree.specs.Listing.{Lists, Member, rest_from}
 use Rattle.bolt_tree.specs.Paths.{HasEntries, Path, path_of}
-use Rattle.bolt_tree.specs.OpenBuckets.{AreOpen, is_end}
-use Rattle.bolt_tree.specs.Behind.{behind}
+use Rattle.bolt_tree.specs.Private.OpenBuckets.{AreOpen, is_end}
+use Rattle.bolt_tree.specs.Private.Behind.{behind}
 use Rattle.bolt_tree.specs.declared.cursor.Cursor.{Cursor}
 use Rattle.bolt_tree.proofs.Seeking.{behind_all, rest_all}
 

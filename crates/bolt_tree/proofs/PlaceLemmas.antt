@@ -5,10 +5,11 @@ use Rattle.std.proofs.Props.{props}
 use Rattle.std.proofs.lemmas.List.{take-append-drop, length-take}
 use Rattle.std.proofs.lemmas.List.Concat.{flat_map-append}
 use Rattle.bolt_format.specs.Elements.{LeafElement}
-use Rattle.bolt_tree.specs.BucketViews.{BucketView, contents_in, elements_in, pages_in}
-use Rattle.bolt_tree.specs.Contents.{Content, Contents, Of_branch, Of_leaf}
-use Rattle.bolt_tree.specs.Stacks.{Frame, HasStack, IsAtRest, IsOn, RestsOn, StandsOn, address_on, ahead_of, index_of, left_of, right_of}
-use Rattle.bolt_tree.specs.Tours.{Visit, elements_of, tour}
+use Rattle.bolt_tree.specs.BucketViews.{BucketView}
+use Rattle.bolt_tree.specs.Private.BucketPages.{contents_in, elements_in, pages_in}
+use Rattle.bolt_tree.specs.Private.Contents.{Content, Contents, Of_branch, Of_leaf}
+use Rattle.bolt_tree.specs.Private.Stacks.{Frame, HasStack, IsAtRest, IsOn, RestsOn, StandsOn, address_on, ahead_of, index_of, left_of, right_of}
+use Rattle.bolt_tree.specs.Private.Tours.{Visit, elements_of, tour}
 use Rattle.bolt_tree.proofs.StackLemmas.{in_range}
 
 module _ {X : Type 0} where

@@ -10,12 +10,13 @@ use Rattle.bolt_format.specs.ElementPlaces.{leaf_view}
 use Rattle.bolt_format.specs.Elements.{LeafElement}
 use Rattle.bolt_format.specs.declared.element.Leaf.{Leaf}
 use Rattle.bolt_check.specs.Keys.{Key}
-use Rattle.bolt_tree.specs.BucketViews.{AreSorted, BucketView, IsSoundBucket, contents_in, elements_in, pages_in}
-use Rattle.bolt_tree.specs.Contents.{Content, Contents, Of_branch, Of_leaf}
-use Rattle.bolt_tree.specs.Held.{place_on}
+use Rattle.bolt_tree.specs.BucketViews.{AreSorted, BucketView}
+use Rattle.bolt_tree.specs.Private.BucketPages.{IsSoundBucket, contents_in, elements_in, pages_in}
+use Rattle.bolt_tree.specs.Private.Contents.{Content, Contents, Of_branch, Of_leaf}
+use Rattle.bolt_tree.specs.Private.Held.{place_on}
 use Rattle.bolt_tree.specs.Places.{Move, On, Past, Place, first_move, last_move, least_from, next_move, place_in, prev_move, seek_move}
-use Rattle.bolt_tree.specs.Stacks.{Frame, HasStack, IsAtRest, IsOn, StandsOn, address_on, ahead_of, behind_of, index_of, left_of, right_of}
-use Rattle.bolt_tree.specs.Tours.{Visit, elements_of, tour}
+use Rattle.bolt_tree.specs.Private.Stacks.{Frame, HasStack, IsAtRest, IsOn, StandsOn, address_on, ahead_of, behind_of, index_of, left_of, right_of}
+use Rattle.bolt_tree.specs.Private.Tours.{Visit, elements_of, tour}
 use Rattle.bolt_tree.proofs.BackLemmas.{behind_index}
 use Rattle.bolt_tree.proofs.ListLemmas.{get_behind, get_front}
 use Rattle.bolt_tree.proofs.MoveLemmas.{Finds, FindsBack}

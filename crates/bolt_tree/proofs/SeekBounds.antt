@@ -12,11 +12,11 @@ use Rattle.bolt_check.specs.Shape.{leads}
 use Rattle.bolt_check.specs.Sound.{HasSoundTrees}
 use Rattle.bolt_check.specs.Ways.{Before}
 use Rattle.bolt_check.proofs.TreePages.{branch_step, leads_child, leaf_ends, leaf_node, node_is, on_address, on_child}
-use Rattle.bolt_tree.specs.Contents.{content_at}
+use Rattle.bolt_tree.specs.Private.Contents.{content_at}
 use Rattle.bolt_tree.specs.Entries.{AreEntries, Inline_page, IsEntry, IsStart, Root_page, Start}
 use Rattle.bolt_tree.specs.Openings.{HasCount, IsGap, IsHome, IsNear, IsNearFrom, IsNearest, IsPagesUpTo, IsSeekCount, IsSeekPage}
 use Rattle.bolt_tree.specs.Places.{least_from}
-use Rattle.bolt_tree.specs.Tours.{Visit, pages_at}
+use Rattle.bolt_tree.specs.Private.Tours.{Visit, pages_at}
 use Rattle.bolt_tree.proofs.CountLemmas.{address_visited, all_is, count_is, upto_is}
 use Rattle.bolt_tree.proofs.FurtherLemmas.{after_count, between_count, one_near}
 use Rattle.bolt_tree.proofs.GapLemmas.{IsAt, entry_at, first_cut, has_cut}

@@ -14,7 +14,7 @@ use Rattle.bolt_check.proofs.WayOrder.{before_strict, before_trans}
 use Rattle.bolt_tree.specs.Entries.{AreEntries, Inline_page, IsEntry, IsStart, Root_page, Start}
 use Rattle.bolt_tree.specs.Openings.{HasCount, IsAddress, IsAfter, IsNear, IsNearFrom, IsNearest, IsSeekCount, IsSeekPage}
 use Rattle.bolt_tree.specs.Places.{least_from}
-use Rattle.bolt_tree.specs.Tours.{Visit, pages_at}
+use Rattle.bolt_tree.specs.Private.Tours.{Visit, pages_at}
 use Rattle.bolt_check.specs.OnWays.{IsOnWay}
 use Rattle.bolt_tree.proofs.CountLemmas.{address_visited, counts}
 use Rattle.std.proofs.Common.{length-append}

@@ -16,12 +16,13 @@ use Rattle.bolt_check.specs.OnWays.{IsOnWay}
 use Rattle.bolt_check.specs.Sound.{HasSoundTrees}
 use Rattle.bolt_check.proofs.KeyLaws.{lt_not_trans, lt_trans, not_true}
 use Rattle.bolt_check.proofs.TreePages.{branch_node, on_child}
-use Rattle.bolt_tree.specs.BucketViews.{BucketView, contents_in}
-use Rattle.bolt_tree.specs.Contents.{Contents, Of_branch, content_at, content_keys}
-use Rattle.bolt_tree.specs.PageKeys.{IsPlaceOf}
-use Rattle.bolt_tree.specs.Seeks.{AreBelow, IsBetween}
-use Rattle.bolt_tree.specs.Stacks.{Frame, HasStack, address_on, left_of, right_of, under_at}
-use Rattle.bolt_tree.specs.Tours.{Visit, elements_of, tour}
+use Rattle.bolt_tree.specs.BucketViews.{BucketView}
+use Rattle.bolt_tree.specs.Private.BucketPages.{contents_in}
+use Rattle.bolt_tree.specs.Private.Contents.{Contents, Of_branch, content_at, content_keys}
+use Rattle.bolt_tree.specs.Private.PageKeys.{IsPlaceOf}
+use Rattle.bolt_tree.specs.Private.Seeks.{AreBelow, IsBetween}
+use Rattle.bolt_tree.specs.Private.Stacks.{Frame, HasStack, address_on, left_of, right_of, under_at}
+use Rattle.bolt_tree.specs.Private.Tours.{Visit, elements_of, tour}
 use Rattle.bolt_tree.proofs.ListLemmas.{Has, at_has, flat_has, get_before, has_at, has_split}
 use Rattle.bolt_tree.proofs.StackLemmas.{not_leaf, same_branch}
 use Rattle.bolt_tree.proofs.TourLemmas.{IsUnder, branches_rise, tour_led, under_child, under_has}

@@ -11,7 +11,7 @@ use Rattle.bolt_tree.specs.Entries.{AreEntries, Item, Start, entry_cmp, item_of,
 use Rattle.bolt_tree.specs.Listing.{Lists, Member, member_cmp, rest_from}
 use Rattle.bolt_tree.specs.Paths.{HasEntries, Holds, Names, Path, path_cmp}
 use Rattle.bolt_tree.specs.Places.{least_from}
-use Rattle.bolt_tree.specs.Behind.{is_beyond, behind, beyond}
+use Rattle.bolt_tree.specs.Private.Behind.{is_beyond, behind, beyond}
 use Rattle.bolt_tree.proofs.EntryOrder.{contains_at, seek_least, seek_none}
 use Rattle.bolt_tree.proofs.Filters.{filter_all, filter_same, lt_of, not_true, same_bool}
 use Rattle.bolt_tree.proofs.Giving.{not_before, not_before_beyond}

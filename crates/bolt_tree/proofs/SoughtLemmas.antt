@@ -8,16 +8,17 @@ use Rattle.bolt_format.specs.ElementPlaces.{leaf_view}
 use Rattle.bolt_format.specs.Elements.{LeafElement}
 use Rattle.bolt_format.specs.declared.element.Leaf.{Leaf}
 use Rattle.bolt_check.specs.Keys.{Key}
-use Rattle.bolt_tree.specs.BucketViews.{BucketView, IsSoundBucket, contents_in, elements_in, pages_in}
-use Rattle.bolt_tree.specs.Contents.{Content, Contents, Of_branch, Of_leaf}
+use Rattle.bolt_tree.specs.BucketViews.{BucketView}
+use Rattle.bolt_tree.specs.Private.BucketPages.{IsSoundBucket, contents_in, elements_in, pages_in}
+use Rattle.bolt_tree.specs.Private.Contents.{Content, Contents, Of_branch, Of_leaf}
 use Rattle.bolt_tree.specs.CursorBounds.{OpensSeek, SeeksInBounds}
-use Rattle.bolt_tree.specs.Entered.{opened_to}
+use Rattle.bolt_tree.specs.Private.Entered.{opened_to}
 use Rattle.bolt_tree.specs.Openings.{HasCount, IsNear, IsSeekPage}
 use Rattle.bolt_tree.specs.Pagers.{counted}
 use Rattle.bolt_tree.specs.Places.{least_from}
-use Rattle.bolt_tree.specs.Seeks.{IsNearTop, IsSought, top_address}
-use Rattle.bolt_tree.specs.Stacks.{Frame, HasStack, IsLeafContent, IsLeafTop, StandsOn, address_on, ahead_of, left_of, right_of}
-use Rattle.bolt_tree.specs.Tours.{Visit}
+use Rattle.bolt_tree.specs.Private.Seeks.{IsNearTop, IsSought, top_address}
+use Rattle.bolt_tree.specs.Private.Stacks.{Frame, HasStack, IsLeafContent, IsLeafTop, StandsOn, address_on, ahead_of, left_of, right_of}
+use Rattle.bolt_tree.specs.Private.Tours.{Visit}
 use Rattle.bolt_tree.proofs.FurtherLemmas.{after_count, between_count, one_near}
 use Rattle.bolt_tree.proofs.ListLemmas.{Has, at_has}
 use Rattle.bolt_tree.proofs.MoveLemmas.{Finds}

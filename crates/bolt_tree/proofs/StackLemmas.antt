@@ -6,10 +6,11 @@ use Rattle.bolt_format.specs.Elements.{BranchElement, LeafElement}
 use Rattle.bolt_check.specs.OnWays.{IsOnWay}
 use Rattle.bolt_check.specs.Sound.{HasSoundTrees}
 use Rattle.bolt_check.proofs.TreePages.{on_child, shallow}
-use Rattle.bolt_tree.specs.BucketViews.{BucketView, contents_in, pages_in}
-use Rattle.bolt_tree.specs.Contents.{Content, Contents, Of_branch, Of_leaf, content_length}
-use Rattle.bolt_tree.specs.Stacks.{Frame, HasStack, IsGoodContent, IsStack, address_on, left_of, left_under, right_of, right_under}
-use Rattle.bolt_tree.specs.Tours.{Visit, all_under, tour}
+use Rattle.bolt_tree.specs.BucketViews.{BucketView}
+use Rattle.bolt_tree.specs.Private.BucketPages.{contents_in, pages_in}
+use Rattle.bolt_tree.specs.Private.Contents.{Content, Contents, Of_branch, Of_leaf, content_length}
+use Rattle.bolt_tree.specs.Private.Stacks.{Frame, HasStack, IsGoodContent, IsStack, address_on, left_of, left_under, right_of, right_under}
+use Rattle.bolt_tree.specs.Private.Tours.{Visit, all_under, tour}
 use Rattle.bolt_tree.proofs.TourLemmas.{not_deepest}
 use Rattle.bolt_tree.proofs.WayPages.{IsWayPage, a_branch, a_leaf, on_way_page}
 

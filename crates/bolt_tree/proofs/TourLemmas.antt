@@ -13,8 +13,8 @@ use Rattle.bolt_check.specs.Shape.{leads}
 use Rattle.bolt_check.specs.Sound.{HasSoundTrees}
 use Rattle.bolt_check.specs.Ways.{Before}
 use Rattle.bolt_check.specs.OnWays.{IsOnWay}
-use Rattle.bolt_tree.specs.Contents.{Content, Contents, Of_branch, Of_leaf, content_at}
-use Rattle.bolt_tree.specs.Tours.{Visit, all_under, tour}
+use Rattle.bolt_tree.specs.Private.Contents.{Content, Contents, Of_branch, Of_leaf, content_at}
+use Rattle.bolt_tree.specs.Private.Tours.{Visit, all_under, tour}
 use Rattle.bolt_check.proofs.KeyLaws.{lt_not_trans, lt_trans}
 use Rattle.bolt_tree.proofs.ListLemmas.{Has, Each, RisesBy, get_before, has_at, has_left, has_right, has_split, rises_append, rises_from_gets, at_has}
 use Rattle.bolt_check.proofs.TreePages.{branch_entry_at, branch_key, branch_node, branch_step, leads_child, leaf_ends, leaf_key, leaf_node, on_child, shallow, spot_node}

@@ -13,12 +13,13 @@ use Rattle.bolt_check.specs.CheckedFiles.{bytes_of, meta_of}
 use Rattle.bolt_check.specs.OnWays.{IsOnWay}
 use Rattle.bolt_check.specs.declared.checked_file.Checked.{Checked}
 use Rattle.bolt_check.proofs.CheckedLemmas.{checked_trees}
-use Rattle.bolt_tree.specs.BucketViews.{BucketView, contents_in}
-use Rattle.bolt_tree.specs.Contents.{Content, Contents, Of_branch, Of_leaf, content_length, is_tree_kind}
-use Rattle.bolt_tree.specs.Entered.{IsEntered, taken_at}
-use Rattle.bolt_tree.specs.Stacks.{Frame, HasStack, IsBranchContent, IsBranchTop, IsOn, address_on, ahead_of, here_of, here_under, right_of, right_under, under_at}
-use Rattle.bolt_tree.specs.Tours.{Visit, elements_of, tour}
-use Rattle.bolt_tree.specs.Trails.{HasTrail, IsSameBucket, frame_of, frames_of, trail_bucket}
+use Rattle.bolt_tree.specs.BucketViews.{BucketView}
+use Rattle.bolt_tree.specs.Private.BucketPages.{contents_in}
+use Rattle.bolt_tree.specs.Private.Contents.{Content, Contents, Of_branch, Of_leaf, content_length, is_tree_kind}
+use Rattle.bolt_tree.specs.Private.Entered.{IsEntered, taken_at}
+use Rattle.bolt_tree.specs.Private.Stacks.{Frame, HasStack, IsBranchContent, IsBranchTop, IsOn, address_on, ahead_of, here_of, here_under, right_of, right_under, under_at}
+use Rattle.bolt_tree.specs.Private.Tours.{Visit, elements_of, tour}
+use Rattle.bolt_tree.specs.Private.Trails.{HasTrail, IsSameBucket, frame_of, frames_of, trail_bucket}
 use Rattle.bolt_tree.specs.declared.position.Position.{Position}
 use Rattle.bolt_tree.specs.declared.trail.Trail.{Trail}
 use Rattle.bolt_tree.proofs.StackLemmas.{branch_room, stack_short, under_next}

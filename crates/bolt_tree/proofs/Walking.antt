@@ -12,8 +12,8 @@ use Rattle.bolt_tree.specs.FileListings.{root_of}
 use Rattle.bolt_tree.specs.Entries.{Start, item_of}
 use Rattle.bolt_tree.specs.Listing.{Lists, Member}
 use Rattle.bolt_tree.specs.Paths.{HasEntries, Names, Path, path_of}
-use Rattle.bolt_tree.specs.OpenBuckets.{AreOpen, IsAhead, IsNamed, IsAt, IsInPlace, open_path}
-use Rattle.bolt_tree.specs.Behind.{behind, beyond}
+use Rattle.bolt_tree.specs.Private.OpenBuckets.{AreOpen, IsAhead, IsNamed, IsAt, IsInPlace, open_path}
+use Rattle.bolt_tree.specs.Private.Behind.{behind, beyond}
 use Rattle.bolt_tree.specs.declared.bucket.Bucket.{Bucket}
 use Rattle.bolt_tree.specs.declared.cursor.Cursor.{Cursor}
 use Rattle.bolt_tree.specs.declared.open_buckets.Ahead.{Ahead}

@@ -8,7 +8,7 @@ use Rattle.bolt_check.specs.Nodes.{node_at}
 use Rattle.bolt_check.specs.OnWays.{IsOnWay}
 use Rattle.bolt_check.specs.Sound.{HasSoundTrees}
 use Rattle.bolt_check.proofs.TreePages as pages
-use Rattle.bolt_tree.specs.Contents.{Of_branch, Of_leaf, content_at, content_by, content_of, content_seen}
+use Rattle.bolt_tree.specs.Private.Contents.{Of_branch, Of_leaf, content_at, content_by, content_of, content_seen}
 
 -- what a page shows, by its number
 pub content_shown : (file : List ℕ) (meta : Meta) (number : ℕ) (view : PageView) → page_at file meta number ≡ Some view → content_at file meta number ≡ content_of view

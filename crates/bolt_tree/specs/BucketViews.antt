@@ -1,13 +1,10 @@
--- A bucket as the cursor sees it: the file, the meta under which it is read, and where the bucket's tree begins.
+-- A bucket as contracts see it: the file, the meta under which it is read, and where the bucket's tree begins.
 use Rattle.std.specs.Prelude.{ℕ, List}
 use Rattle.bolt_format.specs.Elements.{LeafElement}
 use Rattle.bolt_format.specs.declared.meta.Meta.{Meta}
 use Rattle.bolt_check.specs.CheckedFiles.{bytes_of, meta_of}
-use Rattle.bolt_check.specs.Sound.{HasSoundTrees}
 use Rattle.bolt_check.specs.declared.checked_file.Checked.{Checked}
-use Rattle.bolt_tree.specs.Contents.{Content, Contents, content_at}
-use Rattle.bolt_tree.specs.Entries.{AreEntries, IsEntry, IsStart, Start}
-use Rattle.bolt_tree.specs.Tours.{Visit, content_at_start, elements_of, pages_at}
+use Rattle.bolt_tree.specs.Entries.{AreEntries, IsEntry, Start}
 
 pub record BucketView : Type 0 where
   pub file : List ℕ
@@ -25,21 +22,3 @@ entries_of checked = IsEntry (bytes_of checked) (meta_of checked)
 -- these are the entries of the bucket in order
 abbrev pub AreSorted : BucketView → List LeafElement → Type 0
 AreSorted b entries = AreEntries (IsEntry b.file b.meta) b.start entries
-
--- it is a bucket of a sound tree
-pub record IsSoundBucket (b : BucketView) : Type 0 where
-  pub trees : HasSoundTrees b.file b.meta
-  pub start : IsStart b.file b.meta b.start
-
--- what its pages show, its pages in order, and its elements in order
-abbrev pub contents_in : BucketView → Contents
-contents_in b = content_at b.file b.meta
-
-abbrev pub root_content : BucketView → Content
-root_content b = content_at_start (contents_in b) b.start
-
-abbrev pub pages_in : BucketView → List Visit
-pages_in b = pages_at b.file b.meta b.start
-
-abbrev pub elements_in : BucketView → List LeafElement
-elements_in b = elements_of (pages_in b)

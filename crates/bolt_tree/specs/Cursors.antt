@@ -1,13 +1,14 @@
 -- What a cursor shows: its file and bucket, where it stands, and its counts.
 use Rattle.std.specs.Prelude.{ℕ}
 use Rattle.bolt_check.specs.declared.checked_file.Checked.{Checked}
-use Rattle.bolt_tree.specs.BucketViews.{BucketView, bucket_in, contents_in}
+use Rattle.bolt_tree.specs.BucketViews.{BucketView, bucket_in}
+use Rattle.bolt_tree.specs.Private.BucketPages.{contents_in}
 use Rattle.bolt_tree.specs.Entries.{Start}
-use Rattle.bolt_tree.specs.Held.{place_by}
+use Rattle.bolt_tree.specs.Private.Held.{place_by}
 use Rattle.bolt_tree.specs.Pagers.{pager_checked, pager_opened}
 use Rattle.bolt_tree.specs.Places.{Place}
 use Rattle.bolt_tree.specs.Starts.{start_at}
-use Rattle.bolt_tree.specs.Trails.{trail_bucket, trail_frames}
+use Rattle.bolt_tree.specs.Private.Trails.{trail_bucket, trail_frames}
 use Rattle.bolt_tree.specs.declared.cursor.Cursor.{Cursor}
 
 unfoldable pub cursor_checked : Cursor → Checked

@@ -5,7 +5,7 @@ use Rattle.bolt_tree.specs.Entries.{Item}
 use Rattle.bolt_check.specs.declared.checked_file.Checked.{Checked}
 use Rattle.bolt_tree.specs.Listing.{Member}
 use Rattle.bolt_tree.specs.Paths.{Path}
-use Rattle.bolt_tree.specs.OpenBuckets.{left_by, told_path, open_path}
+use Rattle.bolt_tree.specs.Private.OpenBuckets.{left_by, told_path, open_path}
 use Rattle.bolt_tree.specs.declared.walk.Walk.{Walk}
 
 unfoldable pub walk_checked : Walk → Checked

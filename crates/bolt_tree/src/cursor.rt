@@ -5,7 +5,7 @@ ghost use Rattle.bolt_format.specs.ElementPlaces.{leaf_view};
 ghost use Rattle.bolt_format.specs.Elements.{IsBucketValue};
 ghost use Rattle.bolt_tree.specs.BucketViews.{entries_of};
 ghost use Rattle.bolt_tree.specs.CursorBounds.{OpensByNext, OpensGap, OpensSeek, SeeksInBounds};
-ghost use Rattle.bolt_tree.specs.Held.{IsHeld};
+ghost use Rattle.bolt_tree.specs.Private.Held.{IsHeld};
 ghost use Rattle.bolt_tree.specs.Pagers.{pager_checked, pager_opened};
 ghost use Rattle.bolt_tree.specs.Places.{Fresh, Moves, Past, first_move, last_move, next_move, prev_move, seek_move};
 ghost use Rattle.bolt_tree.specs.Starts.{HasStart, start_at};

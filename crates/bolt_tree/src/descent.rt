@@ -1,17 +1,17 @@
 //! The way down to the leaf that is nearest to a key.
 ghost use Rattle.std.specs.Prelude.{◌≡◌, [], ◌≤◌, ◌-◌, ◌*◌, length};
-ghost use Rattle.bolt_tree.specs.BucketViews.{elements_in, root_content};
+ghost use Rattle.bolt_tree.specs.Private.BucketPages.{elements_in, root_content};
 ghost use Rattle.bolt_tree.specs.Pagers.{counted, pager_opened};
-ghost use Rattle.bolt_tree.specs.Seeks.{IsNearTop, IsSought};
-ghost use Rattle.bolt_tree.specs.ShownPages.{opened_content};
-ghost use Rattle.bolt_tree.specs.Stacks.{IsLeafTop};
+ghost use Rattle.bolt_tree.specs.Private.Seeks.{IsNearTop, IsSought};
+ghost use Rattle.bolt_tree.specs.Private.ShownPages.{opened_content};
+ghost use Rattle.bolt_tree.specs.Private.Stacks.{IsLeafTop};
 
 use crate::halves::keys_before;
 use crate::opened::Opened;
 use crate::trail::Trail;
 
 impl<'a> Trail<'a> {
-    ghost use Rattle.bolt_tree.specs.Trails.{HasBucket, HasTrail, IsSameBucket, ahead, trail_bucket, trail_frames};
+    ghost use Rattle.bolt_tree.specs.Private.Trails.{HasBucket, HasTrail, IsSameBucket, ahead, trail_bucket, trail_frames};
 
     /// Goes down from the root page to the leaf that is nearest to a key, and stands there before
     /// the first entry that is not below it. Answers how many keys were compared, at most 16 for

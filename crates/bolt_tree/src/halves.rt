@@ -1,9 +1,9 @@
 //! The search of a page by halves.
 ghost use Rattle.std.specs.Prelude.{◌≡◌, ◌≤◌};
 ghost use Rattle.bolt_check.specs.Keys.{KeysRise};
-ghost use Rattle.bolt_tree.specs.PageKeys.{IsPlaceOf, stands_before};
-ghost use Rattle.bolt_tree.specs.ShownPages.{opened_content};
-ghost use Rattle.bolt_tree.specs.Contents.{content_keys, content_length};
+ghost use Rattle.bolt_tree.specs.Private.PageKeys.{IsPlaceOf, stands_before};
+ghost use Rattle.bolt_tree.specs.Private.ShownPages.{opened_content};
+ghost use Rattle.bolt_tree.specs.Private.Contents.{content_keys, content_length};
 
 use crate::opened::Opened;
 

@@ -3,12 +3,12 @@ ghost use Rattle.std.specs.Prelude.{◌≡◌, ◌∷◌, ◌++◌, [], ◌≤�
 ghost use Rattle.std.specs.Option.{option_map};
 ghost use Rattle.bolt_format.specs.ElementPlaces.{leaf_view};
 ghost use Rattle.bolt_format.specs.Elements.{IsBucketValue};
-ghost use Rattle.bolt_tree.specs.BucketViews.{elements_in, pages_in};
+ghost use Rattle.bolt_tree.specs.Private.BucketPages.{elements_in, pages_in};
 ghost use Rattle.bolt_tree.specs.CursorBounds.{OpensSeek, SeeksInBounds};
-ghost use Rattle.bolt_tree.specs.Entered.{opened_to};
+ghost use Rattle.bolt_tree.specs.Private.Entered.{opened_to};
 ghost use Rattle.bolt_tree.specs.Pagers.{counted, pager_opened};
 ghost use Rattle.bolt_tree.specs.Places.{least_from};
-ghost use Rattle.bolt_tree.specs.Stacks.{IsAtRest, IsOn};
+ghost use Rattle.bolt_tree.specs.Private.Stacks.{IsAtRest, IsOn};
 
 use crate::position::copy_of;
 use crate::trail::Trail;
@@ -22,7 +22,7 @@ pub(crate) struct Sought<'a> {
 }
 
 impl<'a> Trail<'a> {
-    ghost use Rattle.bolt_tree.specs.Trails.{HasBucket, HasTrail, IsSameBucket, ahead, behind, right, trail_bucket, trail_frames};
+    ghost use Rattle.bolt_tree.specs.Private.Trails.{HasBucket, HasTrail, IsSameBucket, ahead, behind, right, trail_bucket, trail_frames};
 
     /// Stands on the first entry, or where there is none, before the first call.
     pub fn first(&mut self) -> Option<Leaf<'a>>

@@ -7,7 +7,7 @@ ghost use Rattle.bolt_format.specs.ElementPlaces.{leaf_view};
 ghost use Rattle.bolt_tree.specs.Buckets.{bucket_checked, bucket_start};
 ghost use Rattle.bolt_tree.specs.Entries.{item_of};
 ghost use Rattle.bolt_tree.specs.Listing.{rest_from};
-ghost use Rattle.bolt_tree.specs.Behind.{behind, beyond};
+ghost use Rattle.bolt_tree.specs.Private.Behind.{behind, beyond};
 ghost use Rattle.bolt_tree.specs.FileListings.{ForListing};
 ghost use Rattle.bolt_tree.specs.Paths.{path_of};
 
@@ -48,7 +48,7 @@ pub(crate) struct OpenBuckets<'a> {
 }
 
 impl<'a> OpenBuckets<'a> {
-    ghost use Rattle.bolt_tree.specs.OpenBuckets.{IsAhead, IsAt, IsInPlace, IsNamed, IsSought, left_by, open_path, told_path};
+    ghost use Rattle.bolt_tree.specs.Private.OpenBuckets.{IsAhead, IsAt, IsInPlace, IsNamed, IsSought, left_by, open_path, told_path};
 
     /// No open bucket.
     pub fn new(alloc: Global, checked: Checked<'a>) -> OpenBuckets<'a>

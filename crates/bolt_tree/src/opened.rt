@@ -55,8 +55,8 @@ impl<'a> LeafPage<'a> {
 }
 
 impl<'a> Opened<'a> {
-    ghost use Rattle.bolt_tree.specs.Contents.{content_keys, content_length, content_of, is_tree_kind};
-    ghost use Rattle.bolt_tree.specs.ShownPages.{opened_content};
+    ghost use Rattle.bolt_tree.specs.Private.Contents.{content_keys, content_length, content_of, is_tree_kind};
+    ghost use Rattle.bolt_tree.specs.Private.ShownPages.{opened_content};
 
     /// A page that is a branch or a leaf.
     pub fn of_page(page: Page<'a>) -> Opened<'a>

@@ -4,12 +4,12 @@ ghost use Rattle.std.specs.Option.{option_map};
 ghost use Rattle.bolt_format.specs.ElementPlaces.{leaf_view};
 ghost use Rattle.bolt_format.specs.Elements.{BranchElement, IsBucketValue};
 ghost use Rattle.bolt_format.specs.Shown.{shown};
-ghost use Rattle.bolt_tree.specs.BucketViews.{contents_in, root_content};
-ghost use Rattle.bolt_tree.specs.Contents.{Of_branch, content_length};
-ghost use Rattle.bolt_tree.specs.Entered.{IsEntered, entered_pages, taken_at};
+ghost use Rattle.bolt_tree.specs.Private.BucketPages.{contents_in, root_content};
+ghost use Rattle.bolt_tree.specs.Private.Contents.{Of_branch, content_length};
+ghost use Rattle.bolt_tree.specs.Private.Entered.{IsEntered, entered_pages, taken_at};
 ghost use Rattle.bolt_tree.specs.Pagers.{counted, pager_opened};
-ghost use Rattle.bolt_tree.specs.ShownPages.{opened_content};
-ghost use Rattle.bolt_tree.specs.Stacks.{HasStack, IsOn};
+ghost use Rattle.bolt_tree.specs.Private.ShownPages.{opened_content};
+ghost use Rattle.bolt_tree.specs.Private.Stacks.{HasStack, IsOn};
 
 use crate::at::At;
 use crate::opened::{BranchPage, Opened};
@@ -27,7 +27,7 @@ pub(crate) struct Trail<'a> {
 }
 
 impl<'a> Trail<'a> {
-    ghost use Rattle.bolt_tree.specs.Trails.{HasBucket, HasTrail, IsSameBucket, ahead, behind, right, trail_bucket, trail_frames};
+    ghost use Rattle.bolt_tree.specs.Private.Trails.{HasBucket, HasTrail, IsSameBucket, ahead, behind, right, trail_bucket, trail_frames};
 
     /// Puts a page on the stack.
     pub fn push(&mut self, page: Opened<'a>, taken: u32)

@@ -3,7 +3,7 @@ ghost use Rattle.std.specs.Option.{option_map};
 ghost use Rattle.std.specs.Prelude.{◌≡◌, [], IfOk, OnErr};
 ghost use Rattle.bolt_tree.specs.ShownEntries.{item_view};
 ghost use Rattle.bolt_tree.specs.Listing.{rest_from};
-ghost use Rattle.bolt_tree.specs.OpenBuckets.{IsAhead, IsInPlace};
+ghost use Rattle.bolt_tree.specs.Private.OpenBuckets.{IsAhead, IsInPlace};
 
 use crate::bucket::Bucket;
 use crate::entry::Item;

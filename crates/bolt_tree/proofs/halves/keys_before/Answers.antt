@@ -1,6 +1,6 @@
 use Rattle.std.proofs.Common.{◌+◌, ◌-◌, ◌/◌, arith, sym, ◌∙◌}
-use Rattle.bolt_tree.specs.Contents.{content_keys}
-use Rattle.bolt_tree.specs.ShownPages.{opened_content}
+use Rattle.bolt_tree.specs.Private.Contents.{content_keys}
+use Rattle.bolt_tree.specs.Private.ShownPages.{opened_content}
 use Rattle.bolt_tree.proofs.HalvesLemmas.{above_middle, below_middle, halved, sixteen}
 use Rattle.bolt_tree.proofs.halves.keys_before.Goals as goal
 

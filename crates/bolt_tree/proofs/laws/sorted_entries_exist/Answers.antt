@@ -1,4 +1,4 @@
-use Rattle.bolt_tree.specs.Tours.{elements_of, pages_at}
+use Rattle.bolt_tree.specs.Private.Tours.{elements_of, pages_at}
 use Rattle.bolt_tree.proofs.SortedLemmas.{sorted}
 use Rattle.bolt_tree.proofs.TrailLemmas.{entered_length}
 use Rattle.bolt_tree.proofs.RootLemmas.{root_right}

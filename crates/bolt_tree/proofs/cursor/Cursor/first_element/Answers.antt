@@ -1,6 +1,6 @@
 use Rattle.bolt_tree.specs.Cursors.{cursor_checked, cursor_opened, cursor_place, cursor_start}
 use Rattle.bolt_tree.specs.Pagers.{pager_opened}
-use Rattle.bolt_tree.specs.Trails.{trail_bucket, trail_frames}
+use Rattle.bolt_tree.specs.Private.Trails.{trail_bucket, trail_frames}
 use Rattle.bolt_tree.proofs.HeldLemmas.{held_bucket, moves_first, opens_first}
 use Rattle.bolt_tree.proofs.TrailLemmas.{same_bucket}
 use Rattle.bolt_tree.proofs.cursor.Cursor.first_element.Goals as goal

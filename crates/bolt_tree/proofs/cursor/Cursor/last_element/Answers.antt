@@ -1,5 +1,5 @@
 use Rattle.bolt_tree.specs.Cursors.{cursor_checked, cursor_place, cursor_start}
-use Rattle.bolt_tree.specs.Trails.{trail_bucket, trail_frames}
+use Rattle.bolt_tree.specs.Private.Trails.{trail_bucket, trail_frames}
 use Rattle.bolt_tree.proofs.HeldLemmas.{held_bucket, moves_last}
 use Rattle.bolt_tree.proofs.TrailLemmas.{same_bucket}
 use Rattle.bolt_tree.proofs.cursor.Cursor.last_element.Goals as goal

@@ -1,7 +1,7 @@
 use Rattle.std.proofs.Common.{ap}
 use Rattle.bolt_tree.specs.Pagers.{pager_checked}
 use Rattle.bolt_tree.specs.Starts.{start_at}
-use Rattle.bolt_tree.specs.Trails.{frames_of}
+use Rattle.bolt_tree.specs.Private.Trails.{frames_of}
 use Rattle.bolt_tree.proofs.HeldLemmas.{fresh_held}
 use Rattle.bolt_tree.proofs.RootLemmas.{sound_bucket}
 use Rattle.bolt_tree.proofs.cursor.Cursor.new.Goals as goal

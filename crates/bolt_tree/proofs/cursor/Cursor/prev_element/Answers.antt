@@ -1,6 +1,6 @@
 use Rattle.std.proofs.Common.{◌∙◌, ap, not}
 use Rattle.bolt_tree.specs.Cursors.{cursor_checked, cursor_place, cursor_start}
-use Rattle.bolt_tree.specs.Trails.{trail_bucket, trail_frames}
+use Rattle.bolt_tree.specs.Private.Trails.{trail_bucket, trail_frames}
 use Rattle.bolt_tree.proofs.HeldLemmas.{found_none, held_again, held_bucket, held_rest, held_stack, moves_prev, not_past}
 use Rattle.bolt_tree.proofs.TrailLemmas.{nonempty, same_bucket}
 use Rattle.bolt_tree.proofs.cursor.Cursor.prev_element.Goals as goal

@@ -1,7 +1,7 @@
 use Rattle.bolt_tree.specs.Paths.{path_of}
 use Rattle.std.proofs.Common.{◌≡◌, ◌∙◌, sym, ap, subst}
 use Rattle.bolt_format.specs.ElementPlaces.{leaf_view}
-use Rattle.bolt_tree.specs.OpenBuckets.{open_path}
+use Rattle.bolt_tree.specs.Private.OpenBuckets.{open_path}
 use Rattle.bolt_tree.proofs.Climbing.{listed_in, none_beyond}
 use Rattle.bolt_tree.proofs.Entering.{itself}
 use Rattle.bolt_tree.proofs.open_buckets.OpenBuckets.come.Goals as goal

@@ -2,7 +2,7 @@ use Rattle.std.proofs.Common.{◌≡◌, ◌∙◌, ◌++◌, ◌∷◌, [], Lis
 use Rattle.bolt_check.specs.Keys.{Key}
 use Rattle.bolt_tree.specs.Listing.{rest_from}
 use Rattle.bolt_tree.specs.Paths.{Path, path_of}
-use Rattle.bolt_tree.specs.OpenBuckets.{open_path}
+use Rattle.bolt_tree.specs.Private.OpenBuckets.{open_path}
 use Rattle.bolt_tree.proofs.Climbing.{listed_in}
 use Rattle.bolt_tree.proofs.Parts.{ends_at, from_start, none_left, parts_whole, take_none}
 use Rattle.bolt_tree.proofs.open_buckets.OpenBuckets.seek.Goals as goal

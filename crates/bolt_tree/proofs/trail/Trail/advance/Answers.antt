@@ -1,10 +1,10 @@
 -- The entries ahead stay the same until one is taken, and each page that is opened is the next to the right.
 use Rattle.std.proofs.Common.{◌≡◌, ◌∷◌, ◌∙◌, ◌<◌, ◌+◌, ◌-◌, ◌*◌, ℕ, false, length, sym, ap, arith, refl}
 use Rattle.bolt_format.specs.ElementPlaces.{leaf_view}
-use Rattle.bolt_tree.specs.BucketViews.{contents_in}
+use Rattle.bolt_tree.specs.Private.BucketPages.{contents_in}
 use Rattle.bolt_tree.specs.Pagers.{counted, pager_opened}
-use Rattle.bolt_tree.specs.ShownPages.{opened_content}
-use Rattle.bolt_tree.specs.Trails.{ahead, frame_of, frames_of, right, trail_bucket, trail_frames}
+use Rattle.bolt_tree.specs.Private.ShownPages.{opened_content}
+use Rattle.bolt_tree.specs.Private.Trails.{ahead, frame_of, frames_of, right, trail_bucket, trail_frames}
 use Rattle.bolt_tree.proofs.PagerLemmas.{counted_more, counted_zero}
 use Rattle.bolt_tree.proofs.StackLemmas.{popped, retaken}
 use Rattle.bolt_tree.proofs.TrailLemmas.{entered_length, exhausted, frames_pop, length-frames, popped_none, popped_stack, same_bucket, step_none, step_some}

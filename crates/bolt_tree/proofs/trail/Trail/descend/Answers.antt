@@ -1,12 +1,13 @@
 use Rattle.std.proofs.Common.{◌≡◌, ◌∷◌, ◌∙◌, ◌<◌, ◌≤◌, ◌+◌, ◌-◌, suc, ℕ, length, List, sym, ap, arith, refl, subst}
 use Rattle.bolt_format.specs.Shown.{shown}
-use Rattle.bolt_tree.specs.BucketViews.{BucketView, contents_in, elements_in}
-use Rattle.bolt_tree.specs.Contents.{Of_branch}
+use Rattle.bolt_tree.specs.BucketViews.{BucketView}
+use Rattle.bolt_tree.specs.Private.BucketPages.{contents_in, elements_in}
+use Rattle.bolt_tree.specs.Private.Contents.{Of_branch}
 use Rattle.bolt_tree.specs.Pagers.{counted, pager_opened}
-use Rattle.bolt_tree.specs.Seeks.{IsNearTop, IsOnWayDown, IsSought}
-use Rattle.bolt_tree.specs.ShownPages.{opened_content}
-use Rattle.bolt_tree.specs.Stacks.{Frame, HasStack, ahead_of}
-use Rattle.bolt_tree.specs.Trails.{trail_bucket, trail_frames}
+use Rattle.bolt_tree.specs.Private.Seeks.{IsNearTop, IsOnWayDown, IsSought}
+use Rattle.bolt_tree.specs.Private.ShownPages.{opened_content}
+use Rattle.bolt_tree.specs.Private.Stacks.{Frame, HasStack, ahead_of}
+use Rattle.bolt_tree.specs.Private.Trails.{trail_bucket, trail_frames}
 use Rattle.bolt_tree.proofs.DescentLemmas.{begins, branch_filled, landed, moved_between, moved_way, shows_leaf}
 use Rattle.bolt_tree.proofs.NearLemmas.{stack_rises, way_begins, way_down}
 use Rattle.bolt_tree.proofs.PagerLemmas.{counted_more, counted_zero}

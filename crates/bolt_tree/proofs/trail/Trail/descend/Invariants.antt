@@ -1,10 +1,10 @@
 use Rattle.std.proofs.Common.{◌≡◌, ◌∷◌, ◌≤◌, ◌-◌, ◌*◌, length}
-use Rattle.bolt_tree.specs.BucketViews.{contents_in}
+use Rattle.bolt_tree.specs.Private.BucketPages.{contents_in}
 use Rattle.bolt_tree.specs.Pagers.{counted, pager_opened}
-use Rattle.bolt_tree.specs.Seeks.{IsBetween, IsOnWayDown}
-use Rattle.bolt_tree.specs.ShownPages.{opened_content}
-use Rattle.bolt_tree.specs.Stacks.{HasStack}
-use Rattle.bolt_tree.specs.Trails.{IsSameBucket, trail_bucket, trail_frames}
+use Rattle.bolt_tree.specs.Private.Seeks.{IsBetween, IsOnWayDown}
+use Rattle.bolt_tree.specs.Private.ShownPages.{opened_content}
+use Rattle.bolt_tree.specs.Private.Stacks.{HasStack}
+use Rattle.bolt_tree.specs.Private.Trails.{IsSameBucket, trail_bucket, trail_frames}
 use Rattle.bolt_tree.proofs.trail.Trail.descend.Given as goal
 
 abbrev pub invariant-loop-opened : goal.invariant-loop-opened

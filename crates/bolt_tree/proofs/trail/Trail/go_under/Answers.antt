@@ -2,12 +2,12 @@ use Rattle.std.proofs.Common.{◌≡◌, ◌∷◌, ◌∙◌, ◌+◌, refl, sy
 use Rattle.bolt_format.specs.ElementPlaces.{branch_view}
 use Rattle.bolt_format.specs.Shown.{shown}
 use Rattle.bolt_check.specs.CheckedFiles.{bytes_of, meta_of}
-use Rattle.bolt_tree.specs.BucketViews.{contents_in}
-use Rattle.bolt_tree.specs.Contents.{Of_branch}
+use Rattle.bolt_tree.specs.Private.BucketPages.{contents_in}
+use Rattle.bolt_tree.specs.Private.Contents.{Of_branch}
 use Rattle.bolt_tree.specs.Pagers.{pager_checked}
-use Rattle.bolt_tree.specs.ShownPages.{opened_content}
-use Rattle.bolt_tree.specs.Stacks.{HasStack}
-use Rattle.bolt_tree.specs.Trails.{trail_bucket, trail_frames}
+use Rattle.bolt_tree.specs.Private.ShownPages.{opened_content}
+use Rattle.bolt_tree.specs.Private.Stacks.{HasStack}
+use Rattle.bolt_tree.specs.Private.Trails.{trail_bucket, trail_frames}
 use Rattle.bolt_tree.proofs.StackLemmas.{child_pushed, child_way, retaken}
 use Rattle.bolt_tree.proofs.TrailLemmas.{moved_stack, way_kind}
 use Rattle.bolt_tree.proofs.WayPages.{content_shown}

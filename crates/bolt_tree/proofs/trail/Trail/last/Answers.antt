@@ -1,6 +1,6 @@
 use Rattle.std.proofs.Common.{◌≡◌, []}
-use Rattle.bolt_tree.specs.BucketViews.{elements_in}
-use Rattle.bolt_tree.specs.Trails.{behind, trail_bucket, trail_frames}
+use Rattle.bolt_tree.specs.Private.BucketPages.{elements_in}
+use Rattle.bolt_tree.specs.Private.Trails.{behind, trail_bucket, trail_frames}
 use Rattle.bolt_tree.proofs.BackLemmas.{root_behind}
 use Rattle.bolt_tree.proofs.MoveLemmas.{back_over}
 use Rattle.bolt_tree.proofs.trail.Trail.last.Goals as goal

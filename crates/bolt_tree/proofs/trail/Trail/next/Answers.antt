@@ -1,6 +1,6 @@
 use Rattle.std.proofs.Common.{◌≡◌, ◌∙◌, ◌-◌, length, sym, ap, arith}
 use Rattle.bolt_tree.specs.Pagers.{counted, pager_opened}
-use Rattle.bolt_tree.specs.Trails.{right}
+use Rattle.bolt_tree.specs.Private.Trails.{right}
 use Rattle.bolt_tree.proofs.PagerLemmas.{counted_zero}
 use Rattle.bolt_tree.proofs.trail.Trail.next.Goals as goal
 

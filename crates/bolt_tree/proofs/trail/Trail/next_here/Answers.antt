@@ -2,10 +2,10 @@
 use Rattle.std.proofs.Common.{◌∙◌, false, ap, arith}
 use Rattle.std.specs.Option.{option_map}
 use Rattle.bolt_format.specs.ElementPlaces.{leaf_view}
-use Rattle.bolt_tree.specs.BucketViews.{contents_in}
+use Rattle.bolt_tree.specs.Private.BucketPages.{contents_in}
 use Rattle.bolt_tree.specs.Pagers.{counted, pager_opened}
-use Rattle.bolt_tree.specs.ShownPages.{opened_content}
-use Rattle.bolt_tree.specs.Trails.{frame_of, frames_of, trail_bucket, trail_frames}
+use Rattle.bolt_tree.specs.Private.ShownPages.{opened_content}
+use Rattle.bolt_tree.specs.Private.Trails.{frame_of, frames_of, trail_bucket, trail_frames}
 use Rattle.bolt_tree.proofs.MoveLemmas.{next_in_leaf, none_opened, rest_on_top}
 use Rattle.bolt_tree.proofs.PagerLemmas.{counted_zero}
 use Rattle.bolt_tree.proofs.StackLemmas.{retaken}

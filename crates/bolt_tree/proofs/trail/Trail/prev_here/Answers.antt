@@ -1,7 +1,7 @@
 -- It rests on a leaf, so what is taken is an element of that leaf.
 use Rattle.std.proofs.Common.{◌≡◌, ◌+◌, ◌-◌, ◌<◌, arith}
-use Rattle.bolt_tree.specs.ShownPages.{opened_content}
-use Rattle.bolt_tree.specs.Trails.{frame_of, frames_of, trail_bucket, trail_frames}
+use Rattle.bolt_tree.specs.Private.ShownPages.{opened_content}
+use Rattle.bolt_tree.specs.Private.Trails.{frame_of, frames_of, trail_bucket, trail_frames}
 use Rattle.bolt_tree.proofs.MoveLemmas.{prev_in_leaf, rest_on_top}
 use Rattle.bolt_tree.proofs.StackLemmas.{retaken, taken_bound, taken_fits}
 use Rattle.bolt_tree.proofs.TrailLemmas.{frames_pop, popped_none, popped_stack, same_bucket}

@@ -1,7 +1,7 @@
 use Rattle.std.proofs.Common.{◌≡◌, ◌∷◌, ◌∙◌, ap, arith, subst, sym}
-use Rattle.bolt_tree.specs.ShownPages.{opened_content}
-use Rattle.bolt_tree.specs.Stacks.{HasStack}
-use Rattle.bolt_tree.specs.Trails.{frames_of, trail_bucket, trail_frames}
+use Rattle.bolt_tree.specs.Private.ShownPages.{opened_content}
+use Rattle.bolt_tree.specs.Private.Stacks.{HasStack}
+use Rattle.bolt_tree.specs.Private.Trails.{frames_of, trail_bucket, trail_frames}
 use Rattle.bolt_tree.proofs.TrailLemmas.{frames_push, stack_room}
 use Rattle.bolt_tree.proofs.trail.Trail.push.Goals as goal
 

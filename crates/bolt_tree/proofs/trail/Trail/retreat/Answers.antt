@@ -1,9 +1,9 @@
 -- The entries behind stay the same until one is taken.
 use Rattle.std.proofs.Common.{◌≡◌, ◌∷◌, ◌∙◌, ◌<◌, ◌+◌, ◌-◌, ◌*◌, true, length, sym, arith}
 use Rattle.bolt_format.specs.ElementPlaces.{leaf_view}
-use Rattle.bolt_tree.specs.BucketViews.{contents_in}
-use Rattle.bolt_tree.specs.ShownPages.{opened_content}
-use Rattle.bolt_tree.specs.Trails.{before, behind, frame_of, frames_of, trail_bucket, trail_frames}
+use Rattle.bolt_tree.specs.Private.BucketPages.{contents_in}
+use Rattle.bolt_tree.specs.Private.ShownPages.{opened_content}
+use Rattle.bolt_tree.specs.Private.Trails.{before, behind, frame_of, frames_of, trail_bucket, trail_frames}
 use Rattle.bolt_tree.proofs.BackLemmas.{left_out, step_back_none, step_back_some}
 use Rattle.bolt_tree.proofs.StackLemmas.{popped, retaken, taken_bound, taken_fits}
 use Rattle.bolt_tree.proofs.TrailLemmas.{entered_length, frames_pop, length-frames, popped_none, popped_stack, same_bucket}

@@ -1,11 +1,12 @@
 -- What the way down and then the move forward say, all of the bucket as it was.
 use Rattle.std.proofs.Common.{◌≡◌, [], ◌∙◌, ◌+◌, ◌-◌, ℕ, length, drop, sym, ap, arith, subst}
-use Rattle.bolt_tree.specs.BucketViews.{BucketView, contents_in, elements_in}
+use Rattle.bolt_tree.specs.BucketViews.{BucketView}
+use Rattle.bolt_tree.specs.Private.BucketPages.{contents_in, elements_in}
 use Rattle.bolt_tree.specs.Pagers.{counted, pager_opened}
 use Rattle.bolt_tree.specs.Places.{least_from}
-use Rattle.bolt_tree.specs.Seeks.{IsNearTop, IsSought}
-use Rattle.bolt_tree.specs.Stacks.{HasStack, ahead_of, right_of}
-use Rattle.bolt_tree.specs.Trails.{ahead, right, trail_bucket, trail_frames}
+use Rattle.bolt_tree.specs.Private.Seeks.{IsNearTop, IsSought}
+use Rattle.bolt_tree.specs.Private.Stacks.{HasStack, ahead_of, right_of}
+use Rattle.bolt_tree.specs.Private.Trails.{ahead, right, trail_bucket, trail_frames}
 use Rattle.bolt_tree.proofs.MoveLemmas.{Finds, found_over}
 use Rattle.bolt_tree.proofs.PagerLemmas.{counted_more}
 use Rattle.bolt_tree.proofs.SoughtLemmas.{leaf_nonempty, seek_bounds, seek_opens}

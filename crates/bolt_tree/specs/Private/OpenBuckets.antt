@@ -16,7 +16,7 @@ use Rattle.bolt_tree.specs.Entries.{AreEntries, Start}
 use Rattle.bolt_tree.specs.Listing.{IsListing, Member, rest_from}
 use Rattle.bolt_tree.specs.Paths.{HasEntries, Names, Path, path_of}
 use Rattle.bolt_tree.specs.Places.{On}
-use Rattle.bolt_tree.specs.Behind.{behind, beyond}
+use Rattle.bolt_tree.specs.Private.Behind.{behind, beyond}
 use Rattle.bolt_tree.specs.declared.bucket.Bucket.{Bucket}
 use Rattle.bolt_tree.specs.declared.cursor.Cursor.{Cursor}
 use Rattle.bolt_tree.specs.declared.open_buckets.Ahead.{Ahead}

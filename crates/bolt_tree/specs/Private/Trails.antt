@@ -1,12 +1,13 @@
 -- What a trail shows: its bucket, and its stack with the top first.
 use Rattle.std.specs.Prelude.{◌≡◌, List, map, reverse}
 use Rattle.bolt_format.specs.Elements.{LeafElement}
-use Rattle.bolt_tree.specs.BucketViews.{BucketView, IsSoundBucket, bucket_in, contents_in}
+use Rattle.bolt_tree.specs.BucketViews.{BucketView, bucket_in}
+use Rattle.bolt_tree.specs.Private.BucketPages.{IsSoundBucket, contents_in}
 use Rattle.bolt_tree.specs.Pagers.{pager_checked}
-use Rattle.bolt_tree.specs.ShownPages.{opened_content}
-use Rattle.bolt_tree.specs.Stacks.{Frame, HasStack, ahead_of, before_of, behind_of, right_of}
+use Rattle.bolt_tree.specs.Private.ShownPages.{opened_content}
+use Rattle.bolt_tree.specs.Private.Stacks.{Frame, HasStack, ahead_of, before_of, behind_of, right_of}
 use Rattle.bolt_tree.specs.Starts.{start_at}
-use Rattle.bolt_tree.specs.Tours.{Visit}
+use Rattle.bolt_tree.specs.Private.Tours.{Visit}
 use Rattle.bolt_tree.specs.declared.position.Position.{Position}
 use Rattle.bolt_tree.specs.declared.trail.Trail.{Trail}
 

@@ -1,9 +1,9 @@
 -- What taking one element of a page does to the frames of a stack.
 use Rattle.std.specs.Prelude.{◌≡◌, ℕ, suc, ◌+◌, Bool, true, false, List, ◌∷◌, Option, Some, None, slice_get, length}
 use Rattle.bolt_format.specs.Elements.{BranchElement, LeafElement}
-use Rattle.bolt_tree.specs.Contents.{Content, Contents, Of_branch, Of_leaf, content_length}
-use Rattle.bolt_tree.specs.Stacks.{Frame}
-use Rattle.bolt_tree.specs.Tours.{Visit}
+use Rattle.bolt_tree.specs.Private.Contents.{Content, Contents, Of_branch, Of_leaf, content_length}
+use Rattle.bolt_tree.specs.Private.Stacks.{Frame}
+use Rattle.bolt_tree.specs.Private.Tours.{Visit}
 
 -- how much of a page is taken before its first element, or behind its last
 abbrev pub taken_at : Bool → Content → ℕ

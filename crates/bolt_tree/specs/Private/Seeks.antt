@@ -5,12 +5,12 @@ use Rattle.bolt_format.specs.declared.meta.Meta.{Meta}
 use Rattle.bolt_check.specs.Keys.{Key, key_lt}
 use Rattle.bolt_check.specs.OnWays.{IsOnWay}
 use Rattle.bolt_tree.specs.BucketViews.{BucketView}
-use Rattle.bolt_tree.specs.Contents.{Content, Contents, Of_leaf, content_at}
+use Rattle.bolt_tree.specs.Private.Contents.{Content, Contents, Of_leaf, content_at}
 use Rattle.bolt_tree.specs.Entries.{Inline_page, Root_page, Start}
 use Rattle.bolt_tree.specs.Openings.{IsNear, IsNearFrom}
 use Rattle.bolt_tree.specs.Places.{least_from}
-use Rattle.bolt_tree.specs.Stacks.{Frame, address_on, left_of, right_of}
-use Rattle.bolt_tree.specs.Tours.{elements_of}
+use Rattle.bolt_tree.specs.Private.Stacks.{Frame, address_on, left_of, right_of}
+use Rattle.bolt_tree.specs.Private.Tours.{elements_of}
 
 -- every element of a list has a key below this one, or none has
 abbrev pub AreBelow : Bool → Key → List LeafElement → Type 0

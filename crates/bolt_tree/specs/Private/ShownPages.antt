@@ -2,7 +2,7 @@
 use Rattle.std.specs.Prelude.{[]}
 use Rattle.bolt_format.specs.Shown.{shown}
 use Rattle.bolt_format.specs.ShownInline.{shown_inline}
-use Rattle.bolt_tree.specs.Contents.{Content, Of_branch, Of_leaf}
+use Rattle.bolt_tree.specs.Private.Contents.{Content, Of_branch, Of_leaf}
 use Rattle.bolt_tree.specs.declared.opened.Opened.{Opened}
 use Rattle.bolt_tree.specs.declared.opened.Opened.TheVariants.{Branch, Inline, Leaf, Nothing}
 

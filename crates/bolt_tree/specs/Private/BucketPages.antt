@@ -1,0 +1,25 @@
+-- The pages of a bucket as the cursor goes along them: what they show, in order, and the bucket's elements in order.
+use Rattle.std.specs.Prelude.{List}
+use Rattle.bolt_format.specs.Elements.{LeafElement}
+use Rattle.bolt_check.specs.Sound.{HasSoundTrees}
+use Rattle.bolt_tree.specs.BucketViews.{BucketView}
+use Rattle.bolt_tree.specs.Entries.{IsStart}
+use Rattle.bolt_tree.specs.Private.Contents.{Content, Contents, content_at}
+use Rattle.bolt_tree.specs.Private.Tours.{Visit, content_at_start, elements_of, pages_at}
+
+-- it is a bucket of a sound tree
+pub record IsSoundBucket (b : BucketView) : Type 0 where
+  pub trees : HasSoundTrees b.file b.meta
+  pub start : IsStart b.file b.meta b.start
+
+abbrev pub contents_in : BucketView → Contents
+contents_in b = content_at b.file b.meta
+
+abbrev pub root_content : BucketView → Content
+root_content b = content_at_start (contents_in b) b.start
+
+abbrev pub pages_in : BucketView → List Visit
+pages_in b = pages_at b.file b.meta b.start
+
+abbrev pub elements_in : BucketView → List LeafElement
+elements_in b = elements_of (pages_in b)
