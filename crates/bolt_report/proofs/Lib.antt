@@ -1,4 +1,7 @@
+mod KeyTexts
+mod ListTexts
 mod ListWrites
 mod PageFaults
 mod Pieces
+mod ReportLemmas
 mod ShownLemmas

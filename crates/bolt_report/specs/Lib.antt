@@ -1,6 +1,8 @@
 pub mod FaultWords
 pub mod Forms
+pub mod KeyLines
 pub mod Lines
+pub mod ListLines
 pub mod MetaLines
 pub mod PageLines
 pub mod PageTexts

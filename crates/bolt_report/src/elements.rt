@@ -68,7 +68,7 @@ fn put_leaf<S: Sink>(leaf: &Leaf<'_>, sink: &mut S) -> Result<(), SinkFault>
 
 /// Puts what follows the key of a value.
 #[tactic(auto, unfolding(crate::specs::PageLines::value_end))]
-fn put_value_end<S: Sink>(value: &[u8], sink: &mut S) -> Result<(), SinkFault>
+pub(crate) fn put_value_end<S: Sink>(value: &[u8], sink: &mut S) -> Result<(), SinkFault>
     ensures { Writes S.taken S.failed sink.old sink.new (value_end value.now) result }
 {
     put(b" = ", sink)?;

@@ -3,6 +3,7 @@ ghost use Rattle.std.specs.Prelude.{◌≡◌};
 ghost use Rattle.bolt_report.specs.declared.fault.ReportFault.TheVariants as fault;
 
 use bolt_format::{PageFault, SinkFault};
+use bolt_tree::NoMemory;
 
 /// Why a text isn't whole on its sink.
 #[derive(Clone, Copy, Debug, PartialEq, Eq)]
@@ -20,5 +21,13 @@ impl From<SinkFault> for ReportFault {
 
     fn from(_fault: SinkFault) -> ReportFault {
         ReportFault::Sink
+    }
+}
+
+impl From<NoMemory> for ReportFault {
+    ghost from_gives = { λ _ report. report ≡ fault.NoMemory };
+
+    fn from(_error: NoMemory) -> ReportFault {
+        ReportFault::NoMemory
     }
 }

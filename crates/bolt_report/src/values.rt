@@ -20,7 +20,7 @@ pub fn value<S: Sink>(bytes: &[u8], form: Form, sink: &mut S) -> Result<(), Repo
     Ok(())
 }
 
-fn put_value<S: Sink>(bytes: &[u8], form: Form, sink: &mut S) -> Result<(), SinkFault>
+pub(crate) fn put_value<S: Sink>(bytes: &[u8], form: Form, sink: &mut S) -> Result<(), SinkFault>
     ensures { Writes S.taken S.failed sink.old sink.new (value_text form bytes.now) result }
 {
     put_item(bytes, form, sink)?;

@@ -1,0 +1,53 @@
+use Rattle.std.proofs.Common.{◌≡◌, ◌∙◌, ◌++◌, [], ℕ, List, Some, ap, flat_map, sym}
+use Rattle.bolt_format.specs.Elements.{LeafElement}
+use Rattle.bolt_format.proofs.WriteLemmas.{Writes-none}
+use Rattle.bolt_tree.specs.Buckets.{bucket_checked, bucket_start}
+use Rattle.bolt_tree.specs.Cursors.{cursor_checked, cursor_place, cursor_start}
+use Rattle.bolt_tree.specs.EntriesLeft.{entries_left}
+use Rattle.bolt_report.specs.KeyLines.{key_line}
+use Rattle.bolt_tree.specs.Places.{Place}
+use Rattle.bolt_tree.specs.ShownEntries.{shown_entry}
+use Rattle.bolt_report.proofs.KeyTexts.{key_end, key_more, key_stop}
+use Rattle.bolt_tree.proofs.Leaving.{fewer_left, next_shows}
+use Rattle.bolt_report.proofs.key_lines.put_keys.Goals as goal
+
+pub rest-init : goal.rest-init
+rest-init g c = record {
+  checked = c.cursor-cursor.ensures.checked;
+  start = c.cursor-cursor.ensures.start;
+  put = λ entries are. ([], ap (λ (place : Place). flat_map (key_line c.args.form c.args.all) (entries_left entries place)) (sym c.cursor-cursor.ensures.place), Writes-none c.args.sink.now);
+}
+
+pub rest-smaller : goal.rest-smaller
+rest-smaller g c =
+    fewer_left c.args.bucket.now (cursor_checked c.rest.cursor) (cursor_start c.rest.cursor) (cursor_place c.rest.cursor) (cursor_place c.next.new.self) (shown_entry c.in-Some.entry)
+    c.rest.invariant.checked c.rest.invariant.start c.in-Some.ensures.moves
+
+pub rest-preserved : goal.rest-preserved
+rest-preserved g c = record {
+  checked = c.in-Some.ensures.checked ∙ c.rest.invariant.checked;
+  start = c.in-Some.ensures.start ∙ c.rest.invariant.start;
+  put = λ entries are.
+      let (e, shown, first) = next_shows (cursor_checked c.rest.cursor) (bucket_checked c.args.bucket.now) (cursor_start c.rest.cursor) (bucket_start c.args.bucket.now)
+      (cursor_place c.rest.cursor) (cursor_place c.next.new.self) (Some (shown_entry c.in-Some.entry)) c.rest.invariant.checked c.rest.invariant.start c.in-Some.ensures.moves entries are in
+      let (written, same, before) = c.rest.invariant.put entries are in
+      let line : List ℕ = key_line c.args.form c.args.all e in
+      let more = key_more g.S.Sink.taken g.S.Sink.failed (key_line c.args.form c.args.all) c.args.sink.now c.rest.sink c.put_key.new.sink written entries
+      (entries_left entries (cursor_place c.rest.cursor)) (entries_left entries (cursor_place c.next.new.self)) e same first before (c.in_ok-put_key.ensures e shown) in
+      (written ++ line, more.0, more.1);
+}
+
+pub returns-in_err-put_key : goal.returns-in_err-put_key
+returns-in_err-put_key g c = λ entries are.
+    let (e, shown, first) = next_shows (cursor_checked c.rest.cursor) (bucket_checked c.args.bucket.now) (cursor_start c.rest.cursor) (bucket_start c.args.bucket.now)
+    (cursor_place c.rest.cursor) (cursor_place c.next.new.self) (Some (shown_entry c.in-Some.entry)) c.rest.invariant.checked c.rest.invariant.start c.in-Some.ensures.moves entries are in
+    let (written, same, before) = c.rest.invariant.put entries are in
+    key_stop g.S.Sink.taken g.S.Sink.failed (key_line c.args.form c.args.all) c.args.sink.now c.rest.sink c.put_key.new.sink written entries
+    (entries_left entries (cursor_place c.rest.cursor)) (entries_left entries (cursor_place c.next.new.self)) e same first before _ _ (c.in_err-put_key.ensures e shown) c.from_residual.ensures.0
+
+pub returns : goal.returns
+returns g c = λ entries are.
+    let none = next_shows (cursor_checked c.rest.cursor) (bucket_checked c.args.bucket.now) (cursor_start c.rest.cursor) (bucket_start c.args.bucket.now)
+    (cursor_place c.rest.cursor) (cursor_place c.next.new.self) _ c.rest.invariant.checked c.rest.invariant.start c.in_default.ensures.moves entries are in
+    let (written, same, before) = c.rest.invariant.put entries are in
+    key_end g.S.Sink.taken g.S.Sink.failed (key_line c.args.form c.args.all) c.args.sink.now c.rest.sink written entries (entries_left entries (cursor_place c.rest.cursor)) same none before

@@ -1,0 +1,23 @@
+use Rattle.std.proofs.Common.{◌≡◌, ◌++◌, List, ℕ, Ok, flat_map, length}
+use Rattle.std.specs.Prelude.{⊤}
+use Rattle.bolt_format.specs.Writes.{Writes}
+use Rattle.bolt_format.specs.declared.sink.SinkFault.{SinkFault}
+use Rattle.bolt_tree.specs.Buckets.{bucket_checked, bucket_start}
+use Rattle.bolt_tree.specs.Cursors.{cursor_checked, cursor_place, cursor_start}
+use Rattle.bolt_tree.specs.EntriesLeft.{ForEntries, entries_left}
+use Rattle.bolt_report.specs.KeyLines.{key_line}
+use Rattle.bolt_tree.proofs.Leaving.{the_entries}
+use Rattle.bolt_report.proofs.key_lines.put_keys.Given as goal
+
+-- of the text of all entries, what was put, and the text of those that are left
+abbrev pub invariant-rest : goal.invariant-rest
+invariant-rest g l = record {
+  checked : cursor_checked l.cursor ≡ bucket_checked l.bucket;
+  start : cursor_start l.cursor ≡ bucket_start l.bucket;
+  put : ForEntries (bucket_checked l.bucket) (bucket_start l.bucket) (λ entries. (written : List ℕ)
+      × (flat_map (key_line l.form l.all) entries ≡ written ++ flat_map (key_line l.form l.all) (entries_left entries (cursor_place l.cursor)))
+      × Writes {A = ⊤} {E = SinkFault} g.S.Sink.taken g.S.Sink.failed l.initial.sink l.sink written (Ok tt));
+}
+
+abbrev pub decreases-rest : goal.decreases-rest
+decreases-rest g l = length (entries_left (the_entries l.bucket).0 (cursor_place l.cursor))

@@ -1,0 +1,17 @@
+-- The keys of a bucket as a text: docs/COMMANDS.md, "What is printed".
+use Rattle.std.specs.Prelude.{ℕ, Bool, ◌||◌, List, [], filter, flat_map, if◌then◌else◌}
+use Rattle.bolt_format.specs.Elements.{LeafElement}
+use Rattle.bolt_report.specs.Forms.{value_text}
+use Rattle.bolt_report.specs.declared.form.Form.{Form}
+
+-- the keys of all entries, a line for each
+abbrev pub keys_text : Form → List LeafElement → List ℕ
+keys_text form entries = flat_map (λ (e : LeafElement). value_text form e.key) entries
+
+-- the keys of those that are buckets
+abbrev pub buckets_text : Form → List LeafElement → List ℕ
+buckets_text form entries = keys_text form (filter (λ (e : LeafElement). e.is_bucket) entries)
+
+-- what one entry adds, where all are asked for or the buckets alone
+abbrev pub key_line : Form → Bool → LeafElement → List ℕ
+key_line form all e = if all || e.is_bucket then value_text form e.key else []
