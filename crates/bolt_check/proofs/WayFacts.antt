@@ -1,5 +1,5 @@
 -- Ways, addresses and the pages that they lead to, for the crates above too.
-use Rattle.std.proofs.Common.{◌≡◌, ◌∙◌, ℕ, zero, suc, ◌≤◌, Bool, true, false, List, [], ◌∷◌, ◌++◌, map, Option, Some, None, Result, Ok, Err, slice_get, refl, sym, ap, subst, arith}
+use Rattle.std.proofs.Common.{◌≡◌, ◌∙◌, ℕ, zero, suc, Bool, true, false, List, [], ◌∷◌, ◌++◌, map, Option, Some, None, Result, Ok, Err, slice_get, refl, sym, ap, subst, arith}
 use Rattle.bolt_format.specs.Pages.{PageView, page_at, page_fault}
 use Rattle.bolt_format.specs.declared.kind.Kind.{Kind}
 use Rattle.bolt_format.specs.declared.kind.Kind.TheVariants as kind

@@ -1,5 +1,5 @@
 -- The root page of a bucket, alone on a stack.
-use Rattle.std.proofs.Common.{◌≡◌, ℕ, suc, ◌≤◌, List, [], ◌∷◌, length, refl, sym, ap, arith, append-nil}
+use Rattle.std.proofs.Common.{◌≡◌, ℕ, suc, List, [], ◌∷◌, length, refl, sym, ap, arith, append-nil}
 use Rattle.std.proofs.Math.Logic.{∥∥₁_elim, ∥∥₁_map, ∥∥₁_prop}
 use Rattle.bolt_check.specs.CheckedFiles.{bytes_of, meta_of}
 use Rattle.bolt_check.specs.OnWays.{IsOnWay}
@@ -29,19 +29,19 @@ root_good bucket trees (Inline_page elements) is = tt
 
 pub root_stack : (bucket : BucketView) → ∥ IsSoundBucket bucket ∥₁ → HasStack bucket (record { content = root_content bucket; taken = 0 } ∷ [])
 root_stack bucket is = ∥∥₁_map is (λ s. (
-    s,
-    (
-      record {
-        shallow = omega arith;
-        good = root_good bucket s.trees bucket.start s.start;
-        bound = omega arith;
-        fits = omega arith;
-        branch = tt;
-        placed = sym (append-nil (tour (contents_in bucket) 63 [] (root_content bucket)));
-      },
-      tt,
-    ),
-  ))
+  s,
+  (
+    record {
+      shallow = omega arith;
+      good = root_good bucket s.trees bucket.start s.start;
+      bound = omega arith;
+      fits = omega arith;
+      branch = tt;
+      placed = sym (append-nil (tour (contents_in bucket) 63 [] (root_content bucket)));
+    },
+    tt,
+  ),
+))
 
 -- before the root page's first element, everything is ahead
 top_of : (contents : Contents) (content : Content) → tour contents 63 [] content ≡ record { address = []; entries = here_under content 0 } ∷ right_of contents (record { content = content; taken = 0 } ∷ [])

@@ -1,17 +1,17 @@
 -- The entries of a bucket in order are the elements along its tour, and there is one such list.
-use Rattle.std.proofs.Common.{◌≡◌, ◌==◌, ℕ, ◌≤◌, ◌<◌, Bool, true, false, List, [], ◌∷◌, ◌++◌, Some, Ok, slice_get, map, refl, sym, ap, ◌∙◌, subst, arith, inl, inr}
+use Rattle.std.proofs.Common.{◌≡◌, ◌==◌, ℕ, Bool, true, false, List, [], ◌∷◌, ◌++◌, Some, slice_get, map, refl, sym, ap, ◌∙◌, subst, arith, inl, inr}
 use Rattle.std.specs.List.{Contains}
 use Rattle.std.specs.Option.{option_map}
 use Rattle.std.proofs.lemmas.Option.{slice_get-map}
 use Rattle.bolt_format.specs.Elements.{LeafElement, head_root, inline_elements}
 use Rattle.bolt_format.specs.declared.kind.Kind.TheVariants as kind
 use Rattle.bolt_format.specs.declared.meta.Meta.{Meta}
-use Rattle.bolt_check.specs.Keys.{Key, KeysRise}
+use Rattle.bolt_check.specs.Keys.{KeysRise}
 use Rattle.bolt_check.specs.Nodes.{node_at}
 use Rattle.bolt_check.specs.Shape.{leads}
 use Rattle.bolt_check.specs.Sound.{HasSoundTrees}
 use Rattle.bolt_check.proofs.KeyLaws.{less_of, lt_strict}
-use Rattle.bolt_check.proofs.TreePages.{inline_reached, leaf_node, node_is}
+use Rattle.bolt_check.proofs.TreePages.{inline_reached, node_is}
 use Rattle.bolt_tree.specs.Private.Contents.{content_at}
 use Rattle.bolt_tree.specs.Entries.{AreEntries, Inline_page, IsEntry, IsStart, Root_page, Start, entry_cmp, start_of}
 use Rattle.bolt_tree.specs.Openings.{IsHome}
@@ -70,8 +70,7 @@ module _ (file : List ℕ) (meta : Meta) (trees : HasSoundTrees file meta) where
       let r = tour_led file meta trees 63 number 1 [] v is (omega arith) h in record {
         rises = page_rises file meta trees r.page r.depth v.entries r.on r.shown;
         home = λ x k.
-            let leaf = leaf_of file meta trees r.page r.depth v.entries x r.on r.shown k in
-            (
+            let leaf = leaf_of file meta trees r.page r.depth v.entries x r.on r.shown k in (
               r.page,
               ap (λ (a : List ℕ). leads (node_at file meta) (Some number) a) r.from ∙ r.led,
               (leaf.view, leaf.at, leaf.is, subst (λ (es : List LeafElement). Contains es x) (sym leaf.leaves) (contains_from_has v.entries x k)),
