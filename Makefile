@@ -17,15 +17,18 @@ $(PROGRAM):
 demo: $(PROGRAM)
 	$(PROGRAM) buckets examples/app.db
 
-# What the program prints of each real database, compared with what bbolt finds in it.
+# What the program prints of each real database, compared with what bbolt finds in it; and that
+# output which can't be written is told, whatever was found.
 examples: $(PROGRAM)
 	for list in $(SOUND); do $(PROGRAM) buckets $${list%.buckets}.db | cmp - $$list || exit 1; done
 	for list in $(SOUND); do $(PROGRAM) check $${list%.buckets}.db | grep -qx OK || exit 1; done
 	! $(PROGRAM) check $(LEAKED).db > /dev/null
 	$(PROGRAM) check $(LEAKED).db | cmp - $(LEAKED).findings
+	$(PROGRAM) check $(LEAKED).db 2>&1 > /dev/full | grep -qx "error: write failed"
 
-# The merge gate: every proof from nothing, the wrong bodies, the tests and the program.
-test:
+# The merge gate: real databases, refused memory, and then every proof from nothing, the wrong
+# bodies, the tests and the program.
+test: examples memory
 	rt ci
 
 LARGE = out/large.db

@@ -1,21 +1,42 @@
 -- The command line as it is built, and what its matches say.
-use Rattle.std.proofs.Common.{◌≡◌, ◌⊎◌, ◌∙◌, List, [], true, refl, sym, ap, ap₂, subst, inl, inr, rules, ◌||◌, Result, Ok, Err, IfOk, IfErr}
-use Rattle.clap.specs.Words.{AddsSubcommand, App, HasMatchesOf, IsAmong, Kinds, Text, fault_of, is_simple, is_simple_and_free, subcommand_of, subcommand_rows_of, with_subcommand}
+use Rattle.std.proofs.Common.{◌≡◌, ◌⊎◌, ◌∙◌, List, [], ◌∷◌, ◌++◌, ℕ, ◌+◌, ◌<◌, true, false, add-one, get_or, length, map, take, refl, sym, ap, ap₂, subst, inl, inr, rules, ◌||◌, Option, None, Some, Result, Ok, Err, IfOk, IfErr, option_map, slice_get, unwrap_or}
+use Rattle.std.specs.Prelude.{option_and_then}
+use Rattle.std.proofs.Math.Seq.{take-suc}
+use Rattle.std.proofs.lemmas.List.{map-append}
+use Rattle.clap.specs.Words.{AddsArg, AddsSubcommand, App, HasMatchesOf, IsAmong, Kinds, Row, Rule, Text, fault_of, is_simple, is_simple_and_free, subcommand_of, subcommand_rows_of, rule_of, with_rule, with_subcommand}
 use Rattle.clap.specs.declared.parser.ArgMatches.{ArgMatches}
+use Rattle.clap.specs.declared.builder.Arg.{Arg}
 use Rattle.clap.specs.declared.builder.Command.{Command}
 use Rattle.clap.specs.declared.error.ErrorKind.{ErrorKind}
 use Rattle.clap.specs.declared.error.ErrorKind.TheVariants as kind
-use Rattle.bolt_cli.specs.declared.words.Job.{Job}
+use Rattle.bolt_cli.specs.declared.job.Job.{Job}
 use Rattle.bolt_cli.specs.declared.words.Refusal.{Refusal}
 use Rattle.bolt_cli.specs.declared.words.Refusal.TheVariants.{Memory, Help, Usage, Word}
-use Rattle.bolt_cli.specs.CommandLine.{Asks, Gives, HasKindOf, IsCommand, IsRefusedBy, asked_by, program}
-use Rattle.bolt_cli.specs.PlainWords.{Asked, asked_of}
+use Rattle.bolt_cli.specs.CommandLine.{Asks, Gives, HasKindOf, IsCommand, IsRefusedBy, asked_by, command_with, program}
+use Rattle.bolt_cli.specs.PlainWords.{Asked, asked_of, first_of}
 
 pub program_is_simple : is_simple program ≡ true
 program_is_simple = refl
 
 pub program_is_free : is_simple_and_free program ≡ true
 program_is_free = refl
+
+-- what is made of a list in two steps
+pub made_twice : {X Y Z : Type 0} (f : Y → Z) (g : X → Y) (xs : List X) → map (λ x. f (g x)) xs ≡ map f (map g xs)
+made_twice f g [] = refl
+made_twice f g (x ∷ xs) = ap (λ zs. f (g x) ∷ zs) (made_twice f g xs)
+
+-- what was made of a list so far, with one more
+pub made_more : {X Y : Type 0} (f : X → Y) (xs : List X) (i : ℕ) (d : X) → i < length xs → map f (take (i + 1) xs) ≡ map f (take i xs) ++ f (get_or xs i d) ∷ []
+made_more f xs i d within = ap (λ n. map f (take n xs)) (add-one i) ∙ ap (map f) (take-suc xs i d within) ∙ map-append f (take i xs) (get_or xs i d ∷ [])
+
+-- a command with one more argument
+pub argument_added : (name : Text) (before : List Rule) (rule : Rule) (old new : Command) (arg : Arg) → IsCommand (command_with name before) old
+    → rule_of arg ≡ rule → arg.global ≡ false → AddsArg old arg new → IsCommand (command_with name (before ++ rule ∷ [])) new
+argument_added name before rule old new arg above is local adds = (
+  adds.shape local ∙ ap₂ with_rule above.0 is,
+  adds.globals ∙ ap₂ (λ x y. x || y) above.1 local,
+)
 
 -- a command with one more subcommand
 pub subcommand_added : (a b : App) (old sub new : Command) → IsCommand a old → IsCommand b sub
@@ -34,6 +55,17 @@ subcommand_met a b ws vs m same words simple matches =
 module _ {T X : Type 0} where
   pub gives_same : (view : T → X) (a b : Result X Text) (r : Result T Refusal) → a ≡ b → Gives view b r → Gives view a r
   gives_same view a b r same gives = subst (λ (x : Result X Text). Gives view x r) (sym same) gives
+
+-- ---- matches
+
+first_at : (words : List Text) → slice_get words 0 ≡ first_of words
+first_at [] = refl
+first_at (word ∷ words) = refl
+
+-- the first word that a row has
+pub found_first : (row : Option Row) → option_and_then (λ (r : Row). slice_get r.values 0) row ≡ first_of (unwrap_or (option_map (λ (r : Row). r.values) row) [])
+found_first None = refl
+found_first (Some row) = first_at row.values
 
 -- ---- answers
 

@@ -1,8 +1,12 @@
+pub mod BuiltRules
 pub mod CommandLineLemmas
-pub mod PageIds
-pub mod Options
-pub mod Levels
-pub mod CommandOperands
+pub mod Doing
+pub mod GivenRows
+pub mod LineReading
 pub mod Lines
+pub mod NameLines
+pub mod PageAnswers
+pub mod PageIds
+pub mod WholeLines
+pub mod WordSteps
 pub mod WrittenLines
-pub mod Written

@@ -1,94 +1,84 @@
 -- The whole command line is read as `line_of` says.
-use Rattle.std.proofs.Common.{◌≡◌, ◌≢◌, ◌∙◌, Bool, List, [], ◌∷◌, ◌++◌, Option, Some, None, Result, Ok, Err, IfOk, IfErr, String, Global, true, false, codes, map, string_bytes, refl, sym, subst, ap, ap₂, inl, inr, rules, ◌||◌, append_assoc, append-nil}
-use Rattle.std.specs.Prelude.{All, MatchResult, cond, fold, is_some, option_map, if◌then◌else◌}
-use Rattle.std.specs.Option.{ok_or}
-use Rattle.std.specs.Result.{result_unwrap_or}
+use Rattle.std.proofs.Common.{◌≡◌, ◌∙◌, ◌==◌, ℕ, Bool, List, [], ◌∷◌, ◌++◌, Option, Some, None, Result, Ok, Err, IfOk, IfErr, String, Global, true, false, codes, map, string_bytes, refl, sym, subst, ap, ap₂, inl, inr, rules, ◌||◌, ◌&&◌, append_assoc, append-nil, cond, drop, length, slice_get}
+use Rattle.std.specs.Prelude.{All, MatchResult, encode_utf8, find, fold, is_some, option_map, if◌then◌else◌}
+use Rattle.std.specs.List.{list_all}
+use Rattle.std.specs.Option.{option_map_or}
 use Rattle.std.specs.Str.{IsUtf8, bytes_eq}
-use Rattle.std.proofs.lemmas.Bool.{cases_Bool, false_from_ne_true}
+use Rattle.std.proofs.lemmas.Bool.{cases_Bool}
 use Rattle.std.proofs.lemmas.List.Elements.{All-cons, All-head, All-nil, All-tail}
 use Rattle.std.proofs.lemmas.Slice.Eq.{bytes_eq-Decides}
 use Rattle.std.proofs.lemmas.Str.{IsUtf8-string_bytes}
+use Rattle.clap.specs.Lexer.{long_of}
 use Rattle.clap.specs.Words.{App, IsAmong, Kinds, Row, Rule, Shape, Text, fault_of}
-use Rattle.clap.specs.Walk.{Names, Walk, finished, idle, nothing_held, rows_after, settled, subcommand_met, walked}
-use Rattle.clap.specs.Simple.{built, entered, names_of}
+use Rattle.clap.specs.Walk.{Held, Names, Step, Walk, after_step, answers_to, finished, idle, long_or_other, nothing_held, settled, subcommand_met, subcommand_or_other, trailing, walked}
+use Rattle.clap.specs.Simple.{built, entered, label_of, names_of, rows_at}
 use Rattle.clap.specs.Kinds.{or_else}
-use Rattle.clap.specs.Faults.{check_fault, defaults_fault, entered_fault, level_fault, settle_fault, walk_fault}
+use Rattle.clap.specs.Faults.{bundle_step_fault, check_fault, defaults_fault, entered_fault, flag_word_fault, flags_fault, level_fault, long_fault, other_fault, settle_fault, short_fault, step_fault, turn_fault, walk_fault}
 use Rattle.clap.specs.declared.error.ErrorKind.{ErrorKind}
 use Rattle.clap.specs.declared.error.ErrorKind.TheVariants as kind
 use Rattle.clap.proofs.OnLiterals.{clap_on_literals}
-use Rattle.bolt_cli.specs.declared.words.Job.{Job}
+use Rattle.bolt_cli.specs.declared.job.Job.{Job}
 use Rattle.bolt_cli.specs.declared.words.Refusal.{Refusal}
 use Rattle.bolt_cli.specs.declared.words.Refusal.TheVariants.{Memory, Help, Usage, Word}
-use Rattle.bolt_cli.specs.CommandLine.{Asks, IsRefusedBy, asked_by, asked_by_buckets, asked_by_check, asked_by_info, asked_by_page, asked_by_subcommand, page_id, program, result_and_then, value_of}
-use Rattle.bolt_cli.specs.PlainWords.{Asked, IsRefusalOf, Reading, and_then, asked_of, asks, buckets, buckets_line, check, check_line, decimal_value, help, info, info_line, is_help, is_option, is_page_id, line_of, operands, option_reading, page, page_line, refused, unread}
-use Rattle.bolt_cli.proofs.Levels.{Agrees, at_word, turn_operand, turn_option}
-use Rattle.bolt_cli.proofs.CommandOperands.{HasFile, HasFileAndId, file_read, file_shape, page_read, page_shape}
-use Rattle.bolt_cli.proofs.Options.{HasOnlyHelp, IsPlainFault, OptionFault, option_then, other_kind, plain_then, true_is_not_false}
+use Rattle.bolt_cli.specs.CommandLine.{Asks, IsRefusalOf, IsRefusedBy, asked_by, asked_by_subcommand, program, values_in}
+use Rattle.bolt_cli.specs.PlainWords.{Asked, Reading, Syntax, asked, asked_of, asks, is_complete, is_dashes, is_option, known_after, line_of, long_name, long_value, reading_by, reading_of, refused, syntaxes, unread, values_of}
+use Rattle.bolt_cli.proofs.BuiltRules.{all_found, is_good, line_shape, long_found, short_found}
+use Rattle.bolt_cli.proofs.GivenRows.{Given, values-given}
+use Rattle.bolt_cli.proofs.WordSteps.{IsFault, ReadsAs, fault_first, fault_second, faults_from, first_char, option_cases, plain_value, rows_from, short_flags, walk_at}
+use Rattle.bolt_cli.proofs.LineReading.{found_passes, unknown_long, unknown_short}
+use Rattle.bolt_cli.proofs.WholeLines.{line_agrees}
 
--- faults and what is asked are what the line says
-abbrev pub LineAgrees : Reading Asked → Kinds → Result Asked Text → Type 0
-LineAgrees (asks job) kinds wanted = (kinds ≡ []) × (wanted ≡ Ok job)
-LineAgrees help kinds wanted = kinds ≡ kind.DisplayHelp ∷ []
-LineAgrees refused kinds wanted = IsPlainFault kinds
-LineAgrees (unread why) kinds wanted = (kinds ≡ []) × (wanted ≡ Err why)
+-- ---- commands
 
-line_option : (asks_help : Bool) (kinds : Kinds) (wanted : Result Asked Text) → OptionFault asks_help kinds
-    → LineAgrees (if asks_help then help else refused) kinds wanted
-line_option true kinds wanted fault = fault
-line_option false kinds wanted fault = fault
+abbrev pub top : App
+top = built program
 
--- a command whose operand is a FILE
-one_file : (line : List Text → Reading Asked) (made : Text → Asked) → ((file : Text) → line (file ∷ []) ≡ asks (made file))
-    → (reading : Reading (List Text)) (kinds : Kinds) (rows : List Row) → Agrees HasFile reading kinds rows
-    → LineAgrees (and_then line reading) (or_else kinds []) (result_and_then (λ file. Ok (made file)) (value_of (codes "FILE") rows))
-one_file line made gives (asks []) kinds rows agrees = absurd agrees.1
-one_file line made gives (asks (file ∷ [])) kinds rows agrees = rw (gives file) (
-  ap (λ (k : Kinds). or_else k []) agrees.0,
-  ap (λ (o : Option Text). result_and_then (λ file. Ok (made file)) (ok_or o (codes "value missing"))) agrees.1,
-)
-one_file line made gives (asks (file ∷ more ∷ rest)) kinds rows agrees = absurd agrees.1
-one_file line made gives help kinds rows agrees = ap (λ (k : Kinds). or_else k []) agrees
-one_file line made gives refused kinds rows agrees = plain_then kinds [] agrees
-one_file line made gives (unread why) kinds rows agrees = absurd agrees
+all_good : list_all is_good syntaxes ≡ true
+all_good = refl
 
--- the command whose operands are a FILE and an ID
-page_asked : (file word : Text) (rows : List Row) → HasFileAndId (file ∷ word ∷ []) rows
-    → asked_by_page rows ≡ result_and_then (λ id. Ok (page file id)) (page_id word)
-page_asked file word rows has =
-    ap₂ (λ (found_file found_id : Option Text). result_and_then (λ file. result_and_then (λ id. Ok (page file id))
-    (result_and_then page_id (ok_or found_id (codes "value missing")))) (ok_or found_file (codes "value missing"))) has.0 has.1
+abbrev is_named : Text → Syntax → Bool
+is_named name s = bytes_eq s.name name
 
-page_by_id : (file word : Text) (good : Bool) (kinds : Kinds) → kinds ≡ []
-    → LineAgrees (if good then asks (page file (decimal_value word)) else unread (codes "bad page id")) (or_else kinds [])
-    (result_and_then (λ id. Ok (page file id)) (if good then Ok (decimal_value word) else Err (codes "bad page id")))
-page_by_id file word true kinds none = (ap (λ (k : Kinds). or_else k []) none, refl)
-page_by_id file word false kinds none = (ap (λ (k : Kinds). or_else k []) none, refl)
+subs_are : top.subs ≡ map line_shape syntaxes
+subs_are = refl
 
-page_agrees : (reading : Reading (List Text)) (kinds : Kinds) (rows : List Row) → Agrees HasFileAndId reading kinds rows
-    → LineAgrees (and_then page_line reading) (or_else kinds []) (asked_by_page rows)
-page_agrees (asks []) kinds rows agrees = absurd agrees.1
-page_agrees (asks (file ∷ [])) kinds rows agrees = absurd agrees.1
-page_agrees (asks (file ∷ word ∷ [])) kinds rows agrees =
-    subst (LineAgrees (page_line (file ∷ word ∷ [])) (or_else kinds [])) (sym (page_asked file word rows agrees.1))
-    (page_by_id file word (is_page_id word) kinds agrees.0)
-page_agrees (asks (file ∷ word ∷ more ∷ rest)) kinds rows agrees = absurd agrees.1
-page_agrees help kinds rows agrees = ap (λ (k : Kinds). or_else k []) agrees
-page_agrees refused kinds rows agrees = plain_then kinds [] agrees
-page_agrees (unread why) kinds rows agrees = absurd agrees
+abbrev label : Syntax → Text × List Text
+label s = (s.name, [])
+
+names_are : names_of top ≡ map label syntaxes
+names_are = refl
+
+label_here : (b : Bool) (s : Syntax) (later : Option Syntax) → cond (b || false) (Some (label s)) (option_map label later) ≡ option_map label (cond b (Some s) later)
+label_here true s later = refl
+label_here false s later = refl
+
+label_found : (word : Text) (xs : List Syntax) → find (answers_to word) (map label xs) ≡ option_map label (find (is_named word) xs)
+label_found word [] = refl
+label_found word (s ∷ xs) = ap (cond (bytes_eq s.name word || false) (Some (label s))) (label_found word xs) ∙ label_here (bytes_eq s.name word) s (find (is_named word) xs)
+
+label_name : (found : Option Syntax) → option_map (λ (l : Text × List Text). l.0) (option_map label found) ≡ option_map (λ (s : Syntax). s.name) found
+label_name None = refl
+label_name (Some s) = refl
+
+-- the command that a word names
+command_met : (word : Text) → subcommand_met (names_of top) idle word ≡ option_map (λ (s : Syntax). s.name) (find (is_named word) syntaxes)
+command_met word = ap (option_map (λ (l : Text × List Text). l.0)) (label_found word syntaxes) ∙ label_name (find (is_named word) syntaxes)
+
+shape_here : (b : Bool) (s : Syntax) (later : Option Syntax) → cond (b || false) (Some (line_shape s)) (option_map line_shape later) ≡ option_map line_shape (cond b (Some s) later)
+shape_here true s later = refl
+shape_here false s later = refl
+
+shape_found : (name : Text) (xs : List Syntax) → find (λ (x : Shape). answers_to name (label_of x)) (map line_shape xs) ≡ option_map line_shape (find (is_named name) xs)
+shape_found name [] = refl
+shape_found name (s ∷ xs) = ap (cond (bytes_eq s.name name || false) (Some (line_shape s))) (shape_found name xs) ∙ shape_here (bytes_eq s.name name) s (find (is_named name) xs)
 
 -- ---- the program's own level
 
-abbrev top : App
-top = built program
-
-top_only_help : HasOnlyHelp top.top.rules
-top_only_help = (λ _. refl, λ _. refl)
-
-abbrev start : Walk
-start = at_word [] None 1
+abbrev begin : Walk
+begin = walk_at [] None idle 1 false
 
 abbrev at_stop : Text → List Text → Walk
-at_stop name words = record start { stopped = Some (name, words) }
+at_stop name words = record begin { stopped = Some (name, words) }
 
 -- the words after a command's name are kept as they are
 stop_walks : (rules : List Rule) (names : Names) (name : Text) (before words : List Text)
@@ -112,200 +102,142 @@ top_faults words place =
     (or_else (defaults_fault (settled top.top.rules place.held).rows top.top.rules)
     (check_fault top.top (finished top.top.rules place.held) (is_some (entered top place.stopped))))))
 
--- the faults of a line of a command, and what it asks for, are those of the words after the command
-info_faults : (name : Text) (words : List Text)
-    → fault_of program (name ∷ codes "info" ∷ words) ≡ or_else (level_fault (file_shape (codes "info")) [] nothing_held words false []) []
-unfolding clap_on_literals
-info_faults name words =
-    ap₂ top_faults (stop_faults top.top (names_of top) (codes "info") [] words)
-    (stop_walks top.top.rules (names_of top) (codes "info") [] words)
+no_topics : (b : Bool) (kinds : Kinds) → (if b && false then kinds else []) ≡ []
+no_topics true kinds = refl
+no_topics false kinds = refl
 
-info_asked : (name : Text) (words : List Text)
-    → asked_by (name ∷ codes "info" ∷ words) ≡ asked_by_info (rows_after (file_shape (codes "info")).rules [] words)
-unfolding clap_on_literals
-info_asked name words = ap (λ (place : Walk). asked_by_subcommand (entered top place.stopped))
-    (stop_walks top.top.rules (names_of top) (codes "info") [] words)
+command_turn : (command name : Text) → subcommand_met (names_of top) idle command ≡ Some name → turn_fault top.top (names_of top) begin command ≡ []
+command_turn command name met =
+    let h = nothing_held in
+    ap (λ o. let there = subcommand_or_other top.top.rules o idle 1 command h in or_else (other_fault top.top o command h) (step_fault top.top 1 there.0 there.1)) met
+    ∙ ap (λ (f : Kinds). or_else f []) (no_topics (bytes_eq name (codes "help")) _)
 
-page_faults : (name : Text) (words : List Text)
-    → fault_of program (name ∷ codes "page" ∷ words) ≡ or_else (level_fault page_shape [] nothing_held words false []) []
-unfolding clap_on_literals
-page_faults name words =
-    ap₂ top_faults (stop_faults top.top (names_of top) (codes "page") [] words)
-    (stop_walks top.top.rules (names_of top) (codes "page") [] words)
+command_walked : (command name : Text) → subcommand_met (names_of top) idle command ≡ Some name → walked top.top.rules (names_of top) begin command ≡ at_stop name []
+unfolding walked
+command_walked command name met =
+    ap (λ o. let there = subcommand_or_other top.top.rules o idle 1 command nothing_held in after_step top.top.rules command begin there.0 there.1) met
 
-page_asked_by : (name : Text) (words : List Text)
-    → asked_by (name ∷ codes "page" ∷ words) ≡ asked_by_page (rows_after page_shape.rules [] words)
-unfolding clap_on_literals
-page_asked_by name words = ap (λ (place : Walk). asked_by_subcommand (entered top place.stopped))
-    (stop_walks top.top.rules (names_of top) (codes "page") [] words)
+-- what is entered, by the line of the command
+entered_line : (name : Text) (words : List Text) (s : Syntax) → find (is_named name) syntaxes ≡ Some s → entered top (Some (name, words)) ≡ Some (rows_at (line_shape s) words)
+entered_line name words s met = ap (option_map (λ (x : Shape). rows_at x words)) (shape_found name syntaxes ∙ ap (option_map line_shape) met)
 
-check_faults : (name : Text) (words : List Text)
-    → fault_of program (name ∷ codes "check" ∷ words) ≡ or_else (level_fault (file_shape (codes "check")) [] nothing_held words false []) []
-unfolding clap_on_literals
-check_faults name words =
-    ap₂ top_faults (stop_faults top.top (names_of top) (codes "check") [] words)
-    (stop_walks top.top.rules (names_of top) (codes "check") [] words)
+line_fault : (name : Text) (words : List Text) (s : Syntax) → find (is_named name) syntaxes ≡ Some s → entered_fault top (Some (name, words)) ≡ faults_from s begin words
+line_fault name words s met = ap (λ o. option_map_or (λ x. level_fault x [] nothing_held words false []) o []) (shape_found name syntaxes ∙ ap (option_map line_shape) met)
 
-check_asked : (name : Text) (words : List Text)
-    → asked_by (name ∷ codes "check" ∷ words) ≡ asked_by_check (rows_after (file_shape (codes "check")).rules [] words)
-unfolding clap_on_literals
-check_asked name words = ap (λ (place : Walk). asked_by_subcommand (entered top place.stopped))
-    (stop_walks top.top.rules (names_of top) (codes "check") [] words)
+-- the line of a command that a word names is the one of its own name
+own_line : (command : Text) (s : Syntax) → find (is_named command) syntaxes ≡ Some s → find (is_named s.name) syntaxes ≡ Some s
+own_line command s met =
+    let same : s.name ≡ command = (bytes_eq-Decides s.name command).0 (found_passes (is_named command) syntaxes s met) in
+    ap (λ n. find (is_named n) syntaxes) same ∙ met
 
-buckets_faults : (name : Text) (words : List Text)
-    → fault_of program (name ∷ codes "buckets" ∷ words) ≡ or_else (level_fault (file_shape (codes "buckets")) [] nothing_held words false []) []
-unfolding clap_on_literals
-buckets_faults name words =
-    ap₂ top_faults (stop_faults top.top (names_of top) (codes "buckets") [] words)
-    (stop_walks top.top.rules (names_of top) (codes "buckets") [] words)
+line_faults : (program_name command : Text) (words : List Text) (s : Syntax) → find (is_named command) syntaxes ≡ Some s
+    → fault_of program (program_name ∷ command ∷ words) ≡ or_else (faults_from s begin words) []
+unfolding walk_fault defaults_fault
+line_faults program_name command words s found =
+    let met = command_met command ∙ ap (option_map (λ (s : Syntax). s.name)) found in
+    let own = own_line command s found in
+    let stop : fold (walked top.top.rules (names_of top)) (at_stop s.name []) words ≡ at_stop s.name words = stop_walks top.top.rules (names_of top) s.name [] words in
+    ap₂ (λ (f : Kinds) (w : Walk). top_faults (or_else f (walk_fault top.top (names_of top) w words)) (fold (walked top.top.rules (names_of top)) w words))
+    (command_turn command s.name met) (command_walked command s.name met)
+    ∙ ap₂ top_faults (stop_faults top.top (names_of top) s.name [] words) stop
+    ∙ ap₂ (λ (f : Kinds) (e : Option (Text × List Row)). or_else f (check_fault top.top [] (is_some e))) (line_fault s.name words s own) (entered_line s.name words s own)
 
-buckets_asked : (name : Text) (words : List Text)
-    → asked_by (name ∷ codes "buckets" ∷ words) ≡ asked_by_buckets (rows_after (file_shape (codes "buckets")).rules [] words)
+line_asks : (program_name command : Text) (words : List Text) (s : Syntax) → find (is_named command) syntaxes ≡ Some s
+    → asked_by (program_name ∷ command ∷ words) ≡ asked s.name (values_in (rows_from s begin words))
+line_asks program_name command words s found =
+    let met = command_met command ∙ ap (option_map (λ (s : Syntax). s.name)) found in
+    let stop : fold (walked top.top.rules (names_of top)) (at_stop s.name []) words ≡ at_stop s.name words = stop_walks top.top.rules (names_of top) s.name [] words in
+    ap (λ (w : Walk). asked_by_subcommand (entered top (fold (walked top.top.rules (names_of top)) w words).stopped)) (command_walked command s.name met)
+    ∙ ap (λ (w : Walk). asked_by_subcommand (entered top w.stopped)) stop
+    ∙ ap asked_by_subcommand (entered_line s.name words s (own_line command s found))
+
+-- ---- words that name no command
+
+abbrev FaultsAt : Text → List Text → Type 0
+FaultsAt word words = IsFault (fault_of program ([] ∷ word ∷ words))
+
+dashes_fault : (words : List Text) → FaultsAt (codes "--") words
 unfolding clap_on_literals
-buckets_asked name words = ap (λ (place : Walk). asked_by_subcommand (entered top place.stopped))
-    (stop_walks top.top.rules (names_of top) (codes "buckets") [] words)
+dashes_fault [] = tt
+dashes_fault (word ∷ words) = tt
+
+stray_turn : (word : Text) (words : List Text) → IsFault (turn_fault top.top (names_of top) begin word) → FaultsAt word words
+unfolding walk_fault
+stray_turn word words fault = fault_first _ _ (fault_first _ _ fault)
+
+unnamed_turn : (word : Text) → subcommand_met (names_of top) idle word ≡ None → is_dashes word ≡ false
+    → turn_fault top.top (names_of top) begin word
+    ≡ (let met = long_or_other top.top.rules idle word (long_of word) nothing_held in
+    or_else (flag_word_fault top.top.rules false (long_of word) word nothing_held) (step_fault top.top 1 met.0 met.1))
+unnamed_turn word unnamed other =
+    let h = nothing_held in
+    let met = long_or_other top.top.rules idle word (long_of word) h in
+    ap (λ o. let there = subcommand_or_other top.top.rules o idle 1 word h in or_else (other_fault top.top o word h) (step_fault top.top 1 there.0 there.1)) unnamed
+    ∙ ap (λ b. or_else (if b then [] else flag_word_fault top.top.rules false (long_of word) word h)
+    (step_fault top.top 1 (if b then (h, trailing 1) else met).0 (if b then (h, trailing 1) else met).1)) other
+
+option_unknown : (word : Text) → IsUtf8 word → is_option word ≡ true → is_dashes word ≡ false → IsFault (flag_word_fault top.top.rules false (long_of word) word nothing_held)
+unfolding flags_fault
+option_unknown word text hyphen other =
+    option_cases (λ w. IsFault (flag_word_fault top.top.rules false (long_of w) w nothing_held))
+    (λ z zs. subst (λ a. IsFault (long_fault top.top.rules false a (long_value (z ∷ zs)) nothing_held)) (sym (long_found (long_name (z ∷ zs)) 1 [] []))
+    (unknown_long top.top.rules (bytes_eq (codes "help") (long_name (z ∷ zs))) (long_value (z ∷ zs)) nothing_held))
+    (λ y ys apart letters.
+    let (char, chars_after, are, same) = first_char y ys letters in
+    let after_letter = drop (length (encode_utf8 char)) (y ∷ ys) in
+    subst IsFault (sym (short_flags top.top.rules y ys [] None apart))
+    (subst (λ first. IsFault (bundle_step_fault top.top.rules false first (y ∷ ys) 0 nothing_held (flags_fault top.top.rules false (length ys)))) (sym (ap (λ (cs : List ℕ). slice_get cs 0) are))
+    (subst (λ a. IsFault (short_fault top.top.rules false a after_letter nothing_held (flags_fault top.top.rules false (length ys) after_letter 0))) (sym (short_found char 1 [] []))
+    (unknown_short top.top.rules (104 == char) after_letter nothing_held _))))
+    word text hyphen other
+
+no_command : (word : Text) (words : List Text) → IsUtf8 word → find (is_named word) syntaxes ≡ None → FaultsAt word words
+no_command word words text none =
+    let unnamed = command_met word ∙ ap (option_map (λ (s : Syntax). s.name)) none in
+    elim (cases_Bool (is_dashes word)) [
+      | inl dashes ↦ subst (λ w. FaultsAt w words) (sym ((bytes_eq-Decides word (codes "--")).0 dashes)) (dashes_fault words)
+      | inr other ↦ stray_turn word words (subst IsFault (sym (unnamed_turn word unnamed other)) (elim (cases_Bool (is_option word)) [
+        | inl hyphen ↦ fault_first _ _ (option_unknown word text hyphen other)
+        | inr free ↦ fault_second (flag_word_fault top.top.rules false (long_of word) word nothing_held) _
+            (subst (λ (met : Held × Step). IsFault (step_fault top.top 1 met.0 met.1)) (sym (plain_value top.top.rules idle word nothing_held free).0) tt)
+      ]))
+    ]
 
 -- ---- lines
 
-abbrev IsReadAs : Reading Asked → List Text → Type 0
-IsReadAs line words = LineAgrees line (fault_of program words) (asked_by words)
+abbrev ReadsLine : Reading → List Text → Type 0
+ReadsLine (asks job) words = (fault_of program words ≡ []) × (asked_by words ≡ Ok job)
+ReadsLine (unread why) words = (fault_of program words ≡ []) × (asked_by words ≡ Err why)
+ReadsLine refused words = IsFault (fault_of program words)
 
-by_line : (a b : Reading Asked) (words : List Text) → a ≡ b → IsReadAs b words → IsReadAs a words
-by_line a b words same read = subst (λ (line : Reading Asked). IsReadAs line words) (sym same) read
+by_asked : (wanted : Result Asked Text) (words : List Text) → fault_of program words ≡ [] → asked_by words ≡ wanted → ReadsLine (reading_of wanted) words
+by_asked (Ok job) words clean is = (clean, is)
+by_asked (Err why) words clean is = (clean, is)
 
--- a line, by the faults of its command and what its matches ask for
-by_command : (line : Reading Asked) (words : List Text) (faults : Kinds) (wanted : Result Asked Text)
-    → fault_of program words ≡ faults → asked_by words ≡ wanted → LineAgrees line faults wanted → IsReadAs line words
-by_command line words faults wanted has gives agrees =
-    subst (λ (kinds : Kinds). LineAgrees line kinds (asked_by words)) (sym has) (subst (LineAgrees line faults) (sym gives) agrees)
+-- the reading of a line, by whether it is complete
+by_line : (whole : Bool) (s : Syntax) (given : Given) (words : List Text) (kinds : Kinds) (rows : List Row) → ReadsAs whole given kinds rows
+    → fault_of program words ≡ or_else kinds [] → asked_by words ≡ asked s.name (values_in rows)
+    → ReadsLine (if whole then reading_of (asked s.name (values_of given)) else refused) words
+by_line true s given words kinds rows agrees faults asks_for =
+    let values : values_in rows ≡ values_of given = λ i name. values-given rows given name agrees.1 i in
+    by_asked (asked s.name (values_of given)) words (faults ∙ ap (λ (k : Kinds). or_else k []) agrees.0) (asks_for ∙ ap (asked s.name) values)
+by_line false s given words kinds rows agrees faults asks_for = subst IsFault (sym faults) (fault_first _ _ agrees)
 
-info_read : (name : Text) (words : List Text) → All IsUtf8 words
-    → IsReadAs (and_then info_line (operands 1 words)) (name ∷ codes "info" ∷ words)
-info_read name words texts = by_command _ (name ∷ codes "info" ∷ words) _ _ (info_faults name words) (info_asked name words)
-    (one_file info_line info (λ file. refl) (operands 1 words) _ _ (file_read (codes "info") words texts))
+by_command : (program_name command : Text) (words : List Text) → All IsUtf8 (command ∷ words) → (found : Option Syntax) → find (is_named command) syntaxes ≡ found
+    → ReadsLine (reading_by found words) (program_name ∷ command ∷ words)
+by_command program_name command words texts None none = no_command command words (All-head IsUtf8 command words texts) none
+by_command program_name command words texts (Some s) found =
+    let good = all_found is_good (is_named command) syntaxes s all_good found in
+    let k = known_after s words in
+    by_line (is_complete s k) s k.given (program_name ∷ command ∷ words) (faults_from s begin words) (rows_from s begin words)
+    (line_agrees s good words (All-tail IsUtf8 command words texts)) (line_faults program_name command words s found) (line_asks program_name command words s found)
 
-page_line_read : (name : Text) (words : List Text) → All IsUtf8 words
-    → IsReadAs (and_then page_line (operands 2 words)) (name ∷ codes "page" ∷ words)
-page_line_read name words texts = by_command _ (name ∷ codes "page" ∷ words) _ _ (page_faults name words) (page_asked_by name words)
-    (page_agrees (operands 2 words) _ _ (page_read words texts))
-
-check_read : (name : Text) (words : List Text) → All IsUtf8 words
-    → IsReadAs (and_then check_line (operands 1 words)) (name ∷ codes "check" ∷ words)
-check_read name words texts = by_command _ (name ∷ codes "check" ∷ words) _ _ (check_faults name words) (check_asked name words)
-    (one_file check_line check (λ file. refl) (operands 1 words) _ _ (file_read (codes "check") words texts))
-
-buckets_read : (name : Text) (words : List Text) → All IsUtf8 words
-    → IsReadAs (and_then buckets_line (operands 1 words)) (name ∷ codes "buckets" ∷ words)
-buckets_read name words texts = by_command _ (name ∷ codes "buckets" ∷ words) _ _ (buckets_faults name words) (buckets_asked name words)
-    (one_file buckets_line buckets (λ file. refl) (operands 1 words) _ _ (file_read (codes "buckets") words texts))
-
-unlike_from : (word name : Text) → bytes_eq word name ≡ false → bytes_eq name word ≡ false
-unlike_from word name unlike = false_from_ne_true (bytes_eq name word) (λ same. true_is_not_false
-    (sym ((bytes_eq-Decides word name).1 (sym ((bytes_eq-Decides name word).0 same))) ∙ unlike))
-
--- the subcommand that is named, by whether it is each of them
-abbrev named_by : (is_info is_page is_check is_buckets : Bool) → Option Text
-named_by is_info is_page is_check is_buckets = option_map (λ (label : Text × List Text). label.0)
-    (cond (is_info || false) (Some (codes "info", []))
-    (cond (is_page || false) (Some (codes "page", []))
-    (cond (is_check || false) (Some (codes "check", []))
-    (cond (is_buckets || false) (Some (codes "buckets", [])) None))))
-
-unnamed : (word : Text) → bytes_eq word (codes "info") ≡ false → bytes_eq word (codes "page") ≡ false → bytes_eq word (codes "check") ≡ false
-    → bytes_eq word (codes "buckets") ≡ false → subcommand_met (names_of top) idle word ≡ None
-unnamed word no_info no_page no_check no_buckets =
-    ap₂ (λ (a b : Bool). named_by a b (bytes_eq (codes "check") word) (bytes_eq (codes "buckets") word)) (unlike_from word (codes "info") no_info) (unlike_from word (codes "page") no_page)
-    ∙ ap₂ (named_by false false) (unlike_from word (codes "check") no_check) (unlike_from word (codes "buckets") no_buckets)
-
-no_command_is_plain : IsPlainFault (kind.MissingSubcommand ∷ [])
-no_command_is_plain = other_kind (λ same. search rules)
-
-stray_is_plain : IsPlainFault (kind.UnknownArgument ∷ kind.InvalidSubcommand ∷ [])
-stray_is_plain = λ among. elim among [
-  | inl same ↦ absurd (search rules)
-  | inr other ↦ elim other [ inl same ↦ absurd (search rules) | inr none ↦ none ]
-]
-
-dashes_read : (name : Text) (rest : List Text) → IsReadAs refused (name ∷ codes "--" ∷ rest)
+line_read : (words : List Text) → All IsUtf8 words → ReadsLine (line_of words) words
 unfolding clap_on_literals
-dashes_read name [] = no_command_is_plain
-dashes_read name (word ∷ rest) = stray_is_plain
-
-option_read : (name word : Text) (rest : List Text) → IsUtf8 word → subcommand_met (names_of top) idle word ≡ None
-    → bytes_eq word (codes "--") ≡ false → is_option word ≡ true → IsReadAs (option_reading word) (name ∷ word ∷ rest)
-unfolding walk_fault
-option_read name word rest text named other option =
-    line_option (is_help word) _ _ (option_then (is_help word) _ _ (option_then (is_help word) _ _
-    (turn_option top.top (names_of top) [] None 1 word top_only_help refl text named other option)))
-
-operand_read : (name word : Text) (rest : List Text) → subcommand_met (names_of top) idle word ≡ None
-    → bytes_eq word (codes "--") ≡ false → is_option word ≡ false → IsReadAs refused (name ∷ word ∷ rest)
-unfolding walk_fault
-operand_read name word rest named other free =
-    plain_then _ _ (plain_then _ _ (subst IsPlainFault (sym (turn_operand top.top (names_of top) [] None 1 word named other free)) stray_is_plain))
-
-no_words_read : IsReadAs refused []
-unfolding clap_on_literals
-no_words_read = no_command_is_plain
-
-name_read : (name : Text) → IsReadAs refused (name ∷ [])
-unfolding clap_on_literals
-name_read name = no_command_is_plain
-
--- a second word that names no command
-abbrev uncommanded : Text → Reading Asked
-uncommanded word = if is_option word then option_reading word else refused
-
-dashes_read_as : (name word : Text) (rest : List Text) → bytes_eq word (codes "--") ≡ true → IsReadAs (uncommanded word) (name ∷ word ∷ rest)
-dashes_read_as name word rest dashes =
-    subst (λ (x : Text). IsReadAs (uncommanded x) (name ∷ x ∷ rest)) (sym ((bytes_eq-Decides word (codes "--")).0 dashes)) (dashes_read name rest)
-
-uncommanded_read : (name word : Text) (rest : List Text) → IsUtf8 word → subcommand_met (names_of top) idle word ≡ None
-    → IsReadAs (uncommanded word) (name ∷ word ∷ rest)
-uncommanded_read name word rest text named = elim (cases_Bool (bytes_eq word (codes "--"))) [
-  | inl dashes ↦ dashes_read_as name word rest dashes
-  | inr other ↦ elim (cases_Bool (is_option word)) [
-    | inl option ↦ by_line _ _ (name ∷ word ∷ rest) (ap (λ (b : Bool). if b then option_reading word else refused) option)
-        (option_read name word rest text named other option)
-    | inr free ↦ by_line _ _ (name ∷ word ∷ rest) (ap (λ (b : Bool). if b then option_reading word else refused) free)
-        (operand_read name word rest named other free)
-  ]
-]
-
--- the cases of `line_of`
-abbrev line_by : Text → List Text → (is_info is_page is_check is_buckets : Bool) → Reading Asked
-line_by word rest is_info is_page is_check is_buckets =
-    if is_info then and_then info_line (operands 1 rest)
-    else if is_page then and_then page_line (operands 2 rest)
-    else if is_check then and_then check_line (operands 1 rest)
-    else if is_buckets then and_then buckets_line (operands 1 rest)
-    else uncommanded word
-
-abbrev IsReadBy : Text → List Text → Text → (is_info is_page is_check is_buckets : Bool) → Type 0
-IsReadBy name rest word is_info is_page is_check is_buckets = IsReadAs (line_by word rest is_info is_page is_check is_buckets) (name ∷ word ∷ rest)
-
--- a word that is the command is read as it
-at_command : (name word : Text) (rest : List Text) (command : Text) (line : Reading Asked) → bytes_eq word command ≡ true
-    → IsReadAs line (name ∷ command ∷ rest) → IsReadAs line (name ∷ word ∷ rest)
-at_command name word rest command line same read =
-    subst (λ (x : Text). IsReadAs line (name ∷ x ∷ rest)) (sym ((bytes_eq-Decides word command).0 same)) read
-
-line_read_by : (name word : Text) (rest : List Text) → IsUtf8 word → All IsUtf8 rest → (is_info is_page is_check is_buckets : Bool)
-    → bytes_eq word (codes "info") ≡ is_info → bytes_eq word (codes "page") ≡ is_page → bytes_eq word (codes "check") ≡ is_check
-    → bytes_eq word (codes "buckets") ≡ is_buckets → IsReadBy name rest word is_info is_page is_check is_buckets
-line_read_by name word rest text texts true is_page is_check is_buckets same _ _ _ = at_command name word rest (codes "info") _ same (info_read name rest texts)
-line_read_by name word rest text texts false true is_check is_buckets _ same _ _ = at_command name word rest (codes "page") _ same (page_line_read name rest texts)
-line_read_by name word rest text texts false false true is_buckets _ _ same _ = at_command name word rest (codes "check") _ same (check_read name rest texts)
-line_read_by name word rest text texts false false false true _ _ _ same = at_command name word rest (codes "buckets") _ same (buckets_read name rest texts)
-line_read_by name word rest text texts false false false false no_info no_page no_check no_buckets =
-    uncommanded_read name word rest text (unnamed word no_info no_page no_check no_buckets)
-
-pub line_read : (words : List Text) → All IsUtf8 words → IsReadAs (line_of words) words
-line_read [] texts = no_words_read
-line_read (name ∷ []) texts = name_read name
-line_read (name ∷ word ∷ rest) texts =
-    let after_name = All-tail IsUtf8 name (word ∷ rest) texts in
-    line_read_by name word rest (All-head IsUtf8 word rest after_name) (All-tail IsUtf8 word rest after_name) _ _ _ _ refl refl refl refl
+line_read [] texts = tt
+line_read (name ∷ []) texts = tt
+line_read (name ∷ command ∷ words) texts =
+    by_command name command words (All-tail IsUtf8 name (command ∷ words) texts) (find (is_named command) syntaxes) refl
 
 -- ---- answers
 
@@ -313,63 +245,39 @@ pub texts_of : (words : List (String Global)) → All IsUtf8 (map string_bytes w
 texts_of [] = All-nil IsUtf8
 texts_of (word ∷ words) = All-cons IsUtf8 (string_bytes word) (map string_bytes words) (IsUtf8-string_bytes word) (texts_of words)
 
-abbrev FitsLine : Reading Asked → Result Job Refusal → Type 0
-FitsLine line answer = MatchResult answer (λ job. line ≡ asks (asked_of job)) (IsRefusalOf line)
+abbrev FitsLine : List Text → Reading → Result Job Refusal → Type 0
+FitsLine words line answer = MatchResult answer (λ job. line ≡ asks (asked_of job)) (IsRefusalOf words line)
 
-no_fault_of_help : (kinds : Kinds) → kinds ≡ kind.DisplayHelp ∷ [] → kinds ≡ [] → ⊥
-no_fault_of_help kinds is none = let bad : kind.DisplayHelp ∷ [] ≡ [] = sym is ∙ none in absurd (search rules)
+no_fault : (kinds : Kinds) → IsFault kinds → kinds ≡ [] → ⊥
+no_fault kinds fault none = subst IsFault none fault
 
-no_plain_fault : (kinds : Kinds) → IsPlainFault kinds → kinds ≡ [] → ⊥
-no_plain_fault kinds plain none = subst IsPlainFault none plain
+none_among : (k : ErrorKind) (kinds : Kinds) → kinds ≡ [] → IsAmong k kinds → ⊥
+none_among k kinds none among = subst (IsAmong k) none among
 
-no_help : (kinds : Kinds) → IsPlainFault kinds → IsAmong kind.DisplayHelp kinds → ⊥
-no_help [] plain among = plain
-no_help (k ∷ ks) plain among = plain among
+abbrev asked_or : Asked → Result Asked Text → Asked
+asked_or other (Ok job) = job
+asked_or other (Err why) = other
 
-job_fits : (line : Reading Asked) (kinds : Kinds) (wanted : Result Asked Text) (job : Job) → LineAgrees line kinds wanted
-    → wanted ≡ Ok (asked_of job) → kinds ≡ [] → line ≡ asks (asked_of job)
-job_fits (asks asked) kinds wanted job agrees is none =
-    ap (λ (r : Result Asked Text). asks (result_unwrap_or r asked)) (sym agrees.1 ∙ is)
-job_fits help kinds wanted job agrees is none = absurd (no_fault_of_help kinds agrees none)
-job_fits refused kinds wanted job agrees is none = absurd (no_plain_fault kinds agrees none)
-job_fits (unread why) kinds wanted job agrees is none = let bad : Ok (asked_of job) ≡ Err why = sym is ∙ agrees.1 in absurd (search rules)
+abbrev reason_or : Text → Result Asked Text → Text
+reason_or other (Ok job) = other
+reason_or other (Err why) = why
 
-help_fits : (line : Reading Asked) (kinds : Kinds) (wanted : Result Asked Text) → LineAgrees line kinds wanted
-    → IsAmong kind.DisplayHelp kinds → line ≡ help
-help_fits (asks asked) kinds wanted agrees among = absurd (subst (IsAmong kind.DisplayHelp) agrees.0 among)
-help_fits help kinds wanted agrees among = refl
-help_fits refused kinds wanted agrees among = absurd (no_help kinds agrees among)
-help_fits (unread why) kinds wanted agrees among = absurd (subst (IsAmong kind.DisplayHelp) agrees.0 among)
-
-usage_fits : (line : Reading Asked) (kinds : Kinds) (wanted : Result Asked Text) (k : ErrorKind) → LineAgrees line kinds wanted
-    → IsAmong k kinds → k ≢ kind.DisplayHelp → line ≡ refused
-usage_fits (asks asked) kinds wanted k agrees among other = absurd (subst (IsAmong k) agrees.0 among)
-usage_fits help kinds wanted k agrees among other = elim (subst (IsAmong k) agrees among) [
-  | inl same ↦ absurd (other same)
-  | inr none ↦ absurd none
-]
-usage_fits refused kinds wanted k agrees among other = refl
-usage_fits (unread why) kinds wanted k agrees among other = absurd (subst (IsAmong k) agrees.0 among)
-
-abbrev reason_of : Text → Result Asked Text → Text
-reason_of other (Ok asked) = other
-reason_of other (Err why) = why
-
-word_fits : (line : Reading Asked) (kinds : Kinds) (wanted : Result Asked Text) (why : Text) → LineAgrees line kinds wanted
-    → wanted ≡ Err why → kinds ≡ [] → line ≡ unread why
-word_fits (asks asked) kinds wanted why agrees is none = let bad : Ok asked ≡ Err why = sym agrees.1 ∙ is in absurd (search rules)
-word_fits help kinds wanted why agrees is none = absurd (no_fault_of_help kinds agrees none)
-word_fits refused kinds wanted why agrees is none = absurd (no_plain_fault kinds agrees none)
-word_fits (unread other) kinds wanted why agrees is none = ap (λ (r : Result Asked Text). unread (reason_of other r)) (sym agrees.1 ∙ is)
-
-answer_fits : (line : Reading Asked) (words : List Text) (answer : Result Job Refusal) → IsReadAs line words
-    → IfOk answer (Asks words) → IfErr answer (IsRefusedBy (fault_of program words) (asked_by words)) → FitsLine line answer
-answer_fits line words (Ok job) agrees ok err = job_fits line _ _ job agrees ok.0 ok.1
-answer_fits line words (Err Memory) agrees ok err = tt
-answer_fits line words (Err (Help text)) agrees ok err = help_fits line _ _ agrees err
-answer_fits line words (Err (Usage text)) agrees ok err = usage_fits line _ _ err.0 agrees err.1 err.2
-answer_fits line words (Err (Word why)) agrees ok err = word_fits line _ _ why.now agrees err.1 err.0
+answer_fits : (line : Reading) (words : List Text) (answer : Result Job Refusal) → ReadsLine line words
+    → IfOk answer (Asks words) → IfErr answer (IsRefusedBy (fault_of program words) (asked_by words)) → FitsLine words line answer
+answer_fits (asks job) words (Ok given) reads ok err = ap (λ (r : Result Asked Text). asks (asked_or job r)) (sym reads.1 ∙ ok.0)
+answer_fits (unread why) words (Ok given) reads ok err = let bad : Err why ≡ Ok (asked_of given) = sym reads.1 ∙ ok.0 in absurd (search (rules, bad))
+answer_fits refused words (Ok given) reads ok err = absurd (no_fault (fault_of program words) reads ok.1)
+answer_fits line words (Err Memory) reads ok err = tt
+answer_fits (asks job) words (Err (Help text)) reads ok err = absurd (none_among kind.DisplayHelp (fault_of program words) reads.0 err)
+answer_fits (unread why) words (Err (Help text)) reads ok err = absurd (none_among kind.DisplayHelp (fault_of program words) reads.0 err)
+answer_fits refused words (Err (Help text)) reads ok err = (refl, err)
+answer_fits (asks job) words (Err (Usage text)) reads ok err = absurd (none_among err.0 (fault_of program words) reads.0 err.1)
+answer_fits (unread why) words (Err (Usage text)) reads ok err = absurd (none_among err.0 (fault_of program words) reads.0 err.1)
+answer_fits refused words (Err (Usage text)) reads ok err = (refl, err)
+answer_fits (asks job) words (Err (Word why)) reads ok err = let bad : Ok job ≡ Err why.now = sym reads.1 ∙ err.1 in absurd (search (rules, bad))
+answer_fits (unread other) words (Err (Word why)) reads ok err = ap (λ (r : Result Asked Text). unread (reason_or other r)) (sym reads.1 ∙ err.1)
+answer_fits refused words (Err (Word why)) reads ok err = absurd (no_fault (fault_of program words) reads err.0)
 
 pub line_answered : (words : List Text) (answer : Result Job Refusal) → All IsUtf8 words
-    → IfOk answer (Asks words) → IfErr answer (IsRefusedBy (fault_of program words) (asked_by words)) → FitsLine (line_of words) answer
+    → IfOk answer (Asks words) → IfErr answer (IsRefusedBy (fault_of program words) (asked_by words)) → FitsLine words (line_of words) answer
 line_answered words answer texts = answer_fits (line_of words) words answer (line_read words texts)

@@ -7,7 +7,7 @@ use Rattle.std.proofs.lemmas.Bool.{and_left, and_parts, and_right, false_from_ne
 use Rattle.std.proofs.lemmas.Bool.Decides.{nat_tests}
 use Rattle.std.proofs.lemmas.Str.Parse.{IsNumeralModel, numerals_by_weight, parse_plain}
 use Rattle.clap.specs.Words.{Text}
-use Rattle.bolt_cli.specs.CommandLine.{page_id}
+use Rattle.bolt_cli.specs.PlainWords.{page_id}
 use Rattle.bolt_cli.specs.PlainWords.{decimal_value, is_page_id}
 
 pub decimal_numerals : IsNumeralModel (λ digits. all_ascii_digits digits ≡ true) decimal_value

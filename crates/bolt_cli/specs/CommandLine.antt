@@ -1,36 +1,47 @@
 -- The command line as `clap` is told of it, and what its matches ask for.
-use Rattle.std.specs.Prelude.{◌≡◌, ◌≢◌, ◌⊎◌, ℕ, List, [], Option, Some, None, Ok, Err, Result, true, false, codes, MatchResult, if◌then◌else◌}
-use Rattle.std.specs.Option.{ok_or}
-use Rattle.std.specs.Str.{bytes_eq}
-use Rattle.clap.specs.Words.{App, IsAmong, Kinds, Row, Rule, Text, app_of, fault_of, first_of, new_app, new_rule, subcommand_of, with_rule, with_subcommand}
+use Rattle.std.specs.Prelude.{◌≡◌, ◌≢◌, ◌⊎◌, ℕ, List, [], ◌++◌, Option, Some, None, Ok, Err, Result, false, true, codes, map, fold, unwrap_or, MatchResult}
+use Rattle.clap.specs.Words.{App, IsAmong, Kinds, Row, Rule, all_of, app_of, fault_of, new_app, new_rule, subcommand_of, with_subcommand}
 use Rattle.clap.specs.declared.builder.Command.{Command}
 use Rattle.clap.specs.declared.builder.Command.TheViews.{out-Command}
 use Rattle.clap.specs.declared.error.ErrorKind.{ErrorKind}
 use Rattle.clap.specs.declared.error.ErrorKind.TheVariants as kind
-use Rattle.bolt_cli.specs.declared.words.Job.{Job}
+use Rattle.bolt_cli.specs.declared.job.Job.{Job}
 use Rattle.bolt_cli.specs.declared.words.Refusal.{Refusal}
 use Rattle.bolt_cli.specs.declared.words.Refusal.TheVariants.{Memory, Help, Usage, Word}
-use Rattle.bolt_cli.specs.PlainWords.{Asked, asked_of, buckets, check, decimal_value, info, is_page_id, page}
+use Rattle.bolt_cli.specs.PlainWords.{Asked, asked_of, Choice, Flag, Operand, Reading, Syntax, Text, Values, asked, long, refused, short, syntaxes, unread}
 
 -- ---- what the command line may hold
 
-abbrev pub file_rule : Rule
-file_rule = record (new_rule (codes "FILE")) { required = true }
+-- an operand stands
+abbrev pub operand_rule : Operand → Rule
+operand_rule o = record (new_rule o.name) { required = true }
 
-abbrev pub id_rule : Rule
-id_rule = record (new_rule (codes "ID")) { required = true }
+abbrev long_of : Flag → Option Text
+long_of (long name) = Some name
+long_of (short letter) = None
 
-abbrev pub info_command : App
-info_command = with_rule (new_app (codes "info")) file_rule
+abbrev short_of : Flag → Option ℕ
+short_of (long name) = None
+short_of (short letter) = Some letter
 
-abbrev pub page_command : App
-page_command = with_rule (with_rule (new_app (codes "page")) file_rule) id_rule
+-- an option takes one value
+abbrev pub option_rule : Choice → Rule
+option_rule o = record (new_rule o.name) {
+  long = long_of o.flag;
+  short = short_of o.flag;
+  value_names = 1;
+  required = o.required;
+}
 
-abbrev pub check_command : App
-check_command = with_rule (new_app (codes "check")) file_rule
+abbrev pub rules_for : Syntax → List Rule
+rules_for s = map operand_rule s.operands ++ map option_rule s.options
 
-abbrev pub buckets_command : App
-buckets_command = with_rule (new_app (codes "buckets")) file_rule
+-- a command with these arguments
+abbrev pub command_with : Text → List Rule → App
+command_with name rules = let bare = new_app name in record bare { top = record bare.top { rules = rules } }
+
+abbrev pub command_of : Syntax → App
+command_of s = command_with s.name (rules_for s)
 
 -- the program's own level: it takes no argument, and wants a subcommand
 abbrev pub bare_program : App
@@ -38,53 +49,25 @@ bare_program = let bare = new_app (codes "luntsegi") in record bare {
   top = record bare.top { subcommand_required = true; disable_help_subcommand = true };
 }
 
+abbrev pub program_of : List Syntax → App
+program_of lines = fold (λ app s. with_subcommand app (command_of s).top) bare_program lines
+
 abbrev pub program : App
-program = with_subcommand
-    (with_subcommand (with_subcommand (with_subcommand bare_program info_command.top) page_command.top) check_command.top)
-    buckets_command.top
+program = program_of syntaxes
 
 -- the command is described so, and none of its arguments is global
 abbrev pub IsCommand : App → Command → Type 0
 IsCommand app command = (app_of command ≡ app) × ((out-Command command).has_globals ≡ false)
 
--- ---- what matches ask for, or which word can't be read and why
+-- ---- what matches ask for
 
--- the value of an argument
-abbrev pub value_of : Text → List Row → Result Text Text
-value_of id rows = ok_or (first_of id rows) (codes "value missing")
-
-module _ {A B : Type 0} where
-  abbrev pub result_and_then : (A → Result B Text) → Result A Text → Result B Text
-  result_and_then next (Ok a) = next a
-  result_and_then next (Err why) = Err why
-
--- the number of an ID
-abbrev pub page_id : Text → Result ℕ Text
-page_id word = if is_page_id word then Ok (decimal_value word) else Err (codes "bad page id")
-
-abbrev pub asked_by_info : List Row → Result Asked Text
-asked_by_info rows = result_and_then (λ file. Ok (info file)) (value_of (codes "FILE") rows)
-
-abbrev pub asked_by_page : List Row → Result Asked Text
-asked_by_page rows = result_and_then (λ file. result_and_then (λ id. Ok (page file id))
-    (result_and_then page_id (value_of (codes "ID") rows))) (value_of (codes "FILE") rows)
-
-abbrev pub asked_by_check : List Row → Result Asked Text
-asked_by_check rows = result_and_then (λ file. Ok (check file)) (value_of (codes "FILE") rows)
-
-abbrev pub asked_by_buckets : List Row → Result Asked Text
-asked_by_buckets rows = result_and_then (λ file. Ok (buckets file)) (value_of (codes "FILE") rows)
-
-abbrev pub asked_by_command : Text → List Row → Result Asked Text
-asked_by_command name rows = if bytes_eq name (codes "info") then asked_by_info rows
-    else if bytes_eq name (codes "page") then asked_by_page rows
-    else if bytes_eq name (codes "check") then asked_by_check rows
-    else if bytes_eq name (codes "buckets") then asked_by_buckets rows
-    else Err (codes "command missing")
+-- the words that the matches have by a name
+abbrev pub values_in : List Row → Values
+values_in rows name = unwrap_or (all_of name rows) []
 
 -- by the subcommand that was met, and the matches of its arguments
 abbrev pub asked_by_subcommand : Option (Text × List Row) → Result Asked Text
-asked_by_subcommand (Some met) = asked_by_command met.0 met.1
+asked_by_subcommand (Some met) = asked met.0 (values_in met.1)
 asked_by_subcommand None = Err (codes "command missing")
 
 -- by the words
@@ -115,3 +98,11 @@ HasKindOf fault Memory = fault ≡ kind.OutOfMemory
 HasKindOf fault (Help text) = fault ≡ kind.DisplayHelp
 HasKindOf fault (Usage text) = (fault ≢ kind.DisplayHelp) × (fault ≢ kind.OutOfMemory)
 HasKindOf fault (Word why) = ⊥
+
+-- Words that say this are refused so; memory may run out at any words. Which lines are told by help and which by usage is what `clap` says
+-- of the command line that it is told of.
+abbrev pub IsRefusalOf : List Text → Reading → Refusal → Type 0
+IsRefusalOf words line Memory = Unit {0}
+IsRefusalOf words line (Help text) = (line ≡ refused) × IsAmong kind.DisplayHelp (fault_of program words)
+IsRefusalOf words line (Usage text) = (line ≡ refused) × ((fault : ErrorKind) × IsAmong fault (fault_of program words) × (fault ≢ kind.DisplayHelp))
+IsRefusalOf words line (Word why) = line ≡ unread why.now

@@ -1,14 +1,23 @@
 //! The command line of `luntsegi`: words to a job, and a job to what it writes and its status.
 #![tactic(auto)]
 
-mod commands;
-mod jobs;
-mod refusals;
+mod buckets_command;
+mod check_command;
+mod command_line;
+mod failure;
+mod info_command;
+mod job;
+mod open_checked;
+mod page_command;
 mod root_cursor;
 mod root_leaf;
-pub mod status;
+mod runs;
+mod status;
+mod syntax;
 mod words;
 
-pub use jobs::run;
+pub use failure::Failure;
+pub use job::Job;
+pub use runs::run;
 pub use status::Status;
-pub use words::{Job, Refusal, read_words};
+pub use words::{Refusal, read_words};

@@ -1,43 +1,16 @@
 //! Reads the words of a command line.
-ghost use Rattle.std.specs.Prelude.{◌≡◌, IfErr, IfOk, MatchResult, map, string_bytes};
+ghost use Rattle.std.specs.Prelude.{◌≡◌, IfErr, IfOk, MatchResult, Some, None, map, option_map, string_bytes};
 ghost use Rattle.clap.specs.Words.{fault_of, found_of, kind_of, rows_of, subcommand_rows_of};
-ghost use Rattle.bolt_cli.specs.CommandLine.{Asks, Gives, HasKindOf, IsRefusedBy, asked_by, asked_by_buckets, asked_by_check, asked_by_info, asked_by_page, asked_by_subcommand, page_id, program, value_of};
-ghost use Rattle.bolt_cli.specs.PlainWords.{Asked, IsInRange, IsRefusalOf, Text, asked_of, asks, line_of, words_for};
+ghost use Rattle.bolt_cli.specs.CommandLine.{Asks, Gives, HasKindOf, IsRefusalOf, IsRefusedBy, asked_by, asked_by_subcommand, program, values_in};
+ghost use Rattle.bolt_cli.specs.PlainWords.{Asked, IsInRange, Text, asked_of, asks, asks_buckets, asks_check, asks_info, asks_page, first_of, form_by, form_of, line_of, page_id, text_by, words_for};
 ghost use Rattle.bolt_cli.specs.declared.words.Refusal.TheVariants.{Memory};
 
-use crate::commands;
+use crate::command_line;
+use crate::job::Job;
+use bolt_report::Form;
 use clap::error::ErrorKind;
 use clap::{ArgMatches, Error};
 use std::alloc::{AllocError, Global};
-
-/// What the words of a command line ask for.
-#[derive(Debug, Drop)]
-pub enum Job {
-    /// The facts of the chosen meta.
-    Info { file: String },
-    /// The text of a page.
-    Page { file: String, id: u64 },
-    /// Whether the file is sound.
-    Check { file: String },
-    /// The names of the root's buckets.
-    Buckets { file: String },
-}
-
-impl Job {
-    ghost use Rattle.bolt_cli.specs.PlainWords.{file_name};
-
-    /// The FILE that the job is done on.
-    pub fn file(&self) -> &str
-        ensures { result.now ≡ file_name self.now }
-    {
-        match self {
-            Job::Info { file } => file.as_str(),
-            Job::Page { file, id: _ } => file.as_str(),
-            Job::Check { file } => file.as_str(),
-            Job::Buckets { file } => file.as_str(),
-        }
-    }
-}
 
 /// Why words give no job.
 #[derive(Debug, Drop)]
@@ -62,22 +35,20 @@ impl From<AllocError> for Refusal {
 
 /// Reads the words of a command line, of which the first is the program's name.
 ///
-/// The lines are `info FILE`, `page FILE ID`, `check FILE` and `buckets FILE`. A word that begins
-/// with a hyphen and has more is an option and neither a FILE nor an ID, unless `--` stands before
-/// it. An ID is decimal digits, at least one, of a number below 2^64.
+/// The lines are `info FILE`, `page FILE ID`, `check FILE` and `buckets FILE [--form F]`. Options
+/// stand before, between or behind the operands, once each, as `--form hex` or `--form=hex`. A word
+/// that begins with a hyphen and has more is an option, unless `--` stands before it. An ID is
+/// decimal digits, at least one, of a number below 2^64; F is `printable`, `hex` or `bytes`.
 ///
 /// # Errors
 ///
-/// Words that are no such line are refused for the first word that is out of place:
-///
-/// - `Refusal::Help` where that word is `--help`, or begins with `-h`.
-/// - `Refusal::Usage` where it is any other word, or where the words end too early.
-///
-/// A line whose ID can't be read is refused as `Refusal::Word("bad page id")`. `Refusal::Memory`
-/// comes where memory runs out.
+/// Words that are no such line are refused, with `Refusal::Help` where help is asked for before a
+/// word is out of place, and else with `Refusal::Usage`. A line with a word that can't be read is
+/// refused as `Refusal::Word`: `bad page id` or `bad form`. `Refusal::Memory` comes where memory
+/// runs out.
 pub fn read_words(alloc: Global, words: Vec<String>) -> Result<Job, Refusal>
-    ensures answer { let line = line_of (map string_bytes words.items) in
-        MatchResult result (λ job. line ≡ asks (asked_of job)) (IsRefusalOf line) }
+    ensures answer { let texts = map string_bytes words.items in let line = line_of texts in
+        MatchResult result (λ job. line ≡ asks (asked_of job)) (IsRefusalOf texts line) }
     ensures written { (name : Text) (wanted : Asked) → IsInRange wanted
         → map string_bytes words.items ≡ words_for name wanted
         → MatchResult result (λ job. asked_of job ≡ wanted) (λ refusal. refusal ≡ Memory) }
@@ -91,7 +62,7 @@ fn read(alloc: Global, words: Vec<String>) -> Result<Job, Refusal>
     ensures refusal { let texts = map string_bytes words.items in
         IfErr result (IsRefusedBy (fault_of program texts) (asked_by texts)) }
 {
-    let command = commands::program(alloc)?;
+    let command = command_line::program(alloc)?;
     match command.try_get_matches_from(words.as_slice()) {
         Ok(matches) => read_matches(alloc, &matches),
         Err(error) => Err(refusal_of(alloc, &error)?),
@@ -121,14 +92,14 @@ fn read_matches(alloc: Global, matches: &ArgMatches<'_>) -> Result<Job, Refusal>
 }
 
 fn read_info(alloc: Global, matches: &ArgMatches<'_>) -> Result<Job, Refusal>
-    ensures { Gives asked_of (asked_by_info (rows_of (found_of matches.now))) result }
+    ensures { Gives asked_of (asks_info (values_in (rows_of (found_of matches.now)))) result }
 {
     let file = read_text(alloc, matches, "FILE")?;
     Ok(Job::Info { file })
 }
 
 fn read_page(alloc: Global, matches: &ArgMatches<'_>) -> Result<Job, Refusal>
-    ensures { Gives asked_of (asked_by_page (rows_of (found_of matches.now))) result }
+    ensures { Gives asked_of (asks_page (values_in (rows_of (found_of matches.now)))) result }
 {
     let file = read_text(alloc, matches, "FILE")?;
     let id = read_page_id(value(matches, "ID")?)?;
@@ -136,33 +107,41 @@ fn read_page(alloc: Global, matches: &ArgMatches<'_>) -> Result<Job, Refusal>
 }
 
 fn read_check(alloc: Global, matches: &ArgMatches<'_>) -> Result<Job, Refusal>
-    ensures { Gives asked_of (asked_by_check (rows_of (found_of matches.now))) result }
+    ensures { Gives asked_of (asks_check (values_in (rows_of (found_of matches.now)))) result }
 {
     let file = read_text(alloc, matches, "FILE")?;
     Ok(Job::Check { file })
 }
 
 fn read_buckets(alloc: Global, matches: &ArgMatches<'_>) -> Result<Job, Refusal>
-    ensures { Gives asked_of (asked_by_buckets (rows_of (found_of matches.now))) result }
+    ensures { Gives asked_of (asks_buckets (values_in (rows_of (found_of matches.now)))) result }
 {
     let file = read_text(alloc, matches, "FILE")?;
-    Ok(Job::Buckets { file })
+    let form = read_form(choice(matches, "form"))?;
+    Ok(Job::Buckets { file, form })
 }
 
 fn read_text(alloc: Global, matches: &ArgMatches<'_>, id: &str) -> Result<String, Refusal>
-    ensures { Gives string_bytes (value_of id.now (rows_of (found_of matches.now))) result }
+    ensures { Gives string_bytes (text_by id.now (values_in (rows_of (found_of matches.now)))) result }
 {
     Ok(String::from_str(alloc, value(matches, id)?)?)
 }
 
-// The value of an argument.
+// The value of an argument that a line has.
 fn value<'a>(matches: &ArgMatches<'a>, id: &str) -> Result<&'a str, Refusal>
-    ensures { Gives (λ text. text.now) (value_of id.now (rows_of (found_of matches.now))) result }
+    ensures { Gives (λ text. text.now) (text_by id.now (values_in (rows_of (found_of matches.now)))) result }
 {
-    match matches.get_str(id) {
+    match choice(matches, id) {
         Some(text) => Ok(text),
         None => Err(Refusal::Word("value missing")),
     }
+}
+
+// The value of an argument that a line may have.
+fn choice<'a>(matches: &ArgMatches<'a>, id: &str) -> Option<&'a str>
+    ensures { option_map (λ text. text.now) result ≡ first_of (values_in (rows_of (found_of matches.now)) id.now) }
+{
+    matches.get_str(id)
 }
 
 fn read_page_id(word: &str) -> Result<u64, Refusal>
@@ -175,5 +154,16 @@ fn read_page_id(word: &str) -> Result<u64, Refusal>
     match word.parse::<u64>() {
         Ok(id) => Ok(id),
         Err(_) => Err(Refusal::Word("bad page id")),
+    }
+}
+
+fn read_form(word: Option<&str>) -> Result<Form, Refusal>
+    ensures { Gives (λ form. form) (form_by (option_map (λ text. text.now) word.entry)) result }
+{
+    match word {
+        None | Some("printable") => Ok(Form::Printable),
+        Some("hex") => Ok(Form::Hex),
+        Some("bytes") => Ok(Form::Bytes),
+        Some(_) => Err(Refusal::Word("bad form")),
     }
 }

@@ -1,12 +1,13 @@
 -- What follows of the elements of a page that passed its tests.
-use Rattle.std.proofs.Common.{◌≡◌, ◌∙◌, ℕ, zero, suc, ◌+◌, ◌<◌, ◌≤◌, List, Bool, true, false, Option, None, Some, IsSome, is_some, length, not, zero-add, ◌||◌, eq-eqb, ◌*◌, ◌==◌, nat_le, map, arith, ap, refl, sym, subst, cond, nat_lt, slice_get, inl, inr}
+use Rattle.std.proofs.Common.{◌≡◌, ◌∙◌, ℕ, zero, suc, ◌+◌, ◌-◌, ◌<◌, ◌≤◌, List, Bool, true, false, Option, None, Some, IsSome, is_some, length, not, zero-add, ◌||◌, eq-eqb, ◌*◌, ◌==◌, nat_le, map, arith, ap, refl, sym, subst, cond, nat_lt, slice_get, inl, inr, take, drop}
 use Rattle.std.specs.List.{list_any, range_with_len}
 use Rattle.std.proofs.lemmas.Bool.{cases_lt, ltb-false}
 use Rattle.std.proofs.lemmas.Bool.Decides.{nat_tests}
 use Rattle.std.proofs.lemmas.List.FromFn.{get_or-map-range_with_len, get_or-range_with_len, length-map-range_with_len, length-range_with_len}
+use Rattle.std.proofs.lemmas.List.{take_rest}
 use Rattle.std.proofs.lemmas.List.Folds.{list_any_at}
 use Rattle.std.proofs.lemmas.Option.{slice_get-get_or}
-use Rattle.bolt_format.specs.Elements.{IsBucketValue, branch_element, branch_elements, branch_end, branch_fault, branch_key_length, branch_key_start, branches_fault, data_fault, element_at, faults_from, has_bucket, head_fault, head_root, inline_bytes, inline_fault, inline_page_fault, first_of, is_bucket_at, key_length_fault, leaf_element, leaf_elements, leaf_end, leaf_flags, leaf_flags_fault, leaf_key_length, leaf_key_start, leaf_value, leaf_value_length, leaves_fault, plain_leaf_fault, table_fault, value_fault, value_length_fault}
+use Rattle.bolt_format.specs.Elements.{IsBucketValue, branch_element, branch_elements, branch_end, branch_fault, branch_key_length, branch_key_start, branches_fault, data_fault, element_at, faults_from, has_bucket, head_fault, head_root, inline_bytes, inline_fault, inline_page_fault, is_bucket_at, key_length_fault, leaf_element, leaf_elements, leaf_end, leaf_flags, leaf_flags_fault, leaf_key_length, leaf_key_start, leaf_value, leaf_value_length, leaves_fault, plain_leaf_fault, table_fault, value_fault, value_length_fault}
 use Rattle.bolt_format.specs.Headers.{count_field, flags_field, id_field, kind_of}
 use Rattle.bolt_format.specs.Pages.{content_fault, fault_as, from_page, page_at, page_fault, page_overflow, shown_as, span_bytes, span_fault}
 use Rattle.bolt_format.specs.Private.Spans.{IsSpan, IsWithin}
@@ -162,6 +163,18 @@ unfolding value_fault
 good_inline value bytes same e root =
     subst IsInlinePage (sym same) (good_inline_fault (inline_bytes value)
     (chosen-none (head_root value == 0) (inline_fault (inline_bytes value)) (first_of-none (head_fault value) _ e).1 (eq-eqb (head_root value) 0 root)))
+
+-- what a bucket's value has behind its head, as the code cuts it
+abbrev after_head : List ℕ → List ℕ
+after_head value = take (length value - 16) (drop 16 value)
+
+pub good_elements : (value : List ℕ) (count : ℕ) → count ≡ count_field (after_head value) → IsBucketValue value → head_root value ≡ 0
+    → leaves_fault head_fault (after_head value) count ≡ None
+good_elements value count is e root = rw is (good_inline value (after_head value) (take_rest value 16) e root).good
+
+pub flat_elements : (value : List ℕ) (count : ℕ) → count ≡ count_field (after_head value) → IsBucketValue value → head_root value ≡ 0
+    → has_bucket (after_head value) count ≡ false
+flat_elements value count is e root = rw is (good_inline value (after_head value) (take_rest value 16) e root).flat
 
 -- The elements of an inline page: how many they are, and that none is a bucket.
 pub length-leaf_elements : (bytes : List ℕ) (count : ℕ) → length (leaf_elements bytes count) ≡ count

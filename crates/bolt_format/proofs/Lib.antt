@@ -6,3 +6,4 @@ mod MetaLemmas
 pub mod PageFacts
 pub mod PageLaws
 pub mod SinkLemmas
+pub mod WriteLemmas

@@ -1,5 +1,5 @@
 -- What is left of a list, for the crates above too.
-use Rattle.std.proofs.Common.{◌≡◌, ◌∙◌, ℕ, zero, suc, ◌+◌, List, [], ◌∷◌, Option, None, Some, drop, slice_get, ap, arith}
+use Rattle.std.proofs.Common.{◌≡◌, ◌∙◌, ℕ, zero, suc, ◌+◌, List, [], ◌∷◌, None, Some, drop, slice_get, ap, arith}
 
 no_element : {X : Type 0} (x : X) → None ≡ Some x → ⊥
 no_element x e = cc

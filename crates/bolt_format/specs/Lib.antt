@@ -10,3 +10,4 @@ pub mod Shown
 pub mod ShownIds
 pub mod ShownInline
 pub mod Sinks
+pub mod Writes

@@ -21,7 +21,7 @@ pub fn head(value: &[u8]) -> Head
 }
 
 /// The page that a bucket whose root is 0 has in its own value.
-#[tactic(auto, using(crate::proofs::GoodPages::good_inline), unfolding(crate::specs::ShownInline::shown_inline))]
+#[tactic(auto, using(crate::proofs::GoodPages::good_inline, crate::proofs::GoodPages::good_elements, crate::proofs::GoodPages::flat_elements), unfolding(crate::specs::ShownInline::shown_inline))]
 pub fn inline(value: &[u8]) -> Inline<'_>
     requires bucket { IsBucketValue value.now }
     requires inline { head_root value.now ≡ 0 }

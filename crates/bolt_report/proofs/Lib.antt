@@ -2,4 +2,3 @@ mod ListWrites
 mod PageFaults
 mod Pieces
 mod ShownLemmas
-pub mod WriteLemmas

@@ -4,8 +4,8 @@ use Rattle.std.specs.Prelude.{IsErr}
 use Rattle.std.proofs.Math.Seq.{split_at, take-length, take-suc}
 use Rattle.std.proofs.lemmas.Grind.{flat_map-append}
 use Rattle.std.proofs.lemmas.Option.{get_or_from_slice_get, slice_get_within}
-use Rattle.bolt_report.specs.Writes.{Writes}
-use Rattle.bolt_report.proofs.WriteLemmas.{Writes-stop, Writes-then}
+use Rattle.bolt_format.specs.Writes.{Writes}
+use Rattle.bolt_format.proofs.WriteLemmas.{Writes-stop, Writes-then}
 
 -- a list, cut around element i
 cut_at : {X : Type 0} (xs : List X) (i : ℕ) (x : X) → slice_get xs i ≡ Some x → xs ≡ take i xs ++ x ∷ drop (suc i) xs

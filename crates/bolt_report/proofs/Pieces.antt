@@ -3,8 +3,8 @@ use Rattle.std.proofs.Common.{◌≡◌, ◌∙◌, ℕ, ◌-◌, ◌/◌, ◌%�
 use Rattle.std.specs.Prelude.{IsErr, slice_index}
 use Rattle.std.proofs.lemmas.List.{take_rest}
 use Rattle.hex.specs.Hex.{encode_lower, encode_with, lower_digits}
-use Rattle.bolt_report.specs.Writes.{Writes}
-use Rattle.bolt_report.proofs.WriteLemmas.{Writes-stop, Writes-then}
+use Rattle.bolt_format.specs.Writes.{Writes}
+use Rattle.bolt_format.proofs.WriteLemmas.{Writes-stop, Writes-then}
 
 pub encode_with-append : (digits xs ys : List ℕ) → encode_with digits (xs ++ ys) ≡ encode_with digits xs ++ encode_with digits ys
 unfolding encode_with

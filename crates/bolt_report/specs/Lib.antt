@@ -4,4 +4,4 @@ pub mod Lines
 pub mod MetaLines
 pub mod PageLines
 pub mod PageTexts
-pub mod Writes
+pub mod Reports

@@ -6,7 +6,7 @@ ghost use Rattle.bolt_format.specs.Shown.{shown};
 ghost use Rattle.bolt_format.specs.ShownIds.{shown_ids};
 ghost use Rattle.bolt_report.specs.Lines.{line};
 ghost use Rattle.bolt_report.specs.PageLines.{branch_line, bucket_end, id_line, leaf_line, value_end};
-ghost use Rattle.bolt_report.specs.Writes.{Writes};
+ghost use Rattle.bolt_format.specs.Writes.{Writes};
 
 use crate::hexadecimal::put_hex;
 use crate::puts::put;

@@ -1,9 +1,8 @@
 //! The lines of faults and findings.
-ghost use Rattle.std.specs.Prelude.{◌≡◌, ◌<◌, ◌≤◌, ◌+◌, ◌++◌, Err, IfErr, OnOk, flat_map, length};
-ghost use Rattle.std.specs.Io.KnownBytes.{Appends};
-ghost use Rattle.bolt_format.specs.Sinks.{AppendsBeginning};
+ghost use Rattle.std.specs.Prelude.{◌≡◌, ◌≤◌, ◌+◌, ◌++◌, IfErr, flat_map, length};
+ghost use Rattle.bolt_format.specs.Writes.{Writes};
 ghost use Rattle.bolt_report.specs.FaultWords.{count_line, finding_text, finding_words, findings_text, meta_fault_text, page_fault_text, page_fault_words, pages_words};
-ghost use Rattle.bolt_report.specs.Writes.{Writes};
+ghost use Rattle.bolt_report.specs.Reports.{Reports};
 
 use crate::fault::ReportFault;
 use crate::puts::put;
@@ -14,10 +13,7 @@ use bolt_format::{MetaFault, PageFault, Sink, SinkFault};
 /// Puts the line of a meta fault. `Sink` says that the sink failed, and no
 /// other fault comes; the sink then took a beginning of the text.
 pub fn meta_fault_text<S: Sink>(fault: MetaFault, sink: &mut S) -> Result<(), ReportFault>
-    ensures all { OnOk result (Appends (S.taken sink.old) (S.taken sink.new) (meta_fault_text fault)) }
-    ensures sound { OnOk result (S.failed sink.new ≡ S.failed sink.old) }
-    ensures beginning { AppendsBeginning (S.taken sink.old) (S.taken sink.new) (meta_fault_text fault) }
-    ensures failure { result ≡ Err ReportFault.Sink → 0 < S.failed sink.new }
+    ensures written { Reports S.taken S.failed sink.old sink.new (meta_fault_text fault) result }
     ensures fault { IfErr result (λ fault. fault ≡ ReportFault.Sink) }
 {
     put(meta_fault_words(fault), sink)?;
@@ -27,10 +23,7 @@ pub fn meta_fault_text<S: Sink>(fault: MetaFault, sink: &mut S) -> Result<(), Re
 /// Puts the line of a page's fault. `Sink` says that the
 /// sink failed, and no other fault comes; the sink then took a beginning of the text.
 pub fn page_fault_text<S: Sink>(fault: &PageFault, sink: &mut S) -> Result<(), ReportFault>
-    ensures all { OnOk result (Appends (S.taken sink.old) (S.taken sink.new) (page_fault_text fault.now)) }
-    ensures sound { OnOk result (S.failed sink.new ≡ S.failed sink.old) }
-    ensures beginning { AppendsBeginning (S.taken sink.old) (S.taken sink.new) (page_fault_text fault.now) }
-    ensures failure { result ≡ Err ReportFault.Sink → 0 < S.failed sink.new }
+    ensures written { Reports S.taken S.failed sink.old sink.new (page_fault_text fault.now) result }
     ensures fault { IfErr result (λ fault. fault ≡ ReportFault.Sink) }
 {
     put(page_fault_sentence(fault).as_slice(), sink)?;
@@ -40,10 +33,7 @@ pub fn page_fault_text<S: Sink>(fault: &PageFault, sink: &mut S) -> Result<(), R
 /// Puts the line of a finding. `Sink` says that the sink failed, and no other fault comes; the sink
 /// then took a beginning of the text.
 pub fn finding_text<S: Sink>(finding: &Finding, sink: &mut S) -> Result<(), ReportFault>
-    ensures all { OnOk result (Appends (S.taken sink.old) (S.taken sink.new) (finding_text finding.now)) }
-    ensures sound { OnOk result (S.failed sink.new ≡ S.failed sink.old) }
-    ensures beginning { AppendsBeginning (S.taken sink.old) (S.taken sink.new) (finding_text finding.now) }
-    ensures failure { result ≡ Err ReportFault.Sink → 0 < S.failed sink.new }
+    ensures written { Reports S.taken S.failed sink.old sink.new (finding_text finding.now) result }
     ensures fault { IfErr result (λ fault. fault ≡ ReportFault.Sink) }
 {
     put(finding_line(finding).as_slice(), sink)?;
@@ -53,10 +43,7 @@ pub fn finding_text<S: Sink>(finding: &Finding, sink: &mut S) -> Result<(), Repo
 /// Puts the line of each finding, and then the line of their number, as `2 errors found`. `Sink`
 /// says that the sink failed, and no other fault comes; the sink then took a beginning of the text.
 pub fn findings_text<S: Sink>(findings: &[Finding], sink: &mut S) -> Result<(), ReportFault>
-    ensures all { OnOk result (Appends (S.taken sink.old) (S.taken sink.new) (findings_text findings.now)) }
-    ensures sound { OnOk result (S.failed sink.new ≡ S.failed sink.old) }
-    ensures beginning { AppendsBeginning (S.taken sink.old) (S.taken sink.new) (findings_text findings.now) }
-    ensures failure { result ≡ Err ReportFault.Sink → 0 < S.failed sink.new }
+    ensures written { Reports S.taken S.failed sink.old sink.new (findings_text findings.now) result }
     ensures fault { IfErr result (λ fault. fault ≡ ReportFault.Sink) }
 {
     put_findings(findings, sink)?;

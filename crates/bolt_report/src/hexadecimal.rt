@@ -1,7 +1,7 @@
 //! Bytes in lower-case hexadecimal, without memory for the whole text.
 ghost use Rattle.std.specs.Prelude.{◌≡◌, ◌*◌, ◌≤◌, length};
 ghost use Rattle.hex.specs.Hex.{encode_lower};
-ghost use Rattle.bolt_report.specs.Writes.{Writes};
+ghost use Rattle.bolt_format.specs.Writes.{Writes};
 
 use crate::puts::put;
 use bolt_format::{Sink, SinkFault};

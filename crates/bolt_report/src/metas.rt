@@ -1,8 +1,7 @@
 //! A meta as a text.
-ghost use Rattle.std.specs.Prelude.{◌≡◌, ◌+◌, ◌<◌, ◌≤◌, ◌++◌, Err, IfErr, OnOk, length};
-ghost use Rattle.std.specs.Io.KnownBytes.{Appends};
-ghost use Rattle.bolt_format.specs.Sinks.{AppendsBeginning};
+ghost use Rattle.std.specs.Prelude.{◌≡◌, ◌+◌, ◌≤◌, ◌++◌, IfErr, length};
 ghost use Rattle.bolt_report.specs.MetaLines.{freelist_line, info_text, slot_number};
+ghost use Rattle.bolt_report.specs.Reports.{Reports};
 
 use crate::fault::ReportFault;
 use crate::puts::put;
@@ -12,10 +11,7 @@ use bolt_format::{Meta, NO_FREELIST, Sink, Slot};
 /// Puts the seven lines of a meta and its slot (docs/COMMANDS.md, "What is printed"). `Sink` says
 /// that the sink failed, and no other fault comes; the sink then took a beginning of the text.
 pub fn info<S: Sink>(slot: Slot, meta: &Meta, sink: &mut S) -> Result<(), ReportFault>
-    ensures all { OnOk result (Appends (S.taken sink.old) (S.taken sink.new) (info_text slot meta.now)) }
-    ensures sound { OnOk result (S.failed sink.new ≡ S.failed sink.old) }
-    ensures beginning { AppendsBeginning (S.taken sink.old) (S.taken sink.new) (info_text slot meta.now) }
-    ensures failure { result ≡ Err ReportFault.Sink → 0 < S.failed sink.new }
+    ensures written { Reports S.taken S.failed sink.old sink.new (info_text slot meta.now) result }
     ensures fault { IfErr result (λ fault. fault ≡ ReportFault.Sink) }
 {
     put(meta_lines(slot, meta).as_slice(), sink)?;

@@ -1,15 +1,14 @@
 //! A page as a text.
-ghost use Rattle.std.specs.Prelude.{◌≡◌, ◌≢◌, ◌↔◌, ◌+◌, ◌<◌, ◌≤◌, ◌++◌, Err, IfOk, OnOk, Some, length};
-ghost use Rattle.std.specs.Io.KnownBytes.{Appends};
+ghost use Rattle.std.specs.Prelude.{◌≡◌, ◌≢◌, ◌↔◌, ◌+◌, ◌≤◌, ◌++◌, Err, IfOk, Some, length};
 ghost use Rattle.std.specs.Option.{option_map};
 ghost use Rattle.std.specs.Result.{result_err};
 ghost use Rattle.bolt_format.specs.Pages.{page_at};
 ghost use Rattle.bolt_format.specs.Shown.{shown};
 ghost use Rattle.bolt_format.specs.ShownIds.{shown_ids};
-ghost use Rattle.bolt_format.specs.Sinks.{AppendsBeginning};
+ghost use Rattle.bolt_format.specs.Writes.{Writes};
 ghost use Rattle.bolt_report.specs.PageLines.{head_lines, item_lines, items_on, kind_line, kind_text, page_lines};
 ghost use Rattle.bolt_report.specs.PageTexts.{known_ids, page_ids, page_ids_fault, page_text, page_text_fault};
-ghost use Rattle.bolt_report.specs.Writes.{Writes};
+ghost use Rattle.bolt_report.specs.Reports.{Reports};
 
 use crate::elements::{put_branches, put_ids, put_leaves};
 use crate::fault::ReportFault;
@@ -34,10 +33,7 @@ pub fn page_text<S: Sink>(
     id: u64,
     sink: &mut S,
 ) -> Result<(), ReportFault>
-    ensures all { OnOk result (Appends (S.taken sink.old) (S.taken sink.new) (page_text file.now meta.now id)) }
-    ensures sound { OnOk result (S.failed sink.new ≡ S.failed sink.old) }
-    ensures beginning { AppendsBeginning (S.taken sink.old) (S.taken sink.new) (page_text file.now meta.now id) }
-    ensures failure { result ≡ Err ReportFault.Sink → 0 < S.failed sink.new }
+    ensures written { Reports S.taken S.failed sink.old sink.new (page_text file.now meta.now id) result }
     ensures memory { result ≢ Err ReportFault.NoMemory }
 
     // A page that is no good is told before anything is put.

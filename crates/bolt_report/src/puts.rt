@@ -1,5 +1,5 @@
 //! One text put whole.
-ghost use Rattle.bolt_report.specs.Writes.{Writes};
+ghost use Rattle.bolt_format.specs.Writes.{Writes};
 
 use bolt_format::{Sink, SinkFault};
 

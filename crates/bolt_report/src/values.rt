@@ -1,9 +1,8 @@
 //! A key or a value on a line.
-ghost use Rattle.std.specs.Prelude.{◌≡◌, ◌<◌, Err, IfErr, OnOk};
-ghost use Rattle.std.specs.Io.KnownBytes.{Appends};
-ghost use Rattle.bolt_format.specs.Sinks.{AppendsBeginning};
+ghost use Rattle.std.specs.Prelude.{◌≡◌, IfErr};
+ghost use Rattle.bolt_format.specs.Writes.{Writes};
 ghost use Rattle.bolt_report.specs.Forms.{is_printable, shown_as, value_text};
-ghost use Rattle.bolt_report.specs.Writes.{Writes};
+ghost use Rattle.bolt_report.specs.Reports.{Reports};
 
 use crate::fault::ReportFault;
 use crate::form::Form;
@@ -14,10 +13,7 @@ use bolt_format::{Sink, SinkFault};
 /// Puts an item in a form, and a line feed. `Sink` says that the sink failed, and no other fault
 /// comes; the sink then took a beginning of the text.
 pub fn value<S: Sink>(bytes: &[u8], form: Form, sink: &mut S) -> Result<(), ReportFault>
-    ensures all { OnOk result (Appends (S.taken sink.old) (S.taken sink.new) (value_text form bytes.now)) }
-    ensures sound { OnOk result (S.failed sink.new ≡ S.failed sink.old) }
-    ensures beginning { AppendsBeginning (S.taken sink.old) (S.taken sink.new) (value_text form bytes.now) }
-    ensures failure { result ≡ Err ReportFault.Sink → 0 < S.failed sink.new }
+    ensures written { Reports S.taken S.failed sink.old sink.new (value_text form bytes.now) result }
     ensures fault { IfErr result (λ fault. fault ≡ ReportFault.Sink) }
 {
     put_value(bytes, form, sink)?;

@@ -1,9 +1,9 @@
-//! `luntsegi`: inspects and compacts bbolt database files. What it does with the words and the
-//! bytes is in `bolt_cli`; here are the words, the files and the streams of the process.
+//! `luntsegi`: inspects bbolt database files. What it does with the words and the bytes is in
+//! `bolt_cli`; here are the words, the files and the streams of the process.
 #![tactic(auto)]
 
 use bolt_cli::{Job, Refusal, read_words, run};
-use bolt_format::WriteSink;
+use bolt_format::{Sink, WriteSink};
 use std::io::{self, BufWriter, Write};
 use std::process::ExitCode;
 use std::{env, fs};
@@ -12,6 +12,8 @@ use std::{env, fs};
 const REFUSED: u8 = 2;
 /// The status of a job that failed.
 const FAILED: u8 = 1;
+/// How many bytes of output are gathered before they are written.
+const GATHERED: usize = 1 << 16;
 
 fn main(rt: HostRuntime) -> ExitCode {
     let code = match read_job(&rt) {
@@ -57,14 +59,14 @@ fn tell(rt: &HostRuntime, text: &str, code: u8) -> u8 {
 }
 
 /// Reads the job's file whole, and does the job over the streams of the process, with its output
-/// gathered. A flush that fails where the job didn't is a fault.
+/// gathered. A flush that fails is a fault, whatever the job found, unless the job told it already.
 fn run_job(rt: &HostRuntime, job: &Job) -> u8 {
     let Ok(file) = fs::read(rt, job.file()) else {
         let name = job.file();
         let _ = eprintln!(rt; "error: cannot read {name}");
         return FAILED;
     };
-    let Ok(gathered) = BufWriter::new(rt.alloc(), rt.stdout()) else {
+    let Ok(gathered) = BufWriter::with_capacity(rt.alloc(), GATHERED, rt.stdout()) else {
         return tell(rt, "out of memory", FAILED);
     };
     let mut out = WriteSink::new(gathered);
@@ -78,8 +80,9 @@ fn run_job(rt: &HostRuntime, job: &Job) -> u8 {
         &mut err,
         &mut target,
     );
+    let is_told = out.failures() > 0;
     match out.into_inner().flush() {
-        Err(_) if status.code == 0 => tell(rt, "write failed", FAILED),
+        Err(_) if !is_told => tell(rt, "write failed", FAILED),
         _ => status.code,
     }
 }

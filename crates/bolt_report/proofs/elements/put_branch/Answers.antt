@@ -2,7 +2,7 @@ use Rattle.std.proofs.Common.{◌∙◌, ◌++◌, codes, decimal}
 use Rattle.hex.specs.Hex.{encode_lower}
 use Rattle.bolt_report.specs.Lines.{line}
 use Rattle.bolt_report.specs.PageLines.{branch_line}
-use Rattle.bolt_report.proofs.WriteLemmas.{Writes-same, Writes-stop, Writes-then}
+use Rattle.bolt_format.proofs.WriteLemmas.{Writes-same, Writes-stop, Writes-then}
 use Rattle.bolt_report.proofs.elements.put_branch.Goals as goal
 
 pub returns-in_err-put_hex : goal.returns-in_err-put_hex

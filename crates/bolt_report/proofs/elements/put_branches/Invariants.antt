@@ -3,7 +3,7 @@ use Rattle.std.specs.Prelude.{⊤}
 use Rattle.bolt_format.specs.Shown.{shown}
 use Rattle.bolt_format.specs.declared.sink.SinkFault.{SinkFault}
 use Rattle.bolt_report.specs.PageLines.{branch_line}
-use Rattle.bolt_report.specs.Writes.{Writes}
+use Rattle.bolt_format.specs.Writes.{Writes}
 use Rattle.bolt_report.proofs.elements.put_branches.Given as goal
 
 -- the lines of the elements before number i were put

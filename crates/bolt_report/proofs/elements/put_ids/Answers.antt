@@ -2,7 +2,7 @@ use Rattle.std.proofs.Common.{◌∙◌, Ok}
 use Rattle.bolt_format.specs.ShownIds.{shown_ids}
 use Rattle.bolt_report.specs.PageLines.{id_line}
 use Rattle.bolt_report.proofs.ListWrites.{Writes-element, Writes-last_element}
-use Rattle.bolt_report.proofs.WriteLemmas.{Writes-same}
+use Rattle.bolt_format.proofs.WriteLemmas.{Writes-same}
 use Rattle.bolt_report.proofs.elements.put_ids.Goals as goal
 
 pub returns-in_err-put : goal.returns-in_err-put

@@ -3,7 +3,7 @@ use Rattle.std.specs.Prelude.{⊤}
 use Rattle.bolt_format.specs.ShownIds.{shown_ids}
 use Rattle.bolt_format.specs.declared.sink.SinkFault.{SinkFault}
 use Rattle.bolt_report.specs.PageLines.{id_line}
-use Rattle.bolt_report.specs.Writes.{Writes}
+use Rattle.bolt_format.specs.Writes.{Writes}
 use Rattle.bolt_report.proofs.elements.put_ids.Given as goal
 
 -- the lines of the ids before number i were put

@@ -1,7 +1,7 @@
 use Rattle.std.proofs.Common.{◌∙◌, ap, if◌then◌else◌, sym}
 use Rattle.hex.specs.Hex.{encode_lower}
 use Rattle.bolt_report.specs.PageLines.{bucket_end, leaf_line, value_end}
-use Rattle.bolt_report.proofs.WriteLemmas.{Writes-same, Writes-stop, Writes-then}
+use Rattle.bolt_format.proofs.WriteLemmas.{Writes-same, Writes-stop, Writes-then}
 use Rattle.bolt_report.proofs.elements.put_leaf.Goals as goal
 
 pub returns-in_err-put_hex : goal.returns-in_err-put_hex

@@ -2,7 +2,7 @@ use Rattle.std.proofs.Common.{[], ◌∷◌, codes}
 use Rattle.hex.specs.Hex.{encode_lower}
 use Rattle.bolt_report.specs.Lines.{line}
 use Rattle.bolt_report.specs.PageLines.{value_end}
-use Rattle.bolt_report.proofs.WriteLemmas.{Writes-stop, Writes-then}
+use Rattle.bolt_format.proofs.WriteLemmas.{Writes-stop, Writes-then}
 use Rattle.bolt_report.proofs.elements.put_value_end.Goals as goal
 
 pub returns-in_err-put : goal.returns-in_err-put

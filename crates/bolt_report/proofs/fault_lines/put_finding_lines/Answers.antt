@@ -2,7 +2,7 @@ use Rattle.std.proofs.Common.{◌∙◌, Ok}
 use Rattle.std.proofs.lemmas.Option.{slice_get-get_or}
 use Rattle.bolt_report.specs.FaultWords.{finding_text}
 use Rattle.bolt_report.proofs.ListWrites.{Writes-element, Writes-last_element}
-use Rattle.bolt_report.proofs.WriteLemmas.{Writes-same}
+use Rattle.bolt_format.proofs.WriteLemmas.{Writes-same}
 use Rattle.bolt_report.proofs.fault_lines.put_finding_lines.Goals as goal
 
 pub returns-in_err-put : goal.returns-in_err-put

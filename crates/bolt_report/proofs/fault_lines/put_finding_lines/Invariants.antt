@@ -2,7 +2,7 @@ use Rattle.std.proofs.Common.{Ok, flat_map, take}
 use Rattle.std.specs.Prelude.{⊤}
 use Rattle.bolt_format.specs.declared.sink.SinkFault.{SinkFault}
 use Rattle.bolt_report.specs.FaultWords.{finding_text}
-use Rattle.bolt_report.specs.Writes.{Writes}
+use Rattle.bolt_format.specs.Writes.{Writes}
 use Rattle.bolt_report.proofs.fault_lines.put_finding_lines.Given as goal
 
 -- the lines of the findings before this one were put

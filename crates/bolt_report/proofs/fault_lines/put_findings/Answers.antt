@@ -1,6 +1,6 @@
 use Rattle.std.proofs.Common.{◌∙◌, flat_map, length}
 use Rattle.bolt_report.specs.FaultWords.{count_line, finding_text}
-use Rattle.bolt_report.proofs.WriteLemmas.{Writes-same, Writes-stop, Writes-then}
+use Rattle.bolt_format.proofs.WriteLemmas.{Writes-same, Writes-stop, Writes-then}
 use Rattle.bolt_report.proofs.fault_lines.put_findings.Goals as goal
 
 pub returns-in_err-put_finding_lines : goal.returns-in_err-put_finding_lines

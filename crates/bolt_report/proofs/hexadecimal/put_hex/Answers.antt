@@ -1,7 +1,7 @@
 use Rattle.std.proofs.Common.{[], Ok, refl}
 use Rattle.hex.specs.Hex.{encode_with}
 use Rattle.bolt_report.proofs.Pieces.{pieces_grow, Writes-last_piece}
-use Rattle.bolt_report.proofs.WriteLemmas.{Writes-none}
+use Rattle.bolt_format.proofs.WriteLemmas.{Writes-none}
 use Rattle.bolt_report.proofs.hexadecimal.put_hex.Goals as goal
 
 pub loop-rest-init : goal.loop-rest-init

@@ -2,7 +2,7 @@ use Rattle.std.proofs.Common.{◌≡◌, ◌++◌, List, ℕ, Ok, length}
 use Rattle.std.specs.Prelude.{⊤}
 use Rattle.hex.specs.Hex.{encode_lower}
 use Rattle.bolt_format.specs.declared.sink.SinkFault.{SinkFault}
-use Rattle.bolt_report.specs.Writes.{Writes}
+use Rattle.bolt_format.specs.Writes.{Writes}
 use Rattle.bolt_report.proofs.hexadecimal.put_hex.Given as goal
 
 -- the digits of the bytes before the rest were put

@@ -4,7 +4,7 @@ use Rattle.bolt_format.specs.Shown.{shown}
 use Rattle.bolt_format.specs.ShownIds.{shown_ids}
 use Rattle.bolt_report.specs.PageLines.{item_lines}
 use Rattle.bolt_report.specs.PageTexts.{known_ids}
-use Rattle.bolt_report.proofs.WriteLemmas.{Writes-same, Writes-then}
+use Rattle.bolt_format.proofs.WriteLemmas.{Writes-same, Writes-then}
 use Rattle.bolt_report.proofs.page_lines.put_page.Goals as goal
 
 pub returns : goal.returns

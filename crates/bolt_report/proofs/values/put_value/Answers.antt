@@ -1,6 +1,6 @@
 use Rattle.std.proofs.Common.{◌∷◌, []}
 use Rattle.bolt_report.specs.Forms.{shown_as}
-use Rattle.bolt_report.proofs.WriteLemmas.{Writes-then, Writes-stop}
+use Rattle.bolt_format.proofs.WriteLemmas.{Writes-then, Writes-stop}
 use Rattle.bolt_report.proofs.values.put_value.Goals as goal
 
 pub returns-in_err-put_item : goal.returns-in_err-put_item

@@ -1,0 +1,12 @@
+use Rattle.std.proofs.Common.{◌∙◌, find}
+use Rattle.std.specs.Str.{bytes_eq}
+use Rattle.clap.proofs.WalkLemmas.{first_value-rows}
+use Rattle.clap.specs.Words.{Row, found_of, rows_of}
+use Rattle.bolt_cli.proofs.CommandLineLemmas.{found_first}
+use Rattle.bolt_cli.proofs.words.choice.Goals as goal
+
+pub returns : goal.returns
+returns c =
+    let matches = found_of c.args.matches.now in
+    c.get_str.ensures ∙ first_value-rows matches c.args.id.now
+    ∙ found_first (find (λ (r : Row). bytes_eq r.id c.args.id.now) (rows_of matches))

@@ -1,0 +1,46 @@
+-- Why a job isn't done, and what is told of it: docs/COMMANDS.md, "What a run writes".
+use Rattle.std.specs.Prelude.{◌≡◌, ◌≢◌, ℕ, List, [], ◌∷◌, ◌++◌, codes}
+use Rattle.bolt_check.specs.declared.fault.CheckFault.{CheckFault}
+use Rattle.bolt_check.specs.declared.fault.CheckFault.TheVariants as check
+use Rattle.bolt_check.specs.declared.finding.Finding.{Finding}
+use Rattle.bolt_report.specs.FaultWords.{finding_text, meta_fault_text, page_fault_text}
+use Rattle.bolt_report.specs.declared.fault.ReportFault.{ReportFault}
+use Rattle.bolt_report.specs.declared.fault.ReportFault.TheVariants as report
+use Rattle.bolt_cli.specs.declared.failure.Failure.{Failure}
+use Rattle.bolt_cli.specs.declared.failure.Failure.TheVariants.{Metas, File, Page, Memory, Write}
+
+abbrev pub failure_text : Failure → List ℕ
+failure_text (Metas fault) = meta_fault_text fault
+failure_text (File finding) = codes "file refused: " ++ finding_text finding
+failure_text (Page fault) = page_fault_text fault
+failure_text Memory = codes "out of memory\n"
+failure_text Write = codes "write failed\n"
+
+-- a failure is one line on standard error
+abbrev pub failure_line : Failure → List ℕ
+failure_line failure = codes "error: " ++ failure_text failure
+
+-- the failure where a text wasn't put
+abbrev pub reported : ReportFault → Failure
+reported report.Sink = Write
+reported report.NoMemory = Memory
+reported (report.Page fault) = Page fault
+
+-- of findings the first is told
+abbrev pub TellsFirst : List Finding → Failure → Type 0
+TellsFirst [] failure = ⊥
+TellsFirst (x ∷ more) failure = failure ≡ File x
+
+-- the failure of a job whose file is refused
+abbrev pub IsToldAs : CheckFault → Failure → Type 0
+IsToldAs (check.Open fault) failure = failure ≡ Metas fault
+IsToldAs (check.Structure x) failure = failure ≡ File x
+IsToldAs (check.Accounts told) failure = TellsFirst told.items failure
+IsToldAs check.Memory failure = failure ≡ Memory
+
+-- where accounts are told, something is
+abbrev pub TellsSome : CheckFault → Type 0
+TellsSome (check.Open fault) = Unit {0}
+TellsSome (check.Structure x) = Unit {0}
+TellsSome (check.Accounts told) = told.items ≢ []
+TellsSome check.Memory = Unit {0}

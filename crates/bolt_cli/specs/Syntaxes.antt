@@ -1,0 +1,21 @@
+-- The lines of the commands as the code has them.
+use Rattle.std.specs.Prelude.{map}
+use Rattle.bolt_cli.specs.PlainWords as plain
+use Rattle.bolt_cli.specs.declared.syntax.Choice.{Choice}
+use Rattle.bolt_cli.specs.declared.syntax.Flag.{Flag}
+use Rattle.bolt_cli.specs.declared.syntax.Flag.TheVariants.{Long, Short}
+use Rattle.bolt_cli.specs.declared.syntax.Operand.{Operand}
+use Rattle.bolt_cli.specs.declared.syntax.Syntax.{Syntax}
+
+abbrev pub operand_view : Operand → plain.Operand
+operand_view o = record { name = o.name.now }
+
+abbrev pub flag_view : Flag → plain.Flag
+flag_view (Long name) = plain.long name.now
+flag_view (Short letter) = plain.short letter
+
+abbrev pub choice_view : Choice → plain.Choice
+choice_view o = record { name = o.name.now; flag = flag_view o.flag; required = o.required }
+
+abbrev pub syntax_view : Syntax → plain.Syntax
+syntax_view s = record { name = s.name.now; operands = map operand_view s.operands.now; options = map choice_view s.options.now }

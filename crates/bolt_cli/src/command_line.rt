@@ -1,0 +1,71 @@
+//! What `clap` is told of the command line.
+ghost use Rattle.std.specs.Prelude.{◌≡◌, false, IfOk, map};
+ghost use Rattle.clap.specs.Words.{rule_of};
+ghost use Rattle.bolt_cli.specs.CommandLine.{IsCommand, bare_program, command_of, operand_rule, option_rule, program, program_of};
+ghost use Rattle.bolt_cli.specs.Syntaxes.{choice_view, operand_view, syntax_view};
+
+use crate::syntax::{Choice, Flag, Operand, SYNTAXES, Syntax};
+use clap::{Arg, Command};
+use std::alloc::{AllocError, Global};
+
+fn operand_arg<'a>(alloc: Global, operand: &'a Operand) -> Arg<'a>
+    ensures rule { rule_of result ≡ operand_rule (operand_view operand.now) }
+    ensures local { result.global ≡ false }
+{
+    Arg::new(alloc, operand.name)
+        .required(true)
+        .help(operand.help)
+}
+
+fn option_arg<'a>(alloc: Global, option: &'a Choice) -> Arg<'a>
+    ensures rule { rule_of result ≡ option_rule (choice_view option.now) }
+    ensures local { result.global ≡ false }
+{
+    let arg = Arg::new(alloc, option.name)
+        .required(option.required)
+        .value_name(option.value)
+        .help(option.help);
+    match option.flag {
+        Flag::Long(name) => arg.long(name),
+        Flag::Short(letter) => arg.short(letter),
+    }
+}
+
+fn command<'a>(alloc: Global, syntax: &'a Syntax) -> Result<Command<'a>, AllocError>
+    ensures { IfOk result (IsCommand (command_of (syntax_view syntax.now))) }
+{
+    let mut command = Command::new(alloc, syntax.name).about(syntax.about);
+    for operand in syntax.operands {
+        command = command.arg(operand_arg(alloc, operand))?;
+    }
+    for option in syntax.options {
+        command = command.arg(option_arg(alloc, option))?;
+    }
+    Ok(command)
+}
+
+/// The whole command line.
+pub(crate) fn program<'a>(alloc: Global) -> Result<Command<'a>, AllocError>
+    ensures { IfOk result (IsCommand program) }
+{
+    let program = Command::new(alloc, "luntsegi")
+        .about("Inspect bbolt database files, the files in which etcd and others keep their data")
+        .subcommand_required(true)
+        .disable_help_subcommand(true);
+    with_commands(alloc, program, &SYNTAXES)
+}
+
+fn with_commands<'a>(
+    alloc: Global,
+    program: Command<'a>,
+    syntaxes: &'a [Syntax],
+) -> Result<Command<'a>, AllocError>
+    requires { IsCommand bare_program program }
+    ensures { IfOk result (IsCommand (program_of (map syntax_view syntaxes.now))) }
+{
+    let mut program = program;
+    for syntax in syntaxes {
+        program = program.subcommand(command(alloc, syntax)?)?;
+    }
+    Ok(program)
+}

@@ -1,0 +1,87 @@
+//! Why a job isn't done, and the line that tells it.
+ghost use Rattle.std.specs.Prelude.{◌≡◌, ◌++◌, codes};
+ghost use Rattle.bolt_format.specs.Writes.{Writes};
+ghost use Rattle.bolt_report.specs.FaultWords.{finding_text};
+ghost use Rattle.bolt_cli.specs.Failures.{failure_line, failure_text, reported};
+ghost use Rattle.bolt_cli.specs.declared.failure.Failure.TheVariants as failure;
+
+use bolt_check::Finding;
+use bolt_format::{MetaFault, PageFault, Sink, SinkFault};
+use bolt_report::{ReportFault, finding_text, meta_fault_text, page_fault_text};
+
+/// Why a job isn't done (docs/COMMANDS.md, "What a run writes").
+#[derive(Clone, Copy, Debug, PartialEq, Eq)]
+pub enum Failure {
+    /// No meta is valid.
+    Metas(MetaFault),
+    /// The file isn't sound, for this reason.
+    File(Finding),
+    /// The page that was asked for is no good.
+    Page(PageFault),
+    /// Memory ran out.
+    Memory,
+    /// Standard output couldn't be written.
+    Write,
+}
+
+impl From<MetaFault> for Failure {
+    ghost from_gives = { λ fault result. result ≡ failure.Metas fault };
+
+    fn from(fault: MetaFault) -> Failure {
+        Failure::Metas(fault)
+    }
+}
+
+impl From<SinkFault> for Failure {
+    ghost from_gives = { λ _ result. result ≡ failure.Write };
+
+    fn from(_fault: SinkFault) -> Failure {
+        Failure::Write
+    }
+}
+
+impl From<ReportFault> for Failure {
+    ghost from_gives = { λ fault result. result ≡ reported fault };
+
+    fn from(fault: ReportFault) -> Failure {
+        match fault {
+            ReportFault::Sink => Failure::Write,
+            ReportFault::NoMemory => Failure::Memory,
+            ReportFault::Page(fault) => Failure::Page(fault),
+        }
+    }
+}
+
+/// Puts the line of a failure: `error: ` and its text.
+pub(crate) fn put_failure<E: Sink>(failure: &Failure, err: &mut E) -> Result<(), ReportFault>
+    ensures { Writes E.taken E.failed err.old err.new (failure_line failure.now) result }
+{
+    put_words(b"error: ", err)?;
+    put_text(failure, err)
+}
+
+fn put_text<E: Sink>(failure: &Failure, err: &mut E) -> Result<(), ReportFault>
+    ensures { Writes E.taken E.failed err.old err.new (failure_text failure.now) result }
+{
+    match failure {
+        Failure::Metas(fault) => meta_fault_text(*fault, err),
+        Failure::File(finding) => put_file_refused(finding, err),
+        Failure::Page(fault) => page_fault_text(fault, err),
+        Failure::Memory => put_words(b"out of memory\n", err),
+        Failure::Write => put_words(b"write failed\n", err),
+    }
+}
+
+fn put_file_refused<E: Sink>(finding: &Finding, err: &mut E) -> Result<(), ReportFault>
+    ensures { Writes E.taken E.failed err.old err.new (codes "file refused: " ++ finding_text finding.now) result }
+{
+    put_words(b"file refused: ", err)?;
+    finding_text(finding, err)
+}
+
+fn put_words<E: Sink>(words: &[u8], err: &mut E) -> Result<(), ReportFault>
+    ensures { Writes E.taken E.failed err.old err.new words.now result }
+{
+    err.put(words)?;
+    Ok(())
+}

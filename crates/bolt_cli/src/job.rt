@@ -1,0 +1,33 @@
+//! What a command line asks for.
+
+use bolt_report::Form;
+
+/// What the words of a command line ask for (docs/COMMANDS.md).
+#[derive(Debug, Drop)]
+pub enum Job {
+    /// The facts of the meta in force.
+    Info { file: String },
+    /// The text of a page.
+    Page { file: String, id: u64 },
+    /// Whether the file is sound.
+    Check { file: String },
+    /// The names of the root's buckets.
+    Buckets { file: String, form: Form },
+}
+
+impl Job {
+    ghost use Rattle.std.specs.Prelude.{◌≡◌};
+    ghost use Rattle.bolt_cli.specs.PlainWords.{file_name};
+
+    /// The FILE that the job is done on.
+    pub fn file(&self) -> &str
+        ensures { result.now ≡ file_name self.now }
+    {
+        match self {
+            Job::Info { file } => file.as_str(),
+            Job::Page { file, id: _ } => file.as_str(),
+            Job::Check { file } => file.as_str(),
+            Job::Buckets { file, form: _ } => file.as_str(),
+        }
+    }
+}

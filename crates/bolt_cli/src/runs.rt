@@ -1,0 +1,55 @@
+//! Runs a job: what it writes, and its status.
+ghost use Rattle.std.specs.Prelude.{◌≡◌, Result};
+ghost use Rattle.bolt_cli.specs.Answers.{Answer, Does, Ending, IsAnswer, Takes, status_of, told};
+
+use crate::buckets_command::print_buckets;
+use crate::check_command::print_check;
+use crate::failure::{Failure, put_failure};
+use crate::info_command::print_info;
+use crate::job::Job;
+use crate::page_command::print_page;
+use crate::status::Status;
+use bolt_format::Sink;
+use std::alloc::Global;
+
+/// Does a job on the bytes of its file (docs/COMMANDS.md, "What a run writes"): the text goes to
+/// `out`, the line of a failure to `err`. `target` is not touched.
+pub fn run<O: Sink, E: Sink, T: Sink>(
+    alloc: Global,
+    job: &Job,
+    file: &[u8],
+    out: &mut O,
+    err: &mut E,
+    target: &mut T,
+) -> Status
+    ensures answer { (answer : Answer) × (ending : Ending) × IsAnswer file.now job.now answer
+        × Does O.taken O.failed out.old out.new answer ending × (result.code ≡ status_of ending)
+        × Takes E.taken E.failed err.old err.new (told ending) }
+    ensures target { target.new ≡ target.old }
+{
+    match do_job(alloc, job, file, out) {
+        Ok(code) => Status { code },
+        Err(failure) => tell(&failure, err),
+    }
+}
+
+/// Tells a failure, whatever becomes of its line.
+fn tell<E: Sink>(failure: &Failure, err: &mut E) -> Status
+    ensures status { result.code ≡ 1 }
+    ensures line { Takes E.taken E.failed err.old err.new (told (Err failure.now)) }
+{
+    let _ = put_failure(failure, err);
+    Status { code: 1 }
+}
+
+/// Does a job, and answers its status.
+fn do_job<O: Sink>(alloc: Global, job: &Job, file: &[u8], out: &mut O) -> Result<u8, Failure>
+    ensures { (answer : Answer) × IsAnswer file.now job.now answer × Does O.taken O.failed out.old out.new answer result }
+{
+    match job {
+        Job::Info { file: _ } => print_info(file, out),
+        Job::Page { file: _, id } => print_page(file, *id, out),
+        Job::Check { file: _ } => print_check(alloc, file, out),
+        Job::Buckets { file: _, form } => print_buckets(alloc, file, *form, out),
+    }
+}
