@@ -32,14 +32,21 @@ test: examples memory
 	rt ci
 
 LARGE = out/large.db
+WIDE = out/wide.db
 
-# Times the checker on a database of 256 MB with a million small entries.
-bench: $(PROGRAM) $(LARGE)
-	python3 tools/bench/time_check.py $(PROGRAM) $(LARGE)
+# Times the reading of a file (info), the checker and the listing of its buckets: on a database of
+# 256 MB with a million small entries, and on one with 200,000 buckets in its root bucket.
+bench: $(PROGRAM) $(LARGE) $(WIDE)
+	python3 tools/bench/time_commands.py $(PROGRAM) $(LARGE) info check buckets
+	python3 tools/bench/time_commands.py $(PROGRAM) $(WIDE) info check buckets
 
 $(LARGE): tools/bench/make_large.py
 	mkdir -p $(@D)
 	python3 tools/bench/make_large.py $@
+
+$(WIDE): tools/bench/make_wide.py
+	mkdir -p $(@D)
+	python3 -B tools/bench/make_wide.py $@
 
 DEEP = out/deep.db
 REFUSED = rt try --data deep.db=$(abspath $(DEEP)) --fail-alloc

@@ -1,5 +1,5 @@
 -- Pages that ways lead to: each is a leaf or a branch, as bolt_format's page and as the rules' node; where its elements lead.
-use Rattle.std.proofs.Common.{◌≡◌, ◌==◌, ℕ, suc, ◌≤◌, List, [], ◌∷◌, ◌++◌, true, false, Option, Some, None, Result, Ok, Err, IsTrue, slice_get, map, refl, sym, ap, ◌∙◌, arith, subst}
+use Rattle.std.proofs.Common.{◌≡◌, ◌==◌, ℕ, suc, ◌≤◌, List, [], ◌∷◌, ◌++◌, true, false, Option, Some, None, Result, Ok, slice_get, map, refl, sym, ap, ◌∙◌, arith, subst}
 use Rattle.std.specs.Option.{option_map}
 use Rattle.std.proofs.lemmas.Option.{slice_get-map}
 use Rattle.bolt_format.specs.Elements.{BranchElement, LeafElement, head_root, inline_elements}
@@ -8,12 +8,11 @@ use Rattle.bolt_format.specs.declared.kind.Kind.{Kind}
 use Rattle.bolt_format.specs.declared.kind.Kind.TheVariants as kind
 use Rattle.bolt_format.specs.declared.meta.Meta.{Meta}
 use Rattle.bolt_check.specs.Findings.{keys_of}
-use Rattle.bolt_check.specs.Keys.{Key}
 use Rattle.bolt_check.specs.Nodes.{Entry, Node, Nodes, branch_entry, leaf_entry, node_at, node_of, node_seen}
 use Rattle.bolt_check.specs.OnWays.{IsOnWay}
 use Rattle.bolt_check.specs.Shape.{child_at, child_in, leads}
 use Rattle.bolt_check.specs.Sound.{HasSoundTrees}
-use Rattle.bolt_check.specs.Ways.{At_inline, At_page, PageSpot, Spot, bucket_spot, child_spot, follow, reached, start_of, step, upper_from}
+use Rattle.bolt_check.specs.Ways.{At_inline, At_page, PageSpot, Spot, bucket_spot, child_spot, reached, start_of, step, upper_from}
 use Rattle.bolt_check.proofs.WayFacts.{follow_append, key_at, leads_none, none_number, step_child}
 
 abbrev pub leaf_node : PageView → Node

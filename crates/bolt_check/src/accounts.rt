@@ -3,10 +3,10 @@ ghost use Rattle.std.specs.Prelude.{◌≡◌, ◌≢◌, ◌≤◌, ◌<◌, �
 ghost use Rattle.bolt_format.specs.Freelists.{freelist_fault_of};
 ghost use Rattle.bolt_format.specs.declared.meta.TheConstants.{NO_FREELIST};
 ghost use Rattle.bolt_format.specs.ShownIds.{shown_ids};
+ghost use Rattle.bolt_check.specs.AccountFindings.{AreAccountFindings};
 ghost use Rattle.bolt_check.specs.Accounts.{HasAccounts, IsInFreelist, times_in};
 ghost use Rattle.bolt_check.specs.Private.Listings.{AreAllFindings, ClaimsFreelist, IsUnlisted};
 ghost use Rattle.bolt_check.specs.Private.Tables.{HasRoom, IsClaimed};
-ghost use Rattle.bolt_check.specs.AccountFindings.{AreAccountFindings};
 
 use crate::finding::Finding;
 use crate::listing::{Listing, list_ids};

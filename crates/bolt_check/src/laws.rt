@@ -1,8 +1,8 @@
 //! What the definitions of sound files imply.
 ghost use Rattle.std.specs.Prelude.{◌≡◌, ◌↔◌, ℕ, List};
 ghost use Rattle.bolt_format.specs.declared.meta.Meta.{Meta};
-ghost use Rattle.bolt_check.specs.Sound.{HasSoundTrees, IsFirstFinding, IsUsed, PassesTests};
 ghost use Rattle.bolt_check.specs.AccountFindings.{AreAccountFindings};
+ghost use Rattle.bolt_check.specs.Sound.{HasSoundTrees, IsFirstFinding, IsUsed, PassesTests};
 ghost use Rattle.bolt_check.specs.declared.finding.Finding.{Finding};
 
 /// No test of the trees fails exactly where they are sound.

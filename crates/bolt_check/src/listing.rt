@@ -2,8 +2,8 @@
 ghost use Rattle.std.specs.Prelude.{◌≡◌, ◌==◌, ◌<◌, ◌+◌, ◌++◌, ◌∷◌, ℕ, [], IfOk, OnOk, filter, if◌then◌else◌, length, min, nat_le};
 ghost use Rattle.bolt_format.specs.ShownIds.{shown_ids};
 ghost use Rattle.bolt_check.specs.Accounts.{times_in};
-ghost use Rattle.bolt_check.specs.Private.Tables.{is_used, use_at, times_of};
 ghost use Rattle.bolt_check.specs.Private.Listings.{IsUnlisted};
+ghost use Rattle.bolt_check.specs.Private.Tables.{is_used, times_of, use_at};
 
 use crate::table::PageUse;
 use bolt_format::FreeIds;

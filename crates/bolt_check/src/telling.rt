@@ -1,6 +1,6 @@
 //! Tells what is wrong with the pages of a listing, in the order of the pages.
 ghost use Rattle.std.specs.Prelude.{◌≡◌, ◌≤◌, ◌<◌, ◌+◌, ◌++◌, ◌↔◌, [], IfOk, IsTrue, OnOk, length};
-ghost use Rattle.bolt_check.specs.Private.Listings.{AreAllFindings, AreFindingsBelow, IsBeyondTo, IsPastTo, IsSettled, HasFindingsTo, is_in_use, is_repeated, listed_times, meta_findings, page_findings, repeat_findings, run_findings, use_findings};
+ghost use Rattle.bolt_check.specs.Private.Listings.{AreAllFindings, AreFindingsBelow, HasFindingsTo, IsBeyondTo, IsPastTo, IsSettled, is_in_use, is_repeated, listed_times, meta_findings, page_findings, repeat_findings, run_findings, use_findings};
 
 use crate::finding::Finding;
 use crate::listing::Listing;

@@ -2,8 +2,8 @@
 ghost use Rattle.std.specs.Prelude.{◌≡◌, ◌<◌, ◌≤◌, IfErr, IfOk, Ok, OnOk};
 ghost use Rattle.std.specs.Result.{result_err};
 ghost use Rattle.bolt_check.specs.Findings.{PagePasses, PageTests, node_finding};
-ghost use Rattle.bolt_check.specs.Private.Listings.{IsUnlisted};
 ghost use Rattle.bolt_check.specs.Nodes.{node_at};
+ghost use Rattle.bolt_check.specs.Private.Listings.{IsUnlisted};
 ghost use Rattle.bolt_check.specs.Private.Pending.{Claims, page_spot};
 ghost use Rattle.bolt_check.specs.Private.ShownNodes.{shown_node};
 ghost use Rattle.bolt_check.specs.Private.Tables.{HasRoom, IsClaimed, unclaimed};

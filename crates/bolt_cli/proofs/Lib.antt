@@ -4,9 +4,9 @@ pub mod Doing
 pub mod GivenRows
 pub mod LineReading
 pub mod Lines
-pub mod NameLines
 pub mod PageAnswers
 pub mod PageIds
 pub mod WholeLines
 pub mod WordSteps
 pub mod WrittenLines
+pub mod RootEntries

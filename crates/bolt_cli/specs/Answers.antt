@@ -16,12 +16,12 @@ use Rattle.bolt_format.specs.declared.meta.Meta.{Meta}
 use Rattle.bolt_format.specs.declared.meta.MetaFault.{MetaFault}
 use Rattle.bolt_format.specs.declared.meta.Slot.{Slot}
 use Rattle.bolt_report.specs.FaultWords.{findings_text}
-use Rattle.bolt_report.specs.Forms.{value_text}
+use Rattle.bolt_report.specs.KeyLines.{buckets_text}
 use Rattle.bolt_report.specs.MetaLines.{info_text}
 use Rattle.bolt_report.specs.PageTexts.{page_text, page_text_fault}
 use Rattle.bolt_report.specs.declared.form.Form.{Form}
+use Rattle.bolt_tree.specs.Entries.{AreEntries, IsEntry, Root_page}
 use Rattle.bolt_cli.specs.Failures.{IsToldAs, failure_line}
-use Rattle.bolt_cli.specs.RootLeaf.{names_of, root_leaves}
 use Rattle.bolt_cli.specs.declared.failure.Failure.{Failure}
 use Rattle.bolt_cli.specs.declared.failure.Failure.TheVariants as failure
 use Rattle.bolt_cli.specs.declared.job.Job.{Job}
@@ -66,19 +66,15 @@ check_refusal (check.Structure x) = found (x ∷ [])
 check_refusal (check.Accounts told) = found told.items
 check_refusal check.Memory = refused failure.Memory
 
--- a name a line
-abbrev pub names_text : Form → List Key → List ℕ
-names_text form names = flat_map (value_text form) names
-
--- a root page that is a branch is not read yet
-abbrev pub buckets_answer : Form → Meta → Option (List LeafElement) → Answer
-buckets_answer form meta (Some leaves) = done (names_text form (names_of leaves))
-buckets_answer form meta None = refused (failure.File (finding PAGE_KIND meta.root))
+-- the names of the root's buckets, in the order of its entries
+abbrev pub IsBucketsAnswer : List ℕ → Form → Meta → Answer → Type 0
+IsBucketsAnswer file form meta answer =
+    (entries : List LeafElement) × AreEntries (IsEntry file meta) (Root_page meta.root) entries × (answer ≡ done (buckets_text form entries))
 
 -- the answer where the file is sound, or where it is refused
-abbrev pub IsCheckedAnswer : List ℕ → (Meta → Answer) → (CheckFault → Answer → Type 0) → Answer → Type 0
-IsCheckedAnswer file accepted IsRefusal answer =
-    ((slot : Slot) × (meta : Meta) × IsChosen file slot meta × IsSound file meta true × (answer ≡ accepted meta))
+abbrev pub IsCheckedAnswer : List ℕ → (Meta → Answer → Type 0) → (CheckFault → Answer → Type 0) → Answer → Type 0
+IsCheckedAnswer file IsAccepted IsRefusal answer =
+    ((slot : Slot) × (meta : Meta) × IsChosen file slot meta × IsSound file meta true × IsAccepted meta answer)
     ⊎ ((fault : CheckFault) × IsRefused file fault × IsRefusal fault answer)
 
 -- the first finding alone is told
@@ -91,8 +87,8 @@ IsFileRefusal fault answer = (failure : Failure) × IsToldAs fault failure × (a
 abbrev pub IsAnswer : List ℕ → Job → Answer → Type 0
 IsAnswer file (Info name) = IsOpenAnswer file (λ slot meta. done (info_text slot meta))
 IsAnswer file (Page name id) = IsOpenAnswer file (λ slot meta. page_answer (page_text_fault file meta id) (page_text file meta id))
-IsAnswer file (Check name) = IsCheckedAnswer file (λ meta. done (codes "OK\n")) (λ fault answer. answer ≡ check_refusal fault)
-IsAnswer file (Buckets name form) = IsCheckedAnswer file (λ meta. buckets_answer form meta (root_leaves file meta)) IsFileRefusal
+IsAnswer file (Check name) = IsCheckedAnswer file (λ meta answer. answer ≡ done (codes "OK\n")) (λ fault answer. answer ≡ check_refusal fault)
+IsAnswer file (Buckets name form) = IsCheckedAnswer file (IsBucketsAnswer file form) IsFileRefusal
 
 -- From its state `old` to `new` standard output took the text of the answer with no failure, and the job ends so; or it failed, took a
 -- beginning, and the job ends with that.

@@ -11,7 +11,7 @@ use std::slice;
 
 /// Puts that the file is sound, or what was found.
 pub(crate) fn print_check<O: Sink>(alloc: Global, file: &[u8], out: &mut O) -> Result<u8, Failure>
-    ensures { (answer : Answer) × IsCheckedAnswer file.now (λ meta. done (codes "OK\n")) (λ fault answer. answer ≡ check_refusal fault) answer
+    ensures { (answer : Answer) × IsCheckedAnswer file.now (λ meta answer. answer ≡ done (codes "OK\n")) (λ fault answer. answer ≡ check_refusal fault) answer
         × Does O.taken O.failed out.old out.new answer result }
 {
     match check(alloc, file) {

@@ -9,8 +9,6 @@ mod info_command;
 mod job;
 mod open_checked;
 mod page_command;
-mod root_cursor;
-mod root_leaf;
 mod runs;
 mod status;
 mod syntax;

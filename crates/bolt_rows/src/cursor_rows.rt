@@ -111,14 +111,20 @@ fn answered<'a>(cursor: &mut Cursor<'a>, call: Call<'_>) -> &'a [u8] {
 fn try_steps(rt: &impl Abort, name: &str, cursor: &mut Cursor<'_>, steps: &[Step<'_>]) {
     for (i, (call, key)) in steps.iter().enumerate() {
         let got = answered(cursor, *call);
-        assert!(rt; got == *key, "{name}: call {i} answers {got:?} and not {key:?}");
+        assert!(rt;
+            got == *key,
+            "{name}: call {i} answers {got:?} and not {key:?}"
+        );
     }
 }
 
 fn try_openings(rt: &impl Abort, name: &str, cursor: &mut Cursor<'_>, steps: &[Opening<'_>]) {
     for (i, (call, key, count)) in steps.iter().enumerate() {
         let got = answered(cursor, *call);
-        assert!(rt; got == *key, "{name}: call {i} answers {got:?} and not {key:?}");
+        assert!(rt;
+            got == *key,
+            "{name}: call {i} answers {got:?} and not {key:?}"
+        );
         let opened = cursor.opened();
         assert_eq!(rt; opened, *count, "{name}: opened after call {i}");
         let compared = cursor.compared();
@@ -147,13 +153,7 @@ fn try_answers(
     Ok(())
 }
 
-fn try_file(
-    alloc: Global,
-    rt: &impl Abort,
-    name: &str,
-    file: &[u8],
-    scripts: &[&[Opening<'_>]],
-) {
+fn try_file(alloc: Global, rt: &impl Abort, name: &str, file: &[u8], scripts: &[&[Opening<'_>]]) {
     match check(alloc, file) {
         Ok(checked) => {
             for script in scripts {
@@ -181,36 +181,84 @@ fn try_sample(
 fn openings(rt: HostRuntime) -> Result<(), Fail> {
     let alloc = rt.alloc();
     let two_leaves: &[&[Opening<'_>]] = &[
-        &[(First, b"a", 2), (Next, b"c", 2), (Next, b"m", 3), (Next, b"p", 3), (Next, NONE, 3), (Next, NONE, 3)],
+        &[
+            (First, b"a", 2),
+            (Next, b"c", 2),
+            (Next, b"m", 3),
+            (Next, b"p", 3),
+            (Next, NONE, 3),
+            (Next, NONE, 3),
+        ],
         &[(Next, b"a", 2), (Next, b"c", 2), (Next, b"m", 3)],
-        &[(Seek(b"d"), b"m", 3), (Next, b"p", 3), (Next, NONE, 3), (Next, NONE, 3)],
+        &[
+            (Seek(b"d"), b"m", 3),
+            (Next, b"p", 3),
+            (Next, NONE, 3),
+            (Next, NONE, 3),
+        ],
         &[(Seek(b"c"), b"c", 2), (Next, b"m", 3)],
         &[(Seek(b"0"), b"a", 2), (Next, b"c", 2)],
-        &[(Seek(b"z"), NONE, 2), (Next, NONE, 2), (Seek(b"a"), b"a", 4), (Next, b"c", 4), (First, b"a", 6)],
+        &[
+            (Seek(b"z"), NONE, 2),
+            (Next, NONE, 2),
+            (Seek(b"a"), b"a", 4),
+            (Next, b"c", 4),
+            (First, b"a", 6),
+        ],
     ];
     try_sample(alloc, &rt, "two leaves", &BRANCH_ROOT, two_leaves)?;
     let empty_middle: &[&[Opening<'_>]] = &[
-        &[(First, b"a", 2), (Next, b"c", 2), (Next, b"m", 4), (Next, b"p", 4), (Next, NONE, 4), (Next, NONE, 4)],
+        &[
+            (First, b"a", 2),
+            (Next, b"c", 2),
+            (Next, b"m", 4),
+            (Next, b"p", 4),
+            (Next, NONE, 4),
+            (Next, NONE, 4),
+        ],
         &[(Seek(b"d"), b"m", 4), (Next, b"p", 4), (Next, NONE, 4)],
         &[(Seek(b"g"), b"m", 3), (Next, b"p", 3), (Next, NONE, 3)],
         &[(Seek(b"m"), b"m", 2), (Next, b"p", 2), (Next, NONE, 2)],
         &[(Seek(b"z"), NONE, 2), (Next, NONE, 2), (Next, NONE, 2)],
     ];
-    try_sample(alloc, &rt, "an empty leaf between", &EMPTY_MIDDLE, empty_middle)?;
+    try_sample(
+        alloc,
+        &rt,
+        "an empty leaf between",
+        &EMPTY_MIDDLE,
+        empty_middle,
+    )?;
     let empty_tail: &[&[Opening<'_>]] = &[
-        &[(First, b"a", 2), (Next, b"c", 2), (Next, NONE, 3), (Next, NONE, 4)],
+        &[
+            (First, b"a", 2),
+            (Next, b"c", 2),
+            (Next, NONE, 3),
+            (Next, NONE, 4),
+        ],
         &[(Seek(b"b"), b"c", 2), (Next, NONE, 3), (Next, NONE, 4)],
         &[(Seek(b"d"), NONE, 3), (Next, NONE, 3)],
         &[(Seek(b"x"), NONE, 2), (Next, NONE, 2)],
     ];
-    try_sample(alloc, &rt, "an empty leaf at the end", &EMPTY_TAIL, empty_tail)?;
+    try_sample(
+        alloc,
+        &rt,
+        "an empty leaf at the end",
+        &EMPTY_TAIL,
+        empty_tail,
+    )?;
     let empty_head: &[&[Opening<'_>]] = &[
         &[(First, b"m", 4), (Next, b"p", 4), (Next, NONE, 4)],
         &[(Seek(b"a"), b"m", 4), (Next, b"p", 4)],
         &[(Seek(b"g"), b"m", 3), (Next, b"p", 3)],
         &[(Seek(b"z"), NONE, 2), (Next, NONE, 2)],
     ];
-    try_sample(alloc, &rt, "empty leaves at the beginning", &EMPTY_HEAD, empty_head)?;
+    try_sample(
+        alloc,
+        &rt,
+        "empty leaves at the beginning",
+        &EMPTY_HEAD,
+        empty_head,
+    )?;
     Ok(())
 }
 
@@ -229,24 +277,47 @@ fn openings_of_small_trees(rt: HostRuntime) -> Result<(), Fail> {
     ]];
     try_sample(alloc, &rt, "one entry", &ONE_ENTRY, one_entry)?;
     let one_child: &[&[Opening<'_>]] = &[
-        &[(First, b"a", 2), (Next, b"c", 2), (Next, NONE, 2), (Next, NONE, 2)],
-        &[(Seek(b"b"), b"c", 2), (Seek(b"0"), b"a", 4), (Seek(b"d"), NONE, 6), (Next, NONE, 6)],
+        &[
+            (First, b"a", 2),
+            (Next, b"c", 2),
+            (Next, NONE, 2),
+            (Next, NONE, 2),
+        ],
+        &[
+            (Seek(b"b"), b"c", 2),
+            (Seek(b"0"), b"a", 4),
+            (Seek(b"d"), NONE, 6),
+            (Next, NONE, 6),
+        ],
     ];
     try_sample(alloc, &rt, "one child", &ONE_CHILD, one_child)?;
     let no_page: &[&[Opening<'_>]] = &[
         &[(First, NONE, 1), (Next, NONE, 2), (Next, NONE, 3)],
-        &[(Seek(b"k"), NONE, 1), (Next, NONE, 1), (First, NONE, 2), (Next, NONE, 3)],
+        &[
+            (Seek(b"k"), NONE, 1),
+            (Next, NONE, 1),
+            (First, NONE, 2),
+            (Next, NONE, 3),
+        ],
     ];
     try_sample(alloc, &rt, "an empty leaf alone", &FRESH_FILE, no_page)?;
     // After a seek that answered nothing, next opens nothing, also where there is no entry at all.
     let no_entry: &[&[Opening<'_>]] = &[
         &[(First, NONE, 3), (Next, NONE, 6), (Next, NONE, 9)],
-        &[(Seek(b"z"), NONE, 2), (Next, NONE, 2), (First, NONE, 5), (Next, NONE, 8)],
+        &[
+            (Seek(b"z"), NONE, 2),
+            (Next, NONE, 2),
+            (First, NONE, 5),
+            (Next, NONE, 8),
+        ],
         &[(Seek(b"b"), NONE, 3), (Next, NONE, 3), (Next, NONE, 3)],
     ];
     try_sample(alloc, &rt, "empty leaves alone", &NO_ENTRY, no_entry)?;
     let deep = chain(alloc, 65)?;
-    let levels: &[&[Opening<'_>]] = &[&[(First, NONE, 64), (Next, NONE, 128)], &[(Seek(b"k"), NONE, 64), (Next, NONE, 64)]];
+    let levels: &[&[Opening<'_>]] = &[
+        &[(First, NONE, 64), (Next, NONE, 128)],
+        &[(Seek(b"k"), NONE, 64), (Next, NONE, 64)],
+    ];
     try_file(alloc, &rt, "64 levels", deep.as_slice(), levels);
     Ok(())
 }
@@ -256,41 +327,118 @@ fn openings_of_small_trees(rt: HostRuntime) -> Result<(), Fail> {
 fn answers(rt: HostRuntime) -> Result<(), Fail> {
     let alloc = rt.alloc();
     let two_leaves: &[&[Step<'_>]] = &[
-        &[(Last, b"p"), (Next, NONE), (Prev, b"m"), (Prev, b"c"), (Prev, b"a"), (Prev, NONE), (Prev, NONE), (Next, b"c")],
+        &[
+            (Last, b"p"),
+            (Next, NONE),
+            (Prev, b"m"),
+            (Prev, b"c"),
+            (Prev, b"a"),
+            (Prev, NONE),
+            (Prev, NONE),
+            (Next, b"c"),
+        ],
         &[(Prev, b"p"), (Prev, b"m")],
         &[(Seek(b"z"), NONE), (Next, NONE), (Prev, b"p"), (Prev, b"m")],
-        &[(Seek(b"z"), NONE), (Last, b"p"), (First, b"a"), (First, b"a")],
-        &[(Seek(b"z"), NONE), (First, b"a"), (Last, b"p"), (Last, b"p")],
-        &[(Seek(b"z"), NONE), (Seek(b"d"), b"m"), (Seek(b"a"), b"a"), (Seek(b"p"), b"p"), (Seek(b"b"), b"c")],
+        &[
+            (Seek(b"z"), NONE),
+            (Last, b"p"),
+            (First, b"a"),
+            (First, b"a"),
+        ],
+        &[
+            (Seek(b"z"), NONE),
+            (First, b"a"),
+            (Last, b"p"),
+            (Last, b"p"),
+        ],
+        &[
+            (Seek(b"z"), NONE),
+            (Seek(b"d"), b"m"),
+            (Seek(b"a"), b"a"),
+            (Seek(b"p"), b"p"),
+            (Seek(b"b"), b"c"),
+        ],
         &[(First, b"a"), (Prev, NONE), (Next, b"c")],
-        &[(Last, b"p"), (First, b"a"), (Last, b"p"), (Next, NONE), (Seek(b"b"), b"c"), (Prev, b"a")],
+        &[
+            (Last, b"p"),
+            (First, b"a"),
+            (Last, b"p"),
+            (Next, NONE),
+            (Seek(b"b"), b"c"),
+            (Prev, b"a"),
+        ],
     ];
     try_answers(alloc, &rt, "two leaves", &BRANCH_ROOT, two_leaves)?;
     let middle: &[&[Step<'_>]] = &[
         &[(Seek(b"d"), b"m"), (Prev, b"c")],
         &[(Seek(b"g"), b"m"), (Prev, b"c"), (Next, b"m")],
-        &[(Last, b"p"), (Prev, b"m"), (Prev, b"c"), (Prev, b"a"), (Prev, NONE), (Next, b"c")],
+        &[
+            (Last, b"p"),
+            (Prev, b"m"),
+            (Prev, b"c"),
+            (Prev, b"a"),
+            (Prev, NONE),
+            (Next, b"c"),
+        ],
     ];
     try_answers(alloc, &rt, "an empty leaf between", &EMPTY_MIDDLE, middle)?;
     let tail: &[&[Step<'_>]] = &[
-        &[(First, b"a"), (Next, b"c"), (Next, NONE), (Next, NONE), (Prev, b"a")],
-        &[(Last, b"c"), (Next, NONE), (Prev, b"a"), (Prev, NONE), (Next, b"c")],
+        &[
+            (First, b"a"),
+            (Next, b"c"),
+            (Next, NONE),
+            (Next, NONE),
+            (Prev, b"a"),
+        ],
+        &[
+            (Last, b"c"),
+            (Next, NONE),
+            (Prev, b"a"),
+            (Prev, NONE),
+            (Next, b"c"),
+        ],
         &[(Seek(b"x"), NONE), (Prev, b"c")],
     ];
     try_answers(alloc, &rt, "an empty leaf at the end", &EMPTY_TAIL, tail)?;
     let head: &[&[Step<'_>]] = &[
-        &[(Last, b"p"), (Prev, b"m"), (Prev, NONE), (Prev, NONE), (Next, b"p")],
+        &[
+            (Last, b"p"),
+            (Prev, b"m"),
+            (Prev, NONE),
+            (Prev, NONE),
+            (Next, b"p"),
+        ],
         &[(Seek(b"b"), b"m"), (Prev, NONE), (Next, b"p"), (Next, NONE)],
     ];
-    try_answers(alloc, &rt, "empty leaves at the beginning", &EMPTY_HEAD, head)?;
+    try_answers(
+        alloc,
+        &rt,
+        "empty leaves at the beginning",
+        &EMPTY_HEAD,
+        head,
+    )?;
     let one: &[&[Step<'_>]] = &[
-        &[(Last, b"k"), (Next, NONE), (Prev, NONE), (First, b"k"), (Prev, NONE)],
+        &[
+            (Last, b"k"),
+            (Next, NONE),
+            (Prev, NONE),
+            (First, b"k"),
+            (Prev, NONE),
+        ],
         &[(Prev, b"k"), (Next, NONE)],
         &[(Seek(b"z"), NONE), (Prev, b"k"), (Prev, NONE)],
     ];
     try_answers(alloc, &rt, "one entry", &ONE_ENTRY, one)?;
     let nothing: &[&[Step<'_>]] = &[
-        &[(Last, NONE), (First, NONE), (Next, NONE), (Prev, NONE), (Seek(b"b"), NONE), (Prev, NONE), (Next, NONE)],
+        &[
+            (Last, NONE),
+            (First, NONE),
+            (Next, NONE),
+            (Prev, NONE),
+            (Seek(b"b"), NONE),
+            (Prev, NONE),
+            (Next, NONE),
+        ],
         &[(Prev, NONE), (Seek(b""), NONE), (Last, NONE)],
     ];
     try_answers(alloc, &rt, "empty leaves alone", &NO_ENTRY, nothing)?;

@@ -1,5 +1,5 @@
 -- The nearest leaf to a key: the way down to it, and what lies ahead of the key there.
-use Rattle.std.proofs.Common.{◌≡◌, ℕ, zero, suc, ◌+◌, ◌-◌, ◌≤◌, ◌<◌, inl, inr, Bool, true, false, List, [], ◌∷◌, ◌++◌, Some, None, Option, Ok, slice_get, length, map, drop, take, refl, sym, ap, ◌∙◌, subst, arith, append_assoc, length-append, append-nil}
+use Rattle.std.proofs.Common.{◌≡◌, ℕ, suc, ◌+◌, ◌-◌, ◌≤◌, inl, inr, true, false, List, [], ◌∷◌, ◌++◌, Some, None, Option, slice_get, length, map, drop, take, refl, sym, ap, ◌∙◌, subst, arith, append_assoc, length-append, append-nil}
 use Rattle.std.specs.Option.{option_map}
 use Rattle.std.proofs.Math.Logic.{∥∥₁_elim, ∥∥₁_map, ∥∥₁_prop}
 use Rattle.std.proofs.Props.{props}
@@ -10,7 +10,6 @@ use Rattle.std.proofs.lemmas.Option.{slice_get-map}
 use Rattle.bolt_format.specs.Elements.{BranchElement, LeafElement}
 use Rattle.bolt_format.specs.declared.meta.Meta.{Meta}
 use Rattle.bolt_check.specs.Keys.{Key, KeysRise, key_lt}
-use Rattle.bolt_check.specs.OnWays.{IsOnWay}
 use Rattle.bolt_check.specs.Sound.{HasSoundTrees}
 use Rattle.bolt_check.proofs.TreePages.{branch_key, branch_node, on_child, spot_node}
 use Rattle.bolt_tree.specs.BucketViews.{BucketView}

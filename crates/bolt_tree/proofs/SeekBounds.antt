@@ -1,6 +1,6 @@
 -- A seek opens no more than the way down and the gap before the entry that it comes to: every entry on a page after the nearest leaf is not
 -- below the key, so the page of the entry before is not after that leaf.
-use Rattle.std.proofs.Common.{◌≡◌, ℕ, zero, suc, ◌+◌, ◌-◌, ◌≤◌, ◌<◌, ◌⊎◌, inl, inr, Bool, true, false, not, cond, List, [], ◌∷◌, ◌++◌, Some, None, Option, slice_get, length, refl, sym, ap, ◌∙◌, subst, arith, length-append}
+use Rattle.std.proofs.Common.{◌≡◌, ℕ, zero, suc, ◌+◌, ◌-◌, ◌≤◌, ◌<◌, inl, inr, Bool, true, false, not, cond, List, [], ◌∷◌, ◌++◌, Some, None, Option, slice_get, length, refl, sym, ap, ◌∙◌, subst, arith, length-append}
 use Rattle.std.proofs.lemmas.Bool.{cases_lt}
 use Rattle.bolt_format.specs.Elements.{BranchElement, LeafElement}
 use Rattle.bolt_format.specs.declared.kind.Kind.TheVariants as kind
@@ -11,7 +11,7 @@ use Rattle.bolt_check.specs.OnWays.{IsOnWay}
 use Rattle.bolt_check.specs.Shape.{leads}
 use Rattle.bolt_check.specs.Sound.{HasSoundTrees}
 use Rattle.bolt_check.specs.Ways.{Before}
-use Rattle.bolt_check.proofs.TreePages.{branch_step, leads_child, leaf_ends, leaf_node, node_is, on_address, on_child}
+use Rattle.bolt_check.proofs.TreePages.{branch_step, leads_child, leaf_ends, node_is, on_address, on_child}
 use Rattle.bolt_tree.specs.Private.Contents.{content_at}
 use Rattle.bolt_tree.specs.Entries.{AreEntries, Inline_page, IsEntry, IsStart, Root_page, Start}
 use Rattle.bolt_tree.specs.Openings.{HasCount, IsGap, IsHome, IsNear, IsNearFrom, IsNearest, IsPagesUpTo, IsSeekCount, IsSeekPage}

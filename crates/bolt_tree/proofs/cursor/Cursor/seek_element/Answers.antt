@@ -1,5 +1,5 @@
 use Rattle.std.proofs.Common.{Some, None}
-use Rattle.bolt_tree.specs.Cursors.{cursor_checked, cursor_opened, cursor_place, cursor_start}
+use Rattle.bolt_tree.specs.Cursors.{cursor_checked, cursor_place, cursor_start}
 use Rattle.bolt_tree.specs.Private.Trails.{trail_bucket, trail_frames}
 use Rattle.bolt_tree.proofs.HeldLemmas.{held_bucket, moves_seek}
 use Rattle.bolt_tree.proofs.TrailLemmas.{same_bucket}

@@ -1,5 +1,5 @@
 -- The entries ahead stay the same until one is taken, and each page that is opened is the next to the right.
-use Rattle.std.proofs.Common.{◌≡◌, ◌∷◌, ◌∙◌, ◌<◌, ◌+◌, ◌-◌, ◌*◌, ℕ, false, length, sym, ap, arith, refl}
+use Rattle.std.proofs.Common.{◌≡◌, ◌∙◌, ◌<◌, ◌+◌, ◌-◌, ◌*◌, ℕ, false, length, sym, ap, arith, refl}
 use Rattle.bolt_format.specs.ElementPlaces.{leaf_view}
 use Rattle.bolt_tree.specs.Private.BucketPages.{contents_in}
 use Rattle.bolt_tree.specs.Pagers.{counted, pager_opened}

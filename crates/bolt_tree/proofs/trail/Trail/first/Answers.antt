@@ -1,4 +1,4 @@
-use Rattle.std.proofs.Common.{◌≡◌, [], ◌∙◌, ◌+◌, ◌-◌, suc, ℕ, length, refl, sym, ap, arith}
+use Rattle.std.proofs.Common.{◌≡◌, [], ◌∙◌, ◌+◌, ◌-◌, suc, ℕ, length, sym, ap, arith}
 use Rattle.bolt_tree.specs.Private.BucketPages.{elements_in, pages_in}
 use Rattle.bolt_tree.specs.Pagers.{counted, pager_opened}
 use Rattle.bolt_tree.specs.Private.Trails.{ahead, right, trail_bucket, trail_frames}

@@ -1,5 +1,5 @@
 -- The entries behind stay the same until one is taken.
-use Rattle.std.proofs.Common.{◌≡◌, ◌∷◌, ◌∙◌, ◌<◌, ◌+◌, ◌-◌, ◌*◌, true, length, sym, arith}
+use Rattle.std.proofs.Common.{◌≡◌, ◌∙◌, ◌<◌, ◌+◌, ◌-◌, ◌*◌, true, length, sym, arith}
 use Rattle.bolt_format.specs.ElementPlaces.{leaf_view}
 use Rattle.bolt_tree.specs.Private.BucketPages.{contents_in}
 use Rattle.bolt_tree.specs.Private.ShownPages.{opened_content}

@@ -1,0 +1,48 @@
+#!/usr/bin/env python3
+"""Times commands of `luntsegi` on a sound file, for `make bench`.
+
+    time_commands.py PROGRAM FILE COMMAND..
+
+Prints the seconds that each command took, and the most memory that one took. The status is 1 where
+a command fails or takes 2 seconds or more, or where one takes more memory than the file, a byte for
+each page of it, and 16 MiB.
+"""
+
+import os
+import resource
+import subprocess
+import sys
+import time
+
+PAGE_SIZE = 4096
+SECONDS = 2.0
+ROOM = 16 * 2**20
+
+
+def timed(words):
+    """The status of a command and the seconds that it took."""
+    begin = time.perf_counter()
+    status = subprocess.run(words, stdout=subprocess.DEVNULL).returncode
+    return status, time.perf_counter() - begin
+
+
+def peak_memory():
+    """The most memory in bytes that a command took so far."""
+    return resource.getrusage(resource.RUSAGE_CHILDREN).ru_maxrss * 1024
+
+
+def main():
+    program, file, *commands = sys.argv[1:]
+    length = os.path.getsize(file)
+    most = length + length // PAGE_SIZE + ROOM
+    good = True
+    for command in commands:
+        status, seconds = timed([program, command, file])
+        peak = peak_memory()
+        print(f"{command}: status {status}, {seconds:.2f} s of {SECONDS:.2f}, at most {peak} bytes of {most}")
+        good = good and status == 0 and seconds < SECONDS and peak <= most
+    sys.exit(0 if good else 1)
+
+
+if __name__ == "__main__":
+    main()
