@@ -1,12 +1,11 @@
 -- The text of a listing, put one member after another: what was put, and then the text of what is left.
 -- Rests on one text after another on a sink.
-use Rattle.std.proofs.Common.{◌≡◌, ◌∙◌, ◌<◌, ℕ, List, [], ◌∷◌, ◌++◌, Bor, Option, Some, Result, Ok, Err, flat_map, map, refl, sym, ap, subst, append-nil, append_assoc}
+use Rattle.std.proofs.Common.{◌≡◌, ◌∙◌, ℕ, List, [], ◌∷◌, ◌++◌, Bor, Option, Result, Ok, Err, flat_map, sym, ap, subst, append-nil, append_assoc}
 use Rattle.std.specs.Prelude.{⊤, IsErr}
-use Rattle.std.specs.List.{join_with_byte}
 use Rattle.hex.specs.Hex.{encode_lower}
 use Rattle.bolt_format.specs.Writes.{Writes}
 use Rattle.bolt_format.specs.declared.sink.SinkFault.{SinkFault}
-use Rattle.bolt_format.proofs.WriteLemmas.{Writes-none, Writes-same, Writes-stop, Writes-then}
+use Rattle.bolt_format.proofs.WriteLemmas.{Writes-same, Writes-stop, Writes-then}
 use Rattle.bolt_check.specs.CheckedFiles.{bytes_of, meta_of}
 use Rattle.bolt_check.specs.declared.checked_file.Checked.{Checked}
 use Rattle.bolt_tree.specs.Entries.{Item}

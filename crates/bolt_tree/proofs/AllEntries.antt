@@ -12,10 +12,9 @@ use Rattle.bolt_tree.specs.BucketViews.{entries_of}
 use Rattle.bolt_tree.specs.Entries.{AreEntries, IsEntry, IsStart, Root_page, Start}
 use Rattle.bolt_tree.specs.FileListings.{root_of}
 use Rattle.bolt_tree.specs.Paths.{HasEntries}
-use Rattle.bolt_tree.specs.Starts.{HasStart}
 use Rattle.bolt_tree.specs.Private.Tours.{elements_of, pages_at}
 use Rattle.bolt_tree.proofs.SortedLemmas.{sorted}
-use Rattle.bolt_tree.proofs.BucketWays.{root_starts, starts_below, starts_named}
+use Rattle.bolt_tree.proofs.BucketWays.{root_starts, starts_named}
 
 pub sorted_at : (file : List ℕ) (meta : Meta) → HasSoundTrees file meta → (start : Start) → IsStart file meta start → (entries : List LeafElement) × AreEntries (IsEntry file meta) start entries
 sorted_at file meta sound start is = (elements_of (pages_at file meta start), sorted file meta sound start is)

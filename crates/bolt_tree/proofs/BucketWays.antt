@@ -1,22 +1,18 @@
 -- Ways from bucket to bucket: an address inside a bucket is a way, and so is a bucket among its entries. So each bucket that a path
 -- names begins where a bucket of the tree does.
-use Rattle.std.proofs.Common.{◌≡◌, ◌∙◌, ◌⊎◌, ◌≤◌, ◌<◌, inl, inr, Bool, true, false, not, IsTrue, ℕ, zero, suc, eqb, eq-eqb, eqb-true, List, [], ◌∷◌, ◌++◌, length, map, filter, cond, Option, Some, None, Result, Ok, Err, slice_get, refl, sym, ap, subst, arith, append_assoc}
+use Rattle.std.proofs.Common.{◌≡◌, ◌∙◌, inl, inr, Bool, true, false, IsTrue, ℕ, suc, eqb, eqb-true, List, [], ◌∷◌, ◌++◌, map, Option, Some, Result, Ok, slice_get, refl, sym, ap, subst}
 use Rattle.std.specs.List.{Contains}
-use Rattle.std.proofs.lemmas.Bool.{cases_lt}
-use Rattle.bolt_format.specs.Elements.{LeafElement, head_root, head_sequence, inline_elements}
-use Rattle.bolt_format.specs.Pages.{PageView, page_at, page_fault}
+use Rattle.bolt_format.specs.Elements.{LeafElement, head_root, inline_elements}
 use Rattle.bolt_format.specs.declared.meta.Meta.{Meta}
-use Rattle.bolt_format.specs.declared.kind.Kind.{Kind}
-use Rattle.bolt_format.specs.declared.kind.Kind.TheVariants as kind
-use Rattle.bolt_check.specs.Nodes.{Entry, Node, Nodes, leaf_entry, node_at, node_of, node_seen}
-use Rattle.bolt_check.specs.Shape.{HasShape, child_in, child_of, leads}
+use Rattle.bolt_check.specs.Nodes.{Entry, Node, Nodes, leaf_entry, node_at}
+use Rattle.bolt_check.specs.Shape.{leads}
 use Rattle.bolt_check.specs.Ways.{At_inline, At_page, PageSpot, Spot, SpanHas, child_spot, follow, reached, spot_of, start_of as page_start, step_at, step_entry, step_on, upper_from}
 use Rattle.bolt_tree.specs.Entries.{Inline_page, IsEntry, IsStart, Root_page, ShowsEntry, Start, start_of}
 use Rattle.bolt_check.specs.OnWays.{IsOnWay}
 use Rattle.bolt_check.proofs.WayFacts.{follow_append, leads_follow, leaf_node}
 use Rattle.bolt_format.proofs.PageFacts.{bucket_value, flat_inline}
 use Rattle.bolt_tree.specs.Paths.{Names, Path}
-use Rattle.bolt_tree.proofs.Lists.{contains_cases, contains_head, contains_none, contains_tail}
+use Rattle.bolt_tree.proofs.Lists.{contains_cases, contains_none}
 
 -- an element has its place among the entries
 pub place_of : (leaves : List LeafElement) (e : LeafElement) → Contains leaves e → (i : ℕ) × (slice_get (map leaf_entry leaves) i ≡ Some (leaf_entry e))

@@ -1,9 +1,9 @@
 -- What a cursor's move says of the entry that it comes to.
-use Rattle.std.proofs.Common.{◌≡◌, ◌∙◌, ◌≤◌, ◌<◌, ◌+◌, Bool, true, false, ℕ, zero, suc, List, [], ◌∷◌, length, Option, Some, None, MatchOption, cond, nat_lt, slice_get, refl, sym, ap, subst, arith, ◌⊎◌, inl, inr}
+use Rattle.std.proofs.Common.{◌≡◌, ◌∙◌, ◌≤◌, ◌<◌, Bool, true, false, ℕ, zero, suc, List, [], ◌∷◌, length, Option, Some, None, MatchOption, cond, nat_lt, slice_get, refl, sym, ap, arith}
 use Rattle.std.proofs.lemmas.Bool.Decides.{nat_tests}
 use Rattle.bolt_format.specs.Elements.{LeafElement}
 use Rattle.bolt_check.specs.Keys.{Key}
-use Rattle.bolt_tree.specs.Places.{Fresh, Move, On, Past, Place, first_move, least_from, next_move, nothing_at, onto, place_in, seek_move}
+use Rattle.bolt_tree.specs.Places.{On, Past, Place, first_move, least_from, next_move, nothing_at, onto, place_in, seek_move}
 
 pub none_past : (entries : List LeafElement) (i : ℕ) → None ≡ slice_get entries i → length entries ≤ i
 none_past [] i e = omega arith

@@ -1,17 +1,16 @@
 -- Entries in order: which come first, next and last, and where a key stands among them.
 -- Over a list of elements whose keys rise.
-use Rattle.std.proofs.Common.{◌≡◌, ◌∙◌, ◌⊎◌, ◌<◌, ◌≤◌, ◌+◌, inl, inr, Bool, true, false, ℕ, zero, suc, List, [], ◌∷◌, length, cond, not, nat_lt, Option, Some, None, slice_get, refl, sym, ap, subst, arith}
-use Rattle.std.specs.List.{Contains, position_or_len}
+use Rattle.std.proofs.Common.{◌≡◌, ◌∙◌, ◌⊎◌, ◌≤◌, ◌+◌, inl, inr, Bool, true, false, ℕ, zero, suc, List, [], ◌∷◌, length, cond, not, Some, None, slice_get, refl, sym, ap, subst, arith}
+use Rattle.std.specs.List.{Contains}
 use Rattle.std.specs.Ordering.{is_lt}
-use Rattle.std.specs.declared.cmp.Ordering.{Ordering}
-use Rattle.std.specs.declared.cmp.Ordering.TheVariants.{Less, Equal, Greater}
+use Rattle.std.specs.declared.cmp.Ordering.TheVariants.{Less}
 use Rattle.bolt_format.specs.Elements.{LeafElement}
 use Rattle.bolt_check.specs.Keys.{Key, key_cmp}
 use Rattle.bolt_tree.specs.Entries.{entry_cmp}
 use Rattle.bolt_tree.specs.Order.{IsBelow, Rises}
 use Rattle.bolt_tree.specs.Places.{least_from}
 use Rattle.bolt_tree.proofs.Lists.{asymmetric, contains_cases, contains_head, contains_none, contains_tail, irreflexive}
-use Rattle.bolt_tree.proofs.PathOrder.{flip_less, key_same, key_total, less_lt}
+use Rattle.bolt_tree.proofs.PathOrder.{flip_less, key_same, key_total}
 
 pub not_behind : (a b : Key) → key_cmp a b ≡ Less → is_lt (key_cmp b a) ≡ false
 not_behind a b e = ap is_lt (flip_less key_total a b e)

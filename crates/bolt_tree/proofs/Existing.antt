@@ -1,8 +1,6 @@
 -- A file with sound trees has a listing, which is that of its tree.
 -- Rests on the tree of the root bucket (Nesting) and on what trees list (TreeListing).
 use Rattle.std.proofs.Common.{◌≡◌, ◌∙◌, ◌<◌, ap, ℕ, List, Some, sym}
-use Rattle.bolt_format.specs.Elements.{LeafElement}
-use Rattle.bolt_format.specs.Pages.{page_at}
 use Rattle.bolt_format.specs.declared.meta.Meta.{Meta}
 use Rattle.bolt_format.proofs.PageFacts.{below_mark}
 use Rattle.bolt_check.specs.Nodes.{node_at}

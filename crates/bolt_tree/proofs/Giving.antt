@@ -1,21 +1,21 @@
 -- Which member of a listing comes next, where a bucket is entered, its cursor moves on, or it has ended.
 -- Rests on the order of paths, and on what a named bucket holds (Named).
-use Rattle.std.proofs.Common.{◌≡◌, ◌∙◌, ◌⊎◌, ◌≤◌, inl, inr, Bool, true, false, not, ℕ, zero, suc, IsTrue, List, [], ◌∷◌, ◌++◌, length, filter, Option, Some, None, slice_get, refl, sym, ap, subst, append_assoc, append-nil}
+use Rattle.std.proofs.Common.{◌≡◌, ◌∙◌, ◌⊎◌, ◌≤◌, inl, inr, Bool, true, false, not, ℕ, suc, List, [], ◌∷◌, ◌++◌, length, filter, Some, slice_get, refl, sym, ap, subst, append-nil}
 use Rattle.std.specs.List.{Contains}
 use Rattle.std.specs.Ordering.{is_lt}
 use Rattle.std.specs.declared.cmp.Ordering.{Ordering}
 use Rattle.std.specs.declared.cmp.Ordering.TheVariants.{Less, Equal, Greater}
 use Rattle.bolt_format.specs.Elements.{LeafElement}
 use Rattle.bolt_check.specs.Keys.{Key, key_cmp}
-use Rattle.bolt_tree.specs.Entries.{AreEntries, Item, Start, entry_cmp, item_of, start_of}
-use Rattle.bolt_tree.specs.Listing.{Lists, Member, member_cmp, rest_from}
+use Rattle.bolt_tree.specs.Entries.{AreEntries, Item, Start, item_of}
+use Rattle.bolt_tree.specs.Listing.{Lists, Member, rest_from}
 use Rattle.bolt_tree.specs.Paths.{HasEntries, Holds, Names, Path, path_cmp}
 use Rattle.bolt_tree.specs.Private.Behind.{is_beyond, behind, beyond}
 use Rattle.bolt_tree.proofs.EntryOrder.{contains_at, first_least, last_greatest, next_least, next_less}
-use Rattle.bolt_tree.proofs.Filters.{filter_first, filter_none, filter_same, lt_of, not_true, same_bool}
+use Rattle.bolt_tree.proofs.Filters.{filter_first, filter_same, lt_of, not_true, same_bool}
 use Rattle.bolt_tree.proofs.Lists.{contains_none, irreflexive}
 use Rattle.bolt_tree.proofs.Named.{first_of_held, held_below, held_down, held_here}
-use Rattle.bolt_tree.proofs.PathOrder.{before_longer, beyond_here, beyond_less, beyond_longer, beyond_or_longer, beyond_push, beyond_up, flip_less, key_exact, less_lt, path_same, path_total, same_front}
+use Rattle.bolt_tree.proofs.PathOrder.{before_longer, beyond_here, beyond_less, beyond_longer, beyond_or_longer, beyond_push, beyond_up, flip_less, less_lt, path_same, path_total, same_front}
 use Rattle.bolt_tree.proofs.Single.{member_total}
 
 -- a path is not behind another with a part in the same place that is not behind its own

@@ -1,7 +1,7 @@
 -- A loop over a cursor: each call takes the first of the entries that are left, and there are fewer left then.
 -- Rests on that the entries of a bucket in order exist, and are one.
-use Rattle.std.proofs.Common.{◌≡◌, ◌∙◌, ◌<◌, ◌≤◌, Bool, true, false, ℕ, zero, suc, List, [], ◌∷◌, length, drop, cond, nat_lt, Option, Some, None, MatchOption, slice_get, refl, sym, ap, subst, add-one, arith}
-use Rattle.std.proofs.Math.Logic.{∥∥₁_elim, ∥∥₁_map, ∥∥₁_prop}
+use Rattle.std.proofs.Common.{◌≡◌, ◌∙◌, ◌<◌, Bool, true, false, ℕ, suc, List, [], ◌∷◌, length, drop, cond, nat_lt, Option, Some, None, slice_get, refl, sym, ap, subst, add-one, arith}
+use Rattle.std.proofs.Math.Logic.{∥∥₁_elim, ∥∥₁_prop}
 use Rattle.std.proofs.Props.{props}
 use Rattle.std.specs.Option.{option_map}
 use Rattle.std.proofs.lemmas.List.{drop_all}

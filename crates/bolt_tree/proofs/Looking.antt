@@ -1,5 +1,5 @@
 -- What a seek says of a bucket's entry with a key.
-use Rattle.std.proofs.Common.{◌≡◌, ◌∙◌, Bool, true, false, IsTrue, List, [], ◌∷◌, ◌++◌, Option, Some, None, slice_get, refl, sym, ap, subst}
+use Rattle.std.proofs.Common.{◌≡◌, ◌∙◌, true, false, List, Option, Some, None, refl, sym, ap, subst}
 use Rattle.std.proofs.Math.Logic.{∥∥₁_elim, ∥∥₁_map, ∥∥₁_prop}
 use Rattle.std.proofs.Props.{props}
 use Rattle.std.specs.Ordering.{is_lt}
@@ -14,7 +14,7 @@ use Rattle.bolt_tree.specs.Starts.{HasStart}
 use Rattle.bolt_check.proofs.CheckedLemmas.{with_trees}
 use Rattle.bolt_tree.proofs.AllEntries.{sorted_at}
 use Rattle.bolt_tree.proofs.BucketWays.{starts_below}
-use Rattle.bolt_tree.specs.Places.{Moves, Place, least_from, seek_move}
+use Rattle.bolt_tree.specs.Places.{Moves, least_from, seek_move}
 use Rattle.bolt_tree.specs.declared.cursor.Cursor.{Cursor}
 use Rattle.bolt_tree.proofs.Coming.{neither}
 use Rattle.bolt_tree.proofs.CursorMoves.{comes_from}

@@ -4,17 +4,14 @@ use Rattle.std.proofs.Common.{◌≡◌, ◌∙◌, ◌⊎◌, ◌≤◌, ◌<�
 use Rattle.std.specs.List.{Contains}
 use Rattle.std.proofs.lemmas.Bool.{cases_lt}
 use Rattle.bolt_format.specs.Elements.{LeafElement, head_root, head_sequence, inline_elements}
-use Rattle.bolt_format.specs.Pages.{PageView, page_at, page_fault}
 use Rattle.bolt_format.specs.declared.meta.Meta.{Meta}
-use Rattle.bolt_format.specs.declared.kind.Kind.{Kind}
-use Rattle.bolt_format.specs.declared.kind.Kind.TheVariants as kind
-use Rattle.bolt_check.specs.Nodes.{Entry, Node, Nodes, leaf_entry, node_at, node_of, node_seen}
-use Rattle.bolt_check.specs.Shape.{HasShape, child_in, child_of, leads}
-use Rattle.bolt_check.specs.Ways.{At_inline, At_page, PageSpot, Spot, SpanHas, child_spot, follow, reached, spot_of, start_of as page_start, step_at, step_entry, step_on, upper_from}
-use Rattle.bolt_tree.specs.Entries.{AreEntries, Inline_page, IsEntry, Root_page, ShowsEntry, Start, entry_cmp, start_of}
-use Rattle.bolt_tree.specs.Paths.{HasEntries, Names}
+use Rattle.bolt_check.specs.Nodes.{node_at}
+use Rattle.bolt_check.specs.Shape.{HasShape}
+use Rattle.bolt_check.specs.Ways.{At_page, PageSpot, Spot, follow, reached, start_of as page_start}
+use Rattle.bolt_tree.specs.Entries.{Inline_page, IsEntry, Root_page, ShowsEntry, Start, start_of}
+use Rattle.bolt_tree.specs.Paths.{HasEntries}
 use Rattle.bolt_tree.specs.Tree.{IsTreeOf, Shows, Tree, end, with_bucket, with_value}
-use Rattle.bolt_tree.proofs.Lists.{contains_cases, contains_head, contains_none, contains_tail}
+use Rattle.bolt_tree.proofs.Lists.{contains_head, contains_tail}
 use Rattle.bolt_tree.proofs.Named.{entries_below}
 use Rattle.bolt_check.proofs.WayFacts.{follow_append, one_way}
 use Rattle.bolt_tree.proofs.BucketWays.{IsFlat, at_root, bucket_way, in_itself}

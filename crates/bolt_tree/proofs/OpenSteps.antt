@@ -1,21 +1,20 @@
 -- How open buckets changes: a cursor is taken off and put on again.
-use Rattle.std.proofs.Common.{◌≡◌, ◌∙◌, ◌≤◌, ◌<◌, ◌-◌, Bool, true, false, ℕ, zero, suc, IsTrue, List, [], ◌∷◌, ◌++◌, length, map, take, Option, Some, None, MatchOption, slice_get, refl, sym, ap, subst, arith, append_assoc, append-nil, Bor}
-use Rattle.std.specs.Option.{option_map, option_to_list}
-use Rattle.std.proofs.Math.Logic.{∥∥₁_elim, ∥∥₁_map}
+use Rattle.std.proofs.Common.{◌≡◌, ◌∙◌, ◌-◌, ℕ, suc, List, [], ◌∷◌, ◌++◌, take, Option, Some, None, MatchOption, refl, sym, ap, subst, append_assoc, append-nil, Bor}
+use Rattle.std.specs.Option.{option_to_list}
 use Rattle.bolt_format.specs.Elements.{LeafElement}
 use Rattle.bolt_check.specs.Keys.{Key}
 use Rattle.bolt_check.specs.declared.checked_file.Checked.{Checked}
 use Rattle.bolt_tree.specs.BucketViews.{entries_of}
 use Rattle.bolt_tree.specs.FileListings.{root_of}
 use Rattle.bolt_tree.specs.Cursors.{cursor_checked, cursor_place, cursor_start}
-use Rattle.bolt_tree.specs.Entries.{AreEntries, Item, Start, item_of}
+use Rattle.bolt_tree.specs.Entries.{AreEntries, Start, item_of}
 use Rattle.bolt_tree.specs.Listing.{Lists, Member}
 use Rattle.bolt_tree.specs.Paths.{HasEntries, Names, Path, path_of}
-use Rattle.bolt_tree.specs.Places.{Moves, On, Place, next_move}
+use Rattle.bolt_tree.specs.Places.{Moves, next_move}
 use Rattle.bolt_tree.specs.Private.OpenBuckets.{AreOpen, StandsOn}
 use Rattle.bolt_tree.specs.Private.Behind.{behind, beyond}
 use Rattle.bolt_tree.specs.declared.cursor.Cursor.{Cursor}
-use Rattle.bolt_tree.proofs.CursorMoves.{comes_next, comes_first}
+use Rattle.bolt_tree.proofs.CursorMoves.{comes_next}
 use Rattle.bolt_tree.proofs.EntryOrder.{contains_at}
 use Rattle.bolt_tree.proofs.Giving.{give_after_last, give_next}
 

@@ -1,9 +1,8 @@
 -- The parts of a path that were sought, and those that are left.
-use Rattle.std.proofs.Common.{◌≡◌, ◌∙◌, ◌+◌, ◌<◌, ◌≤◌, Bool, true, false, ℕ, zero, suc, List, [], ◌∷◌, ◌++◌, length, take, drop, get_or, eqb, eq-eqb, refl, sym, ap, subst, arith, Bor}
+use Rattle.std.proofs.Common.{◌≡◌, ◌∙◌, ◌+◌, ◌<◌, ◌≤◌, false, ℕ, zero, suc, List, [], ◌∷◌, ◌++◌, length, take, drop, get_or, eqb, eq-eqb, refl, sym, ap, arith, Bor}
 use Rattle.std.proofs.Math.Logic.{∥∥₁_elim}
 use Rattle.std.proofs.Props.{props}
 use Rattle.std.proofs.lemmas.Bool.Decides.{nat_tests}
-use Rattle.bolt_check.specs.Keys.{Key}
 use Rattle.bolt_check.specs.declared.checked_file.Checked.{Checked}
 use Rattle.bolt_tree.specs.BucketViews.{entries_of}
 use Rattle.bolt_tree.specs.FileListings.{root_of}

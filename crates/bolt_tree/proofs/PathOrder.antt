@@ -1,12 +1,12 @@
 -- The order of paths, part by part: what stands behind a path, and where.
 -- Rests on the order of keys, which is total, and in which only equal keys are tied.
-use Rattle.std.proofs.Common.{◌≡◌, ◌∙◌, ◌⊎◌, inl, inr, Bool, true, false, List, [], ◌∷◌, ◌++◌, refl, sym, ap, subst, ℕ}
+use Rattle.std.proofs.Common.{◌≡◌, ◌∙◌, ◌⊎◌, inl, inr, Bool, true, false, List, [], ◌∷◌, ◌++◌, refl, sym, ap, ℕ}
 use Rattle.std.specs.Cmp.{IsTotalOrder}
 use Rattle.std.specs.Cmp.Lexicographic.{slice_cmp}
 use Rattle.std.specs.Ordering.{is_lt, nat_cmp, ordering_then, ordering_reverse}
 use Rattle.std.specs.declared.cmp.Ordering.{Ordering}
 use Rattle.std.specs.declared.cmp.Ordering.TheVariants.{Less, Equal, Greater}
-use Rattle.std.proofs.lemmas.Cmp.{alike_right, lists_total, nat_list_cmp_total, ranked, tied_itself}
+use Rattle.std.proofs.lemmas.Cmp.{lists_total, nat_list_cmp_total, ranked, tied_itself}
 use Rattle.bolt_check.specs.Keys.{Key, key_cmp}
 use Rattle.bolt_tree.specs.Paths.{Path, path_cmp}
 use Rattle.bolt_tree.specs.Private.Behind.{by_first, is_beyond}

@@ -1,23 +1,22 @@
 -- The rest of a listing from a path, as one looks for the path part by part: where a bucket has no entry from a part on, a greater one, or a value.
 -- Rests on the order of paths, and on what a named bucket holds (Named).
-use Rattle.std.proofs.Common.{◌≡◌, ◌∙◌, ◌⊎◌, ◌≤◌, inl, inr, Bool, true, false, not, ℕ, zero, suc, IsTrue, List, [], ◌∷◌, ◌++◌, length, filter, Option, Some, None, slice_get, refl, sym, ap, subst, append_assoc, append-nil}
+use Rattle.std.proofs.Common.{◌≡◌, ◌∙◌, ◌≤◌, inl, inr, Bool, true, false, not, List, [], ◌∷◌, ◌++◌, length, Some, slice_get, refl, ap, subst}
 use Rattle.std.specs.List.{Contains}
 use Rattle.std.specs.Ordering.{is_lt, ordering_then}
 use Rattle.std.specs.declared.cmp.Ordering.{Ordering}
 use Rattle.std.specs.declared.cmp.Ordering.TheVariants.{Less, Equal, Greater}
 use Rattle.bolt_format.specs.Elements.{LeafElement}
 use Rattle.bolt_check.specs.Keys.{Key, key_cmp}
-use Rattle.bolt_tree.specs.Entries.{AreEntries, Item, Start, entry_cmp, item_of, start_of}
-use Rattle.bolt_tree.specs.Listing.{Lists, Member, member_cmp, rest_from}
+use Rattle.bolt_tree.specs.Entries.{AreEntries, Item, Start}
+use Rattle.bolt_tree.specs.Listing.{Lists, Member, rest_from}
 use Rattle.bolt_tree.specs.Paths.{HasEntries, Holds, Names, Path, path_cmp}
 use Rattle.bolt_tree.specs.Places.{least_from}
 use Rattle.bolt_tree.specs.Private.Behind.{is_beyond, behind, beyond}
-use Rattle.bolt_tree.proofs.EntryOrder.{contains_at, seek_least, seek_none}
-use Rattle.bolt_tree.proofs.Filters.{filter_all, filter_same, lt_of, not_true, same_bool}
+use Rattle.bolt_tree.proofs.EntryOrder.{seek_least, seek_none}
+use Rattle.bolt_tree.proofs.Filters.{filter_all, filter_same, not_true, same_bool}
 use Rattle.bolt_tree.proofs.Giving.{not_before, not_before_beyond}
-use Rattle.bolt_tree.proofs.Lists.{irreflexive}
 use Rattle.bolt_tree.proofs.Named.{first_of_held, held_below, held_down}
-use Rattle.bolt_tree.proofs.PathOrder.{before_longer, beyond_less, beyond_or_longer, flip_less, key_exact, key_total, less_lt, path_exact, path_total, same_front}
+use Rattle.bolt_tree.proofs.PathOrder.{before_longer, beyond_less, beyond_or_longer, flip_less, less_lt, path_exact, path_total, same_front}
 
 -- from p < w and not m < w
 behind_from : (p w m : Path) → path_cmp p w ≡ Less → is_lt (path_cmp m w) ≡ false → path_cmp p m ≡ Less

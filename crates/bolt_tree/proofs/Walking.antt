@@ -1,26 +1,23 @@
 -- What is known of a walk's buckets and of what it does next.
-use Rattle.std.proofs.Common.{◌≡◌, ◌∙◌, IsTrue, List, [], ◌∷◌, ◌++◌, refl, sym, ap, subst}
+use Rattle.std.proofs.Common.{◌≡◌, ◌∙◌, List, [], ◌∷◌, ◌++◌, sym, ap, subst}
 use Rattle.std.proofs.Math.Logic.{∥∥₁_elim, ∥∥₁_map, ∥∥₁_prop}
 use Rattle.std.proofs.Props.{props}
-use Rattle.bolt_format.specs.Elements.{IsBucketValue}
 use Rattle.bolt_format.specs.ElementPlaces.{leaf_view}
-use Rattle.bolt_check.specs.CheckedFiles.{bytes_of, meta_of}
 use Rattle.bolt_check.specs.declared.checked_file.Checked.{Checked}
 use Rattle.bolt_tree.specs.Buckets.{bucket_checked, bucket_start}
 use Rattle.bolt_tree.specs.BucketViews.{entries_of}
 use Rattle.bolt_tree.specs.FileListings.{root_of}
-use Rattle.bolt_tree.specs.Entries.{Start, item_of}
+use Rattle.bolt_tree.specs.Entries.{Start}
 use Rattle.bolt_tree.specs.Listing.{Lists, Member}
 use Rattle.bolt_tree.specs.Paths.{HasEntries, Names, Path, path_of}
-use Rattle.bolt_tree.specs.Private.OpenBuckets.{AreOpen, IsAhead, IsNamed, IsAt, IsInPlace, open_path}
-use Rattle.bolt_tree.specs.Private.Behind.{behind, beyond}
+use Rattle.bolt_tree.specs.Private.OpenBuckets.{AreOpen, IsAhead, IsInPlace, open_path}
+use Rattle.bolt_tree.specs.Private.Behind.{behind}
 use Rattle.bolt_tree.specs.declared.bucket.Bucket.{Bucket}
 use Rattle.bolt_tree.specs.declared.cursor.Cursor.{Cursor}
 use Rattle.bolt_tree.specs.declared.open_buckets.Ahead.{Ahead}
 use Rattle.bolt_tree.specs.declared.open_buckets.Ahead.TheVariants.{Enter, Give, Leave}
 use Rattle.bolt_tree.specs.declared.open_buckets.OpenBuckets.{OpenBuckets}
 use Rattle.bolt_tree.proofs.AllEntries.{checked_entries}
-use Rattle.bolt_tree.proofs.Entering.{leads_in}
 use Rattle.bolt_tree.proofs.Seeking.{behind_all}
 
 pub ahead_prop : (buckets : OpenBuckets) (ahead : Ahead) → IsProp (IsAhead buckets ahead)

@@ -1,6 +1,6 @@
 -- What a bucket has under a key: docs/LISTING.md, "A key in a bucket".
 -- Over any relation that says which elements a bucket has.
-use Rattle.std.specs.Prelude.{◌≡◌, ℕ, Bool, false, IsTrue, List, Option, Some, None}
+use Rattle.std.specs.Prelude.{◌≡◌, ℕ, false, IsTrue, List, Option, Some, None}
 use Rattle.bolt_format.specs.Elements.{LeafElement, head_sequence}
 use Rattle.bolt_check.specs.Keys.{Key}
 use Rattle.bolt_tree.specs.Buckets.{bucket_sequence, bucket_start}

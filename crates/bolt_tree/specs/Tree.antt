@@ -1,8 +1,7 @@
 -- A tree of buckets as data, apart from pages, and what it lists: docs/LISTING.md, "The listing".
 -- It shows the sorted entries of a bucket, and of each bucket among them; and it is read off its listing.
-use Rattle.std.specs.Prelude.{◌≡◌, ℕ, Bool, true, false, List, [], ◌∷◌, ◌++◌}
+use Rattle.std.specs.Prelude.{◌≡◌, ℕ, true, false, List, [], ◌∷◌, ◌++◌}
 use Rattle.bolt_format.specs.Elements.{LeafElement, head_sequence}
-use Rattle.bolt_check.specs.Keys.{Key}
 use Rattle.bolt_tree.specs.Entries.{AreEntries, Bucket, Item, Start, Value, start_of}
 use Rattle.bolt_tree.specs.Listing.{Member}
 use Rattle.bolt_tree.specs.Paths.{Path}

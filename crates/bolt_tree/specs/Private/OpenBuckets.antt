@@ -1,11 +1,9 @@
 -- The open buckets of a walk: docs/LISTING.md, "The walk".
 -- A cursor for each, and the keys on which they stand: the path of what comes next, or came last.
-use Rattle.std.specs.Prelude.{◌≡◌, ℕ, Bool, true, false, IsTrue, List, [], ◌∷◌, ◌++◌, map, Some, slice_get}
-use Rattle.std.specs.Borrow.{Bor}
+use Rattle.std.specs.Prelude.{◌≡◌, ℕ, Bool, true, false, IsTrue, List, [], ◌∷◌, ◌++◌, Some, slice_get}
 use Rattle.bolt_format.specs.Elements.{IsBucketValue, LeafElement}
 use Rattle.bolt_format.specs.ElementPlaces.{leaf_view}
 use Rattle.bolt_format.specs.declared.element.Leaf.{Leaf}
-use Rattle.bolt_check.specs.CheckedFiles.{bytes_of, meta_of}
 use Rattle.bolt_check.specs.Keys.{Key}
 use Rattle.bolt_check.specs.declared.checked_file.Checked.{Checked}
 use Rattle.bolt_tree.specs.Buckets.{bucket_checked, bucket_start}
@@ -13,7 +11,7 @@ use Rattle.bolt_tree.specs.BucketViews.{entries_of}
 use Rattle.bolt_tree.specs.FileListings.{ForListing, root_of}
 use Rattle.bolt_tree.specs.Cursors.{cursor_checked, cursor_place, cursor_start}
 use Rattle.bolt_tree.specs.Entries.{AreEntries, Start}
-use Rattle.bolt_tree.specs.Listing.{IsListing, Member, rest_from}
+use Rattle.bolt_tree.specs.Listing.{Member, rest_from}
 use Rattle.bolt_tree.specs.Paths.{HasEntries, Names, Path, path_of}
 use Rattle.bolt_tree.specs.Places.{On}
 use Rattle.bolt_tree.specs.Private.Behind.{behind, beyond}

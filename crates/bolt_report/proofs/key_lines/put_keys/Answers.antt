@@ -1,5 +1,4 @@
-use Rattle.std.proofs.Common.{◌≡◌, ◌∙◌, ◌++◌, [], ℕ, List, Some, ap, flat_map, sym}
-use Rattle.bolt_format.specs.Elements.{LeafElement}
+use Rattle.std.proofs.Common.{◌∙◌, ◌++◌, [], ℕ, List, Some, ap, flat_map, sym}
 use Rattle.bolt_format.proofs.WriteLemmas.{Writes-none}
 use Rattle.bolt_tree.specs.Buckets.{bucket_checked, bucket_start}
 use Rattle.bolt_tree.specs.Cursors.{cursor_checked, cursor_place, cursor_start}

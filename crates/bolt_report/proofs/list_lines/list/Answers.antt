@@ -1,4 +1,4 @@
-use Rattle.std.proofs.Common.{◌≡◌, List, ap, subst}
+use Rattle.std.proofs.Common.{List, subst}
 use Rattle.bolt_tree.specs.Listing.{Member}
 use Rattle.bolt_report.specs.ListLines.{listing_text}
 use Rattle.bolt_report.specs.Reports.{Reports}

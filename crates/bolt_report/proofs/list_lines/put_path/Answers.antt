@@ -1,6 +1,6 @@
-use Rattle.std.proofs.Common.{◌≡◌, ◌∙◌, ◌∷◌, Bor, List, ℕ, ap, flat_map, sym}
+use Rattle.std.proofs.Common.{◌∙◌, ◌∷◌, Bor, List, ℕ, ap, flat_map, sym}
 use Rattle.hex.specs.Hex.{encode_lower}
-use Rattle.bolt_format.proofs.WriteLemmas.{Writes-same, Writes-stop, Writes-then}
+use Rattle.bolt_format.proofs.WriteLemmas.{Writes-same, Writes-then}
 use Rattle.bolt_report.specs.ListLines.{hex_path}
 use Rattle.bolt_tree.specs.Paths.{path_of}
 use Rattle.bolt_report.proofs.ListTexts.{hex_path-parts}

@@ -1,5 +1,5 @@
 use Rattle.bolt_tree.specs.Paths.{path_of}
-use Rattle.std.proofs.Common.{◌≡◌, ◌∙◌, ◌++◌, ◌∷◌, [], List, Bor, ℕ, suc, sym, ap, arith, vec_len, vec_capacity, ◌<◌, ◌≤◌}
+use Rattle.std.proofs.Common.{◌∙◌, ap, arith, vec_len}
 use Rattle.bolt_format.specs.ElementPlaces.{leaf_view}
 use Rattle.bolt_tree.proofs.Climbing.{all_closed, emptied, ends, gives, leads_on, listed_in, none_beyond, opens, popped, popped_len, same_open, stays}
 use Rattle.bolt_tree.proofs.OpenSteps.{path_push}

@@ -1,6 +1,5 @@
 use Rattle.bolt_tree.specs.FileListings.{ForListing}
 use Rattle.std.proofs.Common.{◌≡◌, vec_len}
-use Rattle.bolt_check.specs.declared.checked_file.Checked.{Checked}
 use Rattle.bolt_tree.specs.Private.OpenBuckets.{IsInPlace, open_path}
 use Rattle.bolt_tree.specs.Private.Behind.{beyond}
 use Rattle.bolt_tree.proofs.open_buckets.OpenBuckets.climb.Given as goal

@@ -1,5 +1,5 @@
 use Rattle.bolt_tree.specs.Paths.{path_of}
-use Rattle.std.proofs.Common.{◌≡◌, ◌∙◌, sym, ap, subst}
+use Rattle.std.proofs.Common.{◌∙◌, sym}
 use Rattle.bolt_format.specs.ElementPlaces.{leaf_view}
 use Rattle.bolt_tree.specs.Private.OpenBuckets.{open_path}
 use Rattle.bolt_tree.proofs.Climbing.{listed_in, none_beyond}

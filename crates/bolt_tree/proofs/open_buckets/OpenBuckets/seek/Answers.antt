@@ -1,5 +1,4 @@
-use Rattle.std.proofs.Common.{◌≡◌, ◌∙◌, ◌++◌, ◌∷◌, [], List, Bor, ℕ, suc, drop, take, length, get_or, refl, sym, ap, subst}
-use Rattle.bolt_check.specs.Keys.{Key}
+use Rattle.std.proofs.Common.{◌∙◌, ◌++◌, ◌∷◌, [], List, Bor, ℕ, suc, drop, take, length, get_or, refl, ap}
 use Rattle.bolt_tree.specs.Listing.{rest_from}
 use Rattle.bolt_tree.specs.Paths.{Path, path_of}
 use Rattle.bolt_tree.specs.Private.OpenBuckets.{open_path}

@@ -1,5 +1,5 @@
 use Rattle.bolt_tree.specs.Paths.{path_of}
-use Rattle.std.proofs.Common.{◌≡◌, ◌<◌, [], length, take}
+use Rattle.std.proofs.Common.{◌≡◌, ◌<◌, length, take}
 use Rattle.bolt_tree.specs.Private.OpenBuckets.{IsNamed, IsInPlace, open_path}
 use Rattle.bolt_tree.proofs.open_buckets.OpenBuckets.seek.Given as goal
 

@@ -1,9 +1,8 @@
 use Rattle.bolt_tree.specs.Paths.{path_of}
-use Rattle.std.proofs.Common.{◌≡◌, ◌∙◌, ◌++◌, ◌∷◌, [], refl, sym, ap, subst}
+use Rattle.std.proofs.Common.{◌∙◌, ◌++◌, ◌∷◌, [], refl, sym, ap}
 use Rattle.std.specs.Ordering.{is_lt}
 use Rattle.bolt_format.specs.ElementPlaces.{leaf_view}
 use Rattle.bolt_check.specs.Keys.{Key}
-use Rattle.bolt_tree.specs.Private.OpenBuckets.{open_path}
 use Rattle.bolt_tree.proofs.Climbing.{listed_in}
 use Rattle.bolt_tree.proofs.Coming.{ends_here, from_greater, from_leads, from_none, from_opens, from_same, from_value}
 use Rattle.bolt_tree.proofs.Entering.{leads_in, lies_in, made, named_by, placed_in}

@@ -1,4 +1,3 @@
-use Rattle.std.proofs.Common.{◌≡◌, ◌∙◌, sym, ap, subst}
 use Rattle.std.proofs.Math.Logic.{∥∥₁_elim, ∥∥₁_prop}
 use Rattle.bolt_tree.specs.Walks.{left_of}
 use Rattle.bolt_tree.proofs.Climbing.{listed_in}
