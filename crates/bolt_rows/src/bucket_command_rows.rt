@@ -1,11 +1,11 @@
 //! Rows of the command `buckets` on sound files.
 
 use crate::commands::{BUCKETS, FileRow, Outcome, check_files, check_row};
-use crate::maker::{MetaFields, NO_FREELIST, flip, meta_page, patch};
 use crate::samples::{
     self, BRANCH_ROOT, FRESH_FILE, INLINE_BUCKET, Sample, WITHOUT_FIRST_META, make,
 };
 use Outcome::{Fails, Prints};
+use format_rows::maker::{MetaFields, NO_FREELIST, flip, meta_page, patch};
 use std::alloc::{AllocError, Global};
 use std::process::Abort;
 use std::test::Fail;
