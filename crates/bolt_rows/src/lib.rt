@@ -11,6 +11,8 @@ mod commands;
 #[cfg(test)]
 mod cursor_rows;
 #[cfg(test)]
+mod large_file_rows;
+#[cfg(test)]
 mod large_page_rows;
 #[cfg(test)]
 mod page_command_rows;
