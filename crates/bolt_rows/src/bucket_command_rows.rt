@@ -2,10 +2,12 @@
 
 use crate::commands::{BUCKETS, FileRow, Outcome, Row, check_files, check_row, check_rows};
 use crate::samples::{
-    self, BRANCH_ROOT, FRESH_FILE, INLINE_BUCKET, Sample, WITHOUT_FIRST_META, make,
+    self, BRANCH_ROOT, Content, FRESH_FILE, INLINE_BUCKET, Sample, WITHOUT_FIRST_META, make,
 };
-use Outcome::{Fails, Prints, PrintsBytes};
-use format_rows::maker::{MetaFields, NO_FREELIST, flip, meta_page, patch};
+use Content::{Branch, Leaf};
+use Element::{Bucket, Value};
+use Outcome::{Prints, PrintsBytes};
+use format_rows::maker::{Element, FRESH, MetaFields, NO_FREELIST, flip, meta_page, patch};
 use std::alloc::{AllocError, Global};
 use std::process::Abort;
 use std::test::Fail;
@@ -20,7 +22,7 @@ fn check(
     check_row(rt, alloc, name, file.as_slice(), (BUCKETS, Prints(text)))
 }
 
-static FILES: [FileRow<'static>; 5] = [
+static FILES: [FileRow<'static>; 6] = [
     ("the fresh file", FRESH_FILE, Prints("")),
     ("no first meta", WITHOUT_FIRST_META, Prints("")),
     ("an inline bucket", INLINE_BUCKET, Prints("b\n")),
@@ -32,12 +34,34 @@ static FILES: [FileRow<'static>; 5] = [
         },
         Prints("b\n"),
     ),
+    ("a branch as root, and no buckets", BRANCH_ROOT, Prints("")),
     (
-        // Until branches are read.
-        "a branch as root",
-        BRANCH_ROOT,
-        Fails("file refused: page 3: invalid type"),
+        "buckets on several leaves, of which one is empty",
+        Sample {
+            fields: MetaFields { mark: 7, ..FRESH },
+            pages_held: 7,
+            pages: &[
+                (3, Branch(&[(b"a", 4), (b"f", 5), (b"m", 6)])),
+                (4, Leaf(&[Bucket(b"a", EMPTY_BUCKET), Value(b"c", b"")])),
+                (5, Leaf(&[])),
+                (
+                    6,
+                    Leaf(&[
+                        Bucket(b"m", EMPTY_BUCKET),
+                        Value(b"p", b""),
+                        Bucket(b"q", EMPTY_BUCKET),
+                    ]),
+                ),
+            ],
+            patches: &[],
+        },
+        Prints("a\nm\nq\n"),
     ),
+];
+
+/// The value of an empty inline bucket with sequence 0.
+const EMPTY_BUCKET: &[u8] = &[
+    0, 0, 0, 0, 0, 0, 0, 0, 0, 0, 0, 0, 0, 0, 0, 0, 0, 0, 0, 0, 0, 0, 0, 0, 2, 0, 0, 0, 0, 0, 0, 0,
 ];
 
 #[test]

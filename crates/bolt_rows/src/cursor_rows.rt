@@ -1,13 +1,13 @@
 //! Rows of cursors: scripts of calls, with the key of each answer and the number of pages that are
 //! open then. Counts are told of `first`, `next` and `seek` alone.
 
-use format_rows::maker::{Element, FRESH, MetaFields};
 use crate::samples::{BRANCH_ROOT, Content, FRESH_FILE, Sample, chain, make};
 use Call::{First, Last, Next, Prev, Seek};
 use Content::{Branch, Leaf};
 use Element::Value;
 use bolt_check::check;
 use bolt_tree::{Bucket, Cursor, Entry, Item};
+use format_rows::maker::{Element, FRESH, MetaFields};
 use std::alloc::{AllocError, Global};
 use std::process::Abort;
 use std::test::Fail;
