@@ -1,11 +1,11 @@
 //! Rows of the command `buckets` on sound files.
 
-use crate::commands::{BUCKETS, FileRow, Outcome, check_files, check_row};
-use crate::maker::{MetaFields, NO_FREELIST, flip, meta_page, patch};
+use crate::commands::{BUCKETS, FileRow, Outcome, Row, check_files, check_row, check_rows};
 use crate::samples::{
     self, BRANCH_ROOT, FRESH_FILE, INLINE_BUCKET, Sample, WITHOUT_FIRST_META, make,
 };
-use Outcome::{Fails, Prints};
+use Outcome::{Fails, Prints, PrintsBytes};
+use format_rows::maker::{MetaFields, NO_FREELIST, flip, meta_page, patch};
 use std::alloc::{AllocError, Global};
 use std::process::Abort;
 use std::test::Fail;
@@ -72,6 +72,47 @@ fn printed_names(rt: HostRuntime) -> Result<(), Fail> {
     check(&rt, alloc, "printable and other names", file, NAME_LINES)?;
     let lines = long_lines(alloc)?;
     check(&rt, alloc, "long names", long_names(alloc)?, lines.as_str())?;
+    Ok(())
+}
+
+static NAMES_AS_BYTES: &'static [u8] = b"\x00\n\x1f\n \na\nb\na b\na~\na\x7f\n\xc3\xa9\n\xff\n";
+
+static NAMES_IN_HEX: &'static str = "00\n1f\n20\n610a62\n612062\n617e\n617f\nc3a9\nff\n";
+
+/// The buckets 00 and `a` in each form, where the option stands behind, between and before.
+static FORM_ROWS: [Row<'static>; 7] = [
+    (
+        &["buckets", "FILE", "--form", "printable"],
+        Prints("00\na\n"),
+    ),
+    (&["buckets", "--form", "hex", "FILE"], Prints("00\n61\n")),
+    (
+        &["buckets", "FILE", "--form", "bytes"],
+        PrintsBytes(b"\x00\na\n"),
+    ),
+    (&["buckets", "FILE", "--form=hex"], Prints("00\n61\n")),
+    (&["buckets", "--form=hex", "FILE"], Prints("00\n61\n")),
+    (
+        &["buckets", "--form", "hex", "--", "FILE"],
+        Prints("00\n61\n"),
+    ),
+    (&["buckets", "--", "FILE"], Prints("00\na\n")),
+];
+
+#[test]
+fn forms(rt: HostRuntime) -> Result<(), Fail> {
+    let alloc = rt.alloc();
+    let file = samples::names(alloc)?;
+    check_rows(&rt, alloc, "two names", file.as_slice(), &FORM_ROWS)?;
+    let file = samples::empty_buckets(alloc, &NAMES)?;
+    let rows: [Row<'_>; 2] = [
+        (&["buckets", "FILE", "--form", "hex"], Prints(NAMES_IN_HEX)),
+        (
+            &["buckets", "FILE", "--form", "bytes"],
+            PrintsBytes(NAMES_AS_BYTES),
+        ),
+    ];
+    check_rows(&rt, alloc, "nine names", file.as_slice(), &rows)?;
     Ok(())
 }
 

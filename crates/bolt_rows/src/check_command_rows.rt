@@ -1,7 +1,6 @@
 //! Rows of the command `check`, and of the call below it.
 
 use crate::commands::{CHECK, FileRow, Outcome, check_files, check_job, check_refused, check_row};
-use crate::maker::{Element, FRESH, MetaFields};
 use crate::samples::{
     self, BRANCH_ROOT, BRANCH_TO_ITSELF, Content, FRESH_FILE, GREATEST_OVERFLOW, INLINE_BUCKET,
     OTHER_CHECKSUM, Sample, WITHOUT_FIRST_META, WITHOUT_FREELIST, make,
@@ -12,6 +11,8 @@ use Outcome::Prints;
 use bolt_check::{CheckFault, Checked, Finding, check};
 use bolt_cli::Job;
 use bolt_format::{Meta, MetaFault, PageFault};
+use format_rows::free_files;
+use format_rows::maker::{Element, FRESH, MetaFields};
 use std::alloc::{AllocError, Global};
 use std::process::Abort;
 use std::test::Fail;
@@ -378,14 +379,14 @@ fn deep_buckets(rt: HostRuntime) -> Result<(), Fail> {
 #[test]
 fn many_free_pages(rt: HostRuntime) -> Result<(), Fail> {
     let alloc = rt.alloc();
-    let mut ids = samples::numbers(alloc, 132, 65_535)?;
-    let file = samples::many_free_pages(alloc, ids.as_slice())?;
+    let mut ids = free_files::numbers(alloc, 132, 65_535)?;
+    let file = free_files::many_free_pages(alloc, ids.as_slice())?;
     let row = (CHECK, SOUND);
     check_row(&rt, alloc, "65,535 free pages", file.as_slice(), row)?;
     if let Some(second) = ids.get_mut(1) {
         *second = 132;
     }
-    let file = samples::many_free_pages(alloc, ids.as_slice())?;
+    let file = free_files::many_free_pages(alloc, ids.as_slice())?;
     let text = "page 132: freed twice\npage 133: unreachable unfreed\n2 errors found\n";
     check_refused(&rt, alloc, "the first of them twice", file.as_slice(), text)?;
     Ok(())

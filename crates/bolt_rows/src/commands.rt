@@ -11,16 +11,18 @@ use std::process::Abort;
 pub enum Outcome<'a> {
     /// Status 0, and this on standard output.
     Prints(&'a str),
+    /// Status 0, and these bytes, which need be no text, on standard output.
+    PrintsBytes(&'a [u8]),
     /// Status 1, and this on standard output.
     Finds(&'a str),
     /// Status 1, and `error: ` and this line on standard error.
     Fails(&'a str),
-    /// Status 2: the command line is refused with a text on standard error.
-    Refused,
+    /// Status 2: the command line is refused with this text on standard error.
+    Refused(&'a str),
     /// Status 2, and `error: ` and this line on standard error.
     RefusedWord(&'a str),
-    /// Status 0, and a text that was asked for on standard output.
-    Helps,
+    /// Status 0, and this text, which was asked for, on standard output.
+    Helps(&'a str),
 }
 
 /// The words after the program's name, in which FILE stands for the file, and what they come to.
@@ -29,7 +31,7 @@ pub type Row<'a> = (&'a [&'a str], Outcome<'a>);
 /// The name of a file, the file, and what a command on it comes to.
 pub type FileRow<'a> = (&'a str, Sample<'a>, Outcome<'a>);
 
-use Outcome::{Fails, Finds, Helps, Prints, Refused, RefusedWord};
+use Outcome::{Fails, Finds, Helps, Prints, PrintsBytes, Refused, RefusedWord};
 
 pub const INFO: &[&str] = &["info", "FILE"];
 
@@ -64,7 +66,8 @@ fn error_line(alloc: Global, text: &str) -> Result<String, AllocError> {
     format!(in alloc; "error: {text}\n")
 }
 
-fn words_of(alloc: Global, words: &[&str]) -> Result<Vec<String>, AllocError> {
+/// The words of a command line, the program's name before them.
+pub fn words_of(alloc: Global, words: &[&str]) -> Result<Vec<String>, AllocError> {
     let mut all = Vec::new(alloc);
     all.push(String::from_str(alloc, "luntsegi")?)?;
     for word in words {
@@ -73,25 +76,16 @@ fn words_of(alloc: Global, words: &[&str]) -> Result<Vec<String>, AllocError> {
     Ok(all)
 }
 
-fn check_refusal(rt: &impl Abort, refusal: &Refusal, name: &str, row: Row<'_>) {
-    let (words, want) = row;
-    match refusal {
-        Refusal::Memory => assert!(rt; false, "out of memory at {words:?} on {name}"),
-        Refusal::Help(text) => {
-            assert!(rt; matches!(want, Helps), "help for {words:?} on {name}");
-            assert!(rt; !text.is_empty(), "an empty help text for {words:?}");
+/// The answer to words that ask for no job.
+fn check_refusal(rt: &impl Abort, refusal: &Refusal, words: &[&str], want: Outcome<'_>) {
+    match (refusal, want) {
+        (Refusal::Help(text), Helps(wanted)) | (Refusal::Usage(text), Refused(wanted)) => {
+            assert_eq!(rt; text.as_str(), wanted, "the text at {words:?}");
         }
-        Refusal::Usage(text) => {
-            assert!(rt;
-                matches!(want, Refused),
-                "{words:?} on {name} are refused: {text}"
-            );
-            assert!(rt; !text.is_empty(), "an empty text for {words:?}");
+        (Refusal::Word(line), RefusedWord(wanted)) => {
+            assert_eq!(rt; *line, wanted, "the line at {words:?}");
         }
-        Refusal::Word(line) => match want {
-            RefusedWord(wanted) => assert_eq!(rt; *line, wanted, "{words:?} on {name}"),
-            _ => assert!(rt; false, "{words:?} on {name} are refused: {line}"),
-        },
+        _ => assert!(rt; false, "{words:?} are refused as {refusal:?}"),
     }
 }
 
@@ -106,7 +100,7 @@ pub fn check_row(
     match read_words(alloc, words_of(alloc, row.0)?) {
         Ok(job) => check_job(rt, alloc, name, file, &job, row),
         Err(refusal) => {
-            check_refusal(rt, &refusal, name, row);
+            check_refusal(rt, &refusal, row.0, row.1);
             Ok(())
         }
     }
@@ -129,12 +123,13 @@ pub fn check_job(
     let got = (out.bytes(), err.bytes(), status.code);
     match want {
         Prints(text) => check_written(rt, name, words, got, (text.as_bytes(), b"", 0)),
+        PrintsBytes(bytes) => check_written(rt, name, words, got, (bytes, b"", 0)),
         Finds(text) => check_written(rt, name, words, got, (text.as_bytes(), b"", 1)),
         Fails(text) => {
             let line = error_line(alloc, text)?;
             check_written(rt, name, words, got, (b"", line.as_bytes(), 1));
         }
-        Refused | RefusedWord(_) | Helps => {
+        Refused(_) | RefusedWord(_) | Helps(_) => {
             assert!(rt; false, "{words:?} on {name} are accepted");
         }
     }

@@ -1,7 +1,7 @@
 //! Rows of cursors: scripts of calls, with the key of each answer and the number of pages that are
 //! open then. Counts are told of `first`, `next` and `seek` alone.
 
-use crate::maker::{Element, FRESH, MetaFields};
+use format_rows::maker::{Element, FRESH, MetaFields};
 use crate::samples::{BRANCH_ROOT, Content, FRESH_FILE, Sample, chain, make};
 use Call::{First, Last, Next, Prev, Seek};
 use Content::{Branch, Leaf};

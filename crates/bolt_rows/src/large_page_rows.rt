@@ -1,11 +1,11 @@
 //! Rows of the greatest pages: as large as a page may be, and with as many elements as it may have.
 
 use crate::commands::{CHECK, INFO, Outcome, check_refused, check_row};
-use crate::maker::{
-    Element, MetaFields, branch, database, file, inline, leaf, meta_page, reference,
-};
 use Element::Bucket;
 use Outcome::Prints;
+use format_rows::maker::{
+    Element, MetaFields, branch, database, file, inline, leaf, meta_page, reference,
+};
 use std::alloc::{AllocError, Global};
 use std::test::Fail;
 

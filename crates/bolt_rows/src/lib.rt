@@ -1,5 +1,5 @@
-//! Tests that cross the crates: a maker of small files, and worked rows of what the crates answer
-//! on them. The crate has nothing beside its tests.
+//! Tests that cross the crates: worked rows of what the commands answer on small files, and of the
+//! calls below them. The crate has nothing beside its tests.
 #![tactic(auto)]
 
 #[cfg(test)]
@@ -8,27 +8,18 @@ mod bucket_command_rows;
 mod check_command_rows;
 #[cfg(test)]
 mod commands;
+#[cfg(test)]
 mod cursor_rows;
 #[cfg(test)]
-mod fault_rows;
-#[cfg(test)]
-mod free_rows;
+mod large_file_rows;
 #[cfg(test)]
 mod large_page_rows;
 #[cfg(test)]
-mod maker;
-#[cfg(test)]
-mod meta_rows;
-#[cfg(test)]
 mod page_command_rows;
-#[cfg(test)]
-mod read_rows;
 #[cfg(test)]
 mod refused_rows;
 #[cfg(test)]
 mod samples;
-#[cfg(test)]
-mod sink_rows;
 #[cfg(test)]
 mod walk_rows;
 #[cfg(test)]

@@ -3,16 +3,17 @@
 use crate::commands::{
     FileRow, INFO, Outcome, PAGE_THREE, Row, check_files, check_row, check_rows,
 };
-use crate::maker::{
-    BRANCH_FLAGS, Element, FRESH, LEAF_FLAGS, MetaFields, PageHeader, branch_with, database,
-    database_of, freelist, leaf, leaf_with, long_freelist, reference,
-};
 use crate::samples::{
     self, BRANCH_ROOT, BRANCH_TO_ITSELF, FRESH_FILE, GREATEST_OVERFLOW, INLINE_BUCKET,
     OTHER_CHECKSUM, Sample, WITHOUT_FIRST_META, WITHOUT_FREELIST,
 };
 use Element::{Bucket, Value};
 use Outcome::{Fails, Prints};
+use format_rows::free_files;
+use format_rows::maker::{
+    BRANCH_FLAGS, Element, FRESH, LEAF_FLAGS, MetaFields, PageHeader, branch_with, database,
+    database_of, freelist, leaf, leaf_with, reference,
+};
 use std::alloc::{AllocError, Global};
 use std::test::Fail;
 
@@ -235,7 +236,6 @@ fn freelist_texts(rt: HostRuntime) -> Result<(), Fail> {
         ("126 ids", 126, false, true),
         ("127 ids", 127, false, false),
         ("125 ids in the long form", 125, true, true),
-        ("126 ids in the long form", 126, true, false),
     ];
     for (name, count, is_long, fits) in rows {
         let file = samples::free_pages(alloc, count, is_long)?;
@@ -247,26 +247,14 @@ fn freelist_texts(rt: HostRuntime) -> Result<(), Fail> {
         };
         check_row(&rt, alloc, name, file.as_slice(), (PAGE_TWO, want))?;
     }
-    for told in [u64::MAX, 1 << 61] {
-        let free = long_freelist(alloc, 2, 0, told, &[4, 5, 6])?;
-        let file = database(alloc, 4, &MetaFields::fresh(1024), &[(2, free.as_slice())])?;
-        let want = Fails("page 2: element past the page");
-        check_row(
-            &rt,
-            alloc,
-            "a great number",
-            file.as_slice(),
-            (PAGE_TWO, want),
-        )?;
-    }
     Ok(())
 }
 
 #[test]
 fn other_freelists(rt: HostRuntime) -> Result<(), Fail> {
     let alloc = rt.alloc();
-    let ids = samples::numbers(alloc, 132, 65_535)?;
-    let file = samples::many_free_pages(alloc, ids.as_slice())?;
+    let ids = free_files::numbers(alloc, 132, 65_535)?;
+    let file = free_files::many_free_pages(alloc, ids.as_slice())?;
     let text = freelist_text(alloc, 132, 65_535, 128)?;
     check_row(
         &rt,

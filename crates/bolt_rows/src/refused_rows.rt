@@ -2,13 +2,11 @@
 //! refused.
 
 use crate::commands::{BUCKETS, CHECK, INFO, Outcome, PAGE_THREE, check_refused, check_row};
-use crate::fault_rows::{
-    BUCKET_ROWS, FIRST_ELEMENT_ROWS, HEADER_ROWS, INLINE_ROWS, MARKED_ROWS, NESTED_ROWS,
-    SECOND_ELEMENT_ROWS, bucket_file, fault_text, inline_file, leaf_file, nested_file,
-};
-use crate::maker::{FRESH, MetaFields, flip};
-use crate::samples;
+use crate::samples::{self, Content, FRESH_FILE, GREATEST_OVERFLOW, INLINE_BUCKET, Sample, make};
+use Content::{Inline, Leaf};
+use Element::{Bucket, Value};
 use Outcome::Fails;
+use format_rows::maker::{Element, FRESH, MetaFields, flip};
 use std::alloc::{AllocError, Global};
 use std::process::Abort;
 use std::test::Fail;
@@ -80,54 +78,107 @@ fn refused_metas(rt: HostRuntime) -> Result<(), Fail> {
     Ok(())
 }
 
-/// Each command that reads page 3 tells its fault, if it has one.
-fn check_page_three(
-    rt: &impl Abort,
-    alloc: Global,
-    name: &str,
-    file: Vec<u8>,
-    fault: Option<u8>,
-) -> Result<(), AllocError> {
-    if let Some(number) = fault {
-        let words = fault_text(number);
-        let line = format!(in alloc; "page 3: {words}")?;
-        let row = (PAGE_THREE, Fails(line.as_str()));
-        check_row(rt, alloc, name, file.as_slice(), row)?;
+/// The root page 3 holds `a` = `1` and `b` = `2`. Its header begins at byte 12,288, that of `a` at
+/// byte 12,304.
+const TWO_VALUES: Sample<'static> = Sample {
+    pages: &[(3, Leaf(&[Value(b"a", b"1"), Value(b"b", b"2")]))],
+    ..FRESH_FILE
+};
+
+/// Root pages that are refused, each for another fault, and the fault's line.
+static PAGES: [(Sample<'static>, &'static str); 12] = [
+    (GREATEST_OVERFLOW, "page 3: out of range"),
+    (
+        Sample {
+            fields: MetaFields { mark: 5, ..FRESH },
+            patches: &[(12_300, &[1])],
+            ..TWO_VALUES
+        },
+        "page 3: cut off",
+    ),
+    (
+        Sample {
+            patches: &[(12_288, &[4])],
+            ..TWO_VALUES
+        },
+        "page 3: wrong page number",
+    ),
+    (
+        Sample {
+            patches: &[(12_296, &[3])],
+            ..TWO_VALUES
+        },
+        "page 3: invalid type",
+    ),
+    (
+        Sample {
+            patches: &[(12_298, &[0xFF, 0xFF])],
+            ..TWO_VALUES
+        },
+        "page 3: element past the page",
+    ),
+    (
+        Sample {
+            patches: &[(12_308, &[31])],
+            ..TWO_VALUES
+        },
+        "page 3: element data out of order",
+    ),
+    (
+        Sample {
+            patches: &[(12_312, &[0])],
+            ..TWO_VALUES
+        },
+        "page 3: key length refused",
+    ),
+    (
+        Sample {
+            patches: &[(12_316, &[0xFF, 0xFF, 0xFF, 0x7F])],
+            ..TWO_VALUES
+        },
+        "page 3: value length refused",
+    ),
+    (
+        Sample {
+            patches: &[(12_304, &[2])],
+            ..TWO_VALUES
+        },
+        "page 3: leaf flags refused",
+    ),
+    (
+        Sample {
+            patches: &[(12_304, &[1])],
+            ..TWO_VALUES
+        },
+        "page 3: bucket value too short",
+    ),
+    (
+        // The flags of the page in the bucket's value, behind the key and 24 bytes.
+        Sample {
+            patches: &[(12_345, &[1])],
+            ..INLINE_BUCKET
+        },
+        "page 3: inline page refused",
+    ),
+    (
+        Sample {
+            pages: &[(3, Inline(&[Bucket(b"k", &[9; 16])]))],
+            ..FRESH_FILE
+        },
+        "page 3: bucket in an inline bucket",
+    ),
+];
+
+/// Each command that reads page 3 tells its fault.
+#[test]
+fn refused_pages(rt: HostRuntime) -> Result<(), Fail> {
+    let alloc = rt.alloc();
+    for (sample, line) in &PAGES {
+        let file = make(alloc, sample)?;
+        let row = (PAGE_THREE, Fails(line));
+        check_row(&rt, alloc, line, file.as_slice(), row)?;
         let text = format!(in alloc; "{line}\n1 errors found\n")?;
-        check_refused(rt, alloc, name, file.as_slice(), text.as_str())?;
-    }
-    Ok(())
-}
-
-#[test]
-fn refused_leaves(rt: HostRuntime) -> Result<(), Fail> {
-    let alloc = rt.alloc();
-    for (name, patches, want) in &HEADER_ROWS {
-        check_page_three(&rt, alloc, name, leaf_file(alloc, 4, patches)?, *want)?;
-    }
-    for (name, patches, want) in &FIRST_ELEMENT_ROWS {
-        check_page_three(&rt, alloc, name, leaf_file(alloc, 4, patches)?, *want)?;
-    }
-    for (name, patches, want) in &SECOND_ELEMENT_ROWS {
-        check_page_three(&rt, alloc, name, leaf_file(alloc, 4, patches)?, *want)?;
-    }
-    for (mark, (name, patches, want)) in &MARKED_ROWS {
-        check_page_three(&rt, alloc, name, leaf_file(alloc, *mark, patches)?, *want)?;
-    }
-    Ok(())
-}
-
-#[test]
-fn refused_buckets(rt: HostRuntime) -> Result<(), Fail> {
-    let alloc = rt.alloc();
-    for (name, patches, want) in &INLINE_ROWS {
-        check_page_three(&rt, alloc, name, inline_file(alloc, patches)?, *want)?;
-    }
-    for (name, stored, want) in &BUCKET_ROWS {
-        check_page_three(&rt, alloc, name, bucket_file(alloc, stored)?, *want)?;
-    }
-    for row in &NESTED_ROWS {
-        check_page_three(&rt, alloc, row.name, nested_file(alloc, row)?, row.want)?;
+        check_refused(&rt, alloc, line, file.as_slice(), text.as_str())?;
     }
     Ok(())
 }

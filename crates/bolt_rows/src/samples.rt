@@ -1,11 +1,12 @@
 //! Files that rows of several kinds speak of.
 
-use crate::maker::{
+use Content::{Branch, Freelist, Inline, Leaf};
+use Element::{Bucket, Value};
+use format_rows::free_files::numbers;
+use format_rows::maker::{
     Element, FRESH, MetaFields, NO_FREELIST, Patch, branch, database, database_of, freelist,
     inline, leaf, long_freelist, patch, put_patches, reference,
 };
-use Content::{Branch, Freelist, Inline, Leaf};
-use Element::{Bucket, Value};
 use std::alloc::{AllocError, Global};
 
 /// What stands on a page.
@@ -209,15 +210,6 @@ pub fn pair(alloc: Global, txids: [u64; 2]) -> Result<Vec<u8>, AllocError> {
     database_of(alloc, 1024, 5, [&zero, &one], &pages)
 }
 
-/// This many page numbers from a first one on.
-pub fn numbers(alloc: Global, first: u64, count: u64) -> Result<Vec<u64>, AllocError> {
-    let mut ids = Vec::new(alloc);
-    for i in 0..count {
-        ids.push(first.saturating_add(i))?;
-    }
-    Ok(ids)
-}
-
 /// Page numbers from 4 on in a freelist on one page of 1,024 bytes, in the short form or in the
 /// long one.
 pub fn free_pages(alloc: Global, count: u64, is_long: bool) -> Result<Vec<u8>, AllocError> {
@@ -238,20 +230,6 @@ pub fn free_pages(alloc: Global, count: u64, is_long: bool) -> Result<Vec<u8>, A
         &fields,
         &[(2, free.as_slice()), (3, root.as_slice())],
     )
-}
-
-/// A freelist of 65,535 pages from 132 on, in the long form over 129 pages of 4,096 bytes. The
-/// file ends after its root page 131, long before the mark.
-pub fn many_free_pages(alloc: Global, ids: &[u64]) -> Result<Vec<u8>, AllocError> {
-    let free = long_freelist(alloc, 2, 128, ids.len() as u64, ids)?;
-    let root = leaf(alloc, 131, &[])?;
-    let fields = MetaFields {
-        root: 131,
-        mark: 65_667,
-        ..MetaFields::fresh(4096)
-    };
-    let pages = [(2, free.as_slice()), (131, root.as_slice())];
-    database(alloc, 132, &fields, &pages)
 }
 
 /// Branches from page 3 to a last one, each with `a` to the next page, and then an empty leaf.

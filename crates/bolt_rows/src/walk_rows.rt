@@ -1,7 +1,7 @@
 //! Rows of walks: what a file holds, from its beginning and from paths in it and beside it, and
 //! what a bucket has under a key.
 
-use crate::maker::{Element, FRESH, MetaFields, database, inline, leaf, reference};
+use format_rows::maker::{Element, FRESH, MetaFields, database, inline, leaf, reference};
 use crate::samples::{BRANCH_ROOT, FRESH_FILE, INLINE_BUCKET, Sample, make};
 use Element::Value;
 use bolt_check::{Checked, check};

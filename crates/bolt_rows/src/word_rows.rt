@@ -1,32 +1,302 @@
-//! Rows of refused command lines, and of those that ask for help.
+//! Rows of command lines that are refused, of those that ask for help, and of long words.
 
-use crate::commands::{Outcome, Row, check_row, check_rows};
+use crate::commands::{Outcome, Row, check_row, check_rows, words_of};
 use Outcome::{Helps, Refused, RefusedWord};
+use bolt_cli::read_words;
+use std::alloc::{AllocError, Global};
+use std::process::Abort;
 use std::test::Fail;
 
-static LINES: [Row<'static>; 21] = [
-    (&[], Refused),
-    (&["--bogus"], Refused),
-    (&["--help"], Helps),
-    (&["info"], Refused),
-    (&["info", "FILE", "FILE"], Refused),
-    (&["info", "FILE", "--bogus"], Refused),
-    (&["info", "--help"], Helps),
-    (&["page", "FILE"], Refused),
-    (&["page", "FILE", "1", "2"], Refused),
-    (&["page", "FILE", "--bogus"], Refused),
-    (&["page", "--help"], Helps),
-    (&["check"], Refused),
-    (&["check", "FILE", "FILE"], Refused),
-    (&["check", "FILE", "--bogus"], Refused),
-    (&["check", "--help"], Helps),
-    (&["bucket", "FILE"], Refused),
-    (&["Buckets", "FILE"], Refused),
-    (&["buckets"], Refused),
-    (&["buckets", "FILE", "FILE"], Refused),
-    (&["buckets", "FILE", "--bogus"], Refused),
-    (&["buckets", "--help"], Helps),
+static HELP: [Row<'static>; 4] = [
+    (
+        &["--help"],
+        Helps(
+            "Inspect bbolt database files, the files in which etcd and others keep their data\n\
+            \n\
+            Usage: luntsegi <COMMAND>\n\
+            \n\
+            Commands:\n  \
+              info     Show the meta in force: page size, transaction, root, freelist, high-water mark\n  \
+              page     Show one page: its type and what it holds, keys and values in hex\n  \
+              check    Say whether the file is sound, and if not, each thing that is wrong\n  \
+              buckets  List the names of the buckets in the root bucket\n\
+            \n\
+            Options:\n  \
+              -h, --help  Print help\n",
+        ),
+    ),
+    (
+        &["page", "--help"],
+        Helps(
+            "Show one page: its type and what it holds, keys and values in hex\n\
+            \n\
+            Usage: luntsegi page <FILE> <ID>\n\
+            \n\
+            Arguments:\n  \
+              <FILE>  The database file; it is read, never written\n  \
+              <ID>    The page's number, in decimal\n\
+            \n\
+            Options:\n  \
+              -h, --help  Print help\n",
+        ),
+    ),
+    (&["buckets", "--help"], Helps(BUCKETS_HELP)),
+    (&["buckets", "FILE", "-h"], Helps(BUCKETS_HELP)),
 ];
+
+const BUCKETS_HELP: &str = "List the names of the buckets in the root bucket\n\
+    \n\
+    Usage: luntsegi buckets [OPTIONS] <FILE>\n\
+    \n\
+    Arguments:\n  \
+      <FILE>  The database file; it is read, never written\n\
+    \n\
+    Options:\n      \
+          --form <F>  How names are shown: printable (in hex what isn't plain ASCII), hex or bytes [default: printable]\n  \
+      -h, --help      Print help\n";
+
+/// Lines without a command, or with one that isn't known.
+static COMMANDS: [Row<'static>; 5] = [
+    (
+        &[],
+        Refused(
+            "error: 'luntsegi' requires a subcommand but one was not provided\n  \
+            [subcommands: info, page, check, buckets]\n\
+            \n\
+            Usage: luntsegi <COMMAND>\n\
+            \n\
+            For more information, try '--help'.\n",
+        ),
+    ),
+    (
+        &["--bogus"],
+        Refused(
+            "error: unexpected argument '--bogus' found\n\
+            \n\
+            Usage: luntsegi <COMMAND>\n\
+            \n\
+            For more information, try '--help'.\n",
+        ),
+    ),
+    (
+        &["nosuch", "FILE"],
+        Refused(
+            "error: unrecognized subcommand 'nosuch'\n\
+            \n\
+            Usage: luntsegi <COMMAND>\n\
+            \n\
+            For more information, try '--help'.\n",
+        ),
+    ),
+    (&["bucket", "FILE"], Refused(SIMILAR_BUCKET)),
+    (
+        &["BUCKETS", "FILE"],
+        Refused(
+            "error: unrecognized subcommand 'BUCKETS'\n\
+            \n\
+            Usage: luntsegi <COMMAND>\n\
+            \n\
+            For more information, try '--help'.\n",
+        ),
+    ),
+];
+
+const SIMILAR_BUCKET: &str = "error: unrecognized subcommand 'bucket'\n\
+    \n  \
+      tip: a similar subcommand exists: 'buckets'\n\
+    \n\
+    Usage: luntsegi <COMMAND>\n\
+    \n\
+    For more information, try '--help'.\n";
+
+/// Lines with too few operands, or with too many.
+static OPERANDS: [Row<'static>; 9] = [
+    (
+        &["info"],
+        Refused(
+            "error: the following required arguments were not provided:\n  <FILE>\n\
+            \n\
+            Usage: luntsegi info <FILE>\n\
+            \n\
+            For more information, try '--help'.\n",
+        ),
+    ),
+    (
+        &["page"],
+        Refused(
+            "error: the following required arguments were not provided:\n  <FILE>\n  <ID>\n\
+            \n\
+            Usage: luntsegi page <FILE> <ID>\n\
+            \n\
+            For more information, try '--help'.\n",
+        ),
+    ),
+    (
+        &["page", "FILE"],
+        Refused(
+            "error: the following required arguments were not provided:\n  <ID>\n\
+            \n\
+            Usage: luntsegi page <FILE> <ID>\n\
+            \n\
+            For more information, try '--help'.\n",
+        ),
+    ),
+    (
+        &["check"],
+        Refused(
+            "error: the following required arguments were not provided:\n  <FILE>\n\
+            \n\
+            Usage: luntsegi check <FILE>\n\
+            \n\
+            For more information, try '--help'.\n",
+        ),
+    ),
+    (
+        &["buckets"],
+        Refused(
+            "error: the following required arguments were not provided:\n  <FILE>\n\
+            \n\
+            Usage: luntsegi buckets <FILE>\n\
+            \n\
+            For more information, try '--help'.\n",
+        ),
+    ),
+    (
+        &["info", "FILE", "other"],
+        Refused(
+            "error: unexpected argument 'other' found\n\
+            \n\
+            Usage: luntsegi info <FILE>\n\
+            \n\
+            For more information, try '--help'.\n",
+        ),
+    ),
+    (
+        &["page", "FILE", "1", "2"],
+        Refused(
+            "error: unexpected argument '2' found\n\
+            \n\
+            Usage: luntsegi page <FILE> <ID>\n\
+            \n\
+            For more information, try '--help'.\n",
+        ),
+    ),
+    (
+        &["check", "FILE", "other"],
+        Refused(
+            "error: unexpected argument 'other' found\n\
+            \n\
+            Usage: luntsegi check <FILE>\n\
+            \n\
+            For more information, try '--help'.\n",
+        ),
+    ),
+    (
+        &["buckets", "FILE", "other"],
+        Refused(
+            "error: unexpected argument 'other' found\n\
+            \n\
+            Usage: luntsegi buckets [OPTIONS] <FILE>\n\
+            \n\
+            For more information, try '--help'.\n",
+        ),
+    ),
+];
+
+/// Options that a line doesn't have, one without its value, and one that comes twice.
+static OPTIONS: [Row<'static>; 8] = [
+    (
+        &["info", "FILE", "--bogus"],
+        Refused(
+            "error: unexpected argument '--bogus' found\n\
+            \n  \
+              tip: to pass '--bogus' as a value, use '-- --bogus'\n\
+            \n\
+            Usage: luntsegi info <FILE>\n\
+            \n\
+            For more information, try '--help'.\n",
+        ),
+    ),
+    (
+        &["info", "FILE", "--form", "hex"],
+        Refused(
+            "error: unexpected argument '--form' found\n\
+            \n  \
+              tip: to pass '--form' as a value, use '-- --form'\n\
+            \n\
+            Usage: luntsegi info <FILE>\n\
+            \n\
+            For more information, try '--help'.\n",
+        ),
+    ),
+    (
+        &["page", "FILE", "3", "-x"],
+        Refused(
+            "error: unexpected argument '-x' found\n\
+            \n  \
+              tip: to pass '-x' as a value, use '-- -x'\n\
+            \n\
+            Usage: luntsegi page <FILE> <ID>\n\
+            \n\
+            For more information, try '--help'.\n",
+        ),
+    ),
+    (
+        &["buckets", "FILE", "--bogus"],
+        Refused(
+            "error: unexpected argument '--bogus' found\n\
+            \n  \
+              tip: to pass '--bogus' as a value, use '-- --bogus'\n\
+            \n\
+            Usage: luntsegi buckets <FILE>\n\
+            \n\
+            For more information, try '--help'.\n",
+        ),
+    ),
+    (
+        &["buckets", "FILE", "--fo", "hex"],
+        Refused(
+            "error: unexpected argument '--fo' found\n\
+            \n  \
+              tip: a similar argument exists: '--form'\n\
+            \n\
+            Usage: luntsegi buckets --form <F> <FILE>\n\
+            \n\
+            For more information, try '--help'.\n",
+        ),
+    ),
+    (
+        &["buckets", "FILE", "--form"],
+        Refused(
+            "error: a value is required for '--form <F>' but none was supplied\n\
+            \n\
+            For more information, try '--help'.\n",
+        ),
+    ),
+    (
+        &["buckets", "--form", "hex", "FILE", "--form", "bytes"],
+        Refused(FORM_TWICE),
+    ),
+    (
+        &["buckets", "FILE", "--form=hex", "--form=hex"],
+        Refused(FORM_TWICE),
+    ),
+];
+
+const FORM_TWICE: &str = "error: the argument '--form <F>' cannot be used multiple times\n\
+    \n\
+    Usage: luntsegi buckets [OPTIONS] <FILE>\n\
+    \n\
+    For more information, try '--help'.\n";
+
+#[test]
+fn refused_lines(rt: HostRuntime) -> Result<(), Fail> {
+    check_rows(&rt, rt.alloc(), "no file", &[], &HELP)?;
+    check_rows(&rt, rt.alloc(), "no file", &[], &COMMANDS)?;
+    check_rows(&rt, rt.alloc(), "no file", &[], &OPERANDS)?;
+    check_rows(&rt, rt.alloc(), "no file", &[], &OPTIONS)?;
+    Ok(())
+}
 
 /// Words that are no page's number.
 static NUMBERS: [&'static str; 11] = [
@@ -43,13 +313,56 @@ static NUMBERS: [&'static str; 11] = [
     "99999999999999999999999999",
 ];
 
+/// Words that are no form.
+static FORMS: [&'static str; 5] = ["", "nosuch", "Hex", "hex ", "printable,hex"];
+
 #[test]
 fn refused_words(rt: HostRuntime) -> Result<(), Fail> {
-    check_rows(&rt, rt.alloc(), "no file", &[], &LINES)?;
     for number in &NUMBERS {
         let words = ["page", "FILE", *number];
         let row = (words.as_slice(), RefusedWord("bad page id"));
         check_row(&rt, rt.alloc(), "no file", &[], row)?;
+    }
+    for form in &FORMS {
+        let words = ["buckets", "FILE", "--form", *form];
+        let row = (words.as_slice(), RefusedWord("bad form"));
+        check_row(&rt, rt.alloc(), "no file", &[], row)?;
+    }
+    Ok(())
+}
+
+/// The words ask for a job on this file.
+fn check_file(
+    rt: &impl Abort,
+    alloc: Global,
+    words: &[&str],
+    file: &str,
+) -> Result<(), AllocError> {
+    match read_words(alloc, words_of(alloc, words)?) {
+        Ok(job) => assert!(rt; job.file() == file, "the file of {words:?}"),
+        Err(_) => assert!(rt; false, "{words:?} are refused"),
+    }
+    Ok(())
+}
+
+#[test]
+fn file_words(rt: HostRuntime) -> Result<(), Fail> {
+    let alloc = rt.alloc();
+    let mut long = String::new(alloc);
+    for _ in 0..512 {
+        long.push_str("long/w\u{e9}")?;
+    }
+    assert_eq!(rt; long.len(), 4096);
+    for file in ["", "-", "buckets", "\u{663}", long.as_str()] {
+        check_file(&rt, alloc, &["info", file], file)?;
+        check_file(&rt, alloc, &["page", file, "3"], file)?;
+        check_file(&rt, alloc, &["check", file], file)?;
+        check_file(&rt, alloc, &["buckets", "--form", "hex", file], file)?;
+    }
+    // Behind two hyphens a word is an operand, whatever it begins with.
+    for file in ["--form", "--form=hex", "--help", "--"] {
+        check_file(&rt, alloc, &["buckets", "--", file], file)?;
+        check_file(&rt, alloc, &["buckets", "--form", "hex", "--", file], file)?;
     }
     Ok(())
 }

@@ -1,9 +1,8 @@
 -- What a cursor keeps, and its moves by those of its trail.
-use Rattle.std.proofs.Common.{◌≡◌, ◌==◌, ℕ, ◌-◌, ◌≤◌, Bool, true, false, List, [], ◌∷◌, Option, Some, None, is_some, length, drop, refl, sym, subst, arith}
+use Rattle.std.proofs.Common.{◌≡◌, ℕ, ◌-◌, ◌≤◌, Bool, true, false, List, [], ◌∷◌, Option, Some, None, is_some, length, drop, refl, sym, subst}
 use Rattle.std.specs.Option.{option_map}
 use Rattle.std.proofs.Math.Logic.{∥∥₁_elim, ∥∥₁_map}
 use Rattle.std.proofs.Props.{props}
-use Rattle.std.proofs.lemmas.Bool.Decides.{nat_tests}
 use Rattle.bolt_format.specs.ElementPlaces.{leaf_view}
 use Rattle.bolt_format.specs.Elements.{LeafElement}
 use Rattle.bolt_format.specs.declared.element.Leaf.{Leaf}
@@ -18,13 +17,11 @@ use Rattle.bolt_tree.specs.Private.Held.{IsHeld, place_by, place_on}
 use Rattle.bolt_tree.specs.Pagers.{counted}
 use Rattle.bolt_tree.specs.Places.{Fresh, Move, Moves, Place, first_move, last_move, least_from, next_move, place_in, prev_move, seek_move}
 use Rattle.bolt_tree.specs.Private.Stacks.{Frame, HasStack, IsAtRest, RestsOn, ahead_of, behind_of, right_of}
-use Rattle.bolt_tree.specs.Private.Trails.{HasBucket, HasTrail, frames_of, trail_bucket, trail_frames}
-use Rattle.bolt_tree.specs.declared.position.Position.{Position}
+use Rattle.bolt_tree.specs.Private.Trails.{HasBucket, HasTrail, trail_bucket, trail_frames}
 use Rattle.bolt_tree.specs.declared.trail.Trail.{Trail}
 use Rattle.bolt_tree.proofs.MoveLemmas.{Finds, FindsBack}
 use Rattle.bolt_tree.proofs.OpeningMoves.{first_opens, next_opens}
 use Rattle.bolt_tree.proofs.PlaceMoves.{Comes, first_moves, last_moves, next_moves, prev_moves, seek_moves, sought_place, stack_bucket, the_entries}
-use Rattle.bolt_tree.proofs.TrailLemmas.{length-frames}
 
 rest_on_prop : (content : Content) (taken : ℕ) → IsProp (RestsOn content taken)
 rest_on_prop (Of_leaf elements) taken = Prim.hlevel props
@@ -69,23 +66,6 @@ held_again trail was is_past held fresh = ∥∥₁_map held (λ h.
 pub found_none : (found : Option Leaf) → is_some found ≡ false → found ≡ None
 found_none (Some leaf) e = absurd (cc)
 found_none None e = refl
-
-no_frames : (frames : List Frame) → length frames ≡ 0 → frames ≡ []
-no_frames [] e = refl
-no_frames (f ∷ below) e = absurd (omega arith)
-
-pub empty_frames : (items : List Position) (empty : Bool) → empty ≡ (length items == 0) → empty ≡ true → frames_of items ≡ []
-empty_frames items empty e f =
-    let l = length-frames items in
-    no_frames (frames_of items) (grind (arith, nat_tests, l, e, f))
-
--- with an empty stack, the entry before is the last one
-pub prev_is_last : (is_past : Bool) (contents : Contents) (frames : List Frame) (entries : List LeafElement) → frames ≡ []
-    → last_move entries ≡ prev_move entries (place_in entries (place_by is_past contents frames))
-prev_is_last true contents frames [] e = refl
-prev_is_last true contents frames (x ∷ entries) e = refl
-prev_is_last false contents frames [] e = refl
-prev_is_last false contents frames (x ∷ entries) e = rw e refl
 
 -- The moves of a trail within one bucket, which is still the same after them, as moves of a cursor over the bucket's entries.
 module _ (bucket other : BucketView) (same : other ≡ bucket) (is : ∥ IsSoundBucket bucket ∥₁) (found : Option Leaf) (new : List Frame) (stack : HasStack other new) where

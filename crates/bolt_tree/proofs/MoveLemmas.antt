@@ -1,5 +1,5 @@
 -- Moves from entry to entry.
-use Rattle.std.proofs.Common.{◌≡◌, ℕ, ◌+◌, Bool, true, false, List, [], ◌∷◌, ◌++◌, Some, None, Option, refl, sym, ◌∙◌, subst}
+use Rattle.std.proofs.Common.{◌≡◌, ℕ, ◌+◌, Bool, true, false, List, [], ◌∷◌, ◌++◌, Some, None, Option, refl, ◌∙◌}
 use Rattle.std.specs.Option.{option_map}
 use Rattle.std.specs.Prelude.{MatchOption}
 use Rattle.bolt_format.specs.ElementPlaces.{leaf_view}
@@ -11,7 +11,6 @@ use Rattle.bolt_tree.specs.Private.Contents.{Content, Contents, Of_branch, Of_le
 use Rattle.bolt_tree.specs.Private.Entered.{IsEntered, entered_pages}
 use Rattle.bolt_tree.specs.Private.Stacks.{Frame, IsAtRest, IsOn, RestsOn, ahead_of, behind_of, right_of}
 use Rattle.bolt_tree.proofs.BackLemmas.{step_back_some}
-use Rattle.bolt_tree.proofs.PlaceLemmas.{on_rests}
 use Rattle.bolt_tree.proofs.TrailLemmas.{step_some}
 
 -- what a move to the next entry finds, over what was ahead
@@ -22,11 +21,6 @@ pub found_over : (found : Option Leaf) (whole before after : List LeafElement) (
 found_over None whole before after frames end e h = (e ∙ h.0, h.1)
 found_over (Some leaf) whole before after frames end e h = (e ∙ h.0, h.1)
 
--- it rests on what it found, or at the end
-pub found_rests : (found : Option Leaf) (before after : List LeafElement) (frames end : List Frame) → IsAtRest end → Finds found before after frames end → IsAtRest frames
-found_rests None before after frames end rest h = subst IsAtRest (sym h.1) rest
-found_rests (Some leaf) before after frames end rest h = on_rests frames (leaf_view leaf) h.1
-
 -- what a move to the entry before finds, over what was behind
 abbrev pub FindsBack : Option Leaf → List LeafElement → List LeafElement → List Frame → List Frame → Type 0
 FindsBack found before after frames end = MatchOption found ((before ≡ []) × (frames ≡ end)) (λ leaf. (before ≡ after ++ leaf_view leaf ∷ []) × IsOn frames (leaf_view leaf))
@@ -34,10 +28,6 @@ FindsBack found before after frames end = MatchOption found ((before ≡ []) × 
 pub back_over : (found : Option Leaf) (whole before after : List LeafElement) (frames end : List Frame) → whole ≡ before → FindsBack found before after frames end → FindsBack found whole after frames end
 back_over None whole before after frames end e h = (e ∙ h.0, h.1)
 back_over (Some leaf) whole before after frames end e h = (e ∙ h.0, h.1)
-
-pub back_rests : (found : Option Leaf) (before after : List LeafElement) (frames end : List Frame) → IsAtRest end → FindsBack found before after frames end → IsAtRest frames
-back_rests None before after frames end rest h = subst IsAtRest (sym h.1) rest
-back_rests (Some leaf) before after frames end rest h = on_rests frames (leaf_view leaf) h.1
 
 -- What a step within a leaf finds: where it rests on a leaf, taking an element of that leaf answers it and opens nothing.
 leaf_taken : (contents : Contents) (at_end : Bool) (content : Content) (t i : ℕ) (below new : List Frame) → RestsOn content t → IsEntered contents at_end content i below new None → ⊥

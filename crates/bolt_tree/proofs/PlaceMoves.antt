@@ -36,9 +36,6 @@ the_entries bucket entries is are = ∥∥₁_elim is (Prim.hlevel props) (λ s.
 abbrev pub Comes : List LeafElement → Move → Place → Option LeafElement → Type 0
 Comes entries move place answer = (place_in entries place ≡ move.place) × (answer ≡ move.answer)
 
-comes_by : (entries : List LeafElement) (move : Move) (place : Place) (answer : Option LeafElement) → move ≡ record { place = place_in entries place; answer = answer } → Comes entries move place answer
-comes_by entries move place answer e = (sym (ap (λ (m : Move). m.place) e), sym (ap (λ (m : Move). m.answer) e))
-
 -- the place, where there are entries
 pub place_there : (entries : List LeafElement) (place : Place) → 0 < length entries → place_in entries place ≡ place
 place_there [] place h = absurd (omega arith)

@@ -1,5 +1,5 @@
 -- What the moves of a trail do to its stack.
-use Rattle.std.proofs.Common.{◌≡◌, ◌==◌, ℕ, zero, suc, ◌+◌, ◌-◌, ◌≤◌, ◌<◌, Bool, true, false, List, [], ◌∷◌, ◌++◌, Some, None, Option, slice_get, length, map, reverse, drop, refl, sym, ap, ◌∙◌, subst, arith, append_assoc, append-nil}
+use Rattle.std.proofs.Common.{◌≡◌, ◌==◌, ℕ, zero, suc, ◌+◌, ◌-◌, ◌≤◌, ◌<◌, Bool, false, List, [], ◌∷◌, ◌++◌, Some, None, Option, slice_get, length, map, reverse, drop, refl, sym, ap, ◌∙◌, subst, arith, append_assoc, append-nil}
 use Rattle.std.specs.Option.{option_to_list}
 use Rattle.std.specs.Prelude.{IsTrue}
 use Rattle.std.proofs.Math.Logic.{∥∥₁_elim}
@@ -16,7 +16,7 @@ use Rattle.bolt_check.proofs.CheckedLemmas.{checked_trees}
 use Rattle.bolt_tree.specs.BucketViews.{BucketView}
 use Rattle.bolt_tree.specs.Private.BucketPages.{contents_in}
 use Rattle.bolt_tree.specs.Private.Contents.{Content, Contents, Of_branch, Of_leaf, content_length, is_tree_kind}
-use Rattle.bolt_tree.specs.Private.Entered.{IsEntered, taken_at}
+use Rattle.bolt_tree.specs.Private.Entered.{IsEntered}
 use Rattle.bolt_tree.specs.Private.Stacks.{Frame, HasStack, IsBranchContent, IsBranchTop, IsOn, address_on, ahead_of, here_of, here_under, right_of, right_under, under_at}
 use Rattle.bolt_tree.specs.Private.Tours.{Visit, elements_of, tour}
 use Rattle.bolt_tree.specs.Private.Trails.{HasTrail, IsSameBucket, frame_of, frames_of, trail_bucket}
@@ -154,10 +154,6 @@ frames_pop old new top e = ap frames_of e ∙ frames_push new top
 pub entered_length : (contents : Contents) (at_end : Bool) (content : Content) (i : ℕ) (below new : List Frame) → IsEntered contents at_end content i below new None → length new ≡ suc (suc (length below))
 entered_length contents at_end (Of_leaf elements) i below new h = absurd h
 entered_length contents at_end (Of_branch elements) i below new h = ap length h.2
-
-pub taken_within : (at_end : Bool) (content : Content) → taken_at at_end content ≤ suc (content_length content)
-taken_within true content = omega arith
-taken_within false content = omega arith
 
 -- the same stack, as it is shown otherwise
 pub moved_stack : (old now : BucketView) (a d : Content) (under below : List Frame) → now ≡ old → d ≡ a → below ≡ under

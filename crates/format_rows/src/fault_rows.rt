@@ -8,25 +8,6 @@ use std::alloc::{AllocError, Global};
 use std::process::Abort;
 use std::test::Fail;
 
-/// The words of a fault's line, by its number.
-pub fn fault_text(number: u8) -> &'static str {
-    match number {
-        6 => "out of range",
-        7 => "cut off",
-        8 => "wrong page number",
-        9 => "invalid type",
-        10 => "element past the page",
-        11 => "element data out of order",
-        12 => "key length refused",
-        13 => "value length refused",
-        14 => "leaf flags refused",
-        15 => "bucket value too short",
-        16 => "inline page refused",
-        17 => "bucket in an inline bucket",
-        _ => "no fault of a page",
-    }
-}
-
 #[test]
 fn fault_numbers(rt: HostRuntime) {
     let faults = [
@@ -78,12 +59,12 @@ fn with_page_three(alloc: Global, page: &[u8]) -> Result<Vec<u8>, AllocError> {
 }
 
 /// The name of a row, what is patched, and the fault or none.
-pub type PatchRow<'a> = (&'a str, &'a [Patch<'a>], Option<u8>);
+type PatchRow<'a> = (&'a str, &'a [Patch<'a>], Option<u8>);
 
 /// A file whose page 3 is a leaf that holds `a` = `1` and `b` = `2`, packed, with patches. An
 /// element's header is its flags, position, key length and value length, of four bytes each; the
 /// data begins at byte 48.
-pub fn leaf_file(alloc: Global, mark: u64, patches: &[Patch<'_>]) -> Result<Vec<u8>, AllocError> {
+fn leaf_file(alloc: Global, mark: u64, patches: &[Patch<'_>]) -> Result<Vec<u8>, AllocError> {
     let mut page = leaf(alloc, 3, &[Value(b"a", b"1"), Value(b"b", b"2")])?;
     put_patches(&mut page, patches)?;
     let fields = MetaFields {
@@ -94,7 +75,7 @@ pub fn leaf_file(alloc: Global, mark: u64, patches: &[Patch<'_>]) -> Result<Vec<
 }
 
 /// Patches of that leaf's page header.
-pub static HEADER_ROWS: [PatchRow<'static>; 15] = [
+static HEADER_ROWS: [PatchRow<'static>; 15] = [
     ("as it is", &[], None),
     ("header id 4", &[(0, &[4])], Some(PageFault::ID)),
     (
@@ -137,7 +118,7 @@ pub static HEADER_ROWS: [PatchRow<'static>; 15] = [
 ];
 
 /// Patches of its first element, whose header begins at byte 16.
-pub static FIRST_ELEMENT_ROWS: [PatchRow<'static>; 19] = [
+static FIRST_ELEMENT_ROWS: [PatchRow<'static>; 19] = [
     ("flags 2", &[(16, &[2])], Some(PageFault::LEAF_FLAGS)),
     ("flags 0x100", &[(17, &[1])], Some(PageFault::LEAF_FLAGS)),
     ("flags 1", &[(16, &[1])], Some(PageFault::BUCKET_SHORT)),
@@ -212,7 +193,7 @@ pub static FIRST_ELEMENT_ROWS: [PatchRow<'static>; 19] = [
 ];
 
 /// Patches of its second element, whose header begins at byte 32.
-pub static SECOND_ELEMENT_ROWS: [PatchRow<'static>; 13] = [
+static SECOND_ELEMENT_ROWS: [PatchRow<'static>; 13] = [
     ("position 17", &[(36, &[17])], Some(PageFault::DATA_ORDER)),
     (
         "position 19, its data moved with it",
@@ -253,7 +234,7 @@ pub static SECOND_ELEMENT_ROWS: [PatchRow<'static>; 13] = [
 ];
 
 /// High-water marks, and patches of its header under them.
-pub static MARKED_ROWS: [(u64, PatchRow<'static>); 6] = [
+static MARKED_ROWS: [(u64, PatchRow<'static>); 6] = [
     (
         5,
         ("overflow 1, mark 5", &[(12, &[1])], Some(PageFault::CUT)),
@@ -324,7 +305,7 @@ const ROOT_NINE: &[u8] = &[9, 0, 0, 0, 0, 0, 0, 0, 0, 0, 0, 0, 0, 0, 0, 0];
 const ROOT_ZERO: &[u8] = &[0; 16];
 
 /// What the element of a bucket stores, and the fault of its page.
-pub static BUCKET_ROWS: [(&'static str, &'static [u8], Option<u8>); 7] = [
+static BUCKET_ROWS: [(&'static str, &'static [u8], Option<u8>); 7] = [
     ("no bytes", b"", Some(PageFault::BUCKET_SHORT)),
     ("15 bytes", &[9; 15], Some(PageFault::BUCKET_SHORT)),
     ("16 bytes with a root", ROOT_NINE, None),
@@ -347,7 +328,7 @@ pub static BUCKET_ROWS: [(&'static str, &'static [u8], Option<u8>); 7] = [
 ];
 
 /// A file whose page 3 holds one bucket that stores these bytes.
-pub fn bucket_file(alloc: Global, stored: &[u8]) -> Result<Vec<u8>, AllocError> {
+fn bucket_file(alloc: Global, stored: &[u8]) -> Result<Vec<u8>, AllocError> {
     let page = leaf(alloc, 3, &[Bucket(b"b", stored)])?;
     with_page_three(alloc, page.as_slice())
 }
@@ -363,7 +344,7 @@ fn bucket_values(rt: HostRuntime) -> Result<(), Fail> {
 
 /// A file whose page 3 holds an inline bucket with `k1` = `v1`. The patches are of what the bucket
 /// stores: its page's header begins at byte 16, that page's element at byte 32, the data at byte 48.
-pub fn inline_file(alloc: Global, patches: &[Patch<'_>]) -> Result<Vec<u8>, AllocError> {
+fn inline_file(alloc: Global, patches: &[Patch<'_>]) -> Result<Vec<u8>, AllocError> {
     let mut stored = inline(alloc, 0, &[Value(b"k1", b"v1")])?;
     put_patches(&mut stored, patches)?;
     let page = leaf(alloc, 3, &[Bucket(b"b", stored.as_slice())])?;
@@ -371,7 +352,7 @@ pub fn inline_file(alloc: Global, patches: &[Patch<'_>]) -> Result<Vec<u8>, Allo
 }
 
 /// Patches of that bucket.
-pub static INLINE_ROWS: [PatchRow<'static>; 18] = [
+static INLINE_ROWS: [PatchRow<'static>; 18] = [
     ("as it is", &[], None),
     (
         "another id and overflow in its header",
@@ -427,16 +408,16 @@ fn inline_pages(rt: HostRuntime) -> Result<(), Fail> {
 
 /// What an inline bucket holds, and the elements before and after it on its leaf page.
 #[derive(Clone, Copy)]
-pub struct NestedRow<'a> {
-    pub name: &'a str,
-    pub before: &'a [Element<'a>],
-    pub held: &'a [Element<'a>],
-    pub after: &'a [Element<'a>],
-    pub want: Option<u8>,
+struct NestedRow<'a> {
+    name: &'a str,
+    before: &'a [Element<'a>],
+    held: &'a [Element<'a>],
+    after: &'a [Element<'a>],
+    want: Option<u8>,
 }
 
 /// Buckets in an inline bucket, and broken elements beside it.
-pub static NESTED_ROWS: [NestedRow<'static>; 9] = [
+static NESTED_ROWS: [NestedRow<'static>; 9] = [
     NestedRow {
         name: "a bucket",
         before: &[],
@@ -503,7 +484,7 @@ pub static NESTED_ROWS: [NestedRow<'static>; 9] = [
 ];
 
 /// A file whose page 3 holds the inline bucket of a row between the other elements.
-pub fn nested_file(alloc: Global, row: &NestedRow<'_>) -> Result<Vec<u8>, AllocError> {
+fn nested_file(alloc: Global, row: &NestedRow<'_>) -> Result<Vec<u8>, AllocError> {
     let stored = inline(alloc, 0, row.held)?;
     let mut elements = row.before.to_vec(alloc)?;
     elements.push(Bucket(b"b", stored.as_slice()))?;

@@ -1,7 +1,7 @@
 //! Rows of freelists.
 
+use crate::free_files::{many_free_pages, numbers};
 use crate::maker::{MetaFields, NO_FREELIST, database, freelist, leaf, long_freelist, patch};
-use crate::samples::{many_free_pages, numbers};
 use bolt_format::{PageFault, choose, free_ids};
 use std::alloc::{AllocError, Global};
 use std::process::Abort;

@@ -5,67 +5,67 @@ use crate::maker::{
     freelist, inline, leaf, leaf_with, patch, reference,
 };
 use Element::{Bucket, Value};
-use bolt_format::{Inline, Kind, Leaf, Meta, Page, choose, head, inline as inline_of, known, page};
+use bolt_format::{
+    Head, Inline, Kind, Leaf, Meta, Page, choose, head, inline as inline_of, known, page,
+};
 use std::alloc::{AllocError, Global};
 use std::process::Abort;
 use std::test::Fail;
+
+/// Keys and their values.
+type Values<'a> = &'a [(&'a [u8], &'a [u8])];
 
 /// What a leaf page is to show at one place.
 #[derive(Clone, Copy)]
 enum Shown<'a> {
     /// A key and its value.
     Plain(&'a [u8], &'a [u8]),
-    /// A key, and the root page and the sequence of a bucket.
-    Rooted(&'a [u8], u64, u64),
-    /// A key, and the sequence and the values of an inline bucket.
-    Within(&'a [u8], u64, &'a [(&'a [u8], &'a [u8])]),
+    /// A key, and what a bucket begins with; the values of an inline bucket.
+    Held(&'a [u8], Head, Values<'a>),
 }
 
-use Shown::{Plain, Rooted, Within};
+use Shown::{Held, Plain};
 
-fn check_value(rt: &impl Abort, found: &Leaf<'_>, key: &[u8], value: &[u8]) {
+fn check_value(rt: &impl Abort, found: Leaf<'_>, key: &[u8], value: &[u8]) {
     assert_eq!(rt; found.key, key, "a key");
-    assert_eq!(rt; found.value, value, "the value of {key:?}");
-    assert!(rt; !found.is_bucket, "the kind of {key:?}");
+    assert_eq!(rt; found.value, value, "a value");
+    assert!(rt; !found.is_bucket, "the kind of a value");
 }
 
-fn check_inline(rt: &impl Abort, found: &Inline<'_>, want: &[(&[u8], &[u8])]) {
+fn check_inline(rt: &impl Abort, found: Inline<'_>, want: Values<'_>) {
     assert_eq!(rt;
         usize::from(found.count()),
         want.len(),
         "the count of an inline page"
     );
     for i in 0..found.count() {
-        let leaf = found.leaf(i);
         if let Some((key, value)) = want.get(usize::from(i)) {
-            check_value(rt, &leaf, key, value);
+            check_value(rt, found.leaf(i), key, value);
         }
     }
 }
 
-/// Element `i` of a page is as wanted.
-fn check_element(rt: &impl Abort, found: Page<'_>, i: u16, want: Shown<'_>) {
-    assert!(rt; found.kind() == Kind::Leaf, "a leaf page");
-    assert!(rt; i < found.count(), "element {i} is there");
+/// The values of a bucket on a leaf page.
+fn check_held(rt: &impl Abort, found: Page<'_>, i: u16, want: (Head, Values<'_>)) {
+    assert!(rt; found.kind() == Kind::Leaf && i < found.count());
     let leaf = found.leaf(i);
-    if let Plain(key, value) = want {
-        check_value(rt, &leaf, key, value);
-        return;
-    }
-    assert!(rt; leaf.is_bucket, "element {i} is a bucket");
+    assert!(rt; leaf.is_bucket, "the kind of a bucket");
     let bucket = head(leaf.value);
+    assert_eq!(rt; bucket, want.0, "what a bucket begins with");
+    if bucket.root == 0 {
+        check_inline(rt, inline_of(leaf.value), want.1);
+    }
+}
+
+/// Element `i` of a leaf page is as wanted.
+fn check_element(rt: &impl Abort, found: Page<'_>, i: u16, want: Shown<'_>) {
+    assert!(rt; found.kind() == Kind::Leaf && i < found.count());
+    let leaf = found.leaf(i);
     match want {
-        Plain(_, _) => {}
-        Rooted(key, root, sequence) => {
+        Plain(key, value) => check_value(rt, leaf, key, value),
+        Held(key, bucket, values) => {
             assert_eq!(rt; leaf.key, key, "the key of a bucket");
-            assert_eq!(rt; bucket.root, root, "the root of {key:?}");
-            assert_eq!(rt; bucket.sequence, sequence, "the sequence of {key:?}");
-        }
-        Within(key, sequence, values) => {
-            assert_eq!(rt; leaf.key, key, "the key of an inline bucket");
-            assert_eq!(rt; bucket.sequence, sequence, "the sequence of {key:?}");
-            assert!(rt; bucket.root == 0, "{key:?} is inline");
-            check_inline(rt, &inline_of(leaf.value), values);
+            check_held(rt, found, i, (bucket, values));
         }
     }
 }
@@ -180,12 +180,40 @@ fn values(rt: HostRuntime) -> Result<(), Fail> {
 }
 
 /// What a leaf page shows that has each kind of bucket.
-const BUCKETS: [Shown<'static>; 5] = [
-    Within(b"a", 7, &[(b"k1", b"v1"), (b"k2", b"")]),
-    Within(b"b", u64::MAX, &[]),
+static BUCKETS: [Shown<'static>; 5] = [
+    Held(
+        b"a",
+        Head {
+            root: 0,
+            sequence: 7,
+        },
+        &[(b"k1", b"v1"), (b"k2", b"")],
+    ),
+    Held(
+        b"b",
+        Head {
+            root: 0,
+            sequence: u64::MAX,
+        },
+        &[],
+    ),
     Plain(b"c", b"between"),
-    Rooted(b"d", 4, 2),
-    Rooted(b"e", u64::MAX, 0x0102_0304_0506_0708),
+    Held(
+        b"d",
+        Head {
+            root: 4,
+            sequence: 2,
+        },
+        &[],
+    ),
+    Held(
+        b"e",
+        Head {
+            root: u64::MAX,
+            sequence: 0x0102_0304_0506_0708,
+        },
+        &[],
+    ),
 ];
 
 #[test]
@@ -232,7 +260,26 @@ const ROOTED_LEAF: &[u8] = &[
 ];
 
 /// The children of that branch page.
-const CHILDREN: [(&[u8], u64); 4] = [(b"00", 3), (b"10", 4), (b"20", 5), (b"30", 6)];
+static CHILDREN: [(&'static [u8], u64); 4] = [(b"00", 3), (b"10", 4), (b"20", 5), (b"30", 6)];
+
+/// What the two leaf pages show.
+static INLINE_SHOWN: [Shown<'static>; 1] = [Held(
+    b"b",
+    Head {
+        root: 0,
+        sequence: 0,
+    },
+    &[(b"k1", b"v1")],
+)];
+
+static ROOTED_SHOWN: [Shown<'static>; 1] = [Held(
+    b"b",
+    Head {
+        root: 7,
+        sequence: 0,
+    },
+    &[],
+)];
 
 #[test]
 fn stated_bytes(rt: HostRuntime) -> Result<(), Fail> {
@@ -253,15 +300,20 @@ fn stated_bytes(rt: HostRuntime) -> Result<(), Fail> {
     let pages = [(3, INLINE_LEAF), (7, FOUR_CHILDREN), (8, ROOTED_LEAF)];
     let file = database(alloc, 9, &fields, &pages)?;
     let meta = meta_of(&rt, file.as_slice());
-    let held = [Within(b"b", 0, &[(b"k1", b"v1")])];
-    check_page(&rt, file.as_slice(), &meta, 3, Want::Leaves(0, &held));
+    check_page(
+        &rt,
+        file.as_slice(),
+        &meta,
+        3,
+        Want::Leaves(0, &INLINE_SHOWN),
+    );
     check_page(&rt, file.as_slice(), &meta, 7, Want::Branches(0, &CHILDREN));
     check_page(
         &rt,
         file.as_slice(),
         &meta,
         8,
-        Want::Leaves(0, &[Rooted(b"b", 7, 0)]),
+        Want::Leaves(0, &ROOTED_SHOWN),
     );
     Ok(())
 }
@@ -313,26 +365,13 @@ fn other_kinds(rt: HostRuntime) -> Result<(), Fail> {
     patch(&mut file, 10, &[9, 0, 7, 0, 0, 0])?;
     patch(&mut file, 2058, &[0xFF, 0xFF, 17, 0, 0, 0])?;
     let meta = meta_of(&rt, file.as_slice());
-    check_page(
-        &rt,
-        file.as_slice(),
-        &meta,
-        0,
-        Want::Other(Kind::Meta, 9, 7),
-    );
-    check_page(
-        &rt,
-        file.as_slice(),
-        &meta,
-        1,
-        Want::Other(Kind::Meta, 0, 0),
-    );
-    check_page(
-        &rt,
-        file.as_slice(),
-        &meta,
-        2,
-        Want::Other(Kind::Freelist, 0xFFFF, 17),
-    );
+    let rows = [
+        (0, Want::Other(Kind::Meta, 9, 7)),
+        (1, Want::Other(Kind::Meta, 0, 0)),
+        (2, Want::Other(Kind::Freelist, 0xFFFF, 17)),
+    ];
+    for (id, want) in rows {
+        check_page(&rt, file.as_slice(), &meta, id, want);
+    }
     Ok(())
 }

@@ -1,6 +1,7 @@
 //! Rows of sinks: one over a writer that fails, one over a healthy writer, and one in memory.
 
 use bolt_format::{MemSink, Sink, SinkFault, WriteSink};
+use std::alloc::{AllocError, Global};
 use std::io::{self, ErrorKind, Write};
 use std::process::Abort;
 use std::test::Fail;
@@ -22,6 +23,17 @@ struct Halting {
     /// The call that is refused; the first is 1.
     refused: usize,
     refusal: Refusal,
+}
+
+impl Halting {
+    fn new(alloc: Global, refused: usize, refusal: Refusal) -> Self {
+        Halting {
+            taken: Vec::new(alloc),
+            calls: 0,
+            refused,
+            refusal,
+        }
+    }
 }
 
 impl Write for Halting {
@@ -96,23 +108,19 @@ fn put_pieces<S: Sink>(rt: &impl Abort, sink: &mut S, failing: usize) {
     }
 }
 
+const REFUSALS: [Refusal; 4] = [
+    Refusal::Error(ErrorKind::Other),
+    Refusal::Error(ErrorKind::Interrupted),
+    Refusal::Error(ErrorKind::WouldBlock),
+    Refusal::Nothing,
+];
+
 #[test]
 fn refused_calls(rt: HostRuntime) -> Result<(), Fail> {
-    let refusals = [
-        Refusal::Error(ErrorKind::Other),
-        Refusal::Error(ErrorKind::Interrupted),
-        Refusal::Error(ErrorKind::WouldBlock),
-        Refusal::Nothing,
-    ];
-    for refusal in refusals {
+    for refusal in REFUSALS {
         for (i, (failing, taken)) in CALLS.iter().enumerate() {
             let refused = i + 1;
-            let mut sink = WriteSink::new(Halting {
-                taken: Vec::new(rt.alloc()),
-                calls: 0,
-                refused,
-                refusal,
-            });
+            let mut sink = WriteSink::new(Halting::new(rt.alloc(), refused, refusal));
             put_pieces(&rt, &mut sink, *failing);
             assert!(rt;
                 sink.put(b"more").is_err(),
@@ -133,12 +141,7 @@ fn refused_calls(rt: HostRuntime) -> Result<(), Fail> {
 
 #[test]
 fn short_writes(rt: HostRuntime) -> Result<(), Fail> {
-    let mut sink = WriteSink::new(Halting {
-        taken: Vec::new(rt.alloc()),
-        calls: 0,
-        refused: 0,
-        refusal: Refusal::Nothing,
-    });
+    let mut sink = WriteSink::new(Halting::new(rt.alloc(), 0, Refusal::Nothing));
     put_pieces(&rt, &mut sink, PIECES.len());
     let writer = sink.into_inner();
     assert_eq!(rt; writer.taken.as_slice(), WHOLE);
@@ -159,5 +162,39 @@ fn healthy_sinks(rt: HostRuntime) -> Result<(), Fail> {
     put_pieces(&rt, &mut in_memory, PIECES.len());
     assert_eq!(rt; in_memory.bytes(), WHOLE);
     assert_eq!(rt; in_memory.failures(), 0);
+    Ok(())
+}
+
+/// A piece of 1 MiB, in which each eight bytes tell how many stand before them.
+fn long_piece(alloc: Global) -> Result<Vec<u8>, AllocError> {
+    let mut piece = Vec::new(alloc);
+    for i in 0..131_072_u64 {
+        piece.extend_from_slice(&i.saturating_mul(8).to_le_bytes())?;
+    }
+    Ok(piece)
+}
+
+/// The sink takes the piece whole.
+fn put_long<S: Sink>(rt: &impl Abort, sink: &mut S, piece: &[u8]) {
+    assert_eq!(rt; piece.len(), 1_048_576);
+    assert_eq!(rt; sink.put(piece), Ok(()), "1 MiB");
+    assert_eq!(rt; sink.failures(), 0, "1 MiB");
+}
+
+#[test]
+fn long_pieces(rt: HostRuntime) -> Result<(), Fail> {
+    let piece = long_piece(rt.alloc())?;
+    let piece = piece.as_slice();
+    let mut in_memory = MemSink::new(rt.alloc());
+    put_long(&rt, &mut in_memory, piece);
+    assert!(rt; in_memory.bytes() == piece, "in memory");
+    let mut over_vec = WriteSink::new(Vec::new(rt.alloc()));
+    put_long(&rt, &mut over_vec, piece);
+    assert!(rt; over_vec.into_inner().as_slice() == piece, "over a vector");
+    let mut by_sevens = WriteSink::new(Halting::new(rt.alloc(), 0, Refusal::Nothing));
+    put_long(&rt, &mut by_sevens, piece);
+    let writer = by_sevens.into_inner();
+    assert!(rt; writer.taken.as_slice() == piece, "seven bytes a call");
+    assert_eq!(rt; writer.calls, 149_797);
     Ok(())
 }

@@ -1,0 +1,404 @@
+//! Rows of the checksum, of the accepted page sizes, of the meta records and of the choice between
+//! them.
+
+use crate::maker::{FRESH, MetaFields, NO_FREELIST, database, database_of, flip, meta_page, patch};
+use bolt_format::{Meta, MetaFault, Slot, choose, fnv1a, meta_at, page_size_ok};
+use std::alloc::{AllocError, Global};
+use std::process::Abort;
+use std::test::Fail;
+
+/// Texts and their checksums.
+static CHECKSUMS: [(&'static [u8], u64); 3] = [
+    (b"", 0xcbf2_9ce4_8422_2325),
+    (b"a", 0xaf63_dc4c_8601_ec8c),
+    (b"foobar", 0x8594_4171_f739_67e8),
+];
+
+#[test]
+fn checksums(rt: HostRuntime) {
+    for (bytes, sum) in &CHECKSUMS {
+        assert_eq!(rt; fnv1a(bytes), *sum, "the checksum of {bytes:?}");
+    }
+}
+
+static ACCEPTED: [u32; 16] = [
+    1024, 2048, 4096, 8192, 16_384, 32_768, 65_536, 131_072, 262_144, 524_288, 1_048_576,
+    2_097_152, 4_194_304, 8_388_608, 16_777_216, 33_554_432,
+];
+
+static REFUSED: [u64; 19] = [
+    0,
+    1,
+    16,
+    512,
+    1000,
+    1023,
+    1025,
+    1536,
+    3072,
+    65_535,
+    65_537,
+    1_000_000,
+    33_554_431,
+    33_554_433,
+    50_331_648,
+    67_108_864,
+    0x1_0000_0000,
+    0x1_0000_1000,
+    u64::MAX,
+];
+
+#[test]
+fn page_sizes(rt: HostRuntime) {
+    for size in &ACCEPTED {
+        assert!(rt; page_size_ok(u64::from(*size)), "page size {size}");
+    }
+    for size in &REFUSED {
+        assert!(rt; !page_size_ok(*size), "page size {size}");
+    }
+}
+
+/// The second meta page of the fresh file up to its checksum, as bbolt's format lays it out.
+const FRESH_META: [u8; 72] = [
+    0x01, 0, 0, 0, 0, 0, 0, 0, 0x04, 0, 0, 0, 0, 0, 0, 0, 0xed, 0xda, 0x0c, 0xed, 0x02, 0, 0, 0, 0,
+    0x10, 0, 0, 0, 0, 0, 0, 0x03, 0, 0, 0, 0, 0, 0, 0, 0, 0, 0, 0, 0, 0, 0, 0, 0x02, 0, 0, 0, 0, 0,
+    0, 0, 0x04, 0, 0, 0, 0, 0, 0, 0, 0x01, 0, 0, 0, 0, 0, 0, 0,
+];
+
+/// Its checksum: FNV-1a of the last 56 of those bytes.
+const FRESH_CHECKSUM: [u8; 8] = [0x0f, 0x48, 0x79, 0x51, 0x1a, 0x35, 0x4c, 0x26];
+
+#[test]
+fn fresh_meta(rt: HostRuntime) -> Result<(), Fail> {
+    let alloc = rt.alloc();
+    let mut page = FRESH_META.to_vec(alloc)?;
+    page.extend_from_slice(&FRESH_CHECKSUM)?;
+    let fields = MetaFields {
+        txid: 1,
+        ..MetaFields::fresh(4096)
+    };
+    let made = meta_page(alloc, 1, &fields)?;
+    assert_eq!(rt; made.as_slice(), page.as_slice(), "the maker's bytes");
+    let want = Meta {
+        page_size: 4096,
+        root: 3,
+        root_sequence: 0,
+        freelist: 2,
+        high_water: 4,
+        txid: 1,
+    };
+    assert_eq!(rt; meta_at(page.as_slice(), 0), Ok(want), "at byte 0");
+    assert_eq!(rt;
+        choose(page.as_slice()),
+        Ok((Slot::Zero, want)),
+        "alone at byte 0"
+    );
+    let bytes = database(alloc, 4, &MetaFields::fresh(4096), &[])?;
+    assert_eq!(rt;
+        meta_at(bytes.as_slice(), 4096),
+        Ok(want),
+        "at the second page"
+    );
+    assert_eq!(rt;
+        choose(bytes.as_slice()),
+        Ok((Slot::One, want)),
+        "of the two"
+    );
+    Ok(())
+}
+
+/// The meta that a reader is to tell.
+fn told(fields: &MetaFields) -> Meta {
+    Meta {
+        page_size: fields.page_size,
+        root: fields.root,
+        root_sequence: fields.sequence,
+        freelist: fields.freelist,
+        high_water: fields.mark,
+        txid: fields.txid,
+    }
+}
+
+/// A file of two metas and what is chosen of it. The metas stand at byte 0 and byte 1024.
+#[derive(Clone, Copy)]
+struct ChoiceRow<'a> {
+    name: &'a str,
+    zero: MetaFields,
+    one: MetaFields,
+    /// Where the lowest bit of a byte is changed.
+    flips: &'a [usize],
+    want: Result<Slot, MetaFault>,
+}
+
+/// Where the checksums of the two metas begin.
+const ZERO_CHECKSUM: usize = 72;
+
+const ONE_CHECKSUM: usize = 1024 + 72;
+
+const ZERO: MetaFields = MetaFields {
+    page_size: 1024,
+    freelist: NO_FREELIST,
+    mark: 5,
+    txid: 2,
+    ..FRESH
+};
+
+const ONE: MetaFields = MetaFields {
+    root: 4,
+    txid: 1,
+    ..ZERO
+};
+
+const PAIR: ChoiceRow<'static> = ChoiceRow {
+    name: "a newer first",
+    zero: ZERO,
+    one: ONE,
+    flips: &[],
+    want: Ok(Slot::Zero),
+};
+
+static FIELD_ROWS: [ChoiceRow<'static>; 8] = [
+    PAIR,
+    ChoiceRow {
+        name: "equal transactions",
+        one: MetaFields { txid: 2, ..ONE },
+        ..PAIR
+    },
+    ChoiceRow {
+        name: "a newer second",
+        one: MetaFields { txid: 3, ..ONE },
+        want: Ok(Slot::One),
+        ..PAIR
+    },
+    ChoiceRow {
+        name: "the greatest transaction",
+        zero: MetaFields {
+            txid: u64::MAX - 1,
+            ..ZERO
+        },
+        one: MetaFields {
+            txid: u64::MAX,
+            ..ONE
+        },
+        want: Ok(Slot::One),
+        ..PAIR
+    },
+    ChoiceRow {
+        name: "transactions that differ in the highest byte",
+        zero: MetaFields {
+            txid: 1 << 56,
+            ..ZERO
+        },
+        one: MetaFields { txid: 255, ..ONE },
+        ..PAIR
+    },
+    ChoiceRow {
+        name: "version 1 in both",
+        zero: MetaFields { version: 1, ..ZERO },
+        one: MetaFields { version: 1, ..ONE },
+        want: Err(MetaFault::Version),
+        ..PAIR
+    },
+    ChoiceRow {
+        name: "a flags field, and great numbers",
+        zero: MetaFields {
+            flags: u32::MAX,
+            root: 0xF1F2_F3F4_F5F6_F7F8,
+            sequence: u64::MAX,
+            freelist: 0x0102_0304_0506_0708,
+            mark: u64::MAX,
+            ..ZERO
+        },
+        ..PAIR
+    },
+    // The second meta is looked for at 2048 alone, where there is none.
+    ChoiceRow {
+        name: "a newer second where the first doesn't look",
+        zero: MetaFields {
+            page_size: 2048,
+            ..ZERO
+        },
+        one: MetaFields { txid: 9, ..ONE },
+        ..PAIR
+    },
+];
+
+/// A second meta that is newer, but says page size 2048 and stands at 1024.
+const MISPLACED: ChoiceRow<'static> = ChoiceRow {
+    name: "a second at a place that isn't its page size",
+    one: MetaFields {
+        page_size: 2048,
+        txid: 9,
+        ..ONE
+    },
+    ..PAIR
+};
+
+static FLIP_ROWS: [ChoiceRow<'static>; 11] = [
+    ChoiceRow {
+        name: "a bit of the first checksum",
+        flips: &[ZERO_CHECKSUM],
+        want: Ok(Slot::One),
+        ..PAIR
+    },
+    ChoiceRow {
+        name: "a bit of the second checksum",
+        flips: &[ONE_CHECKSUM],
+        ..PAIR
+    },
+    ChoiceRow {
+        name: "a bit of the first root",
+        flips: &[48],
+        want: Ok(Slot::One),
+        ..PAIR
+    },
+    ChoiceRow {
+        name: "a bit of each page header",
+        flips: &[0, 8, 15, 1024, 1032],
+        ..PAIR
+    },
+    ChoiceRow {
+        name: "a bit of each checksum",
+        flips: &[ZERO_CHECKSUM, ONE_CHECKSUM],
+        want: Err(MetaFault::Sum),
+        ..PAIR
+    },
+    ChoiceRow {
+        name: "the first version, the second checksum",
+        flips: &[20, ONE_CHECKSUM],
+        want: Err(MetaFault::Version),
+        ..PAIR
+    },
+    ChoiceRow {
+        name: "the first magic number and version",
+        flips: &[16, 20, ONE_CHECKSUM],
+        want: Err(MetaFault::Magic),
+        ..PAIR
+    },
+    ChoiceRow {
+        name: "the first checksum, the second magic number",
+        flips: &[ZERO_CHECKSUM, 1040],
+        want: Err(MetaFault::Sum),
+        ..PAIR
+    },
+    ChoiceRow {
+        name: "the second magic number",
+        flips: &[1040],
+        ..PAIR
+    },
+    MISPLACED,
+    ChoiceRow {
+        name: "the misplaced one without the first",
+        flips: &[ZERO_CHECKSUM],
+        want: Err(MetaFault::Sum),
+        ..MISPLACED
+    },
+];
+
+fn check_choice(rt: &impl Abort, alloc: Global, row: &ChoiceRow<'_>) -> Result<(), AllocError> {
+    let mut bytes = database_of(alloc, 1024, 5, [&row.zero, &row.one], &[])?;
+    for at in row.flips {
+        flip(&mut bytes, *at);
+    }
+    let want = row.want.map(|slot| match slot {
+        Slot::Zero => (slot, told(&row.zero)),
+        Slot::One => (slot, told(&row.one)),
+    });
+    assert_eq!(rt; choose(bytes.as_slice()), want, "{}", row.name);
+    Ok(())
+}
+
+/// Page sizes in both metas that are refused.
+static REFUSED_SIZES: [u32; 7] = [0, 512, 1000, 1536, 33_554_433, 67_108_864, 1 << 31];
+
+#[test]
+fn choices(rt: HostRuntime) -> Result<(), Fail> {
+    for row in FIELD_ROWS.iter().chain(&FLIP_ROWS) {
+        check_choice(&rt, rt.alloc(), row)?;
+    }
+    for page_size in &REFUSED_SIZES {
+        let zero = MetaFields {
+            page_size: *page_size,
+            ..ZERO
+        };
+        let one = MetaFields {
+            page_size: *page_size,
+            ..ONE
+        };
+        let bytes = database_of(rt.alloc(), 1024, 5, [&zero, &one], &[])?;
+        let fault = Err(MetaFault::PageSize);
+        assert_eq!(rt; choose(bytes.as_slice()), fault, "page size {page_size}");
+    }
+    Ok(())
+}
+
+/// The length of a meta page up to the end of its record.
+const META_LEN: usize = 80;
+
+/// Zeros before a meta that says this page size, and stands there if that is accepted.
+fn check_lone(
+    rt: &impl Abort,
+    alloc: Global,
+    zeros: &mut Vec<u8>,
+    page_size: u32,
+    want: Result<(Slot, Meta), MetaFault>,
+) -> Result<(), AllocError> {
+    let at = page_size as usize;
+    let end = at.saturating_add(META_LEN);
+    let page = meta_page(alloc, 1, &MetaFields::fresh(page_size))?;
+    patch(zeros, at, page.as_slice())?;
+    let bytes = zeros.as_slice();
+    let whole = bytes.get(..end).unwrap_or(bytes);
+    assert_eq!(rt; choose(whole), want, "page size {page_size}");
+    let cut = bytes.get(..end.saturating_sub(1)).unwrap_or(bytes);
+    let fault = Err(MetaFault::Magic);
+    assert_eq!(rt; choose(cut), fault, "page size {page_size}, cut");
+    patch(zeros, at, &[0; META_LEN])
+}
+
+#[test]
+fn second_meta_alone(rt: HostRuntime) -> Result<(), Fail> {
+    let alloc = rt.alloc();
+    let mut zeros = vec![in alloc; 0; 67_108_864 + META_LEN]?;
+    for size in &ACCEPTED {
+        let want = (Slot::One, told(&MetaFields::fresh(*size)));
+        check_lone(&rt, alloc, &mut zeros, *size, Ok(want))?;
+    }
+    for size in [512, 67_108_864] {
+        check_lone(&rt, alloc, &mut zeros, size, Err(MetaFault::Magic))?;
+    }
+    for size in [4096, 2048] {
+        let page = meta_page(alloc, 1, &MetaFields::fresh(size))?;
+        patch(&mut zeros, size as usize, page.as_slice())?;
+    }
+    let want = Ok((Slot::One, told(&MetaFields::fresh(2048))));
+    let found = choose(zeros.as_slice());
+    assert_eq!(rt; found, want, "the first of two places");
+    Ok(())
+}
+
+#[test]
+fn cut_metas(rt: HostRuntime) -> Result<(), Fail> {
+    let fields = MetaFields::fresh(1024);
+    let want = Ok((Slot::Zero, told(&fields)));
+    let mut bytes = database(rt.alloc(), 4, &fields, &[])?;
+    for at in [1, 1008, 4016] {
+        let fault = Err(MetaFault::Magic);
+        assert_eq!(rt; meta_at(bytes.as_slice(), at), fault, "at byte {at}");
+    }
+    for at in [4017, 4096, 4097, usize::MAX - 79, usize::MAX] {
+        let fault = Err(MetaFault::Cut);
+        assert_eq!(rt; meta_at(bytes.as_slice(), at), fault, "at byte {at}");
+    }
+    // One byte too few for the second meta, and then fewer.
+    for length in [1103, 1102, 80] {
+        bytes.truncate(length);
+        assert_eq!(rt; choose(bytes.as_slice()), want, "{length} bytes");
+    }
+    for length in [79, 16, 1, 0] {
+        bytes.truncate(length);
+        let fault = Err(MetaFault::Cut);
+        assert_eq!(rt; choose(bytes.as_slice()), fault, "{length} bytes");
+    }
+    Ok(())
+}
