@@ -56,9 +56,6 @@ path_same a = tied_itself path_total a
 pub flip_less : {K : Type 0} {R : K → K → Ordering} → IsTotalOrder R → (a b : K) → R a b ≡ Less → R b a ≡ Greater
 flip_less {R = R} o a b e = o.antisymm b a ∙ ap ordering_reverse e
 
-pub flip_greater : {K : Type 0} {R : K → K → Ordering} → IsTotalOrder R → (a b : K) → R a b ≡ Greater → R b a ≡ Less
-flip_greater {R = R} o a b e = o.antisymm b a ∙ ap ordering_reverse e
-
 -- a path stands before those that it begins
 pub before_longer : (p : Path) (k : Key) (r : Path) → path_cmp p (p ++ k ∷ r) ≡ Less
 before_longer [] k r = refl
@@ -70,9 +67,6 @@ same_front [] s t = refl
 same_front (x ∷ p) s t = rw key_same (same_front p s t)
 
 -- what stands behind a path stands beyond it, or begins with it
-Extends : Path → Path → Type 0
-Extends p q = (k : Key) × (r : Path) × (q ≡ p ++ k ∷ r)
-
 by_parts : (x y : Key) (p q : Path) (o : Ordering) → key_cmp x y ≡ o → ordering_then o (path_cmp p q) ≡ Less
     → (path_cmp p q ≡ Less → (is_beyond p q ≡ true) ⊎ ((k : Key) × (r : Path) × (q ≡ p ++ k ∷ r)))
     → (by_first o (is_beyond p q) ≡ true) ⊎ ((k : Key) × (r : Path) × (y ∷ q ≡ (x ∷ p) ++ k ∷ r))

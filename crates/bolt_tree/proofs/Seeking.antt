@@ -2,7 +2,7 @@
 -- Rests on the order of paths, and on what a named bucket holds (Named).
 use Rattle.std.proofs.Common.{◌≡◌, ◌∙◌, ◌≤◌, inl, inr, Bool, true, false, not, List, [], ◌∷◌, ◌++◌, length, Some, slice_get, refl, ap, subst}
 use Rattle.std.specs.List.{Contains}
-use Rattle.std.specs.Ordering.{is_lt, ordering_then}
+use Rattle.std.specs.Ordering.{is_lt}
 use Rattle.std.specs.declared.cmp.Ordering.{Ordering}
 use Rattle.std.specs.declared.cmp.Ordering.TheVariants.{Less, Equal, Greater}
 use Rattle.bolt_format.specs.Elements.{LeafElement}
@@ -30,9 +30,6 @@ behind_from p w m less from = by (path_cmp w m) refl
 not_of : (a : Bool) → not a ≡ true → a ≡ false
 not_of true e = absurd (cc)
 not_of false e = refl
-
-then_lt : (o r : Ordering) → o ≡ Less → is_lt (ordering_then o r) ≡ true
-then_lt o r e = rw e refl
 
 -- a path with a lesser part in that place stands before
 lesser_part : (p : Path) (z k : Key) (r s : Path) → key_cmp z k ≡ Less → path_cmp (p ++ z ∷ r) (p ++ k ∷ s) ≡ Less
