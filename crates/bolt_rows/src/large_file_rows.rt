@@ -1,65 +1,66 @@
 //! Rows of `check` on files of 64 MB, and on one with two thousand findings.
 
 use crate::commands::{CHECK, Outcome, check_refused, check_row};
+use crate::samples::{FRESH_FILE, Sample, make};
 use Outcome::Prints;
 use format_rows::free_files::numbers;
-use format_rows::maker::{MetaFields, NO_FREELIST, database, freelist, leaf, long_freelist};
+use format_rows::maker::{
+    MetaFields, NO_FREELIST, database, freelist, leaf, long_freelist, meta_page, patch,
+};
 use std::alloc::{AllocError, Global};
 use std::test::Fail;
 
-const SOUND: Outcome<'static> = Prints("OK\n");
+const PAGE_SIZE: usize = 4096;
 
 const PAGES_HELD: usize = 16_384;
 
-/// An empty root page, and zeros to the end of the file.
-fn with_zeros(alloc: Global, fields: &MetaFields) -> Result<Vec<u8>, AllocError> {
-    let root = leaf(alloc, 3, &[])?;
-    database(alloc, PAGES_HELD, fields, &[(3, root.as_slice())])
+/// Puts both metas over those of a file.
+fn put_metas(alloc: Global, file: &mut Vec<u8>, fields: MetaFields) -> Result<(), AllocError> {
+    let zero = meta_page(alloc, 0, &fields)?;
+    patch(file, 0, zero.as_slice())?;
+    let one = meta_page(alloc, 1, &MetaFields { txid: 1, ..fields })?;
+    patch(file, PAGE_SIZE, one.as_slice())
 }
 
-/// A mark at the end of the file, a freelist on the pages 2 to 34, and an empty root page 35.
-fn with_free_pages(alloc: Global, ids: &[u64]) -> Result<Vec<u8>, AllocError> {
+/// Puts a freelist on the pages 2 to 34.
+fn put_free_pages(alloc: Global, file: &mut Vec<u8>, ids: &[u64]) -> Result<(), AllocError> {
     let free = long_freelist(alloc, 2, 32, ids.len() as u64, ids)?;
+    patch(file, 2 * PAGE_SIZE, free.as_slice())
+}
+
+/// One file of 64 MB, changed from row to row: its mark is 4, and then its end.
+#[test]
+fn large_files(rt: HostRuntime) -> Result<(), Fail> {
+    let alloc = rt.alloc();
     let root = leaf(alloc, 35, &[])?;
     let fields = MetaFields {
         root: 35,
         mark: PAGES_HELD as u64,
         ..MetaFields::fresh(4096)
     };
-    let pages = [(2, free.as_slice()), (35, root.as_slice())];
-    database(alloc, PAGES_HELD, &fields, &pages)
-}
-
-#[test]
-fn large_files(rt: HostRuntime) -> Result<(), Fail> {
-    let alloc = rt.alloc();
-    let file = with_zeros(alloc, &MetaFields::fresh(4096))?;
-    assert_eq!(rt; file.len(), 67_108_864);
-    let name = "64 MB of zeros past the mark";
-    check_row(&rt, alloc, name, file.as_slice(), (CHECK, SOUND))?;
-    let fields = MetaFields {
-        freelist: NO_FREELIST,
-        mark: PAGES_HELD as u64,
-        ..MetaFields::fresh(4096)
+    let sample = Sample {
+        pages_held: PAGES_HELD,
+        ..FRESH_FILE
     };
-    let file = with_zeros(alloc, &fields)?;
-    let name = "64 MB of pages and no freelist";
-    check_row(&rt, alloc, name, file.as_slice(), (CHECK, SOUND))?;
-    Ok(())
-}
-
-#[test]
-fn free_files(rt: HostRuntime) -> Result<(), Fail> {
-    let alloc = rt.alloc();
-    let mut ids = numbers(alloc, 36, 16_348)?;
-    let file = with_free_pages(alloc, ids.as_slice())?;
+    let mut file = make(alloc, &sample)?;
     assert_eq!(rt; file.len(), 67_108_864);
-    let name = "64 MB of free pages";
-    check_row(&rt, alloc, name, file.as_slice(), (CHECK, SOUND))?;
+    let row = (CHECK, Prints("OK\n"));
+    check_row(&rt, alloc, "64 MB past the mark", file.as_slice(), row)?;
+    patch(&mut file, 35 * PAGE_SIZE, root.as_slice())?;
+    let unlisted = MetaFields {
+        freelist: NO_FREELIST,
+        ..fields
+    };
+    put_metas(alloc, &mut file, unlisted)?;
+    check_row(&rt, alloc, "64 MB, no freelist", file.as_slice(), row)?;
+    put_metas(alloc, &mut file, fields)?;
+    let mut ids = numbers(alloc, 36, 16_348)?;
+    put_free_pages(alloc, &mut file, ids.as_slice())?;
+    check_row(&rt, alloc, "64 MB of free pages", file.as_slice(), row)?;
     assert_eq!(rt; ids.pop(), Some(16_383));
-    let file = with_free_pages(alloc, ids.as_slice())?;
+    put_free_pages(alloc, &mut file, ids.as_slice())?;
     let text = "page 16383: unreachable unfreed\n1 errors found\n";
-    check_refused(&rt, alloc, "the last one lost", file.as_slice(), text)?;
+    check_refused(&rt, alloc, "the last page lost", file.as_slice(), text)?;
     Ok(())
 }
 
@@ -87,8 +88,7 @@ fn many_findings(rt: HostRuntime) -> Result<(), Fail> {
         ..MetaFields::fresh(32_768)
     };
     let pages = [(2, free.as_slice()), (3, root.as_slice())];
-    let file = database(alloc, 2004, &fields, &pages)?;
-    assert_eq!(rt; file.len(), 65_667_072);
+    let file = database(alloc, 4, &fields, &pages)?;
     let name = "a thousand pages freed twice";
     check_refused(&rt, alloc, name, file.as_slice(), text.as_str())?;
     Ok(())
