@@ -25,6 +25,7 @@ examples: $(PROGRAM)
 	! $(PROGRAM) check $(LEAKED).db > /dev/null
 	$(PROGRAM) check $(LEAKED).db | cmp - $(LEAKED).findings
 	$(PROGRAM) check $(LEAKED).db 2>&1 > /dev/full | grep -qx "error: write failed"
+	$(PROGRAM) check $(LEAKED).db 2> /dev/null > /dev/full; test $$? -eq 1
 
 # The merge gate: real databases, refused memory, and then every proof from nothing, the wrong
 # bodies, the tests and the program.
