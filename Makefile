@@ -53,11 +53,13 @@ DEEP = out/deep.db
 REFUSED = rt try --data deep.db=$(abspath $(DEEP)) --fail-alloc
 
 # Checks a file of 20,000 nested buckets where a request for memory is refused. The checker makes
-# two, the 75th and the 76th of the program, and there is no 77th.
+# two, the 75th and the 76th of the program, and there is no 77th: the cursor, by which buckets are
+# listed, makes none.
 memory: $(DEEP)
 	cd crates/luntsegi && $(REFUSED) 75 -- check deep.db 2>&1 | grep -x "error: out of memory"
 	cd crates/luntsegi && $(REFUSED) 76 -- check deep.db 2>&1 | grep -x "error: out of memory"
 	cd crates/luntsegi && $(REFUSED) 77 -- check deep.db 2>&1 | grep -x OK
+	cd crates/luntsegi && $(REFUSED) 77 -- buckets deep.db 2>&1 | grep -x b
 
 $(DEEP): tools/bench/make_deep.py
 	mkdir -p $(@D)
