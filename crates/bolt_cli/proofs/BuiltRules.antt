@@ -7,10 +7,10 @@ use Rattle.std.proofs.lemmas.Bool.{and_parts, cases_Bool, eq-eqb, eqb-true, fals
 use Rattle.std.proofs.lemmas.Slice.Eq.{bytes_eq-Decides}
 use Rattle.clap.specs.Lexer.{usize_max}
 use Rattle.clap.specs.Words.{Rule, Shape, Text}
-use Rattle.clap.specs.Walk.{arg_by_id, arg_by_index, arg_by_long, arg_by_short}
+use Rattle.clap.specs.Walk.{arg_by_id, arg_by_index, arg_by_long, arg_by_short, takes_several}
 use Rattle.clap.specs.Simple.{built_leaf, filled, filled_from, help_rule, index_after, inherited, marked_built, with_index, with_leaf_noted}
 use Rattle.bolt_cli.specs.CommandLine.{command_of, operand_rule, option_rule, program}
-use Rattle.bolt_cli.specs.PlainWords.{Choice, Flag, Operand, Syntax, is_called, is_lettered, long, short}
+use Rattle.bolt_cli.specs.LineWords.{Choice, Flag, Operand, Syntax, is_called, is_lettered, long, short}
 
 -- the command as it is built into the program
 abbrev pub line_shape : Syntax → Shape
@@ -34,6 +34,19 @@ options_built options = map option_built options ++ help_built ∷ []
 
 abbrev pub rules_built : Syntax → List Rule
 rules_built s = operands_built 1 s.operands ++ options_built s.options
+
+-- ---- operands
+
+abbrev pub operand_of : Text → Bool → Operand
+operand_of name several = record { name = name; several = several }
+
+one_by_one : (i : ℕ) (name : Text) (several : Bool) → takes_several (operand_built i (operand_of name several)) ≡ false
+one_by_one i name true = refl
+one_by_one i name false = refl
+
+-- an operand takes one word at a time
+pub takes_one_word : (i : ℕ) (o : Operand) → takes_several (operand_built i o) ≡ false
+takes_one_word i o = one_by_one i o.name o.several
 
 -- ---- building
 

@@ -1,10 +1,15 @@
 -- The command line as it is built, and what its matches say.
 use Rattle.std.proofs.Common.{◌≡◌, ◌⊎◌, ◌∙◌, List, [], ◌∷◌, ◌++◌, ℕ, ◌+◌, ◌<◌, true, false, add-one, get_or, length, map, take, refl, sym, ap, ap₂, subst, inl, inr, rules, ◌||◌, Option, None, Some, Result, Ok, Err, IfOk, IfErr, option_map, slice_get, unwrap_or}
-use Rattle.std.specs.Prelude.{option_and_then}
+use Rattle.std.specs.Prelude.{Box, option_and_then}
+use Rattle.std.specs.Box.{box_value}
 use Rattle.std.proofs.Math.Seq.{take-suc}
 use Rattle.std.proofs.lemmas.List.{map-append}
 use Rattle.clap.specs.Words.{AddsArg, AddsSubcommand, App, HasMatchesOf, IsAmong, Kinds, Row, Rule, Text, fault_of, is_simple, is_simple_and_free, subcommand_of, subcommand_rows_of, rule_of, with_rule, with_subcommand}
 use Rattle.clap.specs.declared.parser.ArgMatches.{ArgMatches}
+use Rattle.clap.specs.declared.parser.matches.ArgMatches.TheViews.{out-ArgMatches, out-SubCommand}
+use Rattle.clap.specs.declared.parser.matches.SubCommand.{SubCommand}
+use Rattle.clap.specs.Matches.{subcommand_name_of}
+use Rattle.clap.specs.Simple.{subcommand_rows}
 use Rattle.clap.specs.declared.builder.Arg.{Arg}
 use Rattle.clap.specs.declared.builder.Command.{Command}
 use Rattle.clap.specs.declared.error.ErrorKind.{ErrorKind}
@@ -12,8 +17,8 @@ use Rattle.clap.specs.declared.error.ErrorKind.TheVariants as kind
 use Rattle.bolt_cli.specs.declared.job.Job.{Job}
 use Rattle.bolt_cli.specs.declared.words.Refusal.{Refusal}
 use Rattle.bolt_cli.specs.declared.words.Refusal.TheVariants.{Memory, Help, Usage, Word}
-use Rattle.bolt_cli.specs.CommandLine.{Asks, Gives, HasKindOf, IsCommand, IsRefusedBy, asked_by, command_with, program}
-use Rattle.bolt_cli.specs.PlainWords.{Asked, asked_of, first_of}
+use Rattle.bolt_cli.specs.CommandLine.{Asks, Gives, HasKindOf, IsCommand, IsRefusedBy, asked_by, asked_by_subcommand, command_with, program, values_in}
+use Rattle.bolt_cli.specs.PlainWords.{Asked, asked, asked_of, first_of}
 
 pub program_is_simple : is_simple program ≡ true
 program_is_simple = refl
@@ -66,6 +71,17 @@ first_at (word ∷ words) = refl
 pub found_first : (row : Option Row) → option_and_then (λ (r : Row). slice_get r.values 0) row ≡ first_of (unwrap_or (option_map (λ (r : Row). r.values) row) [])
 found_first None = refl
 found_first (Some row) = first_at row.values
+
+named_rows : {Z : Type 0} (sub : Option (Box SubCommand Z)) (name : Text) (rows : List Row)
+    → option_map (λ (b : Box SubCommand Z). (out-SubCommand (box_value b)).name.now) sub ≡ Some name → option_map (λ (p : Text × List Row). p.1) (subcommand_rows sub) ≡ Some rows
+    → subcommand_rows sub ≡ Some (name, rows)
+named_rows None name rows named has = absurd (let bad : None ≡ Some name = named in search (rules, bad))
+named_rows (Some b) name rows named has = ap₂ (λ (n : Text) (r : List Row). Some (n, r)) (search (rules, named)) (search (rules, has))
+
+-- what is asked for, by the name of the subcommand and its rows
+pub asked_named : (m : ArgMatches) (name : Text) (rows : List Row) → subcommand_name_of m ≡ Some name → option_map (λ (p : Text × List Row). p.1) (subcommand_rows_of m) ≡ Some rows
+    → asked_by_subcommand (subcommand_rows_of m) ≡ asked name (values_in rows)
+asked_named m name rows named has = ap asked_by_subcommand (named_rows (out-ArgMatches m).subcommand name rows named has)
 
 -- ---- answers
 

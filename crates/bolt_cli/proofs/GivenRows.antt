@@ -1,18 +1,19 @@
 -- What the rows of matches say, where a line gave these words.
-use Rattle.std.proofs.Common.{◌≡◌, ◌∙◌, Bool, List, [], ◌∷◌, ◌++◌, Option, Some, None, true, false, refl, sym, subst, ap, ap₂, inl, inr, rules, ◌||◌, cond, option_map, unwrap_or, append-nil}
+use Rattle.std.proofs.Common.{◌≡◌, ◌∙◌, Bool, List, [], ◌∷◌, ◌++◌, Option, Some, None, true, false, refl, sym, subst, ap, inl, inr, rules, ◌||◌, cond, option_map, unwrap_or, append-nil}
 use Rattle.std.specs.Prelude.{find, is_some, if◌then◌else◌}
 use Rattle.std.specs.Option.{option_map_or}
 use Rattle.std.specs.Str.{bytes_eq}
 use Rattle.std.proofs.lemmas.Bool.{cases_Bool}
 use Rattle.std.proofs.lemmas.Slice.Eq.{bytes_eq-Decides}
 use Rattle.clap.specs.Words.{Row, Text}
-use Rattle.clap.specs.Walk.{at_row, has_row, more_values, with_values, without}
+use Rattle.clap.specs.Walk.{has_row, stronger, with_values, without}
 use Rattle.clap.specs.Facts.{explicit_source}
 use Rattle.clap.specs.Takes.{is_given}
 use Rattle.clap.specs.declared.builder.value_parser.Reading.{Reading}
 use Rattle.clap.specs.declared.parser.matches.ValueSource.TheVariants.{CommandLine}
 use Rattle.bolt_cli.specs.CommandLine.{values_in}
-use Rattle.bolt_cli.specs.PlainWords.{first_of, has, values_of}
+use Rattle.bolt_cli.specs.LineWords.{has, values_of}
+use Rattle.bolt_cli.specs.PlainWords.{first_of}
 
 abbrev pub Given : Type 0
 Given = List (Text × Text)
@@ -88,7 +89,7 @@ value_here : (b : Bool) (word : Text) (words more : List Text)
 value_here true word words more = refl
 value_here false word words more = refl
 
-values-append : (given more : Given) (name : Text) → values_of (given ++ more) name ≡ values_of given name ++ values_of more name
+pub values-append : (given more : Given) (name : Text) → values_of (given ++ more) name ≡ values_of given name ++ values_of more name
 values-append [] more name = refl
 values-append (pair ∷ given) more name =
     ap (λ words. if bytes_eq pair.0 name then pair.1 ∷ words else words) (values-append given more name)
@@ -105,20 +106,6 @@ no_row : (row : Option Row) → RowSays row [] → row ≡ None
 no_row None says = refl
 no_row (Some r) says = absurd says
 
--- a row of another name stays before what is done to the later ones
-past_row : (name : Text) (r : Row) (rows : List Row) → row_at name (r ∷ rows) ≡ None → (bytes_eq r.id name ≡ false) × (row_at name rows ≡ None)
-past_row name r rows none = elim (cases_Bool (bytes_eq r.id name)) [
-  | inl same ↦ let bad = sym (ap (λ b. cond b (Some r) (row_at name rows)) same) ∙ none in absurd (search (rules, bad))
-  | inr other ↦ (other, sym (ap (λ b. cond b (Some r) (row_at name rows)) other) ∙ none)
-]
-
-at_no_row : (name : Text) (change : Row → List Row) (missing rows : List Row) → row_at name rows ≡ None → at_row name change missing rows ≡ rows ++ missing
-at_no_row name change missing [] none = refl
-at_no_row name change missing (r ∷ rows) none =
-    let past = past_row name r rows none in
-    ap (λ b. if b then change r ++ rows else r ∷ at_row name change missing rows) past.0
-    ∙ ap (λ (later : List Row). r ∷ later) (at_no_row name change missing rows past.1)
-
 abbrev new_row : Text → Reading → Text → Row
 new_row name how word = record {
   id = name;
@@ -128,50 +115,91 @@ new_row name how word = record {
   reading = how;
 }
 
--- the rows with one for a word more
-abbrev pub rows_with : Text → Reading → Text → List Row → List Row
-rows_with name how word rows = with_values name how CommandLine (word ∷ []) (without name rows)
+-- the row of a name with a word more
+abbrev row_with : Text → Reading → Text → Option Row → Row
+row_with name how word None = new_row name how word
+row_with name how word (Some r) = record r { values = r.values ++ word ∷ []; source = Some (stronger r.source CommandLine) }
 
-row_added : (name : Text) (how : Reading) (word : Text) (rows : List Row) → row_at name rows ≡ None → rows_with name how word rows ≡ rows ++ new_row name how word ∷ []
-row_added name how word rows none =
-    let same : without name rows ≡ rows = at_no_row name (λ _. []) [] rows none ∙ append-nil rows in
-    ap (with_values name how CommandLine (word ∷ [])) same ∙ at_no_row name (more_values CommandLine (word ∷ [])) (new_row name how word ∷ []) rows none
+abbrev pub rows_with_more : Text → Reading → Text → List Row → List Row
+rows_with_more name how word rows = with_values name how CommandLine (word ∷ []) rows
 
-either_row : (b : Bool) (r : Row) (first last : Option Row) → cond b (Some r) (cond (is_some first) first last) ≡ cond (is_some (cond b (Some r) first)) (cond b (Some r) first) last
-either_row true r first last = refl
-either_row false r first last = refl
+itself : (name : Text) → bytes_eq name name ≡ true
+itself name = (bytes_eq-Decides name name).1 refl
 
-row_at-append : (name : Text) (rows : List Row) (r : Row)
-    → row_at name (rows ++ r ∷ []) ≡ cond (is_some (row_at name rows)) (row_at name rows) (cond (bytes_eq r.id name) (Some r) None)
-row_at-append name [] r = refl
-row_at-append name (x ∷ rows) r =
-    ap (cond (bytes_eq x.id name) (Some x)) (row_at-append name rows r) ∙ either_row (bytes_eq x.id name) x (row_at name rows) (cond (bytes_eq r.id name) (Some r) None)
+own_row : (name : Text) (how : Reading) (word : Text) (rows : List Row) → row_at name (rows_with_more name how word rows) ≡ Some (row_with name how word (row_at name rows))
+own_row name how word [] = ap (λ b. cond b (Some (new_row name how word)) None) (itself name)
+own_row name how word (r ∷ rows) = elim (cases_Bool (bytes_eq r.id name)) [
+  | inl same ↦
+      let there : rows_with_more name how word (r ∷ rows) ≡ row_with name how word (Some r) ∷ rows =
+      ap (λ b. if b then row_with name how word (Some r) ∷ rows else r ∷ rows_with_more name how word rows) same in
+      ap (row_at name) there ∙ ap (λ b. cond b (Some (row_with name how word (Some r))) (row_at name rows)) same
+      ∙ sym (ap (λ b. Some (row_with name how word (cond b (Some r) (row_at name rows)))) same)
+  | inr other ↦
+      let there : rows_with_more name how word (r ∷ rows) ≡ r ∷ rows_with_more name how word rows =
+      ap (λ b. if b then row_with name how word (Some r) ∷ rows else r ∷ rows_with_more name how word rows) other in
+      ap (row_at name) there ∙ ap (λ b. cond b (Some r) (row_at name (rows_with_more name how word rows))) other ∙ own_row name how word rows
+      ∙ sym (ap (λ b. Some (row_with name how word (cond b (Some r) (row_at name rows)))) other)
+]
 
-kept_row : (row : Option Row) → cond (is_some row) row None ≡ row
-kept_row None = refl
-kept_row (Some r) = refl
+other_row : (name other : Text) (how : Reading) (word : Text) (rows : List Row) → bytes_eq name other ≡ false → row_at other (rows_with_more name how word rows) ≡ row_at other rows
+other_row name other how word [] differs = ap (λ b. cond b (Some (new_row name how word)) None) differs
+other_row name other how word (r ∷ rows) differs = elim (cases_Bool (bytes_eq r.id name)) [
+  | inl same ↦
+      let there : rows_with_more name how word (r ∷ rows) ≡ row_with name how word (Some r) ∷ rows =
+      ap (λ b. if b then row_with name how word (Some r) ∷ rows else r ∷ rows_with_more name how word rows) same in
+      let past : bytes_eq r.id other ≡ false = ap (λ n. bytes_eq n other) ((bytes_eq-Decides r.id name).0 same) ∙ differs in
+      ap (row_at other) there ∙ ap (λ b. cond b (Some (row_with name how word (Some r))) (row_at other rows)) past
+      ∙ sym (ap (λ b. cond b (Some r) (row_at other rows)) past)
+  | inr apart ↦
+      let there : rows_with_more name how word (r ∷ rows) ≡ r ∷ rows_with_more name how word rows =
+      ap (λ b. if b then row_with name how word (Some r) ∷ rows else r ∷ rows_with_more name how word rows) apart in
+      ap (row_at other) there ∙ ap (cond (bytes_eq r.id other) (Some r)) (other_row name other how word rows differs)
+]
 
-pub rows_added : (rows : List Row) (given : Given) (name : Text) (how : Reading) (word : Text) → HasRows rows given → has given name ≡ false
-    → HasRows (rows_with name how word rows) (given ++ (name, word) ∷ [])
-rows_added rows given name how word says new other =
-    let r = new_row name how word in
-    let none_before = none_given given name new in
-    let none : row_at name rows ≡ None = no_row (row_at name rows) (subst (RowSays (row_at name rows)) none_before (says name)) in
-    let row_is_there = ap (row_at other) (row_added name how word rows none) ∙ row_at-append other rows r in
+says_more : (name : Text) (how : Reading) (word : Text) (row : Option Row) (words : List Text) → RowSays row words → RowSays (Some (row_with name how word row)) (words ++ word ∷ [])
+says_more name how word None [] says = (refl, refl)
+says_more name how word None (w ∷ words) says = absurd says
+says_more name how word (Some r) [] says = absurd says
+says_more name how word (Some r) (w ∷ words) says = (ap (λ (ws : List Text). ws ++ word ∷ []) says.0, ap (λ source. Some (stronger source CommandLine)) says.1)
+
+-- a word more by a name, whether it has words or not
+pub rows_more : (rows : List Row) (given : Given) (name : Text) (how : Reading) (word : Text) → HasRows rows given
+    → HasRows (rows_with_more name how word rows) (given ++ (name, word) ∷ [])
+rows_more rows given name how word says other =
     let words_there = values-append given ((name, word) ∷ []) other in
     elim (cases_Bool (bytes_eq name other)) [
       | inl same ↦
           let is = (bytes_eq-Decides name other).0 same in
-          let there : row_at other rows ≡ None = ap (λ n. row_at n rows) (sym is) ∙ none in
-          let row : row_at other (rows_with name how word rows) ≡ Some r =
-          row_is_there ∙ ap (λ o. cond (is_some o) o (cond (bytes_eq name other) (Some r) None)) there ∙ ap (λ b. cond b (Some r) None) same in
-          let words : values_of (given ++ (name, word) ∷ []) other ≡ word ∷ [] =
-          words_there ∙ ap₂ (λ (a : List Text) (b : Bool). a ++ (if b then word ∷ [] else [])) (ap (values_of given) (sym is) ∙ none_before) same in
-          subst (λ o. RowSays o (values_of (given ++ (name, word) ∷ []) other)) (sym row) (subst (RowSays (Some r)) (sym words) (refl, refl))
+          let row : row_at other (rows_with_more name how word rows) ≡ Some (row_with name how word (row_at other rows)) =
+          ap (λ n. row_at n (rows_with_more name how word rows)) (sym is) ∙ own_row name how word rows ∙ ap (λ n. Some (row_with name how word (row_at n rows))) is in
+          let words : values_of (given ++ (name, word) ∷ []) other ≡ values_of given other ++ word ∷ [] =
+          words_there ∙ ap (λ (b : Bool). values_of given other ++ (if b then word ∷ [] else [])) same in
+          subst (λ o. RowSays o (values_of (given ++ (name, word) ∷ []) other)) (sym row)
+          (subst (RowSays (Some (row_with name how word (row_at other rows)))) (sym words) (says_more name how word (row_at other rows) (values_of given other) (says other)))
       | inr differs ↦
-          let row : row_at other (rows_with name how word rows) ≡ row_at other rows =
-          row_is_there ∙ ap (λ b. cond (is_some (row_at other rows)) (row_at other rows) (cond b (Some r) None)) differs ∙ kept_row (row_at other rows) in
           let words : values_of (given ++ (name, word) ∷ []) other ≡ values_of given other =
           words_there ∙ ap (λ (b : Bool). values_of given other ++ (if b then word ∷ [] else [])) differs ∙ append-nil (values_of given other) in
-          subst (λ o. RowSays o (values_of (given ++ (name, word) ∷ []) other)) (sym row) (subst (RowSays (row_at other rows)) (sym words) (says other))
+          subst (λ o. RowSays o (values_of (given ++ (name, word) ∷ []) other)) (sym (other_row name other how word rows differs))
+          (subst (RowSays (row_at other rows)) (sym words) (says other))
     ]
+
+-- the rows with one for a word, in the place of what the name had
+abbrev pub rows_with : Text → Reading → Text → List Row → List Row
+rows_with name how word rows = rows_with_more name how word (without name rows)
+
+none_without : (name : Text) (rows : List Row) → row_at name rows ≡ None → without name rows ≡ rows
+none_without name [] none = refl
+none_without name (r ∷ rows) none = elim (cases_Bool (bytes_eq r.id name)) [
+  | inl same ↦ let bad = sym (ap (λ b. cond b (Some r) (row_at name rows)) same) ∙ none in absurd (search (rules, bad))
+  | inr other ↦
+      let later : row_at name rows ≡ None = sym (ap (λ b. cond b (Some r) (row_at name rows)) other) ∙ none in
+      ap (λ b. if b then rows else r ∷ without name rows) other ∙ ap (λ (rs : List Row). r ∷ rs) (none_without name rows later)
+]
+
+-- a word by a name that has none
+pub rows_added : (rows : List Row) (given : Given) (name : Text) (how : Reading) (word : Text) → HasRows rows given → has given name ≡ false
+    → HasRows (rows_with name how word rows) (given ++ (name, word) ∷ [])
+rows_added rows given name how word says new =
+    let none : row_at name rows ≡ None = no_row (row_at name rows) (subst (RowSays (row_at name rows)) (none_given given name new) (says name)) in
+    subst (λ (rs : List Row). HasRows (rows_with_more name how word rs) (given ++ (name, word) ∷ [])) (sym (none_without name rows none))
+    (rows_more rows given name how word says)

@@ -9,14 +9,15 @@ use Rattle.std.proofs.lemmas.Option.{slice_get_within}
 use Rattle.std.proofs.lemmas.Str.{encode_ascii}
 use Rattle.clap.specs.Lexer.{long_of, usize_max}
 use Rattle.clap.specs.Words.{Kinds, Row, Rule, Text}
-use Rattle.clap.specs.Walk.{Held, Outcome, Step, Walk, after_flag, after_step, arg_by_id, arg_by_index, arg_by_long, arg_by_short, attached_value, bundle, bundle_met, bundle_step, done, flag_met, has_long, has_short, idle, is_pending, long_met, long_or_other, option, option_met, plain, pushed, reacted, reading_by, settled, short_met, short_or_plain, to_positional, trailing, used, used_by_id, value, walked}
+use Rattle.clap.specs.Walk.{Held, Outcome, Step, Waiting, Walk, after_flag, after_step, arg_by_id, arg_by_index, arg_by_long, arg_by_short, attached_value, bundle, bundle_met, bundle_step, done, flag_met, has_long, has_short, idle, is_pending, long_met, long_or_other, option, option_met, plain, positional, pushed, reacted, reading_by, settled, short_met, short_or_plain, to_positional, trailing, used, used_by_id, value, walked}
 use Rattle.clap.specs.Kinds.{or_else}
 use Rattle.clap.specs.Faults.{bundle_step_fault, flag_word_fault, flags_fault, long_fault, option_fault, repeat_fault, settle_fault, short_fault, step_fault, turn_fault, use_fault}
 use Rattle.clap.specs.declared.builder.value_parser.Reading.{Reading}
-use Rattle.bolt_cli.specs.PlainWords.{Choice, Flag, Known, Operand, Syntax, after, give, has, is_dashes, is_lettered, long, long_name, long_value, met_long, met_short, refuse, short, short_value, take_next, take_option, take_word}
-use Rattle.bolt_cli.proofs.BuiltRules.{all_found, ascii_letters, by_long, by_short, few_operands, has_ascii, is_good, line_shape, operand_built, option_built, option_or_help}
-use Rattle.bolt_cli.proofs.GivenRows.{Given, HasRows, rows_added, rows_with}
-use Rattle.bolt_cli.proofs.WordSteps.{Agrees, IsAtRest, IsAwaited, IsFault, agrees_along, agrees_refused, agrees_stop, bad_line, fault_first, fault_second, first_char, held, id_in, idle_word, known, long_by, long_in, new_use, not_both, old_use, one_hyphen, one_option, operand_fault, option_rows, option_takes, place_in, rules_in, short_by, short_flags, short_in, value_fault, walk_at}
+use Rattle.bolt_cli.specs.LineWords.{Choice, Flag, Known, Operand, Syntax, after, add, give, has, is_dashes, is_lettered, long, long_name, long_value, met_long, met_short, refuse, short, short_value, take_next, take_option, take_word}
+use Rattle.bolt_cli.proofs.BuiltRules.{all_found, ascii_letters, by_long, by_short, few_operands, has_ascii, is_good, line_shape, operand_built, operand_of, option_built, option_or_help}
+use Rattle.bolt_cli.proofs.GivenRows.{Given, HasRows, rows_added, rows_more, rows_with}
+use Rattle.bolt_cli.proofs.Alike.{agrees_waiting}
+use Rattle.bolt_cli.proofs.WordSteps.{Agrees, IsAtRest, IsAwaited, IsFault, agrees_along, agrees_refused, agrees_stop, bad_line, fault_first, fault_second, first_char, held, id_in, idle_word, known, long_by, long_in, new_use, old_use, one_hyphen, one_option, operand_fault, operand_settles, option_rows, option_takes, place_in, rules_in, short_by, short_flags, short_in, value_fault, walk_at}
 
 -- the words that are left are read as they should be, from each state
 pub record LaterAgrees (s : Syntax) (words : List Text) : Type 0 where
@@ -74,10 +75,14 @@ next_of (suc d) [] = inl (refl, refl)
 next_of zero (x ∷ xs) = inr (x, refl, refl)
 next_of (suc d) (x ∷ xs) = next_of d xs
 
-operand_one : (s : Syntax) → is_good s ≡ true → (d : ℕ) (o : Operand) → slice_get s.operands d ≡ Some o → TakesOne s o.name (operand_built (suc d) o)
-operand_one s good d o met = record {
-  how = reading_by (operand_built (suc d) o);
-  by_id = id_in s good (λ (a : Rule). option_map_or (λ k. k == suc d) a.index false) (operand_built (suc d) o) (place_in s good d ∙ ap (option_map (operand_built (suc d))) met);
+operand_by_id : (s : Syntax) → is_good s ≡ true → (d : ℕ) (o : Operand) → slice_get s.operands d ≡ Some o → arg_by_id (rules_in s) o.name ≡ Some (operand_built (suc d) o)
+operand_by_id s good d o met =
+    id_in s good (λ (a : Rule). option_map_or (λ k. k == suc d) a.index false) (operand_built (suc d) o) (place_in s good d ∙ ap (option_map (operand_built (suc d))) met)
+
+operand_one : (s : Syntax) → is_good s ≡ true → (d : ℕ) (name : Text) → slice_get s.operands d ≡ Some (operand_of name false) → TakesOne s name (operand_built (suc d) (operand_of name false))
+operand_one s good d name met = record {
+  how = reading_by (operand_built (suc d) (operand_of name false));
+  by_id = operand_by_id s good d (operand_of name false) met;
   fault = λ rows word. refl;
   rows = λ rows word. refl;
 }
@@ -96,17 +101,53 @@ pub same_or : (b : Bool) → (b || false) ≡ b
 same_or true = refl
 same_or false = refl
 
-abbrev moved_to : Text → Text → Held → ℕ → Bool → Walk
-moved_to name word h place only = record { held = pushed name word h; waiting = idle; position = place; is_trailing = only; stopped = None }
+abbrev moved_to : Text → Text → Held → Waiting → ℕ → Bool → Walk
+moved_to name word h waiting place only = record { held = pushed name word h; waiting = waiting; position = place; is_trailing = only; stopped = None }
 
-operand_moves : (s : Syntax) (rows : List Row) (pending : Option (Text × List Text)) (only : Bool) (d : ℕ) (o : Operand) (word : Text) → d < 9
-    → to_positional (rules_in s) (Some (operand_built (suc d) o)) word (walk_at rows pending idle (suc d) only) (held rows pending)
-    ≡ walk_at (settled (rules_in s) (held rows pending)).rows (Some (o.name, word ∷ [])) idle (suc (suc d)) only
-operand_moves s rows pending only d o word few =
+-- an operand of several words stays the next, and waits for them
+abbrev waiting_after : Bool → Waiting
+waiting_after several = if several then positional else idle
+
+abbrev place_after : Bool → ℕ → ℕ
+place_after several d = if several then suc d else suc (suc d)
+
+operand_moves : (s : Syntax) (rows : List Row) (pending : Option (Text × List Text)) (only : Bool) (d : ℕ) (name : Text) (several : Bool) (word : Text) → d < 9
+    → to_positional (rules_in s) (Some (operand_built (suc d) (operand_of name several))) word (walk_at rows pending idle (suc d) only) (held rows pending)
+    ≡ walk_at (settled (rules_in s) (held rows pending)).rows (Some (name, word ∷ [])) (waiting_after several) (place_after several d) only
+operand_moves s rows pending only d name true word few =
+    let h = held rows pending in
+    ap (λ x. moved_to name word x positional (suc d) (only || false)) (held_settled (is_pending (operand_built (suc d) (operand_of name true)) pending) h (settled (rules_in s) h))
+    ∙ ap (λ (b : Bool). moved_to name word (settled (rules_in s) h) positional (suc d) b) (same_or only)
+operand_moves s rows pending only d name false word few =
     let h = held rows pending in
     let next : min (suc d + 1) usize_max ≡ suc (suc d) = omega (arith, few) in
-    ap (λ x. moved_to o.name word x (min (suc d + 1) usize_max) (only || false)) (held_settled (is_pending (operand_built (suc d) o) pending) h (settled (rules_in s) h))
-    ∙ ap₂ (λ (n : ℕ) (b : Bool). moved_to o.name word (settled (rules_in s) h) n b) next (same_or only)
+    ap (λ x. moved_to name word x idle (min (suc d + 1) usize_max) (only || false)) (held_settled (is_pending (operand_built (suc d) (operand_of name false)) pending) h (settled (rules_in s) h))
+    ∙ ap₂ (λ (n : ℕ) (b : Bool). moved_to name word (settled (rules_in s) h) idle n b) next (same_or only)
+
+-- the word is held, and the operand takes the next one too
+added_later : (s : Syntax) → is_good s ≡ true → (given : Given) (ahead : List Operand) (only : Bool) (rows : List Row) (name : Text) (word : Text) (d : ℕ) (words : List Text)
+    → slice_get s.operands d ≡ Some (operand_of name true) → HasRows rows given → ahead ≡ drop d s.operands → LaterAgrees s words
+    → Agrees s (add name word (known given None ahead only)) (walk_at rows (Some (name, word ∷ [])) positional (suc d) only) words
+added_later s good given ahead only rows name word d words met says place later =
+    let pending = Some (name, word ∷ []) in
+    let a = operand_built (suc d) (operand_of name true) in
+    let by_id = operand_by_id s good d (operand_of name true) met in
+    let rest : IsAtRest s (given ++ (name, word) ∷ []) ahead rows pending d = record {
+      settles = ap (λ o. option_map_or (λ a. use_fault false a (word ∷ []) rows) o []) by_id;
+      has = subst (λ (rs : List Row). HasRows rs (given ++ (name, word) ∷ [])) (sym (ap (λ o. used_by_id o (word ∷ []) rows) by_id))
+          (rows_more rows given name (reading_by a) word says);
+      place = place;
+    } in
+    agrees_waiting s _ (held rows pending) (suc d) only words (later.at_rest (given ++ (name, word) ∷ []) ahead only rows pending d rest)
+
+-- what is left, after the word of an operand
+operand_later : (s : Syntax) → is_good s ≡ true → (given : Given) (ahead : List Operand) (only : Bool) (rows : List Row) (d : ℕ) (name : Text) (several : Bool) (word : Text) (words : List Text)
+    → slice_get s.operands d ≡ Some (operand_of name several) → HasRows rows given → ahead ≡ drop d s.operands → All IsUtf8 words → LaterAgrees s words
+    → Agrees s (take_next word (known given None ahead only) (operand_of name several ∷ drop (suc d) s.operands))
+    (walk_at rows (Some (name, word ∷ [])) (waiting_after several) (place_after several d) only) words
+operand_later s good given ahead only rows d name true word words met says place texts later = added_later s good given ahead only rows name word d words met says place later
+operand_later s good given ahead only rows d name false word words met says place texts later =
+    given_later s good given None (drop (suc d) s.operands) only rows name (operand_built (suc d) (operand_of name false)) word (suc d) words (operand_one s good d name met) says refl texts later
 
 -- a word that both take for an operand
 pub operand_agrees : (s : Syntax) → is_good s ≡ true → (given : Given) (ahead : List Operand) (only : Bool) (rows : List Row) (pending : Option (Text × List Text)) (d : ℕ) (word : Text) (words : List Text)
@@ -126,13 +167,13 @@ operand_agrees s good given ahead only rows pending d word words rest texts late
           agrees_stop s k here word words refused (subst IsFault (sym (turn ∙ operand_fault s good h d ∙ ap (value_fault s h (suc d)) no_more)) tt)
       | inr (o, met, ahead_is) ↦
           let few : d < 9 = operand_few s good d o met in
-          let clean = turn ∙ operand_fault s good h d ∙ ap (value_fault s h (suc d)) met ∙ not_both (is_pending (operand_built (suc d) o) pending) (settle_fault (rules_in s) false h) ∙ rest.settles in
+          let clean = turn ∙ operand_fault s good h d ∙ ap (value_fault s h (suc d)) met ∙ operand_settles s h (suc d) o ∙ rest.settles in
           let index = place_in s good d ∙ ap (option_map (operand_built (suc d))) met in
-          let there = walk_at (settled (rules_in s) h).rows (Some (o.name, word ∷ [])) idle (suc (suc d)) only in
-          let moved = moves ∙ ap (λ a. to_positional (rules_in s) a word here h) index ∙ operand_moves s rows pending only d o word few in
-          let next : after s k word ≡ give o.name word (known given None (drop (suc d) s.operands) only) = told ∙ ap (take_next word k) (rest.place ∙ ahead_is) in
+          let there = walk_at (settled (rules_in s) h).rows (Some (o.name, word ∷ [])) (waiting_after o.several) (place_after o.several d) only in
+          let moved = moves ∙ ap (λ a. to_positional (rules_in s) a word here h) index ∙ operand_moves s rows pending only d o.name o.several word few in
+          let next : after s k word ≡ take_next word k (o ∷ drop (suc d) s.operands) = told ∙ ap (take_next word k) (rest.place ∙ ahead_is) in
           agrees_along s k _ here there word words next clean moved
-          (given_later s good given None (drop (suc d) s.operands) only (settled (rules_in s) h).rows o.name (operand_built (suc d) o) word (suc d) words (operand_one s good d o met) rest.has refl texts later)
+          (operand_later s good given ahead only (settled (rules_in s) h).rows d o.name o.several word words met rest.has rest.place texts later)
     ]
 
 -- ---- an option

@@ -21,7 +21,8 @@ use Rattle.bolt_cli.specs.declared.job.Job.{Job}
 use Rattle.bolt_cli.specs.declared.words.Refusal.{Refusal}
 use Rattle.bolt_cli.specs.declared.words.Refusal.TheVariants.{Memory, Help, Usage, Word}
 use Rattle.bolt_cli.specs.CommandLine.{Asks, IsRefusalOf, IsRefusedBy, asked_by, asked_by_subcommand, program, values_in}
-use Rattle.bolt_cli.specs.PlainWords.{Asked, Reading, Syntax, asked, asked_of, asks, is_complete, is_dashes, is_option, known_after, line_of, long_name, long_value, reading_by, reading_of, refused, syntaxes, unread, values_of}
+use Rattle.bolt_cli.specs.LineWords.{Syntax, is_complete, is_dashes, is_option, known_after, long_name, long_value, values_of}
+use Rattle.bolt_cli.specs.PlainWords.{Asked, Reading, asked, asked_of, asks, line_of, reading_by, reading_of, refused, syntaxes, unread}
 use Rattle.bolt_cli.proofs.BuiltRules.{all_found, is_good, line_shape, long_found, short_found}
 use Rattle.bolt_cli.proofs.GivenRows.{Given, values-given}
 use Rattle.bolt_cli.proofs.WordSteps.{IsFault, ReadsAs, fault_first, fault_second, faults_from, first_char, option_cases, plain_value, rows_from, short_flags, walk_at}

@@ -14,8 +14,8 @@ use Rattle.clap.specs.Takes.{is_given}
 use Rattle.clap.specs.Kinds.{or_else}
 use Rattle.clap.specs.Faults.{check_fault, default_fault, defaults_fault, settle_fault, step_fault, turn_fault, use_fault, walk_fault}
 use Rattle.clap.specs.declared.error.ErrorKind.TheVariants as kind
-use Rattle.bolt_cli.specs.PlainWords.{Choice, Flag, Operand, Syntax, after, give, has, is_dashes, is_option, long, long_name, refuse, short, start, take_next, take_operand, take_option, met}
-use Rattle.bolt_cli.proofs.BuiltRules.{by_long, by_short, choice_of, help_built, is_good, line_shape, operand_built, operands_built, option_built, options_built}
+use Rattle.bolt_cli.specs.LineWords.{Choice, Flag, Operand, Syntax, after, give, has, is_dashes, is_option, long, long_name, refuse, short, start, take_next, take_operand, take_option, met}
+use Rattle.bolt_cli.proofs.BuiltRules.{by_long, by_short, choice_of, help_built, is_good, line_shape, operand_built, operand_of, operands_built, option_built, options_built}
 use Rattle.bolt_cli.proofs.GivenRows.{Given, HasRows, is_given-given}
 use Rattle.bolt_cli.proofs.WordSteps.{Agrees, IsAtRest, IsAwaited, IsFault, ReadsAs, agrees_along, agrees_dead, agrees_stop, bad_after_dashes, bad_flag, end_faults, faults_from, fault_first, held, idle_operand, known, no_dashes, no_word, option_cases, other_word, plain_value, rules_are, rules_in, walk_at}
 use Rattle.bolt_cli.proofs.LineReading.{LaterAgrees, TakesOne, given_later, long_agrees, operand_agrees, option_one, short_agrees}
@@ -122,8 +122,9 @@ same_rows : (b : Bool) (rows : List Row) → (if b then rows else rows) ≡ rows
 same_rows true rows = refl
 same_rows false rows = refl
 
-operand_plain : (i : ℕ) (o : Operand) (rows : List Row) → IsPlain rows (operand_built i o)
-operand_plain i o rows = (either_way (has_row o.name rows) _, same_rows (has_row o.name rows) rows)
+operand_plain : (i : ℕ) (name : Text) (several : Bool) (rows : List Row) → IsPlain rows (operand_built i (operand_of name several))
+operand_plain i name true rows = (either_way (has_row name rows) _, same_rows (has_row name rows) rows)
+operand_plain i name false rows = (either_way (has_row name rows) _, same_rows (has_row name rows) rows)
 
 option_plain : (name : Text) (flag : Flag) (required : Bool) (rows : List Row) → IsPlain rows (option_built (choice_of name flag required))
 option_plain name (long own) required rows = (either_way (has_row name rows) _, same_rows (has_row name rows) rows)
@@ -153,7 +154,7 @@ options_default rows (o ∷ options) = one_more rows (option_built o) (options_b
 
 operands_default : (rows : List Row) (i : ℕ) (ops : List Operand) (options : List Choice) → NoDefaults rows (operands_built i ops ++ options_built options)
 operands_default rows i [] options = options_default rows options
-operands_default rows i (o ∷ ops) options = one_more rows (operand_built i o) (operands_built (suc i) ops ++ options_built options) (operand_plain i o rows) (operands_default rows (suc i) ops options)
+operands_default rows i (o ∷ ops) options = one_more rows (operand_built i o) (operands_built (suc i) ops ++ options_built options) (operand_plain i o.name o.several rows) (operands_default rows (suc i) ops options)
 
 -- whether an argument is missing
 abbrev misses : List Row → List Rule → Bool

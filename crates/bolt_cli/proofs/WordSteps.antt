@@ -14,8 +14,8 @@ use Rattle.clap.specs.Walk.{Held, Step, Waiting, Walk, arg_by_id, arg_by_index, 
 use Rattle.clap.specs.Kinds.{or_else}
 use Rattle.clap.specs.Faults.{bundle_fault, bundle_step_fault, check_fault, defaults_fault, flag_word_fault, flags_fault, long_fault, option_fault, other_fault, positional_fault, react_fault, repeat_fault, settle_fault, short_fault, step_fault, stray_fault, turn_fault, use_fault, walk_fault}
 use Rattle.clap.specs.declared.error.ErrorKind.TheVariants as kind
-use Rattle.bolt_cli.specs.PlainWords.{Choice, Flag, Known, Operand, Syntax, after, has, is_complete, is_dashes, is_option, long, is_whole, long_name, long_value, short, take_by}
-use Rattle.bolt_cli.proofs.BuiltRules.{by_long, by_short, choice_of, differing_names, few_operands, found_by_name, is_good, line_shape, long_found, operand_built, operand_found, operands_filled, option_built, option_or_help, rules_built, short_found}
+use Rattle.bolt_cli.specs.LineWords.{Choice, Flag, Known, Operand, Syntax, after, has, is_complete, is_dashes, is_option, long, is_whole, long_name, long_value, short, take_by}
+use Rattle.bolt_cli.proofs.BuiltRules.{by_long, by_short, choice_of, differing_names, few_operands, found_by_name, is_good, line_shape, long_found, operand_built, operand_found, operands_filled, option_built, option_or_help, rules_built, short_found, takes_one_word}
 use Rattle.bolt_cli.proofs.GivenRows.{Given, HasRows, has_row-given, rows_with}
 
 -- ---- faults
@@ -215,7 +215,7 @@ no_dashes word plain = elim (cases_Bool (is_dashes word)) [
 
 -- ---- a line that is refused already
 
-pub not_both : (b : Bool) (kinds : Kinds) → (if b && false then [] else kinds) ≡ kinds
+not_both : (b : Bool) (kinds : Kinds) → (if b && false then [] else kinds) ≡ kinds
 not_both true kinds = refl
 not_both false kinds = refl
 
@@ -223,9 +223,14 @@ abbrev pub value_fault : Syntax → Held → ℕ → Option Operand → Kinds
 value_fault s h place found =
     option_map_or (λ a. positional_fault (rules_in s) false a h) (option_map (operand_built place) found) (stray_fault (line_shape s))
 
+pub operand_settles : (s : Syntax) (h : Held) (place : ℕ) (o : Operand) → value_fault s h place (Some o) ≡ settle_fault (rules_in s) false h
+operand_settles s h place o =
+    ap (λ several. if is_pending (operand_built place o) h.pending && several then [] else settle_fault (rules_in s) false h) (takes_one_word place o)
+    ∙ not_both (is_pending (operand_built place o) h.pending) (settle_fault (rules_in s) false h)
+
 value_fault-bad : (s : Syntax) (h : Held) (place : ℕ) (found : Option Operand) → IsFault (settle_fault (rules_in s) false h) → IsFault (value_fault s h place found)
 value_fault-bad s h place None bad = tt
-value_fault-bad s h place (Some o) bad = subst IsFault (sym (not_both (is_pending (operand_built place o) h.pending) (settle_fault (rules_in s) false h))) bad
+value_fault-bad s h place (Some o) bad = subst IsFault (sym (operand_settles s h place o)) bad
 
 -- the fault of a word that is an operand
 pub operand_fault : (s : Syntax) → is_good s ≡ true → (h : Held) (d : ℕ) → step_fault (line_shape s) (suc d) h value ≡ value_fault s h (suc d) (slice_get s.operands d)

@@ -1,8 +1,6 @@
 -- What the program answers to each command, and what its sinks take: docs/COMMANDS.md, "What a run writes".
-use Rattle.std.specs.Prelude.{◌≡◌, ◌<◌, ◌⊎◌, ℕ, List, [], ◌∷◌, true, flat_map, codes, Option, Some, None, Result, Ok, Err}
+use Rattle.std.specs.Prelude.{◌≡◌, ◌<◌, ◌-◌, ◌⊎◌, ℕ, List, [], ◌∷◌, ◌++◌, true, codes, length, take, Option, Some, None, Result, Ok, Err}
 use Rattle.std.specs.Io.KnownBytes.{Appends}
-use Rattle.bolt_check.specs.Findings.{finding}
-use Rattle.bolt_check.specs.Keys.{Key}
 use Rattle.bolt_check.specs.Sound.{IsRefused, IsSound}
 use Rattle.bolt_check.specs.declared.fault.CheckFault.{CheckFault}
 use Rattle.bolt_check.specs.declared.fault.CheckFault.TheVariants as check
@@ -11,21 +9,25 @@ use Rattle.bolt_format.specs.Elements.{LeafElement}
 use Rattle.bolt_format.specs.Metas.{HasMetaFault, IsChosen, IsInSlot}
 use Rattle.bolt_format.specs.Sinks.{AppendsBeginning}
 use Rattle.bolt_format.specs.declared.fault.PageFault.{PageFault}
-use Rattle.bolt_format.specs.declared.fault.TheConstants.PageFault.{PAGE_KIND}
 use Rattle.bolt_format.specs.declared.meta.Meta.{Meta}
 use Rattle.bolt_format.specs.declared.meta.MetaFault.{MetaFault}
 use Rattle.bolt_format.specs.declared.meta.Slot.{Slot}
 use Rattle.bolt_report.specs.FaultWords.{findings_text}
-use Rattle.bolt_report.specs.KeyLines.{buckets_text}
+use Rattle.bolt_report.specs.Forms.{value_text}
+use Rattle.bolt_report.specs.KeyLines.{buckets_text, keys_text}
+use Rattle.bolt_report.specs.ListLines.{listing_text}
 use Rattle.bolt_report.specs.MetaLines.{info_text}
 use Rattle.bolt_report.specs.PageTexts.{page_text, page_text_fault}
 use Rattle.bolt_report.specs.declared.form.Form.{Form}
-use Rattle.bolt_tree.specs.Entries.{AreEntries, IsEntry, Root_page}
+use Rattle.bolt_tree.specs.Entries.{AreEntries, IsEntry, Item, Root_page, Start, Value}
+use Rattle.bolt_tree.specs.Listing.{IsListing, Member, rest_from}
+use Rattle.bolt_tree.specs.Paths.{Holds, Names, Path}
 use Rattle.bolt_cli.specs.Failures.{IsToldAs, failure_line}
 use Rattle.bolt_cli.specs.declared.failure.Failure.{Failure}
 use Rattle.bolt_cli.specs.declared.failure.Failure.TheVariants as failure
 use Rattle.bolt_cli.specs.declared.job.Job.{Job}
-use Rattle.bolt_cli.specs.declared.job.Job.TheVariants.{Buckets, Check, Info, Page}
+use Rattle.bolt_cli.specs.declared.job.Job.TheVariants as job
+use Rattle.bolt_cli.specs.PlainWords.{path_in}
 
 -- How a job ends: with a status, or with a failure that is told.
 abbrev pub Ending : Type 0
@@ -54,7 +56,7 @@ IsOpenAnswer file opened answer =
     ((slot : Slot) × (meta : Meta) × IsChosen file slot meta × (answer ≡ opened slot meta))
     ⊎ ((fault : MetaFault) × HasMetaFault file 0 fault × ((slot : Slot) (meta : Meta) → IsInSlot file slot meta → ⊥) × (answer ≡ refused (failure.Metas fault)))
 
--- ---- `check` and `buckets`, which check the file
+-- ---- the other commands, which check the file
 
 -- what was found goes to standard output
 abbrev pub found : List Finding → Answer
@@ -66,10 +68,50 @@ check_refusal (check.Structure x) = found (x ∷ [])
 check_refusal (check.Accounts told) = found told.items
 check_refusal check.Memory = refused failure.Memory
 
+-- a path leads from the root bucket to this one; and what it holds
+abbrev pub LeadsTo : List ℕ → Meta → Path → Start → Type 0
+LeadsTo file meta path bucket = Names (IsEntry file meta) (Root_page meta.root) path bucket
+
+abbrev pub HoldsIn : List ℕ → Meta → Path → Item → Type 0
+HoldsIn file meta path item = Holds (IsEntry file meta) (Root_page meta.root) path item
+
+-- all parts but the last
+abbrev pub parents_of : Path → Path
+parents_of path = take (length path - 1) path
+
+-- the whole text; or a beginning of it, as memory ran out
+abbrev pub IsWholeOrCut : List ℕ → Answer → Type 0
+IsWholeOrCut text answer =
+    (answer ≡ done text)
+    ⊎ ((front rest : List ℕ) × (text ≡ front ++ rest) × (answer ≡ record { out = front; ending = Err failure.Memory }))
+
 -- the names of the root's buckets, in the order of its entries
 abbrev pub IsBucketsAnswer : List ℕ → Form → Meta → Answer → Type 0
 IsBucketsAnswer file form meta answer =
     (entries : List LeafElement) × AreEntries (IsEntry file meta) (Root_page meta.root) entries × (answer ≡ done (buckets_text form entries))
+
+-- the keys of the bucket that the path leads to, in order; or it leads to none
+abbrev pub IsKeysAnswer : List ℕ → Path → Form → Meta → Answer → Type 0
+IsKeysAnswer file path form meta answer =
+    ((bucket : Start) × (entries : List LeafElement) × LeadsTo file meta path bucket × AreEntries (IsEntry file meta) bucket entries
+    × (answer ≡ done (keys_text form entries)))
+    ⊎ (((bucket : Start) → LeadsTo file meta path bucket → ⊥) × (answer ≡ refused failure.NoBucket))
+
+-- The path holds no value: all of its parts but the last lead to a bucket, or they lead to none.
+abbrev pub HoldsNone : List ℕ → Path → Meta → Failure → Type 0
+HoldsNone file path meta reason =
+    ((reason ≡ failure.NoKey) × ((value : List ℕ) → HoldsIn file meta path (Value value) → ⊥) × ((bucket : Start) × ∥ LeadsTo file meta (parents_of path) bucket ∥₁))
+    ⊎ ((reason ≡ failure.NoBucket) × ((bucket : Start) → LeadsTo file meta (parents_of path) bucket → ⊥))
+
+-- the value that the path holds; or why it holds none
+abbrev pub IsGetAnswer : List ℕ → Path → Form → Meta → Answer → Type 0
+IsGetAnswer file path form meta answer =
+    ((value : List ℕ) × HoldsIn file meta path (Value value) × (answer ≡ done (value_text form value)))
+    ⊎ ((reason : Failure) × HoldsNone file path meta reason × (answer ≡ refused reason))
+
+-- the listing from a path on; or memory ran out, and a beginning of it was put
+abbrev pub IsListAnswer : List ℕ → Path → Meta → Answer → Type 0
+IsListAnswer file from meta answer = (listing : List Member) × IsListing file meta listing × IsWholeOrCut (listing_text (rest_from from listing)) answer
 
 -- the answer where the file is sound, or where it is refused
 abbrev pub IsCheckedAnswer : List ℕ → (Meta → Answer → Type 0) → (CheckFault → Answer → Type 0) → Answer → Type 0
@@ -85,10 +127,13 @@ IsFileRefusal fault answer = (failure : Failure) × IsToldAs fault failure × (a
 
 -- the answer to a job
 abbrev pub IsAnswer : List ℕ → Job → Answer → Type 0
-IsAnswer file (Info name) = IsOpenAnswer file (λ slot meta. done (info_text slot meta))
-IsAnswer file (Page name id) = IsOpenAnswer file (λ slot meta. page_answer (page_text_fault file meta id) (page_text file meta id))
-IsAnswer file (Check name) = IsCheckedAnswer file (λ meta answer. answer ≡ done (codes "OK\n")) (λ fault answer. answer ≡ check_refusal fault)
-IsAnswer file (Buckets name form) = IsCheckedAnswer file (IsBucketsAnswer file form) IsFileRefusal
+IsAnswer file (job.Info name) = IsOpenAnswer file (λ slot meta. done (info_text slot meta))
+IsAnswer file (job.Page name id) = IsOpenAnswer file (λ slot meta. page_answer (page_text_fault file meta id) (page_text file meta id))
+IsAnswer file (job.Check name) = IsCheckedAnswer file (λ meta answer. answer ≡ done (codes "OK\n")) (λ fault answer. answer ≡ check_refusal fault)
+IsAnswer file (job.Buckets name form) = IsCheckedAnswer file (IsBucketsAnswer file form) IsFileRefusal
+IsAnswer file (job.Keys name path form) = IsCheckedAnswer file (IsKeysAnswer file (path_in path.items) form) IsFileRefusal
+IsAnswer file (job.Get name path form) = IsCheckedAnswer file (IsGetAnswer file (path_in path.items) form) IsFileRefusal
+IsAnswer file (job.List name from) = IsCheckedAnswer file (IsListAnswer file (path_in from.items)) IsFileRefusal
 
 -- From its state `old` to `new` standard output took the text of the answer with no failure, and the job ends so; or it failed, took a
 -- beginning, and the job ends with that.

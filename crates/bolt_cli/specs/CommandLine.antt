@@ -1,6 +1,8 @@
 -- The command line as `clap` is told of it, and what its matches ask for.
-use Rattle.std.specs.Prelude.{◌≡◌, ◌≢◌, ◌⊎◌, ℕ, List, [], ◌++◌, Option, Some, None, Ok, Err, Result, false, true, codes, map, fold, unwrap_or, MatchResult}
+use Rattle.std.specs.Prelude.{◌≡◌, ◌≢◌, ◌⊎◌, ℕ, List, [], ◌++◌, Option, Some, None, Ok, Err, Result, Bool, false, true, codes, map, fold, unwrap_or, MatchResult, if◌then◌else◌}
 use Rattle.clap.specs.Words.{App, IsAmong, Kinds, Row, Rule, all_of, app_of, fault_of, new_app, new_rule, subcommand_of, with_subcommand}
+use Rattle.clap.specs.declared.builder.action.ArgAction.{ArgAction}
+use Rattle.clap.specs.declared.builder.action.ArgAction.TheVariants.{Append}
 use Rattle.clap.specs.declared.builder.Command.{Command}
 use Rattle.clap.specs.declared.builder.Command.TheViews.{out-Command}
 use Rattle.clap.specs.declared.error.ErrorKind.{ErrorKind}
@@ -8,13 +10,17 @@ use Rattle.clap.specs.declared.error.ErrorKind.TheVariants as kind
 use Rattle.bolt_cli.specs.declared.job.Job.{Job}
 use Rattle.bolt_cli.specs.declared.words.Refusal.{Refusal}
 use Rattle.bolt_cli.specs.declared.words.Refusal.TheVariants.{Memory, Help, Usage, Word}
-use Rattle.bolt_cli.specs.PlainWords.{Asked, asked_of, Choice, Flag, Operand, Reading, Syntax, Text, Values, asked, long, refused, short, syntaxes, unread}
+use Rattle.bolt_cli.specs.LineWords.{Choice, Flag, Operand, Syntax, Text, long, short}
+use Rattle.bolt_cli.specs.PlainWords.{Asked, Reading, Values, asked, asked_of, refused, syntaxes, unread}
 
 -- ---- what the command line may hold
 
--- an operand stands
+-- an operand stands; each of several words is added to those before it
+abbrev pub action_of : Bool → Option ArgAction
+action_of several = if several then Some Append else None
+
 abbrev pub operand_rule : Operand → Rule
-operand_rule o = record (new_rule o.name) { required = true }
+operand_rule o = record (new_rule o.name) { required = true; action = action_of o.several }
 
 abbrev long_of : Flag → Option Text
 long_of (long name) = Some name

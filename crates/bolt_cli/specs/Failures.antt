@@ -7,12 +7,14 @@ use Rattle.bolt_report.specs.FaultWords.{finding_text, meta_fault_text, page_fau
 use Rattle.bolt_report.specs.declared.fault.ReportFault.{ReportFault}
 use Rattle.bolt_report.specs.declared.fault.ReportFault.TheVariants as report
 use Rattle.bolt_cli.specs.declared.failure.Failure.{Failure}
-use Rattle.bolt_cli.specs.declared.failure.Failure.TheVariants.{Metas, File, Page, Memory, Write}
+use Rattle.bolt_cli.specs.declared.failure.Failure.TheVariants.{Metas, File, Page, NoBucket, NoKey, Memory, Write}
 
 abbrev pub failure_text : Failure → List ℕ
 failure_text (Metas fault) = meta_fault_text fault
 failure_text (File finding) = codes "file refused: " ++ finding_text finding
 failure_text (Page fault) = page_fault_text fault
+failure_text NoBucket = codes "bucket not found\n"
+failure_text NoKey = codes "key not found\n"
 failure_text Memory = codes "out of memory\n"
 failure_text Write = codes "write failed\n"
 

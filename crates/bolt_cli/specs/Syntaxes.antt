@@ -1,6 +1,6 @@
 -- The lines of the commands as the code has them.
 use Rattle.std.specs.Prelude.{map}
-use Rattle.bolt_cli.specs.PlainWords as plain
+use Rattle.bolt_cli.specs.LineWords as plain
 use Rattle.bolt_cli.specs.declared.syntax.Choice.{Choice}
 use Rattle.bolt_cli.specs.declared.syntax.Flag.{Flag}
 use Rattle.bolt_cli.specs.declared.syntax.Flag.TheVariants.{Long, Short}
@@ -8,7 +8,7 @@ use Rattle.bolt_cli.specs.declared.syntax.Operand.{Operand}
 use Rattle.bolt_cli.specs.declared.syntax.Syntax.{Syntax}
 
 abbrev pub operand_view : Operand → plain.Operand
-operand_view o = record { name = o.name.now }
+operand_view o = record { name = o.name.now; several = o.several }
 
 abbrev pub flag_view : Flag → plain.Flag
 flag_view (Long name) = plain.long name.now

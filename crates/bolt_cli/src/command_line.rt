@@ -5,16 +5,21 @@ ghost use Rattle.bolt_cli.specs.CommandLine.{IsCommand, bare_program, command_of
 ghost use Rattle.bolt_cli.specs.Syntaxes.{choice_view, operand_view, syntax_view};
 
 use crate::syntax::{Choice, Flag, Operand, SYNTAXES, Syntax};
-use clap::{Arg, Command};
+use clap::{Arg, ArgAction, Command};
 use std::alloc::{AllocError, Global};
 
 fn operand_arg<'a>(alloc: Global, operand: &'a Operand) -> Arg<'a>
     ensures rule { rule_of result ≡ operand_rule (operand_view operand.now) }
     ensures local { result.global ≡ false }
 {
-    Arg::new(alloc, operand.name)
+    let arg = Arg::new(alloc, operand.name)
         .required(true)
-        .help(operand.help)
+        .help(operand.help);
+    if operand.several {
+        arg.action(ArgAction::Append)
+    } else {
+        arg
+    }
 }
 
 fn option_arg<'a>(alloc: Global, option: &'a Choice) -> Arg<'a>

@@ -8,6 +8,7 @@ ghost use Rattle.bolt_cli.specs.declared.failure.Failure.TheVariants as failure;
 use bolt_check::Finding;
 use bolt_format::{MetaFault, PageFault, Sink, SinkFault};
 use bolt_report::{ReportFault, finding_text, meta_fault_text, page_fault_text};
+use std::alloc::AllocFailed;
 
 /// Why a job isn't done (docs/COMMANDS.md, "What a run writes").
 #[derive(Clone, Copy, Debug, PartialEq, Eq)]
@@ -18,10 +19,22 @@ pub enum Failure {
     File(Finding),
     /// The page that was asked for is no good.
     Page(PageFault),
+    /// No bucket is at the path that was asked for.
+    NoBucket,
+    /// No value is at the path that was asked for.
+    NoKey,
     /// Memory ran out.
     Memory,
     /// Standard output couldn't be written.
     Write,
+}
+
+impl<T: Drop> From<AllocFailed<T>> for Failure {
+    ghost from_gives = { λ _ result. result ≡ failure.Memory };
+
+    fn from(_error: AllocFailed<T>) -> Failure {
+        Failure::Memory
+    }
 }
 
 impl From<MetaFault> for Failure {
@@ -67,6 +80,8 @@ fn put_text<E: Sink>(failure: &Failure, err: &mut E) -> Result<(), ReportFault>
         Failure::Metas(fault) => meta_fault_text(*fault, err),
         Failure::File(finding) => put_file_refused(finding, err),
         Failure::Page(fault) => page_fault_text(fault, err),
+        Failure::NoBucket => put_words(b"bucket not found\n", err),
+        Failure::NoKey => put_words(b"key not found\n", err),
         Failure::Memory => put_words(b"out of memory\n", err),
         Failure::Write => put_words(b"write failed\n", err),
     }

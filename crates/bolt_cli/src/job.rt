@@ -6,13 +6,40 @@ use bolt_report::Form;
 #[derive(Debug, Drop)]
 pub enum Job {
     /// The facts of the meta in force.
-    Info { file: String },
+    Info {
+        file: String,
+    },
     /// The text of a page.
-    Page { file: String, id: u64 },
+    Page {
+        file: String,
+        id: u64,
+    },
     /// Whether the file is sound.
-    Check { file: String },
+    Check {
+        file: String,
+    },
     /// The names of the root's buckets.
-    Buckets { file: String, form: Form },
+    Buckets {
+        file: String,
+        form: Form,
+    },
+    /// The keys of the bucket at a path.
+    Keys {
+        file: String,
+        path: Vec<Vec<u8>>,
+        form: Form,
+    },
+    /// The value at a path.
+    Get {
+        file: String,
+        path: Vec<Vec<u8>>,
+        form: Form,
+    },
+    /// The listing from a path on, from its beginning where the path is empty.
+    List {
+        file: String,
+        from: Vec<Vec<u8>>,
+    },
 }
 
 impl Job {
@@ -28,6 +55,17 @@ impl Job {
             Job::Page { file, id: _ } => file.as_str(),
             Job::Check { file } => file.as_str(),
             Job::Buckets { file, form: _ } => file.as_str(),
+            Job::Keys {
+                file,
+                path: _,
+                form: _,
+            } => file.as_str(),
+            Job::Get {
+                file,
+                path: _,
+                form: _,
+            } => file.as_str(),
+            Job::List { file, from: _ } => file.as_str(),
         }
     }
 }

@@ -5,8 +5,11 @@ ghost use Rattle.bolt_cli.specs.Answers.{Answer, Does, Ending, IsAnswer, Takes, 
 use crate::buckets_command::print_buckets;
 use crate::check_command::print_check;
 use crate::failure::{Failure, put_failure};
+use crate::get_command::print_value;
 use crate::info_command::print_info;
 use crate::job::Job;
+use crate::keys_command::print_keys;
+use crate::list_command::print_list;
 use crate::page_command::print_page;
 use crate::status::Status;
 use bolt_format::Sink;
@@ -51,5 +54,16 @@ fn do_job<O: Sink>(alloc: Global, job: &Job, file: &[u8], out: &mut O) -> Result
         Job::Page { file: _, id } => print_page(file, *id, out),
         Job::Check { file: _ } => print_check(alloc, file, out),
         Job::Buckets { file: _, form } => print_buckets(alloc, file, *form, out),
+        Job::Keys {
+            file: _,
+            path,
+            form,
+        } => print_keys(alloc, file, path.as_slice(), *form, out),
+        Job::Get {
+            file: _,
+            path,
+            form,
+        } => print_value(alloc, file, path.as_slice(), *form, out),
+        Job::List { file: _, from } => print_list(alloc, file, from.as_slice(), out),
     }
 }

@@ -4,6 +4,8 @@
 #[derive(Clone, Copy, Debug)]
 pub(crate) struct Operand {
     pub name: &'static str,
+    /// Whether it takes each word that comes, of which there is one at least, or one word.
+    pub several: bool,
     pub help: &'static str,
 }
 
@@ -39,24 +41,54 @@ pub(crate) struct Syntax {
 
 const FILE: Operand = Operand {
     name: "FILE",
+    several: false,
     help: "The database file; it is read, never written",
 };
 
 const ID: Operand = Operand {
     name: "ID",
+    several: false,
     help: "The page's number, in decimal",
+};
+
+const BUCKET_PART: Operand = Operand {
+    name: "PART",
+    several: true,
+    help: "The keys of the buckets that lead to it, from the root bucket down",
+};
+
+const KEY_PART: Operand = Operand {
+    name: "PART",
+    several: true,
+    help: "The keys of the buckets that lead to it, and last its own",
 };
 
 const FORM: Choice = Choice {
     name: "form",
     flag: Flag::Long("form"),
     value: "F",
-    help: "How names are shown: printable (in hex what isn't plain ASCII), hex or bytes [default: printable]",
+    help: "How names and values are shown: printable (in hex what isn't plain ASCII), hex or bytes [default: printable]",
+    required: false,
+};
+
+const PARTS: Choice = Choice {
+    name: "parts",
+    flag: Flag::Long("parts"),
+    value: "P",
+    help: "How each PART is written: text or hex [default: text]",
+    required: false,
+};
+
+const FROM: Choice = Choice {
+    name: "from",
+    flag: Flag::Long("from"),
+    value: "HEXPATH",
+    help: "Where to begin: keys in hex joined by slashes, as the listing shows them",
     required: false,
 };
 
 /// The line of each command, in the order in which help tells them.
-pub(crate) static SYNTAXES: [Syntax; 4] = [
+pub(crate) static SYNTAXES: [Syntax; 7] = [
     Syntax {
         name: "info",
         about: "Show the meta in force: page size, transaction, root, freelist, high-water mark",
@@ -80,5 +112,23 @@ pub(crate) static SYNTAXES: [Syntax; 4] = [
         about: "List the names of the buckets in the root bucket",
         operands: &[FILE],
         options: &[FORM],
+    },
+    Syntax {
+        name: "keys",
+        about: "List the keys of a bucket, those of its buckets among them",
+        operands: &[FILE, BUCKET_PART],
+        options: &[FORM, PARTS],
+    },
+    Syntax {
+        name: "get",
+        about: "Show the value of a key",
+        operands: &[FILE, KEY_PART],
+        options: &[FORM, PARTS],
+    },
+    Syntax {
+        name: "list",
+        about: "List all that the file holds, keys and values in hex, in the order of paths",
+        operands: &[FILE],
+        options: &[FROM],
     },
 ];

@@ -2,15 +2,17 @@
 ghost use Rattle.std.specs.Prelude.{◌≡◌, IfErr, IfOk, MatchResult, Some, None, map, option_map, string_bytes};
 ghost use Rattle.clap.specs.Words.{fault_of, found_of, kind_of, rows_of, subcommand_rows_of};
 ghost use Rattle.bolt_cli.specs.CommandLine.{Asks, Gives, HasKindOf, IsRefusalOf, IsRefusedBy, asked_by, asked_by_subcommand, program, values_in};
-ghost use Rattle.bolt_cli.specs.PlainWords.{Asked, IsInRange, Text, asked_of, asks, asks_buckets, asks_check, asks_info, asks_page, first_of, form_by, form_of, line_of, page_id, text_by, words_for};
+ghost use Rattle.bolt_cli.specs.LineWords.{Text};
+ghost use Rattle.bolt_cli.specs.PlainWords.{Asked, IsInRange, asked_of, asks, asks_buckets, asks_check, asks_get, asks_info, asks_keys, asks_list, asks_page, first_of, form_by, form_of, line_of, page_id, path_by, path_in, text_by, words_for};
 ghost use Rattle.bolt_cli.specs.declared.words.Refusal.TheVariants.{Memory};
 
 use crate::command_line;
 use crate::job::Job;
+use crate::path_words::{read_from, read_parts, read_path};
 use bolt_report::Form;
 use clap::error::ErrorKind;
 use clap::{ArgMatches, Error};
-use std::alloc::{AllocError, Global};
+use std::alloc::{AllocError, AllocFailed, Global};
 
 /// Why words give no job.
 #[derive(Debug, Drop)]
@@ -33,19 +35,30 @@ impl From<AllocError> for Refusal {
     }
 }
 
+impl<T: Drop> From<AllocFailed<T>> for Refusal {
+    ghost from_gives = { λ _ refusal. refusal ≡ Memory };
+
+    fn from(_error: AllocFailed<T>) -> Refusal {
+        Refusal::Memory
+    }
+}
+
 /// Reads the words of a command line, of which the first is the program's name.
 ///
-/// The lines are `info FILE`, `page FILE ID`, `check FILE` and `buckets FILE [--form F]`. Options
-/// stand before, between or behind the operands, once each, as `--form hex` or `--form=hex`. A word
-/// that begins with a hyphen and has more is an option, unless `--` stands before it. An ID is
-/// decimal digits, at least one, of a number below 2^64; F is `printable`, `hex` or `bytes`.
+/// The lines are `info FILE`, `page FILE ID`, `check FILE`, `buckets FILE [--form F]`,
+/// `keys FILE PART.. [--form F] [--parts P]`, `get FILE PART.. [--form F] [--parts P]` and
+/// `list FILE [--from HEXPATH]`. Options stand before, between or behind the operands, once each, as
+/// `--form hex` or `--form=hex`. A word that begins with a hyphen and has more is an option, unless
+/// `--` stands before it. An ID is decimal digits, at least one, of a number below 2^64; F is
+/// `printable`, `hex` or `bytes`; P is `text` or `hex` and says how each PART is written; a HEXPATH
+/// is parts in hexadecimal, of at least one byte each, joined by slashes.
 ///
 /// # Errors
 ///
 /// Words that are no such line are refused, with `Refusal::Help` where help is asked for before a
 /// word is out of place, and else with `Refusal::Usage`. A line with a word that can't be read is
-/// refused as `Refusal::Word`: `bad page id` or `bad form`. `Refusal::Memory` comes where memory
-/// runs out.
+/// refused as `Refusal::Word`: `bad page id`, `bad form`, `bad parts` or `bad hex`.
+/// `Refusal::Memory` comes where memory runs out.
 pub fn read_words(alloc: Global, words: Vec<String>) -> Result<Job, Refusal>
     ensures answer { let texts = map string_bytes words.items in let line = line_of texts in
         MatchResult result (λ job. line ≡ asks (asked_of job)) (IsRefusalOf texts line) }
@@ -87,6 +100,9 @@ fn read_matches(alloc: Global, matches: &ArgMatches<'_>) -> Result<Job, Refusal>
         Some(("page", matches)) => read_page(alloc, matches),
         Some(("check", matches)) => read_check(alloc, matches),
         Some(("buckets", matches)) => read_buckets(alloc, matches),
+        Some(("keys", matches)) => read_keys(alloc, matches),
+        Some(("get", matches)) => read_get(alloc, matches),
+        Some(("list", matches)) => read_list(alloc, matches),
         _ => Err(Refusal::Word("command missing")),
     }
 }
@@ -119,6 +135,43 @@ fn read_buckets(alloc: Global, matches: &ArgMatches<'_>) -> Result<Job, Refusal>
     let file = read_text(alloc, matches, "FILE")?;
     let form = read_form(choice(matches, "form"))?;
     Ok(Job::Buckets { file, form })
+}
+
+fn read_keys(alloc: Global, matches: &ArgMatches<'_>) -> Result<Job, Refusal>
+    ensures { Gives asked_of (asks_keys (values_in (rows_of (found_of matches.now)))) result }
+{
+    let file = read_text(alloc, matches, "FILE")?;
+    let form = read_form(choice(matches, "form"))?;
+    let path = read_parts_of(alloc, matches)?;
+    Ok(Job::Keys { file, path, form })
+}
+
+fn read_get(alloc: Global, matches: &ArgMatches<'_>) -> Result<Job, Refusal>
+    ensures { Gives asked_of (asks_get (values_in (rows_of (found_of matches.now)))) result }
+{
+    let file = read_text(alloc, matches, "FILE")?;
+    let form = read_form(choice(matches, "form"))?;
+    let path = read_parts_of(alloc, matches)?;
+    Ok(Job::Get { file, path, form })
+}
+
+fn read_list(alloc: Global, matches: &ArgMatches<'_>) -> Result<Job, Refusal>
+    ensures { Gives asked_of (asks_list (values_in (rows_of (found_of matches.now)))) result }
+{
+    let file = read_text(alloc, matches, "FILE")?;
+    let from = read_from(alloc, choice(matches, "from"))?;
+    Ok(Job::List { file, from })
+}
+
+// The path that the words of PART write.
+fn read_parts_of(alloc: Global, matches: &ArgMatches<'_>) -> Result<Vec<Vec<u8>>, Refusal>
+    ensures { Gives (λ path. path_in path.items) (path_by (values_in (rows_of (found_of matches.now)))) result }
+{
+    let parts = read_parts(choice(matches, "parts"))?;
+    match matches.get_strs("PART") {
+        Some(words) => read_path(alloc, parts, words),
+        None => Ok(Vec::new(alloc)),
+    }
 }
 
 fn read_text(alloc: Global, matches: &ArgMatches<'_>, id: &str) -> Result<String, Refusal>

@@ -23,8 +23,8 @@ use std::alloc::Global;
 
 /// Puts a line for each path of a file that doesn't come before `from`, with its value or the
 /// sequence of its bucket, in the order of paths (docs/LISTING.md). `Sink` says that the sink
-/// failed, and `NoMemory` that the walk wanted memory; no other fault comes, and the sink then took
-/// a beginning of the text. Nothing is allocated for a line.
+/// failed, and `NoMemory` that the walk wanted memory and the sink had not failed; no other fault
+/// comes, and the sink then took a beginning of the text. Nothing is allocated for a line.
 pub fn list<S: Sink>(
     alloc: Global,
     checked: Checked<'_>,
@@ -33,6 +33,7 @@ pub fn list<S: Sink>(
 ) -> Result<(), ReportFault>
     ensures written { ForListing checked.entry (λ listing. Reports S.taken S.failed sink.old sink.new (listing_text (rest_from (path_of from.now) listing)) result) }
     ensures fault { IfErr result (λ fault. (fault ≡ ReportFault.Sink) ⊎ (fault ≡ ReportFault.NoMemory)) }
+    ensures memory { IfErr result (λ fault. fault ≡ ReportFault.NoMemory → S.failed sink.new ≡ S.failed sink.old) }
 {
     let mut walk = Walk::from(alloc, checked, from)?;
     put_rest(&mut walk, sink)
@@ -42,6 +43,7 @@ pub fn list<S: Sink>(
 fn put_rest<S: Sink>(walk: &mut Walk<'_>, sink: &mut S) -> Result<(), ReportFault>
     ensures written { ForListing (walk_checked walk.old) (λ listing. Reports S.taken S.failed sink.old sink.new (listing_text (left_of walk.old listing)) result) }
     ensures fault { IfErr result (λ fault. (fault ≡ ReportFault.Sink) ⊎ (fault ≡ ReportFault.NoMemory)) }
+    ensures memory { IfErr result (λ fault. fault ≡ ReportFault.NoMemory → S.failed sink.new ≡ S.failed sink.old) }
 {
     'rest: while let Some(item) = walk.next()? {
         put_member(walk.path(), &item, sink)?;

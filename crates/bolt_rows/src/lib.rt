@@ -21,6 +21,8 @@ mod refused_rows;
 #[cfg(test)]
 mod samples;
 #[cfg(test)]
+mod tree_command_rows;
+#[cfg(test)]
 mod walk_rows;
 #[cfg(test)]
 mod word_rows;

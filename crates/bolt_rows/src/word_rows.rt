@@ -7,7 +7,7 @@ use std::alloc::{AllocError, Global};
 use std::process::Abort;
 use std::test::Fail;
 
-static HELP: [Row<'static>; 4] = [
+static HELP: [Row<'static>; 7] = [
     (
         &["--help"],
         Helps(
@@ -19,7 +19,10 @@ static HELP: [Row<'static>; 4] = [
               info     Show the meta in force: page size, transaction, root, freelist, high-water mark\n  \
               page     Show one page: its type and what it holds, keys and values in hex\n  \
               check    Say whether the file is sound, and if not, each thing that is wrong\n  \
-              buckets  List the names of the buckets in the root bucket\n\
+              buckets  List the names of the buckets in the root bucket\n  \
+              keys     List the keys of a bucket, those of its buckets among them\n  \
+              get      Show the value of a key\n  \
+              list     List all that the file holds, keys and values in hex, in the order of paths\n\
             \n\
             Options:\n  \
               -h, --help  Print help\n",
@@ -42,7 +45,48 @@ static HELP: [Row<'static>; 4] = [
     ),
     (&["buckets", "--help"], Helps(BUCKETS_HELP)),
     (&["buckets", "FILE", "-h"], Helps(BUCKETS_HELP)),
+    (&["keys", "FILE", "b", "--help"], Helps(KEYS_HELP)),
+    (&["get", "-h"], Helps(GET_HELP)),
+    (&["list", "--help"], Helps(LIST_HELP)),
 ];
+
+const KEYS_HELP: &str = "List the keys of a bucket, those of its buckets among them\n\
+    \n\
+    Usage: luntsegi keys [OPTIONS] <FILE> <PART>...\n\
+    \n\
+    Arguments:\n  \
+      <FILE>     The database file; it is read, never written\n  \
+      <PART>...  The keys of the buckets that lead to it, from the root bucket down\n\
+    \n\
+    Options:\n      \
+          --form <F>   How names and values are shown: printable (in hex what isn't plain ASCII), hex or bytes [default: printable]\n      \
+          --parts <P>  How each PART is written: text or hex [default: text]\n  \
+      -h, --help       Print help\n";
+
+const GET_HELP: &str = "Show the value of a key\n\
+    \n\
+    Usage: luntsegi get [OPTIONS] <FILE> <PART>...\n\
+    \n\
+    Arguments:\n  \
+      <FILE>     The database file; it is read, never written\n  \
+      <PART>...  The keys of the buckets that lead to it, and last its own\n\
+    \n\
+    Options:\n      \
+          --form <F>   How names and values are shown: printable (in hex what isn't plain ASCII), hex or bytes [default: printable]\n      \
+          --parts <P>  How each PART is written: text or hex [default: text]\n  \
+      -h, --help       Print help\n";
+
+const LIST_HELP: &str =
+    "List all that the file holds, keys and values in hex, in the order of paths\n\
+    \n\
+    Usage: luntsegi list [OPTIONS] <FILE>\n\
+    \n\
+    Arguments:\n  \
+      <FILE>  The database file; it is read, never written\n\
+    \n\
+    Options:\n      \
+          --from <HEXPATH>  Where to begin: keys in hex joined by slashes, as the listing shows them\n  \
+      -h, --help            Print help\n";
 
 const BUCKETS_HELP: &str = "List the names of the buckets in the root bucket\n\
     \n\
@@ -52,7 +96,7 @@ const BUCKETS_HELP: &str = "List the names of the buckets in the root bucket\n\
       <FILE>  The database file; it is read, never written\n\
     \n\
     Options:\n      \
-          --form <F>  How names are shown: printable (in hex what isn't plain ASCII), hex or bytes [default: printable]\n  \
+          --form <F>  How names and values are shown: printable (in hex what isn't plain ASCII), hex or bytes [default: printable]\n  \
       -h, --help      Print help\n";
 
 /// Lines without a command, or with one that isn't known.
@@ -61,7 +105,7 @@ static COMMANDS: [Row<'static>; 5] = [
         &[],
         Refused(
             "error: 'luntsegi' requires a subcommand but one was not provided\n  \
-            [subcommands: info, page, check, buckets]\n\
+            [subcommands: info, page, check, buckets, keys, get, list]\n\
             \n\
             Usage: luntsegi <COMMAND>\n\
             \n\
@@ -110,7 +154,7 @@ const SIMILAR_BUCKET: &str = "error: unrecognized subcommand 'bucket'\n\
     For more information, try '--help'.\n";
 
 /// Lines with too few operands, or with too many.
-static OPERANDS: [Row<'static>; 9] = [
+static OPERANDS: [Row<'static>; 12] = [
     (
         &["info"],
         Refused(
@@ -157,6 +201,36 @@ static OPERANDS: [Row<'static>; 9] = [
             "error: the following required arguments were not provided:\n  <FILE>\n\
             \n\
             Usage: luntsegi buckets <FILE>\n\
+            \n\
+            For more information, try '--help'.\n",
+        ),
+    ),
+    (
+        &["keys"],
+        Refused(
+            "error: the following required arguments were not provided:\n  <FILE>\n  <PART>...\n\
+            \n\
+            Usage: luntsegi keys <FILE> <PART>...\n\
+            \n\
+            For more information, try '--help'.\n",
+        ),
+    ),
+    (
+        &["get", "FILE", "--parts", "hex"],
+        Refused(
+            "error: the following required arguments were not provided:\n  <PART>...\n\
+            \n\
+            Usage: luntsegi get --parts <P> <FILE> <PART>...\n\
+            \n\
+            For more information, try '--help'.\n",
+        ),
+    ),
+    (
+        &["list", "FILE", "other"],
+        Refused(
+            "error: unexpected argument 'other' found\n\
+            \n\
+            Usage: luntsegi list [OPTIONS] <FILE>\n\
             \n\
             For more information, try '--help'.\n",
         ),
@@ -316,6 +390,12 @@ static NUMBERS: [&'static str; 11] = [
 /// Words that are no form.
 static FORMS: [&'static str; 5] = ["", "nosuch", "Hex", "hex ", "printable,hex"];
 
+/// Words that are no bytes in hexadecimal.
+static HEXES: [&'static str; 6] = ["6", "6g", "0x61", "616", " 61", "\u{663}"];
+
+/// Words that are no path in hexadecimal.
+static PATHS: [&'static str; 9] = ["", "/", "6", "62//31", "62/3", "62/", "/62", "62 /31", "6g"];
+
 #[test]
 fn refused_words(rt: HostRuntime) -> Result<(), Fail> {
     for number in &NUMBERS {
@@ -326,6 +406,21 @@ fn refused_words(rt: HostRuntime) -> Result<(), Fail> {
     for form in &FORMS {
         let words = ["buckets", "FILE", "--form", *form];
         let row = (words.as_slice(), RefusedWord("bad form"));
+        check_row(&rt, rt.alloc(), "no file", &[], row)?;
+    }
+    for parts in &FORMS {
+        let words = ["keys", "FILE", "--parts", *parts, "61"];
+        let row = (words.as_slice(), RefusedWord("bad parts"));
+        check_row(&rt, rt.alloc(), "no file", &[], row)?;
+    }
+    for hex in &HEXES {
+        let words = ["get", "FILE", "--parts", "hex", "61", *hex];
+        let row = (words.as_slice(), RefusedWord("bad hex"));
+        check_row(&rt, rt.alloc(), "no file", &[], row)?;
+    }
+    for path in &PATHS {
+        let words = ["list", "FILE", "--from", *path];
+        let row = (words.as_slice(), RefusedWord("bad hex"));
         check_row(&rt, rt.alloc(), "no file", &[], row)?;
     }
     Ok(())
@@ -358,11 +453,20 @@ fn file_words(rt: HostRuntime) -> Result<(), Fail> {
         check_file(&rt, alloc, &["page", file, "3"], file)?;
         check_file(&rt, alloc, &["check", file], file)?;
         check_file(&rt, alloc, &["buckets", "--form", "hex", file], file)?;
+        check_file(
+            &rt,
+            alloc,
+            &["keys", file, "--parts", "hex", "00", ""],
+            file,
+        )?;
+        check_file(&rt, alloc, &["get", file, "", "-"], file)?;
+        check_file(&rt, alloc, &["list", "--from", "00/fF", file], file)?;
     }
     // Behind two hyphens a word is an operand, whatever it begins with.
     for file in ["--form", "--form=hex", "--help", "--"] {
         check_file(&rt, alloc, &["buckets", "--", file], file)?;
         check_file(&rt, alloc, &["buckets", "--form", "hex", "--", file], file)?;
+        check_file(&rt, alloc, &["keys", "--", file, "--parts"], file)?;
     }
     Ok(())
 }

@@ -1,4 +1,4 @@
-mod AllEntries
+pub mod AllEntries
 pub mod BackLemmas
 mod BucketWays
 mod Climbing
@@ -8,7 +8,7 @@ mod CursorMoves
 pub mod DescentLemmas
 mod Entering
 mod EntryOrder
-mod Existing
+pub mod Existing
 mod Filters
 pub mod FurtherLemmas
 pub mod GapLemmas
@@ -21,13 +21,14 @@ mod Lists
 mod Looking
 pub mod Measured
 pub mod MoveLemmas
-mod Named
+pub mod Named
 pub mod NearLemmas
 mod Nesting
 mod OpenSteps
 pub mod OpeningMoves
 pub mod PagerLemmas
 mod Parts
+pub mod PathEntries
 mod PathOrder
 pub mod PlaceLemmas
 pub mod PlaceMoves

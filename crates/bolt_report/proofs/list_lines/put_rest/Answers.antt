@@ -15,6 +15,7 @@ rest-smaller g c =
 pub rest-preserved : goal.rest-preserved
 rest-preserved g c = record {
   checked = c.in_ok-item.ensures.checked ∙ c.rest.invariant.checked;
+  counted = c.in_ok-put_member.ensures.sound ∙ c.rest.invariant.counted;
   put = λ listing lists.
       let given = rw c.in-Some.is at c.in_ok-item.ensures.given in
       let here = same_listing (walk_checked c.rest.walk) (walk_checked c.args.walk.now) listing c.rest.invariant.checked lists in

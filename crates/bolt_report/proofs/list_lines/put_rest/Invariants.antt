@@ -12,6 +12,7 @@ use Rattle.bolt_report.proofs.list_lines.put_rest.Given as goal
 abbrev pub invariant-rest : goal.invariant-rest
 invariant-rest g l = record {
   checked : walk_checked l.walk ≡ walk_checked l.initial.walk;
+  counted : g.S.Sink.failed l.sink ≡ g.S.Sink.failed l.initial.sink;
   put : ForListing (walk_checked l.initial.walk) (λ listing. (written : List ℕ) × (listing_text (left_of l.initial.walk listing) ≡ written ++ listing_text (left_of l.walk listing))
       × Writes {A = ⊤} {E = ReportFault} g.S.Sink.taken g.S.Sink.failed l.initial.sink l.sink written (Ok tt));
 }

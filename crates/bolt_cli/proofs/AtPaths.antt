@@ -1,0 +1,165 @@
+-- What a path leads to in a sound file, and what it holds.
+use Rattle.std.proofs.Common.{◌≡◌, ◌∙◌, ◌++◌, ◌-◌, ◌+◌, List, [], ◌∷◌, ℕ, Some, None, Result, Ok, Err, IfErr, true, false, IsTrue, Vec, drop, get_or, inl, inr, length, take, refl, sym, ap, subst, rules, arith, ◌<◌}
+use Rattle.std.proofs.Math.Logic.{∥∥₁_elim, ∥∥₁_map}
+use Rattle.std.proofs.Math.Seq.{take-append_seam}
+use Rattle.std.proofs.Props.{props}
+use Rattle.std.proofs.lemmas.List.{drop_more, length-append, map-append, take-append-drop}
+use Rattle.std.specs.Result.{IsErrAnd}
+use Rattle.bolt_format.specs.Elements.{LeafElement}
+use Rattle.bolt_check.specs.CheckedFiles.{bytes_of, meta_of}
+use Rattle.bolt_check.specs.Keys.{Key}
+use Rattle.bolt_check.specs.Sound.{HasSoundTrees}
+use Rattle.bolt_check.specs.declared.checked_file.Checked.{Checked}
+use Rattle.bolt_tree.specs.Buckets.{bucket_checked, bucket_start}
+use Rattle.bolt_tree.specs.BucketViews.{entries_of}
+use Rattle.bolt_tree.specs.Entries.{AreEntries, Item, Start, Value, item_of, start_of}
+use Rattle.bolt_tree.specs.EntriesLeft.{ForEntries}
+use Rattle.bolt_tree.specs.FileListings.{root_of}
+use Rattle.bolt_tree.specs.Lookups.{IsBucketAt, IsValueAt}
+use Rattle.bolt_tree.specs.Paths.{Holds, Names, Path}
+use Rattle.bolt_tree.specs.declared.bucket.Bucket.{Bucket}
+use Rattle.bolt_tree.proofs.AllEntries.{all_entries, checked_entries}
+use Rattle.bolt_tree.proofs.Named.{held_down, held_up, names_push}
+use Rattle.bolt_cli.specs.Answers.{HoldsIn, HoldsNone, LeadsTo, parents_of}
+use Rattle.bolt_cli.specs.declared.failure.Failure.{Failure}
+use Rattle.bolt_cli.specs.declared.failure.Failure.TheVariants as failure
+use Rattle.bolt_cli.specs.PlainWords.{path_in}
+use Rattle.bolt_cli.proofs.CommandLineLemmas.{made_more}
+use Rattle.bolt_tree.proofs.PathEntries.{held_once, held_or_none, item_known, named_once, named_or_none, names_no_further, start_known}
+
+module _ (checked : Checked) where
+  abbrev Entry : Start → LeafElement → Type 0
+  Entry = entries_of checked
+
+  abbrev pub LeadsIn : Path → Start → Type 0
+  LeadsIn path bucket = LeadsTo (bytes_of checked) (meta_of checked) path bucket
+
+  abbrev pub HoldsAt : Path → Item → Type 0
+  HoldsAt path item = HoldsIn (bytes_of checked) (meta_of checked) path item
+
+  -- one part more
+  pub leads_further : (path : Path) (key : Key) (bucket : Start) (inner : Bucket) → ∥ LeadsIn path bucket ∥₁ → IsBucketAt Entry bucket key (Some inner)
+      → ∥ LeadsIn (path ++ key ∷ []) (bucket_start inner) ∥₁
+  leads_further path key bucket inner known found =
+      ∥∥₁_elim known (hlevel props) (λ names. ∥∥₁_map found (λ (e, is, k, b, start, sequence).
+      subst (λ (s : Start). LeadsIn (path ++ key ∷ []) s) (sym start) (subst (λ (x : Key). LeadsIn (path ++ x ∷ []) (start_of e.value)) k (names_push Entry (root_of checked) path bucket e names is b))))
+
+  pub leads_nowhere : (path : Path) (key : Key) (rest : Path) (bucket : Start) → ∥ LeadsIn path bucket ∥₁ → IsBucketAt Entry bucket key None
+      → (there : Start) → LeadsIn (path ++ key ∷ rest) there → ⊥
+  leads_nowhere path key rest bucket known none there names =
+      ∥∥₁_elim known (hlevel props) (λ here. ∥∥₁_elim (checked_entries checked) (hlevel props) (λ all.
+      names_no_further Entry (root_of checked) path bucket key rest all here none there names))
+
+  item_value : (e : LeafElement) (value : List ℕ) → e.is_bucket ≡ false → e.value ≡ value → item_of e ≡ Value value
+  item_value e value is_value same = rw is_value (ap Value same)
+
+  no_value_of : (e : LeafElement) (value : List ℕ) → IsTrue e.is_bucket → item_of e ≡ Value value → ⊥
+  no_value_of e value is_bucket same = let is : e.is_bucket ≡ true = is_bucket in let bad = rw is at same in absurd (search (rules, bad))
+
+  pub value_held : (path : Path) (key : Key) (bucket : Start) (value : List ℕ) → ∥ LeadsIn path bucket ∥₁ → IsValueAt Entry bucket key (Some value)
+      → ∥ HoldsAt (path ++ key ∷ []) (Value value) ∥₁
+  value_held path key bucket value known found =
+      ∥∥₁_elim known (hlevel props) (λ names. ∥∥₁_map found (λ (e, is, k, is_value, same).
+      held_up Entry (root_of checked) path bucket key [] (Value value) names (e, is, k, item_value e value is_value same)))
+
+  pub no_value_held : (path : Path) (key : Key) (bucket : Start) → ∥ LeadsIn path bucket ∥₁ → IsValueAt Entry bucket key None
+      → (value : List ℕ) → HoldsAt (path ++ key ∷ []) (Value value) → ⊥
+  no_value_held path key bucket known none value held =
+      ∥∥₁_elim known (hlevel props) (λ names. ∥∥₁_elim (checked_entries checked) (hlevel props) (λ all.
+      let (e, is, k, same) = held_down Entry (root_of checked) path bucket key [] (Value value) all names held in
+      no_value_of e value (none e is k) same))
+
+  -- ---- where trees are sound, what is only known to be can be told
+
+  pub lead_told : (path : Path) (bucket : Start) → HasSoundTrees (bytes_of checked) (meta_of checked) → ∥ LeadsIn path bucket ∥₁ → LeadsIn path bucket
+  lead_told path bucket trees known =
+      let all = all_entries (bytes_of checked) (meta_of checked) trees in
+      elim (named_or_none Entry (root_of checked) path all) [
+        | inl (there, names) ↦
+            let same = start_known there bucket (∥∥₁_map known (λ here. named_once Entry (root_of checked) path there bucket all names here)) in
+            subst (LeadsIn path) same names
+        | inr none ↦ absurd (∥∥₁_elim known (hlevel props) (λ here. none bucket here))
+      ]
+
+  pub held_told : (path : Path) (item : Item) → HasSoundTrees (bytes_of checked) (meta_of checked) → ∥ HoldsAt path item ∥₁ → HoldsAt path item
+  held_told path item trees known =
+      let all = all_entries (bytes_of checked) (meta_of checked) trees in
+      elim (held_or_none Entry (root_of checked) path all) [
+        | inl (there, held) ↦
+            let same = item_known there item (∥∥₁_map known (λ here. held_once Entry (root_of checked) path there item all held here)) in
+            subst (HoldsAt path) same held
+        | inr none ↦ absurd (∥∥₁_elim known (hlevel props) (λ here. none item here))
+      ]
+
+  -- what is promised of the entries of the bucket that a path leads to
+  pub at_path : (path : Path) (bucket : Bucket) (P : List LeafElement → Type 0) → HasSoundTrees (bytes_of checked) (meta_of checked) → bucket_checked bucket ≡ checked
+      → ∥ LeadsIn path (bucket_start bucket) ∥₁ → ForEntries (bucket_checked bucket) (bucket_start bucket) P
+      → (start : Start) × (entries : List LeafElement) × LeadsIn path start × AreEntries Entry start entries × P entries
+  at_path path bucket P trees is known promised =
+      let names = lead_told path (bucket_start bucket) trees known in
+      let (entries, are) = all_entries (bytes_of checked) (meta_of checked) trees path (bucket_start bucket) names in
+      let here = subst (λ (c : Checked). ForEntries c (bucket_start bucket) P) is promised in
+      (bucket_start bucket, entries, names, are, here entries are)
+
+-- ---- the parts of a path
+
+module _ {Z : Type 0} (path : List (Vec ℕ Z)) (i : ℕ) (part : Vec ℕ Z) (is : part ≡ get_or path i part) (within : i < length path) where
+  abbrev bytes_in : Vec ℕ Z → Key
+  bytes_in part = part.items
+
+  -- up to one of them, that one, and the rest
+  pub parts_at : path_in path ≡ path_in (take i path) ++ part.items ∷ path_in (drop (i + 1) path)
+  parts_at =
+      sym (ap path_in (take-append-drop i path)) ∙ map-append bytes_in (take i path) (drop i path)
+      ∙ ap (λ (rest : List (Vec ℕ Z)). path_in (take i path) ++ path_in rest) (drop_more path i part within)
+      ∙ ap (λ (p : Vec ℕ Z). path_in (take i path) ++ bytes_in p ∷ path_in (drop (i + 1) path)) (sym is)
+
+  pub parts_more : path_in (take (i + 1) path) ≡ path_in (take i path) ++ part.items ∷ []
+  parts_more = made_more bytes_in path i part within ∙ ap (λ (p : Vec ℕ Z). path_in (take i path) ++ bytes_in p ∷ []) (sym is)
+
+-- all but the last
+pub parents_are : (parents : Path) (key : Key) → parents_of (parents ++ key ∷ []) ≡ parents
+parents_are parents key =
+    let one : length (parents ++ key ∷ []) - 1 ≡ length parents = let whole = length-append parents (key ∷ []) in omega (arith, whole) in
+    ap (λ n. take n (parents ++ key ∷ [])) one ∙ take-append_seam parents (key ∷ [])
+
+no_parts : {Z : Type 0} (path : List (Vec ℕ Z)) → length path ≡ 0 → path_in path ≡ []
+no_parts [] none = refl
+no_parts (part ∷ path) none = absurd (omega (arith, none))
+
+-- ---- why a path holds no value
+
+module _ (checked : Checked) where
+  abbrev IsReason : Path → Failure → Type 0
+  IsReason path reason = HoldsNone (bytes_of checked) path (meta_of checked) reason
+
+  pub none_at_root : {Z : Type 0} (path : List (Vec ℕ Z)) → length path ≡ 0 → IsReason (path_in path) failure.NoKey
+  none_at_root path none = subst (λ (p : Path). IsReason p failure.NoKey) (sym (no_parts path none)) (inl (refl, λ value held. held, (root_of checked, ∣ refl ∣₁)))
+
+  module _ {Z : Type 0} (path parents : List (Vec ℕ Z)) (key : Vec ℕ Z) (is : path ≡ parents ++ key ∷ []) where
+    last_part : path_in path ≡ path_in parents ++ key.items ∷ []
+    last_part = ap path_in is ∙ map-append (λ (part : Vec ℕ Z). part.items) parents (key ∷ [])
+
+    parents_in : parents_of (path_in path) ≡ path_in parents
+    parents_in = ap parents_of last_part ∙ parents_are (path_in parents) key.items
+
+    pub reason_told : {X : Type 0} (told : Failure) (result : Result X Failure) → (told ≡ failure.NoBucket) × ((bucket : Start) → LeadsIn checked (path_in parents) bucket → ⊥)
+        → IsErrAnd result (λ reason. reason ≡ told) → IfErr result (IsReason (path_in path))
+    reason_told told (Ok x) refused is = tt
+    reason_told told (Err reason) (no_bucket, none) is = inr (is ∙ no_bucket, λ bucket names. none bucket (subst (λ (p : Path). LeadsIn checked p bucket) parents_in names))
+
+    pub value_at : (bucket : Bucket) (value : List ℕ) → bucket_checked bucket ≡ checked → ∥ LeadsIn checked (path_in parents) (bucket_start bucket) ∥₁
+        → IsValueAt (entries_of (bucket_checked bucket)) (bucket_start bucket) key.items (Some value) → ∥ HoldsAt checked (path_in path) (Value value) ∥₁
+    value_at bucket value same known found =
+        let here = subst (λ (c : Checked). IsValueAt (entries_of c) (bucket_start bucket) key.items (Some value)) same found in
+        subst (λ (p : Path). ∥ HoldsAt checked p (Value value) ∥₁) (sym last_part) (value_held checked (path_in parents) key.items (bucket_start bucket) value known here)
+
+    pub none_at : (bucket : Bucket) → bucket_checked bucket ≡ checked → ∥ LeadsIn checked (path_in parents) (bucket_start bucket) ∥₁
+        → IsValueAt (entries_of (bucket_checked bucket)) (bucket_start bucket) key.items None → IsReason (path_in path) failure.NoKey
+    none_at bucket same known none =
+        let here = subst (λ (c : Checked). IsValueAt (entries_of c) (bucket_start bucket) key.items None) same none in
+        inl (
+          refl,
+          λ value held. no_value_held checked (path_in parents) key.items (bucket_start bucket) known here value (subst (λ (p : Path). HoldsAt checked p (Value value)) last_part held),
+          (bucket_start bucket, subst (λ (p : Path). ∥ LeadsIn checked p (bucket_start bucket) ∥₁) (sym parents_in) known),
+        )

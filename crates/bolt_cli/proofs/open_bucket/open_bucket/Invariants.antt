@@ -1,0 +1,12 @@
+use Rattle.std.proofs.Common.{◌≡◌, take}
+use Rattle.bolt_tree.specs.Buckets.{bucket_checked, bucket_start}
+use Rattle.bolt_cli.specs.PlainWords.{path_in}
+use Rattle.bolt_cli.proofs.AtPaths.{LeadsIn}
+use Rattle.bolt_cli.proofs.open_bucket.open_bucket.Given as goal
+
+-- the parts so far lead to the bucket
+abbrev pub invariant-loop-part : goal.invariant-loop-part
+invariant-loop-part l = record {
+  file : bucket_checked l.bucket ≡ l.checked;
+  named : ∥ LeadsIn l.checked (path_in (take l.part-index l.path)) (bucket_start l.bucket) ∥₁;
+}

@@ -1,0 +1,31 @@
+use Rattle.std.proofs.Common.{◌∙◌, ℕ, Global, Vec, List, [], ◌∷◌, ◌+◌, ap, drop, map, sym}
+use Rattle.std.proofs.lemmas.List.{at_drop_more, map-append}
+use Rattle.std.specs.Borrow.{Bor}
+use Rattle.bolt_tree.specs.Paths.{Path}
+use Rattle.bolt_cli.specs.LineWords.{Text}
+use Rattle.bolt_cli.specs.PathWords.{each_part, part_of}
+use Rattle.bolt_cli.specs.PlainWords.{path_in}
+use Rattle.bolt_cli.proofs.PathReading.{behind, behind_one, part_refused}
+use Rattle.bolt_cli.proofs.path_words.read_path.Goals as goal
+
+abbrev texts : List (Bor Text) → List Text
+texts words = map (λ (word : Bor Text). word.now) words
+
+pub returns-in_err-read_part : goal.returns-in_err-read_part
+returns-in_err-read_part c =
+    let read = part_of c.args.parts in
+    let front = path_in c.loop-word.path.items in
+    let i = c.loop-word.word-index in
+    part_refused read _ (texts (drop (i + 1) c.args.words.now)) _ (λ (part : Vec ℕ Global). part.items) front _ _ c.from_residual.result c.in_err-read_part.ensures
+    (sym (at_drop_more (λ words. behind front (each_part read (texts words))) c.args.words.now i _ c.loop-word-test.true) ∙ c.loop-word.invariant) c.from_residual.ensures.1
+
+pub loop-word-preserved : goal.loop-word-preserved
+loop-word-preserved c =
+    let read = part_of c.args.parts in
+    let front = path_in c.loop-word.path.items in
+    let i = c.loop-word.word-index in
+    let part = c.in_ok-read_part.field-0 in
+    let left = texts (drop (i + 1) c.args.words.now) in
+    ap (λ (path : Path). behind path (each_part read left)) (ap path_in c.in_ok-push.ensures.items ∙ map-append _ c.loop-word.path.items (part ∷ []))
+    ∙ sym (at_drop_more (λ words. behind front (each_part read (texts words))) c.args.words.now i _ c.loop-word-test.true ∙ behind_one read _ left front part.items c.in_ok-read_part.ensures)
+    ∙ c.loop-word.invariant

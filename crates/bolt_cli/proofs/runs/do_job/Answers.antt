@@ -1,0 +1,38 @@
+use Rattle.std.proofs.Common.{List, Vec, ℕ, Global, subst, sym}
+use Rattle.bolt_cli.specs.Answers.{IsAnswer, IsCheckedAnswer, IsFileRefusal, IsGetAnswer, IsKeysAnswer, IsListAnswer}
+use Rattle.bolt_cli.specs.PlainWords.{path_in}
+use Rattle.bolt_cli.specs.declared.job.Job.{Job}
+use Rattle.bolt_cli.proofs.runs.do_job.Goals as goal
+
+abbrev Path : Type 0
+Path = List (Vec ℕ Global)
+
+pub returns-in-Keys : goal.returns-in-Keys
+returns-in-Keys g c =
+    let file = c.args.file.now in
+    let (answer, is, does) = c.print_keys.ensures in (
+      answer,
+      subst (λ (job : Job). IsAnswer file job answer) (sym c.in-Keys.is)
+          (subst (λ (path : Path). IsCheckedAnswer file (IsKeysAnswer file (path_in path) c.in-Keys.form) IsFileRefusal answer) c.as_slice.ensures.value is),
+      does,
+    )
+
+pub returns-in-Get : goal.returns-in-Get
+returns-in-Get g c =
+    let file = c.args.file.now in
+    let (answer, is, does) = c.print_value.ensures in (
+      answer,
+      subst (λ (job : Job). IsAnswer file job answer) (sym c.in-Get.is)
+          (subst (λ (path : Path). IsCheckedAnswer file (IsGetAnswer file (path_in path) c.in-Get.form) IsFileRefusal answer) c.as_slice-in-Get.ensures.value is),
+      does,
+    )
+
+pub returns-in-List : goal.returns-in-List
+returns-in-List g c =
+    let file = c.args.file.now in
+    let (answer, is, does) = c.print_list.ensures in (
+      answer,
+      subst (λ (job : Job). IsAnswer file job answer) (sym c.in-List.is)
+          (subst (λ (path : Path). IsCheckedAnswer file (IsListAnswer file (path_in path)) IsFileRefusal answer) c.as_slice-in-List.ensures.value is),
+      does,
+    )

@@ -1,0 +1,55 @@
+-- How a command line writes a path: a word for each part, or all parts in hexadecimal in one word: docs/COMMANDS.md, "Words".
+use Rattle.std.specs.Prelude.{◌==◌, List, [], ◌∷◌, Option, Some, None, Result, Ok, Err, codes, length, if◌then◌else◌}
+use Rattle.std.specs.List.{list_any, slice_split}
+use Rattle.std.specs.Str.{bytes_eq}
+use Rattle.hex.specs.Hex.{decode_of}
+use Rattle.hex.specs.declared.error.FromHexError.{FromHexError}
+use Rattle.bolt_check.specs.Keys.{Key}
+use Rattle.bolt_tree.specs.Paths.{Path}
+use Rattle.bolt_cli.specs.LineWords.{Text}
+use Rattle.bolt_cli.specs.declared.parts.Parts.{Parts}
+use Rattle.bolt_cli.specs.declared.parts.Parts.TheVariants as parts
+
+module _ {A B : Type 0} where
+  abbrev pub result_and_then : (A → Result B Text) → Result A Text → Result B Text
+  result_and_then next (Ok a) = next a
+  result_and_then next (Err why) = Err why
+
+-- how the words of a path are written, by the value of an option; without one they are text
+abbrev pub parts_of : Text → Result Parts Text
+parts_of word =
+    if bytes_eq word (codes "text") then Ok parts.Text
+    else if bytes_eq word (codes "hex") then Ok parts.Hex
+    else Err (codes "bad parts")
+
+abbrev pub parts_by : Option Text → Result Parts Text
+parts_by (Some word) = parts_of word
+parts_by None = Ok parts.Text
+
+abbrev pub or_bad_hex : Result Key FromHexError → Result Key Text
+or_bad_hex (Ok bytes) = Ok bytes
+or_bad_hex (Err e) = Err (codes "bad hex")
+
+-- bytes in hexadecimal, two digits of either case for each
+abbrev pub hex_bytes : Text → Result Key Text
+hex_bytes word = or_bad_hex (decode_of word)
+
+-- a part of a path by its word
+abbrev pub part_of : Parts → Text → Result Key Text
+part_of parts.Text word = Ok word
+part_of parts.Hex word = hex_bytes word
+
+-- each of the words is a part
+abbrev pub each_part : (Text → Result Key Text) → List Text → Result Path Text
+each_part read [] = Ok []
+each_part read (word ∷ words) = result_and_then (λ part. result_and_then (λ path. Ok (part ∷ path)) (each_part read words)) (read word)
+
+-- parts that slashes (47) part, in hexadecimal, with a byte at least in each
+abbrev pub hex_path_of : Text → Result Path Text
+hex_path_of word = let words = slice_split (λ byte. byte == 47) word in
+    if list_any (λ part. length part == 0) words then Err (codes "bad hex") else each_part (part_of parts.Hex) words
+
+-- the path where the rest of a listing begins; without one it is the whole
+abbrev pub hex_path_by : Option Text → Result Path Text
+hex_path_by (Some word) = hex_path_of word
+hex_path_by None = Ok []

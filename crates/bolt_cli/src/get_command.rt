@@ -1,0 +1,45 @@
+//! The command `get`.
+ghost use Rattle.std.specs.Prelude.{IfErr, IfOk};
+ghost use Rattle.bolt_check.specs.CheckedFiles.{bytes_of, meta_of};
+ghost use Rattle.bolt_tree.specs.Entries.{Value};
+ghost use Rattle.bolt_cli.specs.Answers.{Answer, Does, HoldsIn, HoldsNone, IsCheckedAnswer, IsFileRefusal, IsGetAnswer};
+ghost use Rattle.bolt_cli.specs.PlainWords.{path_in};
+
+use crate::failure::Failure;
+use crate::open_bucket::open_bucket;
+use crate::open_checked::open_checked;
+use bolt_check::Checked;
+use bolt_format::Sink;
+use bolt_report::{Form, value};
+use std::alloc::Global;
+
+/// Puts the value at a path.
+pub(crate) fn print_value<O: Sink>(
+    alloc: Global,
+    file: &[u8],
+    path: &[Vec<u8>],
+    form: Form,
+    out: &mut O,
+) -> Result<u8, Failure>
+    ensures { (answer : Answer) × IsCheckedAnswer file.now (IsGetAnswer file.now (path_in path.now) form) IsFileRefusal answer
+        × Does O.taken O.failed out.old out.new answer result }
+{
+    let checked = open_checked(alloc, file)?;
+    value(find_value(checked, path)?, form, out)?;
+    Ok(0)
+}
+
+/// The value at a path, whose last part is its key.
+fn find_value<'a>(checked: Checked<'a>, path: &[Vec<u8>]) -> Result<&'a [u8], Failure>
+    ensures held { IfOk result (λ value. ∥ HoldsIn (bytes_of checked.entry) (meta_of checked.entry) (path_in path.now) (Value value.now) ∥₁) }
+    ensures refused { IfErr result (HoldsNone (bytes_of checked.entry) (path_in path.now) (meta_of checked.entry)) }
+{
+    let Some((key, parents)) = path.split_last() else {
+        return Err(Failure::NoKey);
+    };
+    let bucket = open_bucket(checked, parents)?;
+    match bucket.get(key.as_slice()) {
+        Some(value) => Ok(value),
+        None => Err(Failure::NoKey),
+    }
+}

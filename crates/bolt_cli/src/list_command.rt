@@ -1,0 +1,40 @@
+//! The command `list`.
+ghost use Rattle.std.specs.Prelude.{◌≡◌, IfErr, IfOk};
+ghost use Rattle.bolt_tree.specs.Paths.{path_of};
+ghost use Rattle.bolt_cli.specs.Answers.{Answer, Does, IsCheckedAnswer, IsFileRefusal, IsListAnswer};
+ghost use Rattle.bolt_cli.specs.PlainWords.{path_in};
+ghost use Rattle.bolt_cli.specs.declared.failure.Failure.TheVariants.{Memory};
+
+use crate::failure::Failure;
+use crate::open_checked::open_checked;
+use bolt_format::Sink;
+use bolt_report::list;
+use std::alloc::Global;
+
+/// Puts the listing from a path on.
+pub(crate) fn print_list<O: Sink>(
+    alloc: Global,
+    file: &[u8],
+    from: &[Vec<u8>],
+    out: &mut O,
+) -> Result<u8, Failure>
+    ensures { (answer : Answer) × IsCheckedAnswer file.now (IsListAnswer file.now (path_in from.now)) IsFileRefusal answer
+        × Does O.taken O.failed out.old out.new answer result }
+{
+    let checked = open_checked(alloc, file)?;
+    let path = slices(alloc, from)?;
+    list(alloc, checked, path.as_slice(), out)?;
+    Ok(0)
+}
+
+/// The parts of a path as slices.
+fn slices<'a>(alloc: Global, parts: &'a [Vec<u8>]) -> Result<Vec<&'a [u8]>, Failure>
+    ensures path { IfOk result (λ path. path_of path.items ≡ path_in parts.now) }
+    ensures memory { IfErr result (λ failure. failure ≡ Memory) }
+{
+    let mut path = Vec::new(alloc);
+    for part in parts {
+        path.push(part.as_slice())?;
+    }
+    Ok(path)
+}

@@ -1,0 +1,201 @@
+//! Rows of the commands `keys`, `get` and `list`.
+
+use crate::commands::{Outcome, Row, check_rows};
+use crate::samples::{
+    GREATEST_OVERFLOW, INLINE_BUCKET, forty_values, make, two_buckets, with_root,
+};
+use Element::{Bucket, Value};
+use Outcome::{Fails, Prints, PrintsBytes};
+use format_rows::maker::{Element, MetaFields, inline};
+use std::test::Fail;
+
+/// On the file with the inline bucket `b`, which has `k1` = `v1`.
+static INLINE_ROWS: [Row<'static>; 21] = [
+    (&["keys", "FILE", "b"], Prints("k1\n")),
+    (&["keys", "FILE", "62", "--parts", "hex"], Prints("k1\n")),
+    (
+        &["keys", "--form", "hex", "FILE", "--parts=text", "b"],
+        Prints("6b31\n"),
+    ),
+    (&["keys", "FILE", "c"], Fails("bucket not found")),
+    (&["keys", "FILE", "b", "k1"], Fails("bucket not found")),
+    (&["keys", "FILE", ""], Fails("bucket not found")),
+    (&["get", "FILE", "b", "k1"], Prints("v1\n")),
+    (
+        &[
+            "get", "FILE", "62", "6b31", "--parts", "hex", "--form", "hex",
+        ],
+        Prints("7631\n"),
+    ),
+    (
+        &["get", "FILE", "62", "--parts", "hex", "6B31"],
+        Prints("v1\n"),
+    ),
+    (
+        &["get", "--form", "bytes", "--", "FILE", "b", "k1"],
+        Prints("v1\n"),
+    ),
+    (&["get", "FILE", "b", "k2"], Fails("key not found")),
+    (&["get", "FILE", "b"], Fails("key not found")),
+    (&["get", "FILE", "c"], Fails("key not found")),
+    (&["get", "FILE", "b", ""], Fails("key not found")),
+    (
+        &["get", "FILE", "62", "", "--parts", "hex"],
+        Fails("key not found"),
+    ),
+    (&["get", "FILE", "c", "k1"], Fails("bucket not found")),
+    (&["get", "FILE", "", "k1"], Fails("bucket not found")),
+    (&["get", "FILE", "b", "k1", "x"], Fails("bucket not found")),
+    (&["list", "FILE"], Prints("62 bucket 0\n62/6b31 = 7631\n")),
+    (
+        &["list", "--from=62/6B31", "FILE"],
+        Prints("62/6b31 = 7631\n"),
+    ),
+    (&["list", "FILE", "--from", "63"], Prints("")),
+];
+
+#[test]
+fn inline_bucket(rt: HostRuntime) -> Result<(), Fail> {
+    let file = make(rt.alloc(), &INLINE_BUCKET)?;
+    check_rows(
+        &rt,
+        rt.alloc(),
+        "an inline bucket",
+        file.as_slice(),
+        &INLINE_ROWS,
+    )?;
+    Ok(())
+}
+
+/// On the file with the buckets `a`, inline with `z` = `1`, and `aa`, empty.
+static TWO_BUCKETS: [Row<'static>; 8] = [
+    (
+        &["list", "FILE"],
+        Prints("61 bucket 0\n61/7a = 31\n6161 bucket 0\n"),
+    ),
+    (
+        &["list", "FILE", "--from", "61"],
+        Prints("61 bucket 0\n61/7a = 31\n6161 bucket 0\n"),
+    ),
+    (
+        &["list", "FILE", "--from", "61/00"],
+        Prints("61/7a = 31\n6161 bucket 0\n"),
+    ),
+    (
+        &["list", "FILE", "--from", "61/7a/00"],
+        Prints("6161 bucket 0\n"),
+    ),
+    (
+        &["list", "FILE", "--from", "6100"],
+        Prints("6161 bucket 0\n"),
+    ),
+    (&["list", "FILE", "--from", "6162"], Prints("")),
+    (&["keys", "FILE", "a"], Prints("z\n")),
+    (&["keys", "FILE", "aa"], Prints("")),
+];
+
+#[test]
+fn two_inline_buckets(rt: HostRuntime) -> Result<(), Fail> {
+    let file = two_buckets(rt.alloc())?;
+    check_rows(
+        &rt,
+        rt.alloc(),
+        "two buckets",
+        file.as_slice(),
+        &TWO_BUCKETS,
+    )?;
+    Ok(())
+}
+
+/// A file that isn't sound.
+static UNSOUND: [Row<'static>; 3] = [
+    (
+        &["list", "FILE"],
+        Fails("file refused: page 3: out of range"),
+    ),
+    (
+        &["keys", "FILE", "b"],
+        Fails("file refused: page 3: out of range"),
+    ),
+    (
+        &["get", "FILE", "b"],
+        Fails("file refused: page 3: out of range"),
+    ),
+];
+
+#[test]
+fn unsound_file(rt: HostRuntime) -> Result<(), Fail> {
+    let file = make(rt.alloc(), &GREATEST_OVERFLOW)?;
+    check_rows(&rt, rt.alloc(), "an overflow", file.as_slice(), &UNSOUND)?;
+    Ok(())
+}
+
+/// On a root page with the values `e`, empty, and `k`, and the bucket `s` with the sequence 7, which
+/// holds a key that can't be printed.
+static BYTES: [Row<'static>; 8] = [
+    (
+        &["list", "FILE"],
+        Prints("65 = \n6b = 000aff\n73 bucket 7\n73/0a = 61\n"),
+    ),
+    (&["get", "FILE", "e"], Prints("\n")),
+    (&["get", "FILE", "k"], Prints("000aff\n")),
+    (
+        &["get", "FILE", "k", "--form", "bytes"],
+        PrintsBytes(b"\x00\n\xff\n"),
+    ),
+    (&["get", "FILE", "s", "\n"], Prints("a\n")),
+    (&["keys", "FILE", "s"], Prints("0a\n")),
+    (&["keys", "FILE", "s", "--form", "bytes"], Prints("\n\n")),
+    (&["keys", "FILE", "k"], Fails("bucket not found")),
+];
+
+#[test]
+fn bytes_and_sequences(rt: HostRuntime) -> Result<(), Fail> {
+    let alloc = rt.alloc();
+    let held = inline(alloc, 7, &[Value(b"\n", b"a")])?;
+    let elements = [
+        Value(b"e", b""),
+        Value(b"k", b"\x00\n\xff"),
+        Bucket(b"s", held.as_slice()),
+    ];
+    let file = with_root(alloc, &MetaFields::fresh(1024), &elements)?;
+    check_rows(&rt, alloc, "bytes", file.as_slice(), &BYTES)?;
+    Ok(())
+}
+
+/// The line of the `n`-th of the forty values.
+fn push_line(text: &mut String, n: usize) -> Result<(), Fail> {
+    let tens = n / 10;
+    let ones = n % 10;
+    text.push_str(format!(in *text.allocator(); "62/3{tens}3{ones} = ")?.as_str())?;
+    for _ in 0..82 {
+        text.push_str("78")?;
+    }
+    text.push_str("\n")?;
+    Ok(())
+}
+
+/// Forty values on four leaves, from the first and from the sixteenth.
+#[test]
+fn several_leaves(rt: HostRuntime) -> Result<(), Fail> {
+    let alloc = rt.alloc();
+    let file = forty_values(alloc)?;
+    let mut all = String::from_str(alloc, "62 bucket 0\n")?;
+    let mut rest = String::new(alloc);
+    for n in 0..40 {
+        push_line(&mut all, n)?;
+        if n >= 15 {
+            push_line(&mut rest, n)?;
+        }
+    }
+    assert_eq!(rt; all.len(), 7012);
+    assert_eq!(rt; rest.len(), 4375);
+    let whole: [&str; 2] = ["list", "FILE"];
+    let later: [&str; 4] = ["list", "FILE", "--from", "62/3135"];
+    let rows: [Row<'_>; 2] = [
+        (whole.as_slice(), Prints(all.as_str())),
+        (later.as_slice(), Prints(rest.as_str())),
+    ];
+    check_rows(&rt, alloc, "four leaves", file.as_slice(), &rows)?;
+    Ok(())
+}
