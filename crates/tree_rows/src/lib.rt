@@ -15,6 +15,8 @@ mod large_text_rows;
 #[cfg(test)]
 mod lookup_rows;
 #[cfg(test)]
+mod memory_rows;
+#[cfg(test)]
 mod move_rows;
 #[cfg(test)]
 mod nested_sample;
