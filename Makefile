@@ -52,14 +52,23 @@ $(WIDE): tools/bench/make_wide.py
 DEEP = out/deep.db
 REFUSED = rt try --data deep.db=$(abspath $(DEEP)) --fail-alloc
 
+REFUSED_ROWS = out/refused_rows
+
 # Checks a file of 20,000 nested buckets where a request for memory is refused. The checker makes
 # two, the 75th and the 76th of the program, and there is no 77th: the cursor, by which buckets are
-# listed, makes none.
+# listed, makes none. Then each row of memory_rows has its 1000th request refused: nine of these are
+# requests of a walk, which is asked again and goes on, and of two neighbours one stands before the
+# calls that make no request and one behind them.
 memory: $(DEEP)
 	cd crates/luntsegi && $(REFUSED) 75 -- check deep.db 2>&1 | grep -x "error: out of memory"
 	cd crates/luntsegi && $(REFUSED) 76 -- check deep.db 2>&1 | grep -x "error: out of memory"
 	cd crates/luntsegi && $(REFUSED) 77 -- check deep.db 2>&1 | grep -x OK
 	cd crates/luntsegi && $(REFUSED) 77 -- buckets deep.db 2>&1 | grep -x b
+	-cd crates/tree_rows && rt try --test --fail-alloc 1000 -- memory_rows > $(abspath $(REFUSED_ROWS)) 2>&1
+	grep -c "refused at depth ., and gives all" $(REFUSED_ROWS) | grep -x 6
+	grep -c "refused at its beginning, and gives the rest" $(REFUSED_ROWS) | grep -x 3
+	grep -c "refused before the calls" $(REFUSED_ROWS) | grep -x 1
+	grep -c "refused behind the calls" $(REFUSED_ROWS) | grep -x 1
 
 $(DEEP): tools/bench/make_deep.py
 	mkdir -p $(@D)

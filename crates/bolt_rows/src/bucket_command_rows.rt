@@ -1,13 +1,15 @@
 //! Rows of the command `buckets` on sound files.
 
 use crate::commands::{BUCKETS, FileRow, Outcome, Row, check_files, check_row, check_rows};
-use crate::samples::{
-    self, BRANCH_ROOT, Content, FRESH_FILE, INLINE_BUCKET, Sample, WITHOUT_FIRST_META, make,
-};
+use crate::samples::{self, WITHOUT_FIRST_META};
 use Content::{Branch, Leaf};
 use Element::{Bucket, Value};
 use Outcome::{Prints, PrintsBytes};
 use format_rows::maker::{Element, FRESH, MetaFields, NO_FREELIST, flip, meta_page, patch};
+use format_rows::samples::{
+    BRANCH_ROOT, Content, EMPTY_BUCKET, FRESH_FILE, INLINE_BUCKET, Sample, empty_leaf, make,
+    two_buckets,
+};
 use std::alloc::{AllocError, Global};
 use std::process::Abort;
 use std::test::Fail;
@@ -59,11 +61,6 @@ static FILES: [FileRow<'static>; 6] = [
     ),
 ];
 
-/// The value of an empty inline bucket with sequence 0.
-const EMPTY_BUCKET: &[u8] = &[
-    0, 0, 0, 0, 0, 0, 0, 0, 0, 0, 0, 0, 0, 0, 0, 0, 0, 0, 0, 0, 0, 0, 0, 0, 2, 0, 0, 0, 0, 0, 0, 0,
-];
-
 #[test]
 fn files(rt: HostRuntime) -> Result<(), Fail> {
     check_files(&rt, rt.alloc(), BUCKETS, &FILES)?;
@@ -88,7 +85,7 @@ static NAME_LINES: &'static str = "00\n1f\n \n610a62\na b\na~\n617f\nc3a9\nff\n"
 #[test]
 fn printed_names(rt: HostRuntime) -> Result<(), Fail> {
     let alloc = rt.alloc();
-    let file = samples::two_buckets(alloc)?;
+    let file = two_buckets(alloc)?;
     check(&rt, alloc, "two buckets", file, "a\naa\n")?;
     let file = samples::names(alloc)?;
     check(&rt, alloc, "a name of a zero byte", file, "00\na\n")?;
@@ -189,7 +186,7 @@ fn second_metas_alone(rt: HostRuntime) -> Result<(), Fail> {
         ..MetaFields::fresh(2048)
     };
     let meta = meta_page(alloc, 1, &fields)?;
-    let root = samples::empty_leaf(alloc, 3, b"z")?;
+    let root = empty_leaf(alloc, 3, b"z")?;
     let mut file = make(alloc, &BASE)?;
     patch(&mut file, 0, &[0; 4096])?;
     patch(&mut file, 2048, meta.as_slice())?;

@@ -2,8 +2,7 @@
 
 use crate::commands::{CHECK, FileRow, Outcome, check_files, check_job, check_refused, check_row};
 use crate::samples::{
-    self, BRANCH_ROOT, BRANCH_TO_ITSELF, Content, FRESH_FILE, GREATEST_OVERFLOW, INLINE_BUCKET,
-    OTHER_CHECKSUM, Sample, WITHOUT_FIRST_META, WITHOUT_FREELIST, make,
+    self, BRANCH_TO_ITSELF, GREATEST_OVERFLOW, OTHER_CHECKSUM, WITHOUT_FIRST_META, WITHOUT_FREELIST,
 };
 use Content::{Branch, Freelist, Inline, Leaf};
 use Element::Value;
@@ -13,6 +12,10 @@ use bolt_cli::Job;
 use bolt_format::{Meta, MetaFault, PageFault};
 use format_rows::free_files;
 use format_rows::maker::{Element, FRESH, MetaFields};
+use format_rows::samples::{
+    BRANCH_ROOT, Content, FRESH_FILE, INLINE_BUCKET, Sample, chain, forty_values, make,
+    nested_buckets,
+};
 use std::alloc::{AllocError, Global};
 use std::process::Abort;
 use std::test::Fail;
@@ -339,7 +342,7 @@ fn refused_files(rt: HostRuntime) -> Result<(), Fail> {
 #[test]
 fn cut_files(rt: HostRuntime) -> Result<(), Fail> {
     let alloc = rt.alloc();
-    let mut file = samples::forty_values(alloc)?;
+    let mut file = forty_values(alloc)?;
     let row = (CHECK, SOUND);
     check_row(&rt, alloc, "forty values", file.as_slice(), row)?;
     for length in [9215, 80] {
@@ -353,10 +356,10 @@ fn cut_files(rt: HostRuntime) -> Result<(), Fail> {
 #[test]
 fn deep_trees(rt: HostRuntime) -> Result<(), Fail> {
     let alloc = rt.alloc();
-    let file = samples::chain(alloc, 65)?;
+    let file = chain(alloc, 65)?;
     let row = (CHECK, SOUND);
     check_row(&rt, alloc, "64 pages to a leaf", file.as_slice(), row)?;
-    let file = samples::chain(alloc, 66)?;
+    let file = chain(alloc, 66)?;
     let text = "page 67: tree too deep\n1 errors found\n";
     check_refused(&rt, alloc, "65 pages to a leaf", file.as_slice(), text)?;
     Ok(())
@@ -366,7 +369,7 @@ fn deep_trees(rt: HostRuntime) -> Result<(), Fail> {
 #[test]
 fn deep_buckets(rt: HostRuntime) -> Result<(), Fail> {
     let alloc = rt.alloc();
-    let file = samples::nested_buckets(alloc, 20_000)?;
+    let file = nested_buckets(alloc, 20_000)?;
     assert_eq!(rt; file.len(), 20_483_072);
     let job = Job::Check {
         file: String::from_str(alloc, "FILE")?,

@@ -1,8 +1,8 @@
 //! Runs a command line over a file in memory, and compares all that comes of it.
 
-use crate::samples::{Sample, make};
 use bolt_cli::{Job, Refusal, read_words, run};
 use bolt_format::MemSink;
+use format_rows::samples::{Sample, make};
 use std::alloc::{AllocError, Global};
 use std::process::Abort;
 

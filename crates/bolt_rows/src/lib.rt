@@ -1,5 +1,5 @@
-//! Tests that cross the crates: worked rows of what the commands answer on small files, and of the
-//! calls below them. The crate has nothing beside its tests.
+//! Tests of commands: worked rows of what command lines answer. The crate has nothing beside its
+//! tests.
 #![tactic(auto)]
 
 #[cfg(test)]
@@ -8,8 +8,6 @@ mod bucket_command_rows;
 mod check_command_rows;
 #[cfg(test)]
 mod commands;
-#[cfg(test)]
-mod cursor_rows;
 #[cfg(test)]
 mod large_file_rows;
 #[cfg(test)]
@@ -22,7 +20,5 @@ mod refused_rows;
 mod samples;
 #[cfg(test)]
 mod tree_command_rows;
-#[cfg(test)]
-mod walk_rows;
 #[cfg(test)]
 mod word_rows;

@@ -4,8 +4,7 @@ use crate::commands::{
     FileRow, INFO, Outcome, PAGE_THREE, Row, check_files, check_row, check_rows,
 };
 use crate::samples::{
-    self, BRANCH_ROOT, BRANCH_TO_ITSELF, FRESH_FILE, GREATEST_OVERFLOW, INLINE_BUCKET,
-    OTHER_CHECKSUM, Sample, WITHOUT_FIRST_META, WITHOUT_FREELIST,
+    self, BRANCH_TO_ITSELF, GREATEST_OVERFLOW, OTHER_CHECKSUM, WITHOUT_FIRST_META, WITHOUT_FREELIST,
 };
 use Element::{Bucket, Value};
 use Outcome::{Fails, Prints};
@@ -14,6 +13,7 @@ use format_rows::maker::{
     BRANCH_FLAGS, Element, FRESH, LEAF_FLAGS, MetaFields, PageHeader, branch_with, database,
     database_of, freelist, leaf, leaf_with, reference,
 };
+use format_rows::samples::{BRANCH_ROOT, FRESH_FILE, INLINE_BUCKET, Sample, with_root};
 use std::alloc::{AllocError, Global};
 use std::test::Fail;
 
@@ -173,7 +173,7 @@ fn leaf_texts(rt: HostRuntime) -> Result<(), Fail> {
         Element::of_value(b"b", b""),
         Bucket(b"\x00\xff", far.as_slice()),
     ];
-    let file = samples::with_root(alloc, &MetaFields::fresh(1024), &elements)?;
+    let file = with_root(alloc, &MetaFields::fresh(1024), &elements)?;
     let want = Prints(
         "page 3\ntype leaf\nitems 3\noverflow 0\n61 bucket 4 2\n62 = \n\
         00ff bucket 18446744073709551615 18446744073709551615\n",

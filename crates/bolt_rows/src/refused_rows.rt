@@ -2,11 +2,14 @@
 //! refused.
 
 use crate::commands::{BUCKETS, CHECK, INFO, Outcome, PAGE_THREE, check_refused, check_row};
-use crate::samples::{self, Content, FRESH_FILE, GREATEST_OVERFLOW, INLINE_BUCKET, Sample, make};
+use crate::samples::{self, GREATEST_OVERFLOW};
 use Content::{Inline, Leaf};
 use Element::{Bucket, Value};
 use Outcome::Fails;
 use format_rows::maker::{Element, FRESH, MetaFields, flip};
+use format_rows::samples::{
+    Content, FRESH_FILE, INLINE_BUCKET, Sample, forty_values, make, with_root,
+};
 use std::alloc::{AllocError, Global};
 use std::process::Abort;
 use std::test::Fail;
@@ -50,7 +53,7 @@ static PAGE_SIZES: [u32; 6] = [0, 512, 1000, 1536, 67_108_864, 1 << 31];
 #[test]
 fn refused_metas(rt: HostRuntime) -> Result<(), Fail> {
     let alloc = rt.alloc();
-    let mut file = samples::forty_values(alloc)?;
+    let mut file = forty_values(alloc)?;
     for length in [79, 0] {
         file.truncate(length);
         check_metas(&rt, alloc, "a cut file", file.as_slice(), "file too short")?;
@@ -67,7 +70,7 @@ fn refused_metas(rt: HostRuntime) -> Result<(), Fail> {
         "checksum error",
     )?;
     for (name, fields, line) in &FIELDS {
-        let file = samples::with_root(alloc, fields, &[])?;
+        let file = with_root(alloc, fields, &[])?;
         check_metas(&rt, alloc, name, file.as_slice(), line)?;
     }
     for page_size in &PAGE_SIZES {

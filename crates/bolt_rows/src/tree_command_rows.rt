@@ -7,6 +7,7 @@ use crate::samples::{
 use Element::{Bucket, Value};
 use Outcome::{Fails, Prints, PrintsBytes};
 use format_rows::maker::{Element, MetaFields, inline};
+use format_rows::samples::{INLINE_BUCKET, forty_values, make, two_buckets, with_root};
 use std::test::Fail;
 
 /// On the file with the inline bucket `b`, which has `k1` = `v1`.

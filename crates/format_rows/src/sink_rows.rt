@@ -1,59 +1,11 @@
 //! Rows of sinks: one over a writer that fails, one over a healthy writer, and one in memory.
 
+use crate::halting::{Halting, Refusal};
 use bolt_format::{MemSink, Sink, SinkFault, WriteSink};
 use std::alloc::{AllocError, Global};
-use std::io::{self, ErrorKind, Write};
+use std::io::{self, ErrorKind};
 use std::process::Abort;
 use std::test::Fail;
-
-/// How a writer refuses a call.
-#[derive(Clone, Copy, Debug)]
-enum Refusal {
-    /// It answers an error of a kind.
-    Error(ErrorKind),
-    /// It takes no byte.
-    Nothing,
-}
-
-/// Takes at most 7 bytes a call and refuses one call; it would take those after that again.
-#[derive(Drop)]
-struct Halting {
-    taken: Vec<u8>,
-    calls: usize,
-    /// The call that is refused; the first is 1.
-    refused: usize,
-    refusal: Refusal,
-}
-
-impl Halting {
-    fn new(alloc: Global, refused: usize, refusal: Refusal) -> Self {
-        Halting {
-            taken: Vec::new(alloc),
-            calls: 0,
-            refused,
-            refusal,
-        }
-    }
-}
-
-impl Write for Halting {
-    fn write(&mut self, buf: &[u8]) -> io::Result<usize> {
-        self.calls = self.calls.saturating_add(1);
-        if self.calls == self.refused {
-            return match self.refusal {
-                Refusal::Error(kind) => Err(io::Error::from(kind)),
-                Refusal::Nothing => Ok(0),
-            };
-        }
-        let count = buf.len().min(7);
-        self.taken.extend_from_slice(&buf[..count])?;
-        Ok(count)
-    }
-
-    fn flush(&mut self) -> io::Result<()> {
-        Ok(())
-    }
-}
 
 /// Pieces that a writer of 7 bytes a call takes in 1, 0, 3, 1, 1 and 5 calls.
 const PIECES: [&[u8]; 6] = [

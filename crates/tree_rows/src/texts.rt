@@ -1,0 +1,90 @@
+//! Texts of what a file holds, and what sinks take of them.
+
+use crate::bucket_at::bucket_at;
+use Text::{Buckets, Keys, List, Value};
+use bolt_check::Checked;
+use bolt_format::{MemSink, Sink, WriteSink};
+use bolt_report::{Form, ReportFault, buckets, keys, list, value};
+use format_rows::halting::{Halting, Refusal};
+use std::alloc::Global;
+use std::process::Abort;
+
+/// A text that is asked for.
+#[derive(Clone, Copy, Debug)]
+pub enum Text<'a> {
+    /// What the file holds, from a path on.
+    List(&'a [&'a [u8]]),
+    /// The keys of the bucket at a path.
+    Keys(&'a [&'a [u8]], Form),
+    /// The names of the buckets in the bucket at a path.
+    Buckets(&'a [&'a [u8]], Form),
+    /// These bytes.
+    Value(&'a [u8], Form),
+}
+
+/// A text that is asked for, and its bytes.
+pub type Row<'a> = (Text<'a>, &'a [u8]);
+
+/// Puts a text of the file; `None` where its path names no bucket.
+fn put_text<S: Sink>(
+    alloc: Global,
+    checked: Checked<'_>,
+    text: Text<'_>,
+    sink: &mut S,
+) -> Option<Result<(), ReportFault>> {
+    let answer = match text {
+        List(from) => list(alloc, checked, from, sink),
+        Keys(path, form) => keys(&bucket_at(checked, path)?, form, sink),
+        Buckets(path, form) => buckets(&bucket_at(checked, path)?, form, sink),
+        Value(bytes, form) => value(bytes, form, sink),
+    };
+    Some(answer)
+}
+
+/// A sink in memory takes the whole text.
+pub fn check_text(rt: &impl Abort, alloc: Global, checked: Checked<'_>, row: Row<'_>) {
+    let (text, want) = row;
+    let mut sink = MemSink::new(alloc);
+    let answer = put_text(alloc, checked, text, &mut sink);
+    assert_eq!(rt; answer, Some(Ok(())), "{text:?}");
+    assert!(rt; sink.bytes() == want, "{text:?} gives other bytes");
+    assert_eq!(rt; sink.failures(), 0, "{text:?}");
+}
+
+/// Whichever of its calls a writer refuses, the answer is that the sink failed, the writer took a
+/// beginning of the text, and it isn't called again. It takes the whole text where it refuses none.
+pub fn check_halted(
+    rt: &impl Abort,
+    alloc: Global,
+    checked: Checked<'_>,
+    row: Row<'_>,
+    refusal: Refusal,
+) {
+    let (text, want) = row;
+    for refused in 1..want.len().saturating_add(2) {
+        let mut sink = WriteSink::new(Halting::new(alloc, refused, refusal));
+        let answer = put_text(alloc, checked, text, &mut sink);
+        let failures = sink.failures();
+        let writer = sink.into_inner();
+        let taken = writer.taken.as_slice();
+        if writer.calls < refused {
+            assert_eq!(rt; answer, Some(Ok(())), "{text:?}");
+            assert_eq!(rt; failures, 0, "{text:?}");
+            assert!(rt; taken == want, "{text:?} gives other bytes");
+            return;
+        }
+        assert_eq!(rt;
+            answer,
+            Some(Err(ReportFault::Sink)),
+            "{text:?}, call {refused}"
+        );
+        assert!(rt; failures > 0, "{text:?}, call {refused}");
+        assert_eq!(rt; writer.calls, refused, "calls for {text:?}");
+        let is_beginning = taken.len() < want.len() && want.starts_with(taken);
+        assert!(rt;
+            is_beginning,
+            "{text:?} gives no beginning at call {refused}"
+        );
+    }
+    assert!(rt; false, "{text:?} wants a call for more than each byte");
+}
