@@ -1,9 +1,7 @@
 //! Rows of the commands `keys`, `get` and `list`.
 
 use crate::commands::{Outcome, Row, check_rows};
-use crate::samples::{
-    GREATEST_OVERFLOW, INLINE_BUCKET, forty_values, make, two_buckets, with_root,
-};
+use crate::samples::GREATEST_OVERFLOW;
 use Element::{Bucket, Value};
 use Outcome::{Fails, Prints, PrintsBytes};
 use format_rows::maker::{Element, MetaFields, inline};
