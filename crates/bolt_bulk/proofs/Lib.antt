@@ -10,12 +10,15 @@ mod LeafPages
 mod ListLemmas
 mod MetaLemmas
 mod NumberLemmas
+mod OneCut
 mod Overs
 mod PageLemmas
 mod Parts
 mod Rows
+mod Showing
 mod Soundness
 mod SpanLemmas
 mod Torn
 mod TreeItems
+mod Whole
 mod WorkedRows

@@ -1,0 +1,54 @@
+-- The layout of a tree is sound, and lists what the tree lists.
+use Rattle.std.proofs.Common.{◌≡◌, ◌<◌, ◌^◌, ℕ, List, Some, length, arith}
+use Rattle.bolt_format.specs.Metas.{IsPageSize}
+use Rattle.bolt_format.specs.Pages.{page_at}
+use Rattle.bolt_format.specs.declared.meta.Meta.{Meta}
+use Rattle.bolt_tree.specs.Entries.{IsEntry, Root_page, Start}
+use Rattle.bolt_tree.specs.Listing.{Lists}
+use Rattle.bolt_tree.specs.Tree.{IsTreeOf, Tree, listing_of}
+use Rattle.bolt_bulk.specs.Copies.{HasLength, IsAsked, IsSoundCopy}
+use Rattle.bolt_bulk.specs.Items.{root_of}
+use Rattle.bolt_bulk.specs.Laid.{Placed}
+use Rattle.bolt_bulk.specs.Layout.{layout_meta, layout_of, layout_pages, layout_root}
+use Rattle.bolt_bulk.specs.Storable.{IsStorable}
+use Rattle.bolt_bulk.proofs.Holding.{ArePages}
+use Rattle.bolt_bulk.proofs.ListLemmas.{all_weaker}
+use Rattle.bolt_bulk.proofs.MetaLemmas.{size_bounds}
+use Rattle.bolt_bulk.proofs.Showing.{root_tree}
+use Rattle.bolt_bulk.proofs.Soundness.{IsSoundLayout, PassingIsSound, laid_out, layout_long, layout_sound}
+use Rattle.bolt_bulk.proofs.SpanLemmas.{IsShown}
+
+-- what a bucket's tree lists is the bucket's listing
+abbrev pub TreeLists : Type 0
+TreeLists = (file : List ℕ) (meta : Meta) (bucket : Start) (tree : Tree) → IsTreeOf (IsEntry file meta) bucket tree → Lists (IsEntry file meta) bucket (listing_of tree)
+
+layout_tree : (page_size : ℕ) (tree : Tree) (sequence : ℕ) → IsPageSize page_size → IsStorable tree → IsSoundLayout page_size tree sequence
+    → IsTreeOf (IsEntry (layout_of page_size tree sequence) (layout_meta page_size tree sequence 1)) (Root_page (layout_root page_size tree)) tree
+unfolding root_of
+layout_tree page_size tree sequence size storable sound =
+    let bounds = size_bounds page_size size in
+    let file = layout_of page_size tree sequence in
+    let meta = layout_meta page_size tree sequence 1 in
+    let shown : ArePages file meta (layout_pages page_size tree) =
+    all_weaker (λ (p : Placed). IsShown file meta p.number p.view) (λ (p : Placed). page_at file meta p.number ≡ Some p.view) (λ p s. s.shows) (layout_pages page_size tree) sound.shown in
+    root_tree file meta page_size 3 tree (omega arith) (omega arith) storable.lengths storable.rising storable.rising_inside (omega arith) sound.room shown
+
+pub sound_copy : PassingIsSound → TreeLists → (page_size : ℕ) (tree : Tree) (sequence : ℕ) → IsAsked page_size tree sequence
+    → length (layout_of page_size tree sequence) < 2 ^ 63 → IsSoundCopy page_size tree sequence
+sound_copy passing lists page_size tree sequence asked short =
+    let long = layout_long page_size tree sequence asked.size asked.storable in
+    let sound = layout_sound passing page_size tree sequence asked.size (laid_out page_size tree sequence asked.size asked.storable asked.sequence_fits (omega arith)) in
+    let file = layout_of page_size tree sequence in
+    let meta = layout_meta page_size tree sequence 1 in
+    record {
+      chosen = sound.chosen;
+      trees = sound.trees;
+      accounts = sound.accounts;
+      listing = lists file meta (Root_page (layout_root page_size tree)) tree (layout_tree page_size tree sequence asked.size asked.storable sound);
+    }
+
+pub layout_length : (page_size : ℕ) (tree : Tree) (sequence : ℕ) → IsAsked page_size tree sequence → HasLength page_size tree (layout_of page_size tree sequence)
+layout_length page_size tree sequence asked = record {
+  least = layout_long page_size tree sequence asked.size asked.storable;
+  exact = λ short. (laid_out page_size tree sequence asked.size asked.storable asked.sequence_fits short).long;
+}
