@@ -2,6 +2,7 @@ mod BranchLemmas
 mod BranchPages
 mod Cutting
 mod ElementLemmas
+mod FileTrees
 mod Holding
 mod KeyLaws
 mod LaidItems
@@ -18,7 +19,9 @@ mod Rows
 mod Showing
 mod Soundness
 mod SpanLemmas
+mod Tops
 mod Torn
 mod TreeItems
 mod Whole
+mod WorkedBytes
 mod WorkedRows

@@ -7,21 +7,21 @@ use Rattle.bolt_bulk.specs.Items.{root_of}
 use Rattle.bolt_bulk.specs.Levels.{overflow_of, root_over}
 use Rattle.bolt_tree.specs.Tree.{Tree, end, with_bucket, with_value}
 
-abbrev row_1 : Tree
+abbrev pub row_1 : Tree
 row_1 = end
 
 row_1_is : (fnv_of (layout_of 4096 row_1 0) ≡ 9737331009492300045) × (layout_root 4096 row_1 ≡ 3) × (layout_mark 4096 row_1 ≡ 4)
 unfolding fnv_of fnv_step overflow_of root_of root_over layout_of branch_bytes branch_header freelist_page header_bytes inline_value leaf_bytes leaf_header meta_bytes meta_page meta_record number_bytes page_bytes root_value
 row_1_is = (refl, refl, refl)
 
-abbrev row_4 : Tree
+abbrev pub row_4 : Tree
 row_4 = with_bucket ((98 ∷ [])) 0 (with_value ((107 ∷ 49 ∷ [])) ((118 ∷ 49 ∷ [])) (end)) (end)
 
 row_4_is : (fnv_of (layout_of 4096 row_4 0) ≡ 8906171419981019676) × (layout_root 4096 row_4 ≡ 3) × (layout_mark 4096 row_4 ≡ 4)
 unfolding fnv_of fnv_step overflow_of root_of root_over layout_of branch_bytes branch_header freelist_page header_bytes inline_value leaf_bytes leaf_header meta_bytes meta_page meta_record number_bytes page_bytes root_value
 row_4_is = (refl, refl, refl)
 
-abbrev row_5 : Tree
+abbrev pub row_5 : Tree
 row_5 = with_bucket ((98 ∷ [])) 7 (end) (end)
 
 row_5_is : (fnv_of (layout_of 4096 row_5 0) ≡ 4442632031782585997) × (layout_root 4096 row_5 ≡ 3) × (layout_mark 4096 row_5 ≡ 4)
@@ -56,7 +56,7 @@ row_10_more_is : (fnv_of (layout_of 4096 row_10_more 0) ≡ 7749995516879663027)
 unfolding fnv_of fnv_step overflow_of root_of root_over layout_of branch_bytes branch_header freelist_page header_bytes inline_value leaf_bytes leaf_header meta_bytes meta_page meta_record number_bytes page_bytes root_value
 row_10_more_is = (refl, refl, refl)
 
-abbrev row_11 : Tree
+abbrev pub row_11 : Tree
 row_11 = with_bucket ((98 ∷ [])) 0 (with_value ((48 ∷ 48 ∷ [])) (replicate 82 120) (with_value ((48 ∷ 49 ∷ [])) (replicate 82 120) (with_value ((48 ∷ 50 ∷ [])) (replicate 82 120) (with_value ((48 ∷ 51 ∷ [])) (replicate 82 120) (with_value ((48 ∷ 52 ∷ [])) (replicate 82 120) (with_value ((48 ∷ 53 ∷ [])) (replicate 82 120) (with_value ((48 ∷ 54 ∷ [])) (replicate 82 120) (with_value ((48 ∷ 55 ∷ [])) (replicate 82 120) (with_value ((48 ∷ 56 ∷ [])) (replicate 82 120) (with_value ((48 ∷ 57 ∷ [])) (replicate 82 120) (with_value ((49 ∷ 48 ∷ [])) (replicate 82 120) (with_value ((49 ∷ 49 ∷ [])) (replicate 82 120) (with_value ((49 ∷ 50 ∷ [])) (replicate 82 120) (with_value ((49 ∷ 51 ∷ [])) (replicate 82 120) (with_value ((49 ∷ 52 ∷ [])) (replicate 82 120) (with_value ((49 ∷ 53 ∷ [])) (replicate 82 120) (with_value ((49 ∷ 54 ∷ [])) (replicate 82 120) (with_value ((49 ∷ 55 ∷ [])) (replicate 82 120) (with_value ((49 ∷ 56 ∷ [])) (replicate 82 120) (with_value ((49 ∷ 57 ∷ [])) (replicate 82 120) (with_value ((50 ∷ 48 ∷ [])) (replicate 82 120) (with_value ((50 ∷ 49 ∷ [])) (replicate 82 120) (with_value ((50 ∷ 50 ∷ [])) (replicate 82 120) (with_value ((50 ∷ 51 ∷ [])) (replicate 82 120) (with_value ((50 ∷ 52 ∷ [])) (replicate 82 120) (with_value ((50 ∷ 53 ∷ [])) (replicate 82 120) (with_value ((50 ∷ 54 ∷ [])) (replicate 82 120) (with_value ((50 ∷ 55 ∷ [])) (replicate 82 120) (with_value ((50 ∷ 56 ∷ [])) (replicate 82 120) (with_value ((50 ∷ 57 ∷ [])) (replicate 82 120) (with_value ((51 ∷ 48 ∷ [])) (replicate 82 120) (with_value ((51 ∷ 49 ∷ [])) (replicate 82 120) (with_value ((51 ∷ 50 ∷ [])) (replicate 82 120) (with_value ((51 ∷ 51 ∷ [])) (replicate 82 120) (with_value ((51 ∷ 52 ∷ [])) (replicate 82 120) (with_value ((51 ∷ 53 ∷ [])) (replicate 82 120) (with_value ((51 ∷ 54 ∷ [])) (replicate 82 120) (with_value ((51 ∷ 55 ∷ [])) (replicate 82 120) (with_value ((51 ∷ 56 ∷ [])) (replicate 82 120) (with_value ((51 ∷ 57 ∷ [])) (replicate 82 120) (end))))))))))))))))))))))))))))))))))))))))) (end)
 
 row_11_is : (fnv_of (layout_of 1024 row_11 0) ≡ 9336260530764483405) × (layout_root 1024 row_11 ≡ 8) × (layout_mark 1024 row_11 ≡ 9)

@@ -8,7 +8,7 @@ use Rattle.bolt_format.specs.declared.meta.Slot.{Slot}
 use Rattle.bolt_format.specs.declared.meta.Slot.TheVariants.{One}
 use Rattle.bolt_check.specs.Findings.{finding}
 use Rattle.bolt_check.specs.Sound.{HasRightAccounts, HasSoundTrees, IsFirstFinding}
-use Rattle.bolt_tree.specs.Listing.{IsListing}
+use Rattle.bolt_tree.specs.Listing.{IsListing, Member}
 use Rattle.bolt_tree.specs.Tree.{Tree, listing_of}
 use Rattle.bolt_bulk.specs.Layout.{layout_mark, layout_meta, layout_of, layout_root}
 use Rattle.bolt_bulk.specs.Storable.{IsStorable}
@@ -41,3 +41,10 @@ IsCutAtRoot file root = (slot : Slot) × (meta : Meta) × IsChosen file slot met
 pub record RefusesBeginnings (layout : List ℕ) (root : ℕ) : Type 0 where
   pub before_metas : (n : ℕ) → n < length layout → n < 80 → IsCutBeforeMetas (take n layout)
   pub at_root : (n : ℕ) → n < length layout → 80 ≤ n → IsCutAtRoot (take n layout) root
+
+-- A listing is of one tree, which can be stored: so it has one layout at each page size.
+pub record HasOneTree (listing : List Member) : Type 0 where
+  pub tree : Tree
+  pub storable : IsStorable tree
+  pub lists : listing_of tree ≡ listing
+  pub one : (other : Tree) → listing_of other ≡ listing → other ≡ tree

@@ -1,5 +1,5 @@
 -- The pages of a bucket over its items: the leaves, and the branches above, level by level: docs/LAYOUT.md, "Levels" and "Numbers".
-use Rattle.std.specs.Prelude.{ℕ, zero, suc, ◌+◌, ◌-◌, ◌/◌, List, [], ◌∷◌, ◌++◌, length, map}
+use Rattle.std.specs.Prelude.{◌≡◌, ◌≤◌, ℕ, zero, suc, ◌+◌, ◌-◌, ◌*◌, ◌/◌, List, [], ◌∷◌, ◌++◌, length, map}
 use Rattle.bolt_format.specs.Elements.{BranchElement, LeafElement}
 use Rattle.bolt_format.specs.Pages.{PageView}
 use Rattle.bolt_format.specs.declared.kind.Kind.TheVariants as kind
@@ -9,6 +9,11 @@ use Rattle.bolt_bulk.specs.Laid.{Laid, elements_of, first_key, numbers_of, pages
 -- the least number of further pages with which a page has room for this many bytes, of which there is one at least
 unfoldable pub overflow_of : (page_size size : ℕ) → ℕ
 overflow_of page_size size = (size - 1) / page_size
+
+-- so many further pages are enough, and none too many
+pub record IsOverflow (page_size size further : ℕ) : Type 0 where
+  pub room : size ≤ (1 + further) * page_size
+  pub least : (fewer : ℕ) → size ≤ (1 + fewer) * page_size → further ≤ fewer
 
 abbrev pub run_overflow : {E : Type 0} → (page_size : ℕ) → List (Laid E) → ℕ
 run_overflow page_size run = overflow_of page_size (run_size size_of run)
@@ -37,13 +42,7 @@ leaf_level page_size items = map (page_over leaf_view page_size) (cut_of page_si
 abbrev pub next_level : (page_size : ℕ) → List (Laid BranchElement) → List (Laid BranchElement)
 next_level page_size level = map (page_over branch_view page_size) (cut_of page_size 2 size_of level)
 
--- The page at the top over the pages of a level: the one of the level that has no other. Over no page it is an empty leaf.
-pub data IsTop (page_size : ℕ) : List (Laid BranchElement) → Laid BranchElement → Type 0 where
-  none : IsTop page_size [] (page_over leaf_view page_size [])
-  one : (page : Laid BranchElement) → IsTop page_size (page ∷ []) page
-  more : (page other top : Laid BranchElement) (level : List (Laid BranchElement))
-      → IsTop page_size (next_level page_size (page ∷ other ∷ level)) top → IsTop page_size (page ∷ other ∷ level) top
-
+-- The page at the top over a level: the one of a level that has no other, and else that of the next level. Over no page it is an empty leaf.
 -- It is found in as many steps as the level has pages, as each level has fewer than the one below.
 abbrev pub top_in : (steps page_size : ℕ) → List (Laid BranchElement) → Laid BranchElement
 top_in steps page_size [] = page_over leaf_view page_size []
@@ -53,6 +52,10 @@ top_in (suc steps) page_size (page ∷ other ∷ level) = top_in steps page_size
 
 abbrev pub top_of : (page_size : ℕ) → List (Laid BranchElement) → Laid BranchElement
 top_of page_size level = top_in (length level) page_size level
+
+-- so while a level has more than one page, the top is that of the next
+abbrev pub TopIsAbove : Type 0
+TopIsAbove = (page_size : ℕ) (level : List (Laid BranchElement)) → 2 ≤ length level → top_of page_size level ≡ top_of page_size (next_level page_size level)
 
 -- the root page of a bucket with these items
 unfoldable pub root_over : (page_size : ℕ) → List (Laid LeafElement) → Laid BranchElement

@@ -1,5 +1,6 @@
 -- Trees that a file can hold: docs/LAYOUT.md, "Trees that can be stored".
-use Rattle.std.specs.Prelude.{◌≤◌, ◌<◌, ◌^◌, ℕ, List, [], ◌∷◌, length}
+use Rattle.std.specs.Prelude.{◌<◌, ◌^◌, ℕ, List, [], ◌∷◌, length}
+use Rattle.bolt_format.specs.ElementLengths.{IsKeyLength, IsValueLength}
 use Rattle.bolt_check.specs.Keys.{Key, key_cmp}
 use Rattle.bolt_tree.specs.Order.{Rises}
 use Rattle.bolt_tree.specs.Tree.{Tree, end, with_value, with_bucket}
@@ -10,14 +11,7 @@ keys_in end = []
 keys_in (with_value key value after) = key ∷ keys_in after
 keys_in (with_bucket key sequence inside after) = key ∷ keys_in after
 
--- lengths that the format allows
-abbrev pub IsKeyLength : ℕ → Type 0
-IsKeyLength n = (1 ≤ n) × (n ≤ 0x40000000)
-
-abbrev pub IsValueLength : ℕ → Type 0
-IsValueLength n = n ≤ 0x7FFFFFFE
-
--- keys and values of such lengths, and sequences of 64 bits
+-- keys and values of lengths that the format allows, and sequences of 64 bits
 abbrev pub HasLengths : Tree → Type 0
 HasLengths end = Unit {0}
 HasLengths (with_value key value after) = IsKeyLength (length key) × IsValueLength (length value) × HasLengths after

@@ -1,14 +1,21 @@
 //! What holds of the layout of a tree: docs/LAYOUT.md, "What holds of it".
-ghost use Rattle.std.specs.Prelude.{◌<◌, ◌^◌, ℕ, length};
+ghost use Rattle.std.specs.Prelude.{◌≤◌, ◌<◌, ◌^◌, ℕ, List, length};
 ghost use Rattle.bolt_format.specs.Elements.{BranchElement, LeafElement};
-ghost use Rattle.bolt_tree.specs.Tree.{Tree};
-ghost use Rattle.bolt_bulk.specs.Copies.{HasLength, IsAsked, IsSoundCopy, RefusesBeginnings};
+ghost use Rattle.bolt_format.specs.ElementLengths.{IsBytes};
+ghost use Rattle.bolt_format.specs.declared.meta.Meta.{Meta};
+ghost use Rattle.bolt_check.specs.Sound.{HasSoundTrees};
+ghost use Rattle.bolt_tree.specs.Entries.{IsEntry, Root_page};
+ghost use Rattle.bolt_tree.specs.Listing.{IsListing, Member};
+ghost use Rattle.bolt_tree.specs.Tree.{IsTreeOf, Tree};
+ghost use Rattle.bolt_bulk.specs.Copies.{HasLength, HasOneTree, IsAsked, IsSoundCopy, RefusesBeginnings};
 ghost use Rattle.bolt_bulk.specs.Cut.{CutIsOne};
 ghost use Rattle.bolt_bulk.specs.Laid.{Laid};
 ghost use Rattle.bolt_bulk.specs.Layout.{layout_of, layout_root};
+ghost use Rattle.bolt_bulk.specs.Levels.{IsOverflow, TopIsAbove, overflow_of};
+ghost use Rattle.bolt_bulk.specs.Storable.{IsStorable};
 
 use bolt_check::laws::sound_trees_pass_the_tests;
-use bolt_tree::listing_laws::a_tree_lists_its_bucket;
+use bolt_tree::listing_laws::{a_tree_is_of_its_listing, a_tree_lists_its_bucket, listing_is_of_a_tree};
 
 /// The layout of a tree is a sound file, and its listing is that of the tree, where it has fewer
 /// than 2^63 bytes.
@@ -35,3 +42,27 @@ pub fn cut_is_one()
     ensures leaves { CutIsOne (Laid LeafElement) }
     ensures branches { CutIsOne (Laid BranchElement) }
 {}
+
+/// While a level has more than one page, the page at the top is that of the next level.
+pub fn top_is_above()
+    ensures { TopIsAbove }
+{}
+
+/// A page has as many further pages as it needs, and no more.
+pub fn overflow_is_least()
+    ensures { (page_size size : ℕ) → 1 ≤ page_size → 1 ≤ size → IsOverflow page_size size (overflow_of page_size size) }
+{}
+
+/// The tree of a file's root bucket can be stored.
+pub fn a_files_tree_can_be_stored()
+    ensures { (file : List ℕ) (meta : Meta) (tree : Tree) → IsBytes file → IsTreeOf (IsEntry file meta) (Root_page meta.root) tree → IsStorable tree }
+{}
+
+/// The listing of a file with sound trees is that of one tree, which can be stored. So it has one
+/// layout at each page size.
+pub fn a_files_listing_has_one_tree()
+    ensures { (file : List ℕ) (meta : Meta) (listing : List Member) → IsBytes file → HasSoundTrees file meta → IsListing file meta listing → HasOneTree listing }
+{
+    listing_is_of_a_tree();
+    a_tree_is_of_its_listing();
+}
