@@ -16,7 +16,7 @@ use Rattle.bolt_tree.specs.Order.{IsBelow, Rises}
 use Rattle.bolt_tree.specs.Tree.{IsTreeOf, Shows, Tree, end, listing_of, tree_of, with_bucket, with_value}
 use Rattle.bolt_tree.specs.Listing.{IsListing, Member}
 use Rattle.bolt_check.specs.Sound.{HasSoundTrees}
-use Rattle.bolt_bulk.specs.Copies.{HasOneTree}
+use Rattle.bolt_bulk.specs.Copies.{IsOfOneTree}
 use Rattle.bolt_tree.proofs.Lists.{contains_cases, contains_head, contains_none, contains_tail}
 use Rattle.bolt_bulk.specs.Storable.{HasLengths, IsStorable, RisesInside, keys_in}
 
@@ -129,12 +129,12 @@ abbrev pub TreeIsOfItsListing : Type 0
 TreeIsOfItsListing = (tree : Tree) → tree_of (listing_of tree) ≡ tree
 
 pub one_tree : ListingIsOfATree → TreeIsOfItsListing → (file : List ℕ) (meta : Meta) (listing : List Member) → IsBytes file → HasSoundTrees file meta → IsListing file meta listing
-    → HasOneTree listing
+    → IsOfOneTree listing
 one_tree of_a_tree back file meta listing bytes sound lists =
     let (tree, is, same) = of_a_tree file meta listing sound lists in
+    let read : tree_of listing ≡ tree = ap tree_of same ∙ back tree in
     record {
-      tree = tree;
-      storable = tree_storable file meta bytes meta.root tree is;
-      lists = sym same;
-      one = λ other e. sym (back other) ∙ (ap tree_of (e ∙ same) ∙ back tree);
+      storable = subst IsStorable (sym read) (tree_storable file meta bytes meta.root tree is);
+      lists = ap listing_of read ∙ sym same;
+      one = λ other e. sym (back other) ∙ ap tree_of e;
     }

@@ -3,6 +3,7 @@ mod BranchPages
 mod Cutting
 mod ElementLemmas
 mod FileTrees
+mod FullPages
 mod Holding
 mod KeyLaws
 mod LaidItems

@@ -82,10 +82,10 @@ cut_is page_size least size ((x ∷ xs) ∷ runs) items is =
     sym (ap (cut_of page_size least size) (sym is.whole) ∙ (taken ∙ after_first page_size least size x xs runs items is rest))
 
 -- And it is a cut.
-record IsRunOf {X : Type 0} (page_size least : ℕ) (size : X → ℕ) (run : List X) : Type 0 where
-  some : run ≢ []
-  fits : least < length run → run_size size run ≤ page_size
-  cap : length run ≤ max_items
+pub record IsRunOf {X : Type 0} (page_size least : ℕ) (size : X → ℕ) (run : List X) : Type 0 where
+  pub some : run ≢ []
+  pub fits : least < length run → run_size size run ≤ page_size
+  pub cap : length run ≤ max_items
 
 none_run : {X : Type 0} (run : List X) → ◌≡◌ {A = Option (List X)} None (Some run) → ⊥
 none_run run e = cc
@@ -102,7 +102,7 @@ each_more : {X : Type 0} (P : List X → Type 0) (run : List X) (runs : List (Li
 each_more P run runs h k zero r e = subst P (same_run run r e) h
 each_more P run runs h k (suc i) r e = k i r e
 
-one_cut : {X : Type 0} (page_size least : ℕ) (size : X → ℕ) (run : List X) → IsRunOf page_size least size run → IsCut page_size least size run (run ∷ [])
+pub one_cut : {X : Type 0} (page_size least : ℕ) (size : X → ℕ) (run : List X) → IsRunOf page_size least size run → IsCut page_size least size run (run ∷ [])
 one_cut page_size least size run is = record {
   whole = append-nil run;
   filled = one_each (λ r. r ≢ []) run is.some;
@@ -131,7 +131,7 @@ more_full {X = X} page_size size run n first runs h k zero r more next e f =
     (subst (λ (x : List X). (page_size < run_size size (x ++ n ∷ [])) ⊎ (length x ≡ max_items)) (same_run run r e) h)
 more_full page_size size run n first runs h k (suc i) r more next e f = k i r more next e f
 
-more_cut : {X : Type 0} (page_size least : ℕ) (size : X → ℕ) (run items : List X) (n : X) (first : List X) (runs : List (List X)) → IsRunOf page_size least size run
+pub more_cut : {X : Type 0} (page_size least : ℕ) (size : X → ℕ) (run items : List X) (n : X) (first : List X) (runs : List (List X)) → IsRunOf page_size least size run
     → least ≤ length run → (page_size < run_size size (run ++ n ∷ [])) ⊎ (length run ≡ max_items)
     → IsCut page_size least size items ((n ∷ first) ∷ runs) → IsCut page_size least size (run ++ items) (run ∷ (n ∷ first) ∷ runs)
 more_cut {X = X} page_size least size run items n first runs is long full cut = record {
@@ -157,7 +157,7 @@ no_push (x ∷ run) next e = cc
 no_single : {X : Type 0} (next : X) → next ∷ [] ≢ []
 no_single next e = cc
 
-single_run : {X : Type 0} (page_size least : ℕ) (size : X → ℕ) (next : X) → 1 ≤ least → IsRunOf page_size least size (next ∷ [])
+pub single_run : {X : Type 0} (page_size least : ℕ) (size : X → ℕ) (next : X) → 1 ≤ least → IsRunOf page_size least size (next ∷ [])
 single_run page_size least size next some = record { some = no_single next; fits = λ h. absurd (omega arith); cap = omega arith }
 
 joined_run : {X : Type 0} (page_size least : ℕ) (size : X → ℕ) (run : List X) (next : X) → least ≤ max_items → IsRunOf page_size least size run → joins page_size least size run next ≡ true
@@ -205,7 +205,7 @@ none_cut page_size least size = record {
   full = λ i r more next e f. absurd (none_run r e);
 }
 
-is_cut : {X : Type 0} (page_size least : ℕ) (size : X → ℕ) (items : List X) → 1 ≤ least → least ≤ max_items → IsCut page_size least size items (cut_of page_size least size items)
+pub is_cut : {X : Type 0} (page_size least : ℕ) (size : X → ℕ) (items : List X) → 1 ≤ least → least ≤ max_items → IsCut page_size least size items (cut_of page_size least size items)
 is_cut page_size least size [] some cap = none_cut page_size least size
 is_cut page_size least size (x ∷ items) some cap = is_cut_from page_size least size items (x ∷ []) some cap (single_run page_size least size x some)
 

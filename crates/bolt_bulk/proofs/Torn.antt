@@ -14,11 +14,12 @@ use Rattle.bolt_format.specs.declared.meta.Slot.{Slot}
 use Rattle.bolt_format.specs.declared.meta.Slot.TheVariants.{Zero, One}
 use Rattle.bolt_check.specs.Findings.{PageTests, finding}
 use Rattle.bolt_check.specs.Nodes.{node_at}
-use Rattle.bolt_check.specs.Sound.{IsFirstFinding}
+use Rattle.bolt_check.specs.Sound.{IsFirstFinding, IsRefused}
+use Rattle.bolt_check.specs.declared.fault.CheckFault.TheVariants.{Structure}
 use Rattle.bolt_check.specs.Ways.{At_page, start_of}
 use Rattle.bolt_bulk.specs.PageBytes.{header_bytes, meta_bytes}
 use Rattle.bolt_bulk.specs.Layout.{layout_mark, layout_of, layout_root, placed_bytes}
-use Rattle.bolt_bulk.specs.Copies.{IsAsked, IsCutAtRoot, RefusesBeginnings}
+use Rattle.bolt_bulk.specs.Copies.{IsAsked, RefusesBeginnings}
 use Rattle.bolt_bulk.proofs.PageLemmas.{IsHeaderFit, header_written, length-header_bytes}
 use Rattle.bolt_bulk.proofs.MetaLemmas.{chosen_of, length-meta_bytes, meta_of, meta_written, size_bounds}
 use Rattle.bolt_bulk.proofs.Rows.{IsInARow, IsPageFit, last_written, page_headed, row_last}
@@ -156,7 +157,7 @@ second_there page_size tree sequence n laid less whole =
     laid.fits (inr refl) (omega arith)
 
 torn_root : (page_size : ℕ) (tree : Tree) (sequence n : ℕ) → IsPageSize page_size → IsLaidOut page_size tree sequence → n < length (layout_of page_size tree sequence) → 80 ≤ n
-    → IsCutAtRoot (take n (layout_of page_size tree sequence)) (layout_root page_size tree)
+    → IsRefused (take n (layout_of page_size tree sequence)) (Structure (finding CUT (layout_root page_size tree)))
 torn_root page_size tree sequence n size laid less whole =
     let file : List ℕ = layout_of page_size tree sequence in
     let torn : List ℕ = take n file in
@@ -169,14 +170,12 @@ torn_root page_size tree sequence n size laid less whole =
         Zero,
         meta_of page_size root sequence mark 0,
         only_first torn page_size root sequence mark first (omega arith),
-        refl,
         cut_first torn (meta_of page_size root sequence mark 0) (root_cut page_size tree sequence n 0 size laid less),
       )
       | inr enough ↦ (
         One,
         meta_of page_size root sequence mark 1,
         chosen_of torn page_size (meta_of page_size root sequence mark 0) (meta_of page_size root sequence mark 1) first (second_there page_size tree sequence n laid less enough) refl (omega arith),
-        refl,
         cut_first torn (meta_of page_size root sequence mark 1) (root_cut page_size tree sequence n 1 size laid less),
       )
     ]

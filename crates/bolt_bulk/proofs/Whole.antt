@@ -1,12 +1,13 @@
 -- The layout of a tree is sound, and lists what the tree lists.
-use Rattle.std.proofs.Common.{◌≡◌, ◌<◌, ◌^◌, ℕ, List, Some, length, arith}
+use Rattle.std.proofs.Common.{◌≡◌, ◌<◌, ◌^◌, ℕ, List, Some, length, subst, arith}
 use Rattle.bolt_format.specs.Metas.{IsPageSize}
 use Rattle.bolt_format.specs.Pages.{page_at}
 use Rattle.bolt_format.specs.declared.meta.Meta.{Meta}
+use Rattle.bolt_format.specs.declared.meta.Slot.TheVariants.{One}
 use Rattle.bolt_tree.specs.Entries.{IsEntry, Root_page, Start}
-use Rattle.bolt_tree.specs.Listing.{Lists}
-use Rattle.bolt_tree.specs.Tree.{IsTreeOf, Tree, listing_of}
-use Rattle.bolt_bulk.specs.Copies.{HasLength, IsAsked, IsSoundCopy}
+use Rattle.bolt_tree.specs.Listing.{Lists, Member}
+use Rattle.bolt_tree.specs.Tree.{IsTreeOf, Tree, listing_of, tree_of}
+use Rattle.bolt_bulk.specs.Copies.{HasLength, IsAsked, IsOfOneTree, IsSoundCopy, layout_of_listing}
 use Rattle.bolt_bulk.specs.Items.{root_of}
 use Rattle.bolt_bulk.specs.Laid.{Placed}
 use Rattle.bolt_bulk.specs.Layout.{layout_meta, layout_of, layout_pages, layout_root}
@@ -34,7 +35,7 @@ layout_tree page_size tree sequence size storable sound =
     root_tree file meta page_size 3 tree (omega arith) (omega arith) storable.lengths storable.rising storable.rising_inside (omega arith) sound.room shown
 
 pub sound_copy : PassingIsSound → TreeLists → (page_size : ℕ) (tree : Tree) (sequence : ℕ) → IsAsked page_size tree sequence
-    → length (layout_of page_size tree sequence) < 2 ^ 63 → IsSoundCopy page_size tree sequence
+    → length (layout_of page_size tree sequence) < 2 ^ 63 → IsSoundCopy page_size tree sequence (listing_of tree)
 sound_copy passing lists page_size tree sequence asked short =
     let long = layout_long page_size tree sequence asked.size asked.storable in
     let sound = layout_sound passing page_size tree sequence asked.size (laid_out page_size tree sequence asked.size asked.storable asked.sequence_fits (omega arith)) in
@@ -42,9 +43,8 @@ sound_copy passing lists page_size tree sequence asked short =
     let meta = layout_meta page_size tree sequence 1 in
     record {
       chosen = sound.chosen;
-      trees = sound.trees;
-      accounts = sound.accounts;
-      listing = lists file meta (Root_page (layout_root page_size tree)) tree (layout_tree page_size tree sequence asked.size asked.storable sound);
+      sound = record { slot = One; valid = sound.chosen.valid; trees = sound.trees; right = λ tested. sound.accounts };
+      lists = lists file meta (Root_page (layout_root page_size tree)) tree (layout_tree page_size tree sequence asked.size asked.storable sound);
     }
 
 pub layout_length : (page_size : ℕ) (tree : Tree) (sequence : ℕ) → IsAsked page_size tree sequence → HasLength page_size tree (layout_of page_size tree sequence)
@@ -52,3 +52,14 @@ layout_length page_size tree sequence asked = record {
   least = layout_long page_size tree sequence asked.size asked.storable;
   exact = λ short. (laid_out page_size tree sequence asked.size asked.storable asked.sequence_fits short).long;
 }
+
+-- the copy of what has a listing lists it again
+abbrev pub LayoutsAreSound : Type 0
+LayoutsAreSound = (page_size : ℕ) (tree : Tree) (sequence : ℕ) → IsAsked page_size tree sequence → length (layout_of page_size tree sequence) < 2 ^ 63
+    → IsSoundCopy page_size tree sequence (listing_of tree)
+
+pub copy_lists : LayoutsAreSound → (page_size sequence : ℕ) (listing : List Member) → IsOfOneTree listing → IsPageSize page_size → sequence < 2 ^ 64
+    → length (layout_of_listing page_size listing sequence) < 2 ^ 63 → IsSoundCopy page_size (tree_of listing) sequence listing
+copy_lists sound page_size sequence listing is size fits short =
+    subst (IsSoundCopy page_size (tree_of listing) sequence) is.lists
+    (sound page_size (tree_of listing) sequence (record { size = size; storable = is.storable; sequence_fits = fits }) short)
