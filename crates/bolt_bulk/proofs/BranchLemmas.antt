@@ -6,7 +6,7 @@ use Rattle.std.proofs.lemmas.List.{length-append}
 use Rattle.bolt_format.specs.Elements.{BranchElement, branch_child, branch_element, branch_elements, branch_end, branch_fault, branch_key_length, branch_key_start, branches_fault, element_at, faults_from, key_length_fault, table_fault}
 use Rattle.bolt_bulk.specs.PageBytes.{number_bytes, branch_bytes, branch_header, branch_headers, branch_data, key_pos}
 use Rattle.bolt_bulk.proofs.NumberLemmas.{length-number_bytes, number_read, number_next, part_next, part_read, part_within}
-use Rattle.bolt_bulk.proofs.ElementLemmas.{both_none, data_passes, key_passes}
+use Rattle.bolt_bulk.proofs.LeafLemmas.{both_none, data_passes, key_passes}
 
 pub record IsBranchFit (e : BranchElement) : Type 0 where
   pub some : 1 ≤ length e.key

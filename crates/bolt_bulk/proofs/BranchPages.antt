@@ -15,12 +15,12 @@ use Rattle.bolt_bulk.specs.PageBytes.{branch_data}
 use Rattle.bolt_bulk.proofs.BranchLemmas.{IsBranchFit}
 use Rattle.bolt_bulk.proofs.KeyLaws.{AreBelow, IsAbove, IsBelowItem, IsWithin, Rise, key_step, lt_irreflexive, lt_not, rise_split}
 use Rattle.bolt_bulk.proofs.ListLemmas.{all_split, all_weaker}
-use Rattle.bolt_bulk.proofs.Overs.{IsOver, IsRun, Pieces}
+use Rattle.bolt_bulk.proofs.OverRows.{IsOver, IsRun, Pieces}
 use Rattle.bolt_bulk.proofs.Parts.{AreParts}
-use Rattle.bolt_bulk.proofs.Rows.{IsPageFit, overflow_room, overflow_small}
+use Rattle.bolt_bulk.proofs.PageRows.{IsPageFit, overflow_room, overflow_small}
 use Rattle.bolt_bulk.specs.Laid.{Laid, Placed, elements_of, numbers_of, pages_of, size_of}
 use Rattle.bolt_bulk.specs.Levels.{branch_view, page_over, run_overflow}
-use Rattle.bolt_bulk.proofs.Laying.{AreNodes, HasPages, limit, page_has}
+use Rattle.bolt_bulk.proofs.LaidPages.{AreNodes, HasPages, limit, page_has}
 use Rattle.bolt_bulk.proofs.LaidItems.{IsItem, length-elements}
 use Rattle.bolt_bulk.proofs.LeafPages.{IsPage, above_after, above_none, leaf_page, page_part}
 

@@ -14,9 +14,9 @@ use Rattle.bolt_tree.specs.Entries.{IsEntry, Root_page, ShowsEntry}
 use Rattle.bolt_tree.proofs.Lists.{contains_cases, contains_head, contains_none, contains_tail}
 use Rattle.bolt_bulk.specs.Laid.{Laid, Placed, elements_of, numbers_of, pages_of}
 use Rattle.bolt_bulk.specs.Levels.{branch_view, leaf_view, page_over, run_overflow}
-use Rattle.bolt_bulk.proofs.Laying.{limit}
+use Rattle.bolt_bulk.proofs.LaidPages.{limit}
 use Rattle.bolt_bulk.proofs.ListLemmas.{all_split}
-use Rattle.bolt_bulk.proofs.Overs.{IsOver, Pieces}
+use Rattle.bolt_bulk.proofs.OverRows.{IsOver, Pieces}
 
 same_number : (a b : ℕ) → ◌≡◌ {A = Option ℕ} (Some a) (Some b) → a ≡ b
 same_number a b e = cc

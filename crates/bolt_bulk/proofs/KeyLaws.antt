@@ -1,4 +1,4 @@
--- Byte order, and keys that rise along a row of items.
+-- What an order of keys says of a row of items.
 use Rattle.std.proofs.Common.{◌≡◌, inl, inr, true, false, List, [], ◌∷◌, ◌++◌, Option, None, Some, refl}
 use Rattle.std.specs.List.{AllByRecursion}
 use Rattle.std.proofs.lemmas.Bool.{cases_Bool}

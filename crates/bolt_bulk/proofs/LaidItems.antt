@@ -8,13 +8,13 @@ use Rattle.bolt_check.specs.Nodes.{Nodes, leaf_entry}
 use Rattle.bolt_check.specs.Ways.{bucket_spots}
 use Rattle.bolt_bulk.specs.Cut.{run_size}
 use Rattle.bolt_bulk.specs.PageBytes.{leaf_data}
-use Rattle.bolt_bulk.proofs.ElementLemmas.{IsLeafFit}
-use Rattle.bolt_bulk.proofs.Overs.{IsRun}
+use Rattle.bolt_bulk.proofs.LeafLemmas.{IsLeafFit}
+use Rattle.bolt_bulk.proofs.OverRows.{IsRun}
 use Rattle.bolt_bulk.proofs.Parts.{IsPartOrNone}
-use Rattle.bolt_bulk.proofs.Rows.{IsPageFit, overflow_room, overflow_small}
+use Rattle.bolt_bulk.proofs.PageRows.{IsPageFit, overflow_room, overflow_small}
 use Rattle.bolt_bulk.specs.Laid.{Laid, elements_of, numbers_of, size_of}
 use Rattle.bolt_bulk.specs.Levels.{leaf_view, run_overflow}
-use Rattle.bolt_bulk.proofs.Laying.{AreNodes, HasPages, limit}
+use Rattle.bolt_bulk.proofs.LaidPages.{AreNodes, HasPages, limit}
 
 -- What holds of a leaf item.
 pub record IsItem (page_size : ℕ) (item : Laid LeafElement) : Type 0 where

@@ -10,11 +10,11 @@ use Rattle.bolt_check.specs.Findings.{node_finding, early_finding, keys_of, find
 use Rattle.bolt_check.specs.Private.Pending.{places}
 use Rattle.bolt_bulk.proofs.KeyLaws.{IsAbove, IsBelowItem, IsWithin, Rise, key_step}
 use Rattle.bolt_bulk.proofs.ListLemmas.{all_split, all_weaker}
-use Rattle.bolt_bulk.proofs.Overs.{IsRun}
+use Rattle.bolt_bulk.proofs.OverRows.{IsRun}
 use Rattle.bolt_bulk.proofs.Parts.{AreParts, IsPart, part_page, spot_in}
 use Rattle.bolt_bulk.specs.Laid.{Laid, Placed, elements_of, first_key, numbers_of, pages_of}
 use Rattle.bolt_bulk.specs.Levels.{leaf_view, page_over, run_overflow}
-use Rattle.bolt_bulk.proofs.Laying.{AreNodes, HasPages, limit, page_has}
+use Rattle.bolt_bulk.proofs.LaidPages.{AreNodes, HasPages, limit, page_has}
 use Rattle.bolt_bulk.proofs.LaidItems.{IsItem, leaf_own}
 
 -- What holds of the page over a row.

@@ -1,4 +1,4 @@
--- There is one cut of each list.
+-- There is one cut of each row.
 use Rattle.std.proofs.Common.{◌≡◌, ◌≢◌, ◌∙◌, ◌⊎◌, ℕ, zero, suc, ◌+◌, ◌<◌, ◌≤◌, ◌&&◌, nat_lt, nat_le, Bool, true, false, List, [], ◌∷◌, ◌++◌, length, Option, Some, None, slice_get, refl, sym, ap, subst, inl, inr, arith, append_assoc, sum_by, flat_map}
 use Rattle.std.proofs.lemmas.Bool.{and_cases, cases_Bool, cases_lt, le-leb, le-ltb, leb-false, leb-true, lt-leb, lt-ltb, ltb-false, ltb-true, or_cases, or_parts, and_parts}
 use Rattle.std.proofs.lemmas.List.{append-nil, length-append, length_push}

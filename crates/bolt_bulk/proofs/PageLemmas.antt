@@ -1,4 +1,4 @@
--- A page that was written is read back.
+-- Headers, and the values of buckets, that were written are read back, and pass their tests.
 use Rattle.std.proofs.Common.{◌≡◌, ◌∙◌, ℕ, zero, suc, ◌+◌, ◌*◌, ◌^◌, ◌<◌, ◌≤◌, ◌==◌, ◌||◌, nat_lt, Bool, true, false, List, [], ◌∷◌, ◌++◌, length, map, drop, Option, None, refl, sym, ap, arith, append_assoc}
 use Rattle.std.specs.List.{AllByRecursion, list_any, range_with_len}
 use Rattle.std.proofs.lemmas.Bool.{le-ltb, ne_eqb, eq-eqb}
@@ -7,7 +7,7 @@ use Rattle.bolt_format.specs.Headers.{count_field, flags_field, id_field, overfl
 use Rattle.bolt_format.specs.Elements.{LeafElement, has_bucket, head_fault, head_root, head_sequence, inline_bytes, inline_elements, inline_fault, inline_page_fault, is_bucket_at, leaf_element, leaf_elements, leaves_fault, value_fault}
 use Rattle.bolt_bulk.specs.PageBytes.{number_bytes, header_bytes, inline_value, leaf_bytes, leaf_data, root_value}
 use Rattle.bolt_bulk.proofs.NumberLemmas.{length-number_bytes, number_read, number_next}
-use Rattle.bolt_bulk.proofs.ElementLemmas.{IsLeafFit, both_none, leaves_written}
+use Rattle.bolt_bulk.proofs.LeafLemmas.{IsLeafFit, both_none, leaves_written}
 
 -- a header's fields
 pub record IsHeader (bytes : List ℕ) (number flag n more : ℕ) : Type 0 where

@@ -20,10 +20,10 @@ use Rattle.bolt_bulk.specs.Storable.{HasLengths, RisesInside, keys_in}
 use Rattle.bolt_bulk.proofs.Holding.{AreOf, ArePages, Holds, over_holds}
 use Rattle.bolt_bulk.proofs.KeyLaws.{IsBelowItem, Rise}
 use Rattle.bolt_bulk.proofs.LaidItems.{IsItem}
-use Rattle.bolt_bulk.proofs.Laying.{limit}
+use Rattle.bolt_bulk.proofs.LaidPages.{limit}
 use Rattle.bolt_bulk.proofs.ListLemmas.{all_weaker}
 use Rattle.bolt_bulk.proofs.MetaLemmas.{largest_page}
-use Rattle.bolt_bulk.proofs.Overs.{HasShortKey, IsAtMost, root_is_over}
+use Rattle.bolt_bulk.proofs.OverRows.{HasShortKey, IsAtMost, root_is_over}
 use Rattle.bolt_bulk.proofs.PageLemmas.{head_written}
 use Rattle.bolt_bulk.proofs.TreeItems.{inline_read, root_page, tree_items, tree_rise}
 

@@ -21,9 +21,9 @@ use Rattle.bolt_bulk.proofs.PageLemmas.{length-header_bytes}
 use Rattle.bolt_bulk.proofs.SpanLemmas.{IsEmptyFreelist, IsShown, freelist_shown, length-filled}
 use Rattle.bolt_bulk.proofs.MetaLemmas.{IsMetaFit, chosen_of, length-meta_bytes, meta_of, meta_written, size_bounds}
 use Rattle.bolt_bulk.proofs.Parts.{IsPart, part_clean}
-use Rattle.bolt_bulk.proofs.Rows.{IsInARow, IsPageFit, length-placed, row_shown}
+use Rattle.bolt_bulk.proofs.PageRows.{IsInARow, IsPageFit, length-placed, row_shown}
 use Rattle.bolt_bulk.proofs.LeafPages.{IsPage}
-use Rattle.bolt_bulk.proofs.Laying.{AreNodes, limit}
+use Rattle.bolt_bulk.proofs.LaidPages.{AreNodes, limit}
 use Rattle.bolt_bulk.proofs.TreeItems.{root_page, tree_items, tree_rise, within_none}
 use Rattle.bolt_bulk.specs.Items.{items_of, root_of}
 use Rattle.bolt_bulk.specs.Laid.{Placed}

@@ -13,7 +13,7 @@ use Rattle.bolt_format.specs.declared.kind.Kind.TheVariants as kind
 use Rattle.bolt_format.specs.declared.meta.Meta.{Meta}
 use Rattle.bolt_bulk.specs.PageBytes.{branch_bytes, branch_data, filled, freelist_page, header_bytes, leaf_bytes, leaf_data, leaf_headers, branch_headers, page_bytes}
 use Rattle.bolt_bulk.proofs.NumberLemmas.{part_read, part_within}
-use Rattle.bolt_bulk.proofs.ElementLemmas.{IsLeafFit, both_none, leaves_written, length-leaf_headers}
+use Rattle.bolt_bulk.proofs.LeafLemmas.{IsLeafFit, both_none, leaves_written, length-leaf_headers}
 use Rattle.bolt_bulk.proofs.BranchLemmas.{IsBranchFit, branches_written, length-branch_headers}
 use Rattle.bolt_bulk.proofs.PageLemmas.{IsHeaderFit, header_written, length-header_bytes}
 use Rattle.bolt_bulk.specs.Levels.{branch_view, leaf_view}

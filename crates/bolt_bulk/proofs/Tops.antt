@@ -7,7 +7,7 @@ use Rattle.bolt_bulk.specs.Cut.{cut_of}
 use Rattle.bolt_bulk.specs.Laid.{Laid, size_of}
 use Rattle.bolt_bulk.specs.Levels.{IsOverflow, TopIsAbove, branch_view, next_level, overflow_of, page_over, top_in, top_of}
 use Rattle.bolt_bulk.proofs.Cutting.{cut_halves}
-use Rattle.bolt_bulk.proofs.Rows.{overflow_room}
+use Rattle.bolt_bulk.proofs.PageRows.{overflow_room}
 
 -- a level of two pages or more has more than the next
 shorter : (page_size : ℕ) (level : List (Laid BranchElement)) → 2 ≤ length level → suc (length (next_level page_size level)) ≤ length level

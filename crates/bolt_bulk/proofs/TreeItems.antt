@@ -1,4 +1,4 @@
--- The items of a tree's bucket are as they should be.
+-- The items of a tree are read back, have room, and are parts of a sound tree of pages.
 use Rattle.std.proofs.Common.{◌≡◌, ◌∙◌, ℕ, suc, ◌+◌, ◌*◌, ◌/◌, ◌^◌, ◌<◌, ◌≤◌, ◌==◌, not, nat_le, Bool, true, false, List, [], ◌∷◌, ◌++◌, length, map, Option, Some, None, slice_get, refl, sym, ap, subst, arith}
 use Rattle.std.specs.Ordering.{is_lt}
 use Rattle.std.specs.List.{AllByRecursion}
@@ -16,12 +16,12 @@ use Rattle.bolt_bulk.proofs.PageLemmas.{IsFlat, head_written, inline_written, le
 use Rattle.bolt_bulk.proofs.SpanLemmas.{length-leaf_bytes}
 use Rattle.bolt_bulk.proofs.KeyLaws.{IsBelowItem, IsWithin, Rise}
 use Rattle.bolt_bulk.proofs.ListLemmas.{all_weaker}
-use Rattle.bolt_bulk.proofs.Overs.{HasShortKey, IsAtMost, root_is_over}
+use Rattle.bolt_bulk.proofs.OverRows.{HasShortKey, IsAtMost, root_is_over}
 use Rattle.bolt_bulk.proofs.Parts.{IsPartOrNone, part_inline}
 use Rattle.bolt_tree.specs.Order.{IsBelow, Rises}
 use Rattle.bolt_tree.proofs.Lists.{contains_head, contains_tail}
 use Rattle.bolt_bulk.proofs.MetaLemmas.{largest_page}
-use Rattle.bolt_bulk.proofs.Laying.{limit}
+use Rattle.bolt_bulk.proofs.LaidPages.{limit}
 use Rattle.bolt_bulk.proofs.LaidItems.{IsItem, items_size, length-elements}
 use Rattle.bolt_bulk.proofs.LeafPages.{IsPage, above_none, items_keys}
 use Rattle.bolt_bulk.proofs.BranchPages.{over_page}

@@ -1,4 +1,4 @@
--- What the soundness of a layout asks of the way in which a row is cut; another cut may be taken that has it too.
+-- What the soundness of a layout asks of the way in which a row is divided: docs/LAYOUT.md, "What holds of it". The cut has it; so might another.
 use Rattle.std.specs.Prelude.{suc, ◌≡◌, ◌≤◌, ◌<◌, ◌*◌, ℕ, List, length, flat_map}
 use Rattle.std.specs.List.{AllByRecursion}
 use Rattle.bolt_bulk.specs.Cut.{max_items, run_size}

@@ -1,4 +1,4 @@
-use Rattle.bolt_bulk.proofs.Whole.{copy_lists}
+use Rattle.bolt_bulk.proofs.SoundCopies.{copy_lists}
 use Rattle.bolt_bulk.proofs.laws.a_copy_lists_the_same.Goals as goal
 
 pub returns : goal.returns

@@ -1,4 +1,4 @@
-use Rattle.bolt_bulk.proofs.Torn.{beginnings_refused}
+use Rattle.bolt_bulk.proofs.Beginnings.{beginnings_refused}
 use Rattle.bolt_bulk.proofs.laws.beginnings_are_refused.Goals as goal
 
 pub returns : goal.returns

@@ -1,4 +1,4 @@
-use Rattle.bolt_bulk.proofs.Whole.{sound_copy}
+use Rattle.bolt_bulk.proofs.SoundCopies.{sound_copy}
 use Rattle.bolt_bulk.proofs.laws.layout_is_sound.Goals as goal
 
 pub returns : goal.returns

@@ -1,4 +1,4 @@
--- What stands over a row of leaf items: a leaf page, or a branch page over pages that stand over pieces of the row. The cut makes such pages.
+-- The root page over a row of leaf items: a leaf page, or a branch page over pages that stand over pieces of the row.
 use Rattle.std.proofs.Common.{◌≡◌, ◌∙◌, ℕ, zero, suc, ◌+◌, ◌*◌, ◌^◌, ◌<◌, ◌≤◌, List, [], ◌∷◌, ◌++◌, length, map, flat_map, refl, sym, ap, subst, inl, inr, arith, append_assoc, sum_by}
 use Rattle.std.specs.List.{AllByRecursion}
 use Rattle.std.proofs.Math.Nat.{mul-le-mul_right, pow-suc, suc-mul}

@@ -4,7 +4,7 @@ use Rattle.std.specs.List.{AllByRecursion}
 use Rattle.bolt_format.specs.Pages.{PageView}
 use Rattle.bolt_check.specs.Nodes.{Nodes, node_of}
 use Rattle.bolt_bulk.proofs.ListLemmas.{all_append}
-use Rattle.bolt_bulk.proofs.Rows.{IsInARow, IsPageFit, row_append}
+use Rattle.bolt_bulk.proofs.PageRows.{IsInARow, IsPageFit, row_append}
 use Rattle.bolt_bulk.specs.Laid.{Laid, Placed, elements_of, numbers_of, pages_of}
 use Rattle.bolt_bulk.specs.Levels.{page_over, run_overflow}
 

@@ -11,7 +11,7 @@ use Rattle.bolt_format.specs.declared.meta.Meta.{Meta}
 use Rattle.bolt_bulk.specs.PageBytes.{branch_data, branch_bytes, header_bytes, leaf_bytes, leaf_data, page_bytes}
 use Rattle.bolt_bulk.specs.Layout.{placed_bytes}
 use Rattle.bolt_bulk.proofs.NumberLemmas.{part_next, part_within}
-use Rattle.bolt_bulk.proofs.ElementLemmas.{IsLeafFit}
+use Rattle.bolt_bulk.proofs.LeafLemmas.{IsLeafFit}
 use Rattle.bolt_bulk.proofs.BranchLemmas.{IsBranchFit}
 use Rattle.bolt_bulk.proofs.PageLemmas.{length-header_bytes}
 use Rattle.bolt_bulk.proofs.SpanLemmas.{IsShown, branch_shown, leaf_shown, length-branch_bytes, length-filled, length-leaf_bytes}

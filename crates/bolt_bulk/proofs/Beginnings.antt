@@ -22,7 +22,7 @@ use Rattle.bolt_bulk.specs.Layout.{layout_mark, layout_of, layout_root, placed_b
 use Rattle.bolt_bulk.specs.Copies.{IsAsked, RefusesBeginnings}
 use Rattle.bolt_bulk.proofs.PageLemmas.{IsHeaderFit, header_written, length-header_bytes}
 use Rattle.bolt_bulk.proofs.MetaLemmas.{chosen_of, length-meta_bytes, meta_of, meta_written, size_bounds}
-use Rattle.bolt_bulk.proofs.Rows.{IsInARow, IsPageFit, last_written, page_headed, row_last}
+use Rattle.bolt_bulk.proofs.PageRows.{IsInARow, IsPageFit, last_written, page_headed, row_last}
 use Rattle.bolt_bulk.proofs.Soundness.{IsLaidOut, laid_out, layout_long}
 use Rattle.bolt_bulk.specs.Laid.{Placed}
 use Rattle.bolt_tree.specs.Tree.{Tree}

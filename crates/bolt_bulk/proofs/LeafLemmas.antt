@@ -1,4 +1,4 @@
--- The elements of a page that was written are read back, and pass their tests.
+-- The elements of a leaf page that was written are read back, and pass their tests.
 use Rattle.std.proofs.Common.{◌≡◌, ◌∙◌, ℕ, suc, ◌+◌, ◌-◌, ◌*◌, ◌^◌, ◌<◌, ◌≤◌, ◌==◌, nat_lt, Bool, true, false, cond, List, [], ◌∷◌, ◌++◌, length, map, drop, take, Option, None, refl, sym, ap, arith, append_assoc, add-one}
 use Rattle.std.specs.List.{AllByRecursion, range_with_len, slice_range}
 use Rattle.std.proofs.lemmas.Bool.{le-ltb, ne_eqb}
