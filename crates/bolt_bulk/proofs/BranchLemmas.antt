@@ -6,7 +6,8 @@ use Rattle.std.proofs.lemmas.List.{length-append}
 use Rattle.bolt_format.specs.Elements.{BranchElement, branch_child, branch_element, branch_elements, branch_end, branch_fault, branch_key_length, branch_key_start, branches_fault, element_at, faults_from, key_length_fault, table_fault}
 use Rattle.bolt_bulk.specs.PageBytes.{number_bytes, branch_bytes, branch_header, branch_headers, branch_data, key_pos}
 use Rattle.bolt_bulk.proofs.NumberLemmas.{length-number_bytes, number_read, number_next, part_next, part_read, part_within}
-use Rattle.bolt_bulk.proofs.LeafLemmas.{both_none, data_passes, key_passes}
+use Rattle.bolt_format.proofs.FaultLemmas.{first_of-both}
+use Rattle.bolt_bulk.proofs.LeafLemmas.{data_passes, key_passes}
 
 pub record IsBranchFit (e : BranchElement) : Type 0 where
   pub some : 1 ≤ length e.key
@@ -60,7 +61,7 @@ branch_read bytes rest i pos e head fit text within =
       element = same_branch (branch_element bytes i) e key head.child;
       ends = end;
       passes = λ free before.
-          both_none (key_length_fault (branch_key_length bytes i)) _ (ap key_length_fault head.key ∙ key_passes (length e.key) fit.some fit.key)
+          first_of-both (key_length_fault (branch_key_length bytes i)) _ (ap key_length_fault head.key ∙ key_passes (length e.key) fit.some fit.key)
           (data_passes bytes free (branch_key_start bytes i) (branch_end bytes i) before (omega arith));
     }
 
@@ -106,7 +107,7 @@ branch_run bytes (e ∷ es) i before free tail rest heads text fits small within
     let start = head.0.start in
     let elements : map (branch_element bytes) (range_with_len (i + 1) (length es)) ≡ es = ap (λ (k : ℕ). map (branch_element bytes) (range_with_len k (length es))) (add-one i) ∙ more.0 in (
       ap (λ (x : BranchElement). x ∷ map (branch_element bytes) (range_with_len (i + 1) (length es))) one.element ∙ ap (λ (xs : List BranchElement). e ∷ xs) elements,
-      both_none (branch_fault bytes free i) _ (one.passes free (omega arith)) more.1,
+      first_of-both (branch_fault bytes free i) _ (one.passes free (omega arith)) more.1,
     )
 
 -- the elements of a branch page behind a header
@@ -122,4 +123,4 @@ branches_written bytes es rest h within fits small =
     let text : drop (element_at (0 + length es) + 0) bytes ≡ branch_data es ++ rest = part_next bytes (branch_headers 0 es) (branch_data es ++ rest) 16 _ heads (omega arith) in
     let run = branch_run bytes es 0 0 (element_at (length es)) (branch_data es ++ rest) rest heads text fits (omega arith) (omega arith) (omega arith) in
     let room : nat_lt (length bytes) (element_at (length es)) ≡ false = le-ltb (length bytes) (element_at (length es)) (omega arith) in
-    (run.0, both_none (table_fault bytes (length es)) _ (rw room refl) run.1)
+    (run.0, first_of-both (table_fault bytes (length es)) _ (rw room refl) run.1)

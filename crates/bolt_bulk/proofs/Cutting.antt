@@ -1,8 +1,8 @@
 -- The cut divides a row as the soundness of a layout asks.
-use Rattle.std.proofs.Common.{◌≡◌, ◌≢◌, ℕ, zero, suc, ◌*◌, ◌≤◌, List, [], ◌∷◌, length, flat_map, Option, Some, slice_get, refl, sym, ap, arith}
+use Rattle.std.proofs.Common.{◌≡◌, ◌≢◌, ℕ, suc, ◌*◌, ◌≤◌, List, [], ◌∷◌, length, flat_map, Some, slice_get, refl, ap, arith}
 use Rattle.std.specs.List.{AllByRecursion}
 use Rattle.std.proofs.lemmas.List.{length-append}
-use Rattle.bolt_bulk.specs.Cut.{IsCut, cut_of, max_items}
+use Rattle.bolt_bulk.specs.Cut.{cut_of, max_items}
 use Rattle.bolt_bulk.specs.Divisions.{IsDivided, IsHalved, IsPageRun}
 use Rattle.bolt_bulk.proofs.OneCut.{is_cut}
 

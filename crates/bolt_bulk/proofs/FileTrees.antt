@@ -1,17 +1,17 @@
 -- The tree of a file can be stored.
-use Rattle.std.proofs.Common.{◌≡◌, ◌∙◌, ◌⊎◌, ℕ, ◌^◌, ◌<◌, ◌==◌, Bool, true, false, List, [], ◌∷◌, length, map, drop, refl, sym, ap, subst, inl, inr, arith}
+use Rattle.std.proofs.Common.{◌≡◌, ◌∙◌, ℕ, ◌^◌, ◌<◌, ◌==◌, Bool, true, false, List, [], ◌∷◌, length, map, drop, refl, sym, ap, subst, inl, inr, arith}
 use Rattle.std.specs.List.{Contains}
 use Rattle.std.specs.declared.cmp.Ordering.TheVariants.{Less}
 use Rattle.std.proofs.lemmas.Bool.{cases_Bool, eqb-true}
 use Rattle.byteorder.specs.Numbers.{little_from-lt}
-use Rattle.bolt_format.specs.Bytes.{number_at}
-use Rattle.bolt_format.specs.ElementLengths.{HasFitLengths, IsBytes, IsKeyLength, IsValueLength}
+use Rattle.bolt_format.specs.Bytes.{IsBytes, number_at}
+use Rattle.bolt_format.specs.ElementLengths.{HasFitLengths, IsKeyLength, IsValueLength}
 use Rattle.bolt_format.specs.Elements.{IsBucketValue, LeafElement, head_root, head_sequence, inline_elements}
 use Rattle.bolt_format.specs.declared.meta.Meta.{Meta}
 use Rattle.bolt_format.proofs.ElementFacts.{drop_bytes, entry_fits, inline_fits, value_bytes}
 use Rattle.bolt_format.proofs.PageFacts.{bucket_value, flat_inline}
 use Rattle.bolt_check.specs.Keys.{Key, key_cmp}
-use Rattle.bolt_tree.specs.Entries.{AreEntries, Inline_page, IsEntry, Root_page, Start, entry_cmp, start_of}
+use Rattle.bolt_tree.specs.Entries.{Inline_page, IsEntry, Root_page, Start, entry_cmp, start_of}
 use Rattle.bolt_tree.specs.Order.{IsBelow, Rises}
 use Rattle.bolt_tree.specs.Tree.{IsTreeOf, Shows, Tree, end, listing_of, tree_of, with_bucket, with_value}
 use Rattle.bolt_tree.specs.Listing.{IsListing, Member}

@@ -8,10 +8,9 @@ use Rattle.bolt_format.specs.declared.kind.Kind.{Kind}
 use Rattle.bolt_format.specs.declared.kind.Kind.TheVariants as kind
 use Rattle.bolt_format.specs.declared.meta.Meta.{Meta}
 use Rattle.bolt_check.specs.Nodes.{node_at}
-use Rattle.bolt_check.specs.Shape.{leads}
-use Rattle.bolt_check.proofs.TreePages.{branch_node, branch_step, leads_child, leaf_ends, leaf_node, node_is}
-use Rattle.bolt_tree.specs.Entries.{IsEntry, Root_page, ShowsEntry}
-use Rattle.bolt_tree.proofs.Lists.{contains_cases, contains_head, contains_none, contains_tail}
+use Rattle.bolt_check.proofs.TreePages.{branch_step, leads_child, leaf_ends, node_is}
+use Rattle.bolt_tree.specs.Entries.{IsEntry, Root_page}
+use Rattle.bolt_tree.proofs.Lists.{contains_none}
 use Rattle.bolt_bulk.specs.Laid.{Laid, Placed, elements_of, numbers_of, pages_of}
 use Rattle.bolt_bulk.specs.Levels.{branch_view, leaf_view, page_over, run_overflow}
 use Rattle.bolt_bulk.proofs.LaidPages.{limit}

@@ -3,7 +3,8 @@ use Rattle.std.proofs.Common.{◌≡◌, ◌∙◌, ℕ, suc, ◌+◌, ◌-◌, 
 use Rattle.std.specs.List.{AllByRecursion, range_with_len, slice_range}
 use Rattle.std.proofs.lemmas.Bool.{le-ltb, ne_eqb}
 use Rattle.std.proofs.lemmas.List.{length-append}
-use Rattle.bolt_format.specs.Elements.{LeafElement, leaf_elements, leaves_fault, table_fault, first_of, data_fault, element_at, faults_from, is_bucket_at, key_length_fault, leaf_element, leaf_end, leaf_fault, leaf_flags, leaf_flags_fault, leaf_key_length, leaf_key_start, leaf_value, leaf_value_length, leaf_value_start, plain_leaf_fault, value_length_fault}
+use Rattle.bolt_format.specs.Elements.{LeafElement, leaf_elements, leaves_fault, table_fault, data_fault, element_at, faults_from, is_bucket_at, key_length_fault, leaf_element, leaf_end, leaf_fault, leaf_flags, leaf_flags_fault, leaf_key_length, leaf_key_start, leaf_value, leaf_value_length, leaf_value_start, plain_leaf_fault, value_length_fault}
+use Rattle.bolt_format.proofs.FaultLemmas.{first_of-both}
 use Rattle.bolt_bulk.specs.PageBytes.{number_bytes, leaf_bytes, leaf_flag, leaf_header, leaf_headers, leaf_data, key_pos}
 use Rattle.bolt_bulk.proofs.NumberLemmas.{length-number_bytes, number_read, number_next, part_next, part_read, part_within}
 
@@ -69,9 +70,6 @@ data_passes bytes free start end first last =
     let b : nat_lt (length bytes) end ≡ false = le-ltb (length bytes) end last in
     rw (a, b) refl
 
-pub both_none : (a b : Option ℕ) → a ≡ None → b ≡ None → first_of a b ≡ None
-both_none a b p q = rw (p, q) refl
-
 chosen_none : (b : Bool) (fault : Option ℕ) → (b ≡ true → fault ≡ None) → cond b fault None ≡ None
 chosen_none true fault h = h refl
 chosen_none false fault h = refl
@@ -107,10 +105,10 @@ leaf_read bucket_fault bytes rest i pos e head fit text within =
       element = same_leaf (leaf_element bytes i) e key value bucket;
       ends = end;
       passes = λ free before.
-          both_none (plain_leaf_fault bytes free i) _
-          (both_none (leaf_flags_fault (leaf_flags bytes i)) _ (ap leaf_flags_fault head.flags ∙ flags_pass e.is_bucket)
-          (both_none (key_length_fault (leaf_key_length bytes i)) _ (ap key_length_fault head.key ∙ key_passes (length e.key) fit.some fit.key)
-          (both_none (value_length_fault (leaf_value_length bytes i)) _ (ap value_length_fault head.value ∙ value_passes (length e.value) fit.value)
+          first_of-both (plain_leaf_fault bytes free i) _
+          (first_of-both (leaf_flags_fault (leaf_flags bytes i)) _ (ap leaf_flags_fault head.flags ∙ flags_pass e.is_bucket)
+          (first_of-both (key_length_fault (leaf_key_length bytes i)) _ (ap key_length_fault head.key ∙ key_passes (length e.key) fit.some fit.key)
+          (first_of-both (value_length_fault (leaf_value_length bytes i)) _ (ap value_length_fault head.value ∙ value_passes (length e.value) fit.value)
           (data_passes bytes free (leaf_key_start bytes i) (leaf_end bytes i) before (omega arith)))))
           (chosen_none (is_bucket_at bytes i) (bucket_fault (leaf_value bytes i)) (λ h. ap bucket_fault value ∙ fit.bucket (sym bucket ∙ h)));
     }
@@ -161,7 +159,7 @@ leaf_run bucket_fault bytes (e ∷ es) i before free tail rest heads text fits s
     let start = head.0.start in
     let elements : map (leaf_element bytes) (range_with_len (i + 1) (length es)) ≡ es = ap (λ (k : ℕ). map (leaf_element bytes) (range_with_len k (length es))) (add-one i) ∙ more.0 in (
       ap (λ (x : LeafElement). x ∷ map (leaf_element bytes) (range_with_len (i + 1) (length es))) one.element ∙ ap (λ (xs : List LeafElement). e ∷ xs) elements,
-      both_none (leaf_fault bucket_fault bytes free i) _ (one.passes free (omega arith)) more.1,
+      first_of-both (leaf_fault bucket_fault bytes free i) _ (one.passes free (omega arith)) more.1,
     )
 
 -- the elements of a leaf page behind a header
@@ -177,4 +175,4 @@ leaves_written bucket_fault bytes es rest h within fits small =
     let text : drop (element_at (0 + length es) + 0) bytes ≡ leaf_data es ++ rest = part_next bytes (leaf_headers 0 es) (leaf_data es ++ rest) 16 _ heads (omega arith) in
     let run = leaf_run bucket_fault bytes es 0 0 (element_at (length es)) (leaf_data es ++ rest) rest heads text fits (omega arith) (omega arith) (omega arith) in
     let room : nat_lt (length bytes) (element_at (length es)) ≡ false = le-ltb (length bytes) (element_at (length es)) (omega arith) in
-    (run.0, both_none (table_fault bytes (length es)) _ (rw room refl) run.1)
+    (run.0, first_of-both (table_fault bytes (length es)) _ (rw room refl) run.1)

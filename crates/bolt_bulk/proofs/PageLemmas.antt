@@ -7,7 +7,8 @@ use Rattle.bolt_format.specs.Headers.{count_field, flags_field, id_field, overfl
 use Rattle.bolt_format.specs.Elements.{LeafElement, has_bucket, head_fault, head_root, head_sequence, inline_bytes, inline_elements, inline_fault, inline_page_fault, is_bucket_at, leaf_element, leaf_elements, leaves_fault, value_fault}
 use Rattle.bolt_bulk.specs.PageBytes.{number_bytes, header_bytes, inline_value, leaf_bytes, leaf_data, root_value}
 use Rattle.bolt_bulk.proofs.NumberLemmas.{length-number_bytes, number_read, number_next}
-use Rattle.bolt_bulk.proofs.LeafLemmas.{IsLeafFit, both_none, leaves_written}
+use Rattle.bolt_format.proofs.FaultLemmas.{first_of-both}
+use Rattle.bolt_bulk.proofs.LeafLemmas.{IsLeafFit, leaves_written}
 
 -- a header's fields
 pub record IsHeader (bytes : List ℕ) (number flag n more : ℕ) : Type 0 where
@@ -75,7 +76,7 @@ unfolding value_fault
 root_passes root sequence some small sized =
     let h = head_written (root_value root sequence) [] root sequence (sym (append-nil (root_value root sequence))) small sized in
     let not_zero : (head_root (root_value root sequence) == 0) ≡ false = ap (λ (n : ℕ). n == 0) h.0 ∙ ne_eqb root 0 (λ e. omega arith) in
-    both_none (head_fault (root_value root sequence)) _ h.3 (rw not_zero refl)
+    first_of-both (head_fault (root_value root sequence)) _ h.3 (rw not_zero refl)
 
 -- An inline bucket's value. Its elements are values, so they pass with any test of buckets.
 pub record IsFlat (e : LeafElement) : Type 0 where
@@ -126,5 +127,5 @@ inline_written sequence es sized flat few small =
     let none : has_bucket bytes (count_field bytes) ≡ false = no_bucket_in bytes 0 (count_field bytes) es elements flat in
     let page : inline_page_fault bytes ≡ None = rw (room, leaf, good) refl in
     let zero_root : (head_root value == 0) ≡ true = eq-eqb (head_root value) 0 head.0 in
-    let inside : inline_fault bytes ≡ None = both_none (inline_page_fault bytes) _ page (rw none refl) in
-    (both_none (head_fault value) _ head.3 (rw zero_root inside), head.0, head.1, elements)
+    let inside : inline_fault bytes ≡ None = first_of-both (inline_page_fault bytes) _ page (rw none refl) in
+    (first_of-both (head_fault value) _ head.3 (rw zero_root inside), head.0, head.1, elements)

@@ -13,7 +13,8 @@ use Rattle.bolt_format.specs.declared.kind.Kind.TheVariants as kind
 use Rattle.bolt_format.specs.declared.meta.Meta.{Meta}
 use Rattle.bolt_bulk.specs.PageBytes.{branch_bytes, branch_data, filled, freelist_page, header_bytes, leaf_bytes, leaf_data, leaf_headers, branch_headers, page_bytes}
 use Rattle.bolt_bulk.proofs.NumberLemmas.{part_read, part_within}
-use Rattle.bolt_bulk.proofs.LeafLemmas.{IsLeafFit, both_none, leaves_written, length-leaf_headers}
+use Rattle.bolt_format.proofs.FaultLemmas.{first_of-both}
+use Rattle.bolt_bulk.proofs.LeafLemmas.{IsLeafFit, leaves_written, length-leaf_headers}
 use Rattle.bolt_bulk.proofs.BranchLemmas.{IsBranchFit, branches_written, length-branch_headers}
 use Rattle.bolt_bulk.proofs.PageLemmas.{IsHeaderFit, header_written, length-header_bytes}
 use Rattle.bolt_bulk.specs.Levels.{branch_view, leaf_view}
@@ -89,7 +90,7 @@ shown_with : (file : List ℕ) (meta : Meta) (id n more : ℕ) (is : Kind) (cont
 unfolding page_fault page_at
 shown_with file meta id n more is content rest view span good same =
     let passes : page_fault file meta id ≡ None =
-    both_none (span_fault file meta id) _ span.fault (content_is (kind_of (flags_field (from_page file meta id))) (count_field (from_page file meta id)) n (span_bytes file meta id) is span.kind span.count good) in
+    first_of-both (span_fault file meta id) _ span.fault (content_is (kind_of (flags_field (from_page file meta id))) (count_field (from_page file meta id)) n (span_bytes file meta id) is span.kind span.count good) in
     record {
       passes = passes;
       shows = shown_is (page_fault file meta id) (kind_of (flags_field (from_page file meta id))) (count_field (from_page file meta id)) (page_overflow file meta id) n more (span_bytes file meta id) is view
@@ -168,7 +169,7 @@ freelist_shown file meta id rest h place room =
     let ids : ids_fault (count_field (from_page file meta id)) (span_bytes file meta id) ≡ None =
     ap (λ (n : ℕ). ids_fault n (span_bytes file meta id)) span.count ∙ rw enough refl in
     record {
-      good = both_none (span_fault file meta id) _ span.fault (both_none (freelist_kind_fault (kind_of (flags_field (from_page file meta id)))) _ (ap freelist_kind_fault span.kind) ids);
+      good = first_of-both (span_fault file meta id) _ span.fault (first_of-both (freelist_kind_fault (kind_of (flags_field (from_page file meta id)))) _ (ap freelist_kind_fault span.kind) ids);
       alone = span.overflow;
       empty = ap (λ (n : ℕ). ids_from (span_bytes file meta id) (ids_start n) (id_count n (span_bytes file meta id))) span.count;
     }

@@ -1,11 +1,11 @@
 -- The top of a level is that of the next, and a page's overflow is the least.
-use Rattle.std.proofs.Common.{◌≡◌, ℕ, zero, suc, ◌+◌, ◌-◌, ◌*◌, ◌/◌, ◌<◌, ◌≤◌, List, [], ◌∷◌, length, refl, arith}
+use Rattle.std.proofs.Common.{◌≡◌, ℕ, zero, suc, ◌+◌, ◌-◌, ◌≤◌, List, [], ◌∷◌, length, refl, arith}
 use Rattle.std.proofs.Math.Nat.{div-lt_iff_lt-mul}
 use Rattle.std.proofs.lemmas.List.{length-map}
 use Rattle.bolt_format.specs.Elements.{BranchElement}
 use Rattle.bolt_bulk.specs.Cut.{cut_of}
 use Rattle.bolt_bulk.specs.Laid.{Laid, size_of}
-use Rattle.bolt_bulk.specs.Levels.{IsOverflow, TopIsAbove, branch_view, next_level, overflow_of, page_over, top_in, top_of}
+use Rattle.bolt_bulk.specs.Levels.{IsOverflow, TopIsAbove, branch_view, next_level, overflow_of, page_over, top_in}
 use Rattle.bolt_bulk.proofs.Cutting.{cut_halves}
 use Rattle.bolt_bulk.proofs.PageRows.{overflow_room}
 

@@ -1,5 +1,5 @@
 -- Trees that a file can hold: docs/LAYOUT.md, "Trees that can be stored".
-use Rattle.std.specs.Prelude.{◌<◌, ◌^◌, ℕ, List, [], ◌∷◌, length}
+use Rattle.std.specs.Prelude.{◌<◌, ◌^◌, List, [], ◌∷◌, length}
 use Rattle.bolt_format.specs.ElementLengths.{IsKeyLength, IsValueLength}
 use Rattle.bolt_check.specs.Keys.{Key, key_cmp}
 use Rattle.bolt_tree.specs.Order.{Rises}

@@ -1,7 +1,7 @@
 //! What holds of the layout of a tree: docs/LAYOUT.md, "What holds of it".
 ghost use Rattle.std.specs.Prelude.{◌≤◌, ◌<◌, ◌^◌, ℕ, List, length};
 ghost use Rattle.bolt_format.specs.Elements.{BranchElement, LeafElement};
-ghost use Rattle.bolt_format.specs.ElementLengths.{IsBytes};
+ghost use Rattle.bolt_format.specs.Bytes.{IsBytes};
 ghost use Rattle.bolt_format.specs.Metas.{IsPageSize};
 ghost use Rattle.bolt_format.specs.declared.meta.Meta.{Meta};
 ghost use Rattle.bolt_check.specs.Sound.{HasSoundTrees};

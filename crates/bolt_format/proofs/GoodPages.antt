@@ -142,7 +142,7 @@ not-some : (o : Option ℕ) → is_some o ≡ false → o ≡ None
 not-some None e = refl
 not-some (Some x) e = absurd (cc)
 
-neither : (a b : Bool) → (a || b) ≡ false → (a ≡ false) × (b ≡ false)
+pub neither : (a b : Bool) → (a || b) ≡ false → (a ≡ false) × (b ≡ false)
 neither false b e = (refl, e)
 neither true b e = absurd (cc)
 

@@ -1,5 +1,5 @@
 -- The lengths that keys and values have in a file: docs/FORMAT.md, "The tests of a page".
-use Rattle.std.specs.Prelude.{◌≤◌, ◌<◌, ℕ, List, length, slice_index}
+use Rattle.std.specs.Prelude.{◌≤◌, ℕ, length}
 use Rattle.bolt_format.specs.Elements.{LeafElement}
 
 -- a key has from 1 to 2^30 bytes
@@ -13,7 +13,3 @@ IsValueLength n = n ≤ 0x7FFFFFFE
 pub record HasFitLengths (e : LeafElement) : Type 0 where
   pub key : IsKeyLength (length e.key)
   pub value : IsValueLength (length e.value)
-
--- a list of bytes is a list of numbers below 256
-abbrev pub IsBytes : List ℕ → Type 0
-IsBytes bytes = (i : ℕ) → slice_index bytes i < 256

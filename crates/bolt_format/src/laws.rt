@@ -1,6 +1,7 @@
 //! What the definitions of pages imply.
 ghost use Rattle.std.specs.Prelude.{◌≡◌, ℕ, false, IsTrue, List, Some, Contains};
-ghost use Rattle.bolt_format.specs.ElementLengths.{HasFitLengths, IsBytes};
+ghost use Rattle.bolt_format.specs.Bytes.{IsBytes};
+ghost use Rattle.bolt_format.specs.ElementLengths.{HasFitLengths};
 ghost use Rattle.bolt_format.specs.Elements.{IsBucketValue, LeafElement, head_root, inline_elements};
 ghost use Rattle.bolt_format.specs.Pages.{PageView, page_at};
 ghost use Rattle.bolt_format.specs.declared.kind.Kind.TheVariants as kind;
