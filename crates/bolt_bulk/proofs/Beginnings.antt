@@ -23,7 +23,7 @@ use Rattle.bolt_bulk.specs.Copies.{IsAsked, RefusesBeginnings}
 use Rattle.bolt_bulk.proofs.PageLemmas.{IsHeaderFit, header_written, length-header_bytes}
 use Rattle.bolt_bulk.proofs.MetaLemmas.{chosen_of, length-meta_bytes, meta_of, meta_written, size_bounds}
 use Rattle.bolt_bulk.proofs.PageRows.{IsInARow, IsPageFit, last_written, page_headed, row_last}
-use Rattle.bolt_bulk.proofs.Soundness.{IsLaidOut, laid_out, layout_long}
+use Rattle.bolt_bulk.proofs.Soundness.{IsLaidOut, laid_out}
 use Rattle.bolt_bulk.specs.Laid.{Placed}
 use Rattle.bolt_tree.specs.Tree.{Tree}
 
@@ -183,8 +183,7 @@ torn_root page_size tree sequence n size laid less whole =
 pub beginnings_refused : (page_size : ℕ) (tree : Tree) (sequence : ℕ) → IsAsked page_size tree sequence → length (layout_of page_size tree sequence) < 2 ^ 63
     → RefusesBeginnings (layout_of page_size tree sequence) (layout_root page_size tree)
 beginnings_refused page_size tree sequence asked short =
-    let long = layout_long page_size tree sequence asked.size asked.storable in
-    let laid = laid_out page_size tree sequence asked.size asked.storable asked.sequence_fits (omega arith) in
+    let laid = laid_out page_size tree sequence asked.size asked.storable asked.sequence_fits short in
     let file : List ℕ = layout_of page_size tree sequence in
     record {
       before_metas = λ n less few. let cut : length (take n file) ≡ n = length-take n file ∙ omega arith in

@@ -17,10 +17,10 @@ use Rattle.bolt_bulk.proofs.KeyLaws.{AreBelow, IsAbove, IsBelowItem, IsWithin, R
 use Rattle.bolt_bulk.proofs.ListLemmas.{all_split, all_weaker}
 use Rattle.bolt_bulk.proofs.OverRows.{IsOver, IsRun, Pieces}
 use Rattle.bolt_bulk.proofs.Parts.{AreParts}
-use Rattle.bolt_bulk.proofs.PageRows.{IsPageFit, overflow_room, overflow_small}
+use Rattle.bolt_bulk.proofs.PageRows.{HasRoom, IsPageFit, branch_room, overflow_room, overflow_small}
 use Rattle.bolt_bulk.specs.Laid.{Laid, Placed, elements_of, numbers_of, pages_of, size_of}
 use Rattle.bolt_bulk.specs.Levels.{branch_view, page_over, run_overflow}
-use Rattle.bolt_bulk.proofs.LaidPages.{AreNodes, HasPages, limit, page_has}
+use Rattle.bolt_bulk.proofs.LaidPages.{AreNodes, HasPages, limit, own_page, page_has}
 use Rattle.bolt_bulk.proofs.LaidItems.{IsItem, length-elements}
 use Rattle.bolt_bulk.proofs.LeafPages.{IsPage, above_after, above_none, leaf_page, page_part}
 
@@ -55,9 +55,16 @@ pieces_fit page_size height (kid ∷ kids) leaves h all n room =
       pieces_fit page_size height kids back more (all_split (IsItem page_size) front back all2.1).1 (n + kid.numbers) (omega arith),
     )
 
+branch_own_room : (page_size height : ℕ) (run : List (Laid BranchElement)) (leaves : List (Laid LeafElement)) → 0 < page_size → Pieces (IsPage page_size height) run leaves
+    → (n : ℕ) → HasRoom page_size (own_page branch_view page_size run n)
+branch_own_room page_size height run leaves sized pieces n =
+    let size = pieces_size page_size height run leaves pieces n in
+    let room = overflow_room page_size (run_size size_of run) sized (omega arith) in
+    branch_room page_size (n + numbers_of run) (run_overflow page_size run) (elements_of run n) (omega arith)
+
 pub branch_own : (page_size height : ℕ) (run : List (Laid BranchElement)) (leaves : List (Laid LeafElement)) → 0 < page_size → Pieces (IsPage page_size height) run leaves
     → AllByRecursion (IsItem page_size) leaves → IsRun run → (n : ℕ) → 1 ≤ n → n + numbers_of run < limit
-    → IsPageFit page_size (record { number = n + numbers_of run; view = branch_view (run_overflow page_size run) (elements_of run n) })
+    → IsPageFit page_size (own_page branch_view page_size run n)
 branch_own page_size height run leaves sized pieces all fits n some h =
     let size = pieces_size page_size height run leaves pieces n in
     let long = length-elements run n in
@@ -142,7 +149,7 @@ pub branch_page : (page_size height : ℕ) (kid : Laid BranchElement) (kids : Li
     → Pieces (IsPage page_size height) (kid ∷ kids) leaves → AllByRecursion (IsItem page_size) leaves → Rise leaves → IsRun (kid ∷ kids)
     → IsPage page_size (suc height) (page_over branch_view page_size (kid ∷ kids)) leaves
 branch_page page_size height kid kids leaves sized pieces all rise fits = record {
-  pages = page_has page_size branch_view (kid ∷ kids) (pieces_have page_size height (kid ∷ kids) leaves pieces) (λ further es. refl)
+  pages = page_has page_size branch_view (kid ∷ kids) (pieces_have page_size height (kid ∷ kids) leaves pieces) (λ further es. refl) (branch_own_room page_size height (kid ∷ kids) leaves sized pieces)
       (branch_own page_size height (kid ∷ kids) leaves sized pieces all fits);
   some = omega arith;
   size = refl;

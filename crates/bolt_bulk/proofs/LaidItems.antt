@@ -11,10 +11,10 @@ use Rattle.bolt_bulk.specs.PageBytes.{leaf_data}
 use Rattle.bolt_bulk.proofs.LeafLemmas.{IsLeafFit}
 use Rattle.bolt_bulk.proofs.OverRows.{IsRun}
 use Rattle.bolt_bulk.proofs.Parts.{IsPartOrNone}
-use Rattle.bolt_bulk.proofs.PageRows.{IsPageFit, overflow_room, overflow_small}
+use Rattle.bolt_bulk.proofs.PageRows.{HasRoom, IsPageFit, leaf_room, overflow_room, overflow_small}
 use Rattle.bolt_bulk.specs.Laid.{Laid, elements_of, numbers_of, size_of}
 use Rattle.bolt_bulk.specs.Levels.{leaf_view, run_overflow}
-use Rattle.bolt_bulk.proofs.LaidPages.{AreNodes, HasPages, limit}
+use Rattle.bolt_bulk.proofs.LaidPages.{AreNodes, HasPages, limit, own_page}
 
 -- What holds of a leaf item.
 pub record IsItem (page_size : ℕ) (item : Laid LeafElement) : Type 0 where
@@ -49,8 +49,14 @@ items_size page_size (item ∷ items) all n =
     let d = length-append e.key (e.value ++ leaf_data (elements_of items (n + item.numbers))) in
     let d2 = length-append e.value (leaf_data (elements_of items (n + item.numbers))) in omega arith
 
+pub leaf_own_room : (page_size : ℕ) (run : List (Laid LeafElement)) → 0 < page_size → AllByRecursion (IsItem page_size) run → (n : ℕ) → HasRoom page_size (own_page leaf_view page_size run n)
+leaf_own_room page_size run sized all n =
+    let size = items_size page_size run all n in
+    let room = overflow_room page_size (run_size size_of run) sized (omega arith) in
+    leaf_room page_size (n + numbers_of run) (run_overflow page_size run) (elements_of run n) (omega arith)
+
 pub leaf_own : (page_size : ℕ) (run : List (Laid LeafElement)) → 0 < page_size → AllByRecursion (IsItem page_size) run → IsRun run → (n : ℕ) → 1 ≤ n → n + numbers_of run < limit
-    → IsPageFit page_size (record { number = n + numbers_of run; view = leaf_view (run_overflow page_size run) (elements_of run n) })
+    → IsPageFit page_size (own_page leaf_view page_size run n)
 leaf_own page_size run sized all fits n some h =
     let size = items_size page_size run all n in
     let long = length-elements run n in

@@ -15,7 +15,7 @@ use Rattle.bolt_bulk.proofs.Parts.{AreParts, IsPart, part_page, spot_in}
 use Rattle.bolt_bulk.specs.Laid.{Laid, Placed, elements_of, first_key, numbers_of, pages_of}
 use Rattle.bolt_bulk.specs.Levels.{leaf_view, page_over, run_overflow}
 use Rattle.bolt_bulk.proofs.LaidPages.{AreNodes, HasPages, limit, page_has}
-use Rattle.bolt_bulk.proofs.LaidItems.{IsItem, leaf_own}
+use Rattle.bolt_bulk.proofs.LaidItems.{IsItem, leaf_own, leaf_own_room}
 
 -- What holds of the page over a row.
 pub record IsPage (page_size height : ℕ) (page : Laid BranchElement) (leaves : List (Laid LeafElement)) : Type 0 where
@@ -89,7 +89,8 @@ items_have page_size items = all_weaker (IsItem page_size) (HasPages page_size) 
 pub leaf_page : (page_size : ℕ) (leaves : List (Laid LeafElement)) → 0 < page_size → AllByRecursion (IsItem page_size) leaves → Rise leaves → IsRun leaves
     → IsPage page_size 0 (page_over leaf_view page_size leaves) leaves
 leaf_page page_size leaves sized all rise fits = record {
-  pages = page_has page_size leaf_view leaves (items_have page_size leaves all) (λ further es. refl) (leaf_own page_size leaves sized all fits);
+  pages = page_has page_size leaf_view leaves (items_have page_size leaves all) (λ further es. refl) (leaf_own_room page_size leaves sized all)
+      (leaf_own page_size leaves sized all fits);
   some = omega arith;
   size = refl;
   first = λ x rest e. ap (λ (r : List (Laid LeafElement)). first_key r) e;

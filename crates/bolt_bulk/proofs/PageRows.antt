@@ -8,7 +8,7 @@ use Rattle.bolt_format.specs.Headers.{kind_of}
 use Rattle.bolt_format.specs.declared.kind.Kind.{Kind}
 use Rattle.bolt_format.specs.declared.kind.Kind.TheVariants as kind
 use Rattle.bolt_format.specs.declared.meta.Meta.{Meta}
-use Rattle.bolt_bulk.specs.PageBytes.{branch_data, branch_bytes, header_bytes, leaf_bytes, leaf_data, page_bytes}
+use Rattle.bolt_bulk.specs.PageBytes.{branch_data, branch_bytes, content_bytes, header_bytes, leaf_bytes, leaf_data, page_bytes}
 use Rattle.bolt_bulk.specs.Layout.{placed_bytes}
 use Rattle.bolt_bulk.proofs.NumberLemmas.{part_next, part_within}
 use Rattle.bolt_bulk.proofs.LeafLemmas.{IsLeafFit}
@@ -56,31 +56,36 @@ pub record IsBranchPage (page_size : ℕ) (view : PageView) : Type 0 where
 abbrev pub IsPageFit : ℕ → Placed → Type 0
 IsPageFit page_size page = IsLeafPage page_size page.view ⊎ IsBranchPage page_size page.view
 
-length-leaf_page : (page_size number further : ℕ) (es : List LeafElement) → 16 + (16 * length es + length (leaf_data es)) ≤ (1 + further) * page_size
-    → length (page_bytes page_size number (leaf_view further es)) ≡ (1 + further) * page_size
-unfolding page_bytes
-length-leaf_page page_size number further es room =
+-- A page has room for what stands on it,
+abbrev pub HasRoom : ℕ → Placed → Type 0
+HasRoom page_size page = length (content_bytes page.view.kind page.number page.view) ≤ (1 + page.view.overflow) * page_size
+
+pub leaf_room : (page_size number further : ℕ) (es : List LeafElement) → 16 + (16 * length es + length (leaf_data es)) ≤ (1 + further) * page_size
+    → HasRoom page_size (record { number = number; view = leaf_view further es })
+leaf_room page_size number further es room =
     let a = length-header_bytes number 2 (length es) further in
     let b = length-leaf_bytes es in
-    let c = length-append (header_bytes number 2 (length es) further) (leaf_bytes es) in
-    length-filled ((1 + further) * page_size) (header_bytes number 2 (length es) further ++ leaf_bytes es) (omega arith)
+    let c = length-append (header_bytes number 2 (length es) further) (leaf_bytes es) in omega arith
 
-length-branch_page : (page_size number further : ℕ) (es : List BranchElement) → 16 + (16 * length es + length (branch_data es)) ≤ (1 + further) * page_size
-    → length (page_bytes page_size number (branch_view further es)) ≡ (1 + further) * page_size
-unfolding page_bytes
-length-branch_page page_size number further es room =
+pub branch_room : (page_size number further : ℕ) (es : List BranchElement) → 16 + (16 * length es + length (branch_data es)) ≤ (1 + further) * page_size
+    → HasRoom page_size (record { number = number; view = branch_view further es })
+branch_room page_size number further es room =
     let a = length-header_bytes number 1 (length es) further in
     let b = length-branch_bytes es in
-    let c = length-append (header_bytes number 1 (length es) further) (branch_bytes es) in
-    length-filled ((1 + further) * page_size) (header_bytes number 1 (length es) further ++ branch_bytes es) (omega arith)
+    let c = length-append (header_bytes number 1 (length es) further) (branch_bytes es) in omega arith
 
-length-page : (page_size : ℕ) (page : Placed) → IsPageFit page_size page → length (page_bytes page_size page.number page.view) ≡ (1 + page.view.overflow) * page_size
-length-page page_size page (inl leaf) =
-    let P : PageView → Type 0 = λ view. length (page_bytes page_size page.number view) ≡ (1 + view.overflow) * page_size in
-    subst P (sym leaf.is) (length-leaf_page page_size page.number leaf.further leaf.es leaf.room)
-length-page page_size page (inr branch) =
-    let P : PageView → Type 0 = λ view. length (page_bytes page_size page.number view) ≡ (1 + view.overflow) * page_size in
-    subst P (sym branch.is) (length-branch_page page_size page.number branch.further branch.es branch.room)
+fit_room : (page_size : ℕ) (page : Placed) → IsPageFit page_size page → HasRoom page_size page
+fit_room page_size page (inl leaf) =
+    let P : PageView → Type 0 = λ view. HasRoom page_size (record { number = page.number; view = view }) in
+    subst P (sym leaf.is) (leaf_room page_size page.number leaf.further leaf.es leaf.room)
+fit_room page_size page (inr branch) =
+    let P : PageView → Type 0 = λ view. HasRoom page_size (record { number = page.number; view = view }) in
+    subst P (sym branch.is) (branch_room page_size page.number branch.further branch.es branch.room)
+
+-- and so it takes as many bytes as its span.
+length-page : (page_size : ℕ) (page : Placed) → HasRoom page_size page → length (page_bytes page_size page.number page.view) ≡ (1 + page.view.overflow) * page_size
+unfolding page_bytes
+length-page page_size page room = length-filled ((1 + page.view.overflow) * page_size) (content_bytes page.view.kind page.number page.view) room
 
 page_shown : (file : List ℕ) (meta : Meta) (page : Placed) (rest : List ℕ) → IsPageFit meta.page_size page
     → drop (page.number * meta.page_size) file ≡ page_bytes meta.page_size page.number page.view ++ rest
@@ -120,7 +125,7 @@ row_shown file meta from to (page ∷ pages) rest row fits h within below small 
     let number : page.number ≡ from = row.0 in
     let place : page.number * size ≡ from * size = ap (λ (n : ℕ). n * size) number in
     let h2 : drop (from * size) file ≡ page_bytes size page.number page.view ++ (placed_bytes size pages ++ rest) = h ∙ append_assoc (page_bytes size page.number page.view) (placed_bytes size pages) rest in
-    let long = length-page size page fits.0 in
+    let long = length-page size page (fit_room size page fits.0) in
     let here : drop (page.number * size) file ≡ page_bytes size page.number page.view ++ (placed_bytes size pages ++ rest) = ap (λ (n : ℕ). drop n file) place ∙ h2 in
     let end : (from + (1 + page.view.overflow)) * size ≡ from * size + (1 + page.view.overflow) * size = add-mul from (1 + page.view.overflow) size in
     let w = part_within file (page_bytes size page.number page.view) (placed_bytes size pages ++ rest) (from * size) h2 within in
@@ -132,7 +137,7 @@ row_shown file meta from to (page ∷ pages) rest row fits h within below small 
     )
 
 -- and take as many bytes as their spans
-pub length-placed : (page_size from to : ℕ) (pages : List Placed) → IsInARow from pages to → AllByRecursion (IsPageFit page_size) pages
+pub length-placed : (page_size from to : ℕ) (pages : List Placed) → IsInARow from pages to → AllByRecursion (HasRoom page_size) pages
     → length (placed_bytes page_size pages) + from * page_size ≡ to * page_size
 length-placed page_size from to [] row fits = let e = ap (λ (n : ℕ). n * page_size) row in omega arith
 length-placed page_size from to (page ∷ pages) row fits =
@@ -153,7 +158,7 @@ pub last_written : (file : List ℕ) (page_size from to : ℕ) (front : List Pla
 last_written file page_size from to [] own rest row fits h =
     (fits.0, ap (λ (n : ℕ). drop (n * page_size) file) row.0 ∙ (h ∙ (append_assoc (page_bytes page_size own.number own.view) [] rest)))
 last_written file page_size from to (page ∷ front) own rest row fits h =
-    let long = length-page page_size page fits.0 in
+    let long = length-page page_size page (fit_room page_size page fits.0) in
     let h2 = h ∙ append_assoc (page_bytes page_size page.number page.view) (placed_bytes page_size (front ++ own ∷ [])) rest in
     let end : (from + (1 + page.view.overflow)) * page_size ≡ from * page_size + (1 + page.view.overflow) * page_size = add-mul from (1 + page.view.overflow) page_size in
     let behind = part_next file (page_bytes page_size page.number page.view) (placed_bytes page_size (front ++ own ∷ []) ++ rest) (from * page_size) ((from + (1 + page.view.overflow)) * page_size) h2 (omega arith) in

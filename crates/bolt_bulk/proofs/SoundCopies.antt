@@ -7,7 +7,7 @@ use Rattle.bolt_format.specs.declared.meta.Slot.TheVariants.{One}
 use Rattle.bolt_tree.specs.Entries.{IsEntry, Root_page, Start}
 use Rattle.bolt_tree.specs.Listing.{Lists, Member}
 use Rattle.bolt_tree.specs.Tree.{IsTreeOf, Tree, listing_of, tree_of}
-use Rattle.bolt_bulk.specs.Copies.{HasLength, IsAsked, IsOfOneTree, IsSoundCopy, layout_of_listing}
+use Rattle.bolt_bulk.specs.Copies.{IsAsked, IsOfOneTree, IsSoundCopy, layout_of_listing}
 use Rattle.bolt_bulk.specs.Items.{root_of}
 use Rattle.bolt_bulk.specs.Laid.{Placed}
 use Rattle.bolt_bulk.specs.Layout.{layout_meta, layout_of, layout_pages, layout_root}
@@ -16,7 +16,7 @@ use Rattle.bolt_bulk.proofs.Holding.{ArePages}
 use Rattle.bolt_bulk.proofs.ListLemmas.{all_weaker}
 use Rattle.bolt_bulk.proofs.MetaLemmas.{size_bounds}
 use Rattle.bolt_bulk.proofs.Showing.{root_tree}
-use Rattle.bolt_bulk.proofs.Soundness.{IsSoundLayout, PassingIsSound, laid_out, layout_long, layout_sound}
+use Rattle.bolt_bulk.proofs.Soundness.{IsSoundLayout, PassingIsSound, laid_out, layout_sound}
 use Rattle.bolt_bulk.proofs.SpanLemmas.{IsShown}
 
 -- what a bucket's tree lists is the bucket's listing
@@ -37,8 +37,7 @@ layout_tree page_size tree sequence size storable sound =
 pub sound_copy : PassingIsSound → TreeLists → (page_size : ℕ) (tree : Tree) (sequence : ℕ) → IsAsked page_size tree sequence
     → length (layout_of page_size tree sequence) < 2 ^ 63 → IsSoundCopy page_size tree sequence (listing_of tree)
 sound_copy passing lists page_size tree sequence asked short =
-    let long = layout_long page_size tree sequence asked.size asked.storable in
-    let sound = layout_sound passing page_size tree sequence asked.size (laid_out page_size tree sequence asked.size asked.storable asked.sequence_fits (omega arith)) in
+    let sound = layout_sound passing page_size tree sequence asked.size (laid_out page_size tree sequence asked.size asked.storable asked.sequence_fits short) in
     let file = layout_of page_size tree sequence in
     let meta = layout_meta page_size tree sequence 1 in
     record {
@@ -46,12 +45,6 @@ sound_copy passing lists page_size tree sequence asked short =
       sound = record { slot = One; valid = sound.chosen.valid; trees = sound.trees; right = λ tested. sound.accounts };
       lists = lists file meta (Root_page (layout_root page_size tree)) tree (layout_tree page_size tree sequence asked.size asked.storable sound);
     }
-
-pub layout_length : (page_size : ℕ) (tree : Tree) (sequence : ℕ) → IsAsked page_size tree sequence → HasLength page_size tree (layout_of page_size tree sequence)
-layout_length page_size tree sequence asked = record {
-  least = layout_long page_size tree sequence asked.size asked.storable;
-  exact = λ short. (laid_out page_size tree sequence asked.size asked.storable asked.sequence_fits short).long;
-}
 
 -- the copy of what has a listing lists it again
 abbrev pub LayoutsAreSound : Type 0

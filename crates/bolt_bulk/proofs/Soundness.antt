@@ -1,9 +1,9 @@
 -- The layout of a tree is a sound file.
 use Rattle.std.proofs.Common.{◌≡◌, ◌≢◌, ◌∙◌, ℕ, ◌+◌, ◌-◌, ◌*◌, ◌^◌, ◌<◌, ◌≤◌, List, [], ◌∷◌, ◌++◌, length, drop, replicate, Option, Some, None, refl, sym, ap, subst, inl, inr, arith, append_assoc}
 use Rattle.std.specs.List.{AllByRecursion}
-use Rattle.std.proofs.Math.Nat.{add-mul, mul-le-mul_left}
+use Rattle.std.proofs.Math.Nat.{mul-le-mul_left}
 use Rattle.std.proofs.lemmas.Bool.{cases_lt}
-use Rattle.std.proofs.lemmas.List.{append-nil, length-append, length-replicate}
+use Rattle.std.proofs.lemmas.List.{append-nil, length-append}
 use Rattle.bolt_format.specs.Freelists.{free_ids_of, freelist_fault_of}
 use Rattle.bolt_format.specs.Metas.{IsChosen, IsMeta, IsPageSize}
 use Rattle.bolt_format.specs.Pages.{PageView, page_fault, page_overflow}
@@ -14,7 +14,7 @@ use Rattle.bolt_check.specs.Accounts.{IsInUse, ListsFree, times_in}
 use Rattle.bolt_check.specs.Nodes.{node_at, node_of, node_seen}
 use Rattle.bolt_check.specs.Sound.{HasRightAccounts, HasSoundTrees, IsUsed, PassesTests}
 use Rattle.bolt_check.specs.Ways.{At_page, start_of}
-use Rattle.bolt_bulk.specs.PageBytes.{content_bytes, freelist_page, header_bytes, meta_bytes, meta_page, page_bytes}
+use Rattle.bolt_bulk.specs.PageBytes.{freelist_page, header_bytes, meta_bytes, meta_page}
 use Rattle.bolt_bulk.specs.Layout.{file_bytes, layout_mark, layout_meta, layout_of, layout_pages, layout_root, placed_bytes}
 use Rattle.bolt_bulk.proofs.NumberLemmas.{part_next}
 use Rattle.bolt_bulk.proofs.PageLemmas.{length-header_bytes}
@@ -48,22 +48,6 @@ meta_begins page_size root sequence mark txid rest =
 length-freelist_page : (page_size number : ℕ) → 16 ≤ page_size → length (freelist_page page_size number) ≡ page_size
 unfolding freelist_page
 length-freelist_page page_size number room = let a = length-header_bytes number 16 0 0 in length-filled page_size (header_bytes number 16 0 0) (omega arith)
-
-page_long : (page_size number : ℕ) (view : PageView) → (1 + view.overflow) * page_size ≤ length (page_bytes page_size number view)
-unfolding page_bytes
-page_long page_size number view =
-    let content : List ℕ = content_bytes view.kind number view in
-    let n : ℕ = (1 + view.overflow) * page_size in
-    let a = length-append content (replicate (n - length content) 0) in
-    let b = length-replicate {A = ℕ} (n - length content) 0 in omega arith
-
-placed_long : (page_size from to : ℕ) (pages : List Placed) → IsInARow from pages to → to * page_size ≤ length (placed_bytes page_size pages) + from * page_size
-placed_long page_size from to [] row = let e = ap (λ (n : ℕ). n * page_size) row in omega arith
-placed_long page_size from to (page ∷ pages) row =
-    let ih = placed_long page_size (from + (1 + page.view.overflow)) to pages row.1 in
-    let one = page_long page_size page.number page.view in
-    let end : (from + (1 + page.view.overflow)) * page_size ≡ from * page_size + (1 + page.view.overflow) * page_size = add-mul from (1 + page.view.overflow) page_size in
-    let l = length-append (page_bytes page_size page.number page.view) (placed_bytes page_size pages) in omega arith
 
 -- Where the pieces stand in a file.
 pub record IsFile (page_size root sequence mark : ℕ) (pages : List Placed) (file : List ℕ) : Type 0 where
@@ -168,11 +152,11 @@ pub record IsLaidOut (page_size : ℕ) (tree : Tree) (sequence : ℕ) : Type 0 w
   pub low : height ≤ 63
   pub page : IsPage page_size height (root_over page_size (items_of page_size tree)) (items_of page_size tree)
 
--- it has as many bytes as its pages at least
-pub layout_long : (page_size : ℕ) (tree : Tree) (sequence : ℕ) → IsPageSize page_size → IsStorable tree
-    → layout_mark page_size tree * page_size ≤ length (layout_of page_size tree sequence)
+-- it has as many bytes as its pages
+pub layout_length : (page_size : ℕ) (tree : Tree) (sequence : ℕ) → IsPageSize page_size → IsStorable tree
+    → length (layout_of page_size tree sequence) ≡ layout_mark page_size tree * page_size
 unfolding layout_of root_of
-layout_long page_size tree sequence size storable =
+layout_length page_size tree sequence size storable =
     let bounds = size_bounds page_size size in
     let items = items_of page_size tree in
     let all = tree_items page_size (omega arith) (omega arith) tree storable.lengths storable.rising_inside in
@@ -181,7 +165,7 @@ layout_long page_size tree sequence size storable =
     let pages : List Placed = layout_pages page_size tree in
     let root : ℕ = layout_root page_size tree in
     let mark : ℕ = layout_mark page_size tree in
-    let enough = placed_long page_size 3 mark pages (page.pages.row 3) in
+    let exact = length-placed page_size 3 mark pages (page.pages.row 3) (page.pages.room 3) in
     let m0 : List ℕ = meta_page page_size root sequence mark 0 in
     let m1 : List ℕ = meta_page page_size root sequence mark 1 in
     let fl : List ℕ = freelist_page page_size 2 in
@@ -194,9 +178,10 @@ layout_long page_size tree sequence size storable =
     let c = length-append fl rest in omega arith
 
 pub laid_out : (page_size : ℕ) (tree : Tree) (sequence : ℕ) → IsPageSize page_size → IsStorable tree → sequence < 2 ^ 64
-    → layout_mark page_size tree * page_size < 2 ^ 63 → IsLaidOut page_size tree sequence
+    → length (layout_of page_size tree sequence) < 2 ^ 63 → IsLaidOut page_size tree sequence
 unfolding layout_of root_of
 laid_out page_size tree sequence size storable sized short =
+    let exact = layout_length page_size tree sequence size storable in
     let bounds = size_bounds page_size size in
     let items = items_of page_size tree in
     let all = tree_items page_size (omega arith) (omega arith) tree storable.lengths storable.rising_inside in
@@ -210,8 +195,7 @@ laid_out page_size tree sequence size storable sized short =
     let wide : mark * 1024 ≤ mark * page_size = mul-le-mul_left mark (omega arith) in
     let stand = pieces_stand page_size root sequence mark pages size (omega arith) (omega arith) (omega arith) in
     let long = stand.long in
-    let fits = page.pages.room 3 (omega arith) (omega arith) in
-    let exact = length-placed page_size 3 mark pages row fits in
+    let fits = page.pages.fits 3 (omega arith) (omega arith) in
     record {
       room = omega arith;
       fits = record { size = size; root_fits = omega arith; sequence_fits = omega arith; mark_fits = omega arith; txid_fits = omega arith };
@@ -220,7 +204,7 @@ laid_out page_size tree sequence size storable sized short =
       row = row;
       pages = fits;
       file = stand;
-      long = omega arith;
+      long = exact;
       last = page.last 3;
       height = height;
       low = low (omega arith);

@@ -34,7 +34,7 @@ use Rattle.bolt_tree.specs.Tree.{Tree, end, with_bucket, with_value}
 -- a value
 value_item : (page_size : ℕ) (key value : List ℕ) → 1 ≤ length key → length key ≤ 0x40000000 → length value ≤ 0x7FFFFFFE → IsItem page_size (leaf_item key value false)
 value_item page_size key value some short sized = record {
-  pages = record { row = λ n. omega arith; room = λ n any h. tt };
+  pages = record { row = λ n. omega arith; room = λ n. tt; fits = λ n any h. tt };
   some = some;
   short = short;
   most = omega arith;
@@ -110,7 +110,7 @@ inline_item page_size key sequence inside small some short sized lengths all ris
     let keys = items_keys page_size items all None None None 0 rise (above_none items) (within_none items) in
     let named : map (λ (i : LeafElement). i.key) (inline_elements value) ≡ keys_of (map leaf_entry es) = ap (λ (x : List LeafElement). map (λ (i : LeafElement). i.key) x) written.3 ∙ sym (keys_same es) in
     record {
-      pages = record { row = λ n. omega arith; room = λ n any h. tt };
+      pages = record { row = λ n. omega arith; room = λ n. tt; fits = λ n any h. tt };
       some = some;
       short = short;
       most = omega arith;
@@ -149,6 +149,7 @@ root_item page_size key sequence items sized small some short narrow all rise =
       pages = record {
         row = page.pages.row;
         room = page.pages.room;
+        fits = page.pages.fits;
       };
       some = some;
       short = short;

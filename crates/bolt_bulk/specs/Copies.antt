@@ -1,5 +1,5 @@
 -- What a layout promises: docs/LAYOUT.md, "What holds of it".
-use Rattle.std.specs.Prelude.{◌≡◌, ◌≤◌, ◌<◌, ◌^◌, ◌*◌, ℕ, true, List, length, take}
+use Rattle.std.specs.Prelude.{◌≡◌, ◌≤◌, ◌<◌, ◌^◌, ℕ, true, List, length, take}
 use Rattle.bolt_format.specs.Metas.{IsChosen, IsPageSize}
 use Rattle.bolt_format.specs.declared.fault.TheConstants.PageFault.{CUT}
 use Rattle.bolt_format.specs.declared.meta.MetaFault.TheVariants.{Cut}
@@ -9,7 +9,7 @@ use Rattle.bolt_check.specs.Sound.{IsRefused, IsSound}
 use Rattle.bolt_check.specs.declared.fault.CheckFault.TheVariants.{Open, Structure}
 use Rattle.bolt_tree.specs.Listing.{IsListing, Member}
 use Rattle.bolt_tree.specs.Tree.{Tree, listing_of, tree_of}
-use Rattle.bolt_bulk.specs.Layout.{layout_mark, layout_meta, layout_of}
+use Rattle.bolt_bulk.specs.Layout.{layout_meta, layout_of}
 use Rattle.bolt_bulk.specs.Storable.{IsStorable}
 
 -- the meta of slot one is in force in the layout, which is sound for it, trees and accounts, and has this listing
@@ -23,11 +23,6 @@ pub record IsAsked (page_size : ℕ) (tree : Tree) (sequence : ℕ) : Type 0 whe
   pub size : IsPageSize page_size
   pub storable : IsStorable tree
   pub sequence_fits : sequence < 2 ^ 64
-
--- it has as many bytes as its pages at least, and where those are below 2^63 just as many
-pub record HasLength (page_size : ℕ) (tree : Tree) (layout : List ℕ) : Type 0 where
-  pub least : layout_mark page_size tree * page_size ≤ length layout
-  pub exact : layout_mark page_size tree * page_size < 2 ^ 63 → length layout ≡ layout_mark page_size tree * page_size
 
 -- A layout that is cut short anywhere is refused: it has no meta, or the first finding is that its root page is cut off.
 pub record RefusesBeginnings (layout : List ℕ) (root : ℕ) : Type 0 where

@@ -1,5 +1,5 @@
 //! What holds of the layout of a tree: docs/LAYOUT.md, "What holds of it".
-ghost use Rattle.std.specs.Prelude.{◌≤◌, ◌<◌, ◌^◌, ℕ, List, length};
+ghost use Rattle.std.specs.Prelude.{◌≡◌, ◌≤◌, ◌<◌, ◌*◌, ◌^◌, ℕ, List, length};
 ghost use Rattle.bolt_format.specs.Elements.{BranchElement, LeafElement};
 ghost use Rattle.bolt_format.specs.Bytes.{IsBytes};
 ghost use Rattle.bolt_format.specs.Metas.{IsPageSize};
@@ -8,10 +8,10 @@ ghost use Rattle.bolt_check.specs.Sound.{HasSoundTrees};
 ghost use Rattle.bolt_tree.specs.Entries.{IsEntry, Root_page};
 ghost use Rattle.bolt_tree.specs.Listing.{IsListing, Member};
 ghost use Rattle.bolt_tree.specs.Tree.{IsTreeOf, Tree, listing_of, tree_of};
-ghost use Rattle.bolt_bulk.specs.Copies.{HasLength, IsAsked, IsOfOneTree, IsSoundCopy, RefusesBeginnings, layout_of_listing};
+ghost use Rattle.bolt_bulk.specs.Copies.{IsAsked, IsOfOneTree, IsSoundCopy, RefusesBeginnings, layout_of_listing};
 ghost use Rattle.bolt_bulk.specs.Cut.{CutIsOne};
 ghost use Rattle.bolt_bulk.specs.Laid.{Laid};
-ghost use Rattle.bolt_bulk.specs.Layout.{layout_of, layout_root};
+ghost use Rattle.bolt_bulk.specs.Layout.{layout_mark, layout_of, layout_root};
 ghost use Rattle.bolt_bulk.specs.Levels.{IsOverflow, TopIsAbove, overflow_of};
 ghost use Rattle.bolt_bulk.specs.Storable.{IsStorable};
 
@@ -31,7 +31,7 @@ pub fn layout_is_sound()
 
 /// It has as many bytes as its pages.
 pub fn layout_has_length()
-    ensures { (page_size : ℕ) (tree : Tree) (sequence : ℕ) → IsAsked page_size tree sequence → HasLength page_size tree (layout_of page_size tree sequence) }
+    ensures { (page_size : ℕ) (tree : Tree) (sequence : ℕ) → IsPageSize page_size → IsStorable tree → length (layout_of page_size tree sequence) ≡ layout_mark page_size tree * page_size }
 {}
 
 /// Where it is cut short anywhere, it is refused.

@@ -1,4 +1,4 @@
-use Rattle.bolt_bulk.proofs.SoundCopies.{layout_length}
+use Rattle.bolt_bulk.proofs.Soundness.{layout_length}
 use Rattle.bolt_bulk.proofs.laws.layout_has_length.Goals as goal
 
 pub returns : goal.returns
