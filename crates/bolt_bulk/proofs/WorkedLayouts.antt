@@ -1,6 +1,6 @@
 -- Worked layouts: the whole bytes by their checksum, the root page and the mark. The figures are those of another program that goes by
 -- docs/LAYOUT.md.
-use Rattle.std.proofs.Common.{◌≡◌, ℕ, ◌+◌, ◌/◌, ◌%◌, List, [], ◌∷◌, replicate, refl}
+use Rattle.std.proofs.Common.{◌≡◌, ◌==◌, ℕ, ◌+◌, ◌/◌, ◌%◌, if◌then◌else◌, List, [], ◌∷◌, replicate, refl}
 use Rattle.std.specs.List.{range_with_len}
 use Rattle.bolt_format.specs.Bytes.{fnv_of, fnv_step}
 use Rattle.bolt_tree.specs.Tree.{Tree, end, with_bucket, with_value}
@@ -66,6 +66,18 @@ overfull_leaf = with_bucket (98 ∷ []) 0 (with_value (97 ∷ []) (replicate 959
 abbrev pub many_buckets : Tree
 many_buckets = with_bucket (97 ∷ []) 3 (with_bucket (120 ∷ []) 9 (with_value (107 ∷ []) (replicate 300 118) end) (with_value (121 ∷ []) (49 ∷ []) (with_bucket (122 ∷ []) 2 end end))) (with_bucket (97 ∷ 97 ∷ []) 0 end (with_value (98 ∷ []) [] (with_bucket (99 ∷ []) 18446744073709551615 (with_value (113 ∷ []) (replicate 2000 119) end) end)))
 
+-- a hundred entries, among them buckets of both kinds, below three levels
+abbrev entries : List ℕ → Tree
+entries [] = end
+entries (n ∷ numbers) =
+    let key = (48 + n / 10) ∷ (48 + n % 10) ∷ replicate 58 107 in
+    let large = with_bucket key n (with_value (107 ∷ []) (replicate 300 118) end) (entries numbers) in
+    let small = with_bucket key n (with_value (107 ∷ []) (n ∷ []) end) (entries numbers) in
+    if n % 17 == 0 then large else (if n % 10 == 3 then small else with_value key (replicate 100 n) (entries numbers))
+
+abbrev hundred : Tree
+hundred = entries (range_with_len 0 100)
+
 layouts_are :
     IsWorked 4096 no_entries 0 9737331009492300045 3 4
     × IsWorked 4096 one_inline 0 8906171419981019676 3 4
@@ -80,8 +92,10 @@ layouts_are :
     × IsWorked 1024 filled_leaf 0 2990879556654988314 5 6
     × IsWorked 1024 overfull_leaf 0 6573129876057791784 7 8
     × IsWorked 1024 many_buckets 5 11628926834878968518 7 8
+    × IsWorked 1024 hundred 77 18415106701196619101 29 30
 unfolding fnv_of fnv_step overflow_of root_of root_over layout_of branch_bytes branch_header freelist_page header_bytes inline_value leaf_bytes leaf_header meta_bytes meta_page meta_record number_bytes page_bytes root_value
 layouts_are = (
+  (refl, refl, refl),
   (refl, refl, refl),
   (refl, refl, refl),
   (refl, refl, refl),

@@ -11,8 +11,15 @@ ghost use Rattle.bolt_format.specs.declared.meta.Meta.{Meta};
 /// a bucket on a good leaf has a good value, no element of an inline bucket is a bucket, and the
 /// values of a file are bytes.
 pub fn good_elements_fit()
-    ensures leaf { (file : List ℕ) (meta : Meta) (id : ℕ) (view : PageView) (e : LeafElement) → page_at file meta id ≡ Some view → view.kind ≡ kind.Leaf → Contains view.leaves e → HasFitLengths e }
-    ensures bucket { (file : List ℕ) (meta : Meta) (id : ℕ) (view : PageView) (e : LeafElement) → page_at file meta id ≡ Some view → view.kind ≡ kind.Leaf → Contains view.leaves e → IsTrue e.is_bucket → IsBucketValue e.value }
-    ensures bytes { (file : List ℕ) (meta : Meta) (id : ℕ) (view : PageView) (e : LeafElement) → IsBytes file → page_at file meta id ≡ Some view → view.kind ≡ kind.Leaf → Contains view.leaves e → IsBytes e.value }
-    ensures inline { (value : List ℕ) (e : LeafElement) → IsBucketValue value → head_root value ≡ 0 → Contains (inline_elements value) e → HasFitLengths e × (e.is_bucket ≡ false) }
+    ensures leaf { (file : List ℕ) (meta : Meta) (id : ℕ) (view : PageView) (e : LeafElement)
+        → page_at file meta id ≡ Some view → view.kind ≡ kind.Leaf → Contains view.leaves e
+        → HasFitLengths e }
+    ensures bucket { (file : List ℕ) (meta : Meta) (id : ℕ) (view : PageView) (e : LeafElement)
+        → page_at file meta id ≡ Some view → view.kind ≡ kind.Leaf → Contains view.leaves e
+        → IsTrue e.is_bucket → IsBucketValue e.value }
+    ensures bytes { (file : List ℕ) (meta : Meta) (id : ℕ) (view : PageView) (e : LeafElement)
+        → IsBytes file → page_at file meta id ≡ Some view → view.kind ≡ kind.Leaf → Contains view.leaves e
+        → IsBytes e.value }
+    ensures inline { (value : List ℕ) (e : LeafElement) → IsBucketValue value → head_root value ≡ 0
+        → Contains (inline_elements value) e → HasFitLengths e × (e.is_bucket ≡ false) }
 {}

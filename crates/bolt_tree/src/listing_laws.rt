@@ -22,9 +22,10 @@ pub fn listing_is_of_a_tree()
         → (tree : Tree) × IsTreeOf (IsEntry file meta) (Root_page meta.root) tree × (listing ≡ listing_of tree) }
 {}
 
-/// What lists a bucket is what the tree of the bucket lists.
+/// What a bucket's tree lists is the listing of the bucket.
 pub fn a_tree_lists_its_bucket()
-    ensures { (file : List ℕ) (meta : Meta) (bucket : Start) (tree : Tree) → IsTreeOf (IsEntry file meta) bucket tree → Lists (IsEntry file meta) bucket (listing_of tree) }
+    ensures { (file : List ℕ) (meta : Meta) (bucket : Start) (tree : Tree) → IsTreeOf (IsEntry file meta) bucket tree
+        → Lists (IsEntry file meta) bucket (listing_of tree) }
 {}
 
 /// A tree is read off its listing.
