@@ -8,6 +8,9 @@ pub first_of-none : (a b : Option ℕ) → first_of a b ≡ None → (a ≡ None
 first_of-none None b e = (refl, e)
 first_of-none (Some fault) b e = absurd (cc)
 
+pub first_of-both : (a b : Option ℕ) → a ≡ None → b ≡ None → first_of a b ≡ None
+first_of-both a b e f = rw (e, f) refl
+
 -- element i, and then the rest
 pub faults_from_step : (fault : ℕ → ℕ → Option ℕ) (end : ℕ → ℕ) (free i count : ℕ) → i < count
     → faults_from fault end free i (count - i) ≡ first_of (fault free i) (faults_from fault end (end i) (i + 1) (count - (i + 1)))

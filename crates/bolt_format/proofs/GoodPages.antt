@@ -17,12 +17,12 @@ use Rattle.bolt_format.specs.declared.kind.Kind.{Kind}
 use Rattle.bolt_format.proofs.FaultLemmas.{first_of-none}
 
 -- a test that told nothing
-guard-none : (test : Bool) (fault : ℕ) (next : Option ℕ) → cond test (Some fault) next ≡ None → (test ≡ false) × (next ≡ None)
+pub guard-none : (test : Bool) (fault : ℕ) (next : Option ℕ) → cond test (Some fault) next ≡ None → (test ≡ false) × (next ≡ None)
 guard-none true fault next e = absurd (cc)
 guard-none false fault next e = (refl, e)
 
 -- none of n elements from i on has a fault
-faults_from-none : (fault : ℕ → ℕ → Option ℕ) (end : ℕ → ℕ) (free i n : ℕ) → faults_from fault end free i n ≡ None
+pub faults_from-none : (fault : ℕ → ℕ → Option ℕ) (end : ℕ → ℕ) (free i n : ℕ) → faults_from fault end free i n ≡ None
     → (k : ℕ) → i ≤ k → k < i + n → (before : ℕ) × (fault before k ≡ None)
 faults_from-none fault end free i zero e k low high = absurd (omega arith)
 faults_from-none fault end free i (suc n) e k low high =
@@ -52,7 +52,7 @@ good_branch bytes count i e h =
     (omega (arith, table), data-none bytes before (branch_key_start bytes i) _ (first_of-none (key_length_fault (branch_key_length bytes i)) _ one).1)
 
 -- a plain element ends within the bytes
-plain-none : (bytes : List ℕ) (free i : ℕ) → plain_leaf_fault bytes free i ≡ None → leaf_end bytes i ≤ length bytes
+pub plain-none : (bytes : List ℕ) (free i : ℕ) → plain_leaf_fault bytes free i ≡ None → leaf_end bytes i ≤ length bytes
 unfolding plain_leaf_fault
 plain-none bytes free i e =
     let flags = first_of-none (leaf_flags_fault (leaf_flags bytes i)) _ e in
@@ -142,7 +142,7 @@ not-some : (o : Option ℕ) → is_some o ≡ false → o ≡ None
 not-some None e = refl
 not-some (Some x) e = absurd (cc)
 
-neither : (a b : Bool) → (a || b) ≡ false → (a ≡ false) × (b ≡ false)
+pub neither : (a b : Bool) → (a || b) ≡ false → (a ≡ false) × (b ≡ false)
 neither false b e = (refl, e)
 neither true b e = absurd (cc)
 

@@ -1,3 +1,4 @@
+pub mod ElementFacts
 pub mod FaultLemmas
 mod FreeLemmas
 mod GoodPages

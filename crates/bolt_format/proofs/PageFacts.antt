@@ -2,7 +2,7 @@
 use Rattle.std.proofs.Common.{◌≡◌, ◌∙◌, ◌<◌, ℕ, List, true, false, Option, Some, None, IsSome, length, map, get_or, arith, ap, refl, sym, subst}
 use Rattle.std.specs.List.{Contains, range_with_len}
 use Rattle.std.proofs.lemmas.List.FromFn.{get_or-map-range_with_len, length-map-range_with_len}
-use Rattle.bolt_format.specs.Elements.{IsBucketValue, LeafElement, head_root, inline_bytes, inline_elements, leaf_element, leaf_elements, leaves_fault, value_fault}
+use Rattle.bolt_format.specs.Elements.{IsBucketValue, LeafElement, head_fault, head_root, inline_bytes, inline_elements, leaf_element, leaf_elements, leaves_fault, value_fault}
 use Rattle.bolt_format.specs.Headers.{count_field, flags_field, kind_of}
 use Rattle.bolt_format.specs.Pages.{PageView, fault_as, from_page, page_at, page_fault, page_overflow, shown_as, span_bytes, span_fault, view_of}
 use Rattle.bolt_format.specs.declared.meta.Meta.{Meta}
@@ -43,23 +43,47 @@ leaves_good None (Some kind.Freelist) count overflow bytes view e leaf good =
 is_some_of : (o : Option PageView) (view : PageView) → o ≡ Some view → IsSome o
 is_some_of o view e = rw e refl
 
--- a bucket on it has a good value
-pub bucket_value : (file : List ℕ) (meta : Meta) (id : ℕ) (view : PageView) (e : LeafElement) → page_at file meta id ≡ Some view → view.kind ≡ kind.Leaf → Contains view.leaves e
-    → e.is_bucket ≡ true → IsBucketValue e.value
+-- an element on it is one of good elements
+pub record IsOnLeaf (file : List ℕ) (meta : Meta) (id : ℕ) (e : LeafElement) : Type 0 where
+  pub i : ℕ
+  pub low : i < count_field (from_page file meta id)
+  pub same : e ≡ leaf_element (span_bytes file meta id) i
+  pub good : leaves_fault value_fault (span_bytes file meta id) (count_field (from_page file meta id)) ≡ None
+
+pub on_leaf : (file : List ℕ) (meta : Meta) (id : ℕ) (view : PageView) (e : LeafElement) → page_at file meta id ≡ Some view → view.kind ≡ kind.Leaf → Contains view.leaves e
+    → IsOnLeaf file meta id e
 unfolding page_at page_fault
-bucket_value file meta id view e shows leaf has bucket =
+on_leaf file meta id view e shows leaf has =
     let none = good_fault file meta id (is_some_of (page_at file meta id) view shows) in
     let content = (first_of-none (span_fault file meta id) _ none).1 in
     let bytes : List ℕ = span_bytes file meta id in
     let count : ℕ = count_field (from_page file meta id) in
     let (leaves, good) = leaves_good (page_fault file meta id) (kind_of (flags_field (from_page file meta id))) count (page_overflow file meta id) bytes view shows leaf content in
     let (i, low, same) = element_of bytes count e (subst (λ (ls : List LeafElement). Contains ls e) leaves has) in
-    subst (λ (v : List ℕ). value_fault v ≡ None) (sym (ap (λ (x : LeafElement). x.value) same))
-    ((good_leaf value_fault bytes count i good low).2 (sym (ap (λ (x : LeafElement). x.is_bucket) same) ∙ bucket))
+    record { i = i; low = low; same = same; good = good }
 
--- and what lies in it is no bucket
-pub flat_inline : (value : List ℕ) (e : LeafElement) → IsBucketValue value → head_root value ≡ 0 → Contains (inline_elements value) e → e.is_bucket ≡ false
-flat_inline value e good root has =
+-- a bucket on it has a good value
+pub bucket_value : (file : List ℕ) (meta : Meta) (id : ℕ) (view : PageView) (e : LeafElement) → page_at file meta id ≡ Some view → view.kind ≡ kind.Leaf → Contains view.leaves e
+    → e.is_bucket ≡ true → IsBucketValue e.value
+bucket_value file meta id view e shows leaf has bucket =
+    let on = on_leaf file meta id view e shows leaf has in
+    subst (λ (v : List ℕ). value_fault v ≡ None) (sym (ap (λ (x : LeafElement). x.value) on.same))
+    ((good_leaf value_fault (span_bytes file meta id) (count_field (from_page file meta id)) on.i on.good on.low).2 (sym (ap (λ (x : LeafElement). x.is_bucket) on.same) ∙ bucket))
+
+-- an element of an inline bucket is one of good elements, and no bucket
+pub record IsInInline (value : List ℕ) (e : LeafElement) : Type 0 where
+  pub i : ℕ
+  pub low : i < count_field (inline_bytes value)
+  pub same : e ≡ leaf_element (inline_bytes value) i
+  pub good : leaves_fault head_fault (inline_bytes value) (count_field (inline_bytes value)) ≡ None
+  pub flat : e.is_bucket ≡ false
+
+pub in_inline : (value : List ℕ) (e : LeafElement) → IsBucketValue value → head_root value ≡ 0 → Contains (inline_elements value) e → IsInInline value e
+in_inline value e good root has =
     let page = good_inline value (inline_bytes value) refl good root in
     let (i, low, same) = element_of (inline_bytes value) (count_field (inline_bytes value)) e has in
-    ap (λ (x : LeafElement). x.is_bucket) same ∙ no_bucket-at (inline_bytes value) (count_field (inline_bytes value)) i page.flat low
+    let flat = ap (λ (x : LeafElement). x.is_bucket) same ∙ no_bucket-at (inline_bytes value) (count_field (inline_bytes value)) i page.flat low in
+    record { i = i; low = low; same = same; good = page.good; flat = flat }
+
+pub flat_inline : (value : List ℕ) (e : LeafElement) → IsBucketValue value → head_root value ≡ 0 → Contains (inline_elements value) e → e.is_bucket ≡ false
+flat_inline value e good root has = (in_inline value e good root has).flat

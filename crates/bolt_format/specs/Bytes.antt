@@ -1,6 +1,10 @@
 -- Numbers in the bytes of a file, and the checksum: docs/FORMAT.md, "Numbers" and "Checksum".
-use Rattle.std.specs.Prelude.{ℕ, ◌*◌, ◌^◌, ◌%◌, List, [], ◌∷◌, drop, bit_xor}
+use Rattle.std.specs.Prelude.{◌<◌, ℕ, ◌*◌, ◌^◌, ◌%◌, List, [], ◌∷◌, drop, bit_xor, slice_index}
 use Rattle.byteorder.specs.Endian.{little_number}
+
+-- a list of bytes is a list of numbers below 256
+abbrev pub IsBytes : List ℕ → Type 0
+IsBytes bytes = (i : ℕ) → slice_index bytes i < 256
 
 -- the number in the n bytes from place at, the lowest first
 unfoldable pub number_at : List ℕ → ℕ → ℕ → ℕ

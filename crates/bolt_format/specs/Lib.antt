@@ -1,5 +1,6 @@
 pub mod Bytes
 pub mod ElementPlaces
+pub mod ElementLengths
 pub mod Elements
 pub mod Freelists
 pub mod Headers

@@ -13,6 +13,7 @@ mod freelist;
 mod good_page;
 mod header;
 mod kind;
+pub mod laws;
 mod mem_sink;
 mod meta;
 mod open_bucket;

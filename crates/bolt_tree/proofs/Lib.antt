@@ -17,7 +17,7 @@ pub mod HalvesLemmas
 pub mod HeldLemmas
 pub mod ListLemmas
 pub mod Leaving
-mod Lists
+pub mod Lists
 mod Looking
 pub mod Measured
 pub mod MoveLemmas

@@ -2,8 +2,8 @@
 ghost use Rattle.std.specs.Prelude.{◌≡◌, ℕ, List};
 ghost use Rattle.bolt_format.specs.declared.meta.Meta.{Meta};
 ghost use Rattle.bolt_check.specs.Sound.{HasSoundTrees};
-ghost use Rattle.bolt_tree.specs.Entries.{IsEntry, Root_page};
-ghost use Rattle.bolt_tree.specs.Listing.{IsListing, Member};
+ghost use Rattle.bolt_tree.specs.Entries.{IsEntry, Root_page, Start};
+ghost use Rattle.bolt_tree.specs.Listing.{IsListing, Lists, Member};
 ghost use Rattle.bolt_tree.specs.Tree.{IsTreeOf, Tree, listing_of, tree_of};
 
 /// A file has at most one listing.
@@ -20,6 +20,12 @@ pub fn sound_trees_have_a_listing()
 pub fn listing_is_of_a_tree()
     ensures { (file : List ℕ) (meta : Meta) (listing : List Member) → HasSoundTrees file meta → IsListing file meta listing
         → (tree : Tree) × IsTreeOf (IsEntry file meta) (Root_page meta.root) tree × (listing ≡ listing_of tree) }
+{}
+
+/// What a bucket's tree lists is the listing of the bucket.
+pub fn a_tree_lists_its_bucket()
+    ensures { (file : List ℕ) (meta : Meta) (bucket : Start) (tree : Tree) → IsTreeOf (IsEntry file meta) bucket tree
+        → Lists (IsEntry file meta) bucket (listing_of tree) }
 {}
 
 /// A tree is read off its listing.

@@ -1,0 +1,46 @@
+-- The cut of a row of items into the runs that share a page: docs/LAYOUT.md, "The cut".
+-- Over items of any kind, by their sizes.
+use Rattle.std.specs.Prelude.{suc, ◌≡◌, ◌≢◌, ◌≤◌, ◌<◌, ◌⊎◌, ◌↔◌, ℕ, ◌+◌, Bool, ◌||◌, ◌&&◌, nat_lt, nat_le, List, [], ◌∷◌, ◌++◌, length, sum_by, flat_map, Some, slice_get, if◌then◌else◌}
+
+-- the most items that a page may have
+abbrev pub max_items : ℕ
+max_items = 65534
+
+-- a page has 16 bytes and the sizes of its items
+abbrev pub run_size : {X : Type 0} → (X → ℕ) → List X → ℕ
+run_size size run = 16 + sum_by size run
+
+-- The runs of a row: they are the row, in order, and none is empty. A run of more than `least` items has a page within the page size,
+-- and none has more than 65,534 items. Each but the last has `least` items at least, and would pass the page size with the next item
+-- or has 65,534.
+pub record IsCut {X : Type 0} (page_size least : ℕ) (size : X → ℕ) (items : List X) (runs : List (List X)) : Type 0 where
+  pub whole : flat_map (λ run. run) runs ≡ items
+  pub filled : (i : ℕ) (run : List X) → slice_get runs i ≡ Some run → run ≢ []
+  pub fits : (i : ℕ) (run : List X) → slice_get runs i ≡ Some run → least < length run → run_size size run ≤ page_size
+  pub capped : (i : ℕ) (run : List X) → slice_get runs i ≡ Some run → length run ≤ max_items
+  pub long : (i : ℕ) (run next : List X) → slice_get runs i ≡ Some run → slice_get runs (suc i) ≡ Some next → least ≤ length run
+  pub full : (i : ℕ) (run more : List X) (next : X) → slice_get runs i ≡ Some run → slice_get runs (suc i) ≡ Some (next ∷ more)
+      → (page_size < run_size size (run ++ next ∷ [])) ⊎ (length run ≡ max_items)
+
+-- From the left: the next item joins the run where that has fewer than `least` items, or where its page is within the page size with
+-- the item too and it has fewer than 65,534 items.
+abbrev pub joins : {X : Type 0} → (page_size least : ℕ) → (X → ℕ) → List X → X → Bool
+joins page_size least size run next =
+    nat_lt (length run) least || (nat_le (run_size size (run ++ next ∷ [])) page_size && nat_lt (length run) max_items)
+
+-- otherwise it begins the next run
+abbrev pub cut_from : {X : Type 0} → (page_size least : ℕ) → (X → ℕ) → List X → List X → List (List X)
+cut_from page_size least size run [] = run ∷ []
+cut_from page_size least size run (next ∷ items) =
+    let joined = cut_from page_size least size (run ++ next ∷ []) items in
+    let begun = run ∷ cut_from page_size least size (next ∷ []) items in
+    if joins page_size least size run next then joined else begun
+
+abbrev pub cut_of : {X : Type 0} → (page_size least : ℕ) → (X → ℕ) → List X → List (List X)
+cut_of page_size least size [] = []
+cut_of page_size least size (first ∷ items) = cut_from page_size least size (first ∷ []) items
+
+-- there is one cut of each row, and it is this one
+abbrev pub CutIsOne : Type 0 → Type 0
+CutIsOne X = (page_size least : ℕ) (size : X → ℕ) (items : List X) (runs : List (List X)) → 1 ≤ least → least ≤ max_items
+    → IsCut page_size least size items runs ↔ (runs ≡ cut_of page_size least size items)

@@ -1,0 +1,9 @@
+pub mod Copies
+pub mod Cut
+pub mod Divisions
+pub mod Items
+pub mod Laid
+pub mod Layout
+pub mod Levels
+pub mod PageBytes
+pub mod Storable

@@ -1,0 +1,29 @@
+-- Trees that a file can hold: docs/LAYOUT.md, "Trees that can be stored".
+use Rattle.std.specs.Prelude.{◌<◌, ◌^◌, List, [], ◌∷◌, length}
+use Rattle.bolt_format.specs.ElementLengths.{IsKeyLength, IsValueLength}
+use Rattle.bolt_check.specs.Keys.{Key, key_cmp}
+use Rattle.bolt_tree.specs.Order.{Rises}
+use Rattle.bolt_tree.specs.Tree.{Tree, end, with_value, with_bucket}
+
+-- the keys of the outermost bucket
+abbrev pub keys_in : Tree → List Key
+keys_in end = []
+keys_in (with_value key value after) = key ∷ keys_in after
+keys_in (with_bucket key sequence inside after) = key ∷ keys_in after
+
+-- keys and values of lengths that the format allows, and sequences of 64 bits
+abbrev pub HasLengths : Tree → Type 0
+HasLengths end = Unit {0}
+HasLengths (with_value key value after) = IsKeyLength (length key) × IsValueLength (length value) × HasLengths after
+HasLengths (with_bucket key sequence inside after) = IsKeyLength (length key) × (sequence < 2 ^ 64) × HasLengths inside × HasLengths after
+
+-- the keys of each bucket further in rise
+abbrev pub RisesInside : Tree → Type 0
+RisesInside end = Unit {0}
+RisesInside (with_value key value after) = RisesInside after
+RisesInside (with_bucket key sequence inside after) = Rises key_cmp (keys_in inside) × RisesInside inside × RisesInside after
+
+pub record IsStorable (tree : Tree) : Type 0 where
+  pub lengths : HasLengths tree
+  pub rising : Rises key_cmp (keys_in tree)
+  pub rising_inside : RisesInside tree

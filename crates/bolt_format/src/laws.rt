@@ -1,0 +1,25 @@
+//! What the definitions of pages imply.
+ghost use Rattle.std.specs.Prelude.{◌≡◌, ℕ, false, IsTrue, List, Some, Contains};
+ghost use Rattle.bolt_format.specs.Bytes.{IsBytes};
+ghost use Rattle.bolt_format.specs.ElementLengths.{HasFitLengths};
+ghost use Rattle.bolt_format.specs.Elements.{IsBucketValue, LeafElement, head_root, inline_elements};
+ghost use Rattle.bolt_format.specs.Pages.{PageView, page_at};
+ghost use Rattle.bolt_format.specs.declared.kind.Kind.TheVariants as kind;
+ghost use Rattle.bolt_format.specs.declared.meta.Meta.{Meta};
+
+/// The elements of a good leaf, and those of an inline bucket, have lengths that the format allows;
+/// a bucket on a good leaf has a good value, no element of an inline bucket is a bucket, and the
+/// values of a file are bytes.
+pub fn good_elements_fit()
+    ensures leaf { (file : List ℕ) (meta : Meta) (id : ℕ) (view : PageView) (e : LeafElement)
+        → page_at file meta id ≡ Some view → view.kind ≡ kind.Leaf → Contains view.leaves e
+        → HasFitLengths e }
+    ensures bucket { (file : List ℕ) (meta : Meta) (id : ℕ) (view : PageView) (e : LeafElement)
+        → page_at file meta id ≡ Some view → view.kind ≡ kind.Leaf → Contains view.leaves e
+        → IsTrue e.is_bucket → IsBucketValue e.value }
+    ensures bytes { (file : List ℕ) (meta : Meta) (id : ℕ) (view : PageView) (e : LeafElement)
+        → IsBytes file → page_at file meta id ≡ Some view → view.kind ≡ kind.Leaf → Contains view.leaves e
+        → IsBytes e.value }
+    ensures inline { (value : List ℕ) (e : LeafElement) → IsBucketValue value → head_root value ≡ 0
+        → Contains (inline_elements value) e → HasFitLengths e × (e.is_bucket ≡ false) }
+{}
