@@ -18,6 +18,7 @@ mod NodeLemmas
 mod PageLemmas
 mod Pendings
 mod RoleExists
+pub mod RoleFacts
 mod RoleLemmas
 mod RoleOnce
 mod SettledLemmas

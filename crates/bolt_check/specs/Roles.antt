@@ -36,3 +36,7 @@ HasRole file meta n role.Leaf = IsFirstPage (node_at file meta) (reached (node_a
 HasRole file meta n role.Freelist = IsInFreelist file meta n × (n ≡ meta.freelist)
 HasRole file meta n role.Inside = IsLaterPage (node_at file meta) (reached (node_at file meta) meta.root) n ⊎ (IsInFreelist file meta n × (meta.freelist < n))
 HasRole file meta n role.Free = IsFree meta.high_water (IsInUse file meta (IsUsed file meta)) n
+
+-- each page below the mark has this role
+abbrev pub AreRoles : List ℕ → Meta → (ℕ → Role) → Type 0
+AreRoles file meta roles = (n : ℕ) → n < meta.high_water → HasRole file meta n (roles n)

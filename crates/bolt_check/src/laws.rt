@@ -3,7 +3,7 @@ ghost use Rattle.std.specs.Prelude.{◌≡◌, ◌↔◌, ◌<◌, ℕ, List, So
 ghost use Rattle.bolt_format.specs.declared.meta.Meta.{Meta};
 ghost use Rattle.bolt_check.specs.AccountFindings.{AreAccountFindings};
 ghost use Rattle.bolt_check.specs.Nodes.{node_at};
-ghost use Rattle.bolt_check.specs.Roles.{HasRole};
+ghost use Rattle.bolt_check.specs.Roles.{AreRoles, HasRole};
 ghost use Rattle.bolt_check.specs.Sound.{HasRightAccounts, HasSoundTrees, IsFirstFinding, IsUsed, PassesTests};
 ghost use Rattle.bolt_check.specs.Tours.{IsTour};
 ghost use Rattle.bolt_check.specs.Ways.{At_page, Reach, reached, start_of};
@@ -38,6 +38,11 @@ pub fn role_is_one()
 /// In a sound file each page below the mark has a role.
 pub fn role_exists()
     ensures { (file : List ℕ) (meta : Meta) (n : ℕ) → HasSoundTrees file meta → HasRightAccounts file meta → n < meta.high_water → (role : Role) × HasRole file meta n role }
+{}
+
+/// In a sound file all pages together have roles.
+pub fn roles_exist()
+    ensures { (file : List ℕ) (meta : Meta) → HasSoundTrees file meta → HasRightAccounts file meta → (roles : ℕ → Role) × AreRoles file meta roles }
 {}
 
 /// In sound trees each bucket has a tour.
