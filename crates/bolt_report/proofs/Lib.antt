@@ -5,3 +5,4 @@ mod PageFaults
 mod Pieces
 mod ReportLemmas
 mod ShownLemmas
+mod PageTableLemmas

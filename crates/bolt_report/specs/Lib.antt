@@ -5,5 +5,6 @@ pub mod Lines
 pub mod ListLines
 pub mod MetaLines
 pub mod PageLines
+pub mod PageTables
 pub mod PageTexts
 pub mod Reports

@@ -11,7 +11,9 @@ mod key_lines;
 mod list_lines;
 pub mod metas;
 pub mod page_lines;
+mod page_table;
 mod puts;
+mod table_text;
 mod text;
 pub mod values;
 
@@ -22,4 +24,5 @@ pub use key_lines::{buckets, keys};
 pub use list_lines::list;
 pub use metas::info;
 pub use page_lines::page_text;
+pub use page_table::pages;
 pub use values::value;
