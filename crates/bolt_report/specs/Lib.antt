@@ -1,4 +1,5 @@
 pub mod FaultWords
+pub mod Figures
 pub mod Forms
 pub mod KeyLines
 pub mod Lines
