@@ -1,7 +1,7 @@
 -- Sums with a greatest number.
 use Rattle.std.proofs.Common.{◌≡◌, ℕ, ◌+◌, refl, arith}
 use Rattle.bolt_report.specs.Figures.{Figure, add_stats, buckets, inline_buckets, inline_used, keys, branch_pages, branch_overflow, branch_allocated, branch_used, leaf_pages, leaf_overflow, leaf_allocated, leaf_used, capped, figure}
-use Rattle.bolt_report.specs.declared.stats.Stats.{Stats}
+use Rattle.bolt_report.specs.declared.figures.Stats.{Stats}
 
 -- a sum of sums
 pub capped_more : (a b : ℕ) → capped (capped a + b) ≡ capped (a + b)

@@ -6,7 +6,7 @@ ghost use Rattle.bolt_format.specs.Shown.{shown};
 ghost use Rattle.bolt_format.specs.ShownInline.{shown_inline};
 ghost use Rattle.bolt_report.specs.Figures.{Figure, allocated, branch_bytes, branch_figure, capped, element_figure, figure, inline_figure, kind_figure, leaf_bytes, leaf_figure};
 
-use crate::stats::{Stats, add};
+use crate::figures::{Stats, add};
 use bolt_format::{Inline, Kind, Leaf, Page, head, inline};
 
 /// The bytes that an element's header takes, and a page's.

@@ -2,7 +2,7 @@ use Rattle.std.specs.Prelude.{codes}
 use Rattle.bolt_report.specs.Figures.{branch_lines}
 use Rattle.bolt_report.specs.Lines.{figure_line}
 use Rattle.bolt_report.proofs.TextLemmas.{four_added}
-use Rattle.bolt_report.proofs.stats.branch_text.Goals as goal
+use Rattle.bolt_report.proofs.figures.branch_text.Goals as goal
 
 pub returns : goal.returns
 unfolding branch_lines

@@ -1,7 +1,7 @@
 use Rattle.std.proofs.Common.{◌∙◌, ◌++◌}
 use Rattle.bolt_format.proofs.WriteLemmas.{Writes-same, Writes-stop, Writes-then}
 use Rattle.bolt_report.specs.Figures.{branch_lines, bucket_lines, leaf_lines}
-use Rattle.bolt_report.proofs.stats.put_lines.Goals as goal
+use Rattle.bolt_report.proofs.figures.put_lines.Goals as goal
 
 pub returns-in_err-put : goal.returns-in_err-put
 returns-in_err-put g c =

@@ -2,7 +2,7 @@ use Rattle.std.specs.Prelude.{codes}
 use Rattle.bolt_report.specs.Figures.{bucket_lines}
 use Rattle.bolt_report.specs.Lines.{figure_line}
 use Rattle.bolt_report.proofs.TextLemmas.{five_added}
-use Rattle.bolt_report.proofs.stats.bucket_text.Goals as goal
+use Rattle.bolt_report.proofs.figures.bucket_text.Goals as goal
 
 pub returns : goal.returns
 unfolding bucket_lines
