@@ -1,6 +1,6 @@
 -- Claiming page after page.
 use Rattle.std.proofs.Common.{◌≡◌, ◌≢◌, ◌∙◌, ℕ, ◌+◌, ◌<◌, ◌≤◌, ◌⊎◌, List, None, length, set, inl, inr, sym, ap, arith, get_or-set_same, get_or-set_other}
-use Rattle.std.proofs.lemmas.Bool.{cases_lt, false≢true}
+use Rattle.std.proofs.lemmas.Bool.{cases_eq, cases_lt, false≢true}
 use Rattle.bolt_format.specs.Freelists.{freelist_fault_of}
 use Rattle.bolt_format.specs.Pages.{page_overflow}
 use Rattle.bolt_format.specs.declared.meta.Meta.{Meta}
@@ -12,32 +12,44 @@ use Rattle.bolt_check.specs.declared.table.PageUse.{PageUse}
 use Rattle.bolt_check.specs.declared.table.PageUse.TheVariants.{Unused, Used}
 use Rattle.bolt_check.proofs.FreelistLemmas.{freelist_within}
 
-pub used_more : (t : List PageUse) (from n : ℕ) → n < length t → ((k : ℕ) → from ≤ k → k < n → use_at t k ≡ Used)
-    → (k : ℕ) → from ≤ k → k < n + 1 → use_at (set t n Used) k ≡ Used
-used_more t from n h before k a b =
+-- what holds of Used and of the pages so far holds of one page more
+pub more_of : (P : PageUse → Type 0) → P Used → (t : List PageUse) (from n : ℕ) → n < length t → ((k : ℕ) → from ≤ k → k < n → P (use_at t k))
+    → (k : ℕ) → from ≤ k → k < n + 1 → P (use_at (set t n Used) k)
+more_of P is t from n h before k a b =
     elim (cases_lt k n) [
       | inl lt ↦ let ne : k ≢ n = omega arith in rw get_or-set_other (before k a lt)
-      | inr ge ↦ let e : k ≡ n = omega arith in rw (e, get_or-set_same t n Used Unused h)
+      | inr ge ↦ let e : k ≡ n = omega arith in rw (e, get_or-set_same t n Used Unused h) is
+    ]
+
+-- a span whose first page is used as the others are
+pub all_used : (t : List PageUse) (from last : ℕ) (u : PageUse) → use_at t from ≡ u → ((k : ℕ) → from < k → k ≤ last → use_at t k ≡ u)
+    → (k : ℕ) → from ≤ k → k ≤ last → use_at t k ≡ u
+all_used t from last u first later k a b =
+    elim (cases_eq k from) [
+      | inl same ↦ ap (use_at t) same ∙ first
+      | inr other ↦ later k (omega arith) b
     ]
 
 -- claiming lists nothing
-pub still_unlisted : (old new : List PageUse) (from last : ℕ) → ((k : ℕ) → from ≤ k → k ≤ last → use_at new k ≡ Used)
+pub still_unlisted : (old new : List PageUse) (from last : ℕ) → ((k : ℕ) → from ≤ k → k ≤ last → times_of (use_at new k) ≡ 0)
     → ((k : ℕ) → k < from → use_at new k ≡ use_at old k) → ((k : ℕ) → last < k → use_at new k ≡ use_at old k) → IsUnlisted old → IsUnlisted new
 still_unlisted old new from last used below above plain n =
     elim (cases_lt n from) [
       | inl before ↦ ap times_of (below n before) ∙ plain n
       | inr low ↦ elim (cases_lt last n) [
         | inl after ↦ ap times_of (above n after) ∙ plain n
-        | inr high ↦ ap times_of (used n low high)
+        | inr high ↦ used n low high
       ]
     ]
 
 -- the freelist's span, of which nothing was claimed, is claimed
 pub claims_freelist : (file : List ℕ) (meta : Meta) (old new : List PageUse) (last : ℕ) → last ≡ meta.freelist + page_overflow file meta meta.freelist
     → meta.freelist ≢ NO_FREELIST → freelist_fault_of file meta ≡ None
-    → ((k : ℕ) → meta.freelist ≤ k → k ≤ last → IsUnclaimed old k) → ((k : ℕ) → meta.freelist ≤ k → k ≤ last → use_at new k ≡ Used)
+    → ((k : ℕ) → meta.freelist ≤ k → k ≤ last → IsUnclaimed old k) → ((k : ℕ) → meta.freelist ≤ k → k ≤ last → IsClaimed new k)
+    → ((k : ℕ) → meta.freelist ≤ k → k ≤ last → times_of (use_at new k) ≡ 0)
+    → ((k : ℕ) → meta.freelist ≤ k → k ≤ last → use_at new k ≡ Used)
     → ((k : ℕ) → k < meta.freelist → use_at new k ≡ use_at old k) → ((k : ℕ) → last < k → use_at new k ≡ use_at old k) → ClaimsFreelist file meta old new
-claims_freelist file meta old new last end written good none used below above = record {
+claims_freelist file meta old new last end written good none used unlisted all below above = record {
   apart = λ n is claimed. apart n is.from (in_last n is) claimed;
   split = λ n claimed. elim (place n) [
     | inl (inl before) ↦ inl (sym (ap is_used (below n before)) ∙ claimed)
@@ -47,10 +59,15 @@ claims_freelist file meta old new last end written good none used below above = 
   kept = λ n claimed. elim (place n) [
     | inl (inl before) ↦ ap is_used (below n before) ∙ claimed
     | inl (inr after) ↦ ap is_used (above n after) ∙ claimed
-    | inr inside ↦ ap is_used (used n inside.0 inside.1)
+    | inr inside ↦ used n inside.0 inside.1
   ];
-  span = λ n is. ap is_used (used n is.from (in_last n is));
-  unlisted = still_unlisted old new meta.freelist last used below above;
+  span = λ n is. used n is.from (in_last n is);
+  unlisted = still_unlisted old new meta.freelist last unlisted below above;
+  noted = λ n u is. elim (place n) [
+    | inl (inl before) ↦ inl (sym (below n before) ∙ is)
+    | inl (inr after) ↦ inl (sym (above n after) ∙ is)
+    | inr inside ↦ inr (record { written = written; good = good; from = inside.0; last = omega (arith, end, inside.1) }, sym is ∙ all n inside.0 inside.1)
+  ];
 }
   where
     apart : (n : ℕ) → meta.freelist ≤ n → n ≤ last → IsClaimed old n → ⊥

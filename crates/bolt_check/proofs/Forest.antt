@@ -159,12 +159,12 @@ places_step is_leaf s [] j = refl
 places_step is_leaf s (e ∷ entries) zero = refl
 places_step is_leaf s (e ∷ entries) (suc j) = places_step is_leaf s entries j
 
-kids_step : (nodes : Nodes) (s : PageSpot) (node : Node) → nodes s.number ≡ Ok node → (j : ℕ)
+pub kids_step : (nodes : Nodes) (s : PageSpot) (node : Node) → nodes s.number ≡ Ok node → (j : ℕ)
     → flat (slice_get (places node.is_leaf s node.entries) j) ≡ step nodes (Some (At_page s)) j
 kids_step nodes s node e j = rw e (places_step node.is_leaf s node.entries j)
 
 -- where these places are what s leads to, they take its place
-visits : (nodes : Nodes) (c d : ℕ → Type 0) (s : Spot) (rest : List Spot) (os : List (Option Spot)) → ((j : ℕ) → flat (slice_get os j) ≡ step nodes (Some s) j)
+pub visits : (nodes : Nodes) (c d : ℕ → Type 0) (s : Spot) (rest : List Spot) (os : List (Option Spot)) → ((j : ℕ) → flat (slice_get os j) ≡ step nodes (Some s) j)
     → ((n : ℕ) → d n → c n ⊎ SpanHas nodes (Some s) n) → ((n : ℕ) → c n → d n) → ((n : ℕ) → SpanHas nodes (Some s) n → d n)
     → Visits nodes (forest nodes (s ∷ rest)) (forest nodes (somes os ++ rest)) c d (0 ∷ []) s (lift os)
 visits nodes c d s rest os fits split kept span = record {
@@ -198,7 +198,7 @@ first_step nodes c d s rest node e split kept span =
     (visits nodes c d (At_page s) rest os (kids_step nodes s node e) split kept span)
 
 -- an inline bucket's visit
-inline_visits : (nodes : Nodes) (c : ℕ → Type 0) (host : ℕ) (keys : List Key) (rest : List Spot)
+pub inline_visits : (nodes : Nodes) (c : ℕ → Type 0) (host : ℕ) (keys : List Key) (rest : List Spot)
     → Visits nodes (forest nodes (At_inline host keys ∷ rest)) (forest nodes rest) c c (0 ∷ []) (At_inline host keys) (lift [])
 inline_visits nodes c host keys rest = visits nodes c c (At_inline host keys) rest [] (λ j. refl) (λ n h. inl h) (λ n h. h) (λ n h. absurd h)
 
@@ -221,7 +221,7 @@ none_before_first nodes spots (i ∷ v) t (inr h) e = h.1
 pub found_step : (nodes : Nodes) (c : ℕ → Type 0) (s : Spot) (rest : List Spot) (x : Finding) → Tests nodes c s x → IsFirst nodes (forest nodes (s ∷ rest)) c x
 found_step nodes c s rest x m = found_here nodes (forest nodes (s ∷ rest)) c (0 ∷ []) s x refl (none_before_first nodes (s ∷ rest)) m
 
-forest_empty : (nodes : Nodes) (way : List ℕ) → forest nodes [] way ≡ None
+pub forest_empty : (nodes : Nodes) (way : List ℕ) → forest nodes [] way ≡ None
 forest_empty nodes [] = refl
 forest_empty nodes (k ∷ way) = follow_none nodes way
 
@@ -250,7 +250,7 @@ clean_root nodes c s clean = record {
       (claimed_down nodes c s way) (clean.passes (0 ∷ way) t e);
 }
 
-root_way : (nodes : Nodes) (s : Spot) (way : List ℕ) (t : Spot) → forest nodes (s ∷ []) way ≡ Some t → (v : List ℕ) × (way ≡ 0 ∷ v)
+pub root_way : (nodes : Nodes) (s : Spot) (way : List ℕ) (t : Spot) → forest nodes (s ∷ []) way ≡ Some t → (v : List ℕ) × (way ≡ 0 ∷ v)
 root_way nodes s [] t e = absurd (nothing_is t e)
 root_way nodes s (zero ∷ v) t e = (v, refl)
 root_way nodes s (suc k ∷ v) t e = absurd (nothing_is t (sym (follow_none nodes v) ∙ e))

@@ -1,22 +1,19 @@
 -- The span of a freelist whose page is good.
-use Rattle.std.proofs.Common.{◌≡◌, ◌≢◌, ◌∙◌, ◌==◌, ℕ, ◌+◌, ◌*◌, ◌<◌, ◌≤◌, Bool, true, false, not, is_some, List, Option, Some, None, length, cond, nat_le, nat_lt, refl, sym, ap, subst, arith}
-use Rattle.std.proofs.lemmas.Bool.{cond-false, leb-false, ltb-false, ne_eqb}
+use Rattle.std.proofs.Common.{◌≡◌, ◌≢◌, ◌∙◌, ◌==◌, ℕ, ◌+◌, ◌*◌, ◌<◌, ◌≤◌, List, Option, Some, None, length, refl, sym, ap}
+use Rattle.std.proofs.lemmas.Bool.{cond-false, ne_eqb}
 use Rattle.bolt_format.specs.Elements.{first_of}
 use Rattle.bolt_format.specs.Freelists.{freelist_fault, freelist_fault_of, freelist_kind_fault}
-use Rattle.bolt_format.specs.Headers.{count_field, flags_field, id_field, kind_of}
+use Rattle.bolt_format.specs.Headers.{count_field, flags_field, kind_of}
 use Rattle.bolt_format.specs.Pages.{PageView, from_page, page_at, page_fault, page_overflow, span_bytes, span_fault, view_of}
 use Rattle.bolt_format.specs.declared.kind.Kind.{Kind}
 use Rattle.bolt_format.specs.declared.kind.Kind.TheVariants as kind
 use Rattle.bolt_format.specs.declared.meta.Meta.{Meta}
 use Rattle.bolt_format.specs.declared.meta.TheConstants.{NO_FREELIST}
+use Rattle.bolt_check.proofs.MarkLemmas.{span_within}
 
 first_of-none : (a b : Option ℕ) → first_of a b ≡ None → (a ≡ None) × (b ≡ None)
 first_of-none None b e = (refl, e)
 first_of-none (Some fault) b e = absurd (cc)
-
-guard-none : (test : Bool) (fault : ℕ) (next : Option ℕ) → cond test (Some fault) next ≡ None → (test ≡ false) × (next ≡ None)
-guard-none true fault next e = absurd (cc)
-guard-none false fault next e = (refl, e)
 
 is_freelist : (k : Option Kind) → freelist_kind_fault k ≡ None → k ≡ Some kind.Freelist
 is_freelist None e = absurd (cc)
@@ -58,14 +55,4 @@ module _ (file : List ℕ) (meta : Meta) (written : meta.freelist ≢ NO_FREELIS
   -- and its span lies below the mark and in the file
   pub freelist_within : (meta.freelist + page_overflow file meta meta.freelist < meta.high_water)
       × ((meta.freelist + page_overflow file meta meta.freelist + 1) * meta.page_size ≤ length file)
-  unfolding span_fault
-  freelist_within =
-      let id = meta.freelist in
-      let in_range = guard-none (nat_le meta.high_water id) _ _ own_span in
-      let header = guard-none (nat_lt (length file) (id * meta.page_size + 16)) _ _ in_range.1 in
-      let own = guard-none (not (id_field (from_page file meta id) == id)) _ _ header.1 in
-      let kind = guard-none (not (is_some (kind_of (flags_field (from_page file meta id))))) _ _ own.1 in
-      let last = guard-none (nat_le meta.high_water (id + page_overflow file meta id)) _ _ kind.1 in
-      let end = guard-none (nat_lt (length file) ((id + 1 + page_overflow file meta id) * meta.page_size)) _ None last.1 in
-      let same : id + 1 + page_overflow file meta id ≡ id + page_overflow file meta id + 1 = omega arith in
-      (leb-false _ _ last.0, subst (λ (n : ℕ). n * meta.page_size ≤ length file) same (ltb-false _ _ end.0))
+  freelist_within = span_within file meta meta.freelist own_span

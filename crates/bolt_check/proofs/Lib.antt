@@ -17,12 +17,19 @@ mod MarkLemmas
 mod NodeLemmas
 mod PageLemmas
 mod Pendings
+mod RoleExists
+pub mod RoleFacts
+mod RoleLemmas
+mod RoleOnce
 mod SettledLemmas
 mod Shaping
 mod Single
 mod SoundLemmas
 mod TableLemmas
+mod TourExists
+pub mod TourLemmas
 pub mod TreePages
+mod UseLemmas
 mod VisitLemmas
 mod Visited
 mod Visiting

@@ -12,7 +12,7 @@ use Rattle.bolt_check.specs.declared.finding.Finding.{Finding}
 use Rattle.bolt_check.specs.declared.finding.TheConstants.Finding.{FREED_TWICE, FREE_RANGE}
 use Rattle.bolt_check.specs.declared.listing.Listing.{Listing}
 use Rattle.bolt_check.specs.declared.table.PageUse.{PageUse}
-use Rattle.bolt_check.specs.declared.table.PageUse.TheVariants.{Unused, Used, Free, FreeTwice, UsedFree, UsedFreeTwice}
+use Rattle.bolt_check.specs.declared.table.PageUse.TheVariants.{Unused, Branch, Leaf, Used, Free, FreeTwice, UsedFree, UsedFreeTwice}
 use Rattle.bolt_check.proofs.CountLemmas.{place_of, times_none, times_once, times_some, times_twice}
 use Rattle.bolt_check.proofs.PageLemmas.{twice, reached, lost, range, not_lost_listed, on_own_page, tells_page, tells_range, tells_twice, tells_well}
 use Rattle.bolt_check.proofs.AccountFindingLemmas.{Tells, told_append, tells_none, tells_run}
@@ -51,6 +51,8 @@ module _ (listing : Listing) (settled : IsSettled listing) where
   kept_here : (n : ℕ) (page_use : PageUse) → n < length listing.table.now → use_at listing.table.now n ≡ page_use → (page_use ≡ Unused → ⊥)
       → IsLost listing.mark (is_in_use listing) (listed_times listing) n → ⊥
   kept_here n Unused h e ne gone = ne refl
+  kept_here n Branch h e ne gone = gone.free.unused (ap is_used e)
+  kept_here n Leaf h e ne gone = gone.free.unused (ap is_used e)
   kept_here n Used h e ne gone = gone.free.unused (ap is_used e)
   kept_here n Free h e ne gone = let t = times_table n h ∙ ap times_of e in let zero = gone.unlisted in omega (arith, t, zero)
   kept_here n FreeTwice h e ne gone = let t = times_table n h ∙ ap times_of e in let zero = gone.unlisted in omega (arith, t, zero)

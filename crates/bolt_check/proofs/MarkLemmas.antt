@@ -1,13 +1,19 @@
--- A good page lies below the mark.
-use Rattle.std.proofs.Common.{◌≡◌, ℕ, ◌<◌, Bool, true, false, List, Option, Some, None, Ok, cond, nat_le, refl, inl, inr, arith, []}
-use Rattle.std.proofs.lemmas.Bool.{cases_lt, leb-false}
+-- A good page lies below the mark and in the file.
+use Rattle.std.proofs.Common.{◌≡◌, ◌∙◌, ◌==◌, ℕ, ◌+◌, ◌*◌, ◌<◌, ◌≤◌, Bool, true, false, not, is_some, List, Option, Some, None, Result, Ok, Err, cond, length, nat_le, nat_lt, refl, sym, ap, subst, inl, inr, arith, []}
+use Rattle.std.proofs.lemmas.Bool.{cases_lt, leb-false, ltb-false}
 use Rattle.bolt_format.specs.Elements.{first_of}
-use Rattle.bolt_format.specs.Pages.{PageView, page_at, page_fault, shown_as, span_fault}
+use Rattle.bolt_format.specs.Headers.{flags_field, id_field, kind_of}
+use Rattle.bolt_format.specs.Pages.{PageView, from_page, page_at, page_fault, page_overflow, shown_as, span_fault}
 use Rattle.bolt_format.specs.declared.kind.Kind.{Kind}
+use Rattle.bolt_format.specs.declared.kind.Kind.TheVariants as kind
 use Rattle.bolt_format.specs.declared.meta.Meta.{Meta}
-use Rattle.bolt_check.specs.Nodes.{Node, node_at, node_seen}
+use Rattle.bolt_check.specs.Nodes.{Node, node_at, node_of, node_seen}
 use Rattle.bolt_check.specs.Findings.{IsClaimedBefore, IsClean, IsMetaPage, PagePasses}
 use Rattle.bolt_check.specs.Ways.{At_page, reached, start_of}
+
+abbrev node_overflow : Result Node ℕ → ℕ
+node_overflow (Ok node) = node.overflow
+node_overflow (Err fault) = 0
 
 seen-some : (view : Option PageView) (fault : Option ℕ) (node : Node) → node_seen view fault ≡ Ok node → (shown : PageView) × (view ≡ Some shown)
 seen-some (Some view) fault node e = (view, refl)
@@ -22,9 +28,9 @@ first-none : (a b : Option ℕ) → first_of a b ≡ None → a ≡ None
 first-none None b e = refl
 first-none (Some fault) b e = absurd (cc)
 
-passed : (test : Bool) (fault : ℕ) (next : Option ℕ) → cond test (Some fault) next ≡ None → test ≡ false
-passed true fault next e = absurd (cc)
-passed false fault next e = refl
+pub guard-none : (test : Bool) (fault : ℕ) (next : Option ℕ) → cond test (Some fault) next ≡ None → (test ≡ false) × (next ≡ None)
+guard-none true fault next e = absurd (cc)
+guard-none false fault next e = (refl, e)
 
 page_passes : (file : List ℕ) (meta : Meta) (id : ℕ) (view : PageView) → page_at file meta id ≡ Some view → page_fault file meta id ≡ None
 unfolding page_at
@@ -34,15 +40,55 @@ span_passes : (file : List ℕ) (meta : Meta) (id : ℕ) → page_fault file met
 unfolding page_fault
 span_passes file meta id e = first-none (span_fault file meta id) _ e
 
-span_below : (file : List ℕ) (meta : Meta) (id : ℕ) → span_fault file meta id ≡ None → id < meta.high_water
+-- a span that passed its tests lies below the mark and in the file
+pub span_within : (file : List ℕ) (meta : Meta) (id : ℕ) → span_fault file meta id ≡ None
+    → (id + page_overflow file meta id < meta.high_water) × ((id + page_overflow file meta id + 1) * meta.page_size ≤ length file)
 unfolding span_fault
-span_below file meta id e = leb-false meta.high_water id (passed (nat_le meta.high_water id) _ _ e)
+span_within file meta id passed =
+    let in_range = guard-none (nat_le meta.high_water id) _ _ passed in
+    let header = guard-none (nat_lt (length file) (id * meta.page_size + 16)) _ _ in_range.1 in
+    let own = guard-none (not (id_field (from_page file meta id) == id)) _ _ header.1 in
+    let kind = guard-none (not (is_some (kind_of (flags_field (from_page file meta id))))) _ _ own.1 in
+    let last = guard-none (nat_le meta.high_water (id + page_overflow file meta id)) _ _ kind.1 in
+    let end = guard-none (nat_lt (length file) ((id + 1 + page_overflow file meta id) * meta.page_size)) _ None last.1 in
+    let same : id + 1 + page_overflow file meta id ≡ id + page_overflow file meta id + 1 = omega arith in
+    (leb-false _ _ last.0, subst (λ (n : ℕ). n * meta.page_size ≤ length file) same (ltb-false _ _ end.0))
+
+abbrev overflow_of : Option PageView → ℕ
+overflow_of None = 0
+overflow_of (Some view) = view.overflow
+
+shown-overflow : (fault : Option ℕ) (kind : Option Kind) (count overflow : ℕ) (bytes : List ℕ) (view : PageView) → shown_as fault kind count overflow bytes ≡ Some view → view.overflow ≡ overflow
+shown-overflow None (Some kind) count overflow bytes view e = sym (ap overflow_of e)
+shown-overflow None None count overflow bytes view e = absurd (cc)
+shown-overflow (Some fault) kind count overflow bytes view e = absurd (cc)
+
+page_overflows : (file : List ℕ) (meta : Meta) (id : ℕ) (view : PageView) → page_at file meta id ≡ Some view → view.overflow ≡ page_overflow file meta id
+unfolding page_at
+page_overflows file meta id view e = shown-overflow (page_fault file meta id) _ _ _ _ view e
+
+node_overflows : (k : Kind) (view : PageView) (node : Node) → node_of k view ≡ Ok node → node.overflow ≡ view.overflow
+node_overflows kind.Branch view node e = sym (ap node_overflow e)
+node_overflows kind.Leaf view node e = sym (ap node_overflow e)
+node_overflows kind.Meta view node e = absurd (cc)
+node_overflows kind.Freelist view node e = absurd (cc)
+
+-- a node's page is good, and its span lies below the mark and in the file
+pub node_page : (file : List ℕ) (meta : Meta) (id : ℕ) (node : Node) → node_at file meta id ≡ Ok node → (view : PageView) × (page_at file meta id ≡ Some view) × (node.overflow ≡ view.overflow)
+unfolding node_at
+node_page file meta id node e =
+    let (view, is) = seen-some (page_at file meta id) (page_fault file meta id) node e in
+    (view, is, node_overflows view.kind view node (subst (λ (o : Option PageView). node_seen o (page_fault file meta id) ≡ Ok node) is e))
+
+pub node_within : (file : List ℕ) (meta : Meta) (id : ℕ) (node : Node) → node_at file meta id ≡ Ok node
+    → (id + node.overflow < meta.high_water) × ((id + node.overflow + 1) * meta.page_size ≤ length file)
+node_within file meta id node e =
+    let (view, is, same) = node_page file meta id node e in
+    subst (λ (n : ℕ). (id + n < meta.high_water) × ((id + n + 1) * meta.page_size ≤ length file)) (sym (same ∙ page_overflows file meta id view is))
+    (span_within file meta id (span_passes file meta id (page_passes file meta id view is)))
 
 pub node_below : (file : List ℕ) (meta : Meta) (id : ℕ) (node : Node) → node_at file meta id ≡ Ok node → id < meta.high_water
-unfolding node_at
-node_below file meta id node e =
-    let (view, is) = seen-some (page_at file meta id) (page_fault file meta id) node e in
-    span_below file meta id (span_passes file meta id (page_passes file meta id view is))
+node_below file meta id node e = let within = (node_within file meta id node e).0 in omega (arith, within)
 
 root_passes : (file : List ℕ) (meta : Meta) → PagePasses (node_at file meta) (IsClaimedBefore (node_at file meta) (reached (node_at file meta) meta.root) IsMetaPage []) (start_of meta.root)
     → 2 < meta.high_water

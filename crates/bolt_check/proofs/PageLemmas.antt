@@ -10,7 +10,7 @@ use Rattle.bolt_check.specs.AccountFindings.{IsAccountFinding, IsBefore, IsInRan
 use Rattle.bolt_check.specs.declared.finding.Finding.{Finding}
 use Rattle.bolt_check.specs.declared.finding.TheConstants.Finding.{FREED_TWICE, FREE_RANGE, REACHED_FREED}
 use Rattle.bolt_check.specs.declared.table.PageUse.{PageUse}
-use Rattle.bolt_check.specs.declared.table.PageUse.TheVariants.{Unused, Used, Free, FreeTwice, UsedFree, UsedFreeTwice}
+use Rattle.bolt_check.specs.declared.table.PageUse.TheVariants.{Unused, Branch, Leaf, Used, Free, FreeTwice, UsedFree, UsedFreeTwice}
 use Rattle.bolt_check.proofs.AccountFindingLemmas.{Tells, tells_none, tells_one, one_rises}
 
 -- a finding on a page, by its number
@@ -109,6 +109,8 @@ module _ (mark : ℕ) (in_use : ℕ → Type 0) (times : ℕ → ℕ) where
   tells_meta n Unused low e used is = absurd (false≢true is)
   tells_meta n Free low e used is = absurd (false≢true is)
   tells_meta n FreeTwice low e used is = absurd (false≢true is)
+  tells_meta n Branch low e used is = tells_unlisted n e (not_lost_used n used)
+  tells_meta n Leaf low e used is = tells_unlisted n e (not_lost_used n used)
   tells_meta n Used low e used is = tells_unlisted n e (not_lost_used n used)
   tells_meta n UsedFree low e used is = tells_range n (omega arith) (inl low) (outside_metas n low)
   tells_meta n UsedFreeTwice low e used is = tells_range n (omega arith) (inl low) (outside_metas n low)
@@ -116,6 +118,8 @@ module _ (mark : ℕ) (in_use : ℕ → Type 0) (times : ℕ → ℕ) where
   tells_use : (n : ℕ) (page_use : PageUse) → IsInRange mark n → times n ≡ times_of page_use → (in_use n → is_used page_use ≡ true) → (is_used page_use ≡ true → in_use n)
       → (page_use ≡ Unused → ⊥) → Tells mark in_use times n (suc n) (use_findings n page_use)
   tells_use n Unused in_range e there here ne = absurd (ne refl)
+  tells_use n Branch in_range e there here ne = tells_unlisted n e (not_lost_used n (here refl))
+  tells_use n Leaf in_range e there here ne = tells_unlisted n e (not_lost_used n (here refl))
   tells_use n Used in_range e there here ne = tells_unlisted n e (not_lost_used n (here refl))
   tells_use n Free in_range e there here ne = tells_well n (omega arith) (λ u. absurd (false≢true (there u))) (not_lost_listed n (omega arith)) in_range
   tells_use n FreeTwice in_range e there here ne = tells_twice n (omega arith) (λ u. false≢true (there u)) in_range

@@ -1,5 +1,5 @@
 -- Claiming lowers the count of what is unclaimed.
-use Rattle.std.proofs.Common.{◌≡◌, ◌≢◌, ℕ, ◌+◌, ◌<◌, ◌≤◌, List, length, set, refl, arith, cond, not, inl, inr, ap, get_or-set_same, get_or-set_other}
+use Rattle.std.proofs.Common.{◌≡◌, ◌≢◌, ℕ, ◌+◌, ◌<◌, ◌≤◌, List, length, set, refl, arith, cond, not, true, inl, inr, ap, get_or-set_same, get_or-set_other}
 use Rattle.std.proofs.lemmas.List.{set_past}
 use Rattle.std.proofs.lemmas.List.Sums.{sum_by-set}
 use Rattle.std.proofs.lemmas.Bool.{cases_lt}
@@ -10,11 +10,12 @@ use Rattle.bolt_check.specs.declared.table.PageUse.TheVariants.{Unused, Used}
 abbrev weight : PageUse → ℕ
 weight page_use = cond (not (is_used page_use)) 1 0
 
-pub unclaimed_fewer : (t : List PageUse) (i : ℕ) → i < length t → IsUnclaimed t i → unclaimed (set t i Used) < unclaimed t
-unclaimed_fewer t i h e =
-    let k = sum_by-set weight t i Used Unused h in
+pub unclaimed_fewer : (t : List PageUse) (i : ℕ) (u : PageUse) → is_used u ≡ true → i < length t → IsUnclaimed t i → unclaimed (set t i u) < unclaimed t
+unclaimed_fewer t i u used h e =
+    let k = sum_by-set weight t i u Unused h in
+    let zero : weight u ≡ 0 = ap (λ b. cond (not b) 1 0) used in
     let one : weight (use_at t i) ≡ 1 = ap (λ b. cond (not b) 1 0) e in
-    omega (arith, k, one)
+    omega (arith, k, one, zero)
 
 pub unclaimed_set : (t : List PageUse) (i : ℕ) → unclaimed (set t i Used) ≤ unclaimed t
 unclaimed_set t i =

@@ -1,10 +1,11 @@
 -- A page that is in the file has its place in the table.
-use Rattle.std.proofs.Common.{◌≡◌, ◌+◌, ◌*◌, ◌<◌, ◌≤◌, ℕ, List, length, arith, subst}
+use Rattle.std.proofs.Common.{◌≡◌, ◌+◌, ◌*◌, ◌<◌, ◌≤◌, ℕ, List, length, arith, refl, subst}
 use Rattle.bolt_format.specs.Pages.{IsInFile, PageView}
 use Rattle.bolt_format.specs.Shown.{shown}
 use Rattle.bolt_format.specs.declared.meta.Meta.{Meta}
 use Rattle.bolt_check.specs.Private.ShownNodes.{shown_node}
 use Rattle.bolt_check.specs.Private.Tables.{HasRoom}
+use Rattle.bolt_check.specs.Private.Uses.{use_of}
 use Rattle.bolt_check.specs.declared.table.PageUse.{PageUse}
 use Rattle.bolt_check.specs.declared.tree_page.TreePage.{TreePage}
 
@@ -18,3 +19,8 @@ in_room file meta id view table inside room =
 pub overflow-is : (node : TreePage) (n : ℕ) → n ≡ (shown node.page).overflow → n ≡ (shown_node node).overflow
 unfolding shown_node
 overflow-is node n e = e
+
+-- what the first page of a node is for
+pub leaf-is : (node : TreePage) → use_of node.is_leaf ≡ use_of (shown_node node).is_leaf
+unfolding shown_node
+leaf-is node = refl

@@ -6,6 +6,9 @@ pub mod Keys
 pub mod Nodes
 pub mod OnWays
 pub mod Private
+pub mod RoledFiles
+pub mod Roles
 pub mod Shape
 pub mod Sound
+pub mod Tours
 pub mod Ways

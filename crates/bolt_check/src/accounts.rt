@@ -52,7 +52,7 @@ fn alone(alloc: Global, finding: Finding) -> Result<Vec<Finding>, AllocError>
 }
 
 /// Claims the freelist's span, unless a page of it is claimed: the answer is the lowest such page.
-fn claim_freelist(file: &[u8], meta: &Meta, table: &mut [PageUse]) -> Option<u64>
+pub(crate) fn claim_freelist(file: &[u8], meta: &Meta, table: &mut [PageUse]) -> Option<u64>
     requires written { meta.now.freelist ≢ NO_FREELIST }
     requires good { freelist_fault_of file.now meta.now ≡ None }
     requires room { HasRoom file.now meta.now table.old }
@@ -65,7 +65,7 @@ fn claim_freelist(file: &[u8], meta: &Meta, table: &mut [PageUse]) -> Option<u64
     if let Some(page) = first_claimed(table, from, last) {
         return Some(page as u64);
     }
-    claim(table, from, last);
+    claim(table, from, last, PageUse::Used);
     None
 }
 

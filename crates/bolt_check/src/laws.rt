@@ -1,9 +1,14 @@
 //! What the definitions of sound files imply.
-ghost use Rattle.std.specs.Prelude.{◌≡◌, ◌↔◌, ℕ, List};
+ghost use Rattle.std.specs.Prelude.{◌≡◌, ◌↔◌, ◌<◌, ℕ, List, Some};
 ghost use Rattle.bolt_format.specs.declared.meta.Meta.{Meta};
 ghost use Rattle.bolt_check.specs.AccountFindings.{AreAccountFindings};
-ghost use Rattle.bolt_check.specs.Sound.{HasSoundTrees, IsFirstFinding, IsUsed, PassesTests};
+ghost use Rattle.bolt_check.specs.Nodes.{node_at};
+ghost use Rattle.bolt_check.specs.Roles.{AreRoles, HasRole};
+ghost use Rattle.bolt_check.specs.Sound.{HasRightAccounts, HasSoundTrees, IsFirstFinding, IsUsed, PassesTests};
+ghost use Rattle.bolt_check.specs.Tours.{IsTour};
+ghost use Rattle.bolt_check.specs.Ways.{At_page, Reach, reached, start_of};
 ghost use Rattle.bolt_check.specs.declared.finding.Finding.{Finding};
+ghost use Rattle.bolt_check.specs.declared.role.Role.{Role};
 
 /// No test of the trees fails exactly where they are sound.
 pub fn sound_trees_pass_the_tests()
@@ -23,4 +28,30 @@ pub fn first_finding_is_one()
 /// What is told of the accounts is one list.
 pub fn account_findings_are_one()
     ensures { (file : List ℕ) (meta : Meta) (a b : List Finding) → AreAccountFindings file meta (IsUsed file meta) a → AreAccountFindings file meta (IsUsed file meta) b → a ≡ b }
+{}
+
+/// In a sound file a page has at most one role.
+pub fn role_is_one()
+    ensures { (file : List ℕ) (meta : Meta) (n : ℕ) (a b : Role) → HasSoundTrees file meta → HasRightAccounts file meta → HasRole file meta n a → HasRole file meta n b → a ≡ b }
+{}
+
+/// In a sound file each page below the mark has a role.
+pub fn role_exists()
+    ensures { (file : List ℕ) (meta : Meta) (n : ℕ) → HasSoundTrees file meta → HasRightAccounts file meta → n < meta.high_water → (role : Role) × HasRole file meta n role }
+{}
+
+/// In a sound file all pages together have roles.
+pub fn roles_exist()
+    ensures { (file : List ℕ) (meta : Meta) → HasSoundTrees file meta → HasRightAccounts file meta → (roles : ℕ → Role) × AreRoles file meta roles }
+{}
+
+/// In sound trees each bucket has a tour.
+pub fn tour_exists()
+    ensures { (file : List ℕ) (meta : Meta) (way : List ℕ) (root : ℕ) → HasSoundTrees file meta → reached (node_at file meta) meta.root way ≡ Some (At_page (start_of root))
+        → (tour : _) × IsTour (reached (node_at file meta) root) tour }
+{}
+
+/// There is at most one tour.
+pub fn tour_is_one()
+    ensures { (reach : Reach) (a b : List (List ℕ)) → IsTour reach a → IsTour reach b → a ≡ b }
 {}

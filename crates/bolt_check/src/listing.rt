@@ -27,7 +27,7 @@ fn listed(page_use: PageUse) -> PageUse
     match page_use {
         PageUse::Unused => PageUse::Free,
         PageUse::Free | PageUse::FreeTwice => PageUse::FreeTwice,
-        PageUse::Used => PageUse::UsedFree,
+        PageUse::Branch | PageUse::Leaf | PageUse::Used => PageUse::UsedFree,
         PageUse::UsedFree | PageUse::UsedFreeTwice => PageUse::UsedFreeTwice,
     }
 }

@@ -7,7 +7,9 @@ ghost use Rattle.bolt_check.specs.Private.Pending.{forest, kids, page_spot, spot
 ghost use Rattle.bolt_check.specs.Private.SearchFaults.{IsSearchFault};
 ghost use Rattle.bolt_check.specs.Private.ShownNodes.{shown_node};
 ghost use Rattle.bolt_check.specs.Private.Tables.{HasRoom, IsClaimed, table_length, unclaimed};
+ghost use Rattle.bolt_check.specs.Private.Uses.{HasUse, IsMetaUse, IsNoted};
 ghost use Rattle.bolt_check.specs.Ways.{At_page, reached, start_of};
+ghost use Rattle.bolt_check.specs.declared.table.PageUse.{PageUse};
 ghost use Rattle.bolt_check.specs.declared.finding.Finding.{Finding};
 
 use crate::fault::CheckFault;
@@ -46,6 +48,7 @@ fn push_kids<'a>(
 fn new_table(alloc: Global, file: &[u8], meta: &Meta) -> Result<Vec<PageUse>, AllocError>
     requires { 0 < meta.now.page_size }
     ensures metas { IfOk result (λ table. (n : ℕ) → IsClaimed table.items n ↔ IsMetaPage n) }
+    ensures uses { IfOk result (λ table. (n : ℕ) (u : PageUse) → IsNoted table.items n u → IsMetaUse n u) }
     ensures room { IfOk result (λ table. HasRoom file.now meta.now table.items) }
     ensures unlisted { IfOk result (λ table. IsUnlisted table.items) }
     ensures length { IfOk result (λ table. length table.items ≡ table_length file.now meta.now) }
@@ -90,6 +93,8 @@ fn step<'a>(
         → IsFirst (node_at file.now meta.now) (forest (node_at file.now meta.now) (spot_at stop.entry ∷ spots_of pending.old.items)) (IsClaimed table.old.items) x) }
     ensures covered { OnOk result ((n : ℕ) → IsCovered (node_at file.now meta.now) (forest (node_at file.now meta.now) (spots_of pending.new.items)) (IsClaimed table.new.items) n
         ↔ IsCovered (node_at file.now meta.now) (forest (node_at file.now meta.now) (spot_at stop.entry ∷ spots_of pending.old.items)) (IsClaimed table.old.items) n) }
+    ensures uses { OnOk result ((n : ℕ) (u : PageUse) → HasUse (node_at file.now meta.now) (forest (node_at file.now meta.now) (spots_of pending.new.items)) (IsNoted table.new.items) n u
+        → HasUse (node_at file.now meta.now) (forest (node_at file.now meta.now) (spot_at stop.entry ∷ spots_of pending.old.items)) (IsNoted table.old.items) n u) }
     ensures told { IfErr result (IsSearchFault (node_at file.now meta.now) (forest (node_at file.now meta.now) (spot_at stop.entry ∷ spots_of pending.old.items)) (IsClaimed table.old.items)) }
 {
     match stop {
@@ -114,6 +119,7 @@ pub(crate) fn search(alloc: Global, file: &[u8], meta: &Meta) -> Result<Vec<Page
     requires { 0 < meta.now.page_size }
     ensures clean { OnOk result (IsClean (node_at file.now meta.now) (reached (node_at file.now meta.now) meta.now.root) IsMetaPage) }
     ensures covered { IfOk result (λ table. (n : ℕ) → IsClaimed table.items n ↔ IsCovered (node_at file.now meta.now) (reached (node_at file.now meta.now) meta.now.root) IsMetaPage n) }
+    ensures uses { IfOk result (λ table. (n : ℕ) (u : PageUse) → IsNoted table.items n u → HasUse (node_at file.now meta.now) (reached (node_at file.now meta.now) meta.now.root) IsMetaUse n u) }
     ensures room { IfOk result (λ table. HasRoom file.now meta.now table.items) }
     ensures unlisted { IfOk result (λ table. IsUnlisted table.items) }
     ensures length { IfOk result (λ table. length table.items ≡ table_length file.now meta.now) }

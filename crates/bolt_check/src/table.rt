@@ -1,7 +1,7 @@
 //! The table of pages: one byte for each whole page that lies in the file and below the high-water
 //! mark, and at least two.
-ghost use Rattle.std.specs.Prelude.{◌≡◌, ℕ, ◌<◌, ◌≤◌, ◌+◌, length, IfSome, MatchOption};
-ghost use Rattle.bolt_check.specs.Private.Tables.{IsClaimed, IsUnclaimed, is_used, unclaimed, use_at};
+ghost use Rattle.std.specs.Prelude.{◌≡◌, ℕ, true, ◌<◌, ◌≤◌, ◌+◌, length, IfSome, MatchOption};
+ghost use Rattle.bolt_check.specs.Private.Tables.{IsClaimed, IsUnclaimed, is_used, times_of, unclaimed, use_at};
 
 /// What a page is found to be for.
 #[derive(Clone, Copy, Debug, PartialEq, Eq)]
@@ -9,7 +9,11 @@ ghost use Rattle.bolt_check.specs.Private.Tables.{IsClaimed, IsUnclaimed, is_use
 pub(crate) enum PageUse {
     /// Nothing was found yet.
     Unused,
-    /// It is a meta page, or in the span of a page that a way leads to, or of the freelist.
+    /// It is a branch that a way leads to.
+    Branch,
+    /// It is a leaf that a way leads to.
+    Leaf,
+    /// It is a meta page, a later page of a span that a way leads to, or in the freelist's span.
     Used,
     /// It is listed as free, once.
     Free,
@@ -40,24 +44,32 @@ fn is_used(page_use: PageUse) -> bool
     ensures { result ≡ is_used page_use }
 {
     match page_use {
-        PageUse::Used | PageUse::UsedFree | PageUse::UsedFreeTwice => true,
+        PageUse::Branch
+        | PageUse::Leaf
+        | PageUse::Used
+        | PageUse::UsedFree
+        | PageUse::UsedFreeTwice => true,
         PageUse::Unused | PageUse::Free | PageUse::FreeTwice => false,
     }
 }
 
-/// Claims the pages of a span of which none is claimed.
+/// Claims the pages of a span of which none is claimed, the first one for this use.
 #[tactic(auto, using(crate::proofs::TableLemmas::unclaimed_fewer, crate::proofs::TableLemmas::unclaimed_set))]
-pub(crate) fn claim(table: &mut [PageUse], from: usize, last: usize)
+pub(crate) fn claim(table: &mut [PageUse], from: usize, last: usize, first: PageUse)
     requires order { from ≤ last }
     requires within { last < length table.old }
     requires free { IsUnclaimed table.old from }
+    requires used { is_used first ≡ true }
+    requires unlisted { times_of first ≡ 0 }
     ensures span { (k : ℕ) → from ≤ k → k ≤ last → IsClaimed table.new k }
-    ensures used { (k : ℕ) → from ≤ k → k ≤ last → use_at table.new k ≡ PageUse.Used }
+    ensures unlisted { (k : ℕ) → from ≤ k → k ≤ last → times_of (use_at table.new k) ≡ 0 }
+    ensures first { use_at table.new from ≡ first }
+    ensures later { (k : ℕ) → from < k → k ≤ last → use_at table.new k ≡ PageUse.Used }
     ensures below { (k : ℕ) → k < from → use_at table.new k ≡ use_at table.old k }
     ensures above { (k : ℕ) → last < k → use_at table.new k ≡ use_at table.old k }
     ensures fewer { unclaimed table.new < unclaimed table.old }
 {
-    table[from] = PageUse::Used;
+    table[from] = first;
     for n in from + 1..last + 1 {
         table[n] = PageUse::Used;
     }

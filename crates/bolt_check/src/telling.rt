@@ -26,7 +26,7 @@ fn tell_meta(findings: &mut Vec<Finding>, page: u64, page_use: PageUse) -> Resul
     ensures { OnOk result (findings.new.items ≡ findings.old.items ++ meta_findings page page_use) }
 {
     match page_use {
-        PageUse::Unused | PageUse::Used => {}
+        PageUse::Unused | PageUse::Branch | PageUse::Leaf | PageUse::Used => {}
         PageUse::Free | PageUse::FreeTwice | PageUse::UsedFree | PageUse::UsedFreeTwice => {
             findings.push(Finding::of_page(Finding::FREE_RANGE, page))?;
         }
@@ -39,7 +39,7 @@ fn tell_use(findings: &mut Vec<Finding>, page: u64, page_use: PageUse) -> Result
     ensures { OnOk result (findings.new.items ≡ findings.old.items ++ use_findings page page_use) }
 {
     match page_use {
-        PageUse::Unused | PageUse::Used | PageUse::Free => {}
+        PageUse::Unused | PageUse::Branch | PageUse::Leaf | PageUse::Used | PageUse::Free => {}
         PageUse::FreeTwice => findings.push(Finding::of_page(Finding::FREED_TWICE, page))?,
         PageUse::UsedFree => findings.push(Finding::of_page(Finding::REACHED_FREED, page))?,
         PageUse::UsedFreeTwice => {
@@ -67,7 +67,9 @@ fn is_unused(page_use: PageUse) -> bool
 {
     match page_use {
         PageUse::Unused => true,
-        PageUse::Used
+        PageUse::Branch
+        | PageUse::Leaf
+        | PageUse::Used
         | PageUse::Free
         | PageUse::FreeTwice
         | PageUse::UsedFree

@@ -7,6 +7,7 @@ ghost use Rattle.bolt_check.specs.Private.Listings.{IsUnlisted};
 ghost use Rattle.bolt_check.specs.Private.Pending.{Claims, page_spot};
 ghost use Rattle.bolt_check.specs.Private.ShownNodes.{shown_node};
 ghost use Rattle.bolt_check.specs.Private.Tables.{HasRoom, IsClaimed, unclaimed};
+ghost use Rattle.bolt_check.specs.Private.Uses.{Notes, use_of};
 ghost use Rattle.bolt_check.specs.Ways.{At_page};
 
 use crate::finding::Finding;
@@ -32,6 +33,7 @@ pub(crate) fn visit<'a>(
     ensures node { IfOk result (λ node. node_at file.now meta.now stop.now.number ≡ Ok (shown_node node)) }
     ensures passes { OnOk result (PagePasses (node_at file.now meta.now) (IsClaimed table.old) (page_spot stop.now)) }
     ensures claims { OnOk result (Claims (node_at file.now meta.now) (At_page (page_spot stop.now)) table.old table.new) }
+    ensures notes { OnOk result (Notes (node_at file.now meta.now) (At_page (page_spot stop.now)) table.old table.new) }
     ensures fewer { OnOk result (unclaimed table.new < unclaimed table.old) }
     ensures unlisted { OnOk result (IsUnlisted table.old → IsUnlisted table.new) }
     ensures shallow { OnOk result (stop.now.depth ≤ 64) }
@@ -51,8 +53,19 @@ pub(crate) fn visit<'a>(
     if let Err(finding) = test_node(&node, stop) {
         return Err(finding);
     }
-    claim(table, from, last);
+    claim(table, from, last, first_use(&node));
     Ok(node)
+}
+
+/// What the first page of a node is for.
+fn first_use(node: &TreePage<'_>) -> PageUse
+    ensures { result ≡ use_of node.now.is_leaf }
+{
+    if node.is_leaf {
+        PageUse::Leaf
+    } else {
+        PageUse::Branch
+    }
 }
 
 /// Tests what a page holds: a branch has an element, and then the keys.

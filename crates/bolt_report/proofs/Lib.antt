@@ -1,7 +1,10 @@
+mod FigureLemmas
 mod KeyTexts
 mod ListTexts
 mod ListWrites
 mod PageFaults
+mod PageTableLemmas
 mod Pieces
 mod ReportLemmas
 mod ShownLemmas
+mod TextLemmas

@@ -1,9 +1,11 @@
 pub mod FaultWords
+pub mod Figures
 pub mod Forms
 pub mod KeyLines
 pub mod Lines
 pub mod ListLines
 pub mod MetaLines
 pub mod PageLines
+pub mod PageTables
 pub mod PageTexts
 pub mod Reports

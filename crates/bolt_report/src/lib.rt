@@ -5,21 +5,27 @@
 mod elements;
 pub mod fault;
 pub mod fault_lines;
+mod figures;
 pub mod form;
 mod hexadecimal;
 mod key_lines;
 mod list_lines;
 pub mod metas;
+mod page_figures;
 pub mod page_lines;
+mod page_table;
 mod puts;
+mod table_text;
 mod text;
 pub mod values;
 
 pub use fault::ReportFault;
 pub use fault_lines::{finding_text, findings_text, meta_fault_text, page_fault_text};
+pub use figures::{Stats, add, stats_text};
 pub use form::Form;
 pub use key_lines::{buckets, keys};
 pub use list_lines::list;
 pub use metas::info;
 pub use page_lines::page_text;
+pub use page_table::pages;
 pub use values::value;

@@ -15,7 +15,6 @@ pub mod laws;
 pub mod listing_laws;
 mod lookup;
 mod moves;
-mod no_memory;
 mod open_buckets;
 mod opened;
 mod pager;
@@ -24,9 +23,9 @@ mod trail;
 mod walk;
 
 pub use at::At;
+pub use bolt_check::NoMemory;
 pub use bucket::Bucket;
 pub use cursor::Cursor;
 pub use entry::{Entry, Item};
-pub use no_memory::NoMemory;
 pub use pager::Pager;
 pub use walk::Walk;

@@ -13,8 +13,7 @@ ghost use Rattle.bolt_tree.specs.Paths.{path_of};
 
 use crate::bucket::Bucket;
 use crate::cursor::Cursor;
-use crate::no_memory::NoMemory;
-use bolt_check::Checked;
+use bolt_check::{Checked, NoMemory};
 use bolt_format::Leaf;
 use std::alloc::Global;
 

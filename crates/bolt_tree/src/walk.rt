@@ -7,9 +7,8 @@ ghost use Rattle.bolt_tree.specs.Private.OpenBuckets.{IsAhead, IsInPlace};
 
 use crate::bucket::Bucket;
 use crate::entry::Item;
-use crate::no_memory::NoMemory;
 use crate::open_buckets::{Ahead, OpenBuckets};
-use bolt_check::Checked;
+use bolt_check::{Checked, NoMemory};
 use std::alloc::Global;
 
 /// A walk over all that a file holds, in the order of the paths: each value and each bucket once,

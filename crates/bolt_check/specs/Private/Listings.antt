@@ -10,7 +10,7 @@ use Rattle.bolt_check.specs.declared.finding.Finding.{Finding}
 use Rattle.bolt_check.specs.declared.finding.TheConstants.Finding.{FREED_TWICE, FREE_RANGE, REACHED_FREED, UNREACHABLE}
 use Rattle.bolt_check.specs.declared.listing.Listing.{Listing}
 use Rattle.bolt_check.specs.declared.table.PageUse.{PageUse}
-use Rattle.bolt_check.specs.declared.table.PageUse.TheVariants.{Unused, Used, Free, FreeTwice, UsedFree, UsedFreeTwice}
+use Rattle.bolt_check.specs.declared.table.PageUse.TheVariants.{Unused, Branch, Leaf, Used, Free, FreeTwice, UsedFree, UsedFreeTwice}
 
 -- nothing is listed yet
 abbrev pub IsUnlisted : List PageUse → Type 0
@@ -44,6 +44,8 @@ repeat_findings ids i = if is_repeated ids i then finding FREED_TWICE (slice_ind
 -- what is told of a page in range
 abbrev pub use_findings : ℕ → PageUse → List Finding
 use_findings page Unused = []
+use_findings page Branch = []
+use_findings page Leaf = []
 use_findings page Used = []
 use_findings page Free = []
 use_findings page FreeTwice = finding FREED_TWICE page ∷ []
@@ -53,6 +55,8 @@ use_findings page UsedFreeTwice = finding FREED_TWICE page ∷ finding REACHED_F
 -- what is told of a meta page
 abbrev pub meta_findings : ℕ → PageUse → List Finding
 meta_findings page Unused = []
+meta_findings page Branch = []
+meta_findings page Leaf = []
 meta_findings page Used = []
 meta_findings page Free = finding FREE_RANGE page ∷ []
 meta_findings page FreeTwice = finding FREE_RANGE page ∷ []
@@ -109,3 +113,4 @@ pub record ClaimsFreelist (file : List ℕ) (meta : Meta) (old new : List PageUs
   pub kept : (n : ℕ) → IsClaimed old n → IsClaimed new n
   pub span : (n : ℕ) → IsInFreelist file meta n → IsClaimed new n
   pub unlisted : IsUnlisted old → IsUnlisted new
+  pub noted : (n : ℕ) (page_use : PageUse) → use_at new n ≡ page_use → (use_at old n ≡ page_use) ⊎ (IsInFreelist file meta n × (page_use ≡ Used))

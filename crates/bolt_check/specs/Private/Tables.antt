@@ -2,7 +2,7 @@
 use Rattle.std.specs.Prelude.{◌≡◌, ◌<◌, ◌≤◌, ◌+◌, ◌*◌, ◌/◌, ℕ, Bool, true, false, not, List, count_by, length, max, min, slice_index_or}
 use Rattle.bolt_format.specs.declared.meta.Meta.{Meta}
 use Rattle.bolt_check.specs.declared.table.PageUse.{PageUse}
-use Rattle.bolt_check.specs.declared.table.PageUse.TheVariants.{Unused, Used, Free, FreeTwice, UsedFree, UsedFreeTwice}
+use Rattle.bolt_check.specs.declared.table.PageUse.TheVariants.{Unused, Branch, Leaf, Used, Free, FreeTwice, UsedFree, UsedFreeTwice}
 
 -- what the table says of page n; behind its end, nothing
 abbrev pub use_at : List PageUse → ℕ → PageUse
@@ -10,6 +10,8 @@ use_at table n = slice_index_or table n Unused
 
 abbrev pub is_used : PageUse → Bool
 is_used Unused = false
+is_used Branch = true
+is_used Leaf = true
 is_used Used = true
 is_used Free = false
 is_used FreeTwice = false
@@ -19,6 +21,8 @@ is_used UsedFreeTwice = true
 -- how often a page is listed, where 2 stands for any higher number
 abbrev pub times_of : PageUse → ℕ
 times_of Unused = 0
+times_of Branch = 0
+times_of Leaf = 0
 times_of Used = 0
 times_of Free = 1
 times_of UsedFree = 1

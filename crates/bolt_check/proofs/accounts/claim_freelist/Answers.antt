@@ -1,6 +1,7 @@
 use Rattle.std.proofs.Common.{◌∙◌, ℕ, ◌+◌, ap, arith, refl}
 use Rattle.bolt_format.specs.Shown.{shown}
-use Rattle.bolt_check.proofs.ClaimLemmas.{claims_freelist, lowest_shared, span_within}
+use Rattle.bolt_check.specs.declared.table.PageUse.TheVariants.{Used}
+use Rattle.bolt_check.proofs.ClaimLemmas.{all_used, claims_freelist, lowest_shared, span_within}
 use Rattle.bolt_check.proofs.FreelistLemmas.{freelist_page, overflow_shown}
 use Rattle.bolt_check.proofs.accounts.claim_freelist.Goals as goal
 
@@ -34,4 +35,5 @@ returns-clause-claimed c =
     let same = c.overflow-overflow.ensures ∙ overflow_shown c.args.file.now c.args.meta.now c.requires.written c.requires.good (shown c.known.result) c.known.ensures in
     claims_freelist c.args.file.now c.args.meta.now c.args.table.now c.claim.new.table (c.args.meta.now.freelist + c.overflow-overflow.result)
     (ap (λ (m : ℕ). c.args.meta.now.freelist + m) same) c.requires.written c.requires.good
-    c.in_default.ensures.none c.claim.ensures.used c.claim.ensures.below c.claim.ensures.above
+    c.in_default.ensures.none c.claim.ensures.span c.claim.ensures.unlisted
+    (all_used c.claim.new.table c.args.meta.now.freelist _ Used c.claim.ensures.first c.claim.ensures.later) c.claim.ensures.below c.claim.ensures.above

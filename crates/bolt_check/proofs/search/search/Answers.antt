@@ -1,10 +1,11 @@
-use Rattle.std.proofs.Common.{◌∙◌, ◌∷◌, vec_len}
+use Rattle.std.proofs.Common.{◌∙◌, ◌∷◌, inl, vec_len}
 use Rattle.bolt_check.specs.Findings.{IsMetaPage}
 use Rattle.bolt_check.specs.Nodes.{node_at}
 use Rattle.bolt_check.specs.Private.Pending.{forest, spot_at, spots_of}
 use Rattle.bolt_check.specs.Private.SearchFaults.{IsSearchFault}
 use Rattle.bolt_check.specs.Private.Tables.{IsClaimed}
 use Rattle.bolt_check.specs.Ways.{reached}
+use Rattle.bolt_check.proofs.UseLemmas.{begin_uses}
 use Rattle.bolt_check.proofs.Visited.{begin_covered, both_ways, end_covered, begin_clean, begin_first, spots_pop, none_left, step_end, told_back, passed_on}
 use Rattle.bolt_check.proofs.search.search.Goals as goal
 
@@ -15,6 +16,7 @@ loop-stop-init c = record {
   long = c.in_ok-table.ensures.length;
   clean = begin_clean (node_at c.args.file.now c.args.meta.now) c.args.meta.now.root c.in_ok-pending.pending.items c.in_ok-table.table.items c.in_ok-pending.ensures c.in_ok-table.ensures.metas;
   covered = begin_covered (node_at c.args.file.now c.args.meta.now) c.args.meta.now.root c.in_ok-pending.pending.items c.in_ok-table.table.items c.in_ok-pending.ensures c.in_ok-table.ensures.metas;
+  uses = begin_uses (node_at c.args.file.now c.args.meta.now) c.args.meta.now.root c.in_ok-pending.pending.items c.in_ok-table.table.items c.in_ok-pending.ensures c.in_ok-table.ensures.uses;
   first = begin_first (node_at c.args.file.now c.args.meta.now) c.args.meta.now.root c.in_ok-pending.pending.items c.in_ok-table.table.items c.in_ok-pending.ensures c.in_ok-table.ensures.metas;
 }
 
@@ -27,6 +29,7 @@ loop-stop-preserved c =
       long = c.in_ok-step.ensures.length ∙ c.loop-stop.invariant.long;
       clean = λ h. let i = rw popped at c.loop-stop.invariant.clean in i (c.in_ok-step.ensures.clean h);
       covered = λ n. let i = rw popped at c.loop-stop.invariant.covered in both_ways _ _ _ (c.in_ok-step.ensures.covered n) (i n);
+      uses = λ n u h. let i = rw popped at c.loop-stop.invariant.uses in i n u (c.in_ok-step.ensures.uses n u h);
       first = λ x h. let i = rw popped at c.loop-stop.invariant.first in i x (c.in_ok-step.ensures.first x h);
     }
 
@@ -50,3 +53,6 @@ returns-in_err-step-clause-first c =
     (forest (node_at c.args.file.now c.args.meta.now) (spot_at c.in-Some.stop ∷ spots_of c.pop.new.self.items))
     IsMetaPage (IsClaimed c.loop-stop.table.items) c.in_err-step.field-0.0 (rw popped at c.loop-stop.invariant.first) c.in_err-step.ensures.told)
     c.from_residual-in_err-step.ensures.1
+
+pub returns-clause-uses : goal.returns-clause-uses
+returns-clause-uses c = λ n u h. c.loop-stop.invariant.uses n u (inl h)

@@ -5,7 +5,9 @@ use Rattle.bolt_check.specs.Private.Listings.{IsUnlisted}
 use Rattle.bolt_check.specs.Nodes.{node_at}
 use Rattle.bolt_check.specs.Private.Pending.{forest, spots_of}
 use Rattle.bolt_check.specs.Private.Tables.{HasRoom, IsClaimed, table_length, unclaimed}
+use Rattle.bolt_check.specs.Private.Uses.{HasUse, IsMetaUse, IsNoted}
 use Rattle.bolt_check.specs.Ways.{reached}
+use Rattle.bolt_check.specs.declared.table.PageUse.{PageUse}
 use Rattle.bolt_check.proofs.search.search.Given as goal
 
 -- what holds of the stops that are left holds of the whole
@@ -18,6 +20,8 @@ invariant-loop-stop l = record {
       → IsClean (node_at l.file l.meta) (reached (node_at l.file l.meta) l.meta.root) IsMetaPage;
   covered : (n : ℕ) → IsCovered (node_at l.file l.meta) (forest (node_at l.file l.meta) (spots_of l.pending.items)) (IsClaimed l.table.items) n
       ↔ IsCovered (node_at l.file l.meta) (reached (node_at l.file l.meta) l.meta.root) IsMetaPage n;
+  uses : (n : ℕ) (u : PageUse) → HasUse (node_at l.file l.meta) (forest (node_at l.file l.meta) (spots_of l.pending.items)) (IsNoted l.table.items) n u
+      → HasUse (node_at l.file l.meta) (reached (node_at l.file l.meta) l.meta.root) IsMetaUse n u;
   first : (x : Finding) → IsFirst (node_at l.file l.meta) (forest (node_at l.file l.meta) (spots_of l.pending.items)) (IsClaimed l.table.items) x
       → IsFirst (node_at l.file l.meta) (reached (node_at l.file l.meta) l.meta.root) IsMetaPage x;
 }

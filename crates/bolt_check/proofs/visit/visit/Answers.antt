@@ -1,11 +1,12 @@
-use Rattle.std.proofs.Common.{sym, refl, arith}
+use Rattle.std.proofs.Common.{◌∙◌, sym, refl, arith}
 use Rattle.bolt_check.specs.Findings.{twice, late}
 use Rattle.bolt_check.specs.Nodes.{node_at}
 use Rattle.bolt_check.specs.Private.Pending.{page_spot}
 use Rattle.bolt_check.specs.Private.ShownNodes.{shown_node}
 use Rattle.bolt_check.proofs.Lawful.{early_passes}
 use Rattle.bolt_check.proofs.Visited.{claims_made, not_both}
-use Rattle.bolt_check.proofs.VisitLemmas.{in_room, overflow-is}
+use Rattle.bolt_check.proofs.UseLemmas.{notes_made}
+use Rattle.bolt_check.proofs.VisitLemmas.{in_room, leaf-is, overflow-is}
 use Rattle.bolt_check.proofs.visit.visit.Goals as goal
 
 pub first_claimed-requires-clause-within : goal.first_claimed-requires-clause-within
@@ -50,3 +51,10 @@ returns-clause-claims c =
     let last = overflow-is node _ c.overflow.ensures in
     claims_made (node_at c.args.file.now c.args.meta.now) (page_spot c.args.stop.now) (shown_node node) c.args.table.now c.claim.new.table c.in-Ok.ensures.node
     (λ k a b. c.claim.ensures.span k a (omega (arith, b, last))) c.claim.ensures.below (λ k h. c.claim.ensures.above k (omega (arith, h, last)))
+
+pub returns-clause-notes : goal.returns-clause-notes
+returns-clause-notes c =
+    let node = c.in-Ok.node in
+    let last = overflow-is node _ c.overflow.ensures in
+    notes_made (node_at c.args.file.now c.args.meta.now) (page_spot c.args.stop.now) (shown_node node) c.args.table.now c.claim.new.table _ (omega (arith, last)) c.in-Ok.ensures.node
+    (c.claim.ensures.first ∙ c.first_use.ensures ∙ leaf-is node) c.claim.ensures.later c.claim.ensures.below c.claim.ensures.above

@@ -1,0 +1,92 @@
+-- What holds of a page with a role, for the crates above.
+use Rattle.std.proofs.Common.{◌≡◌, ℕ, ◌+◌, ◌*◌, ◌<◌, ◌≤◌, ◌⊎◌, inl, inr, Bool, true, List, [], Ok, length, refl, sym, subst, arith}
+use Rattle.std.specs.Prelude.{IsSome}
+use Rattle.std.proofs.Math.Logic.{∥∥₁_elim}
+use Rattle.std.proofs.Math.Nat.{mul-le-mul_right}
+use Rattle.std.proofs.lemmas.Bool.{cases_lt}
+use Rattle.bolt_format.specs.Pages.{page_at}
+use Rattle.bolt_format.specs.declared.meta.Meta.{Meta}
+use Rattle.bolt_check.specs.Accounts.{IsInFreelist}
+use Rattle.bolt_check.specs.CheckedFiles.{bytes_of, has_accounts, meta_of}
+use Rattle.bolt_check.specs.Nodes.{Node, node_at}
+use Rattle.bolt_check.specs.Roles.{AreRoles, HasRole, IsFirstPage}
+use Rattle.bolt_check.specs.Sound.{HasRightAccounts, HasSoundTrees, IsSound}
+use Rattle.bolt_check.specs.Ways.{reached, start_of}
+use Rattle.bolt_check.specs.declared.checked_file.Checked.{Checked}
+use Rattle.bolt_check.specs.declared.role.Role.{Role}
+use Rattle.bolt_check.specs.declared.role.Role.TheVariants as role
+use Rattle.bolt_check.proofs.FreelistLemmas.{freelist_page, freelist_within}
+use Rattle.bolt_check.proofs.MarkLemmas.{node_page, node_within}
+use Rattle.bolt_check.proofs.RoleExists.{role_exists}
+use Rattle.bolt_check.proofs.RoleLemmas.{page_positive}
+use Rattle.bolt_check.proofs.RoleOnce.{role_once}
+
+-- a file whose accounts were tested is sound with its accounts
+pub sound_accounts : (checked : Checked) → has_accounts checked ≡ true → ∥ IsSound (bytes_of checked) (meta_of checked) true ∥₁
+unfolding bytes_of meta_of has_accounts
+sound_accounts checked is = subst (λ (accounts : Bool). ∥ IsSound checked.bytes.now checked.meta accounts ∥₁) is checked.sound
+
+-- what follows of that, and has one proof, holds of it
+pub with_accounts : (checked : Checked) (P : Type 0) → has_accounts checked ≡ true → IsProp P → (IsSound (bytes_of checked) (meta_of checked) true → P) → P
+with_accounts checked P is prop f = ∥∥₁_elim (sound_accounts checked is) prop f
+
+module _ (file : List ℕ) (meta : Meta) where
+  -- the first page of a branch or a leaf is good
+  pub first_shown : (is_leaf : Bool) (n : ℕ) → IsFirstPage (node_at file meta) (reached (node_at file meta) meta.root) is_leaf n → IsSome (page_at file meta n)
+  first_shown is_leaf n is =
+      let (view, at, _) = node_page file meta is.spot.number is.node is.page in
+      subst (λ (k : ℕ). IsSome (page_at file meta k)) (sym is.number) (rw at refl)
+
+  -- and so is the freelist's
+  pub freelist_shown : (n : ℕ) → IsInFreelist file meta n → n ≡ meta.freelist → IsSome (page_at file meta n)
+  freelist_shown n is same = subst (λ (k : ℕ). IsSome (page_at file meta k)) (sym same) (rw (freelist_page file meta is.written is.good) refl)
+
+  -- no page up to the last of a span begins at the file's end
+  inside_file : (n last : ℕ) → 0 < meta.page_size → n ≤ last → (last + 1) * meta.page_size ≤ length file → length file ≤ n * meta.page_size → ⊥
+  inside_file n last positive low end past =
+      let more = mul-le-mul_right meta.page_size (let h : n + 1 ≤ last + 1 = omega arith in h) in
+      let next : (n + 1) * meta.page_size ≡ n * meta.page_size + meta.page_size = omega arith in
+      omega (arith, more, next, end, past, positive)
+
+  past_node : (number n : ℕ) (node : Node) → 0 < meta.page_size → node_at file meta number ≡ Ok node → n ≤ number + node.overflow → length file ≤ n * meta.page_size → ⊥
+  past_node number n node positive page low past = inside_file n (number + node.overflow) positive low (node_within file meta number node page).1 past
+
+  past_freelist : (n : ℕ) → 0 < meta.page_size → IsInFreelist file meta n → length file ≤ n * meta.page_size → ⊥
+  past_freelist n positive is past = inside_file n _ positive is.last (freelist_within file meta is.written is.good).1 past
+
+  past_metas : (n : ℕ) → 0 < meta.page_size → HasSoundTrees file meta → n < 2 → length file ≤ n * meta.page_size → ⊥
+  past_metas n positive trees low past =
+      let (node, page) = (trees.good [] (start_of meta.root) refl).1 in
+      let above : 2 ≤ meta.root = trees.above_metas [] meta.root (rw page (omega arith, omega arith)) in
+      past_node meta.root n node positive page (omega (arith, low, above)) past
+
+  past_role : (n : ℕ) (r : Role) → 0 < meta.page_size → HasSoundTrees file meta → HasRole file meta n r → length file ≤ n * meta.page_size → r ≡ role.Free
+  past_role n role.Meta positive trees is past = absurd (past_metas n positive trees is past)
+  past_role n role.Branch positive trees is past = absurd (let same = is.number in past_node is.spot.number n is.node positive is.page (omega (arith, same)) past)
+  past_role n role.Leaf positive trees is past = absurd (let same = is.number in past_node is.spot.number n is.node positive is.page (omega (arith, same)) past)
+  past_role n role.Freelist positive trees is past = absurd (past_freelist n positive is.0 past)
+  past_role n role.Inside positive trees (inl is) past = absurd (past_node is.spot.number n is.node positive is.page is.within.1 past)
+  past_role n role.Inside positive trees (inr is) past = absurd (past_freelist n positive is.0 past)
+  past_role n role.Free positive trees is past = refl
+
+  -- a page that begins at the file's end or past it is free
+  pub past_is_free : IsSound file meta true → (n : ℕ) (r : Role) → HasRole file meta n r → length file ≤ n * meta.page_size → r ≡ role.Free
+  past_is_free sound n r is past = past_role n r (page_positive file meta sound) sound.trees is past
+
+  pub one_role : IsSound file meta true → (n : ℕ) (a b : Role) → HasRole file meta n a → HasRole file meta n b → a ≡ b
+  one_role sound n a b h k = role_once file meta sound.trees (sound.right refl) n a b h k
+
+  pub size_positive : IsSound file meta true → 0 < meta.page_size
+  size_positive sound = page_positive file meta sound
+
+  abbrev pick : HasSoundTrees file meta → HasRightAccounts file meta → (n : ℕ) → (n < meta.high_water) ⊎ (meta.high_water ≤ n) → Role
+  pick trees right n (inl below) = (role_exists file meta n trees right below).0
+  pick trees right n (inr past) = role.Free
+
+  picked : (trees : HasSoundTrees file meta) (right : HasRightAccounts file meta) (n : ℕ) (where_ : (n < meta.high_water) ⊎ (meta.high_water ≤ n)) → n < meta.high_water
+      → HasRole file meta n (pick trees right n where_)
+  picked trees right n (inl low) below = (role_exists file meta n trees right low).1
+  picked trees right n (inr past) below = absurd (let h : ⊥ = omega (arith, past, below) in h)
+
+  pub some_roles : HasSoundTrees file meta → HasRightAccounts file meta → (roles : ℕ → Role) × AreRoles file meta roles
+  some_roles trees right = (λ n. pick trees right n (cases_lt n meta.high_water), λ n below. picked trees right n (cases_lt n meta.high_water) below)

@@ -1,0 +1,74 @@
+-- Tours: there is at most one, and a visit puts a way before those of what is left.
+use Rattle.std.proofs.Common.{◌≡◌, ℕ, inl, inr, List, [], ◌∷◌, map, Some, refl, sym, ap, ap₂, subst}
+use Rattle.bolt_check.specs.Nodes.{Nodes}
+use Rattle.bolt_check.specs.Tours.{IsBeforeAll, IsIn, IsTour, Rises}
+use Rattle.bolt_check.specs.Ways.{Before, Reach, Spot}
+use Rattle.bolt_check.proofs.Visiting.{Visits}
+use Rattle.bolt_check.proofs.WayOrder.{before_irreflexive, before_trans}
+
+abbrev pub Ways : Type 0
+Ways = List (List ℕ)
+
+pub in_map : (f : List ℕ → List ℕ) (way : List ℕ) (ways : Ways) → IsIn way ways → IsIn (f way) (map f ways)
+in_map f way [] h = h
+in_map f way (v ∷ ways) (inl e) = inl (ap f e)
+in_map f way (v ∷ ways) (inr h) = inr (in_map f way ways h)
+
+pub from_map : (f : List ℕ → List ℕ) (v : List ℕ) (ways : Ways) → IsIn v (map f ways) → (way : List ℕ) × (IsIn way ways × (v ≡ f way))
+from_map f v [] h = absurd h
+from_map f v (w ∷ ways) (inl e) = (w, (inl refl, e))
+from_map f v (w ∷ ways) (inr h) = let p = from_map f v ways h in (p.0, (inr p.1.0, p.1.1))
+
+pub before_all : (v : List ℕ) (ways : Ways) → ((w : List ℕ) → IsIn w ways → Before v w) → IsBeforeAll v ways
+before_all v [] h = tt
+before_all v (w ∷ ways) h = (h w (inl refl), before_all v ways (λ x i. h x (inr i)))
+
+pub before_each : (v : List ℕ) (ways : Ways) → IsBeforeAll v ways → (w : List ℕ) → IsIn w ways → Before v w
+before_each v [] h w i = absurd i
+before_each v (x ∷ ways) h w (inl e) = rw e h.0
+before_each v (x ∷ ways) h w (inr i) = before_each v ways h.1 w i
+
+pub rises_map : (f : List ℕ → List ℕ) (ways : Ways) → ((a b : List ℕ) → IsIn a ways → IsIn b ways → Before a b → Before (f a) (f b)) → Rises ways → Rises (map f ways)
+rises_map f [] up h = tt
+rises_map f (v ∷ ways) up h = (
+  before_all (f v) (map f ways) (λ w i. let p = from_map f w ways i in rw p.1.1 (up v p.0 (inl refl) (inr p.1.0) (before_each v ways h.0 p.0 p.1.0))),
+  rises_map f ways (λ a b i j. up a b (inr i) (inr j)) h.1,
+)
+
+-- a rising list is known by what it has
+same_head : (v w : List ℕ) (vs ws : Ways) → IsBeforeAll v vs → IsBeforeAll w ws → IsIn v (w ∷ ws) → IsIn w (v ∷ vs) → v ≡ w
+same_head v w vs ws a b (inl e) j = e
+same_head v w vs ws a b (inr i) (inl e) = sym e
+same_head v w vs ws a b (inr i) (inr j) = absurd (before_irreflexive v (before_trans v w v (before_each v vs a w j) (before_each w ws b v i)))
+
+in_rest : (v w x : List ℕ) (ws : Ways) → v ≡ w → Before v x → IsIn x (w ∷ ws) → IsIn x ws
+in_rest v w x ws e lt (inl h) = absurd (before_irreflexive x (subst (λ (z : List ℕ). Before z x) (let f : v ≡ x = cc in f) lt))
+in_rest v w x ws e lt (inr h) = h
+
+pub same_ways : (vs ws : Ways) → Rises vs → Rises ws → ((x : List ℕ) → IsIn x vs → IsIn x ws) → ((x : List ℕ) → IsIn x ws → IsIn x vs) → vs ≡ ws
+same_ways [] [] a b to from = refl
+same_ways [] (w ∷ ws) a b to from = absurd (from w (inl refl))
+same_ways (v ∷ vs) [] a b to from = absurd (to v (inl refl))
+same_ways (v ∷ vs) (w ∷ ws) a b to from =
+    let e = same_head v w vs ws a.0 b.0 (to v (inl refl)) (from w (inl refl)) in
+    ap₂ (λ (x : List ℕ) (xs : Ways). x ∷ xs) e
+    (same_ways vs ws a.1 b.1 (λ x i. in_rest v w x ws e (before_each v vs a.0 x i) (to x (inr i))) (λ x i. in_rest w v x vs (sym e) (before_each w ws b.0 x i) (from x (inr i))))
+
+pub one_tour : (reach : Reach) (a b : Ways) → IsTour reach a → IsTour reach b → a ≡ b
+one_tour reach a b h k =
+    same_ways a b h.rises k.rises (λ x i. let p = h.only x i in k.all x p.0 p.1) (λ x i. let p = k.only x i in h.all x p.0 p.1)
+
+-- a visit's way, and then the tour of what is left
+pub tour_step : (nodes : Nodes) (old new : Reach) (c d : ℕ → Type 0) (first : List ℕ) (s : Spot) (f : List ℕ → List ℕ) → Visits nodes old new c d first s f
+    → (tour : Ways) → IsTour new tour → IsTour old (first ∷ map f tour)
+tour_step nodes old new c d first s f v tour is = record {
+  rises = (
+    before_all first (map f tour) (λ w i. let p = from_map f w tour i in let q = is.only p.0 p.1.0 in subst (λ (z : List ℕ). Before first z) (sym p.1.1) (v.after p.0 q.0 q.1)),
+    rises_map f tour (λ a b i j. v.rising a b) is.rises,
+  );
+  all = λ way t e. elim (v.all way t e) [ inl same ↦ inl same | inr (b, (same, leads)) ↦ inr (subst (λ (z : List ℕ). IsIn z (map f tour)) (sym same) (in_map f b tour (is.all b t leads))) ];
+  only = λ way i. elim i [
+    | inl same ↦ (s, subst (λ (z : List ℕ). old z ≡ Some s) (sym same) v.leads)
+    | inr h ↦ let p = from_map f way tour h in let q = is.only p.0 p.1.0 in (q.0, subst (λ (z : List ℕ). old z ≡ Some q.0) (sym p.1.1) (v.same p.0 q.0 q.1))
+  ];
+}

@@ -1,0 +1,13 @@
+use Rattle.std.proofs.Common.{refl}
+use Rattle.std.proofs.Math.Logic.{∥∥₁_elim}
+use Rattle.std.proofs.Props.{props}
+use Rattle.bolt_check.proofs.RoleLemmas.{none_shared}
+use Rattle.bolt_check.proofs.uses.claim_written.Goals as goal
+
+pub claim_freelist-requires-clause-good : goal.claim_freelist-requires-clause-good
+claim_freelist-requires-clause-good c = ∥∥₁_elim c.requires.sound (Prim.hlevel props) (λ sound. (sound.right refl).good)
+
+pub unreachable-requires : goal.unreachable-requires
+unreachable-requires c =
+    let shared = c.in-Some.ensures.shared in
+    ∥∥₁_elim c.requires.sound (Prim.hlevel props) (λ sound. none_shared c.args.file.now c.args.meta.now c.args.table.now _ sound c.requires.claimed shared.0 shared.1)

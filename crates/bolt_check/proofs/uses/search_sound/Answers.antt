@@ -1,0 +1,14 @@
+use Rattle.std.proofs.Math.Logic.{∥∥₁_elim}
+use Rattle.std.proofs.Props.{props}
+use Rattle.bolt_check.specs.Nodes.{node_at}
+use Rattle.bolt_check.proofs.Lawful.{sound_tells_nothing}
+use Rattle.bolt_check.proofs.RoleLemmas.{page_positive}
+use Rattle.bolt_check.proofs.uses.search_sound.Goals as goal
+
+pub search-requires : goal.search-requires
+search-requires c = ∥∥₁_elim c.requires (Prim.hlevel props) (λ sound. page_positive c.args.file.now c.args.meta.now sound)
+
+pub unreachable-requires : goal.unreachable-requires
+unreachable-requires c =
+    let first = rw c.in-Err-Structure.field-0-is at c.in-Err-Structure.ensures.first in
+    ∥∥₁_elim c.requires (Prim.hlevel props) (λ sound. sound_tells_nothing (node_at c.args.file.now c.args.meta.now) c.args.meta.now.root c.in-Err-Structure.field-0-0 sound.trees first)

@@ -1,0 +1,35 @@
+-- The table of pages as a table of roles.
+use Rattle.std.specs.Prelude.{◌≡◌, ◌==◌, ◌⊎◌, ℕ, if◌then◌else◌, List, None, nat_lt}
+use Rattle.bolt_format.specs.Freelists.{freelist_fault_of}
+use Rattle.bolt_format.specs.declared.meta.Meta.{Meta}
+use Rattle.bolt_check.specs.Accounts.{IsInFreelist, IsInUse}
+use Rattle.bolt_check.specs.Nodes.{node_at}
+use Rattle.bolt_check.specs.Private.Tables.{IsClaimed}
+use Rattle.bolt_check.specs.Private.Uses.{HasUse, IsMetaUse, IsNoted}
+use Rattle.bolt_check.specs.Sound.{IsUsed}
+use Rattle.bolt_check.specs.Ways.{reached}
+use Rattle.bolt_check.specs.declared.role.Role.{Role}
+use Rattle.bolt_check.specs.declared.role.Role.TheVariants as role
+use Rattle.bolt_check.specs.declared.table.PageUse.{PageUse}
+use Rattle.bolt_check.specs.declared.table.PageUse.TheVariants.{Unused, Branch, Leaf, Used, Free, FreeTwice, UsedFree, UsedFreeTwice}
+
+-- the table has what each page is used for
+pub record AreUses (file : List ℕ) (meta : Meta) (table : List PageUse) : Type 0 where
+  pub noted : (n : ℕ) (u : PageUse) → IsNoted table n u
+      → HasUse (node_at file meta) (reached (node_at file meta) meta.root) IsMetaUse n u ⊎ (IsInFreelist file meta n × (u ≡ Used))
+  pub good : freelist_fault_of file meta ≡ None
+  pub claimed : (n : ℕ) → IsInUse file meta (IsUsed file meta) n → IsClaimed table n
+
+-- the role of a page with this use, which is no meta page and not the freelist's first
+abbrev pub role_from : PageUse → Role
+role_from Unused = role.Free
+role_from Branch = role.Branch
+role_from Leaf = role.Leaf
+role_from Used = role.Inside
+role_from Free = role.Free
+role_from FreeTwice = role.Free
+role_from UsedFree = role.Inside
+role_from UsedFreeTwice = role.Inside
+
+abbrev pub role_by : Meta → ℕ → PageUse → Role
+role_by meta n page_use = if nat_lt n 2 then role.Meta else (if n == meta.freelist then role.Freelist else role_from page_use)

@@ -1,0 +1,22 @@
+-- The tour of a bucket: all ways that lead somewhere, in their order.
+use Rattle.std.specs.Prelude.{◌≡◌, ◌⊎◌, ℕ, List, [], ◌∷◌, Some}
+use Rattle.bolt_check.specs.Ways.{Before, Reach, Spot}
+
+-- a way comes before each of these
+abbrev pub IsBeforeAll : List ℕ → List (List ℕ) → Type 0
+IsBeforeAll v [] = Unit {0}
+IsBeforeAll v (w ∷ ways) = Before v w × IsBeforeAll v ways
+
+abbrev pub Rises : List (List ℕ) → Type 0
+Rises [] = Unit {0}
+Rises (v ∷ ways) = IsBeforeAll v ways × Rises ways
+
+abbrev pub IsIn : List ℕ → List (List ℕ) → Type 0
+IsIn way [] = ⊥
+IsIn way (v ∷ ways) = (way ≡ v) ⊎ IsIn way ways
+
+-- the rising list of exactly the ways that lead somewhere
+pub record IsTour (reach : Reach) (tour : List (List ℕ)) : Type 0 where
+  pub rises : Rises tour
+  pub all : (way : List ℕ) (s : Spot) → reach way ≡ Some s → IsIn way tour
+  pub only : (way : List ℕ) → IsIn way tour → (s : Spot) × (reach way ≡ Some s)

@@ -1,0 +1,78 @@
+//! The roles of all pages of a file, as a table.
+ghost use Rattle.std.specs.Prelude.{◌≡◌, ◌<◌};
+ghost use Rattle.bolt_check.specs.CheckedFiles.{bytes_of, meta_of};
+ghost use Rattle.bolt_check.specs.Private.RoleTables.{AreUses, role_by};
+ghost use Rattle.bolt_check.specs.Private.Tables.{use_at};
+ghost use Rattle.bolt_check.specs.Roles.{HasRole};
+
+use crate::checked_file::Checked;
+use crate::role::Role;
+use crate::table::PageUse;
+use bolt_format::Meta;
+
+/// What each page of a file is for, where its accounts were tested too (docs/SOUND.md, "Roles").
+/// It takes a byte for each whole page that lies in the file and below the high-water mark.
+#[derive(Drop)]
+pub struct Roles<'a> {
+    pub(crate) checked: Checked<'a>,
+    pub(crate) table: Vec<PageUse>,
+    ghost uses: { ∥ AreUses checked.bytes.now checked.meta table.items ∥₁ },
+}
+
+impl<'a> Roles<'a> {
+    ghost use Rattle.bolt_check.specs.RoledFiles.{roles_checked};
+
+    /// The file whose pages have these roles.
+    #[tactic(auto, unfolding(crate::specs::RoledFiles::roles_checked))]
+    pub fn checked(&self) -> Checked<'a>
+        ensures { result ≡ roles_checked self.now }
+    {
+        self.checked
+    }
+
+    /// What the page with this number is for. It has one role, and takes no memory.
+    #[tactic(auto, unfolding(crate::specs::RoledFiles::roles_checked, crate::specs::CheckedFiles::bytes_of, crate::specs::CheckedFiles::meta_of))]
+    pub fn role(&self, id: u64) -> Role
+        requires { id < (meta_of (roles_checked self.now)).high_water }
+        ensures { ∥ HasRole (bytes_of (roles_checked self.now)) (meta_of (roles_checked self.now)) id result ∥₁ }
+    {
+        let _mark = self.mark();
+        role_by(&self.checked.meta, id, page_use(&self.table, id))
+    }
+
+    /// The high-water mark.
+    fn mark(&self) -> u64
+        ensures { result ≡ self.now.checked.meta.high_water }
+    {
+        self.checked.meta.high_water
+    }
+}
+
+/// What the table says of a page; behind its end, nothing.
+fn page_use(table: &[PageUse], id: u64) -> PageUse
+    ensures { result ≡ use_at table.now id }
+{
+    if id < table.len() as u64 {
+        table[id as usize]
+    } else {
+        PageUse::Unused
+    }
+}
+
+/// The role of a page with this use.
+fn role_by(meta: &Meta, id: u64, page_use: PageUse) -> Role
+    ensures { result ≡ role_by meta.now id page_use }
+{
+    if id < 2 {
+        return Role::Meta;
+    }
+    if id == meta.freelist {
+        return Role::Freelist;
+    }
+    match page_use {
+        PageUse::Branch => Role::Branch,
+        PageUse::Leaf => Role::Leaf,
+        PageUse::Used | PageUse::UsedFree | PageUse::UsedFreeTwice => Role::Inside,
+        PageUse::Unused | PageUse::Free | PageUse::FreeTwice => Role::Free,
+    }
+}

@@ -1,0 +1,79 @@
+//! The roles of all pages of a sound file: the search again, which now finds nothing.
+ghost use Rattle.std.specs.Prelude.{◌≡◌, ◌↔◌, ◌⊎◌, ℕ, IfOk, true};
+ghost use Rattle.bolt_format.specs.declared.meta.TheConstants.{NO_FREELIST};
+ghost use Rattle.bolt_check.specs.CheckedFiles.{has_accounts};
+ghost use Rattle.bolt_check.specs.Nodes.{node_at};
+ghost use Rattle.bolt_check.specs.Private.Listings.{ClaimsFreelist};
+ghost use Rattle.bolt_check.specs.Private.RoleTables.{AreUses};
+ghost use Rattle.bolt_check.specs.Private.Tables.{HasRoom, IsClaimed};
+ghost use Rattle.bolt_check.specs.Private.Uses.{HasUse, IsMetaUse, IsNoted};
+ghost use Rattle.bolt_check.specs.RoledFiles.{roles_checked};
+ghost use Rattle.bolt_check.specs.Sound.{IsSound, IsUsed};
+ghost use Rattle.bolt_check.specs.Ways.{reached};
+
+use crate::accounts::claim_freelist;
+use crate::checked_file::Checked;
+use crate::fault::CheckFault;
+use crate::no_memory::NoMemory;
+use crate::role_table::Roles;
+use crate::search::search;
+use crate::table::PageUse;
+use bolt_format::{Meta, NO_FREELIST};
+use std::alloc::Global;
+
+/// The search of a file that is known to be sound, which finds nothing.
+fn search_sound(alloc: Global, file: &[u8], meta: &Meta) -> Result<Vec<PageUse>, NoMemory>
+    requires { ∥ IsSound file.now meta.now true ∥₁ }
+    ensures claimed { IfOk result (λ table. (n : ℕ) → IsClaimed table.items n ↔ IsUsed file.now meta.now n) }
+    ensures uses { IfOk result (λ table. (n : ℕ) (u : _) → IsNoted table.items n u → HasUse (node_at file.now meta.now) (reached (node_at file.now meta.now) meta.now.root) IsMetaUse n u) }
+    ensures room { IfOk result (λ table. HasRoom file.now meta.now table.items) }
+{
+    match search(alloc, file, meta) {
+        Ok(table) => Ok(table),
+        Err(CheckFault::Memory) => Err(NoMemory),
+        Err(CheckFault::Structure(_)) => unreachable!(),
+        Err(CheckFault::Open(_)) => unreachable!(),
+        Err(CheckFault::Accounts(_)) => unreachable!(),
+    }
+}
+
+/// Claims the freelist's span, of which no page is claimed.
+fn claim_written(file: &[u8], meta: &Meta, table: &mut [PageUse])
+    requires sound { ∥ IsSound file.now meta.now true ∥₁ }
+    requires claimed { (n : ℕ) → IsClaimed table.old n ↔ IsUsed file.now meta.now n }
+    requires room { HasRoom file.now meta.now table.old }
+    ensures { (meta.now.freelist ≡ NO_FREELIST) × (table.new ≡ table.old) ⊎ ClaimsFreelist file.now meta.now table.old table.new }
+{
+    if meta.freelist == NO_FREELIST {
+        return;
+    }
+    match claim_freelist(file, meta, table) {
+        Some(_) => unreachable!(),
+        None => {}
+    }
+}
+
+/// The uses of all pages of a file that is known to be sound.
+fn find_uses(alloc: Global, file: &[u8], meta: &Meta) -> Result<Vec<PageUse>, NoMemory>
+    requires { ∥ IsSound file.now meta.now true ∥₁ }
+    ensures { IfOk result (λ table. ∥ AreUses file.now meta.now table.items ∥₁) }
+{
+    let mut table = search_sound(alloc, file, meta)?;
+    claim_written(file, meta, &mut table);
+    Ok(table)
+}
+
+/// What each page of a file is for (docs/SOUND.md, "Roles"). The file's accounts were tested too.
+///
+/// # Errors
+///
+/// `NoMemory` where there is no room for a byte for each whole page that lies in the file and below
+/// the high-water mark, or for the ways that are still to be followed.
+#[tactic(auto, unfolding(crate::specs::RoledFiles::roles_checked, crate::specs::CheckedFiles::has_accounts))]
+pub fn roles<'a>(alloc: Global, checked: Checked<'a>) -> Result<Roles<'a>, NoMemory>
+    requires { has_accounts checked ≡ true }
+    ensures { IfOk result (λ roles. roles_checked roles ≡ checked.entry) }
+{
+    let table = find_uses(alloc, checked.bytes, &checked.meta)?;
+    Ok(Roles { checked, table })
+}

@@ -1,0 +1,57 @@
+-- The rows of pages by their roles, and the free pages past the file's end.
+use Rattle.std.proofs.Common.{◌≡◌, ◌∙◌, ℕ, zero, suc, ◌+◌, ◌-◌, ◌<◌, ◌≤◌, true, List, Some, cond, length, ap, refl, slice_get, sym, arith}
+use Rattle.std.specs.Prelude.{count_by}
+use Rattle.std.specs.List.{range_with_len}
+use Rattle.std.proofs.Math.Logic.{∥∥₁_elim}
+use Rattle.std.proofs.Math.Nat.{mul-le-mul_right}
+use Rattle.std.proofs.Props.{props}
+use Rattle.std.proofs.lemmas.Grind.{div_ceil_times}
+use Rattle.std.proofs.lemmas.List.FromFn.{get_or-range_with_len, length-range_with_len}
+use Rattle.std.proofs.lemmas.List.Sums.{sum_by-cons}
+use Rattle.std.proofs.lemmas.Option.{slice_get-get_or}
+use Rattle.bolt_format.specs.declared.meta.Meta.{Meta}
+use Rattle.bolt_check.specs.CheckedFiles.{bytes_of, has_accounts, meta_of}
+use Rattle.bolt_check.specs.Roles.{AreRoles, HasRole}
+use Rattle.bolt_check.specs.declared.checked_file.Checked.{Checked}
+use Rattle.bolt_check.specs.declared.role.Role.{Role}
+use Rattle.bolt_check.specs.declared.role.Role.TheVariants as role
+use Rattle.bolt_check.proofs.RoleFacts.{one_role, past_is_free, size_positive, with_accounts}
+use Rattle.bolt_report.specs.PageTables.{begun, is_free, page_row, pages_past}
+
+-- where each of these pages is free, as many are free as there are
+all_free : (roles : ℕ → Role) (from n : ℕ) → ((k : ℕ) → from ≤ k → k < from + n → roles k ≡ role.Free) → count_by (λ k. is_free (roles k)) (range_with_len from n) ≡ n
+all_free roles from zero free = refl
+all_free roles from (suc n) free =
+    let here : roles from ≡ role.Free = free from (omega arith) (omega arith) in
+    let rest = all_free roles (from + 1) n (λ k low high. free k (omega (arith, low)) (omega (arith, high))) in
+    let value : Role → ℕ = λ r. cond (is_free r) 1 0 in
+    let one : value (roles from) ≡ value role.Free = ap value here in
+    sum_by-cons (λ k. cond (is_free (roles k)) 1 0) from (range_with_len (from + 1) n) ∙ omega (arith, one, rest)
+
+-- the numbers below n, in order
+pub number_at_place : (n i : ℕ) → i < n → slice_get (range_with_len 0 n) i ≡ Some i
+number_at_place n i below =
+    slice_get-get_or (range_with_len 0 n) i 0 (omega (arith, below, length-range_with_len 0 n)) ∙ ap (λ k. Some k) (get_or-range_with_len 0 n i 0 below ∙ omega arith)
+
+module _ (checked : Checked) (is : has_accounts checked ≡ true) where
+  abbrev file : List ℕ
+  file = bytes_of checked
+
+  abbrev meta : Meta
+  meta = meta_of checked
+
+  pub positive : 0 < meta.page_size
+  positive = with_accounts checked (0 < meta.page_size) is (Prim.hlevel props) (λ sound. size_positive file meta sound)
+
+  -- all pages from the file's end on are free
+  pub counts_past : (roles : ℕ → Role) → AreRoles file meta roles → meta.high_water - begun file meta ≡ count_by (λ n. is_free (roles n)) (pages_past file meta)
+  counts_past roles are = with_accounts checked _ is (Prim.hlevel props) (λ sound.
+      let ends = (div_ceil_times (length file) meta.page_size positive).0 in
+      sym (all_free roles (begun file meta) (meta.high_water - begun file meta) (λ k low high.
+      let more = mul-le-mul_right meta.page_size low in
+      past_is_free file meta sound k (roles k) (are k (omega (arith, low, high))) (omega (arith, ends, more)))))
+
+  -- the row of a page whose role was found
+  pub same_row : (roles : ℕ → Role) → AreRoles file meta roles → (n : ℕ) (found : Role) → n < meta.high_water → ∥ HasRole file meta n found ∥₁ → page_row file meta n found ≡ page_row file meta n (roles n)
+  same_row roles are n found below has = with_accounts checked _ is (Prim.hlevel props) (λ sound. ∥∥₁_elim has (Prim.hlevel props) (λ h.
+      ap (page_row file meta n) (one_role file meta sound n found (roles n) h (are n below))))

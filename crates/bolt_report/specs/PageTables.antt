@@ -1,0 +1,80 @@
+-- The table of all pages of a file: docs/COMMANDS.md, "What is printed".
+-- What is promised of it is promised for the roles of the pages; each page below the mark has exactly one.
+use Rattle.std.specs.Prelude.{◌==◌, ◌-◌, ℕ, List, [], ◌++◌, Bool, true, false, Option, Some, None, codes, count_by, decimal, flat_map, if◌then◌else◌, length, min, replicate}
+use Rattle.std.specs.Int.{div_ceil}
+use Rattle.std.specs.List.{range_with_len}
+use Rattle.bolt_format.specs.Freelists.{free_ids_at}
+use Rattle.bolt_format.specs.Pages.{PageView, page_at}
+use Rattle.bolt_format.specs.declared.meta.Meta.{Meta}
+use Rattle.bolt_check.specs.CheckedFiles.{bytes_of, meta_of}
+use Rattle.bolt_check.specs.Roles.{AreRoles}
+use Rattle.bolt_check.specs.declared.checked_file.Checked.{Checked}
+use Rattle.bolt_check.specs.declared.role.Role.{Role}
+use Rattle.bolt_check.specs.declared.role.Role.TheVariants as role
+use Rattle.bolt_report.specs.Lines.{line}
+
+-- a text with spaces behind it, as wide as its column; a longer one passes the column
+unfoldable pub column : ℕ → List ℕ → List ℕ
+column width text = text ++ replicate (width - length text) 0x20
+
+-- four columns with a space between them
+unfoldable pub row : (id kind items overflow : List ℕ) → List ℕ
+row id kind items overflow = line (column 8 id ++ codes " " ++ column 10 kind ++ codes " " ++ column 6 items ++ codes " " ++ column 6 overflow)
+
+abbrev pub head_rows : List ℕ
+head_rows =
+    row (codes "ID") (codes "TYPE") (codes "ITEMS") (codes "OVRFLW")
+    ++ row (codes "========") (codes "==========") (codes "======") (codes "======")
+
+-- an overflow of 0 isn't told
+abbrev pub overflow_text : ℕ → List ℕ
+overflow_text overflow = if overflow == 0 then [] else decimal overflow
+
+-- the row of a page that shows something
+abbrev pub shown_row : (n : ℕ) (kind : List ℕ) (items : PageView → ℕ) → Option PageView → List ℕ
+shown_row n kind items (Some view) = row (decimal n) kind (decimal (items view)) (overflow_text view.overflow)
+shown_row n kind items None = []
+
+-- The row of page n: its kind, its number of items, and the overflow of a branch, a leaf or the freelist. A later page of a span has none.
+abbrev pub page_row : List ℕ → Meta → ℕ → Role → List ℕ
+page_row file meta n role.Meta = row (decimal n) (codes "meta") (decimal 0) []
+page_row file meta n role.Branch = shown_row n (codes "branch") (λ view. view.count) (page_at file meta n)
+page_row file meta n role.Leaf = shown_row n (codes "leaf") (λ view. view.count) (page_at file meta n)
+page_row file meta n role.Freelist = shown_row n (codes "freelist") (λ view. length (free_ids_at file meta n)) (page_at file meta n)
+page_row file meta n role.Inside = []
+page_row file meta n role.Free = row (decimal n) (codes "free") [] []
+
+abbrev pub is_free : Role → Bool
+is_free role.Meta = false
+is_free role.Branch = false
+is_free role.Leaf = false
+is_free role.Freelist = false
+is_free role.Inside = false
+is_free role.Free = true
+
+-- how many pages begin in the file
+abbrev pub begun : List ℕ → Meta → ℕ
+begun file meta = div_ceil (length file) meta.page_size
+
+-- the pages that begin in the file and lie below the mark
+abbrev pub pages_in : List ℕ → Meta → List ℕ
+pages_in file meta = range_with_len 0 (min (begun file meta) meta.high_water)
+
+-- the pages below the mark that begin at the file's end or past it
+abbrev pub pages_past : List ℕ → Meta → List ℕ
+pages_past file meta = range_with_len (begun file meta) (meta.high_water - begun file meta)
+
+-- none is told where there is none
+abbrev pub past_line : ℕ → List ℕ
+past_line count = if count == 0 then [] else line (decimal count ++ codes " free pages past the end of the file")
+
+-- the head, a row for each page in the file, and how many free pages lie past its end
+abbrev pub pages_text : List ℕ → Meta → (ℕ → Role) → List ℕ
+pages_text file meta roles =
+    head_rows
+    ++ (flat_map (λ n. page_row file meta n (roles n)) (pages_in file meta)
+    ++ past_line (count_by (λ n. is_free (roles n)) (pages_past file meta)))
+
+-- this holds of the roles of a file's pages
+abbrev pub ForRoles : Checked → ((ℕ → Role) → Type 0) → Type 0
+ForRoles checked P = (roles : ℕ → Role) → AreRoles (bytes_of checked) (meta_of checked) roles → P roles

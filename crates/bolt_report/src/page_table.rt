@@ -1,0 +1,127 @@
+//! The table of all pages of a file.
+ghost use Rattle.std.specs.Prelude.{◌≡◌, ◌≤◌, ◌<◌, ◌⊎◌, IfErr, IsSome, count_by, flat_map, length, true};
+ghost use Rattle.bolt_format.specs.Freelists.{free_ids_at};
+ghost use Rattle.bolt_format.specs.Pages.{page_at};
+ghost use Rattle.bolt_format.specs.Writes.{Writes};
+ghost use Rattle.bolt_check.specs.CheckedFiles.{bytes_of, has_accounts, meta_of};
+ghost use Rattle.bolt_check.specs.RoledFiles.{roles_checked};
+ghost use Rattle.bolt_check.specs.Roles.{HasRole};
+ghost use Rattle.bolt_report.specs.PageTables.{ForRoles, begun, is_free, page_row, pages_in, pages_past, pages_text, shown_row};
+ghost use Rattle.bolt_report.specs.Reports.{Reports};
+
+use crate::fault::ReportFault;
+use crate::puts::put;
+use crate::table_text::{free_row, head_text, items_row, past_text};
+use crate::text::Text;
+use bolt_check::{Checked, Role, Roles, roles};
+use bolt_format::{Sink, SinkFault, free_ids, known};
+use std::alloc::Global;
+
+/// Puts the table of all pages of a file (docs/COMMANDS.md, "What is printed"): a row for each page
+/// that begins in the file and lies below the high-water mark, but for the later pages of a span,
+/// and how many free pages lie past the file's end. The file's accounts were tested too. `Sink`
+/// says that the sink failed, and `NoMemory` that the roles of the pages wanted memory; no other
+/// fault comes, and the sink then took a beginning of the text. Nothing is allocated for a row.
+pub fn pages<S: Sink>(alloc: Global, checked: Checked<'_>, sink: &mut S) -> Result<(), ReportFault>
+    requires { has_accounts checked ≡ true }
+    ensures written { ForRoles checked.entry (λ roles. Reports S.taken S.failed sink.old sink.new (pages_text (bytes_of checked.entry) (meta_of checked.entry) roles) result) }
+    ensures fault { IfErr result (λ fault. (fault ≡ ReportFault.Sink) ⊎ (fault ≡ ReportFault.NoMemory)) }
+{
+    let table = roles(alloc, checked)?;
+    put_table(&table, sink)?;
+    Ok(())
+}
+
+fn put_table<S: Sink>(table: &Roles<'_>, sink: &mut S) -> Result<(), SinkFault>
+    requires { has_accounts (roles_checked table.now) ≡ true }
+    ensures { ForRoles (roles_checked table.now) (λ roles. Writes S.taken S.failed sink.old sink.new (pages_text (bytes_of (roles_checked table.now)) (meta_of (roles_checked table.now)) roles) result) }
+{
+    put(head_text().as_slice(), sink)?;
+    put_rows(table, sink)?;
+    put(past_text(free_past(table)).as_slice(), sink)
+}
+
+/// How many pages begin in the file.
+fn pages_begun(checked: &Checked<'_>) -> u64
+    requires { 0 < (meta_of checked.now).page_size }
+    ensures { result ≡ begun (bytes_of checked.now) (meta_of checked.now) }
+{
+    (checked.bytes().len() as u64).div_ceil(u64::from(checked.meta().page_size))
+}
+
+/// How many free pages lie past the file's end: all from there on up to the mark. They are counted,
+/// and not gone over, since the mark may be any number.
+fn free_past(table: &Roles<'_>) -> u64
+    requires { has_accounts (roles_checked table.now) ≡ true }
+    ensures { ForRoles (roles_checked table.now) (λ roles. result ≡ count_by (λ n. is_free (roles n)) (pages_past (bytes_of (roles_checked table.now)) (meta_of (roles_checked table.now)))) }
+{
+    let checked = table.checked();
+    checked
+        .meta()
+        .high_water
+        .saturating_sub(pages_begun(&checked))
+}
+
+/// Puts the rows of the pages in the file.
+fn put_rows<S: Sink>(table: &Roles<'_>, sink: &mut S) -> Result<(), SinkFault>
+    requires { has_accounts (roles_checked table.now) ≡ true }
+    ensures { ForRoles (roles_checked table.now) (λ roles. Writes S.taken S.failed sink.old sink.new (flat_map (λ n. page_row (bytes_of (roles_checked table.now)) (meta_of (roles_checked table.now)) n (roles n)) (pages_in (bytes_of (roles_checked table.now)) (meta_of (roles_checked table.now)))) result) }
+{
+    let checked = table.checked();
+    let end = pages_begun(&checked).min(checked.meta().high_water);
+    for id in 0..end {
+        put_row(&checked, id, table.role(id), sink)?;
+    }
+    Ok(())
+}
+
+/// Puts the row of a page with this role.
+fn put_row<S: Sink>(
+    checked: &Checked<'_>,
+    id: u64,
+    role: Role,
+    sink: &mut S,
+) -> Result<(), SinkFault>
+    requires { ∥ HasRole (bytes_of checked.now) (meta_of checked.now) id role ∥₁ }
+    ensures { Writes S.taken S.failed sink.old sink.new (page_row (bytes_of checked.now) (meta_of checked.now) id role) result }
+{
+    match role {
+        Role::Meta => put(items_row(id, b"meta", 0, 0).as_slice(), sink),
+        Role::Branch => put(tree_row(checked, id, b"branch").as_slice(), sink),
+        Role::Leaf => put(tree_row(checked, id, b"leaf").as_slice(), sink),
+        Role::Freelist => put(freelist_row(checked, id).as_slice(), sink),
+        Role::Inside => Ok(()),
+        Role::Free => put(free_row(id).as_slice(), sink),
+    }
+}
+
+/// The row of a branch or a leaf.
+fn tree_row(checked: &Checked<'_>, id: u64, kind: &[u8]) -> Text
+    requires kind { length kind.now ≤ 20 }
+    requires good { IsSome (page_at (bytes_of checked.now) (meta_of checked.now) id) }
+    ensures { result.items ≡ shown_row id kind.now (λ view. view.count) (page_at (bytes_of checked.now) (meta_of checked.now) id) }
+{
+    let page = known(checked.bytes(), &checked.meta(), id);
+    items_row(id, kind, u64::from(page.count()), page.overflow())
+}
+
+/// The row of the freelist's first page.
+fn freelist_row(checked: &Checked<'_>, id: u64) -> Text
+    requires { ∥ HasRole (bytes_of checked.now) (meta_of checked.now) id Role.Freelist ∥₁ }
+    ensures { result.items ≡ page_row (bytes_of checked.now) (meta_of checked.now) id Role.Freelist }
+{
+    let page = known(checked.bytes(), &checked.meta(), id);
+    items_row(id, b"freelist", free_count(checked, id), page.overflow())
+}
+
+/// How many ids the freelist has.
+fn free_count(checked: &Checked<'_>, id: u64) -> u64
+    requires { ∥ HasRole (bytes_of checked.now) (meta_of checked.now) id Role.Freelist ∥₁ }
+    ensures { result ≡ length (free_ids_at (bytes_of checked.now) (meta_of checked.now) id) }
+{
+    match free_ids(checked.bytes(), &checked.meta()) {
+        Ok(Some(ids)) => ids.len() as u64,
+        Ok(None) => unreachable!(),
+        Err(_) => unreachable!(),
+    }
+}

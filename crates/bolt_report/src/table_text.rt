@@ -1,0 +1,125 @@
+//! The rows of the table of all pages.
+ghost use Rattle.std.specs.Prelude.{◌≡◌, ◌+◌, ◌≤◌, ◌++◌, [], codes, decimal, length};
+ghost use Rattle.bolt_report.specs.PageTables.{column, head_rows, overflow_text, past_line, row};
+
+use crate::text::{TEXT_LEN, Text, push_bytes, push_number};
+use itoa::Buffer;
+
+/// As many spaces as the widest column has places.
+const SPACES: [u8; 10] = [b' '; 10];
+
+/// The two rows that the table begins with.
+pub(crate) fn head_text() -> Text
+    ensures { result.items ≡ head_rows }
+{
+    let mut text = Text::new();
+    push_row(&mut text, b"ID", b"TYPE", b"ITEMS", b"OVRFLW");
+    push_row(&mut text, b"========", b"==========", b"======", b"======");
+    text
+}
+
+/// The row of a page that has items.
+#[tactic(auto, unfolding(crate::specs::PageTables::row))]
+pub(crate) fn items_row(id: u64, kind: &[u8], items: u64, overflow: u32) -> Text
+    requires { length kind.now ≤ 20 }
+    ensures { result.items ≡ row (decimal id) kind.now (decimal items) (overflow_text overflow) }
+{
+    let mut text = Text::new();
+    push_number_column(&mut text, id, 8);
+    push_bytes(&mut text, b" ");
+    push_column(&mut text, kind, 10);
+    push_bytes(&mut text, b" ");
+    push_number_column(&mut text, items, 6);
+    push_bytes(&mut text, b" ");
+    push_overflow(&mut text, overflow);
+    push_bytes(&mut text, b"\n");
+    text
+}
+
+/// The row of a free page.
+#[tactic(auto, unfolding(crate::specs::PageTables::row))]
+pub(crate) fn free_row(id: u64) -> Text
+    ensures { result.items ≡ row (decimal id) (codes "free") [] [] }
+{
+    let mut text = Text::new();
+    push_number_column(&mut text, id, 8);
+    push_bytes(&mut text, b" ");
+    push_column(&mut text, b"free", 10);
+    push_bytes(&mut text, b" ");
+    push_column(&mut text, b"", 6);
+    push_bytes(&mut text, b" ");
+    push_column(&mut text, b"", 6);
+    push_bytes(&mut text, b"\n");
+    text
+}
+
+/// Adds a row of four texts.
+#[tactic(auto, unfolding(crate::specs::PageTables::row))]
+fn push_row(text: &mut Text, id: &[u8], kind: &[u8], items: &[u8], overflow: &[u8])
+    requires room { length text.old.items + 84 ≤ TEXT_LEN }
+    requires id { length id.now ≤ 20 }
+    requires kind { length kind.now ≤ 20 }
+    requires items { length items.now ≤ 20 }
+    requires overflow { length overflow.now ≤ 20 }
+    ensures row { text.new.items ≡ text.old.items ++ row id.now kind.now items.now overflow.now }
+    ensures short { length text.new.items ≤ length text.old.items + 84 }
+{
+    push_column(text, id, 8);
+    push_bytes(text, b" ");
+    push_column(text, kind, 10);
+    push_bytes(text, b" ");
+    push_column(text, items, 6);
+    push_bytes(text, b" ");
+    push_column(text, overflow, 6);
+    push_bytes(text, b"\n");
+}
+
+/// Adds an overflow in its column, unless it is 0.
+fn push_overflow(text: &mut Text, overflow: u32)
+    requires room { length text.old.items + 20 ≤ TEXT_LEN }
+    ensures column { text.new.items ≡ text.old.items ++ column 6 (overflow_text overflow) }
+    ensures short { length text.new.items ≤ length text.old.items + 20 }
+{
+    if overflow == 0 {
+        push_column(text, b"", 6);
+    } else {
+        push_number_column(text, u64::from(overflow), 6);
+    }
+}
+
+/// Adds a number in a column of this width.
+fn push_number_column(text: &mut Text, n: u64, width: usize)
+    requires room { length text.old.items + 20 ≤ TEXT_LEN }
+    requires width { width ≤ 10 }
+    ensures column { text.new.items ≡ text.old.items ++ column width (decimal n) }
+    ensures short { length text.new.items ≤ length text.old.items + 20 }
+{
+    let mut digits = Buffer::new();
+    push_column(text, digits.format(n).as_bytes(), width);
+}
+
+/// Adds a text in a column of this width.
+#[tactic(auto, unfolding(crate::specs::PageTables::column))]
+fn push_column(text: &mut Text, item: &[u8], width: usize)
+    requires room { length text.old.items + 20 ≤ TEXT_LEN }
+    requires width { width ≤ 10 }
+    requires item { length item.now ≤ 20 }
+    ensures column { text.new.items ≡ text.old.items ++ column width item.now }
+    ensures short { length text.new.items ≤ length text.old.items + 20 }
+{
+    push_bytes(text, item);
+    push_bytes(text, &SPACES[..width.saturating_sub(item.len())]);
+}
+
+/// How many free pages lie past the end of the file, where there is any.
+pub(crate) fn past_text(count: u64) -> Text
+    ensures { result.items ≡ past_line count }
+{
+    let mut text = Text::new();
+    if count > 0 {
+        push_number(&mut text, count);
+        push_bytes(&mut text, b" free pages past the end of the file");
+        push_bytes(&mut text, b"\n");
+    }
+    text
+}
