@@ -2,6 +2,7 @@ pub mod Alike
 pub mod AtPaths
 pub mod BuiltRules
 pub mod CommandLineLemmas
+pub mod CutTexts
 pub mod Doing
 pub mod GivenRows
 pub mod LineReading
@@ -9,6 +10,7 @@ pub mod Lines
 pub mod ListAnswers
 pub mod PageAnswers
 pub mod PageIds
+pub mod PagesAnswers
 pub mod PathReading
 pub mod RootEntries
 pub mod WholeLines

@@ -1,5 +1,5 @@
--- The answer of `list`, whether its text was put whole or not.
-use Rattle.std.proofs.Common.{◌≡◌, ◌∙◌, ◌⊎◌, ℕ, List, [], Option, Ok, Err, inl, inr, ap, refl, subst, sym}
+-- The answer of `list`.
+use Rattle.std.proofs.Common.{◌≡◌, ◌⊎◌, ℕ, List, [], Option, Result, Ok, Err, inr, refl, subst, sym}
 use Rattle.std.specs.Result.{IsErrAnd}
 use Rattle.bolt_check.specs.CheckedFiles.{bytes_of, meta_of}
 use Rattle.bolt_check.specs.Sound.{HasSoundTrees}
@@ -12,30 +12,9 @@ use Rattle.bolt_report.specs.ListLines.{listing_text}
 use Rattle.bolt_report.specs.Reports.{Reports}
 use Rattle.bolt_report.specs.declared.fault.ReportFault.{ReportFault}
 use Rattle.bolt_report.specs.declared.fault.ReportFault.TheVariants as report
-use Rattle.bolt_cli.specs.Answers.{Answer, Does, Ending, IsListAnswer, IsWholeOrCut, done}
+use Rattle.bolt_cli.specs.Answers.{Answer, Does, Ending, IsListAnswer, IsWholeOrCut}
 use Rattle.bolt_cli.specs.Failures.{reported}
-use Rattle.bolt_cli.specs.declared.failure.Failure.TheVariants as failure
-use Rattle.bolt_cli.proofs.Doing.{Does-part, Does-whole}
-
--- an answer that a text is put for, as the job ends
-abbrev DoesList : {S : Type 0} → (taken : S → Option (List ℕ)) (failed : S → ℕ) (old new : S) → List ℕ → Ending → Type 0
-DoesList taken failed old new text ending = (answer : Answer) × IsWholeOrCut text answer × Does taken failed old new answer ending
-
--- memory ran out before anything was put
-abbrev pub cut : List ℕ → Answer
-cut front = record { out = front; ending = Err failure.Memory }
-
-stopped : {S A : Type 0} {taken : S → Option (List ℕ)} {failed : S → ℕ} (old new : S) (text : List ℕ) (e : ReportFault) (result : Ending)
-    → Reports {A = A} taken failed old new text (Err e) → (e ≡ report.Sink) ⊎ (e ≡ report.NoMemory) → (e ≡ report.NoMemory → failed new ≡ failed old)
-    → IsErrAnd result (λ failure. failure ≡ reported e) → DoesList taken failed old new text result
-stopped old new text e (Ok x) put fault memory is = absurd is
-stopped {A = A} old new text e (Err told) put (inl sink) memory is = (done text, inl refl, Does-part old new (done text) e (Err told) put sink is)
-stopped old new text e (Err told) put (inr full) memory is =
-    let begun = put.beginning in (
-      cut begun.front,
-      inr (begun.front, begun.rest, begun.parts, refl),
-      inl (begun.taken, memory full, ap Err (is ∙ ap reported full)),
-    )
+use Rattle.bolt_cli.proofs.CutTexts.{DoesText, cut, text_stopped, text_whole}
 
 module _ (file : List ℕ) (checked : Checked) (from shown : Path) (same : bytes_of checked ≡ file) (trees : HasSoundTrees file (meta_of checked)) (is : shown ≡ from) where
   abbrev ListAnswer : {S : Type 0} → (taken : S → Option (List ℕ)) (failed : S → ℕ) (old new : S) → Ending → Type 0
@@ -44,7 +23,7 @@ module _ (file : List ℕ) (checked : Checked) (from shown : Path) (same : bytes
   own_listing : (listing : List Member) × IsListing (bytes_of checked) (meta_of checked) listing
   own_listing = has_listing (bytes_of checked) (meta_of checked) (subst (λ (f : List ℕ). HasSoundTrees f (meta_of checked)) (sym same) trees)
 
-  as_answer : {S : Type 0} (taken : S → Option (List ℕ)) (failed : S → ℕ) (old new : S) (ending : Ending) → DoesList taken failed old new (listing_text (rest_from shown own_listing.0)) ending
+  as_answer : {S : Type 0} (taken : S → Option (List ℕ)) (failed : S → ℕ) (old new : S) (ending : Ending) → DoesText taken failed old new (listing_text (rest_from shown own_listing.0)) ending
       → ListAnswer taken failed old new ending
   as_answer taken failed old new ending (answer, put, does) =
       let listing = own_listing.0 in (
@@ -58,13 +37,12 @@ module _ (file : List ℕ) (checked : Checked) (from shown : Path) (same : bytes
       → (e ≡ report.Sink) ⊎ (e ≡ report.NoMemory) → (e ≡ report.NoMemory → failed new ≡ failed old) → IsErrAnd result (λ failure. failure ≡ reported e)
       → ListAnswer taken failed old new result
   list_stopped {taken = taken} {failed = failed} old new e result put fault memory told =
-      as_answer taken failed old new result (stopped old new (listing_text (rest_from shown own_listing.0)) e result (put own_listing.0 own_listing.1) fault memory told)
+      as_answer taken failed old new result (text_stopped old new (listing_text (rest_from shown own_listing.0)) e result (put own_listing.0 own_listing.1) fault memory told)
 
   pub list_whole : {S A : Type 0} {taken : S → Option (List ℕ)} {failed : S → ℕ} (old new : S) (x : A)
       → ForListing checked (λ listing. Reports taken failed old new (listing_text (rest_from shown listing)) (Ok x)) → ListAnswer taken failed old new (Ok 0)
   list_whole {taken = taken} {failed = failed} old new x put =
-      let text = listing_text (rest_from shown own_listing.0) in
-      as_answer taken failed old new (Ok 0) (done text, inl refl, Does-whole old new (done text) x (put own_listing.0 own_listing.1))
+      as_answer taken failed old new (Ok 0) (text_whole old new (listing_text (rest_from shown own_listing.0)) x (put own_listing.0 own_listing.1))
 
   -- before the first line
   pub nothing_listed : IsListAnswer file from (meta_of checked) (cut [])

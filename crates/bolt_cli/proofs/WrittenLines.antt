@@ -15,7 +15,7 @@ use Rattle.bolt_cli.specs.declared.words.Refusal.TheVariants.{Memory, Help, Usag
 use Rattle.bolt_cli.specs.LineWords.{Syntax, Text, after, give, known_after, refuse, values_of}
 use Rattle.bolt_cli.specs.PathWords.{each_part, part_of, result_and_then}
 use Rattle.bolt_cli.specs.declared.parts.Parts.TheVariants as parts
-use Rattle.bolt_cli.specs.PlainWords.{Asked, IsInRange, IsPart, Reading, asked_of, asks, asks_at, buckets, check, file_operand, form_of, form_option, form_word, from_option, get, info, keys, line_of, list, page, part_operand, parts_option, reading_in, reading_of, refused, unread, words_for}
+use Rattle.bolt_cli.specs.PlainWords.{Asked, IsInRange, IsPart, Reading, asked_of, asks, asks_at, buckets, check, file_operand, form_of, form_option, form_word, from_option, get, info, keys, line_of, list, page, pages, part_operand, parts_option, reading_in, reading_of, refused, unread, words_for}
 use Rattle.bolt_cli.proofs.GivenRows.{Given}
 use Rattle.bolt_cli.proofs.PageIds.{decimal_numerals, good_id}
 use Rattle.bolt_cli.proofs.WordSteps.{known}
@@ -92,6 +92,7 @@ line_of-words_for name (page file id) in_range =
     let good = good_id (decimal id) (digits_decimal decimal_numerals id in_range) (decimal_nonempty id in_range)
     (let Fits : ℕ → Type 0 = λ n. n < 2 ^ 64 in subst Fits (sym value) in_range) in
     rw (good, value) refl
+line_of-words_for name (pages file) in_range = refl
 line_of-words_for name (check file) in_range = refl
 line_of-words_for name (buckets file Printable) in_range = refl
 line_of-words_for name (buckets file Hex) in_range = refl

@@ -1,10 +1,12 @@
 -- What the program answers to each command, and what its sinks take: docs/COMMANDS.md, "What a run writes".
 use Rattle.std.specs.Prelude.{◌≡◌, ◌<◌, ◌-◌, ◌⊎◌, ℕ, List, [], ◌∷◌, ◌++◌, true, codes, length, take, Option, Some, None, Result, Ok, Err}
 use Rattle.std.specs.Io.KnownBytes.{Appends}
+use Rattle.bolt_check.specs.Roles.{AreRoles}
 use Rattle.bolt_check.specs.Sound.{IsRefused, IsSound}
 use Rattle.bolt_check.specs.declared.fault.CheckFault.{CheckFault}
 use Rattle.bolt_check.specs.declared.fault.CheckFault.TheVariants as check
 use Rattle.bolt_check.specs.declared.finding.Finding.{Finding}
+use Rattle.bolt_check.specs.declared.role.Role.{Role}
 use Rattle.bolt_format.specs.Elements.{LeafElement}
 use Rattle.bolt_format.specs.Metas.{HasMetaFault, IsChosen, IsInSlot}
 use Rattle.bolt_format.specs.Sinks.{AppendsBeginning}
@@ -17,6 +19,7 @@ use Rattle.bolt_report.specs.Forms.{value_text}
 use Rattle.bolt_report.specs.KeyLines.{buckets_text, keys_text}
 use Rattle.bolt_report.specs.ListLines.{listing_text}
 use Rattle.bolt_report.specs.MetaLines.{info_text}
+use Rattle.bolt_report.specs.PageTables.{pages_text}
 use Rattle.bolt_report.specs.PageTexts.{page_text, page_text_fault}
 use Rattle.bolt_report.specs.declared.form.Form.{Form}
 use Rattle.bolt_tree.specs.Entries.{AreEntries, IsEntry, Item, Root_page, Start, Value}
@@ -113,6 +116,10 @@ IsGetAnswer file path form meta answer =
 abbrev pub IsListAnswer : List ℕ → Path → Meta → Answer → Type 0
 IsListAnswer file from meta answer = (listing : List Member) × IsListing file meta listing × IsWholeOrCut (listing_text (rest_from from listing)) answer
 
+-- the table of all pages by their roles; or memory ran out, and a beginning of it was put
+abbrev pub IsPagesAnswer : List ℕ → Meta → Answer → Type 0
+IsPagesAnswer file meta answer = (roles : ℕ → Role) × AreRoles file meta roles × IsWholeOrCut (pages_text file meta roles) answer
+
 -- the answer where the file is sound, or where it is refused
 abbrev pub IsCheckedAnswer : List ℕ → (Meta → Answer → Type 0) → (CheckFault → Answer → Type 0) → Answer → Type 0
 IsCheckedAnswer file IsAccepted IsRefusal answer =
@@ -129,6 +136,7 @@ IsFileRefusal fault answer = (failure : Failure) × IsToldAs fault failure × (a
 abbrev pub IsAnswer : List ℕ → Job → Answer → Type 0
 IsAnswer file (job.Info name) = IsOpenAnswer file (λ slot meta. done (info_text slot meta))
 IsAnswer file (job.Page name id) = IsOpenAnswer file (λ slot meta. page_answer (page_text_fault file meta id) (page_text file meta id))
+IsAnswer file (job.Pages name) = IsCheckedAnswer file (IsPagesAnswer file) IsFileRefusal
 IsAnswer file (job.Check name) = IsCheckedAnswer file (λ meta answer. answer ≡ done (codes "OK\n")) (λ fault answer. answer ≡ check_refusal fault)
 IsAnswer file (job.Buckets name form) = IsCheckedAnswer file (IsBucketsAnswer file form) IsFileRefusal
 IsAnswer file (job.Keys name path form) = IsCheckedAnswer file (IsKeysAnswer file (path_in path.items) form) IsFileRefusal

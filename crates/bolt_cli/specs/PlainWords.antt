@@ -37,6 +37,7 @@ abbrev pub syntaxes : List Syntax
 syntaxes =
     record { name = codes "info"; operands = file_operand ∷ []; options = [] }
     ∷ record { name = codes "page"; operands = file_operand ∷ id_operand ∷ []; options = [] }
+    ∷ record { name = codes "pages"; operands = file_operand ∷ []; options = [] }
     ∷ record { name = codes "check"; operands = file_operand ∷ []; options = [] }
     ∷ record { name = codes "buckets"; operands = file_operand ∷ []; options = form_option ∷ [] }
     ∷ record { name = codes "keys"; operands = file_operand ∷ part_operand ∷ []; options = form_option ∷ parts_option ∷ [] }
@@ -50,6 +51,7 @@ syntaxes =
 pub data Asked : Type 0 where
   info : Text → Asked
   page : Text → ℕ → Asked
+  pages : Text → Asked
   check : Text → Asked
   buckets : Text → Form → Asked
   keys : Text → Path → Form → Asked
@@ -63,6 +65,7 @@ path_in {Z} parts = map (λ (part : Vec ℕ Z). part.items) parts
 abbrev pub asked_of : Job → Asked
 asked_of (job.Info file) = info (string_bytes file)
 asked_of (job.Page file id) = page (string_bytes file) id
+asked_of (job.Pages file) = pages (string_bytes file)
 asked_of (job.Check file) = check (string_bytes file)
 asked_of (job.Buckets file form) = buckets (string_bytes file) form
 asked_of (job.Keys file path form) = keys (string_bytes file) (path_in path.items) form
@@ -73,6 +76,7 @@ asked_of (job.List file from) = list (string_bytes file) (path_in from.items)
 abbrev pub file_name : Job → Text
 file_name (job.Info file) = string_bytes file
 file_name (job.Page file id) = string_bytes file
+file_name (job.Pages file) = string_bytes file
 file_name (job.Check file) = string_bytes file
 file_name (job.Buckets file form) = string_bytes file
 file_name (job.Keys file path form) = string_bytes file
@@ -125,6 +129,9 @@ abbrev pub asks_page : Values → Result Asked Text
 asks_page values = result_and_then (λ file. result_and_then (λ id. Ok (page file id))
     (result_and_then page_id (text_by (codes "ID") values))) (text_by (codes "FILE") values)
 
+abbrev pub asks_pages : Values → Result Asked Text
+asks_pages values = result_and_then (λ file. Ok (pages file)) (text_by (codes "FILE") values)
+
 abbrev pub asks_check : Values → Result Asked Text
 asks_check values = result_and_then (λ file. Ok (check file)) (text_by (codes "FILE") values)
 
@@ -155,6 +162,7 @@ abbrev pub asked : Text → Values → Result Asked Text
 asked name values =
     if bytes_eq name (codes "info") then asks_info values
     else if bytes_eq name (codes "page") then asks_page values
+    else if bytes_eq name (codes "pages") then asks_pages values
     else if bytes_eq name (codes "check") then asks_check values
     else if bytes_eq name (codes "buckets") then asks_buckets values
     else if bytes_eq name (codes "keys") then asks_keys values
@@ -206,6 +214,7 @@ from_words (part ∷ path) words = codes "--from" ∷ join_with_byte 47 (map enc
 abbrev pub words_for : Text → Asked → List Text
 words_for name (info file) = name ∷ codes "info" ∷ codes "--" ∷ file ∷ []
 words_for name (page file id) = name ∷ codes "page" ∷ codes "--" ∷ file ∷ decimal id ∷ []
+words_for name (pages file) = name ∷ codes "pages" ∷ codes "--" ∷ file ∷ []
 words_for name (check file) = name ∷ codes "check" ∷ codes "--" ∷ file ∷ []
 words_for name (buckets file form) = name ∷ codes "buckets" ∷ codes "--form" ∷ form_word form ∷ codes "--" ∷ file ∷ []
 words_for name (keys file path form) = name ∷ codes "keys" ∷ path_words file path form

@@ -14,6 +14,8 @@ pub enum Job {
         file: String,
         id: u64,
     },
+    /// The table of all pages.
+    Pages { file: String },
     /// Whether the file is sound.
     Check {
         file: String,
@@ -53,6 +55,7 @@ impl Job {
         match self {
             Job::Info { file } => file.as_str(),
             Job::Page { file, id: _ } => file.as_str(),
+            Job::Pages { file } => file.as_str(),
             Job::Check { file } => file.as_str(),
             Job::Buckets { file, form: _ } => file.as_str(),
             Job::Keys {

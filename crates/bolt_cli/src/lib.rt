@@ -13,6 +13,7 @@ mod list_command;
 mod open_bucket;
 mod open_checked;
 mod page_command;
+mod pages_command;
 mod parts;
 mod path_words;
 mod runs;

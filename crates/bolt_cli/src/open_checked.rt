@@ -1,6 +1,6 @@
 //! Opens a file for the commands that read no file but a sound one.
 ghost use Rattle.std.specs.Prelude.{◌≡◌, IfErr, IfOk, true};
-ghost use Rattle.bolt_check.specs.CheckedFiles.{bytes_of, meta_of};
+ghost use Rattle.bolt_check.specs.CheckedFiles.{bytes_of, has_accounts, meta_of};
 ghost use Rattle.bolt_check.specs.Sound.{IsRefused, IsSound};
 ghost use Rattle.bolt_check.specs.declared.fault.CheckFault.{CheckFault};
 ghost use Rattle.bolt_format.specs.Metas.{IsChosen};
@@ -15,6 +15,7 @@ use std::alloc::Global;
 pub(crate) fn open_checked(alloc: Global, file: &[u8]) -> Result<Checked<'_>, Failure>
     ensures bytes { IfOk result (λ checked. bytes_of checked ≡ file.now) }
     ensures sound { IfOk result (λ checked. (slot : Slot) × IsChosen file.now slot (meta_of checked) × IsSound file.now (meta_of checked) true) }
+    ensures accounts { IfOk result (λ checked. has_accounts checked ≡ true) }
     ensures refused { IfErr result (λ failure. (fault : CheckFault) × IsRefused file.now fault × IsToldAs fault failure) }
 {
     match check(alloc, file) {

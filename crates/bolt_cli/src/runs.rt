@@ -11,6 +11,7 @@ use crate::job::Job;
 use crate::keys_command::print_keys;
 use crate::list_command::print_list;
 use crate::page_command::print_page;
+use crate::pages_command::print_pages;
 use crate::status::Status;
 use bolt_format::Sink;
 use std::alloc::Global;
@@ -52,6 +53,7 @@ fn do_job<O: Sink>(alloc: Global, job: &Job, file: &[u8], out: &mut O) -> Result
     match job {
         Job::Info { file: _ } => print_info(file, out),
         Job::Page { file: _, id } => print_page(file, *id, out),
+        Job::Pages { file: _ } => print_pages(alloc, file, out),
         Job::Check { file: _ } => print_check(alloc, file, out),
         Job::Buckets { file: _, form } => print_buckets(alloc, file, *form, out),
         Job::Keys {

@@ -88,7 +88,7 @@ const FROM: Choice = Choice {
 };
 
 /// The line of each command, in the order in which help tells them.
-pub(crate) static SYNTAXES: [Syntax; 7] = [
+pub(crate) static SYNTAXES: [Syntax; 8] = [
     Syntax {
         name: "info",
         about: "Show the meta in force: page size, transaction, root, freelist, high-water mark",
@@ -99,6 +99,12 @@ pub(crate) static SYNTAXES: [Syntax; 7] = [
         name: "page",
         about: "Show one page: its type and what it holds, keys and values in hex",
         operands: &[FILE, ID],
+        options: &[],
+    },
+    Syntax {
+        name: "pages",
+        about: "Show what each page is for: a row for each, and how many free ones the file lacks",
+        operands: &[FILE],
         options: &[],
     },
     Syntax {

@@ -3,7 +3,7 @@ ghost use Rattle.std.specs.Prelude.{◌≡◌, IfErr, IfOk, MatchResult, Some, N
 ghost use Rattle.clap.specs.Words.{fault_of, found_of, kind_of, rows_of, subcommand_rows_of};
 ghost use Rattle.bolt_cli.specs.CommandLine.{Asks, Gives, HasKindOf, IsRefusalOf, IsRefusedBy, asked_by, asked_by_subcommand, program, values_in};
 ghost use Rattle.bolt_cli.specs.LineWords.{Text};
-ghost use Rattle.bolt_cli.specs.PlainWords.{Asked, IsInRange, asked_of, asks, asks_buckets, asks_check, asks_get, asks_info, asks_keys, asks_list, asks_page, first_of, form_by, form_of, line_of, page_id, path_by, path_in, text_by, words_for};
+ghost use Rattle.bolt_cli.specs.PlainWords.{Asked, IsInRange, asked_of, asks, asks_buckets, asks_check, asks_get, asks_info, asks_keys, asks_list, asks_page, asks_pages, first_of, form_by, form_of, line_of, page_id, path_by, path_in, text_by, words_for};
 ghost use Rattle.bolt_cli.specs.declared.words.Refusal.TheVariants.{Memory};
 
 use crate::command_line;
@@ -45,7 +45,7 @@ impl<T: Drop> From<AllocFailed<T>> for Refusal {
 
 /// Reads the words of a command line, of which the first is the program's name.
 ///
-/// The lines are `info FILE`, `page FILE ID`, `check FILE`, `buckets FILE [--form F]`,
+/// The lines are `info FILE`, `page FILE ID`, `pages FILE`, `check FILE`, `buckets FILE [--form F]`,
 /// `keys FILE PART.. [--form F] [--parts P]`, `get FILE PART.. [--form F] [--parts P]` and
 /// `list FILE [--from HEXPATH]`. Options stand before, between or behind the operands, once each, as
 /// `--form hex` or `--form=hex`. A word that begins with a hyphen and has more is an option, unless
@@ -98,6 +98,7 @@ fn read_matches(alloc: Global, matches: &ArgMatches<'_>) -> Result<Job, Refusal>
     match matches.subcommand() {
         Some(("info", matches)) => read_info(alloc, matches),
         Some(("page", matches)) => read_page(alloc, matches),
+        Some(("pages", matches)) => read_pages(alloc, matches),
         Some(("check", matches)) => read_check(alloc, matches),
         Some(("buckets", matches)) => read_buckets(alloc, matches),
         Some(("keys", matches)) => read_keys(alloc, matches),
@@ -120,6 +121,13 @@ fn read_page(alloc: Global, matches: &ArgMatches<'_>) -> Result<Job, Refusal>
     let file = read_text(alloc, matches, "FILE")?;
     let id = read_page_id(value(matches, "ID")?)?;
     Ok(Job::Page { file, id })
+}
+
+fn read_pages(alloc: Global, matches: &ArgMatches<'_>) -> Result<Job, Refusal>
+    ensures { Gives asked_of (asks_pages (values_in (rows_of (found_of matches.now)))) result }
+{
+    let file = read_text(alloc, matches, "FILE")?;
+    Ok(Job::Pages { file })
 }
 
 fn read_check(alloc: Global, matches: &ArgMatches<'_>) -> Result<Job, Refusal>

@@ -20,12 +20,14 @@ use std::alloc::Global;
 /// Puts the table of all pages of a file (docs/COMMANDS.md, "What is printed"): a row for each page
 /// that begins in the file and lies below the high-water mark, but for the later pages of a span,
 /// and how many free pages lie past the file's end. The file's accounts were tested too. `Sink`
-/// says that the sink failed, and `NoMemory` that the roles of the pages wanted memory; no other
-/// fault comes, and the sink then took a beginning of the text. Nothing is allocated for a row.
+/// says that the sink failed, and `NoMemory` that the roles of the pages wanted memory and the sink
+/// had not failed; no other fault comes, and the sink then took a beginning of the text. Nothing is
+/// allocated for a row.
 pub fn pages<S: Sink>(alloc: Global, checked: Checked<'_>, sink: &mut S) -> Result<(), ReportFault>
     requires { has_accounts checked ≡ true }
     ensures written { ForRoles checked.entry (λ roles. Reports S.taken S.failed sink.old sink.new (pages_text (bytes_of checked.entry) (meta_of checked.entry) roles) result) }
     ensures fault { IfErr result (λ fault. (fault ≡ ReportFault.Sink) ⊎ (fault ≡ ReportFault.NoMemory)) }
+    ensures memory { IfErr result (λ fault. fault ≡ ReportFault.NoMemory → S.failed sink.new ≡ S.failed sink.old) }
 {
     let table = roles(alloc, checked)?;
     put_table(&table, sink)?;

@@ -1,11 +1,13 @@
-//! Rows of the commands `keys`, `get` and `list`.
+//! Rows of the commands `keys`, `get`, `list` and `pages`.
 
-use crate::commands::{Outcome, Row, check_rows};
-use crate::samples::GREATEST_OVERFLOW;
+use crate::commands::{FileRow, Outcome, Row, check_files, check_rows};
+use crate::samples::{GREATEST_OVERFLOW, WITHOUT_FREELIST};
 use Element::{Bucket, Value};
 use Outcome::{Fails, Prints, PrintsBytes};
-use format_rows::maker::{Element, MetaFields, inline};
-use format_rows::samples::{INLINE_BUCKET, forty_values, make, two_buckets, with_root};
+use format_rows::maker::{Element, FRESH, MetaFields, NO_FREELIST, inline};
+use format_rows::samples::{
+    FRESH_FILE, INLINE_BUCKET, Sample, forty_values, make, two_buckets, with_root,
+};
 use std::test::Fail;
 
 /// On the file with the inline bucket `b`, which has `k1` = `v1`.
@@ -159,6 +161,67 @@ fn bytes_and_sequences(rt: HostRuntime) -> Result<(), Fail> {
     ];
     let file = with_root(alloc, &MetaFields::fresh(1024), &elements)?;
     check_rows(&rt, alloc, "bytes", file.as_slice(), &BYTES)?;
+    Ok(())
+}
+
+/// The table of the pages of a file. Each line but the last two has spaces at its end.
+static TABLES: [FileRow<'static>; 4] = [
+    (
+        "the fresh file",
+        FRESH_FILE,
+        Prints(
+            "ID       TYPE       ITEMS  OVRFLW\n\
+            ======== ========== ====== ======\n\
+            0        meta       0            \n\
+            1        meta       0            \n\
+            2        freelist   0            \n\
+            3        leaf       0            \n",
+        ),
+    ),
+    (
+        "no freelist",
+        WITHOUT_FREELIST,
+        Prints(
+            "ID       TYPE       ITEMS  OVRFLW\n\
+            ======== ========== ====== ======\n\
+            0        meta       0            \n\
+            1        meta       0            \n\
+            2        free                    \n\
+            3        leaf       0            \n\
+            4        free                    \n",
+        ),
+    ),
+    (
+        "no freelist, and the greatest mark",
+        Sample {
+            fields: MetaFields {
+                mark: u64::MAX,
+                freelist: NO_FREELIST,
+                ..FRESH
+            },
+            patches: &[(2 * 4096, &[0; 16])],
+            ..FRESH_FILE
+        },
+        Prints(
+            "ID       TYPE       ITEMS  OVRFLW\n\
+            ======== ========== ====== ======\n\
+            0        meta       0            \n\
+            1        meta       0            \n\
+            2        free                    \n\
+            3        leaf       0            \n\
+            18446744073709551611 free pages past the end of the file\n",
+        ),
+    ),
+    (
+        "an overflow past the mark",
+        GREATEST_OVERFLOW,
+        Fails("file refused: page 3: out of range"),
+    ),
+];
+
+#[test]
+fn tables(rt: HostRuntime) -> Result<(), Fail> {
+    check_files(&rt, rt.alloc(), &["pages", "FILE"], &TABLES)?;
     Ok(())
 }
 

@@ -18,6 +18,7 @@ static HELP: [Row<'static>; 7] = [
             Commands:\n  \
               info     Show the meta in force: page size, transaction, root, freelist, high-water mark\n  \
               page     Show one page: its type and what it holds, keys and values in hex\n  \
+              pages    Show what each page is for: a row for each, and how many free ones the file lacks\n  \
               check    Say whether the file is sound, and if not, each thing that is wrong\n  \
               buckets  List the names of the buckets in the root bucket\n  \
               keys     List the keys of a bucket, those of its buckets among them\n  \
@@ -105,7 +106,7 @@ static COMMANDS: [Row<'static>; 5] = [
         &[],
         Refused(
             "error: 'luntsegi' requires a subcommand but one was not provided\n  \
-            [subcommands: info, page, check, buckets, keys, get, list]\n\
+            [subcommands: info, page, pages, check, buckets, keys, get, list]\n\
             \n\
             Usage: luntsegi <COMMAND>\n\
             \n\
@@ -154,7 +155,7 @@ const SIMILAR_BUCKET: &str = "error: unrecognized subcommand 'bucket'\n\
     For more information, try '--help'.\n";
 
 /// Lines with too few operands, or with too many.
-static OPERANDS: [Row<'static>; 12] = [
+static OPERANDS: [Row<'static>; 13] = [
     (
         &["info"],
         Refused(
@@ -181,6 +182,16 @@ static OPERANDS: [Row<'static>; 12] = [
             "error: the following required arguments were not provided:\n  <ID>\n\
             \n\
             Usage: luntsegi page <FILE> <ID>\n\
+            \n\
+            For more information, try '--help'.\n",
+        ),
+    ),
+    (
+        &["pages"],
+        Refused(
+            "error: the following required arguments were not provided:\n  <FILE>\n\
+            \n\
+            Usage: luntsegi pages <FILE>\n\
             \n\
             For more information, try '--help'.\n",
         ),
@@ -451,6 +462,7 @@ fn file_words(rt: HostRuntime) -> Result<(), Fail> {
     for file in ["", "-", "buckets", "\u{663}", long.as_str()] {
         check_file(&rt, alloc, &["info", file], file)?;
         check_file(&rt, alloc, &["page", file, "3"], file)?;
+        check_file(&rt, alloc, &["pages", file], file)?;
         check_file(&rt, alloc, &["check", file], file)?;
         check_file(&rt, alloc, &["buckets", "--form", "hex", file], file)?;
         check_file(

@@ -7,7 +7,8 @@ use Rattle.bolt_cli.specs.PlainWords.{path_in}
 use Rattle.bolt_cli.specs.declared.failure.Failure.{Failure}
 use Rattle.bolt_cli.specs.declared.failure.Failure.TheVariants as failure
 use Rattle.bolt_cli.proofs.Doing.{Does-nothing}
-use Rattle.bolt_cli.proofs.ListAnswers.{cut, list_stopped, list_whole, nothing_listed}
+use Rattle.bolt_cli.proofs.CutTexts.{cut}
+use Rattle.bolt_cli.proofs.ListAnswers.{list_stopped, list_whole, nothing_listed}
 use Rattle.bolt_cli.proofs.list_command.print_list.Goals as goal
 
 pub returns-in_err-checked : goal.returns-in_err-checked

@@ -1,0 +1,31 @@
+use Rattle.std.proofs.Common.{inl, inr, refl}
+use Rattle.bolt_check.specs.CheckedFiles.{meta_of}
+use Rattle.bolt_cli.specs.Answers.{refused}
+use Rattle.bolt_cli.proofs.Doing.{Does-nothing}
+use Rattle.bolt_cli.proofs.PagesAnswers.{pages_stopped, pages_whole}
+use Rattle.bolt_cli.proofs.pages_command.print_pages.Goals as goal
+
+pub returns-in_err-checked : goal.returns-in_err-checked
+returns-in_err-checked g c =
+    let failure = c.in_err-checked.field-0.0 in
+    let (fault, is, told) = c.in_err-checked.ensures.refused in (
+      refused failure,
+      inr (fault, is, (failure, told, refl)),
+      Does-nothing g.O.Sink.taken g.O.Sink.failed c.args.out.now failure _ c.from_residual.ensures.1,
+    )
+
+pub returns-in_err-pages : goal.returns-in_err-pages
+returns-in_err-pages g c =
+    let checked = c.in_ok-checked.checked in
+    let (slot, chosen, sound) = c.in_ok-checked.ensures.sound in
+    let (answer, told, does) = pages_stopped c.args.file.now checked c.in_ok-checked.ensures.bytes sound.trees (sound.right refl)
+        c.args.out.now c.pages.new.sink _ _ c.in_err-pages.ensures.written c.in_err-pages.ensures.fault c.in_err-pages.ensures.memory c.from_residual-in_err-pages.ensures.1 in
+    (answer, inl (slot, meta_of checked, chosen, sound, told), does)
+
+pub returns : goal.returns
+returns g c =
+    let checked = c.in_ok-checked.checked in
+    let (slot, chosen, sound) = c.in_ok-checked.ensures.sound in
+    let (answer, told, does) = pages_whole c.args.file.now checked c.in_ok-checked.ensures.bytes sound.trees (sound.right refl)
+        c.args.out.now c.pages.new.sink _ c.in_ok-pages.ensures.written in
+    (answer, inl (slot, meta_of checked, chosen, sound, told), does)
