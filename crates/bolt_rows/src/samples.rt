@@ -1,6 +1,6 @@
 //! Files that rows of several commands speak of.
 
-use Content::{Branch, Leaf};
+use Content::Branch;
 use Element::Bucket;
 use format_rows::free_files::numbers;
 use format_rows::maker::{

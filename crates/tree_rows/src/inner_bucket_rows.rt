@@ -173,3 +173,30 @@ fn over_several_leaves(rt: HostRuntime) -> Result<(), Fail> {
     assert_eq!(rt; cursor.opened(), 5);
     Ok(())
 }
+
+/// A seek compares keys on the branch and on the leaf, and tells so until the next one; `first` and
+/// `last` compare none.
+#[test]
+fn compared_keys(rt: HostRuntime) -> Result<(), Fail> {
+    let alloc = rt.alloc();
+    let file = forty_values(alloc)?;
+    let root = Bucket::root(check(alloc, file.as_slice())?);
+    let mut cursor = root.bucket(b"b").ok_or("no bucket")?.cursor();
+    assert_eq!(rt; cursor.compared(), 0, "before the first call");
+    let _ = cursor.seek(b"15");
+    let compared = cursor.compared();
+    assert!(rt;
+        compared >= 2 && compared <= 32,
+        "{compared} keys are compared"
+    );
+    let _ = cursor.next();
+    let _ = cursor.prev();
+    assert_eq!(rt; cursor.compared(), compared, "next and prev compare none");
+    let _ = cursor.last();
+    assert_eq!(rt; cursor.compared(), 0, "after last");
+    let _ = cursor.seek(b"4");
+    assert!(rt; cursor.compared() >= 2, "where it finds nothing");
+    let _ = cursor.first();
+    assert_eq!(rt; cursor.compared(), 0, "after first");
+    Ok(())
+}

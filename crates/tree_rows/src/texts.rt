@@ -41,14 +41,23 @@ fn put_text<S: Sink>(
     Some(answer)
 }
 
+/// The text as a message tells it: of a long value the beginning.
+fn told(text: Text<'_>) -> Text<'_> {
+    match text {
+        Value(bytes, form) => Value(bytes.get(..40).unwrap_or(bytes), form),
+        other => other,
+    }
+}
+
 /// A sink in memory takes the whole text.
 pub fn check_text(rt: &impl Abort, alloc: Global, checked: Checked<'_>, row: Row<'_>) {
     let (text, want) = row;
+    let told = told(text);
     let mut sink = MemSink::new(alloc);
     let answer = put_text(alloc, checked, text, &mut sink);
-    assert_eq!(rt; answer, Some(Ok(())), "{text:?}");
-    assert!(rt; sink.bytes() == want, "{text:?} gives other bytes");
-    assert_eq!(rt; sink.failures(), 0, "{text:?}");
+    assert_eq!(rt; answer, Some(Ok(())), "{told:?}");
+    assert!(rt; sink.bytes() == want, "{told:?} gives other bytes");
+    assert_eq!(rt; sink.failures(), 0, "{told:?}");
 }
 
 /// Whichever of its calls a writer refuses, the answer is that the sink failed, the writer took a
@@ -61,6 +70,7 @@ pub fn check_halted(
     refusal: Refusal,
 ) {
     let (text, want) = row;
+    let told = told(text);
     for refused in 1..want.len().saturating_add(2) {
         let mut sink = WriteSink::new(Halting::new(alloc, refused, refusal));
         let answer = put_text(alloc, checked, text, &mut sink);
@@ -68,23 +78,23 @@ pub fn check_halted(
         let writer = sink.into_inner();
         let taken = writer.taken.as_slice();
         if writer.calls < refused {
-            assert_eq!(rt; answer, Some(Ok(())), "{text:?}");
-            assert_eq!(rt; failures, 0, "{text:?}");
-            assert!(rt; taken == want, "{text:?} gives other bytes");
+            assert_eq!(rt; answer, Some(Ok(())), "{told:?}");
+            assert_eq!(rt; failures, 0, "{told:?}");
+            assert!(rt; taken == want, "{told:?} gives other bytes");
             return;
         }
         assert_eq!(rt;
             answer,
             Some(Err(ReportFault::Sink)),
-            "{text:?}, call {refused}"
+            "{told:?}, call {refused}"
         );
-        assert!(rt; failures > 0, "{text:?}, call {refused}");
-        assert_eq!(rt; writer.calls, refused, "calls for {text:?}");
+        assert!(rt; failures > 0, "{told:?}, call {refused}");
+        assert_eq!(rt; writer.calls, refused, "calls for {told:?}");
         let is_beginning = taken.len() < want.len() && want.starts_with(taken);
         assert!(rt;
             is_beginning,
-            "{text:?} gives no beginning at call {refused}"
+            "{told:?} gives no beginning at call {refused}"
         );
     }
-    assert!(rt; false, "{text:?} wants a call for more than each byte");
+    assert!(rt; false, "{told:?} wants a call for more than each byte");
 }
