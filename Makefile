@@ -2,6 +2,7 @@
 PREFIX ?= /usr/local
 PROGRAM = crates/luntsegi/out/luntsegi
 SOUND = $(wildcard examples/*.buckets)
+LISTED = $(wildcard examples/*.list)
 LEAKED = examples/leaked
 
 .PHONY: build demo examples test bench memory install clean
@@ -13,14 +14,15 @@ build:
 $(PROGRAM):
 	$(MAKE) build
 
-# The names of the buckets of a real database.
+# All that a real database holds.
 demo: $(PROGRAM)
-	$(PROGRAM) buckets examples/app.db
+	$(PROGRAM) list examples/app.db
 
 # What the program prints of each real database, compared with what bbolt finds in it; and that
 # output which can't be written is told, whatever was found.
 examples: $(PROGRAM)
 	for list in $(SOUND); do $(PROGRAM) buckets $${list%.buckets}.db | cmp - $$list || exit 1; done
+	for list in $(LISTED); do $(PROGRAM) list $${list%.list}.db | cmp - $$list || exit 1; done
 	for list in $(SOUND); do $(PROGRAM) check $${list%.buckets}.db | grep -qx OK || exit 1; done
 	! $(PROGRAM) check $(LEAKED).db > /dev/null
 	$(PROGRAM) check $(LEAKED).db | cmp - $(LEAKED).findings
@@ -34,12 +36,15 @@ test: examples memory
 
 LARGE = out/large.db
 WIDE = out/wide.db
+LONG = out/long.db
 
-# Times the reading of a file (info), the checker and the listing of its buckets: on a database of
-# 256 MB with a million small entries, and on one with 200,000 buckets in its root bucket.
-bench: $(PROGRAM) $(LARGE) $(WIDE)
-	python3 tools/bench/time_commands.py $(PROGRAM) $(LARGE) info check buckets
-	python3 tools/bench/time_commands.py $(PROGRAM) $(WIDE) info check buckets
+# Times the reading of a file (info), the checker and what prints of a file: on a database of 256 MB
+# with a million small entries, on one with 200,000 buckets in its root bucket, and on one of 256 MB
+# with values of 100 KB.
+bench: $(PROGRAM) $(LARGE) $(WIDE) $(LONG)
+	python3 tools/bench/time_commands.py $(PROGRAM) $(LARGE) info check buckets pages list
+	python3 tools/bench/time_commands.py $(PROGRAM) $(WIDE) info check buckets pages list
+	python3 tools/bench/time_commands.py $(PROGRAM) $(LONG) info check buckets pages list
 
 $(LARGE): tools/bench/make_large.py
 	mkdir -p $(@D)
@@ -48,6 +53,10 @@ $(LARGE): tools/bench/make_large.py
 $(WIDE): tools/bench/make_wide.py
 	mkdir -p $(@D)
 	python3 -B tools/bench/make_wide.py $@
+
+$(LONG): tools/bench/make_long.py
+	mkdir -p $(@D)
+	python3 -B tools/bench/make_long.py $@
 
 DEEP = out/deep.db
 REFUSED = rt try --data deep.db=$(abspath $(DEEP)) --fail-alloc
