@@ -1,6 +1,6 @@
 -- Sound files, and what is told of the others: docs/SOUND.md.
 use Rattle.std.specs.Prelude.{◌≢◌, ℕ, List, [], Bool, IsTrue}
-use Rattle.bolt_format.specs.Metas.{HasMetaFault, IsChosen, IsInSlot}
+use Rattle.bolt_format.specs.Metas.{HasMetaFault, HasSlotFault, IsChosen, IsInSlot}
 use Rattle.bolt_format.specs.declared.meta.Meta.{Meta}
 use Rattle.bolt_format.specs.declared.meta.Slot.{Slot}
 use Rattle.bolt_check.specs.Accounts.{HasAccounts}
@@ -48,3 +48,10 @@ IsRefused file (Accounts told) =
     (slot : Slot) × (meta : Meta) × IsChosen file slot meta × HasSoundTrees file meta × (HasRightAccounts file meta → ⊥)
     × AreAccountFindings file meta (IsUsed file meta) told.items × (told.items ≢ [])
 IsRefused file Memory = Unit {0}
+
+-- why the trees of the file, for the meta of this slot, are not sound
+abbrev pub IsSlotRefused : List ℕ → Slot → CheckFault → Type 0
+IsSlotRefused file slot (Open fault) = HasSlotFault file slot fault × ((meta : Meta) → IsInSlot file slot meta → ⊥)
+IsSlotRefused file slot (Structure x) = (meta : Meta) × IsInSlot file slot meta × IsFirstFinding file meta x
+IsSlotRefused file slot (Accounts told) = ⊥
+IsSlotRefused file slot Memory = Unit {0}

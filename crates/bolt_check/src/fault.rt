@@ -10,13 +10,13 @@ use thiserror::Error;
 /// Why a file is refused.
 #[derive(Debug, Drop, Error)]
 pub enum CheckFault {
-    /// No meta is valid: the fault of the one at byte 0.
+    /// No meta is valid: the fault of the one at byte 0. Of a named slot: its own fault.
     #[error("no valid meta")]
     Open(MetaFault),
     /// The trees aren't sound: the first finding.
     #[error("structure")]
     Structure(Finding),
-    /// The trees are sound, and the accounts are wrong: what is told of them.
+    /// The trees are sound, and the accounts are wrong: what is told of them. `check` alone has it.
     #[error("accounts")]
     Accounts(Vec<Finding>),
     /// Memory ran out.

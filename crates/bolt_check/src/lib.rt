@@ -28,5 +28,5 @@ pub use finding::Finding;
 pub use no_memory::NoMemory;
 pub use role::Role;
 pub use role_table::Roles;
-pub use sound::check;
+pub use sound::{check, check_slot};
 pub use uses::roles;

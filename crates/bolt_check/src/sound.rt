@@ -1,14 +1,14 @@
-//! Is a whole file sound?
-ghost use Rattle.std.specs.Prelude.{◌≡◌, true, IfErr, IfOk};
-ghost use Rattle.bolt_format.specs.Metas.{IsChosen};
+//! Is a whole file sound, and are the trees of one of its metas?
+ghost use Rattle.std.specs.Prelude.{◌≡◌, false, true, IfErr, IfOk};
+ghost use Rattle.bolt_format.specs.Metas.{IsChosen, IsInSlot};
 ghost use Rattle.bolt_check.specs.CheckedFiles.{bytes_of, has_accounts, meta_of};
-ghost use Rattle.bolt_check.specs.Sound.{IsRefused, IsSound};
+ghost use Rattle.bolt_check.specs.Sound.{HasSoundTrees, IsRefused, IsSlotRefused, IsSound};
 
 use crate::accounts::test_accounts;
 use crate::checked_file::Checked;
 use crate::fault::CheckFault;
 use crate::search::search;
-use bolt_format::choose;
+use bolt_format::{Slot, choose, slot_meta};
 use std::alloc::Global;
 
 /// Tests a file under the meta in force: its trees, and then its accounts (docs/SOUND.md). It
@@ -34,5 +34,31 @@ pub fn check<'a>(alloc: Global, file: &'a [u8]) -> Result<Checked<'a>, CheckFaul
         bytes: file,
         meta,
         accounts: true,
+    })
+}
+
+/// Tests the trees of a file under the meta of a slot, be it in force or not (docs/SOUND.md, "One
+/// meta alone"). Its accounts aren't looked at. It takes memory as `check` does, but for ids.
+///
+/// # Errors
+///
+/// `Open` where the slot has no valid meta, with the slot's fault; `Structure` with the first
+/// finding of the trees; `Memory` where memory runs out. `Accounts` never comes.
+pub fn check_slot<'a>(alloc: Global, file: &'a [u8], slot: Slot) -> Result<Checked<'a>, CheckFault>
+    ensures bytes { IfOk result (λ checked. bytes_of checked ≡ file.now) }
+    ensures meta { IfOk result (λ checked. IsInSlot file.now slot (meta_of checked)) }
+    ensures trees { IfOk result (λ checked. HasSoundTrees file.now (meta_of checked)) }
+    ensures accounts { IfOk result (λ checked. has_accounts checked ≡ false) }
+    ensures refused { IfErr result (IsSlotRefused file.now slot) }
+{
+    let meta = match slot_meta(file, slot) {
+        Ok(meta) => meta,
+        Err(fault) => return Err(CheckFault::Open(fault)),
+    };
+    search(alloc, file, &meta)?;
+    Ok(Checked {
+        bytes: file,
+        meta,
+        accounts: false,
     })
 }

@@ -1,11 +1,12 @@
 -- A file has one meta in force.
-use Rattle.std.proofs.Common.{◌≡◌, ◌∙◌, ℕ, ◌*◌, ◌^◌, ◌<◌, ◌≤◌, ◌==◌, List, arith, sym, ap, inl, inr, subst, refl, get_or, eq-eqb}
+use Rattle.std.proofs.Common.{◌≡◌, ◌∙◌, ℕ, ◌*◌, ◌^◌, ◌<◌, ◌≤◌, ◌==◌, List, Option, Some, None, IfNone, OnErr, ok_or, arith, sym, ap, inl, inr, subst, refl, get_or, eq-eqb}
 use Rattle.std.proofs.Math.Pow.{pow_mono}
 use Rattle.std.proofs.lemmas.Bool.{cases_lt, eqb-true}
 use Rattle.std.proofs.lemmas.List.{get_or_read}
 use Rattle.std.proofs.lemmas.List.Folds.{Any-from_list_any, list_any_at}
 use Rattle.std.proofs.lemmas.List.FromFn.{get_or-map-range_with_len}
 use Rattle.bolt_format.specs.declared.meta.Meta.{Meta}
+use Rattle.bolt_format.specs.declared.meta.MetaFault.{MetaFault}
 use Rattle.bolt_format.specs.declared.meta.Slot.{Slot}
 use Rattle.bolt_format.specs.declared.meta.Slot.TheVariants.{Zero, One}
 use Rattle.bolt_format.specs.Metas.{IsChosen, IsInOne, IsInSlot, IsLoneMeta, IsMeta, IsPageSize, page_size_count, page_sizes}
@@ -36,42 +37,71 @@ IsLoneMeta-one file a b p q =
       ]
     ]
 
--- slot one is in force where its transaction is the greater
-pub IsChosen-newer : (file : List ℕ) (zero one : Meta) → IsMeta file 0 zero → IsMeta file zero.page_size one → zero.txid < one.txid
-    → (slot : Slot) (meta : Meta) → IsChosen file slot meta → (slot ≡ One) × (meta ≡ one)
-IsChosen-newer file zero one first second newer Zero meta chosen =
-    let same : meta ≡ zero = IsMeta-one file 0 meta zero chosen.valid first in
-    elim (chosen.newest one (inl (zero, first, second))) [
-      | inl less ↦ absurd (let e : meta.txid ≡ zero.txid = ap (λ (m : Meta). m.txid) same in omega arith)
-      | inr equal ↦ absurd (let e : meta.txid ≡ zero.txid = ap (λ (m : Meta). m.txid) same in omega (arith, equal.0))
-    ]
-IsChosen-newer file zero one first second newer One meta chosen =
-    (refl, IsMeta-one file zero.page_size meta one (IsInOne-beside file zero meta first chosen.valid) second)
+-- a slot has one record
+pub IsInSlot-one : (file : List ℕ) (slot : Slot) (a b : Meta) → IsInSlot file slot a → IsInSlot file slot b → a ≡ b
+IsInSlot-one file Zero a b p q = IsMeta-one file 0 a b p q
+IsInSlot-one file One a b (inl (zero, first, second)) q = IsMeta-one file zero.page_size a b second (IsInOne-beside file zero b first q)
+IsInSlot-one file One a b (inr (none, lone)) q = IsLoneMeta-one file a b lone (IsInOne-alone file b none q)
 
 One-Zero : One ≡ Zero → ⊥
 One-Zero e = cc
 
--- slot zero is in force where no greater transaction stands in slot one
-pub IsChosen-first : (file : List ℕ) (zero : Meta) → IsMeta file 0 zero → ((one : Meta) → IsMeta file zero.page_size one → one.txid ≤ zero.txid)
-    → (slot : Slot) (meta : Meta) → IsChosen file slot meta → (slot ≡ Zero) × (meta ≡ zero)
-IsChosen-first file zero first older Zero meta chosen = (refl, IsMeta-one file 0 meta zero chosen.valid first)
-IsChosen-first file zero first older One meta chosen =
-    elim (chosen.newest zero first) [
-      | inl less ↦ absurd (omega (arith, older meta (IsInOne-beside file zero meta first chosen.valid)))
-      | inr equal ↦ absurd (One-Zero equal.1)
+-- not both slots are in force
+not_both : (file : List ℕ) (zero one : Meta) → IsChosen file Zero zero → IsChosen file One one → ⊥
+not_both file zero one p q =
+    elim (q.newest zero p.valid) [
+      | inl older ↦ elim (p.newest one q.valid) [
+        | inl newer ↦ omega (arith, older, newer)
+        | inr equal ↦ omega (arith, older, equal.0)
+      ]
+      | inr equal ↦ One-Zero equal.1
     ]
 
--- the lone one is in force where slot zero has none
-pub IsChosen-alone : (file : List ℕ) (one : Meta) → ((zero : Meta) → IsMeta file 0 zero → ⊥) → IsLoneMeta file one
-    → (slot : Slot) (meta : Meta) → IsChosen file slot meta → (slot ≡ One) × (meta ≡ one)
-IsChosen-alone file one none lone Zero meta chosen = absurd (none meta chosen.valid)
-IsChosen-alone file one none lone One meta chosen = (refl, IsLoneMeta-one file meta one (IsInOne-alone file meta none chosen.valid) lone)
+-- one meta is in force
+pub IsChosen-one : (file : List ℕ) (slot : Slot) (meta : Meta) → IsChosen file slot meta
+    → (other : Slot) (another : Meta) → IsChosen file other another → (other ≡ slot) × (another ≡ meta)
+IsChosen-one file Zero meta p Zero another q = (refl, IsInSlot-one file Zero another meta q.valid p.valid)
+IsChosen-one file One meta p One another q = (refl, IsInSlot-one file One another meta q.valid p.valid)
+IsChosen-one file Zero meta p One another q = absurd (not_both file meta another p q)
+IsChosen-one file One meta p Zero another q = absurd (not_both file another meta q p)
+
+-- slot one is in force where its transaction is the greater
+pub newer_one : (file : List ℕ) (zero one : Meta) → IsInSlot file Zero zero → IsInSlot file One one → zero.txid < one.txid → IsChosen file One one
+newer_one file zero one first second newer = record {
+  valid = second;
+  newest = λ other valid. inl (let e : other.txid ≡ zero.txid = ap (λ (m : Meta). m.txid) (IsInSlot-one file Zero other zero valid first) in omega (arith, e, newer));
+}
+
+-- slot zero is in force where the transaction of slot one is no greater
+pub no_newer : (file : List ℕ) (zero one : Meta) → IsInSlot file Zero zero → IsInSlot file One one → one.txid ≤ zero.txid → IsChosen file Zero zero
+no_newer file zero one first second older = record {
+  valid = first;
+  newest = λ other valid.
+      let e : other.txid ≡ one.txid = ap (λ (m : Meta). m.txid) (IsInSlot-one file One other one valid second) in
+      elim (cases_lt other.txid zero.txid) [
+        | inl less ↦ inl less
+        | inr more ↦ inr (omega (arith, e, older, more), refl)
+      ];
+}
+
+-- slot one is in force where slot zero has none
+pub lone_one : (file : List ℕ) (one : Meta) → ((zero : Meta) → IsInSlot file Zero zero → ⊥) → IsInSlot file One one → IsChosen file One one
+lone_one file one none second = record {
+  valid = second;
+  newest = λ other valid. absurd (none other valid);
+}
 
 -- no slot has one
-pub IsInSlot-none : (file : List ℕ) → ((zero : Meta) → IsMeta file 0 zero → ⊥) → ((lone : Meta) → IsLoneMeta file lone → ⊥)
+pub IsInSlot-none : (file : List ℕ) → ((zero : Meta) → IsInSlot file Zero zero → ⊥) → ((one : Meta) → IsInSlot file One one → ⊥)
     → (slot : Slot) (meta : Meta) → IsInSlot file slot meta → ⊥
-IsInSlot-none file none no_lone Zero meta valid = none meta valid
-IsInSlot-none file none no_lone One meta valid = no_lone meta (IsInOne-alone file meta none valid)
+IsInSlot-none file no_zero no_one Zero meta valid = no_zero meta valid
+IsInSlot-none file no_zero no_one One meta valid = no_one meta valid
+
+-- where none stands at any place, slot one has none
+pub none_found : (file : List ℕ) (found : Option Meta) (fault : MetaFault) → ((zero : Meta) → IsMeta file 0 zero → ⊥)
+    → IfNone found ((lone : Meta) → IsLoneMeta file lone → ⊥) → OnErr (ok_or found fault) ((meta : Meta) → IsInSlot file One meta → ⊥)
+none_found file (Some one) fault no_zero none = tt
+none_found file None fault no_zero none = λ meta valid. none meta (IsInOne-alone file meta no_zero valid)
 
 -- The accepted page sizes in their order.
 page_sizes-at : (k : ℕ) → k < page_size_count → get_or page_sizes k 0 ≡ 1024 * 2 ^ k

@@ -85,6 +85,13 @@ abbrev pub IsInSlot : List ℕ → Slot → Meta → Type 0
 IsInSlot file Zero meta = IsMeta file 0 meta
 IsInSlot file One meta = IsInOne file meta
 
+-- Why a slot has no valid record: the fault of its byte, and of byte 0 where the byte of slot one is not known.
+abbrev pub HasSlotFault : List ℕ → Slot → MetaFault → Type 0
+HasSlotFault file Zero fault = HasMetaFault file 0 fault
+HasSlotFault file One fault =
+    ((zero : Meta) × IsMeta file 0 zero × HasMetaFault file zero.page_size fault)
+    ⊎ (((zero : Meta) → IsMeta file 0 zero → ⊥) × HasMetaFault file 0 fault)
+
 abbrev pub other_slot : Slot → Slot
 other_slot Zero = One
 other_slot One = Zero

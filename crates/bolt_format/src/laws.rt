@@ -1,11 +1,18 @@
-//! What the definitions of pages imply.
+//! What the definitions of metas and of pages imply.
 ghost use Rattle.std.specs.Prelude.{◌≡◌, ℕ, false, IsTrue, List, Some, Contains};
 ghost use Rattle.bolt_format.specs.Bytes.{IsBytes};
 ghost use Rattle.bolt_format.specs.ElementLengths.{HasFitLengths};
 ghost use Rattle.bolt_format.specs.Elements.{IsBucketValue, LeafElement, head_root, inline_elements};
+ghost use Rattle.bolt_format.specs.Metas.{IsInSlot};
 ghost use Rattle.bolt_format.specs.Pages.{PageView, page_at};
 ghost use Rattle.bolt_format.specs.declared.kind.Kind.TheVariants as kind;
 ghost use Rattle.bolt_format.specs.declared.meta.Meta.{Meta};
+ghost use Rattle.bolt_format.specs.declared.meta.Slot.{Slot};
+
+/// A slot has at most one valid meta.
+pub fn slot_meta_is_one()
+    ensures { (file : List ℕ) (slot : Slot) (a b : Meta) → IsInSlot file slot a → IsInSlot file slot b → a ≡ b }
+{}
 
 /// The elements of a good leaf, and those of an inline bucket, have lengths that the format allows;
 /// a bucket on a good leaf has a good value, no element of an inline bucket is a bucket, and the

@@ -30,7 +30,9 @@ pub use freelist::FreeIds;
 pub use good_page::Page;
 pub use kind::Kind;
 pub use mem_sink::MemSink;
-pub use meta::{Meta, MetaFault, NO_FREELIST, PAGE_SIZES, Slot, choose, meta_at, page_size_ok};
+pub use meta::{
+    Meta, MetaFault, NO_FREELIST, PAGE_SIZES, Slot, choose, meta_at, page_size_ok, slot_meta,
+};
 pub use open_bucket::{head, inline};
 pub use open_freelist::free_ids;
 pub use open_page::{known, page};

@@ -1,6 +1,6 @@
 //! The two meta records of a file, and which of them is in force.
 ghost use Rattle.std.specs.Prelude.{◌≡◌, ◌↔◌, IfErr, IfNone, IfOk, IfSome, IsTrue, OnErr};
-ghost use Rattle.bolt_format.specs.Metas.{HasMetaFault, IsChosen, IsInSlot, IsLoneMeta, IsMeta, IsPageSize};
+ghost use Rattle.bolt_format.specs.Metas.{HasMetaFault, HasSlotFault, IsChosen, IsInSlot, IsLoneMeta, IsMeta, IsPageSize};
 
 use crate::bytes::{u32_at, u64_at};
 use crate::checksum::fnv1a;
@@ -113,14 +113,35 @@ pub fn choose(file: &[u8]) -> Result<(Slot, Meta), MetaFault>
     ensures fault { IfErr result (HasMetaFault file.now 0) }
     ensures none { OnErr result ((slot : _) (meta : _) → IsInSlot file.now slot meta → ⊥) }
 {
-    match meta_at(file, 0) {
-        Ok(zero) => match meta_at(file, zero.page_size as usize) {
+    match slot_meta(file, Slot::Zero) {
+        Ok(zero) => match slot_meta(file, Slot::One) {
             Ok(one) if one.txid > zero.txid => Ok((Slot::One, one)),
             _ => Ok((Slot::Zero, zero)),
         },
-        Err(fault) => match lone_meta(file) {
-            Some(one) => Ok((Slot::One, one)),
-            None => Err(fault),
+        Err(fault) => match slot_meta(file, Slot::One) {
+            Ok(one) => Ok((Slot::One, one)),
+            Err(_) => Err(fault),
+        },
+    }
+}
+
+/// The meta record of a slot, be it in force or not (docs/FORMAT.md, "The meta in force").
+///
+/// # Errors
+///
+/// The fault of the byte at which the slot stands. For slot one without a valid record in slot
+/// zero, where no accepted page size has one, it is the fault of byte 0.
+pub fn slot_meta(file: &[u8], slot: Slot) -> Result<Meta, MetaFault>
+    ensures valid { IfOk result (IsInSlot file.now slot) }
+    ensures fault { IfErr result (HasSlotFault file.now slot) }
+    ensures none { OnErr result ((meta : _) → IsInSlot file.now slot meta → ⊥) }
+{
+    let zero = meta_at(file, 0);
+    match slot {
+        Slot::Zero => zero,
+        Slot::One => match zero {
+            Ok(zero) => meta_at(file, zero.page_size as usize),
+            Err(fault) => lone_meta(file).ok_or(fault),
         },
     }
 }

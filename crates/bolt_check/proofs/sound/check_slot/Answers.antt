@@ -1,0 +1,33 @@
+use Rattle.std.proofs.Common.{refl}
+use Rattle.std.proofs.lemmas.Bool.{false≢true}
+use Rattle.std.proofs.lemmas.Grind.{merely}
+use Rattle.bolt_check.specs.CheckedFiles.{bytes_of, has_accounts, meta_of}
+use Rattle.bolt_check.specs.Nodes.{node_at}
+use Rattle.bolt_check.proofs.Shaping.{shape_of}
+use Rattle.bolt_check.proofs.sound.check_slot.Goals as goal
+
+pub invariant_of-result : goal.invariant_of-result
+invariant_of-result c = record {
+  sound = merely (record {
+    slot = c.args.slot;
+    valid = c.in-Ok.ensures.valid;
+    trees = shape_of (node_at c.args.file.now c.in-Ok.meta) c.in-Ok.meta.root c.in_ok-search.ensures.clean;
+    right = λ tested. absurd (false≢true tested);
+  });
+}
+
+pub returns-clause-bytes : goal.returns-clause-bytes
+unfolding bytes_of
+returns-clause-bytes c = refl
+
+pub returns-clause-meta : goal.returns-clause-meta
+unfolding meta_of
+returns-clause-meta c = c.in-Ok.ensures.valid
+
+pub returns-clause-trees : goal.returns-clause-trees
+unfolding meta_of
+returns-clause-trees c = shape_of (node_at c.args.file.now c.in-Ok.meta) c.in-Ok.meta.root c.in_ok-search.ensures.clean
+
+pub returns-clause-accounts : goal.returns-clause-accounts
+unfolding has_accounts
+returns-clause-accounts c = refl
