@@ -12,6 +12,7 @@ pub mod PageAnswers
 pub mod PageIds
 pub mod PagesAnswers
 pub mod PathReading
+pub mod ReadFiles
 pub mod RootEntries
 pub mod WholeLines
 pub mod WordSteps

@@ -1,21 +1,23 @@
 -- The words for a job are read as it.
-use Rattle.std.proofs.Common.{◌≡◌, ◌∙◌, ◌<◌, ◌^◌, ℕ, List, [], ◌∷◌, ◌++◌, Some, None, Result, Ok, Err, true, false, codes, map, refl, sym, subst, ap, append_assoc, append-nil, rules}
+use Rattle.std.proofs.Common.{◌≡◌, ◌∙◌, ◌<◌, ◌^◌, ℕ, List, [], ◌∷◌, ◌++◌, Option, Some, None, Result, Ok, Err, true, false, codes, map, refl, sym, subst, ap, append_assoc, append-nil, rules}
 use Rattle.std.specs.Prelude.{All, MatchResult, fold, if◌then◌else◌}
 use Rattle.std.specs.Fmt.{decimal}
 use Rattle.std.proofs.lemmas.Fmt.{decimal_nonempty, digits_decimal, digits_value-decimal}
 use Rattle.hex.specs.Hex.{IsBytes, encode_lower}
 use Rattle.bolt_check.specs.Keys.{Key}
 use Rattle.bolt_tree.specs.Paths.{Path}
+use Rattle.bolt_format.specs.declared.meta.Slot.{Slot}
+use Rattle.bolt_format.specs.declared.meta.Slot.TheVariants.{One, Zero}
 use Rattle.bolt_report.specs.declared.form.Form.{Form}
 use Rattle.bolt_report.specs.declared.form.Form.TheVariants.{Printable, Hex, Bytes}
 use Rattle.bolt_cli.specs.CommandLine.{IsRefusalOf}
 use Rattle.bolt_cli.specs.declared.job.Job.{Job}
 use Rattle.bolt_cli.specs.declared.words.Refusal.{Refusal}
 use Rattle.bolt_cli.specs.declared.words.Refusal.TheVariants.{Memory, Help, Usage, Word}
-use Rattle.bolt_cli.specs.LineWords.{Syntax, Text, after, give, known_after, refuse, values_of}
+use Rattle.bolt_cli.specs.LineWords.{Known, Syntax, Text, after, give, refuse, values_of}
 use Rattle.bolt_cli.specs.PathWords.{each_part, part_of, result_and_then}
 use Rattle.bolt_cli.specs.declared.parts.Parts.TheVariants as parts
-use Rattle.bolt_cli.specs.PlainWords.{Asked, IsInRange, IsPart, Reading, asked_of, asks, asks_at, buckets, check, file_operand, form_of, form_option, form_word, from_option, get, info, keys, line_of, list, page, pages, part_operand, parts_option, reading_in, reading_of, refused, unread, words_for}
+use Rattle.bolt_cli.specs.PlainWords.{Asked, IsInRange, IsPart, Reading, asked_of, asks, asks_at, buckets, check, file_operand, first_of, form_of, form_option, form_word, from_option, get, info, keys, line_of, list, meta_option, page, pages, part_operand, parts_option, reading_in, reading_of, refused, slot_by, unread, words_for}
 use Rattle.bolt_cli.proofs.GivenRows.{Given}
 use Rattle.bolt_cli.proofs.PageIds.{decimal_numerals, good_id}
 use Rattle.bolt_cli.proofs.WordSteps.{known}
@@ -43,47 +45,82 @@ part_values : (words : List Text) → values_of (map part_pair words) (codes "PA
 part_values [] = refl
 part_values (word ∷ words) = ap (λ (ws : List Text). word ∷ ws) (part_values words)
 
-abbrev path_given : Text → Form → List Text → Given
-path_given file form words = (codes "form", form_word form) ∷ (codes "parts", codes "hex") ∷ (codes "FILE", file) ∷ map part_pair words
+-- and by another name there is none
+no_values : (words : List Text) → values_of (map part_pair words) (codes "meta") ≡ []
+no_values [] = refl
+no_values (word ∷ words) = no_values words
 
-path_asked : (wanted : Text → Path → Form → Asked) (file : Text) (part : Key) (path : Path) (form : Form) → All IsBytes (part ∷ path)
-    → asks_at wanted (values_of (path_given file form (hex_words (part ∷ path)))) ≡ Ok (wanted file (part ∷ path) form)
-path_asked wanted file part path form bytes =
-    let word = encode_lower part in
-    let Reads : Result Form Text → List Text → Result Asked Text = λ shown words. result_and_then (λ form. result_and_then (λ path. Ok (wanted file path form)) (each_part (part_of parts.Hex) (word ∷ words))) shown in
-    ap (Reads (form_of (form_word form))) (part_values (hex_words path))
-    ∙ ap (λ shown. Reads shown (hex_words path)) (form_read form)
-    ∙ ap (result_and_then (λ path. Ok (wanted file path form))) (parts_read (part ∷ path) bytes)
+abbrev slot_given : Option Slot → Given
+slot_given None = []
+slot_given (Some Zero) = (codes "meta", codes "0") ∷ []
+slot_given (Some One) = (codes "meta", codes "1") ∷ []
+
+abbrev path_given : Option Slot → Text → Form → List Text → Given
+path_given slot file form words = slot_given slot ++ ((codes "form", form_word form) ∷ (codes "parts", codes "hex") ∷ (codes "FILE", file) ∷ map part_pair words)
+
+module _ (wanted : Text → Option Slot → Path → Form → Asked) (file : Text) (part : Key) (path : Path) (form : Form) (bytes : All IsBytes (part ∷ path)) where
+  abbrev Reads : Result (Option Slot) Text → Result Form Text → List Text → Result Asked Text
+  Reads slots forms words =
+      result_and_then (λ slot. result_and_then (λ form. result_and_then (λ path. Ok (wanted file slot path form)) (each_part (part_of parts.Hex) (encode_lower part ∷ words))) forms) slots
+
+  rest_read : (slot : Option Slot) → Reads (Ok slot) (form_of (form_word form)) (values_of (map part_pair (hex_words path)) (codes "PART")) ≡ Ok (wanted file slot (part ∷ path) form)
+  rest_read slot =
+      ap (Reads (Ok slot) (form_of (form_word form))) (part_values (hex_words path))
+      ∙ ap (λ forms. Reads (Ok slot) forms (hex_words path)) (form_read form)
+      ∙ ap (result_and_then (λ path. Ok (wanted file slot path form))) (parts_read (part ∷ path) bytes)
+
+  path_asked : (slot : Option Slot) → asks_at wanted (values_of (path_given slot file form (hex_words (part ∷ path)))) ≡ Ok (wanted file slot (part ∷ path) form)
+  path_asked None =
+      ap (λ (words : List Text). Reads (slot_by (first_of words)) (form_of (form_word form)) (values_of (map part_pair (hex_words path)) (codes "PART"))) (no_values (hex_words path))
+      ∙ rest_read None
+  path_asked (Some Zero) = rest_read (Some Zero)
+  path_asked (Some One) = rest_read (Some One)
 
 abbrev keys_line : Syntax
-keys_line = record { name = codes "keys"; operands = file_operand ∷ part_operand ∷ []; options = form_option ∷ parts_option ∷ [] }
+keys_line = record { name = codes "keys"; operands = file_operand ∷ part_operand ∷ []; options = form_option ∷ parts_option ∷ meta_option ∷ [] }
 
 abbrev get_line : Syntax
-get_line = record { name = codes "get"; operands = file_operand ∷ part_operand ∷ []; options = form_option ∷ parts_option ∷ [] }
+get_line = record { name = codes "get"; operands = file_operand ∷ part_operand ∷ []; options = form_option ∷ parts_option ∷ meta_option ∷ [] }
 
 abbrev list_line : Syntax
-list_line = record { name = codes "list"; operands = file_operand ∷ []; options = from_option ∷ [] }
+list_line = record { name = codes "list"; operands = file_operand ∷ []; options = from_option ∷ meta_option ∷ [] }
 
-abbrev file_given : Text → Form → Given
-file_given file form = path_given file form []
+-- the words of the parts, behind those of the rest
+abbrev PathRead : Syntax → (Text → Option Slot → Path → Form → Asked) → Option Slot → Form → Type 0
+PathRead line wanted slot form =
+    (file : Text) (part : Key) (path : Path) → All IsBytes (part ∷ path)
+    → reading_in line (fold (after line) (known (path_given slot file form []) None (part_operand ∷ []) true) (hex_words (part ∷ path))) ≡ asks (wanted file slot (part ∷ path) form)
 
-keys_read : (file : Text) (part : Key) (path : Path) (form : Form) → All IsBytes (part ∷ path)
-    → reading_in keys_line (fold (after keys_line) (known (file_given file form) None (part_operand ∷ []) true) (hex_words (part ∷ path))) ≡ asks (keys file (part ∷ path) form)
-keys_read file part path form bytes =
-    ap (reading_in keys_line) (parts_taken keys_line (file_given file form) (hex_words (part ∷ path))) ∙ ap reading_of (path_asked keys file part path form bytes)
+keys_read : (slot : Option Slot) (form : Form) → PathRead keys_line keys slot form
+keys_read None form file part path bytes =
+    ap (reading_in keys_line) (parts_taken keys_line (path_given None file form []) (hex_words (part ∷ path))) ∙ ap reading_of (path_asked keys file part path form bytes None)
+keys_read (Some Zero) form file part path bytes =
+    ap (reading_in keys_line) (parts_taken keys_line (path_given (Some Zero) file form []) (hex_words (part ∷ path))) ∙ ap reading_of (path_asked keys file part path form bytes (Some Zero))
+keys_read (Some One) form file part path bytes =
+    ap (reading_in keys_line) (parts_taken keys_line (path_given (Some One) file form []) (hex_words (part ∷ path))) ∙ ap reading_of (path_asked keys file part path form bytes (Some One))
 
-get_read : (file : Text) (part : Key) (path : Path) (form : Form) → All IsBytes (part ∷ path)
-    → reading_in get_line (fold (after get_line) (known (file_given file form) None (part_operand ∷ []) true) (hex_words (part ∷ path))) ≡ asks (get file (part ∷ path) form)
-get_read file part path form bytes =
-    ap (reading_in get_line) (parts_taken get_line (file_given file form) (hex_words (part ∷ path))) ∙ ap reading_of (path_asked get file part path form bytes)
+get_read : (slot : Option Slot) (form : Form) → PathRead get_line get slot form
+get_read None form file part path bytes =
+    ap (reading_in get_line) (parts_taken get_line (path_given None file form []) (hex_words (part ∷ path))) ∙ ap reading_of (path_asked get file part path form bytes None)
+get_read (Some Zero) form file part path bytes =
+    ap (reading_in get_line) (parts_taken get_line (path_given (Some Zero) file form []) (hex_words (part ∷ path))) ∙ ap reading_of (path_asked get file part path form bytes (Some Zero))
+get_read (Some One) form file part path bytes =
+    ap (reading_in get_line) (parts_taken get_line (path_given (Some One) file form []) (hex_words (part ∷ path))) ∙ ap reading_of (path_asked get file part path form bytes (Some One))
 
-list_read : (file : Text) (part : Key) (path : Path) → All IsPart (part ∷ path)
-    → reading_in list_line (known_after list_line (codes "--from" ∷ one_word (part ∷ path) ∷ codes "--" ∷ file ∷ [])) ≡ asks (list file (part ∷ path))
-list_read file part path parts =
-    let word = one_word (part ∷ path) in
-    let from = known [] (Some (codes "from")) (file_operand ∷ []) false in
-    ap (λ b. reading_in list_line (fold (after list_line) (if b then refuse from else give (codes "from") word from) (codes "--" ∷ file ∷ []))) (is_no_option part path parts)
-    ∙ ap (λ r. reading_of (result_and_then (λ path. Ok (list file path)) r)) (word_read part path parts)
+abbrev from_place : Option Slot → Known
+from_place slot = known (slot_given slot) (Some (codes "from")) (file_operand ∷ []) false
+
+list_read : (slot : Option Slot) (file : Text) (part : Key) (path : Path) → All IsPart (part ∷ path)
+    → reading_in list_line (fold (after list_line) (after list_line (from_place slot) (one_word (part ∷ path))) (codes "--" ∷ file ∷ [])) ≡ asks (list file slot (part ∷ path))
+list_read None file part path parts =
+    ap (λ b. reading_in list_line (fold (after list_line) (if b then refuse (from_place None) else give (codes "from") (one_word (part ∷ path)) (from_place None)) (codes "--" ∷ file ∷ []))) (is_no_option part path parts)
+    ∙ ap (λ r. reading_of (result_and_then (λ path. Ok (list file None path)) r)) (word_read part path parts)
+list_read (Some Zero) file part path parts =
+    ap (λ b. reading_in list_line (fold (after list_line) (if b then refuse (from_place (Some Zero)) else give (codes "from") (one_word (part ∷ path)) (from_place (Some Zero))) (codes "--" ∷ file ∷ []))) (is_no_option part path parts)
+    ∙ ap (λ r. reading_of (result_and_then (λ path. Ok (list file (Some Zero) path)) r)) (word_read part path parts)
+list_read (Some One) file part path parts =
+    ap (λ b. reading_in list_line (fold (after list_line) (if b then refuse (from_place (Some One)) else give (codes "from") (one_word (part ∷ path)) (from_place (Some One))) (codes "--" ∷ file ∷ []))) (is_no_option part path parts)
+    ∙ ap (λ r. reading_of (result_and_then (λ path. Ok (list file (Some One) path)) r)) (word_read part path parts)
 
 line_of-words_for : (name : Text) (wanted : Asked) → IsInRange wanted → line_of (words_for name wanted) ≡ asks wanted
 line_of-words_for name (info file) in_range = refl
@@ -94,19 +131,41 @@ line_of-words_for name (page file id) in_range =
     rw (good, value) refl
 line_of-words_for name (pages file) in_range = refl
 line_of-words_for name (check file) in_range = refl
-line_of-words_for name (buckets file Printable) in_range = refl
-line_of-words_for name (buckets file Hex) in_range = refl
-line_of-words_for name (buckets file Bytes) in_range = refl
-line_of-words_for name (keys file [] form) in_range = absurd in_range
-line_of-words_for name (keys file (part ∷ path) Printable) in_range = keys_read file part path Printable in_range
-line_of-words_for name (keys file (part ∷ path) Hex) in_range = keys_read file part path Hex in_range
-line_of-words_for name (keys file (part ∷ path) Bytes) in_range = keys_read file part path Bytes in_range
-line_of-words_for name (get file [] form) in_range = absurd in_range
-line_of-words_for name (get file (part ∷ path) Printable) in_range = get_read file part path Printable in_range
-line_of-words_for name (get file (part ∷ path) Hex) in_range = get_read file part path Hex in_range
-line_of-words_for name (get file (part ∷ path) Bytes) in_range = get_read file part path Bytes in_range
-line_of-words_for name (list file []) in_range = refl
-line_of-words_for name (list file (part ∷ path)) in_range = list_read file part path in_range
+line_of-words_for name (buckets file None Printable) in_range = refl
+line_of-words_for name (buckets file None Hex) in_range = refl
+line_of-words_for name (buckets file None Bytes) in_range = refl
+line_of-words_for name (buckets file (Some Zero) Printable) in_range = refl
+line_of-words_for name (buckets file (Some Zero) Hex) in_range = refl
+line_of-words_for name (buckets file (Some Zero) Bytes) in_range = refl
+line_of-words_for name (buckets file (Some One) Printable) in_range = refl
+line_of-words_for name (buckets file (Some One) Hex) in_range = refl
+line_of-words_for name (buckets file (Some One) Bytes) in_range = refl
+line_of-words_for name (keys file slot [] form) in_range = absurd in_range
+line_of-words_for name (keys file None (part ∷ path) Printable) in_range = keys_read None Printable file part path in_range
+line_of-words_for name (keys file None (part ∷ path) Hex) in_range = keys_read None Hex file part path in_range
+line_of-words_for name (keys file None (part ∷ path) Bytes) in_range = keys_read None Bytes file part path in_range
+line_of-words_for name (keys file (Some Zero) (part ∷ path) Printable) in_range = keys_read (Some Zero) Printable file part path in_range
+line_of-words_for name (keys file (Some Zero) (part ∷ path) Hex) in_range = keys_read (Some Zero) Hex file part path in_range
+line_of-words_for name (keys file (Some Zero) (part ∷ path) Bytes) in_range = keys_read (Some Zero) Bytes file part path in_range
+line_of-words_for name (keys file (Some One) (part ∷ path) Printable) in_range = keys_read (Some One) Printable file part path in_range
+line_of-words_for name (keys file (Some One) (part ∷ path) Hex) in_range = keys_read (Some One) Hex file part path in_range
+line_of-words_for name (keys file (Some One) (part ∷ path) Bytes) in_range = keys_read (Some One) Bytes file part path in_range
+line_of-words_for name (get file slot [] form) in_range = absurd in_range
+line_of-words_for name (get file None (part ∷ path) Printable) in_range = get_read None Printable file part path in_range
+line_of-words_for name (get file None (part ∷ path) Hex) in_range = get_read None Hex file part path in_range
+line_of-words_for name (get file None (part ∷ path) Bytes) in_range = get_read None Bytes file part path in_range
+line_of-words_for name (get file (Some Zero) (part ∷ path) Printable) in_range = get_read (Some Zero) Printable file part path in_range
+line_of-words_for name (get file (Some Zero) (part ∷ path) Hex) in_range = get_read (Some Zero) Hex file part path in_range
+line_of-words_for name (get file (Some Zero) (part ∷ path) Bytes) in_range = get_read (Some Zero) Bytes file part path in_range
+line_of-words_for name (get file (Some One) (part ∷ path) Printable) in_range = get_read (Some One) Printable file part path in_range
+line_of-words_for name (get file (Some One) (part ∷ path) Hex) in_range = get_read (Some One) Hex file part path in_range
+line_of-words_for name (get file (Some One) (part ∷ path) Bytes) in_range = get_read (Some One) Bytes file part path in_range
+line_of-words_for name (list file None []) in_range = refl
+line_of-words_for name (list file (Some Zero) []) in_range = refl
+line_of-words_for name (list file (Some One) []) in_range = refl
+line_of-words_for name (list file None (part ∷ path)) in_range = list_read None file part path in_range
+line_of-words_for name (list file (Some Zero) (part ∷ path)) in_range = list_read (Some Zero) file part path in_range
+line_of-words_for name (list file (Some One) (part ∷ path)) in_range = list_read (Some One) file part path in_range
 
 abbrev asked_in : Asked → Reading → Asked
 asked_in other (asks job) = job

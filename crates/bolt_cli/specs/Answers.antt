@@ -2,7 +2,7 @@
 use Rattle.std.specs.Prelude.{◌≡◌, ◌<◌, ◌-◌, ◌⊎◌, ℕ, List, [], ◌∷◌, ◌++◌, true, codes, length, take, Option, Some, None, Result, Ok, Err}
 use Rattle.std.specs.Io.KnownBytes.{Appends}
 use Rattle.bolt_check.specs.Roles.{AreRoles}
-use Rattle.bolt_check.specs.Sound.{IsRefused, IsSound}
+use Rattle.bolt_check.specs.Sound.{HasSoundTrees, IsRefused, IsSlotRefused, IsSound}
 use Rattle.bolt_check.specs.declared.fault.CheckFault.{CheckFault}
 use Rattle.bolt_check.specs.declared.fault.CheckFault.TheVariants as check
 use Rattle.bolt_check.specs.declared.finding.Finding.{Finding}
@@ -130,6 +130,20 @@ IsCheckedAnswer file IsAccepted IsRefusal answer =
 abbrev pub IsFileRefusal : CheckFault → Answer → Type 0
 IsFileRefusal fault answer = (failure : Failure) × IsToldAs fault failure × (answer ≡ refused failure)
 
+-- the meta under which the file is read: that of the slot that is named, or the one in force, and then accounts count too
+abbrev pub IsReadUnder : List ℕ → Option Slot → Meta → Type 0
+IsReadUnder file None meta = (slot : Slot) × IsChosen file slot meta × IsSound file meta true
+IsReadUnder file (Some slot) meta = IsInSlot file slot meta × HasSoundTrees file meta
+
+abbrev pub IsRefusedUnder : List ℕ → Option Slot → CheckFault → Type 0
+IsRefusedUnder file None fault = IsRefused file fault
+IsRefusedUnder file (Some slot) fault = IsSlotRefused file slot fault
+
+abbrev pub IsReadAnswer : List ℕ → Option Slot → (Meta → Answer → Type 0) → Answer → Type 0
+IsReadAnswer file slot IsAccepted answer =
+    ((meta : Meta) × IsReadUnder file slot meta × IsAccepted meta answer)
+    ⊎ ((fault : CheckFault) × IsRefusedUnder file slot fault × IsFileRefusal fault answer)
+
 -- ---- all commands
 
 -- the answer to a job
@@ -138,10 +152,10 @@ IsAnswer file (job.Info name) = IsOpenAnswer file (λ slot meta. done (info_text
 IsAnswer file (job.Page name id) = IsOpenAnswer file (λ slot meta. page_answer (page_text_fault file meta id) (page_text file meta id))
 IsAnswer file (job.Pages name) = IsCheckedAnswer file (IsPagesAnswer file) IsFileRefusal
 IsAnswer file (job.Check name) = IsCheckedAnswer file (λ meta answer. answer ≡ done (codes "OK\n")) (λ fault answer. answer ≡ check_refusal fault)
-IsAnswer file (job.Buckets name form) = IsCheckedAnswer file (IsBucketsAnswer file form) IsFileRefusal
-IsAnswer file (job.Keys name path form) = IsCheckedAnswer file (IsKeysAnswer file (path_in path.items) form) IsFileRefusal
-IsAnswer file (job.Get name path form) = IsCheckedAnswer file (IsGetAnswer file (path_in path.items) form) IsFileRefusal
-IsAnswer file (job.List name from) = IsCheckedAnswer file (IsListAnswer file (path_in from.items)) IsFileRefusal
+IsAnswer file (job.Buckets name slot form) = IsReadAnswer file slot (IsBucketsAnswer file form)
+IsAnswer file (job.Keys name slot path form) = IsReadAnswer file slot (IsKeysAnswer file (path_in path.items) form)
+IsAnswer file (job.Get name slot path form) = IsReadAnswer file slot (IsGetAnswer file (path_in path.items) form)
+IsAnswer file (job.List name slot from) = IsReadAnswer file slot (IsListAnswer file (path_in from.items))
 
 -- From its state `old` to `new` standard output took the text of the answer with no failure, and the job ends so; or it failed, took a
 -- beginning, and the job ends with that.

@@ -6,6 +6,8 @@ use Rattle.std.specs.Str.{all_ascii_digits, bytes_eq}
 use Rattle.hex.specs.Hex.{IsBytes, encode_lower}
 use Rattle.bolt_check.specs.Keys.{Key}
 use Rattle.bolt_tree.specs.Paths.{Path}
+use Rattle.bolt_format.specs.declared.meta.Slot.{Slot}
+use Rattle.bolt_format.specs.declared.meta.Slot.TheVariants.{One, Zero}
 use Rattle.bolt_report.specs.declared.form.Form.{Form}
 use Rattle.bolt_report.specs.declared.form.Form.TheVariants.{Printable, Hex, Bytes}
 use Rattle.bolt_cli.specs.LineWords.{Choice, Known, Operand, Syntax, Text, is_complete, known_after, long, values_of}
@@ -32,6 +34,9 @@ parts_option = record { name = codes "parts"; flag = long (codes "parts"); requi
 abbrev pub from_option : Choice
 from_option = record { name = codes "from"; flag = long (codes "from"); required = false }
 
+abbrev pub meta_option : Choice
+meta_option = record { name = codes "meta"; flag = long (codes "meta"); required = false }
+
 -- all commands
 abbrev pub syntaxes : List Syntax
 syntaxes =
@@ -39,10 +44,10 @@ syntaxes =
     ∷ record { name = codes "page"; operands = file_operand ∷ id_operand ∷ []; options = [] }
     ∷ record { name = codes "pages"; operands = file_operand ∷ []; options = [] }
     ∷ record { name = codes "check"; operands = file_operand ∷ []; options = [] }
-    ∷ record { name = codes "buckets"; operands = file_operand ∷ []; options = form_option ∷ [] }
-    ∷ record { name = codes "keys"; operands = file_operand ∷ part_operand ∷ []; options = form_option ∷ parts_option ∷ [] }
-    ∷ record { name = codes "get"; operands = file_operand ∷ part_operand ∷ []; options = form_option ∷ parts_option ∷ [] }
-    ∷ record { name = codes "list"; operands = file_operand ∷ []; options = from_option ∷ [] }
+    ∷ record { name = codes "buckets"; operands = file_operand ∷ []; options = form_option ∷ meta_option ∷ [] }
+    ∷ record { name = codes "keys"; operands = file_operand ∷ part_operand ∷ []; options = form_option ∷ parts_option ∷ meta_option ∷ [] }
+    ∷ record { name = codes "get"; operands = file_operand ∷ part_operand ∷ []; options = form_option ∷ parts_option ∷ meta_option ∷ [] }
+    ∷ record { name = codes "list"; operands = file_operand ∷ []; options = from_option ∷ meta_option ∷ [] }
     ∷ []
 
 -- ---- what a line asks for
@@ -53,10 +58,10 @@ pub data Asked : Type 0 where
   page : Text → ℕ → Asked
   pages : Text → Asked
   check : Text → Asked
-  buckets : Text → Form → Asked
-  keys : Text → Path → Form → Asked
-  get : Text → Path → Form → Asked
-  list : Text → Path → Asked
+  buckets : Text → Option Slot → Form → Asked
+  keys : Text → Option Slot → Path → Form → Asked
+  get : Text → Option Slot → Path → Form → Asked
+  list : Text → Option Slot → Path → Asked
 
 -- the path that the code owns
 abbrev pub path_in : {Z : Type 0} → List (Vec ℕ Z) → Path
@@ -67,10 +72,10 @@ asked_of (job.Info file) = info (string_bytes file)
 asked_of (job.Page file id) = page (string_bytes file) id
 asked_of (job.Pages file) = pages (string_bytes file)
 asked_of (job.Check file) = check (string_bytes file)
-asked_of (job.Buckets file form) = buckets (string_bytes file) form
-asked_of (job.Keys file path form) = keys (string_bytes file) (path_in path.items) form
-asked_of (job.Get file path form) = get (string_bytes file) (path_in path.items) form
-asked_of (job.List file from) = list (string_bytes file) (path_in from.items)
+asked_of (job.Buckets file slot form) = buckets (string_bytes file) slot form
+asked_of (job.Keys file slot path form) = keys (string_bytes file) slot (path_in path.items) form
+asked_of (job.Get file slot path form) = get (string_bytes file) slot (path_in path.items) form
+asked_of (job.List file slot from) = list (string_bytes file) slot (path_in from.items)
 
 -- the FILE of a job
 abbrev pub file_name : Job → Text
@@ -78,10 +83,10 @@ file_name (job.Info file) = string_bytes file
 file_name (job.Page file id) = string_bytes file
 file_name (job.Pages file) = string_bytes file
 file_name (job.Check file) = string_bytes file
-file_name (job.Buckets file form) = string_bytes file
-file_name (job.Keys file path form) = string_bytes file
-file_name (job.Get file path form) = string_bytes file
-file_name (job.List file from) = string_bytes file
+file_name (job.Buckets file slot form) = string_bytes file
+file_name (job.Keys file slot path form) = string_bytes file
+file_name (job.Get file slot path form) = string_bytes file
+file_name (job.List file slot from) = string_bytes file
 
 -- the words that a line gives by each name
 abbrev pub Values : Type 0
@@ -122,6 +127,17 @@ abbrev pub form_by : Option Text → Result Form Text
 form_by (Some word) = form_of word
 form_by None = Ok Printable
 
+-- the slot of a meta by its word; without one it is the meta in force
+abbrev pub slot_of : Text → Result (Option Slot) Text
+slot_of word =
+    if bytes_eq word (codes "0") then Ok (Some Zero)
+    else if bytes_eq word (codes "1") then Ok (Some One)
+    else Err (codes "bad meta")
+
+abbrev pub slot_by : Option Text → Result (Option Slot) Text
+slot_by (Some word) = slot_of word
+slot_by None = Ok None
+
 abbrev pub asks_info : Values → Result Asked Text
 asks_info values = result_and_then (λ file. Ok (info file)) (text_by (codes "FILE") values)
 
@@ -136,16 +152,16 @@ abbrev pub asks_check : Values → Result Asked Text
 asks_check values = result_and_then (λ file. Ok (check file)) (text_by (codes "FILE") values)
 
 abbrev pub asks_buckets : Values → Result Asked Text
-asks_buckets values = result_and_then (λ file. result_and_then (λ form. Ok (buckets file form))
-    (form_by (first_of (values (codes "form"))))) (text_by (codes "FILE") values)
+asks_buckets values = result_and_then (λ file. result_and_then (λ slot. result_and_then (λ form. Ok (buckets file slot form))
+    (form_by (first_of (values (codes "form"))))) (slot_by (first_of (values (codes "meta"))))) (text_by (codes "FILE") values)
 
 -- a path by its words
 abbrev pub path_by : Values → Result Path Text
 path_by values = result_and_then (λ how. each_part (part_of how) (values (codes "PART"))) (parts_by (first_of (values (codes "parts"))))
 
-abbrev pub asks_at : (Text → Path → Form → Asked) → Values → Result Asked Text
-asks_at wanted values = result_and_then (λ file. result_and_then (λ form. result_and_then (λ path. Ok (wanted file path form)) (path_by values))
-    (form_by (first_of (values (codes "form"))))) (text_by (codes "FILE") values)
+abbrev pub asks_at : (Text → Option Slot → Path → Form → Asked) → Values → Result Asked Text
+asks_at wanted values = result_and_then (λ file. result_and_then (λ slot. result_and_then (λ form. result_and_then (λ path. Ok (wanted file slot path form)) (path_by values))
+    (form_by (first_of (values (codes "form"))))) (slot_by (first_of (values (codes "meta"))))) (text_by (codes "FILE") values)
 
 abbrev pub asks_keys : Values → Result Asked Text
 asks_keys values = asks_at keys values
@@ -154,8 +170,8 @@ abbrev pub asks_get : Values → Result Asked Text
 asks_get values = asks_at get values
 
 abbrev pub asks_list : Values → Result Asked Text
-asks_list values = result_and_then (λ file. result_and_then (λ from. Ok (list file from))
-    (hex_path_by (first_of (values (codes "from"))))) (text_by (codes "FILE") values)
+asks_list values = result_and_then (λ file. result_and_then (λ slot. result_and_then (λ from. Ok (list file slot from))
+    (hex_path_by (first_of (values (codes "from"))))) (slot_by (first_of (values (codes "meta"))))) (text_by (codes "FILE") values)
 
 -- what a command asks for, or which word can't be read and why
 abbrev pub asked : Text → Values → Result Asked Text
@@ -201,6 +217,12 @@ form_word Printable = codes "printable"
 form_word Hex = codes "hex"
 form_word Bytes = codes "bytes"
 
+-- a slot that is named
+abbrev pub slot_words : Option Slot → List Text → List Text
+slot_words None words = words
+slot_words (Some Zero) words = codes "--meta" ∷ codes "0" ∷ words
+slot_words (Some One) words = codes "--meta" ∷ codes "1" ∷ words
+
 -- all parts in hexadecimal
 abbrev pub path_words : Text → Path → Form → List Text
 path_words file path form = codes "--form" ∷ form_word form ∷ codes "--parts" ∷ codes "hex" ∷ codes "--" ∷ file ∷ map encode_lower path
@@ -216,10 +238,10 @@ words_for name (info file) = name ∷ codes "info" ∷ codes "--" ∷ file ∷ [
 words_for name (page file id) = name ∷ codes "page" ∷ codes "--" ∷ file ∷ decimal id ∷ []
 words_for name (pages file) = name ∷ codes "pages" ∷ codes "--" ∷ file ∷ []
 words_for name (check file) = name ∷ codes "check" ∷ codes "--" ∷ file ∷ []
-words_for name (buckets file form) = name ∷ codes "buckets" ∷ codes "--form" ∷ form_word form ∷ codes "--" ∷ file ∷ []
-words_for name (keys file path form) = name ∷ codes "keys" ∷ path_words file path form
-words_for name (get file path form) = name ∷ codes "get" ∷ path_words file path form
-words_for name (list file from) = name ∷ codes "list" ∷ from_words from (codes "--" ∷ file ∷ [])
+words_for name (buckets file slot form) = name ∷ codes "buckets" ∷ slot_words slot (codes "--form" ∷ form_word form ∷ codes "--" ∷ file ∷ [])
+words_for name (keys file slot path form) = name ∷ codes "keys" ∷ slot_words slot (path_words file path form)
+words_for name (get file slot path form) = name ∷ codes "get" ∷ slot_words slot (path_words file path form)
+words_for name (list file slot from) = name ∷ codes "list" ∷ slot_words slot (from_words from (codes "--" ∷ file ∷ []))
 
 abbrev pub IsPath : Path → Type 0
 IsPath [] = ⊥
@@ -232,7 +254,7 @@ IsPart part = (0 < length part) × IsBytes part
 -- in each.
 abbrev pub IsInRange : Asked → Type 0
 IsInRange (page file id) = id < 2 ^ 64
-IsInRange (keys file path form) = IsPath path
-IsInRange (get file path form) = IsPath path
-IsInRange (list file from) = All IsPart from
+IsInRange (keys file slot path form) = IsPath path
+IsInRange (get file slot path form) = IsPath path
+IsInRange (list file slot from) = All IsPart from
 IsInRange _ = Unit {0}

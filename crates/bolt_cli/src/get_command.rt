@@ -2,14 +2,14 @@
 ghost use Rattle.std.specs.Prelude.{IfErr, IfOk};
 ghost use Rattle.bolt_check.specs.CheckedFiles.{bytes_of, meta_of};
 ghost use Rattle.bolt_tree.specs.Entries.{Value};
-ghost use Rattle.bolt_cli.specs.Answers.{Answer, Does, HoldsIn, HoldsNone, IsCheckedAnswer, IsFileRefusal, IsGetAnswer};
+ghost use Rattle.bolt_cli.specs.Answers.{Answer, Does, HoldsIn, HoldsNone, IsGetAnswer, IsReadAnswer};
 ghost use Rattle.bolt_cli.specs.PlainWords.{path_in};
 
 use crate::failure::Failure;
 use crate::open_bucket::open_bucket;
-use crate::open_checked::open_checked;
+use crate::open_read::open_read;
 use bolt_check::Checked;
-use bolt_format::Sink;
+use bolt_format::{Sink, Slot};
 use bolt_report::{Form, value};
 use std::alloc::Global;
 
@@ -17,14 +17,15 @@ use std::alloc::Global;
 pub(crate) fn print_value<O: Sink>(
     alloc: Global,
     file: &[u8],
+    slot: Option<Slot>,
     path: &[Vec<u8>],
     form: Form,
     out: &mut O,
 ) -> Result<u8, Failure>
-    ensures { (answer : Answer) × IsCheckedAnswer file.now (IsGetAnswer file.now (path_in path.now) form) IsFileRefusal answer
+    ensures { (answer : Answer) × IsReadAnswer file.now slot (IsGetAnswer file.now (path_in path.now) form) answer
         × Does O.taken O.failed out.old out.new answer result }
 {
-    let checked = open_checked(alloc, file)?;
+    let checked = open_read(alloc, file, slot)?;
     value(find_value(checked, path)?, form, out)?;
     Ok(0)
 }

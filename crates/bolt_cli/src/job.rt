@@ -1,8 +1,10 @@
 //! What a command line asks for.
 
+use bolt_format::Slot;
 use bolt_report::Form;
 
-/// What the words of a command line ask for (docs/COMMANDS.md).
+/// What the words of a command line ask for (docs/COMMANDS.md). The slot is that of the meta under
+/// which the file is read, where one was named; without one it is the meta in force.
 #[derive(Debug, Drop)]
 pub enum Job {
     /// The facts of the meta in force.
@@ -15,7 +17,9 @@ pub enum Job {
         id: u64,
     },
     /// The table of all pages.
-    Pages { file: String },
+    Pages {
+        file: String,
+    },
     /// Whether the file is sound.
     Check {
         file: String,
@@ -23,23 +27,27 @@ pub enum Job {
     /// The names of the root's buckets.
     Buckets {
         file: String,
+        slot: Option<Slot>,
         form: Form,
     },
     /// The keys of the bucket at a path.
     Keys {
         file: String,
+        slot: Option<Slot>,
         path: Vec<Vec<u8>>,
         form: Form,
     },
     /// The value at a path.
     Get {
         file: String,
+        slot: Option<Slot>,
         path: Vec<Vec<u8>>,
         form: Form,
     },
     /// The listing from a path on, from its beginning where the path is empty.
     List {
         file: String,
+        slot: Option<Slot>,
         from: Vec<Vec<u8>>,
     },
 }
@@ -57,18 +65,28 @@ impl Job {
             Job::Page { file, id: _ } => file.as_str(),
             Job::Pages { file } => file.as_str(),
             Job::Check { file } => file.as_str(),
-            Job::Buckets { file, form: _ } => file.as_str(),
+            Job::Buckets {
+                file,
+                slot: _,
+                form: _,
+            } => file.as_str(),
             Job::Keys {
                 file,
+                slot: _,
                 path: _,
                 form: _,
             } => file.as_str(),
             Job::Get {
                 file,
+                slot: _,
                 path: _,
                 form: _,
             } => file.as_str(),
-            Job::List { file, from: _ } => file.as_str(),
+            Job::List {
+                file,
+                slot: _,
+                from: _,
+            } => file.as_str(),
         }
     }
 }

@@ -12,6 +12,7 @@ mod keys_command;
 mod list_command;
 mod open_bucket;
 mod open_checked;
+mod open_read;
 mod page_command;
 mod pages_command;
 mod parts;

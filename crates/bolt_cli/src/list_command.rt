@@ -1,13 +1,13 @@
 //! The command `list`.
 ghost use Rattle.std.specs.Prelude.{◌≡◌, IfErr, IfOk};
 ghost use Rattle.bolt_tree.specs.Paths.{path_of};
-ghost use Rattle.bolt_cli.specs.Answers.{Answer, Does, IsCheckedAnswer, IsFileRefusal, IsListAnswer};
+ghost use Rattle.bolt_cli.specs.Answers.{Answer, Does, IsListAnswer, IsReadAnswer};
 ghost use Rattle.bolt_cli.specs.PlainWords.{path_in};
 ghost use Rattle.bolt_cli.specs.declared.failure.Failure.TheVariants.{Memory};
 
 use crate::failure::Failure;
-use crate::open_checked::open_checked;
-use bolt_format::Sink;
+use crate::open_read::open_read;
+use bolt_format::{Sink, Slot};
 use bolt_report::list;
 use std::alloc::Global;
 
@@ -15,13 +15,14 @@ use std::alloc::Global;
 pub(crate) fn print_list<O: Sink>(
     alloc: Global,
     file: &[u8],
+    slot: Option<Slot>,
     from: &[Vec<u8>],
     out: &mut O,
 ) -> Result<u8, Failure>
-    ensures { (answer : Answer) × IsCheckedAnswer file.now (IsListAnswer file.now (path_in from.now)) IsFileRefusal answer
+    ensures { (answer : Answer) × IsReadAnswer file.now slot (IsListAnswer file.now (path_in from.now)) answer
         × Does O.taken O.failed out.old out.new answer result }
 {
-    let checked = open_checked(alloc, file)?;
+    let checked = open_read(alloc, file, slot)?;
     let path = slices(alloc, from)?;
     list(alloc, checked, path.as_slice(), out)?;
     Ok(0)

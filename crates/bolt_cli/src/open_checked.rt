@@ -25,7 +25,7 @@ pub(crate) fn open_checked(alloc: Global, file: &[u8]) -> Result<Checked<'_>, Fa
 }
 
 /// What is told of a refused file: of its findings the first alone.
-fn first_told(fault: &CheckFault) -> Failure
+pub(crate) fn first_told(fault: &CheckFault) -> Failure
     requires { TellsSome fault.now }
     ensures { IsToldAs fault.now result }
 {

@@ -55,17 +55,27 @@ fn do_job<O: Sink>(alloc: Global, job: &Job, file: &[u8], out: &mut O) -> Result
         Job::Page { file: _, id } => print_page(file, *id, out),
         Job::Pages { file: _ } => print_pages(alloc, file, out),
         Job::Check { file: _ } => print_check(alloc, file, out),
-        Job::Buckets { file: _, form } => print_buckets(alloc, file, *form, out),
+        Job::Buckets {
+            file: _,
+            slot,
+            form,
+        } => print_buckets(alloc, file, *slot, *form, out),
         Job::Keys {
             file: _,
+            slot,
             path,
             form,
-        } => print_keys(alloc, file, path.as_slice(), *form, out),
+        } => print_keys(alloc, file, *slot, path.as_slice(), *form, out),
         Job::Get {
             file: _,
+            slot,
             path,
             form,
-        } => print_value(alloc, file, path.as_slice(), *form, out),
-        Job::List { file: _, from } => print_list(alloc, file, from.as_slice(), out),
+        } => print_value(alloc, file, *slot, path.as_slice(), *form, out),
+        Job::List {
+            file: _,
+            slot,
+            from,
+        } => print_list(alloc, file, *slot, from.as_slice(), out),
     }
 }

@@ -87,6 +87,14 @@ const FROM: Choice = Choice {
     required: false,
 };
 
+const META: Choice = Choice {
+    name: "meta",
+    flag: Flag::Long("meta"),
+    value: "M",
+    help: "Read the file under the meta in slot 0 or 1, whatever its freelist says",
+    required: false,
+};
+
 /// The line of each command, in the order in which help tells them.
 pub(crate) static SYNTAXES: [Syntax; 8] = [
     Syntax {
@@ -117,24 +125,24 @@ pub(crate) static SYNTAXES: [Syntax; 8] = [
         name: "buckets",
         about: "List the names of the buckets in the root bucket",
         operands: &[FILE],
-        options: &[FORM],
+        options: &[FORM, META],
     },
     Syntax {
         name: "keys",
         about: "List the keys of a bucket, those of its buckets among them",
         operands: &[FILE, BUCKET_PART],
-        options: &[FORM, PARTS],
+        options: &[FORM, PARTS, META],
     },
     Syntax {
         name: "get",
         about: "Show the value of a key",
         operands: &[FILE, KEY_PART],
-        options: &[FORM, PARTS],
+        options: &[FORM, PARTS, META],
     },
     Syntax {
         name: "list",
         about: "List all that the file holds, keys and values in hex, in the order of paths",
         operands: &[FILE],
-        options: &[FROM],
+        options: &[FROM, META],
     },
 ];

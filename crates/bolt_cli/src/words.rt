@@ -3,12 +3,13 @@ ghost use Rattle.std.specs.Prelude.{◌≡◌, IfErr, IfOk, MatchResult, Some, N
 ghost use Rattle.clap.specs.Words.{fault_of, found_of, kind_of, rows_of, subcommand_rows_of};
 ghost use Rattle.bolt_cli.specs.CommandLine.{Asks, Gives, HasKindOf, IsRefusalOf, IsRefusedBy, asked_by, asked_by_subcommand, program, values_in};
 ghost use Rattle.bolt_cli.specs.LineWords.{Text};
-ghost use Rattle.bolt_cli.specs.PlainWords.{Asked, IsInRange, asked_of, asks, asks_buckets, asks_check, asks_get, asks_info, asks_keys, asks_list, asks_page, asks_pages, first_of, form_by, form_of, line_of, page_id, path_by, path_in, text_by, words_for};
+ghost use Rattle.bolt_cli.specs.PlainWords.{Asked, IsInRange, asked_of, asks, asks_buckets, asks_check, asks_get, asks_info, asks_keys, asks_list, asks_page, asks_pages, first_of, form_by, form_of, line_of, page_id, path_by, path_in, slot_by, text_by, words_for};
 ghost use Rattle.bolt_cli.specs.declared.words.Refusal.TheVariants.{Memory};
 
 use crate::command_line;
 use crate::job::Job;
 use crate::path_words::{read_from, read_parts, read_path};
+use bolt_format::Slot;
 use bolt_report::Form;
 use clap::error::ErrorKind;
 use clap::{ArgMatches, Error};
@@ -47,7 +48,7 @@ impl<T: Drop> From<AllocFailed<T>> for Refusal {
 ///
 /// The lines are `info FILE`, `page FILE ID`, `pages FILE`, `check FILE`, `buckets FILE [--form F]`,
 /// `keys FILE PART.. [--form F] [--parts P]`, `get FILE PART.. [--form F] [--parts P]` and
-/// `list FILE [--from HEXPATH]`. Options stand before, between or behind the operands, once each, as
+/// `list FILE [--from HEXPATH]`; the last four also take `--meta M`, with M 0 or 1. Options stand before, between or behind the operands, once each, as
 /// `--form hex` or `--form=hex`. A word that begins with a hyphen and has more is an option, unless
 /// `--` stands before it. An ID is decimal digits, at least one, of a number below 2^64; F is
 /// `printable`, `hex` or `bytes`; P is `text` or `hex` and says how each PART is written; a HEXPATH
@@ -57,7 +58,8 @@ impl<T: Drop> From<AllocFailed<T>> for Refusal {
 ///
 /// Words that are no such line are refused, with `Refusal::Help` where help is asked for before a
 /// word is out of place, and else with `Refusal::Usage`. A line with a word that can't be read is
-/// refused as `Refusal::Word`: `bad page id`, `bad form`, `bad parts` or `bad hex`.
+/// refused as `Refusal::Word`: `bad page id`, `bad form`, `bad parts`, `bad hex` or
+/// `bad meta`.
 /// `Refusal::Memory` comes where memory runs out.
 pub fn read_words(alloc: Global, words: Vec<String>) -> Result<Job, Refusal>
     ensures answer { let texts = map string_bytes words.items in let line = line_of texts in
@@ -141,34 +143,48 @@ fn read_buckets(alloc: Global, matches: &ArgMatches<'_>) -> Result<Job, Refusal>
     ensures { Gives asked_of (asks_buckets (values_in (rows_of (found_of matches.now)))) result }
 {
     let file = read_text(alloc, matches, "FILE")?;
+    let slot = read_slot(choice(matches, "meta"))?;
     let form = read_form(choice(matches, "form"))?;
-    Ok(Job::Buckets { file, form })
+    Ok(Job::Buckets { file, slot, form })
 }
 
 fn read_keys(alloc: Global, matches: &ArgMatches<'_>) -> Result<Job, Refusal>
     ensures { Gives asked_of (asks_keys (values_in (rows_of (found_of matches.now)))) result }
 {
     let file = read_text(alloc, matches, "FILE")?;
+    let slot = read_slot(choice(matches, "meta"))?;
     let form = read_form(choice(matches, "form"))?;
     let path = read_parts_of(alloc, matches)?;
-    Ok(Job::Keys { file, path, form })
+    Ok(Job::Keys {
+        file,
+        slot,
+        path,
+        form,
+    })
 }
 
 fn read_get(alloc: Global, matches: &ArgMatches<'_>) -> Result<Job, Refusal>
     ensures { Gives asked_of (asks_get (values_in (rows_of (found_of matches.now)))) result }
 {
     let file = read_text(alloc, matches, "FILE")?;
+    let slot = read_slot(choice(matches, "meta"))?;
     let form = read_form(choice(matches, "form"))?;
     let path = read_parts_of(alloc, matches)?;
-    Ok(Job::Get { file, path, form })
+    Ok(Job::Get {
+        file,
+        slot,
+        path,
+        form,
+    })
 }
 
 fn read_list(alloc: Global, matches: &ArgMatches<'_>) -> Result<Job, Refusal>
     ensures { Gives asked_of (asks_list (values_in (rows_of (found_of matches.now)))) result }
 {
     let file = read_text(alloc, matches, "FILE")?;
+    let slot = read_slot(choice(matches, "meta"))?;
     let from = read_from(alloc, choice(matches, "from"))?;
-    Ok(Job::List { file, from })
+    Ok(Job::List { file, slot, from })
 }
 
 // The path that the words of PART write.
@@ -215,6 +231,17 @@ fn read_page_id(word: &str) -> Result<u64, Refusal>
     match word.parse::<u64>() {
         Ok(id) => Ok(id),
         Err(_) => Err(Refusal::Word("bad page id")),
+    }
+}
+
+fn read_slot(word: Option<&str>) -> Result<Option<Slot>, Refusal>
+    ensures { Gives (λ slot. slot) (slot_by (option_map (λ text. text.now) word.entry)) result }
+{
+    match word {
+        None => Ok(None),
+        Some("0") => Ok(Some(Slot::Zero)),
+        Some("1") => Ok(Some(Slot::One)),
+        Some(_) => Err(Refusal::Word("bad meta")),
     }
 }
 

@@ -13,6 +13,8 @@ mod large_file_rows;
 #[cfg(test)]
 mod large_page_rows;
 #[cfg(test)]
+mod meta_option_rows;
+#[cfg(test)]
 mod page_command_rows;
 #[cfg(test)]
 mod refused_rows;

@@ -61,7 +61,8 @@ const KEYS_HELP: &str = "List the keys of a bucket, those of its buckets among t
     \n\
     Options:\n      \
           --form <F>   How names and values are shown: printable (in hex what isn't plain ASCII), hex or bytes [default: printable]\n      \
-          --parts <P>  How each PART is written: text or hex [default: text]\n  \
+          --parts <P>  How each PART is written: text or hex [default: text]\n      \
+          --meta <M>   Read the file under the meta in slot 0 or 1, whatever its freelist says\n  \
       -h, --help       Print help\n";
 
 const GET_HELP: &str = "Show the value of a key\n\
@@ -74,7 +75,8 @@ const GET_HELP: &str = "Show the value of a key\n\
     \n\
     Options:\n      \
           --form <F>   How names and values are shown: printable (in hex what isn't plain ASCII), hex or bytes [default: printable]\n      \
-          --parts <P>  How each PART is written: text or hex [default: text]\n  \
+          --parts <P>  How each PART is written: text or hex [default: text]\n      \
+          --meta <M>   Read the file under the meta in slot 0 or 1, whatever its freelist says\n  \
       -h, --help       Print help\n";
 
 const LIST_HELP: &str =
@@ -86,7 +88,8 @@ const LIST_HELP: &str =
       <FILE>  The database file; it is read, never written\n\
     \n\
     Options:\n      \
-          --from <HEXPATH>  Where to begin: keys in hex joined by slashes, as the listing shows them\n  \
+          --from <HEXPATH>  Where to begin: keys in hex joined by slashes, as the listing shows them\n      \
+          --meta <M>        Read the file under the meta in slot 0 or 1, whatever its freelist says\n  \
       -h, --help            Print help\n";
 
 const BUCKETS_HELP: &str = "List the names of the buckets in the root bucket\n\
@@ -97,7 +100,8 @@ const BUCKETS_HELP: &str = "List the names of the buckets in the root bucket\n\
       <FILE>  The database file; it is read, never written\n\
     \n\
     Options:\n      \
-          --form <F>  How names and values are shown: printable (in hex what isn't plain ASCII), hex or bytes [default: printable]\n  \
+          --form <F>  How names and values are shown: printable (in hex what isn't plain ASCII), hex or bytes [default: printable]\n      \
+          --meta <M>  Read the file under the meta in slot 0 or 1, whatever its freelist says\n  \
       -h, --help      Print help\n";
 
 /// Lines without a command, or with one that isn't known.
@@ -401,6 +405,9 @@ static NUMBERS: [&'static str; 11] = [
 /// Words that are no form.
 static FORMS: [&'static str; 5] = ["", "nosuch", "Hex", "hex ", "printable,hex"];
 
+/// Words that are no slot of a meta.
+static SLOTS: [&'static str; 6] = ["", "2", "x", "01", "10", "+1"];
+
 /// Words that are no bytes in hexadecimal.
 static HEXES: [&'static str; 6] = ["6", "6g", "0x61", "616", " 61", "\u{663}"];
 
@@ -422,6 +429,11 @@ fn refused_words(rt: HostRuntime) -> Result<(), Fail> {
     for parts in &FORMS {
         let words = ["keys", "FILE", "--parts", *parts, "61"];
         let row = (words.as_slice(), RefusedWord("bad parts"));
+        check_row(&rt, rt.alloc(), "no file", &[], row)?;
+    }
+    for slot in &SLOTS {
+        let words = ["list", "FILE", "--meta", *slot];
+        let row = (words.as_slice(), RefusedWord("bad meta"));
         check_row(&rt, rt.alloc(), "no file", &[], row)?;
     }
     for hex in &HEXES {
@@ -473,6 +485,7 @@ fn file_words(rt: HostRuntime) -> Result<(), Fail> {
         )?;
         check_file(&rt, alloc, &["get", file, "", "-"], file)?;
         check_file(&rt, alloc, &["list", "--from", "00/fF", file], file)?;
+        check_file(&rt, alloc, &["list", "--meta=1", file], file)?;
     }
     // Behind two hyphens a word is an operand, whatever it begins with.
     for file in ["--form", "--form=hex", "--help", "--"] {

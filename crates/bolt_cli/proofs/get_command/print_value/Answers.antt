@@ -7,6 +7,7 @@ use Rattle.bolt_cli.specs.Answers.{IsGetAnswer, done, refused}
 use Rattle.bolt_cli.specs.PlainWords.{path_in}
 use Rattle.bolt_cli.proofs.AtPaths.{held_told}
 use Rattle.bolt_cli.proofs.Doing.{Does-nothing, Does-part, Does-whole}
+use Rattle.bolt_cli.proofs.ReadFiles.{read_trees}
 use Rattle.bolt_cli.proofs.get_command.print_value.Goals as goal
 
 pub returns-in_err-checked : goal.returns-in_err-checked
@@ -21,15 +22,13 @@ returns-in_err-checked g c =
 pub returns-in_err-find_value : goal.returns-in_err-find_value
 returns-in_err-find_value g c =
     let checked = c.in_ok-checked.checked in
-    let (slot, chosen, sound) = c.in_ok-checked.ensures.sound in
+    let under = c.in_ok-checked.ensures.sound in
     let failure = c.in_err-find_value.field-0.0 in
     let path = path_in c.args.path.now in (
       refused failure,
       inl (
-        slot,
         meta_of checked,
-        chosen,
-        sound,
+        under,
         subst (λ (file : List _). IsGetAnswer file path c.args.form (meta_of checked) (refused failure)) c.in_ok-checked.ensures.bytes (inr (failure, c.in_err-find_value.ensures.refused, refl)),
       ),
       Does-nothing g.O.Sink.taken g.O.Sink.failed c.args.out.now failure _ c.from_residual-in_err-find_value.ensures.1,
@@ -39,13 +38,13 @@ pub returns-in_err-value : goal.returns-in_err-value
 returns-in_err-value g c =
     let checked = c.in_ok-checked.checked in
     let bytes = c.in_ok-checked.ensures.bytes in
-    let (slot, chosen, sound) = c.in_ok-checked.ensures.sound in
+    let under = c.in_ok-checked.ensures.sound in
     let path = path_in c.args.path.now in
     let value = c.in_ok-find_value.field-0.now in
-    let held = held_told checked path (Value value) (subst (λ (file : List _). HasSoundTrees file (meta_of checked)) (sym bytes) sound.trees) c.in_ok-find_value.ensures.held in
+    let held = held_told checked path (Value value) (subst (λ (file : List _). HasSoundTrees file (meta_of checked)) (sym bytes) (read_trees c.args.file.now c.args.slot (meta_of checked) under)) c.in_ok-find_value.ensures.held in
     let answer = done (value_text c.args.form value) in (
       answer,
-      inl (slot, meta_of checked, chosen, sound, subst (λ (file : List _). IsGetAnswer file path c.args.form (meta_of checked) answer) bytes (inl (value, held, refl))),
+      inl (meta_of checked, under, subst (λ (file : List _). IsGetAnswer file path c.args.form (meta_of checked) answer) bytes (inl (value, held, refl))),
       Does-part _ _ answer _ _ c.in_err-value.ensures.written c.in_err-value.ensures.fault c.from_residual-in_err-value.ensures.1,
     )
 
@@ -53,12 +52,12 @@ pub returns : goal.returns
 returns g c =
     let checked = c.in_ok-checked.checked in
     let bytes = c.in_ok-checked.ensures.bytes in
-    let (slot, chosen, sound) = c.in_ok-checked.ensures.sound in
+    let under = c.in_ok-checked.ensures.sound in
     let path = path_in c.args.path.now in
     let value = c.in_ok-find_value.field-0.now in
-    let held = held_told checked path (Value value) (subst (λ (file : List _). HasSoundTrees file (meta_of checked)) (sym bytes) sound.trees) c.in_ok-find_value.ensures.held in
+    let held = held_told checked path (Value value) (subst (λ (file : List _). HasSoundTrees file (meta_of checked)) (sym bytes) (read_trees c.args.file.now c.args.slot (meta_of checked) under)) c.in_ok-find_value.ensures.held in
     let answer = done (value_text c.args.form value) in (
       answer,
-      inl (slot, meta_of checked, chosen, sound, subst (λ (file : List _). IsGetAnswer file path c.args.form (meta_of checked) answer) bytes (inl (value, held, refl))),
+      inl (meta_of checked, under, subst (λ (file : List _). IsGetAnswer file path c.args.form (meta_of checked) answer) bytes (inl (value, held, refl))),
       Does-whole _ _ answer _ c.in_ok-value.ensures.written,
     )

@@ -19,7 +19,7 @@ returns-in_err-pages g c =
     let checked = c.in_ok-checked.checked in
     let (slot, chosen, sound) = c.in_ok-checked.ensures.sound in
     let (answer, told, does) = pages_stopped c.args.file.now checked c.in_ok-checked.ensures.bytes sound.trees (sound.right refl)
-        c.args.out.now c.pages.new.sink _ _ c.in_err-pages.ensures.written c.in_err-pages.ensures.fault c.in_err-pages.ensures.memory c.from_residual-in_err-pages.ensures.1 in
+    c.args.out.now c.pages.new.sink _ _ c.in_err-pages.ensures.written c.in_err-pages.ensures.fault c.in_err-pages.ensures.memory c.from_residual-in_err-pages.ensures.1 in
     (answer, inl (slot, meta_of checked, chosen, sound, told), does)
 
 pub returns : goal.returns
@@ -27,5 +27,5 @@ returns g c =
     let checked = c.in_ok-checked.checked in
     let (slot, chosen, sound) = c.in_ok-checked.ensures.sound in
     let (answer, told, does) = pages_whole c.args.file.now checked c.in_ok-checked.ensures.bytes sound.trees (sound.right refl)
-        c.args.out.now c.pages.new.sink _ c.in_ok-pages.ensures.written in
+    c.args.out.now c.pages.new.sink _ c.in_ok-pages.ensures.written in
     (answer, inl (slot, meta_of checked, chosen, sound, told), does)

@@ -1,5 +1,5 @@
 use Rattle.std.proofs.Common.{List, Vec, ℕ, Global, subst, sym}
-use Rattle.bolt_cli.specs.Answers.{IsAnswer, IsCheckedAnswer, IsFileRefusal, IsGetAnswer, IsKeysAnswer, IsListAnswer}
+use Rattle.bolt_cli.specs.Answers.{IsAnswer, IsGetAnswer, IsKeysAnswer, IsListAnswer, IsReadAnswer}
 use Rattle.bolt_cli.specs.PlainWords.{path_in}
 use Rattle.bolt_cli.specs.declared.job.Job.{Job}
 use Rattle.bolt_cli.proofs.runs.do_job.Goals as goal
@@ -13,7 +13,7 @@ returns-in-Keys g c =
     let (answer, is, does) = c.print_keys.ensures in (
       answer,
       subst (λ (job : Job). IsAnswer file job answer) (sym c.in-Keys.is)
-          (subst (λ (path : Path). IsCheckedAnswer file (IsKeysAnswer file (path_in path) c.in-Keys.form) IsFileRefusal answer) c.as_slice.ensures.value is),
+          (subst (λ (path : Path). IsReadAnswer file c.in-Keys.slot (IsKeysAnswer file (path_in path) c.in-Keys.form) answer) c.as_slice.ensures.value is),
       does,
     )
 
@@ -23,7 +23,7 @@ returns-in-Get g c =
     let (answer, is, does) = c.print_value.ensures in (
       answer,
       subst (λ (job : Job). IsAnswer file job answer) (sym c.in-Get.is)
-          (subst (λ (path : Path). IsCheckedAnswer file (IsGetAnswer file (path_in path) c.in-Get.form) IsFileRefusal answer) c.as_slice-in-Get.ensures.value is),
+          (subst (λ (path : Path). IsReadAnswer file c.in-Get.slot (IsGetAnswer file (path_in path) c.in-Get.form) answer) c.as_slice-in-Get.ensures.value is),
       does,
     )
 
@@ -33,6 +33,6 @@ returns-in-List g c =
     let (answer, is, does) = c.print_list.ensures in (
       answer,
       subst (λ (job : Job). IsAnswer file job answer) (sym c.in-List.is)
-          (subst (λ (path : Path). IsCheckedAnswer file (IsListAnswer file (path_in path)) IsFileRefusal answer) c.as_slice-in-List.ensures.value is),
+          (subst (λ (path : Path). IsReadAnswer file c.in-List.slot (IsListAnswer file (path_in path)) answer) c.as_slice-in-List.ensures.value is),
       does,
     )

@@ -1,0 +1,40 @@
+//! Opens a file for the commands that read what it holds.
+ghost use Rattle.std.specs.Prelude.{◌≡◌, IfErr, IfOk};
+ghost use Rattle.bolt_check.specs.CheckedFiles.{bytes_of, meta_of};
+ghost use Rattle.bolt_check.specs.declared.fault.CheckFault.{CheckFault};
+ghost use Rattle.bolt_cli.specs.Answers.{IsReadUnder, IsRefusedUnder};
+ghost use Rattle.bolt_cli.specs.Failures.{IsToldAs};
+
+use crate::failure::Failure;
+use crate::open_checked::{first_told, open_checked};
+use bolt_check::{Checked, check_slot};
+use bolt_format::Slot;
+use std::alloc::Global;
+
+/// The file under the meta of a slot, where its trees are sound; without a slot under the meta in
+/// force, where its accounts are right too.
+pub(crate) fn open_read(
+    alloc: Global,
+    file: &[u8],
+    slot: Option<Slot>,
+) -> Result<Checked<'_>, Failure>
+    ensures bytes { IfOk result (λ checked. bytes_of checked ≡ file.now) }
+    ensures sound { IfOk result (λ checked. IsReadUnder file.now slot (meta_of checked)) }
+    ensures refused { IfErr result (λ failure. (fault : CheckFault) × IsRefusedUnder file.now slot fault × IsToldAs fault failure) }
+{
+    match slot {
+        None => open_checked(alloc, file),
+        Some(slot) => open_slot(alloc, file, slot),
+    }
+}
+
+fn open_slot(alloc: Global, file: &[u8], slot: Slot) -> Result<Checked<'_>, Failure>
+    ensures bytes { IfOk result (λ checked. bytes_of checked ≡ file.now) }
+    ensures sound { IfOk result (λ checked. IsReadUnder file.now (Some slot) (meta_of checked)) }
+    ensures refused { IfErr result (λ failure. (fault : CheckFault) × IsRefusedUnder file.now (Some slot) fault × IsToldAs fault failure) }
+{
+    match check_slot(alloc, file, slot) {
+        Ok(checked) => Ok(checked),
+        Err(fault) => Err(first_told(&fault)),
+    }
+}
