@@ -3,6 +3,7 @@ pub mod FaultLemmas
 mod FreeLemmas
 mod GoodPages
 pub mod ListLemmas
+mod MetaFaultLemmas
 mod MetaLemmas
 pub mod PageFacts
 pub mod PageLaws

@@ -3,11 +3,18 @@ ghost use Rattle.std.specs.Prelude.{◌≡◌, ℕ, false, IsTrue, List, Some, C
 ghost use Rattle.bolt_format.specs.Bytes.{IsBytes};
 ghost use Rattle.bolt_format.specs.ElementLengths.{HasFitLengths};
 ghost use Rattle.bolt_format.specs.Elements.{IsBucketValue, LeafElement, head_root, inline_elements};
-ghost use Rattle.bolt_format.specs.Metas.{IsInSlot};
+ghost use Rattle.bolt_format.specs.Metas.{HasMetaFault, IsInSlot, IsMeta};
 ghost use Rattle.bolt_format.specs.Pages.{PageView, page_at};
 ghost use Rattle.bolt_format.specs.declared.kind.Kind.TheVariants as kind;
 ghost use Rattle.bolt_format.specs.declared.meta.Meta.{Meta};
+ghost use Rattle.bolt_format.specs.declared.meta.MetaFault.{MetaFault};
 ghost use Rattle.bolt_format.specs.declared.meta.Slot.{Slot};
+
+/// The page at a byte has at most one fault, and none where its meta is valid.
+pub fn meta_fault_is_one()
+    ensures one { (file : List ℕ) (at : ℕ) (a b : MetaFault) → HasMetaFault file at a → HasMetaFault file at b → a ≡ b }
+    ensures valid { (file : List ℕ) (at : ℕ) (fault : MetaFault) (meta : Meta) → HasMetaFault file at fault → IsMeta file at meta → ⊥ }
+{}
 
 /// A slot has at most one valid meta.
 pub fn slot_meta_is_one()

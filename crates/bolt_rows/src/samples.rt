@@ -7,7 +7,8 @@ use format_rows::maker::{
     Element, FRESH, MetaFields, NO_FREELIST, database, database_of, freelist, inline, leaf,
     long_freelist,
 };
-use format_rows::samples::{Content, FRESH_FILE, Sample, empty_leaf, with_root};
+pub use format_rows::samples::pair;
+use format_rows::samples::{Content, FRESH_FILE, Sample, with_root};
 use std::alloc::{AllocError, Global};
 
 /// The fresh file with a bit of the second checksum changed, whose first byte is 0x0f.
@@ -83,31 +84,6 @@ pub fn names(alloc: Global) -> Result<Vec<u8>, AllocError> {
         Element::of_value(b"m", b"1"),
     ];
     with_root(alloc, &MetaFields::fresh(1024), &elements)
-}
-
-/// Two states of a database in five pages of 1,024 bytes: root 3 with the bucket `a` in the first
-/// meta, root 4 with the bucket `z` in the second.
-pub fn pair(alloc: Global, txids: [u64; 2]) -> Result<Vec<u8>, AllocError> {
-    let [first_txid, second_txid] = txids;
-    let zero = MetaFields {
-        freelist: NO_FREELIST,
-        mark: 5,
-        txid: first_txid,
-        ..MetaFields::fresh(1024)
-    };
-    let one = MetaFields {
-        root: 4,
-        txid: second_txid,
-        ..zero
-    };
-    let first = empty_leaf(alloc, 3, b"a")?;
-    let second = empty_leaf(alloc, 4, b"z")?;
-    let pages = [
-        (2, [0; 16].as_slice()),
-        (3, first.as_slice()),
-        (4, second.as_slice()),
-    ];
-    database_of(alloc, 1024, 5, [&zero, &one], &pages)
 }
 
 /// Page numbers from 4 on in a freelist on one page of 1,024 bytes, in the short form or in the

@@ -1,8 +1,8 @@
 //! Files that the rows of several crates speak of.
 
 use crate::maker::{
-    Element, FRESH, MetaFields, Patch, branch, database, freelist, inline, leaf, patch,
-    put_patches, reference,
+    Element, FRESH, MetaFields, NO_FREELIST, Patch, branch, database, database_of, freelist,
+    inline, leaf, patch, put_patches, reference,
 };
 use Content::{Branch, Freelist, Inline, Leaf};
 use Element::{Bucket, Value};
@@ -112,6 +112,31 @@ pub fn two_buckets(alloc: Global) -> Result<Vec<u8>, AllocError> {
         Bucket(b"aa", empty.as_slice()),
     ];
     with_root(alloc, &MetaFields::fresh(4096), &elements)
+}
+
+/// Two states of a database in five pages of 1,024 bytes: root 3 with the bucket `a` in the first
+/// meta, root 4 with the bucket `z` in the second.
+pub fn pair(alloc: Global, txids: [u64; 2]) -> Result<Vec<u8>, AllocError> {
+    let [first_txid, second_txid] = txids;
+    let zero = MetaFields {
+        freelist: NO_FREELIST,
+        mark: 5,
+        txid: first_txid,
+        ..MetaFields::fresh(1024)
+    };
+    let one = MetaFields {
+        root: 4,
+        txid: second_txid,
+        ..zero
+    };
+    let first = empty_leaf(alloc, 3, b"a")?;
+    let second = empty_leaf(alloc, 4, b"z")?;
+    let pages = [
+        (2, [0; 16].as_slice()),
+        (3, first.as_slice()),
+        (4, second.as_slice()),
+    ];
+    database_of(alloc, 1024, 5, [&zero, &one], &pages)
 }
 
 /// Branches from page 3 to a last one, each with `a` to the next page, and then an empty leaf.

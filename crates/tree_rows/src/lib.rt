@@ -23,6 +23,8 @@ mod nested_sample;
 #[cfg(test)]
 mod opening_rows;
 #[cfg(test)]
+mod slot_rows;
+#[cfg(test)]
 mod text_rows;
 #[cfg(test)]
 mod texts;
