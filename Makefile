@@ -2,7 +2,7 @@
 PREFIX ?= /usr/local
 PROGRAM = crates/luntsegi/out/luntsegi
 SOUND = $(wildcard examples/*.buckets)
-LISTED = $(wildcard examples/*.list)
+LISTED = $(filter-out $(LEAKED).list,$(wildcard examples/*.list))
 LEAKED = examples/leaked
 
 .PHONY: build demo examples test bench memory install clean
@@ -24,6 +24,7 @@ examples: $(PROGRAM)
 	for list in $(SOUND); do $(PROGRAM) buckets $${list%.buckets}.db | cmp - $$list || exit 1; done
 	for list in $(LISTED); do $(PROGRAM) list $${list%.list}.db | cmp - $$list || exit 1; done
 	for list in $(SOUND); do $(PROGRAM) check $${list%.buckets}.db | grep -qx OK || exit 1; done
+	$(PROGRAM) list --meta 1 $(LEAKED).db | cmp - $(LEAKED).list
 	! $(PROGRAM) check $(LEAKED).db > /dev/null
 	$(PROGRAM) check $(LEAKED).db | cmp - $(LEAKED).findings
 	$(PROGRAM) check $(LEAKED).db 2>&1 > /dev/full | grep -qx "error: write failed"
@@ -42,7 +43,8 @@ LONG = out/long.db
 # with a million small entries, on one with 200,000 buckets in its root bucket, and on one of 256 MB
 # with values of 100 KB.
 bench: $(PROGRAM) $(LARGE) $(WIDE) $(LONG)
-	python3 tools/bench/time_commands.py $(PROGRAM) $(LARGE) info check buckets pages list
+	python3 tools/bench/time_commands.py $(PROGRAM) $(LARGE) info check buckets pages list \
+		"keys bucket-0" "get bucket-0 entry-000000000000100000"
 	python3 tools/bench/time_commands.py $(PROGRAM) $(WIDE) info check buckets pages list
 	python3 tools/bench/time_commands.py $(PROGRAM) $(LONG) info check buckets pages list
 

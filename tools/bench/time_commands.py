@@ -3,7 +3,7 @@
 
     time_commands.py PROGRAM FILE COMMAND..
 
-Prints the seconds that each command took, and the most memory that one took. The status is 1 where
+A COMMAND may be several words, of which those behind the first stand behind FILE. Prints the seconds that each command took, and the most memory that one took. The status is 1 where
 a command fails or takes 2 seconds or more, or where one takes more memory than the file, a byte for
 each page of it, and 16 MiB.
 """
@@ -37,7 +37,8 @@ def main():
     most = length + length // PAGE_SIZE + ROOM
     good = True
     for command in commands:
-        status, seconds = timed([program, command, file])
+        name, *operands = command.split()
+        status, seconds = timed([program, name, file, *operands])
         peak = peak_memory()
         print(f"{command}: status {status}, {seconds:.2f} s of {SECONDS:.2f}, at most {peak} bytes of {most}")
         good = good and status == 0 and seconds < SECONDS and peak <= most
