@@ -53,10 +53,10 @@ fn check_named(
 }
 
 /// What is wanted of slot zero, and of slot one.
-type Wants<'a> = [Want<'a>; 2];
+type Wants<'a> = (Want<'a>, Want<'a>);
 
 fn check_slots(rt: &impl Abort, alloc: Global, name: &str, file: &[u8], wants: &Wants<'_>) {
-    let [zero, one] = wants;
+    let (zero, one) = wants;
     check_named(rt, alloc, name, file, Slot::Zero, *zero);
     check_named(rt, alloc, name, file, Slot::One, *one);
 }
@@ -64,7 +64,7 @@ fn check_slots(rt: &impl Abort, alloc: Global, name: &str, file: &[u8], wants: &
 /// Nothing is held.
 const NOTHING: &[Row<'static>] = &[(List(&[]), b""), (Buckets(&[], Printable), b"")];
 
-const BOTH_EMPTY: Wants<'static> = [Sound(0, NOTHING), Sound(1, NOTHING)];
+const BOTH_EMPTY: Wants<'static> = (Sound(0, NOTHING), Sound(1, NOTHING));
 
 const INLINE_TEXTS: &[Row<'static>] = &[
     (List(&[]), b"62 bucket 0\n62/6b31 = 7631\n"),
@@ -123,7 +123,7 @@ static UNACCOUNTED: [SlotRow; 5] = [
             },
             ..INLINE_BUCKET
         },
-        [Sound(0, INLINE_TEXTS), Sound(1, INLINE_TEXTS)],
+        (Sound(0, INLINE_TEXTS), Sound(1, INLINE_TEXTS)),
     ),
 ];
 
@@ -149,7 +149,7 @@ static FILES: [SlotRow; 6] = [
             patches: &[(4096 + 72, &[0x0e])],
             ..FRESH_FILE
         },
-        [Sound(0, NOTHING), Unopened(MetaFault::Sum)],
+        (Sound(0, NOTHING), Unopened(MetaFault::Sum)),
     ),
     (
         "no first meta, and the second at the least page size",
@@ -161,7 +161,7 @@ static FILES: [SlotRow; 6] = [
             patches: &[(0, &[0; 80])],
             ..INLINE_BUCKET
         },
-        [Unopened(MetaFault::Magic), Sound(1, INLINE_TEXTS)],
+        (Unopened(MetaFault::Magic), Sound(1, INLINE_TEXTS)),
     ),
     (
         "another version in the first meta",
@@ -169,7 +169,7 @@ static FILES: [SlotRow; 6] = [
             patches: &[(20, &[1])],
             ..INLINE_BUCKET
         },
-        [Unopened(MetaFault::Version), Sound(1, INLINE_TEXTS)],
+        (Unopened(MetaFault::Version), Sound(1, INLINE_TEXTS)),
     ),
     (
         "no valid meta",
@@ -177,7 +177,7 @@ static FILES: [SlotRow; 6] = [
             patches: &[(20, &[1]), (4096 + 72, &[0x0e])],
             ..FRESH_FILE
         },
-        [Unopened(MetaFault::Version), Unopened(MetaFault::Version)],
+        (Unopened(MetaFault::Version), Unopened(MetaFault::Version)),
     ),
     (
         "the root out of range",
@@ -185,7 +185,7 @@ static FILES: [SlotRow; 6] = [
             fields: MetaFields { root: 4, ..FRESH },
             ..FRESH_FILE
         },
-        [OUT_OF_RANGE, OUT_OF_RANGE],
+        (OUT_OF_RANGE, OUT_OF_RANGE),
     ),
 ];
 
@@ -217,14 +217,14 @@ const OF_ONE: &[Row<'static>] = &[
 #[test]
 fn two_states_are_told_apart(rt: HostRuntime) -> Result<(), Fail> {
     let alloc = rt.alloc();
-    let both = [Sound(2, OF_ZERO), Sound(1, OF_ONE)];
+    let both = (Sound(2, OF_ZERO), Sound(1, OF_ONE));
     let mut file = pair(alloc, [2, 1])?;
     check_slots(&rt, alloc, "two states", file.as_slice(), &both);
-    let later = [Sound(2, OF_ZERO), Unsound(PageFault::ID, 4)];
+    let later = (Sound(2, OF_ZERO), Unsound(PageFault::ID, 4));
     patch(&mut file, 4 * 1024, &[9])?;
     check_slots(&rt, alloc, "the older is damaged", file.as_slice(), &later);
     file.truncate(1024);
-    let cut = [Unsound(PageFault::CUT, 3), Unopened(MetaFault::Cut)];
+    let cut = (Unsound(PageFault::CUT, 3), Unopened(MetaFault::Cut));
     check_slots(&rt, alloc, "one page is held", file.as_slice(), &cut);
     Ok(())
 }
@@ -235,7 +235,7 @@ fn the_state_before_a_damaged_one_is_read(rt: HostRuntime) -> Result<(), Fail> {
     let alloc = rt.alloc();
     let mut file = pair(alloc, [1, 2])?;
     patch(&mut file, 4 * 1024, &[9])?;
-    let wants = [Sound(1, OF_ZERO), Unsound(PageFault::ID, 4)];
+    let wants = (Sound(1, OF_ZERO), Unsound(PageFault::ID, 4));
     check_slots(&rt, alloc, "the newer is damaged", file.as_slice(), &wants);
     match check(alloc, file.as_slice()) {
         Err(CheckFault::Structure(finding)) => {
@@ -267,15 +267,15 @@ fn with_another_place(alloc: Global) -> Result<Vec<u8>, AllocError> {
 fn slot_one_stands_where_slot_zero_says(rt: HostRuntime) -> Result<(), Fail> {
     let alloc = rt.alloc();
     let mut file = with_another_place(alloc)?;
-    let beside = [Sound(2, OF_ZERO), Unopened(MetaFault::Magic)];
+    let beside = (Sound(2, OF_ZERO), Unopened(MetaFault::Magic));
     check_slots(&rt, alloc, "elsewhere", file.as_slice(), &beside);
     let other = MetaFields::fresh(2048);
     let meta = meta_page(alloc, 1, &other)?;
     patch(&mut file, 1024, meta.as_slice())?;
-    let sized = [Sound(2, OF_ZERO), Unopened(MetaFault::PageSize)];
+    let sized = (Sound(2, OF_ZERO), Unopened(MetaFault::PageSize));
     check_slots(&rt, alloc, "another page size", file.as_slice(), &sized);
     patch(&mut file, 16, &[0; 4])?;
-    let found = [Unopened(MetaFault::Magic), Sound(7, OF_ONE)];
+    let found = (Unopened(MetaFault::Magic), Sound(7, OF_ONE));
     check_slots(&rt, alloc, "found by search", file.as_slice(), &found);
     Ok(())
 }
