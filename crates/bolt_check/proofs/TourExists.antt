@@ -1,11 +1,12 @@
 -- Sound trees have a tour: each visit takes a page number away from those that are left.
-use Rattle.std.proofs.Common.{◌≡◌, ◌≢◌, ◌∙◌, ℕ, zero, suc, ◌<◌, ◌≤◌, ◌⊎◌, inl, inr, List, [], ◌∷◌, ◌++◌, length, map, Option, Some, Ok, refl, sym, ap, subst, arith}
+use Rattle.std.proofs.Common.{◌≡◌, ◌≢◌, ◌∙◌, ℕ, zero, suc, ◌<◌, ◌≤◌, inl, inr, List, [], ◌∷◌, ◌++◌, length, map, Option, Some, Ok, refl, sym, ap, subst, arith}
 use Rattle.std.proofs.lemmas.Bool.{cases_eq}
 use Rattle.bolt_format.specs.declared.meta.Meta.{Meta}
 use Rattle.bolt_check.specs.Keys.{Key}
 use Rattle.bolt_check.specs.Nodes.{Node, Nodes, node_at}
 use Rattle.bolt_check.specs.Private.Pending.{forest, places, somes}
 use Rattle.bolt_check.specs.Sound.{HasSoundTrees}
+use Rattle.bolt_check.specs.Subtrees.{Has}
 use Rattle.bolt_check.specs.Tours.{IsTour}
 use Rattle.bolt_check.specs.Ways.{At_inline, At_page, Before, PageSpot, Reach, SpanHas, Spot, follow, reached, start_of}
 use Rattle.bolt_check.proofs.Forest.{forest_empty, inline_visits, kids_step, nothing_is, root_way, visits}
@@ -15,11 +16,7 @@ use Rattle.bolt_check.proofs.TourLemmas.{Ways, from_map, in_map, rises_map, tour
 use Rattle.bolt_check.proofs.Visiting.{Visits}
 use Rattle.bolt_check.proofs.WayOrder.{before_irreflexive, before_total}
 
--- the page numbers that are left
-abbrev pub Has : ℕ → List ℕ → Type 0
-Has n [] = ⊥
-Has n (x ∷ xs) = (n ≡ x) ⊎ Has n xs
-
+-- the page numbers that are left, without one
 abbrev pub without : (n : ℕ) (xs : List ℕ) → Has n xs → List ℕ
 without n [] h = []
 without n (x ∷ xs) (inl e) = xs

@@ -1,15 +1,16 @@
 -- A sum over the tour of a bucket, page by page: a page's own, and those of the pages that it leads to.
-use Rattle.std.proofs.Common.{◌≡◌, ◌∙◌, ◌==◌, ℕ, zero, suc, ◌+◌, ◌<◌, ◌≤◌, inl, inr, Bool, true, false, List, [], ◌∷◌, ◌++◌, Option, Some, None, Result, Ok, Err, cond, length, map, sum_by, slice_get, refl, sym, ap, subst, arith}
+use Rattle.std.proofs.Common.{◌≡◌, ◌∙◌, ◌==◌, ℕ, zero, suc, ◌+◌, ◌≤◌, inl, inr, Bool, true, false, List, [], ◌∷◌, ◌++◌, Option, Some, None, Result, Ok, cond, length, map, sum_by, slice_get, refl, sym, ap, subst, arith}
 use Rattle.std.proofs.lemmas.List.Sums.{sum_by-cons}
 use Rattle.bolt_format.specs.declared.meta.Meta.{Meta}
 use Rattle.bolt_check.specs.Keys.{Key}
 use Rattle.bolt_check.specs.Nodes.{Entry, Node, Nodes, node_at}
 use Rattle.bolt_check.specs.Private.Pending.{forest, places, somes}
 use Rattle.bolt_check.specs.Sound.{HasSoundTrees}
+use Rattle.bolt_check.specs.Subtrees.{Enough, Has, kid_pages, kids_at, root_page, weight}
 use Rattle.bolt_check.specs.Tours.{IsIn, IsTour}
-use Rattle.bolt_check.specs.Ways.{At_inline, At_page, PageSpot, Reach, Spot, bucket_spot, bucket_spots, follow, reached, spot_of, start_of, step, upper_from}
+use Rattle.bolt_check.specs.Ways.{At_inline, At_page, PageSpot, Reach, Spot, follow, reached, start_of, step}
 use Rattle.bolt_check.proofs.Forest.{flat, inline_visits, kids_step, visits}
-use Rattle.bolt_check.proofs.TourExists.{Anything, Fits, Has, Holds, cancel, fits_root, found, no_tour, numbers, root_tour, shorter, sound_fits, still, tail, tail_leads, without}
+use Rattle.bolt_check.proofs.TourExists.{Anything, Fits, Holds, cancel, fits_root, found, no_tour, numbers, root_tour, shorter, sound_fits, still, tail, tail_leads, without}
 use Rattle.bolt_check.proofs.TourLemmas.{Ways, tour_step}
 use Rattle.bolt_check.proofs.Visiting.{Visits}
 use Rattle.bolt_check.proofs.WayFacts.{follow_append}
@@ -19,20 +20,6 @@ abbrev pub pages_of : List Spot → List ℕ
 pages_of [] = []
 pages_of (At_page s ∷ spots) = s.number ∷ pages_of spots
 pages_of (At_inline host keys ∷ spots) = pages_of spots
-
--- the root page of the bucket that an entry of a leaf is, unless it is inline
-abbrev pub root_page : Entry → List ℕ
-root_page e = cond e.is_bucket (cond (e.child == 0) [] (e.child ∷ [])) []
-
--- the pages that the entries of a branch or a leaf lead to
-abbrev pub kid_pages : Bool → List Entry → List ℕ
-kid_pages is_leaf [] = []
-kid_pages false (e ∷ entries) = e.child ∷ kid_pages false entries
-kid_pages true (e ∷ entries) = root_page e ++ kid_pages true entries
-
-abbrev pub kids_at : Result Node ℕ → List ℕ
-kids_at (Ok node) = kid_pages node.is_leaf node.entries
-kids_at (Err fault) = []
 
 abbrev result_of : Node → Result Node ℕ
 result_of node = Ok node
@@ -75,29 +62,19 @@ has_either m (x ∷ a) b P f g (inl e) = f m (inl e)
 has_either m (x ∷ a) b P f g (inr h) = has_either m a b P (λ k i. f k (inr i)) g h
 
 module _ (nodes : Nodes) where
-  -- so many steps are enough below page n, and all pages there are good
-  abbrev pub Enough : ℕ → ℕ → Type 0
-  Enough zero n = ⊥
-  Enough (suc k) n = (node : Node) × (nodes n ≡ Ok node) × ((m : ℕ) → Has m (kid_pages node.is_leaf node.entries) → Enough k m)
-
-  -- the sum over page n and all pages below it, that are so many steps deep
-  abbrev pub weight : (ℕ → ℕ) → ℕ → ℕ → ℕ
-  weight own zero n = 0
-  weight own (suc k) n = own n + sum_by (weight own k) (kids_at (nodes n))
-
-  pub enough_more : (k n : ℕ) → Enough k n → Enough (suc k) n
+  pub enough_more : (k n : ℕ) → Enough nodes k n → Enough nodes (suc k) n
   enough_more zero n h = absurd h
   enough_more (suc k) n (node, page, kids) = (node, page, λ m i. enough_more k m (kids m i))
 
-  weight_more : (own : ℕ → ℕ) (k n : ℕ) → Enough k n → weight own (suc k) n ≡ weight own k n
+  weight_more : (own : ℕ → ℕ) (k n : ℕ) → Enough nodes k n → weight nodes own (suc k) n ≡ weight nodes own k n
   weight_more own zero n h = absurd h
   weight_more own (suc k) n (node, page, kids) =
-      let same : sum_by (weight own (suc k)) (kids_at (nodes n)) ≡ sum_by (weight own k) (kids_at (nodes n))
-          = sum_same (weight own (suc k)) (weight own k) (kids_at (nodes n)) (λ m i. weight_more own k m (kids m (subst (λ (r : Result Node ℕ). Has m (kids_at r)) page i))) in
+      let same : sum_by (weight nodes own (suc k)) (kids_at (nodes n)) ≡ sum_by (weight nodes own k) (kids_at (nodes n))
+          = sum_same (weight nodes own (suc k)) (weight nodes own k) (kids_at (nodes n)) (λ m i. weight_more own k m (kids m (subst (λ (r : Result Node ℕ). Has m (kids_at r)) page i))) in
       ap (λ (w : ℕ). own n + w) same
 
   -- the pages that a page leads to
-  pub enough_kids : (k n : ℕ) (node : Node) → nodes n ≡ Ok node → Enough k n → (m : ℕ) → Has m (kid_pages node.is_leaf node.entries) → Enough k m
+  pub enough_kids : (k n : ℕ) (node : Node) → nodes n ≡ Ok node → Enough nodes k n → (m : ℕ) → Has m (kid_pages node.is_leaf node.entries) → Enough nodes k m
   enough_kids zero n node page h m i = absurd h
   enough_kids (suc k) n node page (other, is, kids) m i =
       enough_more k m (kids m (subst (λ (x : Node). Has m (kid_pages x.is_leaf x.entries)) (one_node node other (sym page ∙ is)) i))
@@ -105,12 +82,12 @@ module _ (nodes : Nodes) where
       one_node : (a b : Node) → result_of a ≡ result_of b → a ≡ b
       one_node a b e = cc
 
-  pub weight_kids : (own : ℕ → ℕ) (k n : ℕ) (node : Node) → nodes n ≡ Ok node → Enough k n → weight own k n ≡ own n + sum_by (weight own k) (kid_pages node.is_leaf node.entries)
+  pub weight_kids : (own : ℕ → ℕ) (k n : ℕ) (node : Node) → nodes n ≡ Ok node → Enough nodes k n → weight nodes own k n ≡ own n + sum_by (weight nodes own k) (kid_pages node.is_leaf node.entries)
   weight_kids own zero n node page h = absurd h
   weight_kids own (suc k) n node page (other, is, kids) =
       let at : kids_at (nodes n) ≡ kid_pages node.is_leaf node.entries = ap kids_at page in
-      let low : (m : ℕ) → Has m (kids_at (nodes n)) → Enough k m = λ m i. kids m (subst (λ (r : Result Node ℕ). Has m (kids_at r)) is i) in
-      ap (λ (w : ℕ). own n + w) (sum_same (weight own k) (weight own (suc k)) (kids_at (nodes n)) (λ m i. sym (weight_more own k m (low m i))) ∙ ap (sum_by (weight own (suc k))) at)
+      let low : (m : ℕ) → Has m (kids_at (nodes n)) → Enough nodes k m = λ m i. kids m (subst (λ (r : Result Node ℕ). Has m (kids_at r)) is i) in
+      ap (λ (w : ℕ). own n + w) (sum_same (weight nodes own k) (weight nodes own (suc k)) (kids_at (nodes n)) (λ m i. sym (weight_more own k m (low m i))) ∙ ap (sum_by (weight nodes own (suc k))) at)
 
   -- where a kid's page comes from
   kid_place : (m : ℕ) (os : List (Option Spot)) → Has m (pages_of (somes os)) → (j : ℕ) × (t : PageSpot) × (flat (slice_get os j) ≡ Some (At_page t)) × (t.number ≡ m)
@@ -139,7 +116,7 @@ module _ (nodes : Nodes) where
         apart = λ v w a b e h same. cancel (i ∷ []) v w (fits.apart (i ∷ v) (i ∷ w) a b (join v ∙ e) (join w ∙ h) same);
       }
 
-  pub enough : (k : ℕ) (left : List ℕ) (s : PageSpot) → length left ≤ k → Fits nodes left (follow nodes (Some (At_page s))) → Enough k s.number
+  pub enough : (k : ℕ) (left : List ℕ) (s : PageSpot) → length left ≤ k → Fits nodes left (follow nodes (Some (At_page s))) → Enough nodes k s.number
   enough zero left s le fits = let has = fits.within [] s refl in let less = shorter s.number left has in absurd (let h : ⊥ = omega (arith, le, less) in h)
   enough (suc k) left s le fits =
       let has = fits.within [] s refl in
@@ -147,7 +124,7 @@ module _ (nodes : Nodes) where
       let good = fits.good [] s refl in
       (good.0, good.1, λ m h.
         let (j, t, leads, same) = kid_step s good.0 good.1 m h in
-        subst (Enough k) same (enough k (without s.number left has) t (omega (arith, le, less)) (fits_down left s t j fits has leads)))
+        subst (Enough nodes k) same (enough k (without s.number left has) t (omega (arith, le, less)) (fits_down left s t j fits has leads)))
 
   -- what a spot adds: a page its own, an inline bucket nothing
   abbrev pub spot_weight : (ℕ → ℕ) → Option Spot → ℕ
@@ -163,10 +140,10 @@ module _ (nodes : Nodes) where
 
   module _ (own : ℕ → ℕ) (k : ℕ) where
     abbrev AllEnough : List Spot → Type 0
-    AllEnough spots = (m : ℕ) → Has m (pages_of spots) → Enough k m
+    AllEnough spots = (m : ℕ) → Has m (pages_of spots) → Enough nodes k m
 
     abbrev HasSum : List Spot → Type 0
-    HasSum spots = AllEnough spots → (tour : Ways) × IsTour (forest nodes spots) tour × (sum_by (λ way. spot_weight own (forest nodes spots way)) tour ≡ sum_by (weight own k) (pages_of spots))
+    HasSum spots = AllEnough spots → (tour : Ways) × IsTour (forest nodes spots) tour × (sum_by (λ way. spot_weight own (forest nodes spots way)) tour ≡ sum_by (weight nodes own k) (pages_of spots))
 
     -- a visit's way and then the others have its own sum and theirs
     visit_sum : (old new : Reach) (s : Spot) (f : List ℕ → List ℕ) → Visits nodes old new Anything Anything (0 ∷ []) s f → (tour : Ways) → IsTour new tour
@@ -181,16 +158,16 @@ module _ (nodes : Nodes) where
     page_sum : (s : PageSpot) (node : Node) (rest : List Spot) → nodes s.number ≡ Ok node → HasSum (somes (places node.is_leaf s node.entries) ++ rest) → HasSum (At_page s ∷ rest)
     page_sum s node rest page below all =
         let kid_spots : List Spot = somes (places node.is_leaf s node.entries) in
-        let here : Enough k s.number = all s.number (inl refl) in
+        let here : Enough nodes k s.number = all s.number (inl refl) in
         let pages : pages_of (kid_spots ++ rest) ≡ kid_pages node.is_leaf node.entries ++ pages_of rest
             = pages_append kid_spots rest ∙ ap (λ (l : List ℕ). l ++ pages_of rest) (pages_of_kids node.is_leaf s node.entries) in
-        let (tour, is, sum) = below (λ m h. has_either m (kid_pages node.is_leaf node.entries) (pages_of rest) (Enough k) (enough_kids k s.number node page here) (λ x i. all x (inr i))
+        let (tour, is, sum) = below (λ m h. has_either m (kid_pages node.is_leaf node.entries) (pages_of rest) (Enough nodes k) (enough_kids k s.number node page here) (λ x i. all x (inr i))
             (subst (λ (l : List ℕ). Has m l) pages h)) in
         let v = visits nodes Anything Anything (At_page s) rest (places node.is_leaf s node.entries) (kids_step nodes s node page) (λ n h. inl tt) (λ n h. tt) (λ n h. tt) in
         let first = visit_sum _ _ (At_page s) _ v tour is in
-        let both = ap (sum_by (weight own k)) pages ∙ sum_append (weight own k) (kid_pages node.is_leaf node.entries) (pages_of rest) in
+        let both = ap (sum_by (weight nodes own k)) pages ∙ sum_append (weight nodes own k) (kid_pages node.is_leaf node.entries) (pages_of rest) in
         let own_kids = weight_kids own k s.number node page here in
-        let whole = sum_by-cons (weight own k) s.number (pages_of rest) in
+        let whole = sum_by-cons (weight nodes own k) s.number (pages_of rest) in
         (_, tour_step nodes _ _ Anything Anything _ _ _ v tour is, omega (arith, first, sum, both, own_kids, whole))
 
     inline_sum : (host : ℕ) (keys : List Key) (rest : List Spot) → HasSum rest → HasSum (At_inline host keys ∷ rest)
@@ -205,12 +182,31 @@ module _ (nodes : Nodes) where
 
     -- from a page alone
     pub sum_from : (left : List ℕ) (root : ℕ) → length left ≤ k → Fits nodes left (reached nodes root)
-        → Enough k root × ((tour : Ways) × IsTour (reached nodes root) tour × (sum_by (λ way. spot_weight own (reached nodes root way)) tour ≡ weight own k root))
+        → Enough nodes k root × ((tour : Ways) × IsTour (reached nodes root) tour × (sum_by (λ way. spot_weight own (reached nodes root way)) tour ≡ weight nodes own k root))
     sum_from left root le fits =
         let s = At_page (start_of root) in
-        let good : Enough k root = enough k left (start_of root) le fits in
-        let (tour, is, sum) = found nodes HasSum sums (suc (length left)) left (s ∷ []) (omega arith) (fits_root nodes left s fits) (λ m h. elim h [ inl e ↦ subst (Enough k) (sym e) good | inr i ↦ absurd i ]) in
+        let good : Enough nodes k root = enough k left (start_of root) le fits in
+        let (tour, is, sum) = found nodes HasSum sums (suc (length left)) left (s ∷ []) (omega arith) (fits_root nodes left s fits) (λ m h. elim h [ inl e ↦ subst (Enough nodes k) (sym e) good | inr i ↦ absurd i ]) in
         let moved = sum_map (tail nodes) (λ way. spot_weight own (reached nodes root way)) (λ way. spot_weight own (forest nodes (s ∷ []) way)) tour (λ way i.
             let (t, e) = is.only way i in ap (spot_weight own) (tail_leads nodes s way t e ∙ sym e)) in
-        let one = sum_by-cons (weight own k) root [] in
+        let one = sum_by-cons (weight nodes own k) root [] in
         (good, (map (tail nodes) tour, root_tour nodes s tour is, omega (arith, moved, sum, one)))
+
+length-numbers : (k : ℕ) → length (numbers k) ≡ k
+length-numbers zero = refl
+length-numbers (suc k) = let h = length-numbers k in omega (arith, h)
+
+-- a bucket of sound trees, wherever a way leads to its root page: the mark is enough steps, and each sum over its tour is that over its pages
+pub bucket_sum : (file : List ℕ) (meta : Meta) → HasSoundTrees file meta → (way : List ℕ) (root : ℕ) → reached (node_at file meta) meta.root way ≡ Some (At_page (start_of root)) → (own : ℕ → ℕ)
+    → Enough (node_at file meta) meta.high_water root × ((tour : Ways) × IsTour (reached (node_at file meta) root) tour
+    × (sum_by (λ way. spot_weight (node_at file meta) own (reached (node_at file meta) root way)) tour ≡ weight (node_at file meta) own meta.high_water root))
+bucket_sum file meta trees way root leads own =
+    let nodes = node_at file meta in
+    let fits = sound_fits file meta trees in
+    let join : (v : List ℕ) → reached nodes meta.root (way ++ v) ≡ reached nodes root v
+    = λ v. follow_append nodes (Some (At_page (start_of meta.root))) way v ∙ ap (λ (o : Option Spot). follow nodes o v) leads in
+    sum_from nodes own meta.high_water (numbers meta.high_water) root (let h = length-numbers meta.high_water in omega (arith, h)) (record {
+      good = λ v s e. fits.good (way ++ v) s (join v ∙ e);
+      within = λ v s e. fits.within (way ++ v) s (join v ∙ e);
+      apart = λ v w s t e h same. cancel way v w (fits.apart (way ++ v) (way ++ w) s t (join v ∙ e) (join w ∙ h) same);
+    })

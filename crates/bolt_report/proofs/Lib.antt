@@ -7,4 +7,5 @@ mod PageTableLemmas
 mod Pieces
 mod ReportLemmas
 mod ShownLemmas
+mod StatsOnce
 mod TextLemmas

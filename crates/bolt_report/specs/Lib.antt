@@ -1,3 +1,4 @@
+pub mod Depths
 pub mod FaultWords
 pub mod Figures
 pub mod Forms
@@ -9,3 +10,4 @@ pub mod PageLines
 pub mod PageTables
 pub mod PageTexts
 pub mod Reports
+pub mod StatsOf
