@@ -9,5 +9,6 @@ pub mod MetaLines
 pub mod PageLines
 pub mod PageTables
 pub mod PageTexts
+pub mod Readings
 pub mod Reports
 pub mod StatsOf

@@ -1,17 +1,24 @@
 //! The figures of a bucket with all buckets below it. Each page is read once, and nothing calls
 //! itself: the buckets that are still to be read stand in a list, and so do the pages of the one
 //! that is being read.
-ghost use Rattle.std.specs.Prelude.{IfOk};
+ghost use Rattle.std.specs.Prelude.{◌≡◌, ◌<◌, ◌+◌, ◌∷◌, ◌++◌, [], IfOk, IsTrue, Ok, OnOk, flat_map, map};
+ghost use Rattle.bolt_format.specs.ElementPlaces.{leaf_view};
+ghost use Rattle.bolt_format.specs.Elements.{IsBucketValue};
+ghost use Rattle.bolt_format.specs.Shown.{shown};
 ghost use Rattle.bolt_check.specs.CheckedFiles.{bytes_of, meta_of};
+ghost use Rattle.bolt_check.specs.Nodes.{Node, node_at};
+ghost use Rattle.bolt_check.specs.Subtrees.{Enough};
 ghost use Rattle.bolt_tree.specs.Buckets.{bucket_checked, bucket_start};
+ghost use Rattle.bolt_report.specs.Figures.{Figure, capped, figure};
+ghost use Rattle.bolt_report.specs.Readings.{AreGood, inner_pages, inner_roots, numbers_of, one, own_figure, root_of, total_of};
 ghost use Rattle.bolt_report.specs.StatsOf.{IsStatsOf};
 
 use crate::figures::{Stats, add};
 use crate::page_figures::{inline_stats, page_stats};
 use bolt_check::{Checked, NoMemory};
-use bolt_format::{Kind, Page, head, known};
+use bolt_format::{Kind, Leaf, Page, head, known};
 use bolt_tree::{At, Bucket};
-use std::alloc::Global;
+use std::alloc::{AllocError, Global};
 
 /// The figures of a bucket with all buckets below it (docs/COMMANDS.md, "What is printed").
 ///
@@ -22,7 +29,7 @@ pub fn stats(alloc: Global, bucket: &Bucket<'_>) -> Result<Stats, NoMemory>
     ensures { IfOk result (λ stats. ∥ IsStatsOf (bytes_of (bucket_checked bucket.now)) (meta_of (bucket_checked bucket.now)) (bucket_start bucket.now) stats ∥₁) }
 {
     match bucket.at() {
-        At::Page(root) => paged_stats(alloc, &bucket.checked(), root),
+        At::Page(root) => Ok(paged_stats(alloc, &bucket.checked(), root)?),
         At::Inline(page) => Ok(Stats {
             depth: 1,
             ..inline_stats(&page)
@@ -57,7 +64,7 @@ struct Read {
 }
 
 /// The figures of a bucket with this root page.
-fn paged_stats(alloc: Global, checked: &Checked<'_>, root: u64) -> Result<Stats, NoMemory> {
+fn paged_stats(alloc: Global, checked: &Checked<'_>, root: u64) -> Result<Stats, AllocError> {
     let mut total = Stats {
         buckets: 1,
         ..Stats::default()
@@ -69,13 +76,8 @@ fn paged_stats(alloc: Global, checked: &Checked<'_>, root: u64) -> Result<Stats,
     while let Some(bucket) = buckets.pop() {
         let read = read_bucket(checked, bucket.root, &mut pages, &mut roots)?;
         let above = bucket.above.saturating_add(read.height);
-        total = add(
-            total,
-            Stats {
-                depth: above.saturating_add(read.inline_depth),
-                ..read.figures
-            },
-        );
+        let depth = above.saturating_add(read.inline_depth);
+        total = add(total, Stats { depth, ..read.figures });
         open_buckets(&mut roots, above, &mut buckets)?;
     }
     Ok(total)
@@ -87,9 +89,17 @@ fn read_bucket(
     root: u64,
     pages: &mut Vec<OpenPage>,
     roots: &mut Vec<u64>,
-) -> Result<Read, NoMemory> {
-    let meta = checked.meta();
-    let mut read = Read {
+) -> Result<Read, AllocError>
+    requires good { ∥ AreGood (bytes_of checked.now) (meta_of checked.now) (root ∷ []) ∥₁ }
+    requires pages { pages.old.items ≡ [] }
+    requires roots { roots.old.items ≡ [] }
+    ensures good { OnOk result (∥ AreGood (bytes_of checked.now) (meta_of checked.now) roots.new.items ∥₁) }
+    ensures pages { OnOk result (pages.new.items ≡ []) }
+    ensures fewer { OnOk result (total_of (bytes_of checked.now) (meta_of checked.now) one roots.new.items < total_of (bytes_of checked.now) (meta_of checked.now) one (root ∷ [])) }
+    ensures figures { IfOk result (λ read. (f : Figure) → capped (figure f read.figures + total_of (bytes_of checked.now) (meta_of checked.now) (own_figure (bytes_of checked.now) (meta_of checked.now) f) roots.new.items)
+        ≡ capped (total_of (bytes_of checked.now) (meta_of checked.now) (own_figure (bytes_of checked.now) (meta_of checked.now) f) (root ∷ []))) }
+{
+    let mut whole = Read {
         figures: Stats::default(),
         height: 0,
         inline_depth: 0,
@@ -98,23 +108,57 @@ fn read_bucket(
         number: root,
         depth: 1,
     })?;
-    while let Some(open) = pages.pop() {
-        let page = known(checked.bytes(), &meta, open.number);
-        read.figures = add(read.figures, page_stats(&page, meta.page_size));
-        match page.kind() {
-            Kind::Branch => open_children(&page, open.depth, pages)?,
-            Kind::Leaf => {
-                read.height = read.height.max(open.depth);
-                read.inline_depth = read.inline_depth.max(find_buckets(&page, roots)?);
-            }
-            Kind::Meta | Kind::Freelist => {}
-        }
+    'pages: while let Some(open) = pages.pop() {
+        let read = read_page(checked, open, pages, roots)?;
+        whole.figures = add(whole.figures, read.figures);
+        whole.height = whole.height.max(read.height);
+        whole.inline_depth = whole.inline_depth.max(read.inline_depth);
     }
-    Ok(read)
+    Ok(whole)
+}
+
+/// Reads a page: opens the children of a branch, and finds the buckets of a leaf.
+fn read_page(
+    checked: &Checked<'_>,
+    open: OpenPage,
+    pages: &mut Vec<OpenPage>,
+    roots: &mut Vec<u64>,
+) -> Result<Read, AllocError>
+    requires { ∥ Enough (node_at (bytes_of checked.now) (meta_of checked.now)) (meta_of checked.now).high_water open.number ∥₁ }
+    ensures figures { IfOk result (λ read. (f : Figure) → figure f read.figures ≡ capped (own_figure (bytes_of checked.now) (meta_of checked.now) f open.number)) }
+    ensures kids { OnOk result (∥ ((node : Node) × (node_at (bytes_of checked.now) (meta_of checked.now) open.number ≡ Ok node)
+        × (numbers_of pages.new.items ≡ numbers_of pages.old.items ++ inner_pages node) × (roots.new.items ≡ roots.old.items ++ inner_roots node)) ∥₁) }
+{
+    let meta = checked.meta();
+    let page = known(checked.bytes(), &meta, open.number);
+    let figures = page_stats(&page, meta.page_size);
+    match page.kind() {
+        Kind::Branch => {
+            open_children(&page, open.depth, pages)?;
+            Ok(Read {
+                figures,
+                height: 0,
+                inline_depth: 0,
+            })
+        }
+        Kind::Leaf => {
+            let inline_depth = find_buckets(&page, roots)?;
+            Ok(Read {
+                figures,
+                height: open.depth,
+                inline_depth,
+            })
+        }
+        Kind::Meta => unreachable!(),
+        Kind::Freelist => unreachable!(),
+    }
 }
 
 /// Opens the children of a branch.
-fn open_children(page: &Page<'_>, depth: u64, pages: &mut Vec<OpenPage>) -> Result<(), NoMemory> {
+fn open_children(page: &Page<'_>, depth: u64, pages: &mut Vec<OpenPage>) -> Result<(), AllocError>
+    requires { (shown page.now).kind ≡ Kind.Branch }
+    ensures { OnOk result (numbers_of pages.new.items ≡ numbers_of pages.old.items ++ map (λ e. e.child) (shown page.now).branches) }
+{
     for i in 0..page.count() {
         pages.push(OpenPage {
             number: page.branch(i).child,
@@ -126,18 +170,40 @@ fn open_children(page: &Page<'_>, depth: u64, pages: &mut Vec<OpenPage>) -> Resu
 
 /// Finds the root pages of the buckets that a leaf holds. The answer is the depth of those that
 /// are inline: 1, or 0 where none is.
-fn find_buckets(page: &Page<'_>, roots: &mut Vec<u64>) -> Result<u64, NoMemory> {
+fn find_buckets(page: &Page<'_>, roots: &mut Vec<u64>) -> Result<u64, AllocError>
+    requires { (shown page.now).kind ≡ Kind.Leaf }
+    ensures { OnOk result (roots.new.items ≡ roots.old.items ++ flat_map root_of (shown page.now).leaves) }
+{
     let mut inline_depth = 0;
     for i in 0..page.count() {
         let leaf = page.leaf(i);
-        if leaf.is_bucket {
-            match head(leaf.value).root {
-                0 => inline_depth = 1,
-                root => roots.push(root)?,
-            }
+        if is_inline(&leaf) {
+            inline_depth = 1;
         }
+        push_root(&leaf, roots)?;
     }
     Ok(inline_depth)
+}
+
+/// Whether an element of a leaf is an inline bucket.
+fn is_inline(leaf: &Leaf<'_>) -> bool
+    requires { IsTrue leaf.now.is_bucket → IsBucketValue leaf.now.value.now }
+{
+    leaf.is_bucket && head(leaf.value).root == 0
+}
+
+/// Adds the root page of the bucket that an element of a leaf is, if it has one.
+fn push_root(leaf: &Leaf<'_>, roots: &mut Vec<u64>) -> Result<(), AllocError>
+    requires { IsTrue leaf.now.is_bucket → IsBucketValue leaf.now.value.now }
+    ensures { OnOk result (roots.new.items ≡ roots.old.items ++ root_of (leaf_view leaf.now)) }
+{
+    if leaf.is_bucket {
+        let root = head(leaf.value).root;
+        if root != 0 {
+            roots.push(root)?;
+        }
+    }
+    Ok(())
 }
 
 /// Opens the buckets with these root pages, and leaves none of them.
@@ -145,7 +211,7 @@ fn open_buckets(
     roots: &mut Vec<u64>,
     above: u64,
     buckets: &mut Vec<OpenBucket>,
-) -> Result<(), NoMemory> {
+) -> Result<(), AllocError> {
     while let Some(root) = roots.pop() {
         buckets.push(OpenBucket { root, above })?;
     }
