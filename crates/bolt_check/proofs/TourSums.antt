@@ -1,6 +1,8 @@
 -- A sum over the tour of a bucket, page by page: a page's own, and those of the pages that it leads to.
 use Rattle.std.proofs.Common.{◌≡◌, ◌∙◌, ◌==◌, ℕ, zero, suc, ◌+◌, ◌≤◌, inl, inr, Bool, true, false, List, [], ◌∷◌, ◌++◌, Option, Some, None, Result, Ok, cond, length, map, sum_by, slice_get, refl, sym, ap, subst, arith}
 use Rattle.std.proofs.lemmas.List.Sums.{sum_by-cons}
+use Rattle.std.specs.Prelude.{IsSome}
+use Rattle.bolt_format.specs.Pages.{page_at}
 use Rattle.bolt_format.specs.declared.meta.Meta.{Meta}
 use Rattle.bolt_check.specs.Keys.{Key}
 use Rattle.bolt_check.specs.Nodes.{Entry, Node, Nodes, node_at}
@@ -10,6 +12,7 @@ use Rattle.bolt_check.specs.Subtrees.{Enough, Has, kid_pages, kids_at, root_page
 use Rattle.bolt_check.specs.Tours.{IsIn, IsTour}
 use Rattle.bolt_check.specs.Ways.{At_inline, At_page, PageSpot, Reach, Spot, follow, reached, start_of, step}
 use Rattle.bolt_check.proofs.Forest.{flat, inline_visits, kids_step, visits}
+use Rattle.bolt_check.proofs.MarkLemmas.{node_page}
 use Rattle.bolt_check.proofs.TourExists.{Anything, Fits, Holds, cancel, fits_root, found, no_tour, numbers, root_tour, shorter, sound_fits, still, tail, tail_leads, without}
 use Rattle.bolt_check.proofs.TourLemmas.{Ways, tour_step}
 use Rattle.bolt_check.proofs.Visiting.{Visits}
@@ -41,7 +44,7 @@ pages_of_kids is_leaf s [] = refl
 pages_of_kids false s (e ∷ entries) = ap (λ (l : List ℕ). e.child ∷ l) (pages_of_kids false s entries)
 pages_of_kids true s (e ∷ entries) = somes_bucket e.is_bucket (e.child == 0) s.number e (places true s entries) ∙ ap (λ (l : List ℕ). root_page e ++ l) (pages_of_kids true s entries)
 
-sum_append : (f : ℕ → ℕ) (a b : List ℕ) → sum_by f (a ++ b) ≡ sum_by f a + sum_by f b
+pub sum_append : (f : ℕ → ℕ) (a b : List ℕ) → sum_by f (a ++ b) ≡ sum_by f a + sum_by f b
 sum_append f [] b = omega arith
 sum_append f (x ∷ a) b = let h = sum_append f a b in let p = sum_by-cons f x (a ++ b) in let q = sum_by-cons f x a in omega (arith, h, p, q)
 
@@ -51,12 +54,16 @@ sum_same f g (x ∷ xs) same =
     let h = sum_same f g xs (λ m i. same m (inr i)) in let here = same x (inl refl) in
     let p = sum_by-cons f x xs in let q = sum_by-cons g x xs in omega (arith, h, here, p, q)
 
-has_left : (m : ℕ) (a b : List ℕ) → Has m a → Has m (a ++ b)
+pub has_left : (m : ℕ) (a b : List ℕ) → Has m a → Has m (a ++ b)
 has_left m [] b h = absurd h
 has_left m (x ∷ a) b (inl e) = inl e
 has_left m (x ∷ a) b (inr h) = inr (has_left m a b h)
 
-has_either : (m : ℕ) (a b : List ℕ) (P : ℕ → Type 0) → ((k : ℕ) → Has k a → P k) → ((k : ℕ) → Has k b → P k) → Has m (a ++ b) → P m
+pub has_right : (m : ℕ) (a b : List ℕ) → Has m b → Has m (a ++ b)
+has_right m [] b h = h
+has_right m (x ∷ a) b h = inr (has_right m a b h)
+
+pub has_either : (m : ℕ) (a b : List ℕ) (P : ℕ → Type 0) → ((k : ℕ) → Has k a → P k) → ((k : ℕ) → Has k b → P k) → Has m (a ++ b) → P m
 has_either m [] b P f g h = g m h
 has_either m (x ∷ a) b P f g (inl e) = f m (inl e)
 has_either m (x ∷ a) b P f g (inr h) = has_either m a b P (λ k i. f k (inr i)) g h
@@ -210,3 +217,13 @@ bucket_sum file meta trees way root leads own =
       within = λ v s e. fits.within (way ++ v) s (join v ∙ e);
       apart = λ v w s t e h same. cancel way v w (fits.apart (way ++ v) (way ++ w) s t (join v ∙ e) (join w ∙ h) same);
     })
+
+-- a page below which there are enough steps is a good branch or leaf
+pub enough_node : (nodes : Nodes) (k n : ℕ) → Enough nodes k n → (node : Node) × (nodes n ≡ Ok node)
+enough_node nodes zero n h = absurd h
+enough_node nodes (suc k) n (node, page, kids) = (node, page)
+
+pub enough_shown : (file : List ℕ) (meta : Meta) (k n : ℕ) → Enough (node_at file meta) k n → IsSome (page_at file meta n)
+enough_shown file meta k n h =
+    let (node, page) = enough_node (node_at file meta) k n h in
+    let (view, at, _) = node_page file meta n node page in rw at refl

@@ -5,6 +5,8 @@ mod ListWrites
 mod PageFaults
 mod PageTableLemmas
 mod Pieces
+mod ReadLemmas
+mod ReadSums
 mod ReportLemmas
 mod ShownLemmas
 mod StatsOnce

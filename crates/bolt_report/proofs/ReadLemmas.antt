@@ -1,0 +1,47 @@
+-- What reading a page opens and finds.
+use Rattle.std.proofs.Common.{◌≡◌, ◌∙◌, ◌+◌, ℕ, true, false, List, [], ◌∷◌, ◌++◌, Some, Ok, Err, flat_map, map, take, slice_get, refl, sym, ap, add-one, append_assoc}
+use Rattle.std.proofs.lemmas.List.{map-append}
+use Rattle.bolt_format.specs.Elements.{BranchElement, LeafElement}
+use Rattle.bolt_format.specs.Pages.{PageView, page_at}
+use Rattle.bolt_format.specs.declared.kind.Kind.TheVariants as kind
+use Rattle.bolt_format.specs.declared.meta.Meta.{Meta}
+use Rattle.bolt_check.specs.Nodes.{Node, branch_entry, leaf_entry, node_at}
+use Rattle.bolt_check.specs.Subtrees.{Enough, kid_pages, root_page}
+use Rattle.bolt_check.proofs.TourSums.{enough_node}
+use Rattle.bolt_check.proofs.TreePages.{node_is}
+use Rattle.bolt_report.specs.Readings.{numbers_of, root_of}
+use Rattle.bolt_report.specs.declared.tour.OpenPage.{OpenPage}
+use Rattle.bolt_report.proofs.ListWrites.{flat_map-take_more, take_more}
+
+-- one child more was opened
+pub children_next : (cur new : List OpenPage) (p : OpenPage) (old : List ℕ) (xs : List BranchElement) (i : ℕ) (e : BranchElement)
+    → new ≡ cur ++ p ∷ [] → p.number ≡ e.child → slice_get xs i ≡ Some e → numbers_of cur ≡ old ++ map (λ (x : BranchElement). x.child) (take i xs)
+    → numbers_of new ≡ old ++ map (λ (x : BranchElement). x.child) (take (i + 1) xs)
+children_next cur new p old xs i e pushed same found before =
+    let child : BranchElement → ℕ = λ x. x.child in
+    let number : OpenPage → ℕ = λ q. q.number in
+    let more : map child (take (i + 1) xs) ≡ map child (take i xs) ++ e.child ∷ [] = ap (λ k. map child (take k xs)) (add-one i) ∙ ap (map child) (take_more xs i e found) ∙ map-append child (take i xs) (e ∷ []) in
+    ap (map number) pushed ∙ map-append number cur (p ∷ []) ∙ ap (λ l. l ++ p.number ∷ []) before ∙ append_assoc old (map child (take i xs)) (p.number ∷ [])
+    ∙ ap (λ n. old ++ (map child (take i xs) ++ n ∷ [])) same ∙ ap (λ l. old ++ l) (sym more)
+
+-- the buckets of one element more were found
+pub roots_next : (cur new old : List ℕ) (xs : List LeafElement) (i : ℕ) (e : LeafElement)
+    → new ≡ cur ++ root_of e → slice_get xs i ≡ Some e → cur ≡ old ++ flat_map root_of (take i xs) → new ≡ old ++ flat_map root_of (take (i + 1) xs)
+roots_next cur new old xs i e pushed found before =
+    let more = ap (λ k. flat_map root_of (take k xs)) (add-one i) ∙ flat_map-take_more root_of xs i e found in
+    pushed ∙ ap (λ l. l ++ root_of e) before ∙ append_assoc old (flat_map root_of (take i xs)) (root_of e) ∙ ap (λ l. old ++ l) (sym more)
+
+pub branch_kids : (xs : List BranchElement) → kid_pages false (map branch_entry xs) ≡ map (λ (x : BranchElement). x.child) xs
+branch_kids [] = refl
+branch_kids (x ∷ xs) = ap (λ (l : List ℕ). x.child ∷ l) (branch_kids xs)
+
+pub leaf_kids : (xs : List LeafElement) → kid_pages true (map leaf_entry xs) ≡ flat_map root_of xs
+leaf_kids [] = refl
+leaf_kids (x ∷ xs) = ap (λ (l : List ℕ). root_of x ++ l) (leaf_kids xs)
+
+module _ (file : List ℕ) (meta : Meta) (n : ℕ) (view : PageView) (at : page_at file meta n ≡ Some view) where
+  pub no_meta : (k : ℕ) → Enough (node_at file meta) k n → view.kind ≡ kind.Meta → ⊥
+  no_meta k h is = let (node, page) = enough_node (node_at file meta) k n h in let e = sym page ∙ node_is file meta n view kind.Meta at is in cc
+
+  pub no_freelist : (k : ℕ) → Enough (node_at file meta) k n → view.kind ≡ kind.Freelist → ⊥
+  no_freelist k h is = let (node, page) = enough_node (node_at file meta) k n h in let e = sym page ∙ node_is file meta n view kind.Freelist at is in cc

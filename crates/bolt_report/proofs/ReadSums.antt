@@ -1,0 +1,63 @@
+-- Sums over what is still to be read, through the reading of a page.
+use Rattle.std.proofs.Common.{◌≡◌, ◌∙◌, ◌+◌, ◌<◌, ◌≤◌, ℕ, inl, inr, Bool, true, false, List, [], ◌∷◌, ◌++◌, Ok, map, sum_by, refl, sym, ap, subst, arith}
+use Rattle.std.proofs.Math.Logic.{∥∥₁_elim, ∥∥₁_map, ∥∥₁_prop}
+use Rattle.std.proofs.lemmas.List.{map-append}
+use Rattle.std.proofs.lemmas.List.Sums.{sum_by-cons}
+use Rattle.bolt_format.specs.declared.meta.Meta.{Meta}
+use Rattle.bolt_check.specs.Nodes.{Entry, Node, node_at}
+use Rattle.bolt_check.specs.Subtrees.{Enough, Has, kid_pages, weight}
+use Rattle.bolt_check.proofs.TourSums.{enough_kids, has_either, has_left, has_right, sum_append, weight_kids}
+use Rattle.bolt_report.specs.Figures.{Figure, buckets, inline_buckets, inline_used, keys, branch_pages, branch_overflow, branch_allocated, branch_used, leaf_pages, leaf_overflow, leaf_allocated, leaf_used, figure}
+use Rattle.bolt_report.specs.Readings.{AreGood, inner_pages, inner_roots, numbers_of, pages_in_bucket, roots_in_bucket, total_of}
+use Rattle.bolt_report.specs.declared.tour.OpenPage.{OpenPage}
+
+-- the last page was taken
+pub popped : (old new : List OpenPage) (p : OpenPage) → old ≡ new ++ p ∷ [] → numbers_of old ≡ numbers_of new ++ p.number ∷ []
+popped old new p e = ap (map (λ (q : OpenPage). q.number)) e ∙ map-append (λ (q : OpenPage). q.number) new (p ∷ [])
+
+-- the first page was opened
+pub started : (old new : List OpenPage) (p : OpenPage) → old ≡ [] → new ≡ old ++ p ∷ [] → numbers_of new ≡ p.number ∷ []
+started old new p none e = ap numbers_of (e ∙ ap (λ (l : List OpenPage). l ++ p ∷ []) none)
+
+module _ (file : List ℕ) (meta : Meta) where
+  inner_sum : (own : ℕ → ℕ) (is_leaf : Bool) (entries : List Entry)
+      → total_of file meta own (pages_in_bucket is_leaf entries) + total_of file meta own (roots_in_bucket is_leaf entries) ≡ total_of file meta own (kid_pages is_leaf entries)
+  inner_sum own false entries = omega arith
+  inner_sum own true entries = omega arith
+
+  inner_has : (m : ℕ) (is_leaf : Bool) (entries : List Entry) → Has m (pages_in_bucket is_leaf entries) → Has m (kid_pages is_leaf entries)
+  inner_has m false entries h = h
+  inner_has m true entries h = absurd h
+
+  root_has : (m : ℕ) (is_leaf : Bool) (entries : List Entry) → Has m (roots_in_bucket is_leaf entries) → Has m (kid_pages is_leaf entries)
+  root_has m false entries h = absurd h
+  root_has m true entries h = h
+
+  -- what a page shows itself, and what is then left, are what was left
+  pub read_sum : (own : ℕ → ℕ) (rest roots pages found : List ℕ) (n : ℕ) (node : Node) → node_at file meta n ≡ Ok node → Enough (node_at file meta) meta.high_water n
+      → pages ≡ rest ++ inner_pages node → found ≡ roots ++ inner_roots node
+      → own n + (total_of file meta own pages + total_of file meta own found) ≡ total_of file meta own (rest ++ n ∷ []) + total_of file meta own roots
+  read_sum own rest roots pages found n node page enough a b =
+      let w = weight (node_at file meta) own meta.high_water in
+      let here = weight_kids (node_at file meta) own meta.high_water n node page enough in
+      let inner = inner_sum own node.is_leaf node.entries in
+      let p = ap (sum_by w) a ∙ sum_append w rest (inner_pages node) in
+      let q = ap (sum_by w) b ∙ sum_append w roots (inner_roots node) in
+      let r = sum_append w rest (n ∷ []) in
+      let one = sum_by-cons w n [] in
+      omega (arith, here, inner, p, q, r, one)
+
+  pub read_good : (rest roots pages found : List ℕ) (n : ℕ) (node : Node) → node_at file meta n ≡ Ok node → AreGood file meta ((rest ++ n ∷ []) ++ roots)
+      → pages ≡ rest ++ inner_pages node → found ≡ roots ++ inner_roots node → AreGood file meta (pages ++ found)
+  read_good rest roots pages found n node page good a b m h =
+      let P : ℕ → Type 0 = λ k. Enough (node_at file meta) meta.high_water k in
+      let here : P n = good n (has_left n (rest ++ n ∷ []) roots (has_right n rest (n ∷ []) (inl refl))) in
+      let kid : (k : ℕ) → Has k (kid_pages node.is_leaf node.entries) → P k = enough_kids (node_at file meta) meta.high_water n node page here in
+      has_either m pages found P
+      (λ k i. has_either k rest (inner_pages node) P (λ x j. good x (has_left x (rest ++ n ∷ []) roots (has_left x rest (n ∷ []) j))) (λ x j. kid x (inner_has x node.is_leaf node.entries j)) (subst (λ (l : List ℕ). Has k l) a i))
+      (λ k i. has_either k roots (inner_roots node) P (λ x j. good x (has_right x (rest ++ n ∷ []) roots j)) (λ x j. kid x (root_has x node.is_leaf node.entries j)) (subst (λ (l : List ℕ). Has k l) b i))
+      h
+
+  -- the next page is good
+  pub next_good : (rest roots pages : List ℕ) (n : ℕ) → pages ≡ rest ++ n ∷ [] → ∥ AreGood file meta (pages ++ roots) ∥₁ → ∥ Enough (node_at file meta) meta.high_water n ∥₁
+  next_good rest roots pages n e good = ∥∥₁_map good (λ g. g n (has_left n pages roots (subst (λ (l : List ℕ). Has n l) (sym e) (has_right n rest (n ∷ []) (inl refl)))))
