@@ -1,5 +1,5 @@
 -- Sums over what is still to be read, through the reading of a page.
-use Rattle.std.proofs.Common.{◌≡◌, ◌∙◌, ◌+◌, ◌<◌, ◌≤◌, ℕ, inl, inr, Bool, true, false, List, [], ◌∷◌, ◌++◌, Ok, map, sum_by, refl, sym, ap, subst, arith}
+use Rattle.std.proofs.Common.{◌≡◌, ◌∙◌, ◌+◌, ◌-◌, ◌<◌, ◌≤◌, ℕ, inl, inr, Bool, true, false, List, [], ◌∷◌, ◌++◌, Ok, map, take, sum_by, refl, sym, ap, subst, arith}
 use Rattle.std.proofs.Math.Logic.{∥∥₁_elim, ∥∥₁_map, ∥∥₁_prop}
 use Rattle.std.proofs.lemmas.List.{map-append}
 use Rattle.std.proofs.lemmas.List.Sums.{sum_by-cons}
@@ -9,6 +9,7 @@ use Rattle.bolt_check.specs.Subtrees.{Enough, Has, kid_pages, weight}
 use Rattle.bolt_check.proofs.TourSums.{enough_kids, has_either, has_left, has_right, sum_append, weight_kids}
 use Rattle.bolt_report.specs.Figures.{Figure, buckets, inline_buckets, inline_used, keys, branch_pages, branch_overflow, branch_allocated, branch_used, leaf_pages, leaf_overflow, leaf_allocated, leaf_used, figure}
 use Rattle.bolt_report.specs.Readings.{AreGood, inner_pages, inner_roots, numbers_of, pages_in_bucket, roots_in_bucket, total_of}
+use Rattle.bolt_report.specs.declared.figures.Stats.{Stats}
 use Rattle.bolt_report.specs.declared.tour.OpenPage.{OpenPage}
 
 -- the last page was taken
@@ -61,3 +62,33 @@ module _ (file : List ℕ) (meta : Meta) where
   -- the next page is good
   pub next_good : (rest roots pages : List ℕ) (n : ℕ) → pages ≡ rest ++ n ∷ [] → ∥ AreGood file meta (pages ++ roots) ∥₁ → ∥ Enough (node_at file meta) meta.high_water n ∥₁
   next_good rest roots pages n e good = ∥∥₁_map good (λ g. g n (has_left n pages roots (subst (λ (l : List ℕ). Has n l) (sym e) (has_right n rest (n ∷ []) (inl refl)))))
+
+-- no figure of the record that is all zeros
+abbrev AllZero : Stats → Type 0
+AllZero s = (s.buckets ≡ 0) × ((s.inline_buckets ≡ 0) × ((s.inline_used ≡ 0) × ((s.keys ≡ 0) × ((s.depth ≡ 0) × ((s.branch_pages ≡ 0) × ((s.branch_overflow ≡ 0) × ((s.branch_allocated ≡ 0) × ((s.branch_used ≡ 0) × ((s.leaf_pages ≡ 0) × ((s.leaf_overflow ≡ 0) × ((s.leaf_allocated ≡ 0) × (s.leaf_used ≡ 0))))))))))))
+
+pub zero_figure : (f : Figure) (s : Stats) → AllZero s → figure f s ≡ 0
+zero_figure buckets s (a, (b, (c, (d, (e, (g, (h, (i, (j, (k, (l, (m, n)))))))))))) = a
+zero_figure inline_buckets s (a, (b, (c, (d, (e, (g, (h, (i, (j, (k, (l, (m, n)))))))))))) = b
+zero_figure inline_used s (a, (b, (c, (d, (e, (g, (h, (i, (j, (k, (l, (m, n)))))))))))) = c
+zero_figure keys s (a, (b, (c, (d, (e, (g, (h, (i, (j, (k, (l, (m, n)))))))))))) = d
+zero_figure branch_pages s (a, (b, (c, (d, (e, (g, (h, (i, (j, (k, (l, (m, n)))))))))))) = g
+zero_figure branch_overflow s (a, (b, (c, (d, (e, (g, (h, (i, (j, (k, (l, (m, n)))))))))))) = h
+zero_figure branch_allocated s (a, (b, (c, (d, (e, (g, (h, (i, (j, (k, (l, (m, n)))))))))))) = i
+zero_figure branch_used s (a, (b, (c, (d, (e, (g, (h, (i, (j, (k, (l, (m, n)))))))))))) = j
+zero_figure leaf_pages s (a, (b, (c, (d, (e, (g, (h, (i, (j, (k, (l, (m, n)))))))))))) = k
+zero_figure leaf_overflow s (a, (b, (c, (d, (e, (g, (h, (i, (j, (k, (l, (m, n)))))))))))) = l
+zero_figure leaf_allocated s (a, (b, (c, (d, (e, (g, (h, (i, (j, (k, (l, (m, n)))))))))))) = m
+zero_figure leaf_used s (a, (b, (c, (d, (e, (g, (h, (i, (j, (k, (l, (m, n)))))))))))) = n
+
+-- more buckets were found
+pub more_found : (file : List ℕ) (meta : Meta) (own : ℕ → ℕ) (roots found inner : List ℕ) → found ≡ roots ++ inner → total_of file meta own roots ≤ total_of file meta own found
+more_found file meta own roots found inner e =
+    let w = weight (node_at file meta) own meta.high_water in
+    let both = ap (sum_by w) e ∙ sum_append w roots inner in omega (arith, both)
+
+-- nothing was taken, so nothing is left
+pub none_left : {X : Type 0} (items rest : List X) (n : ℕ) → n ≡ 0 → rest ≡ take (n - 1) items → items ≡ rest ++ [] → items ≡ []
+none_left items rest n z r e =
+    let r0 : rest ≡ take (0 - 1) items = rw z at r in
+    rw r0 at e
