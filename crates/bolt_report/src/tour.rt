@@ -1,16 +1,16 @@
 //! The figures of a bucket with all buckets below it. Each page is read once, and nothing calls
 //! itself: the buckets that are still to be read stand in a list, and so do the pages of the one
 //! that is being read.
-ghost use Rattle.std.specs.Prelude.{◌≡◌, ◌<◌, ◌+◌, ◌∷◌, ◌++◌, [], IfOk, IsTrue, Ok, OnOk, flat_map, map};
+ghost use Rattle.std.specs.Prelude.{◌≡◌, ◌<◌, ◌+◌, ◌∷◌, ◌++◌, ◌⊎◌, ℕ, [], IfOk, IsTrue, Ok, OnOk, flat_map, map, sum_by};
 ghost use Rattle.bolt_format.specs.ElementPlaces.{leaf_view};
 ghost use Rattle.bolt_format.specs.Elements.{IsBucketValue};
 ghost use Rattle.bolt_format.specs.Shown.{shown};
 ghost use Rattle.bolt_check.specs.CheckedFiles.{bytes_of, meta_of};
 ghost use Rattle.bolt_check.specs.Nodes.{Node, node_at};
-ghost use Rattle.bolt_check.specs.Subtrees.{Enough};
+ghost use Rattle.bolt_check.specs.Subtrees.{Enough, Has};
 ghost use Rattle.bolt_tree.specs.Buckets.{bucket_checked, bucket_start};
-ghost use Rattle.bolt_report.specs.Figures.{Figure, capped, figure};
-ghost use Rattle.bolt_report.specs.Readings.{AreGood, inner_pages, inner_roots, numbers_of, one, own_figure, root_of, total_of};
+ghost use Rattle.bolt_report.specs.Figures.{Figure, bucket_figure, capped, figure};
+ghost use Rattle.bolt_report.specs.Readings.{AreGood, inner_pages, inner_roots, numbers_of, one, own_figure, root_of, roots_of, total_of};
 ghost use Rattle.bolt_report.specs.StatsOf.{IsStatsOf};
 
 use crate::figures::{Stats, add};
@@ -64,7 +64,10 @@ struct Read {
 }
 
 /// The figures of a bucket with this root page.
-fn paged_stats(alloc: Global, checked: &Checked<'_>, root: u64) -> Result<Stats, AllocError> {
+fn paged_stats(alloc: Global, checked: &Checked<'_>, root: u64) -> Result<Stats, AllocError>
+    requires { ∥ AreGood (bytes_of checked.now) (meta_of checked.now) (root ∷ []) ∥₁ }
+    ensures { IfOk result (λ stats. (f : Figure) → figure f stats ≡ capped (bucket_figure f + total_of (bytes_of checked.now) (meta_of checked.now) (own_figure (bytes_of checked.now) (meta_of checked.now) f) (root ∷ []))) }
+{
     let mut total = Stats {
         buckets: 1,
         ..Stats::default()
@@ -73,7 +76,7 @@ fn paged_stats(alloc: Global, checked: &Checked<'_>, root: u64) -> Result<Stats,
     let mut pages = Vec::new(alloc);
     let mut roots = Vec::new(alloc);
     buckets.push(OpenBucket { root, above: 0 })?;
-    while let Some(bucket) = buckets.pop() {
+    'buckets: while let Some(bucket) = buckets.pop() {
         let read = read_bucket(checked, bucket.root, &mut pages, &mut roots)?;
         let above = bucket.above.saturating_add(read.height);
         let depth = above.saturating_add(read.inline_depth);
@@ -211,8 +214,12 @@ fn open_buckets(
     roots: &mut Vec<u64>,
     above: u64,
     buckets: &mut Vec<OpenBucket>,
-) -> Result<(), AllocError> {
-    while let Some(root) = roots.pop() {
+) -> Result<(), AllocError>
+    ensures none { OnOk result (roots.new.items ≡ []) }
+    ensures sums { OnOk result ((w : ℕ → ℕ) → sum_by w (roots_of buckets.new.items) ≡ sum_by w (roots_of buckets.old.items) + sum_by w roots.old.items) }
+    ensures from { OnOk result ((m : ℕ) → Has m (roots_of buckets.new.items) → Has m (roots_of buckets.old.items) ⊎ Has m roots.old.items) }
+{
+    'roots: while let Some(root) = roots.pop() {
         buckets.push(OpenBucket { root, above })?;
     }
     Ok(())

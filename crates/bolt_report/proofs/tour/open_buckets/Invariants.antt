@@ -1,5 +1,14 @@
-use Rattle.std.proofs.Common.{vec_len}
+use Rattle.std.proofs.Common.{◌≡◌, ◌+◌, ◌⊎◌, ℕ, sum_by, vec_len}
+use Rattle.bolt_check.specs.Subtrees.{Has}
+use Rattle.bolt_report.specs.Readings.{roots_of}
 use Rattle.bolt_report.proofs.tour.open_buckets.Given as goal
 
-abbrev pub decreases-loop-root : goal.decreases-loop-root
-decreases-loop-root l = vec_len l.roots
+-- what is open and what is left are the whole
+abbrev pub invariant-roots : goal.invariant-roots
+invariant-roots l = record {
+  sums : (w : ℕ → ℕ) → sum_by w (roots_of l.buckets.items) + sum_by w l.roots.items ≡ sum_by w (roots_of l.initial.buckets.items) + sum_by w l.initial.roots.items;
+  from : (m : ℕ) → Has m (roots_of l.buckets.items) ⊎ Has m l.roots.items → Has m (roots_of l.initial.buckets.items) ⊎ Has m l.initial.roots.items;
+}
+
+abbrev pub decreases-roots : goal.decreases-roots
+decreases-roots l = vec_len l.roots
