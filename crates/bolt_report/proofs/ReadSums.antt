@@ -153,3 +153,17 @@ module _ (file : List ℕ) (meta : Meta) where
   pub all_good : (old rest found new : List ℕ) (n : ℕ) → old ≡ rest ++ n ∷ [] → ((m : ℕ) → Has m new → Has m rest ⊎ Has m found) → AreGood file meta old → AreGood file meta found → AreGood file meta new
   all_good old rest found new n e from good other m h =
       elim (from m h) [ inl i ↦ good m (subst (λ (l : List ℕ). Has m l) (sym e) (has_left m rest (n ∷ []) i)) | inr i ↦ other m i ]
+
+pub first_fits : (f : Figure) → bucket_figure f ≤ 1
+first_fits buckets = omega arith
+first_fits inline_buckets = omega arith
+first_fits inline_used = omega arith
+first_fits keys = omega arith
+first_fits branch_pages = omega arith
+first_fits branch_overflow = omega arith
+first_fits branch_allocated = omega arith
+first_fits branch_used = omega arith
+first_fits leaf_pages = omega arith
+first_fits leaf_overflow = omega arith
+first_fits leaf_allocated = omega arith
+first_fits leaf_used = omega arith

@@ -80,7 +80,13 @@ fn paged_stats(alloc: Global, checked: &Checked<'_>, root: u64) -> Result<Stats,
         let read = read_bucket(checked, bucket.root, &mut pages, &mut roots)?;
         let above = bucket.above.saturating_add(read.height);
         let depth = above.saturating_add(read.inline_depth);
-        total = add(total, Stats { depth, ..read.figures });
+        total = add(
+            total,
+            Stats {
+                depth,
+                ..read.figures
+            },
+        );
         open_buckets(&mut roots, above, &mut buckets)?;
     }
     Ok(total)

@@ -46,14 +46,14 @@ pages-preserved c =
     let enough = next_good file meta rest roots before n taken c.pages.invariant.good in
     let kids = c.in_ok-read.ensures.kids in
     let sums : (own : ℕ → ℕ) → own n + (total_of file meta own after + total_of file meta own found) ≡ total_of file meta own before + total_of file meta own roots
-        = λ own. ∥∥₁_elim kids (Prim.hlevel props) (λ (node, page, a, b). ∥∥₁_elim enough (Prim.hlevel props) (λ e.
-            read_sum file meta own rest roots after found n node page e a b ∙ ap (λ (l : List ℕ). total_of file meta own l + total_of file meta own roots) (sym taken))) in
+    = λ own. ∥∥₁_elim kids (Prim.hlevel props) (λ (node, page, a, b). ∥∥₁_elim enough (Prim.hlevel props) (λ e.
+    read_sum file meta own rest roots after found n node page e a b ∙ ap (λ (l : List ℕ). total_of file meta own l + total_of file meta own roots) (sym taken))) in
     let count = sums one in
     let less : total_of file meta one after + total_of file meta one found < total_of file meta one (c.args.root ∷ [])
-        = elim c.pages.invariant.fewer [
-          | inl none ↦ let p = ap (total_of file meta one) none.0 in let q = ap (total_of file meta one) none.1 in omega (arith, count, p, q)
-          | inr less ↦ omega (arith, count, less)
-        ] in
+    = elim c.pages.invariant.fewer [
+      | inl none ↦ let p = ap (total_of file meta one) none.0 in let q = ap (total_of file meta one) none.1 in omega (arith, count, p, q)
+      | inr less ↦ omega (arith, count, less)
+    ] in
     record {
       good = ∥∥₁_elim kids ∥∥₁_prop (λ (node, page, a, b). ∥∥₁_map good (λ g. read_good file meta rest roots after found n node page g a b));
       fewer = inr less;
@@ -74,10 +74,10 @@ pages-smaller c =
     let taken = popped c.pages.pages.items c.pop.new.self.items c.in-Some.open c.in-Some.ensures.items in
     let enough = next_good file meta (numbers_of c.pop.new.self.items) c.pages.roots.items (numbers_of c.pages.pages.items) n taken c.pages.invariant.good in
     ∥∥₁_elim c.in_ok-read.ensures.kids (Prim.hlevel props) (λ (node, page, a, b). ∥∥₁_elim enough (Prim.hlevel props) (λ e.
-      let sum = read_sum file meta one (numbers_of c.pop.new.self.items) c.pages.roots.items (numbers_of c.read_page.new.pages.items) c.read_page.new.roots.items n node page e a b in
-      let more = more_found file meta one c.pages.roots.items c.read_page.new.roots.items (inner_roots node) b in
-      let same = ap (total_of file meta one) taken in
-      omega (arith, sum, more, same)))
+    let sum = read_sum file meta one (numbers_of c.pop.new.self.items) c.pages.roots.items (numbers_of c.read_page.new.pages.items) c.read_page.new.roots.items n node page e a b in
+    let more = more_found file meta one c.pages.roots.items c.read_page.new.roots.items (inner_roots node) b in
+    let same = ap (total_of file meta one) taken in
+    omega (arith, sum, more, same)))
 
 pub returns-clause-good : goal.returns-clause-good
 returns-clause-good c =
