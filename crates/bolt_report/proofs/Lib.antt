@@ -1,3 +1,5 @@
+mod DepthExists
+mod DepthSums
 mod FigureLemmas
 mod KeyTexts
 mod ListTexts

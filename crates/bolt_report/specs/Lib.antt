@@ -1,3 +1,4 @@
+pub mod Deepest
 pub mod Depths
 pub mod FaultWords
 pub mod Figures

@@ -16,6 +16,12 @@ numbers_of pages = map (λ (p : OpenPage). p.number) pages
 abbrev pub roots_of : List OpenBucket → List ℕ
 roots_of buckets = map (λ (b : OpenBucket). b.root) buckets
 
+abbrev pub open_page : ℕ → ℕ → OpenPage
+open_page depth n = record { number = n; depth = depth }
+
+abbrev pub open_bucket : ℕ → ℕ → OpenBucket
+open_bucket above n = record { root = n; above = above }
+
 -- these pages and all pages below them are good
 abbrev pub AreGood : List ℕ → Meta → List ℕ → Type 0
 AreGood file meta ns = (m : ℕ) → Has m ns → Enough (node_at file meta) meta.high_water m

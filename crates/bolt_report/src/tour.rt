@@ -1,17 +1,19 @@
 //! The figures of a bucket with all buckets below it. Each page is read once, and nothing calls
 //! itself: the buckets that are still to be read stand in a list, and so do the pages of the one
 //! that is being read.
-ghost use Rattle.std.specs.Prelude.{◌≡◌, ◌<◌, ◌+◌, ◌∷◌, ◌++◌, ◌⊎◌, ℕ, [], IfOk, IsTrue, Ok, OnOk, flat_map, map, sum_by};
+ghost use Rattle.std.specs.Prelude.{◌≡◌, ◌<◌, ◌+◌, ◌∷◌, ◌++◌, ◌⊎◌, ℕ, [], IfOk, IsTrue, Ok, OnOk, flat_map, map, max, sum_by};
 ghost use Rattle.bolt_format.specs.ElementPlaces.{leaf_view};
 ghost use Rattle.bolt_format.specs.Elements.{IsBucketValue};
 ghost use Rattle.bolt_format.specs.Shown.{shown};
 ghost use Rattle.bolt_check.specs.CheckedFiles.{bytes_of, meta_of};
-ghost use Rattle.bolt_check.specs.Nodes.{Node, node_at};
+ghost use Rattle.bolt_check.specs.Nodes.{Node, leaf_entry, node_at};
 ghost use Rattle.bolt_check.specs.Subtrees.{Enough, Has};
 ghost use Rattle.bolt_tree.specs.Buckets.{bucket_checked, bucket_start};
+ghost use Rattle.bolt_report.specs.Deepest.{deepest_of, depth_of, greatest, height_of, inline_depth, inner_inline, leaf_depth};
 ghost use Rattle.bolt_report.specs.Figures.{Figure, bucket_figure, capped, figure};
-ghost use Rattle.bolt_report.specs.Readings.{AreGood, inner_pages, inner_roots, numbers_of, one, own_figure, root_of, roots_of, total_of};
+ghost use Rattle.bolt_report.specs.Readings.{AreGood, inner_pages, inner_roots, numbers_of, one, open_bucket, open_page, own_figure, root_of, roots_of, total_of};
 ghost use Rattle.bolt_report.specs.StatsOf.{IsStatsOf};
+ghost use Rattle.bolt_report.specs.declared.tour.OpenBucket.{OpenBucket};
 
 use crate::figures::{Stats, add};
 use crate::page_figures::{inline_stats, page_stats};
@@ -66,7 +68,8 @@ struct Read {
 /// The figures of a bucket with this root page.
 fn paged_stats(alloc: Global, checked: &Checked<'_>, root: u64) -> Result<Stats, AllocError>
     requires { ∥ AreGood (bytes_of checked.now) (meta_of checked.now) (root ∷ []) ∥₁ }
-    ensures { IfOk result (λ stats. (f : Figure) → figure f stats ≡ capped (bucket_figure f + total_of (bytes_of checked.now) (meta_of checked.now) (own_figure (bytes_of checked.now) (meta_of checked.now) f) (root ∷ []))) }
+    ensures figures { IfOk result (λ stats. (f : Figure) → figure f stats ≡ capped (bucket_figure f + total_of (bytes_of checked.now) (meta_of checked.now) (own_figure (bytes_of checked.now) (meta_of checked.now) f) (root ∷ []))) }
+    ensures depth { IfOk result (λ stats. stats.depth ≡ capped (depth_of (bytes_of checked.now) (meta_of checked.now) root)) }
 {
     let mut total = Stats {
         buckets: 1,
@@ -107,6 +110,8 @@ fn read_bucket(
     ensures fewer { OnOk result (total_of (bytes_of checked.now) (meta_of checked.now) one roots.new.items < total_of (bytes_of checked.now) (meta_of checked.now) one (root ∷ [])) }
     ensures figures { IfOk result (λ read. (f : Figure) → capped (figure f read.figures + total_of (bytes_of checked.now) (meta_of checked.now) (own_figure (bytes_of checked.now) (meta_of checked.now) f) roots.new.items)
         ≡ capped (total_of (bytes_of checked.now) (meta_of checked.now) (own_figure (bytes_of checked.now) (meta_of checked.now) f) (root ∷ []))) }
+    ensures height { IfOk result (λ read. capped read.height ≡ capped (height_of (bytes_of checked.now) (meta_of checked.now) 1 root)) }
+    ensures deepest { IfOk result (λ read. max read.inline_depth (greatest (depth_of (bytes_of checked.now) (meta_of checked.now)) roots.new.items) ≡ deepest_of (bytes_of checked.now) (meta_of checked.now) root) }
 {
     let mut whole = Read {
         figures: Stats::default(),
@@ -135,8 +140,9 @@ fn read_page(
 ) -> Result<Read, AllocError>
     requires { ∥ Enough (node_at (bytes_of checked.now) (meta_of checked.now)) (meta_of checked.now).high_water open.number ∥₁ }
     ensures figures { IfOk result (λ read. (f : Figure) → figure f read.figures ≡ capped (own_figure (bytes_of checked.now) (meta_of checked.now) f open.number)) }
-    ensures kids { OnOk result (∥ ((node : Node) × (node_at (bytes_of checked.now) (meta_of checked.now) open.number ≡ Ok node)
-        × (numbers_of pages.new.items ≡ numbers_of pages.old.items ++ inner_pages node) × (roots.new.items ≡ roots.old.items ++ inner_roots node)) ∥₁) }
+    ensures kids { IfOk result (λ read. ∥ ((node : Node) × (node_at (bytes_of checked.now) (meta_of checked.now) «open».number ≡ Ok node)
+        × (pages.new.items ≡ pages.old.items ++ map (open_page (capped («open».depth + 1))) (inner_pages node)) × (roots.new.items ≡ roots.old.items ++ inner_roots node)
+        × (read.height ≡ leaf_depth node.is_leaf «open».depth) × (read.inline_depth ≡ inner_inline node)) ∥₁) }
 {
     let meta = checked.meta();
     let page = known(checked.bytes(), &meta, open.number);
@@ -166,7 +172,7 @@ fn read_page(
 /// Opens the children of a branch.
 fn open_children(page: &Page<'_>, depth: u64, pages: &mut Vec<OpenPage>) -> Result<(), AllocError>
     requires { (shown page.now).kind ≡ Kind.Branch }
-    ensures { OnOk result (numbers_of pages.new.items ≡ numbers_of pages.old.items ++ map (λ e. e.child) (shown page.now).branches) }
+    ensures { OnOk result (pages.new.items ≡ pages.old.items ++ map (λ e. open_page (capped (depth + 1)) e.child) (shown page.now).branches) }
 {
     for i in 0..page.count() {
         pages.push(OpenPage {
@@ -181,24 +187,28 @@ fn open_children(page: &Page<'_>, depth: u64, pages: &mut Vec<OpenPage>) -> Resu
 /// are inline: 1, or 0 where none is.
 fn find_buckets(page: &Page<'_>, roots: &mut Vec<u64>) -> Result<u64, AllocError>
     requires { (shown page.now).kind ≡ Kind.Leaf }
-    ensures { OnOk result (roots.new.items ≡ roots.old.items ++ flat_map root_of (shown page.now).leaves) }
+    ensures roots { OnOk result (roots.new.items ≡ roots.old.items ++ flat_map root_of (shown page.now).leaves) }
+    ensures depth { IfOk result (λ depth. depth ≡ greatest (λ e. inline_depth (leaf_entry e)) (shown page.now).leaves) }
 {
-    let mut inline_depth = 0;
+    let mut deepest = 0;
     for i in 0..page.count() {
         let leaf = page.leaf(i);
-        if is_inline(&leaf) {
-            inline_depth = 1;
-        }
+        deepest = deepest.max(inline_depth(&leaf));
         push_root(&leaf, roots)?;
     }
-    Ok(inline_depth)
+    Ok(deepest)
 }
 
-/// Whether an element of a leaf is an inline bucket.
-fn is_inline(leaf: &Leaf<'_>) -> bool
+/// The depth of the bucket that an element of a leaf is: 1 where it is inline, and else 0.
+fn inline_depth(leaf: &Leaf<'_>) -> u64
     requires { IsTrue leaf.now.is_bucket → IsBucketValue leaf.now.value.now }
+    ensures { result ≡ inline_depth (leaf_entry (leaf_view leaf.now)) }
 {
-    leaf.is_bucket && head(leaf.value).root == 0
+    if leaf.is_bucket && head(leaf.value).root == 0 {
+        1
+    } else {
+        0
+    }
 }
 
 /// Adds the root page of the bucket that an element of a leaf is, if it has one.
@@ -224,6 +234,7 @@ fn open_buckets(
     ensures none { OnOk result (roots.new.items ≡ []) }
     ensures sums { OnOk result ((w : ℕ → ℕ) → sum_by w (roots_of buckets.new.items) ≡ sum_by w (roots_of buckets.old.items) + sum_by w roots.old.items) }
     ensures from { OnOk result ((m : ℕ) → Has m (roots_of buckets.new.items) → Has m (roots_of buckets.old.items) ⊎ Has m roots.old.items) }
+    ensures deepest { OnOk result ((f : OpenBucket → ℕ) → greatest f buckets.new.items ≡ max (greatest f buckets.old.items) (greatest (λ root. f (open_bucket above root)) roots.old.items)) }
 {
     'roots: while let Some(root) = roots.pop() {
         buckets.push(OpenBucket { root, above })?;
