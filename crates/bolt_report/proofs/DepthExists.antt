@@ -136,7 +136,7 @@ module _ (nodes : Nodes) where
             let on = step_child nodes s 0 node e page is at in
             let t = child_spot s e (upper_from (slice_get node.entries 1) s.upper) in
             let (address, leaf) = below t (λ way u other f. filled (0 ∷ way) u other (ap (λ (o : Option Spot). follow nodes o way) on ∙ f))
-                (page_has e.child node.is_leaf node.entries (child_has node.is_leaf node.entries 0 e is at)) in
+            (page_has e.child node.is_leaf node.entries (child_has node.is_leaf node.entries 0 e is at)) in
             (0 ∷ address, child_leaf s.number 0 node e address page is at leaf)
 
     height_is : (root : ℕ) → Enough nodes steps root → AllFilled (start_of root) → IsHeight nodes root (height_from nodes 1 steps root)
@@ -237,10 +237,13 @@ module _ (nodes : Nodes) where
             let all = whole true is in
             elim (entry_met node.entries) [
               | inl z ↦ inl (omega (arith, all, z))
-              | inr (place, e, at, bucket, same) ↦ inr (e, (
+              | inr (place, e, at, bucket, same) ↦ inr (
+                e,
+                (
                   record { address = []; leaf = record { number = n; node = node; leads = refl; page = page; leaf = is }; place = place; entry = at; bucket = bucket },
                   omega (arith, all, same),
-                ))
+                ),
+              )
             ]
         by_kind below false is =
             let all = whole false is in
@@ -251,7 +254,9 @@ module _ (nodes : Nodes) where
                   let here = ap (deepest_from nodes steps) child in
                   elim (below e.child (page_has e.child node.is_leaf node.entries (child_has node.is_leaf node.entries i e is at))) [
                     | inl z ↦ inl (omega (arith, all, same, here, z))
-                    | inr (x, (in_child, deep)) ↦ inr (x, (
+                    | inr (x, (in_child, deep)) ↦ inr (
+                      x,
+                      (
                         record {
                           address = i ∷ in_child.address;
                           leaf = child_leaf n i node e in_child.address page is at in_child.leaf;
@@ -260,7 +265,8 @@ module _ (nodes : Nodes) where
                           bucket = in_child.bucket;
                         },
                         omega (arith, all, same, here, deep),
-                      ))
+                      ),
+                    )
                   ]
             ]
 

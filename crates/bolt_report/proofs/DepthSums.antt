@@ -51,7 +51,7 @@ module _ (nodes : Nodes) where
   deepest_more (suc k) n h =
       let pages = greatest_same (deepest_from nodes (suc k)) (deepest_from nodes k) (pages_at (nodes n)) (λ m i. deepest_more k m (low_page k n m h i)) in
       let roots = greatest_same (depth_from (suc k)) (depth_from k) (roots_at (nodes n)) (λ m i.
-          let low = low_root k n m h i in let a = height_more 1 k m low in let b = deepest_more k m low in omega (arith, a, b)) in
+      let low = low_root k n m h i in let a = height_more 1 k m low in let b = deepest_more k m low in omega (arith, a, b)) in
       omega (arith, pages, roots)
 
   -- a page's own, and those below it
@@ -68,6 +68,6 @@ module _ (nodes : Nodes) where
   deepest_kids (suc k) n node page h =
       let pages = greatest_same (deepest_from nodes k) (deepest_from nodes (suc k)) (pages_at (nodes n)) (λ m i. sym (deepest_more k m (low_page k n m h i))) in
       let roots = greatest_same (depth_from k) (depth_from (suc k)) (roots_at (nodes n)) (λ m i.
-          let low = low_root k n m h i in let a = height_more 1 k m low in let b = deepest_more k m low in omega (arith, a, b)) in
+      let low = low_root k n m h i in let a = height_more 1 k m low in let b = deepest_more k m low in omega (arith, a, b)) in
       let same = ap (λ (r : Result Node ℕ). max (inline_at r) (max (greatest (deepest_from nodes (suc k)) (pages_at r)) (greatest (depth_from (suc k)) (roots_at r)))) page in
       omega (arith, pages, roots, same)

@@ -7,9 +7,11 @@ mod ListWrites
 mod PageFaults
 mod PageTableLemmas
 mod Pieces
+mod ReadDepths
 mod ReadLemmas
 mod ReadSums
 mod ReportLemmas
 mod ShownLemmas
+mod StatsExist
 mod StatsOnce
 mod TextLemmas

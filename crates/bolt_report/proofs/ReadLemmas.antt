@@ -1,5 +1,5 @@
 -- What reading a page opens and finds.
-use Rattle.std.proofs.Common.{◌≡◌, ◌∙◌, ◌+◌, ℕ, true, false, List, [], ◌∷◌, ◌++◌, Some, Ok, Err, flat_map, map, take, slice_get, refl, sym, ap, add-one, append_assoc}
+use Rattle.std.proofs.Common.{◌≡◌, ◌∙◌, ◌+◌, ℕ, true, false, List, [], ◌∷◌, ◌++◌, Some, Ok, Err, flat_map, map, take, slice_get, refl, sym, ap, add-one, append_assoc, arith, max}
 use Rattle.std.proofs.lemmas.List.{map-append}
 use Rattle.bolt_format.specs.Elements.{BranchElement, LeafElement}
 use Rattle.bolt_format.specs.Pages.{PageView, page_at}
@@ -9,20 +9,18 @@ use Rattle.bolt_check.specs.Nodes.{Node, branch_entry, leaf_entry, node_at}
 use Rattle.bolt_check.specs.Subtrees.{Enough, kid_pages, root_page}
 use Rattle.bolt_check.proofs.TourSums.{enough_node}
 use Rattle.bolt_check.proofs.TreePages.{node_is}
-use Rattle.bolt_report.specs.Readings.{numbers_of, root_of}
+use Rattle.bolt_report.specs.Deepest.{greatest, inline_depth}
+use Rattle.bolt_report.specs.Readings.{open_page, root_of}
 use Rattle.bolt_report.specs.declared.tour.OpenPage.{OpenPage}
+use Rattle.bolt_report.proofs.DepthSums.{greatest_append}
 use Rattle.bolt_report.proofs.ListWrites.{flat_map-take_more, take_more}
 
 -- one child more was opened
-pub children_next : (cur new : List OpenPage) (p : OpenPage) (old : List ℕ) (xs : List BranchElement) (i : ℕ) (e : BranchElement)
-    → new ≡ cur ++ p ∷ [] → p.number ≡ e.child → slice_get xs i ≡ Some e → numbers_of cur ≡ old ++ map (λ (x : BranchElement). x.child) (take i xs)
-    → numbers_of new ≡ old ++ map (λ (x : BranchElement). x.child) (take (i + 1) xs)
-children_next cur new p old xs i e pushed same found before =
-    let child : BranchElement → ℕ = λ x. x.child in
-    let number : OpenPage → ℕ = λ q. q.number in
-    let more : map child (take (i + 1) xs) ≡ map child (take i xs) ++ e.child ∷ [] = ap (λ k. map child (take k xs)) (add-one i) ∙ ap (map child) (take_more xs i e found) ∙ map-append child (take i xs) (e ∷ []) in
-    ap (map number) pushed ∙ map-append number cur (p ∷ []) ∙ ap (λ l. l ++ p.number ∷ []) before ∙ append_assoc old (map child (take i xs)) (p.number ∷ [])
-    ∙ ap (λ n. old ++ (map child (take i xs) ++ n ∷ [])) same ∙ ap (λ l. old ++ l) (sym more)
+pub children_next : (cur new old : List OpenPage) (p : OpenPage) (opened : BranchElement → OpenPage) (xs : List BranchElement) (i : ℕ) (e : BranchElement)
+    → new ≡ cur ++ p ∷ [] → p ≡ opened e → slice_get xs i ≡ Some e → cur ≡ old ++ map opened (take i xs) → new ≡ old ++ map opened (take (i + 1) xs)
+children_next cur new old p opened xs i e pushed same found before =
+    let more : map opened (take (i + 1) xs) ≡ map opened (take i xs) ++ opened e ∷ [] = ap (λ k. map opened (take k xs)) (add-one i) ∙ ap (map opened) (take_more xs i e found) ∙ map-append opened (take i xs) (e ∷ []) in
+    pushed ∙ ap (λ l. l ++ p ∷ []) before ∙ append_assoc old (map opened (take i xs)) (p ∷ []) ∙ ap (λ q. old ++ (map opened (take i xs) ++ q ∷ [])) same ∙ ap (λ l. old ++ l) (sym more)
 
 -- the buckets of one element more were found
 pub roots_next : (cur new old : List ℕ) (xs : List LeafElement) (i : ℕ) (e : LeafElement)
@@ -31,9 +29,17 @@ roots_next cur new old xs i e pushed found before =
     let more = ap (λ k. flat_map root_of (take k xs)) (add-one i) ∙ flat_map-take_more root_of xs i e found in
     pushed ∙ ap (λ l. l ++ root_of e) before ∙ append_assoc old (flat_map root_of (take i xs)) (root_of e) ∙ ap (λ l. old ++ l) (sym more)
 
-pub branch_kids : (xs : List BranchElement) → kid_pages false (map branch_entry xs) ≡ map (λ (x : BranchElement). x.child) xs
-branch_kids [] = refl
-branch_kids (x ∷ xs) = ap (λ (l : List ℕ). x.child ∷ l) (branch_kids xs)
+pub branch_kids : (depth : ℕ) (xs : List BranchElement) → map (open_page depth) (kid_pages false (map branch_entry xs)) ≡ map (λ (x : BranchElement). open_page depth x.child) xs
+branch_kids depth [] = refl
+branch_kids depth (x ∷ xs) = ap (λ (l : List OpenPage). open_page depth x.child ∷ l) (branch_kids depth xs)
+
+-- the depth of the inline buckets of one element more
+pub inline_next : (old new here : ℕ) (xs : List LeafElement) (i : ℕ) (e : LeafElement) → here ≡ inline_depth (leaf_entry e) → new ≡ max old here → slice_get xs i ≡ Some e
+    → old ≡ greatest (λ (x : LeafElement). inline_depth (leaf_entry x)) (take i xs) → new ≡ greatest (λ (x : LeafElement). inline_depth (leaf_entry x)) (take (i + 1) xs)
+inline_next old new here xs i e is most found before =
+    let depth : LeafElement → ℕ = λ x. inline_depth (leaf_entry x) in
+    let more = ap (λ k. greatest depth (take k xs)) (add-one i) ∙ ap (greatest depth) (take_more xs i e found) ∙ greatest_append depth (take i xs) (e ∷ []) in
+    omega (arith, is, most, before, more)
 
 pub leaf_kids : (xs : List LeafElement) → kid_pages true (map leaf_entry xs) ≡ flat_map root_of xs
 leaf_kids [] = refl

@@ -82,6 +82,9 @@ zero_figure leaf_overflow s (a, (b, (c, (d, (e, (g, (h, (i, (j, (k, (l, (m, n)))
 zero_figure leaf_allocated s (a, (b, (c, (d, (e, (g, (h, (i, (j, (k, (l, (m, n)))))))))))) = m
 zero_figure leaf_used s (a, (b, (c, (d, (e, (g, (h, (i, (j, (k, (l, (m, n)))))))))))) = n
 
+pub zero_depth : (s : Stats) → AllZero s → s.depth ≡ 0
+zero_depth s (a, (b, (c, (d, (e, rest))))) = e
+
 -- more buckets were found
 pub more_found : (file : List ℕ) (meta : Meta) (own : ℕ → ℕ) (roots found inner : List ℕ) → found ≡ roots ++ inner → total_of file meta own roots ≤ total_of file meta own found
 more_found file meta own roots found inner e =

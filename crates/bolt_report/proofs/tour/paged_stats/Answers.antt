@@ -1,13 +1,16 @@
-use Rattle.std.proofs.Common.{◌≡◌, ◌∙◌, ◌+◌, ◌++◌, ◌∷◌, [], ℕ, List, ap, arith, sum_by}
+use Rattle.std.proofs.Common.{◌≡◌, ◌∙◌, ◌+◌, ◌++◌, ◌∷◌, [], ℕ, List, ap, arith, sum_by, vec_len}
 use Rattle.std.proofs.Math.Logic.{∥∥₁_elim, ∥∥₁_map, ∥∥₁_prop}
 use Rattle.bolt_check.specs.CheckedFiles.{bytes_of, meta_of}
 use Rattle.bolt_check.specs.Nodes.{node_at}
 use Rattle.bolt_check.specs.Subtrees.{weight}
+use Rattle.bolt_report.specs.Deepest.{greatest}
 use Rattle.bolt_report.specs.Figures.{Figure, figure}
 use Rattle.bolt_report.specs.Readings.{one, own_figure, roots_of, total_of}
+use Rattle.bolt_report.specs.declared.figures.Stats.{Stats}
 use Rattle.bolt_report.specs.declared.tour.OpenBucket.{OpenBucket}
 use Rattle.bolt_report.proofs.FigureLemmas.{figure_add}
-use Rattle.bolt_report.proofs.ReadSums.{all_good, deepened, first_figure, first_fits, last_good, open_popped, total_popped}
+use Rattle.bolt_report.proofs.ReadDepths.{bucket_end, read_end}
+use Rattle.bolt_report.proofs.ReadSums.{all_good, deepened, first_figure, first_fits, last_good, none_left, open_popped, total_popped, zero_depth}
 use Rattle.bolt_report.proofs.tour.paged_stats.Goals as goal
 
 pub buckets-init : goal.buckets-init
@@ -25,6 +28,11 @@ buckets-init c =
           let z = first_figure f c.default.result c.default.ensures in
           let a = ap (total_of file meta (own_figure file meta f)) now in
           omega (arith, z, a);
+      depth_fits = let z = zero_depth c.default.result c.default.ensures in omega (arith, z);
+      depth =
+          let z = zero_depth c.default.result c.default.ensures in
+          let all = ap (greatest (bucket_end file meta)) (c.in_ok-push.ensures.items ∙ ap (λ (l : List OpenBucket). l ++ first ∷ []) c.new-buckets.ensures.items) in
+          omega (arith, z, all);
     }
 
 pub read_bucket-requires-clause-good : goal.read_bucket-requires-clause-good
@@ -56,4 +64,22 @@ buckets-preserved c =
           let before = total_popped file meta own (roots_of c.buckets.buckets.items) rest c.in-Some.bucket.root taken in
           let whole = c.buckets.invariant.figures f in
           omega (arith, added, same, read, sums, before, whole);
+      depth_fits = let added = ap (λ (s : Stats). s.depth) c.add-total.ensures in let end = c.saturating_add-depth.ensures in let before = c.buckets.invariant.depth_fits in omega (arith, added, end, before);
+      depth =
+          let added = ap (λ (s : Stats). s.depth) c.add-total.ensures in
+          let step = read_end file meta c.buckets.buckets.items c.pop.new.self.items c.open_buckets.new.buckets.items c.in-Some.bucket found c.in_ok-read.read.height
+          c.saturating_add-above.result c.in_ok-read.read.inline_depth c.saturating_add-depth.result c.in_ok-read.ensures.height c.in_ok-read.ensures.deepest
+          c.saturating_add-above.ensures c.saturating_add-depth.ensures c.in-Some.ensures.items (c.in_ok-open_buckets.ensures.deepest (bucket_end file meta)) in
+          let whole = c.buckets.invariant.depth in
+          omega (arith, added, step, whole);
     }
+
+pub returns-clause-depth : goal.returns-clause-depth
+returns-clause-depth c =
+    let file : List ℕ = bytes_of c.args.checked.now in
+    let meta = meta_of c.args.checked.now in
+    let none : c.buckets.buckets.items ≡ [] = none_left c.buckets.buckets.items c.pop.new.self.items (vec_len c.buckets.buckets) c.in_default.ensures.cases.0 c.in_default.ensures.rest c.in_default.ensures.items in
+    let zero = ap (greatest (bucket_end file meta)) none in
+    let whole = c.buckets.invariant.depth in
+    let fits = c.buckets.invariant.depth_fits in
+    omega (arith, zero, whole, fits)
