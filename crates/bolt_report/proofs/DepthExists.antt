@@ -5,7 +5,7 @@ use Rattle.std.proofs.lemmas.Bool.{cases_lt}
 use Rattle.bolt_check.specs.Nodes.{Entry, Node, Nodes}
 use Rattle.bolt_check.specs.Shape.{child_at, child_in, child_of, leads}
 use Rattle.bolt_check.specs.Subtrees.{Enough, Has, kid_pages, root_page}
-use Rattle.bolt_check.specs.Ways.{At_page, PageSpot, Spot, bucket_spots, child_spot, follow, start_of, step, upper_from}
+use Rattle.bolt_check.specs.Ways.{At_page, PageSpot, Spot, child_spot, follow, start_of, step, upper_from}
 use Rattle.bolt_check.proofs.TourSums.{enough_kids, enough_node, has_right}
 use Rattle.bolt_check.proofs.WayFacts.{follow_append, leads_follow, leads_none, none_number, step_child}
 use Rattle.bolt_report.specs.Deepest.{deepest_from, greatest, height_from, inline_depth, inline_in_bucket, leaf_depth}

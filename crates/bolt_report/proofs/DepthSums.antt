@@ -1,5 +1,5 @@
 -- The depths of a bucket, page by page: a page's own, and those of the pages that it leads to.
-use Rattle.std.proofs.Common.{◌≡◌, ◌∙◌, ◌==◌, ℕ, zero, suc, ◌+◌, ◌≤◌, ◌⊎◌, max, inl, inr, Bool, true, false, List, [], ◌∷◌, ◌++◌, Result, Ok, cond, map, refl, sym, ap, subst, arith}
+use Rattle.std.proofs.Common.{◌≡◌, ◌∙◌, ℕ, zero, suc, ◌+◌, ◌≤◌, max, inl, inr, Bool, true, false, List, [], ◌∷◌, ◌++◌, Result, Ok, map, refl, sym, ap, subst, arith}
 use Rattle.bolt_check.specs.Nodes.{Entry, Node, Nodes}
 use Rattle.bolt_check.specs.Subtrees.{Enough, Has, kid_pages}
 use Rattle.bolt_report.specs.Deepest.{deepest_from, greatest, height_from, inline_at, inner_inline, leaf_at, leaf_depth, pages_at, roots_at}

@@ -9,7 +9,7 @@ use Rattle.bolt_report.specs.Figures.{capped}
 use Rattle.bolt_report.specs.Readings.{inner_pages, inner_roots, numbers_of, open_bucket, open_page}
 use Rattle.bolt_report.specs.declared.tour.OpenBucket.{OpenBucket}
 use Rattle.bolt_report.specs.declared.tour.OpenPage.{OpenPage}
-use Rattle.bolt_report.proofs.DepthSums.{deepest_kids, depth_from, greatest_append, greatest_map, height_kids}
+use Rattle.bolt_report.proofs.DepthSums.{deepest_kids, greatest_append, greatest_map, height_kids}
 
 -- a depth that is capped counts the same
 greatest_capped : (f g : ℕ → ℕ) (xs : List ℕ) → ((n : ℕ) → capped (f n) ≡ capped (g n)) → capped (greatest f xs) ≡ capped (greatest g xs)

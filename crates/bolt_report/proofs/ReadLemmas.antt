@@ -1,12 +1,12 @@
 -- What reading a page opens and finds.
-use Rattle.std.proofs.Common.{◌≡◌, ◌∙◌, ◌+◌, ℕ, true, false, List, [], ◌∷◌, ◌++◌, Some, Ok, Err, flat_map, map, take, slice_get, refl, sym, ap, add-one, append_assoc, arith, max}
+use Rattle.std.proofs.Common.{◌≡◌, ◌∙◌, ◌+◌, ℕ, true, false, List, [], ◌∷◌, ◌++◌, Some, flat_map, map, take, slice_get, refl, sym, ap, add-one, append_assoc, arith, max}
 use Rattle.std.proofs.lemmas.List.{map-append}
 use Rattle.bolt_format.specs.Elements.{BranchElement, LeafElement}
 use Rattle.bolt_format.specs.Pages.{PageView, page_at}
 use Rattle.bolt_format.specs.declared.kind.Kind.TheVariants as kind
 use Rattle.bolt_format.specs.declared.meta.Meta.{Meta}
-use Rattle.bolt_check.specs.Nodes.{Node, branch_entry, leaf_entry, node_at}
-use Rattle.bolt_check.specs.Subtrees.{Enough, kid_pages, root_page}
+use Rattle.bolt_check.specs.Nodes.{branch_entry, leaf_entry, node_at}
+use Rattle.bolt_check.specs.Subtrees.{Enough, kid_pages}
 use Rattle.bolt_check.proofs.TourSums.{enough_node}
 use Rattle.bolt_check.proofs.TreePages.{node_is}
 use Rattle.bolt_report.specs.Deepest.{greatest, inline_depth}

@@ -1,12 +1,11 @@
 -- The figures of a bucket exist, and what the reading of its pages gives are they.
 use Rattle.std.proofs.Common.{◌≡◌, ◌≢◌, ◌∙◌, ℕ, suc, ◌+◌, ◌≤◌, ◌⊎◌, inl, inr, Bool, true, false, List, [], ◌==◌, ◌∷◌, ◌++◌, Option, Some, None, Result, Ok, Err, if◌then◌else◌, sum_by, refl, sym, ap, subst, arith}
 use Rattle.bolt_format.specs.declared.meta.Meta.{Meta}
-use Rattle.bolt_format.specs.Elements.{LeafElement}
 use Rattle.bolt_check.specs.Nodes.{Entry, Node, Nodes, node_at}
 use Rattle.bolt_check.specs.OnWays.{IsOnWay}
 use Rattle.bolt_check.specs.Sound.{HasSoundTrees}
-use Rattle.bolt_check.specs.Subtrees.{Enough, Has, weight}
-use Rattle.bolt_check.specs.Ways.{At_inline, At_page, PageSpot, SpanHas, Spot, follow, reached, start_of, step, step_at, step_entry, upper_from}
+use Rattle.bolt_check.specs.Subtrees.{Enough, weight}
+use Rattle.bolt_check.specs.Ways.{At_inline, At_page, PageSpot, SpanHas, Spot, follow, reached, start_of, step, step_at, step_entry}
 use Rattle.std.proofs.lemmas.List.Sums.{sum_by-cons}
 use Rattle.bolt_check.proofs.TourLemmas.{one_tour}
 use Rattle.bolt_check.proofs.TourSums.{bucket_sum, spot_weight}
@@ -16,7 +15,7 @@ use Rattle.bolt_report.specs.Deepest.{depth_of}
 use Rattle.bolt_report.specs.Depths.{IsDepth}
 use Rattle.bolt_report.specs.Figures.{Figure, bucket_figure, buckets, inline_buckets, inline_used, keys, branch_pages, branch_overflow, branch_allocated, branch_used, leaf_pages, leaf_overflow, leaf_allocated, leaf_used, capped, figure, inline_figure}
 use Rattle.bolt_report.specs.Readings.{AreGood, own_figure, total_of}
-use Rattle.bolt_report.specs.StatsOf.{AreSums, IsPagedStats, IsStatsOf, spot_figure, tour_figure}
+use Rattle.bolt_report.specs.StatsOf.{IsPagedStats, IsStatsOf, spot_figure, tour_figure}
 use Rattle.bolt_report.specs.declared.figures.Stats.{Stats}
 use Rattle.bolt_report.proofs.DepthExists.{AllFilled, depth_is}
 

@@ -134,22 +134,22 @@ fn read_bucket(
 /// Reads a page: opens the children of a branch, and finds the buckets of a leaf.
 fn read_page(
     checked: &Checked<'_>,
-    open: OpenPage,
+    next: OpenPage,
     pages: &mut Vec<OpenPage>,
     roots: &mut Vec<u64>,
 ) -> Result<Read, AllocError>
-    requires { ∥ Enough (node_at (bytes_of checked.now) (meta_of checked.now)) (meta_of checked.now).high_water open.number ∥₁ }
-    ensures figures { IfOk result (λ read. (f : Figure) → figure f read.figures ≡ capped (own_figure (bytes_of checked.now) (meta_of checked.now) f open.number)) }
-    ensures kids { IfOk result (λ read. ∥ ((node : Node) × (node_at (bytes_of checked.now) (meta_of checked.now) «open».number ≡ Ok node)
-        × (pages.new.items ≡ pages.old.items ++ map (open_page (capped («open».depth + 1))) (inner_pages node)) × (roots.new.items ≡ roots.old.items ++ inner_roots node)
-        × (read.height ≡ leaf_depth node.is_leaf «open».depth) × (read.inline_depth ≡ inner_inline node)) ∥₁) }
+    requires { ∥ Enough (node_at (bytes_of checked.now) (meta_of checked.now)) (meta_of checked.now).high_water next.number ∥₁ }
+    ensures figures { IfOk result (λ read. (f : Figure) → figure f read.figures ≡ capped (own_figure (bytes_of checked.now) (meta_of checked.now) f next.number)) }
+    ensures kids { IfOk result (λ read. ∥ ((node : Node) × (node_at (bytes_of checked.now) (meta_of checked.now) next.number ≡ Ok node)
+        × (pages.new.items ≡ pages.old.items ++ map (open_page (capped (next.depth + 1))) (inner_pages node)) × (roots.new.items ≡ roots.old.items ++ inner_roots node)
+        × (read.height ≡ leaf_depth node.is_leaf next.depth) × (read.inline_depth ≡ inner_inline node)) ∥₁) }
 {
     let meta = checked.meta();
-    let page = known(checked.bytes(), &meta, open.number);
+    let page = known(checked.bytes(), &meta, next.number);
     let figures = page_stats(&page, meta.page_size);
     match page.kind() {
         Kind::Branch => {
-            open_children(&page, open.depth, pages)?;
+            open_children(&page, next.depth, pages)?;
             Ok(Read {
                 figures,
                 height: 0,
@@ -160,7 +160,7 @@ fn read_page(
             let inline_depth = find_buckets(&page, roots)?;
             Ok(Read {
                 figures,
-                height: open.depth,
+                height: next.depth,
                 inline_depth,
             })
         }

@@ -1,11 +1,11 @@
-use Rattle.std.proofs.Common.{◌≡◌, ◌∙◌, ◌+◌, ◌++◌, ◌∷◌, [], ℕ, List, ap, arith, sum_by, vec_len}
+use Rattle.std.proofs.Common.{◌≡◌, ◌∙◌, ◌++◌, ◌∷◌, [], ℕ, List, ap, arith, vec_len}
 use Rattle.std.proofs.Math.Logic.{∥∥₁_elim, ∥∥₁_map, ∥∥₁_prop}
 use Rattle.bolt_check.specs.CheckedFiles.{bytes_of, meta_of}
 use Rattle.bolt_check.specs.Nodes.{node_at}
 use Rattle.bolt_check.specs.Subtrees.{weight}
 use Rattle.bolt_report.specs.Deepest.{greatest}
-use Rattle.bolt_report.specs.Figures.{Figure, figure}
-use Rattle.bolt_report.specs.Readings.{one, own_figure, roots_of, total_of}
+use Rattle.bolt_report.specs.Figures.{figure}
+use Rattle.bolt_report.specs.Readings.{own_figure, roots_of, total_of}
 use Rattle.bolt_report.specs.declared.figures.Stats.{Stats}
 use Rattle.bolt_report.specs.declared.tour.OpenBucket.{OpenBucket}
 use Rattle.bolt_report.proofs.FigureLemmas.{figure_add}

@@ -16,17 +16,17 @@ use Rattle.bolt_report.proofs.tour.read_page.Goals as goal
 
 pub known-page-requires : goal.known-page-requires
 known-page-requires c =
-    rw (c.bytes.ensures, c.meta-meta.ensures) (∥∥₁_elim c.requires (Prim.hlevel props) (λ h. enough_shown (bytes_of c.args.checked.now) (meta_of c.args.checked.now) _ c.args.open.number h))
+    rw (c.bytes.ensures, c.meta-meta.ensures) (∥∥₁_elim c.requires (Prim.hlevel props) (λ h. enough_shown (bytes_of c.args.checked.now) (meta_of c.args.checked.now) _ c.args.next.number h))
 
 pub unreachable-requires : goal.unreachable-requires
 unreachable-requires c =
     let at = rw (c.bytes.ensures, c.meta-meta.ensures) at c.known-page.ensures in
-    ∥∥₁_elim c.requires (Prim.hlevel props) (λ h. no_meta (bytes_of c.args.checked.now) (meta_of c.args.checked.now) c.args.open.number (shown c.known-page.result) at _ h (sym c.kind.ensures ∙ c.in-Meta.is))
+    ∥∥₁_elim c.requires (Prim.hlevel props) (λ h. no_meta (bytes_of c.args.checked.now) (meta_of c.args.checked.now) c.args.next.number (shown c.known-page.result) at _ h (sym c.kind.ensures ∙ c.in-Meta.is))
 
 pub unreachable-requires-in-Freelist : goal.unreachable-requires-in-Freelist
 unreachable-requires-in-Freelist c =
     let at = rw (c.bytes.ensures, c.meta-meta.ensures) at c.known-page.ensures in
-    ∥∥₁_elim c.requires (Prim.hlevel props) (λ h. no_freelist (bytes_of c.args.checked.now) (meta_of c.args.checked.now) c.args.open.number (shown c.known-page.result) at _ h (sym c.kind.ensures ∙ c.in-Freelist.is))
+    ∥∥₁_elim c.requires (Prim.hlevel props) (λ h. no_freelist (bytes_of c.args.checked.now) (meta_of c.args.checked.now) c.args.next.number (shown c.known-page.result) at _ h (sym c.kind.ensures ∙ c.in-Freelist.is))
 
 pub returns-in_ok-open_children-in-Branch-clause-kids : goal.returns-in_ok-open_children-in-Branch-clause-kids
 returns-in_ok-open_children-in-Branch-clause-kids c =
@@ -34,8 +34,8 @@ returns-in_ok-open_children-in-Branch-clause-kids c =
     let view = shown c.known-page.result in
     ∣ (
       _,
-      node_is (bytes_of c.args.checked.now) (meta_of c.args.checked.now) c.args.open.number view kind.Branch at (sym c.kind.ensures ∙ c.in-Branch.is),
-      c.in_ok-open_children-in-Branch.ensures ∙ ap (λ (l : List OpenPage). c.args.pages.now.items ++ l) (sym (branch_kids (capped (c.args.open.depth + 1)) view.branches)),
+      node_is (bytes_of c.args.checked.now) (meta_of c.args.checked.now) c.args.next.number view kind.Branch at (sym c.kind.ensures ∙ c.in-Branch.is),
+      c.in_ok-open_children-in-Branch.ensures ∙ ap (λ (l : List OpenPage). c.args.pages.now.items ++ l) (sym (branch_kids (capped (c.args.next.depth + 1)) view.branches)),
       sym (append-nil c.args.roots.now.items),
       refl,
       refl,
@@ -47,7 +47,7 @@ returns-in_ok-inline_depth-in-Leaf-clause-kids c =
     let view = shown c.known-page.result in
     ∣ (
       _,
-      node_is (bytes_of c.args.checked.now) (meta_of c.args.checked.now) c.args.open.number view kind.Leaf at (sym c.kind.ensures ∙ c.in-Leaf.is),
+      node_is (bytes_of c.args.checked.now) (meta_of c.args.checked.now) c.args.next.number view kind.Leaf at (sym c.kind.ensures ∙ c.in-Leaf.is),
       sym (append-nil c.args.pages.now.items),
       c.in_ok-inline_depth-in-Leaf.ensures.roots ∙ ap (λ (l : List ℕ). c.args.roots.now.items ++ l) (sym (leaf_kids view.leaves)),
       refl,

@@ -1,4 +1,3 @@
-use Rattle.std.proofs.Common.{ℕ, List, sym}
 use Rattle.std.proofs.Math.Logic.{∥∥₁_elim, ∥∥₁_map, ∥∥₁_prop}
 use Rattle.bolt_check.specs.CheckedFiles.{bytes_of, meta_of}
 use Rattle.bolt_check.proofs.CheckedLemmas.{checked_trees}
