@@ -28,6 +28,7 @@ mod SoundLemmas
 mod TableLemmas
 mod TourExists
 pub mod TourLemmas
+pub mod TourSums
 pub mod TreePages
 mod UseLemmas
 mod VisitLemmas

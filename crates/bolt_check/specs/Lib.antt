@@ -10,5 +10,6 @@ pub mod RoledFiles
 pub mod Roles
 pub mod Shape
 pub mod Sound
+pub mod Subtrees
 pub mod Tours
 pub mod Ways

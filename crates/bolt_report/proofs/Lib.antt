@@ -1,3 +1,5 @@
+mod DepthExists
+mod DepthSums
 mod FigureLemmas
 mod KeyTexts
 mod ListTexts
@@ -5,6 +7,11 @@ mod ListWrites
 mod PageFaults
 mod PageTableLemmas
 mod Pieces
+mod ReadDepths
+mod ReadLemmas
+mod ReadSums
 mod ReportLemmas
 mod ShownLemmas
+mod StatsExist
+mod StatsOnce
 mod TextLemmas

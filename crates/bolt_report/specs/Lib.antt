@@ -1,3 +1,5 @@
+pub mod Deepest
+pub mod Depths
 pub mod FaultWords
 pub mod Figures
 pub mod Forms
@@ -8,4 +10,6 @@ pub mod MetaLines
 pub mod PageLines
 pub mod PageTables
 pub mod PageTexts
+pub mod Readings
 pub mod Reports
+pub mod StatsOf

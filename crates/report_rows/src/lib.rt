@@ -8,3 +8,5 @@ mod figure_rows;
 mod page_table_rows;
 #[cfg(test)]
 mod samples;
+#[cfg(test)]
+mod stats_rows;

@@ -1,0 +1,229 @@
+-- A sum over the tour of a bucket, page by page: a page's own, and those of the pages that it leads to.
+use Rattle.std.proofs.Common.{◌≡◌, ◌∙◌, ◌==◌, ℕ, zero, suc, ◌+◌, ◌≤◌, inl, inr, Bool, true, false, List, [], ◌∷◌, ◌++◌, Option, Some, None, Result, Ok, cond, length, map, sum_by, slice_get, refl, sym, ap, subst, arith}
+use Rattle.std.proofs.lemmas.List.Sums.{sum_by-cons}
+use Rattle.std.specs.Prelude.{IsSome}
+use Rattle.bolt_format.specs.Pages.{page_at}
+use Rattle.bolt_format.specs.declared.meta.Meta.{Meta}
+use Rattle.bolt_check.specs.Keys.{Key}
+use Rattle.bolt_check.specs.Nodes.{Entry, Node, Nodes, node_at}
+use Rattle.bolt_check.specs.Private.Pending.{forest, places, somes}
+use Rattle.bolt_check.specs.Sound.{HasSoundTrees}
+use Rattle.bolt_check.specs.Subtrees.{Enough, Has, kid_pages, kids_at, root_page, weight}
+use Rattle.bolt_check.specs.Tours.{IsIn, IsTour}
+use Rattle.bolt_check.specs.Ways.{At_inline, At_page, PageSpot, Reach, Spot, follow, reached, start_of, step}
+use Rattle.bolt_check.proofs.Forest.{flat, inline_visits, kids_step, visits}
+use Rattle.bolt_check.proofs.MarkLemmas.{node_page}
+use Rattle.bolt_check.proofs.TourExists.{Anything, Fits, Holds, cancel, fits_root, found, no_tour, numbers, root_tour, shorter, sound_fits, still, tail, tail_leads, without}
+use Rattle.bolt_check.proofs.TourLemmas.{Ways, tour_step}
+use Rattle.bolt_check.proofs.Visiting.{Visits}
+use Rattle.bolt_check.proofs.WayFacts.{follow_append}
+
+-- the pages among spots
+abbrev pub pages_of : List Spot → List ℕ
+pages_of [] = []
+pages_of (At_page s ∷ spots) = s.number ∷ pages_of spots
+pages_of (At_inline host keys ∷ spots) = pages_of spots
+
+abbrev result_of : Node → Result Node ℕ
+result_of node = Ok node
+
+pages_append : (a b : List Spot) → pages_of (a ++ b) ≡ pages_of a ++ pages_of b
+pages_append [] b = refl
+pages_append (At_page s ∷ a) b = ap (λ (l : List ℕ). s.number ∷ l) (pages_append a b)
+pages_append (At_inline host keys ∷ a) b = pages_append a b
+
+somes_bucket : (bucket small : Bool) (host : ℕ) (e : Entry) (os : List (Option Spot))
+    → pages_of (somes (cond bucket (Some (cond small (At_inline host e.inner) (At_page (start_of e.child)))) None ∷ os)) ≡ cond bucket (cond small [] (e.child ∷ [])) [] ++ pages_of (somes os)
+somes_bucket false small host e os = refl
+somes_bucket true true host e os = refl
+somes_bucket true false host e os = refl
+
+-- the pages that a page leads to are those of its kids
+pages_of_kids : (is_leaf : Bool) (s : PageSpot) (entries : List Entry) → pages_of (somes (places is_leaf s entries)) ≡ kid_pages is_leaf entries
+pages_of_kids is_leaf s [] = refl
+pages_of_kids false s (e ∷ entries) = ap (λ (l : List ℕ). e.child ∷ l) (pages_of_kids false s entries)
+pages_of_kids true s (e ∷ entries) = somes_bucket e.is_bucket (e.child == 0) s.number e (places true s entries) ∙ ap (λ (l : List ℕ). root_page e ++ l) (pages_of_kids true s entries)
+
+pub sum_append : (f : ℕ → ℕ) (a b : List ℕ) → sum_by f (a ++ b) ≡ sum_by f a + sum_by f b
+sum_append f [] b = omega arith
+sum_append f (x ∷ a) b = let h = sum_append f a b in let p = sum_by-cons f x (a ++ b) in let q = sum_by-cons f x a in omega (arith, h, p, q)
+
+sum_same : (f g : ℕ → ℕ) (xs : List ℕ) → ((m : ℕ) → Has m xs → f m ≡ g m) → sum_by f xs ≡ sum_by g xs
+sum_same f g [] same = refl
+sum_same f g (x ∷ xs) same =
+    let h = sum_same f g xs (λ m i. same m (inr i)) in let here = same x (inl refl) in
+    let p = sum_by-cons f x xs in let q = sum_by-cons g x xs in omega (arith, h, here, p, q)
+
+pub has_left : (m : ℕ) (a b : List ℕ) → Has m a → Has m (a ++ b)
+has_left m [] b h = absurd h
+has_left m (x ∷ a) b (inl e) = inl e
+has_left m (x ∷ a) b (inr h) = inr (has_left m a b h)
+
+pub has_right : (m : ℕ) (a b : List ℕ) → Has m b → Has m (a ++ b)
+has_right m [] b h = h
+has_right m (x ∷ a) b h = inr (has_right m a b h)
+
+pub has_either : (m : ℕ) (a b : List ℕ) (P : ℕ → Type 0) → ((k : ℕ) → Has k a → P k) → ((k : ℕ) → Has k b → P k) → Has m (a ++ b) → P m
+has_either m [] b P f g h = g m h
+has_either m (x ∷ a) b P f g (inl e) = f m (inl e)
+has_either m (x ∷ a) b P f g (inr h) = has_either m a b P (λ k i. f k (inr i)) g h
+
+module _ (nodes : Nodes) where
+  pub enough_more : (k n : ℕ) → Enough nodes k n → Enough nodes (suc k) n
+  enough_more zero n h = absurd h
+  enough_more (suc k) n (node, page, kids) = (node, page, λ m i. enough_more k m (kids m i))
+
+  weight_more : (own : ℕ → ℕ) (k n : ℕ) → Enough nodes k n → weight nodes own (suc k) n ≡ weight nodes own k n
+  weight_more own zero n h = absurd h
+  weight_more own (suc k) n (node, page, kids) =
+      let same : sum_by (weight nodes own (suc k)) (kids_at (nodes n)) ≡ sum_by (weight nodes own k) (kids_at (nodes n))
+          = sum_same (weight nodes own (suc k)) (weight nodes own k) (kids_at (nodes n)) (λ m i. weight_more own k m (kids m (subst (λ (r : Result Node ℕ). Has m (kids_at r)) page i))) in
+      ap (λ (w : ℕ). own n + w) same
+
+  -- the pages that a page leads to
+  pub enough_kids : (k n : ℕ) (node : Node) → nodes n ≡ Ok node → Enough nodes k n → (m : ℕ) → Has m (kid_pages node.is_leaf node.entries) → Enough nodes k m
+  enough_kids zero n node page h m i = absurd h
+  enough_kids (suc k) n node page (other, is, kids) m i =
+      enough_more k m (kids m (subst (λ (x : Node). Has m (kid_pages x.is_leaf x.entries)) (one_node node other (sym page ∙ is)) i))
+    where
+      one_node : (a b : Node) → result_of a ≡ result_of b → a ≡ b
+      one_node a b e = cc
+
+  pub weight_kids : (own : ℕ → ℕ) (k n : ℕ) (node : Node) → nodes n ≡ Ok node → Enough nodes k n → weight nodes own k n ≡ own n + sum_by (weight nodes own k) (kid_pages node.is_leaf node.entries)
+  weight_kids own zero n node page h = absurd h
+  weight_kids own (suc k) n node page (other, is, kids) =
+      let at : kids_at (nodes n) ≡ kid_pages node.is_leaf node.entries = ap kids_at page in
+      let low : (m : ℕ) → Has m (kids_at (nodes n)) → Enough nodes k m = λ m i. kids m (subst (λ (r : Result Node ℕ). Has m (kids_at r)) is i) in
+      ap (λ (w : ℕ). own n + w) (sum_same (weight nodes own k) (weight nodes own (suc k)) (kids_at (nodes n)) (λ m i. sym (weight_more own k m (low m i))) ∙ ap (sum_by (weight nodes own (suc k))) at)
+
+  -- where a kid's page comes from
+  kid_place : (m : ℕ) (os : List (Option Spot)) → Has m (pages_of (somes os)) → (j : ℕ) × (t : PageSpot) × (flat (slice_get os j) ≡ Some (At_page t)) × (t.number ≡ m)
+  kid_place m [] h = absurd h
+  kid_place m (None ∷ os) h = let (j, t, at, same) = kid_place m os h in (suc j, t, at, same)
+  kid_place m (Some (At_inline host keys) ∷ os) h = let (j, t, at, same) = kid_place m os h in (suc j, t, at, same)
+  kid_place m (Some (At_page t) ∷ os) (inl e) = (0, t, refl, sym e)
+  kid_place m (Some (At_page t) ∷ os) (inr h) = let (j, u, at, same) = kid_place m os h in (suc j, u, at, same)
+
+  kid_step : (s : PageSpot) (node : Node) → nodes s.number ≡ Ok node → (m : ℕ) → Has m (kid_pages node.is_leaf node.entries)
+      → (j : ℕ) × (t : PageSpot) × (step nodes (Some (At_page s)) j ≡ Some (At_page t)) × (t.number ≡ m)
+  kid_step s node page m h =
+      let (j, t, at, same) = kid_place m (places node.is_leaf s node.entries) (subst (λ (l : List ℕ). Has m l) (sym (pages_of_kids node.is_leaf s node.entries)) h) in
+      (j, t, sym (kids_step nodes s node page j) ∙ at, same)
+
+  no_cons : (i : ℕ) (v : List ℕ) → [] ≡ i ∷ v → ⊥
+  no_cons i v e = cc
+
+  fits_down : (left : List ℕ) (s t : PageSpot) (i : ℕ) → (fits : Fits nodes left (follow nodes (Some (At_page s)))) (has : Has s.number left)
+      → step nodes (Some (At_page s)) i ≡ Some (At_page t) → Fits nodes (without s.number left has) (follow nodes (Some (At_page t)))
+  fits_down left s t i fits has leads =
+      let join : (v : List ℕ) → follow nodes (Some (At_page s)) (i ∷ v) ≡ follow nodes (Some (At_page t)) v = λ v. ap (λ (o : Option Spot). follow nodes o v) leads in
+      record {
+        good = λ v u e. fits.good (i ∷ v) u (join v ∙ e);
+        within = λ v u e. still s.number u.number left has (λ same. no_cons i v (fits.apart [] (i ∷ v) s u refl (join v ∙ e) (sym same))) (fits.within (i ∷ v) u (join v ∙ e));
+        apart = λ v w a b e h same. cancel (i ∷ []) v w (fits.apart (i ∷ v) (i ∷ w) a b (join v ∙ e) (join w ∙ h) same);
+      }
+
+  pub enough : (k : ℕ) (left : List ℕ) (s : PageSpot) → length left ≤ k → Fits nodes left (follow nodes (Some (At_page s))) → Enough nodes k s.number
+  enough zero left s le fits = let has = fits.within [] s refl in let less = shorter s.number left has in absurd (let h : ⊥ = omega (arith, le, less) in h)
+  enough (suc k) left s le fits =
+      let has = fits.within [] s refl in
+      let less = shorter s.number left has in
+      let good = fits.good [] s refl in
+      (good.0, good.1, λ m h.
+        let (j, t, leads, same) = kid_step s good.0 good.1 m h in
+        subst (Enough nodes k) same (enough k (without s.number left has) t (omega (arith, le, less)) (fits_down left s t j fits has leads)))
+
+  -- what a spot adds: a page its own, an inline bucket nothing
+  abbrev pub spot_weight : (ℕ → ℕ) → Option Spot → ℕ
+  spot_weight own None = 0
+  spot_weight own (Some (At_page s)) = own s.number
+  spot_weight own (Some (At_inline host keys)) = 0
+
+  sum_map : (f : List ℕ → List ℕ) (g h : List ℕ → ℕ) (ways : Ways) → ((way : List ℕ) → IsIn way ways → g (f way) ≡ h way) → sum_by g (map f ways) ≡ sum_by h ways
+  sum_map f g h [] same = refl
+  sum_map f g h (w ∷ ways) same =
+      let rest = sum_map f g h ways (λ x i. same x (inr i)) in let here = same w (inl refl) in
+      let p = sum_by-cons g (f w) (map f ways) in let q = sum_by-cons h w ways in omega (arith, rest, here, p, q)
+
+  module _ (own : ℕ → ℕ) (k : ℕ) where
+    abbrev AllEnough : List Spot → Type 0
+    AllEnough spots = (m : ℕ) → Has m (pages_of spots) → Enough nodes k m
+
+    abbrev HasSum : List Spot → Type 0
+    HasSum spots = AllEnough spots → (tour : Ways) × IsTour (forest nodes spots) tour × (sum_by (λ way. spot_weight own (forest nodes spots way)) tour ≡ sum_by (weight nodes own k) (pages_of spots))
+
+    -- a visit's way and then the others have its own sum and theirs
+    visit_sum : (old new : Reach) (s : Spot) (f : List ℕ → List ℕ) → Visits nodes old new Anything Anything (0 ∷ []) s f → (tour : Ways) → IsTour new tour
+        → sum_by (λ way. spot_weight own (old way)) ((0 ∷ []) ∷ map f tour) ≡ spot_weight own (Some s) + sum_by (λ way. spot_weight own (new way)) tour
+    visit_sum old new s f v tour is =
+        let rest = sum_map f (λ way. spot_weight own (old way)) (λ way. spot_weight own (new way)) tour (λ way i.
+            let (t, e) = is.only way i in ap (spot_weight own) (v.same way t e ∙ sym e)) in
+        let here = ap (spot_weight own) v.leads in
+        let p = sum_by-cons (λ way. spot_weight own (old way)) (0 ∷ []) (map f tour) in
+        omega (arith, rest, here, p)
+
+    page_sum : (s : PageSpot) (node : Node) (rest : List Spot) → nodes s.number ≡ Ok node → HasSum (somes (places node.is_leaf s node.entries) ++ rest) → HasSum (At_page s ∷ rest)
+    page_sum s node rest page below all =
+        let kid_spots : List Spot = somes (places node.is_leaf s node.entries) in
+        let here : Enough nodes k s.number = all s.number (inl refl) in
+        let pages : pages_of (kid_spots ++ rest) ≡ kid_pages node.is_leaf node.entries ++ pages_of rest
+            = pages_append kid_spots rest ∙ ap (λ (l : List ℕ). l ++ pages_of rest) (pages_of_kids node.is_leaf s node.entries) in
+        let (tour, is, sum) = below (λ m h. has_either m (kid_pages node.is_leaf node.entries) (pages_of rest) (Enough nodes k) (enough_kids k s.number node page here) (λ x i. all x (inr i))
+            (subst (λ (l : List ℕ). Has m l) pages h)) in
+        let v = visits nodes Anything Anything (At_page s) rest (places node.is_leaf s node.entries) (kids_step nodes s node page) (λ n h. inl tt) (λ n h. tt) (λ n h. tt) in
+        let first = visit_sum _ _ (At_page s) _ v tour is in
+        let both = ap (sum_by (weight nodes own k)) pages ∙ sum_append (weight nodes own k) (kid_pages node.is_leaf node.entries) (pages_of rest) in
+        let own_kids = weight_kids own k s.number node page here in
+        let whole = sum_by-cons (weight nodes own k) s.number (pages_of rest) in
+        (_, tour_step nodes _ _ Anything Anything _ _ _ v tour is, omega (arith, first, sum, both, own_kids, whole))
+
+    inline_sum : (host : ℕ) (keys : List Key) (rest : List Spot) → HasSum rest → HasSum (At_inline host keys ∷ rest)
+    inline_sum host keys rest below all =
+        let (tour, is, sum) = below all in
+        let v = inline_visits nodes Anything host keys rest in
+        let first = visit_sum _ _ (At_inline host keys) _ v tour is in
+        (_, tour_step nodes _ _ Anything Anything _ _ _ v tour is, omega (arith, first, sum))
+
+    sums : Holds nodes HasSum
+    sums = record { none = λ all. ([], no_tour nodes, refl); inline = inline_sum; page = page_sum }
+
+    -- from a page alone
+    pub sum_from : (left : List ℕ) (root : ℕ) → length left ≤ k → Fits nodes left (reached nodes root)
+        → Enough nodes k root × ((tour : Ways) × IsTour (reached nodes root) tour × (sum_by (λ way. spot_weight own (reached nodes root way)) tour ≡ weight nodes own k root))
+    sum_from left root le fits =
+        let s = At_page (start_of root) in
+        let good : Enough nodes k root = enough k left (start_of root) le fits in
+        let (tour, is, sum) = found nodes HasSum sums (suc (length left)) left (s ∷ []) (omega arith) (fits_root nodes left s fits) (λ m h. elim h [ inl e ↦ subst (Enough nodes k) (sym e) good | inr i ↦ absurd i ]) in
+        let moved = sum_map (tail nodes) (λ way. spot_weight own (reached nodes root way)) (λ way. spot_weight own (forest nodes (s ∷ []) way)) tour (λ way i.
+            let (t, e) = is.only way i in ap (spot_weight own) (tail_leads nodes s way t e ∙ sym e)) in
+        let one = sum_by-cons (weight nodes own k) root [] in
+        (good, (map (tail nodes) tour, root_tour nodes s tour is, omega (arith, moved, sum, one)))
+
+length-numbers : (k : ℕ) → length (numbers k) ≡ k
+length-numbers zero = refl
+length-numbers (suc k) = let h = length-numbers k in omega (arith, h)
+
+-- a bucket of sound trees, wherever a way leads to its root page: the mark is enough steps, and each sum over its tour is that over its pages
+pub bucket_sum : (file : List ℕ) (meta : Meta) → HasSoundTrees file meta → (way : List ℕ) (root : ℕ) → reached (node_at file meta) meta.root way ≡ Some (At_page (start_of root)) → (own : ℕ → ℕ)
+    → Enough (node_at file meta) meta.high_water root × ((tour : Ways) × IsTour (reached (node_at file meta) root) tour
+    × (sum_by (λ way. spot_weight (node_at file meta) own (reached (node_at file meta) root way)) tour ≡ weight (node_at file meta) own meta.high_water root))
+bucket_sum file meta trees way root leads own =
+    let nodes = node_at file meta in
+    let fits = sound_fits file meta trees in
+    let join : (v : List ℕ) → reached nodes meta.root (way ++ v) ≡ reached nodes root v
+    = λ v. follow_append nodes (Some (At_page (start_of meta.root))) way v ∙ ap (λ (o : Option Spot). follow nodes o v) leads in
+    sum_from nodes own meta.high_water (numbers meta.high_water) root (let h = length-numbers meta.high_water in omega (arith, h)) (record {
+      good = λ v s e. fits.good (way ++ v) s (join v ∙ e);
+      within = λ v s e. fits.within (way ++ v) s (join v ∙ e);
+      apart = λ v w s t e h same. cancel way v w (fits.apart (way ++ v) (way ++ w) s t (join v ∙ e) (join w ∙ h) same);
+    })
+
+-- a page below which there are enough steps is a good branch or leaf
+pub enough_node : (nodes : Nodes) (k n : ℕ) → Enough nodes k n → (node : Node) × (nodes n ≡ Ok node)
+enough_node nodes zero n h = absurd h
+enough_node nodes (suc k) n (node, page, kids) = (node, page)
+
+pub enough_shown : (file : List ℕ) (meta : Meta) (k n : ℕ) → Enough (node_at file meta) k n → IsSome (page_at file meta n)
+enough_shown file meta k n h =
+    let (node, page) = enough_node (node_at file meta) k n h in
+    let (view, at, _) = node_page file meta n node page in rw at refl

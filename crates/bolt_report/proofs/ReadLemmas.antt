@@ -1,0 +1,53 @@
+-- What reading a page opens and finds.
+use Rattle.std.proofs.Common.{◌≡◌, ◌∙◌, ◌+◌, ℕ, true, false, List, [], ◌∷◌, ◌++◌, Some, flat_map, map, take, slice_get, refl, sym, ap, add-one, append_assoc, arith, max}
+use Rattle.std.proofs.lemmas.List.{map-append}
+use Rattle.bolt_format.specs.Elements.{BranchElement, LeafElement}
+use Rattle.bolt_format.specs.Pages.{PageView, page_at}
+use Rattle.bolt_format.specs.declared.kind.Kind.TheVariants as kind
+use Rattle.bolt_format.specs.declared.meta.Meta.{Meta}
+use Rattle.bolt_check.specs.Nodes.{branch_entry, leaf_entry, node_at}
+use Rattle.bolt_check.specs.Subtrees.{Enough, kid_pages}
+use Rattle.bolt_check.proofs.TourSums.{enough_node}
+use Rattle.bolt_check.proofs.TreePages.{node_is}
+use Rattle.bolt_report.specs.Deepest.{greatest, inline_depth}
+use Rattle.bolt_report.specs.Readings.{open_page, root_of}
+use Rattle.bolt_report.specs.declared.tour.OpenPage.{OpenPage}
+use Rattle.bolt_report.proofs.DepthSums.{greatest_append}
+use Rattle.bolt_report.proofs.ListWrites.{flat_map-take_more, take_more}
+
+-- one child more was opened
+pub children_next : (cur new old : List OpenPage) (p : OpenPage) (opened : BranchElement → OpenPage) (xs : List BranchElement) (i : ℕ) (e : BranchElement)
+    → new ≡ cur ++ p ∷ [] → p ≡ opened e → slice_get xs i ≡ Some e → cur ≡ old ++ map opened (take i xs) → new ≡ old ++ map opened (take (i + 1) xs)
+children_next cur new old p opened xs i e pushed same found before =
+    let more : map opened (take (i + 1) xs) ≡ map opened (take i xs) ++ opened e ∷ [] = ap (λ k. map opened (take k xs)) (add-one i) ∙ ap (map opened) (take_more xs i e found) ∙ map-append opened (take i xs) (e ∷ []) in
+    pushed ∙ ap (λ l. l ++ p ∷ []) before ∙ append_assoc old (map opened (take i xs)) (p ∷ []) ∙ ap (λ q. old ++ (map opened (take i xs) ++ q ∷ [])) same ∙ ap (λ l. old ++ l) (sym more)
+
+-- the buckets of one element more were found
+pub roots_next : (cur new old : List ℕ) (xs : List LeafElement) (i : ℕ) (e : LeafElement)
+    → new ≡ cur ++ root_of e → slice_get xs i ≡ Some e → cur ≡ old ++ flat_map root_of (take i xs) → new ≡ old ++ flat_map root_of (take (i + 1) xs)
+roots_next cur new old xs i e pushed found before =
+    let more = ap (λ k. flat_map root_of (take k xs)) (add-one i) ∙ flat_map-take_more root_of xs i e found in
+    pushed ∙ ap (λ l. l ++ root_of e) before ∙ append_assoc old (flat_map root_of (take i xs)) (root_of e) ∙ ap (λ l. old ++ l) (sym more)
+
+pub branch_kids : (depth : ℕ) (xs : List BranchElement) → map (open_page depth) (kid_pages false (map branch_entry xs)) ≡ map (λ (x : BranchElement). open_page depth x.child) xs
+branch_kids depth [] = refl
+branch_kids depth (x ∷ xs) = ap (λ (l : List OpenPage). open_page depth x.child ∷ l) (branch_kids depth xs)
+
+-- the depth of the inline buckets of one element more
+pub inline_next : (old new here : ℕ) (xs : List LeafElement) (i : ℕ) (e : LeafElement) → here ≡ inline_depth (leaf_entry e) → new ≡ max old here → slice_get xs i ≡ Some e
+    → old ≡ greatest (λ (x : LeafElement). inline_depth (leaf_entry x)) (take i xs) → new ≡ greatest (λ (x : LeafElement). inline_depth (leaf_entry x)) (take (i + 1) xs)
+inline_next old new here xs i e is most found before =
+    let depth : LeafElement → ℕ = λ x. inline_depth (leaf_entry x) in
+    let more = ap (λ k. greatest depth (take k xs)) (add-one i) ∙ ap (greatest depth) (take_more xs i e found) ∙ greatest_append depth (take i xs) (e ∷ []) in
+    omega (arith, is, most, before, more)
+
+pub leaf_kids : (xs : List LeafElement) → kid_pages true (map leaf_entry xs) ≡ flat_map root_of xs
+leaf_kids [] = refl
+leaf_kids (x ∷ xs) = ap (λ (l : List ℕ). root_of x ++ l) (leaf_kids xs)
+
+module _ (file : List ℕ) (meta : Meta) (n : ℕ) (view : PageView) (at : page_at file meta n ≡ Some view) where
+  pub no_meta : (k : ℕ) → Enough (node_at file meta) k n → view.kind ≡ kind.Meta → ⊥
+  no_meta k h is = let (node, page) = enough_node (node_at file meta) k n h in let e = sym page ∙ node_is file meta n view kind.Meta at is in cc
+
+  pub no_freelist : (k : ℕ) → Enough (node_at file meta) k n → view.kind ≡ kind.Freelist → ⊥
+  no_freelist k h is = let (node, page) = enough_node (node_at file meta) k n h in let e = sym page ∙ node_is file meta n view kind.Freelist at is in cc

@@ -1,0 +1,166 @@
+-- The figures of a bucket exist, and what the reading of its pages gives are they.
+use Rattle.std.proofs.Common.{◌≡◌, ◌≢◌, ◌∙◌, ℕ, suc, ◌+◌, ◌≤◌, ◌⊎◌, inl, inr, Bool, true, false, List, [], ◌==◌, ◌∷◌, ◌++◌, Option, Some, None, Result, Ok, Err, if◌then◌else◌, sum_by, refl, sym, ap, subst, arith}
+use Rattle.bolt_format.specs.declared.meta.Meta.{Meta}
+use Rattle.bolt_check.specs.Nodes.{Entry, Node, Nodes, node_at}
+use Rattle.bolt_check.specs.OnWays.{IsOnWay}
+use Rattle.bolt_check.specs.Sound.{HasSoundTrees}
+use Rattle.bolt_check.specs.Subtrees.{Enough, weight}
+use Rattle.bolt_check.specs.Ways.{At_inline, At_page, PageSpot, SpanHas, Spot, follow, reached, start_of, step, step_at, step_entry}
+use Rattle.std.proofs.lemmas.List.Sums.{sum_by-cons}
+use Rattle.bolt_check.proofs.TourLemmas.{one_tour}
+use Rattle.bolt_check.proofs.TourSums.{bucket_sum, spot_weight}
+use Rattle.bolt_check.proofs.WayFacts.{follow_append, in_own_span}
+use Rattle.bolt_tree.specs.Entries.{Inline_page, IsStart, Root_page, Start}
+use Rattle.bolt_report.specs.Deepest.{depth_of}
+use Rattle.bolt_report.specs.Depths.{IsDepth}
+use Rattle.bolt_report.specs.Figures.{Figure, bucket_figure, buckets, inline_buckets, inline_used, keys, branch_pages, branch_overflow, branch_allocated, branch_used, leaf_pages, leaf_overflow, leaf_allocated, leaf_used, capped, figure, inline_figure}
+use Rattle.bolt_report.specs.Readings.{AreGood, own_figure, total_of}
+use Rattle.bolt_report.specs.StatsOf.{IsPagedStats, IsStatsOf, spot_figure, tour_figure}
+use Rattle.bolt_report.specs.declared.figures.Stats.{Stats}
+use Rattle.bolt_report.proofs.DepthExists.{AllFilled, depth_is}
+
+-- A page that a way leads to is its bucket's root page, or at depth 2 or more.
+abbrev IsRootOrBelow : PageSpot → Type 0
+IsRootOrBelow s = (s ≡ start_of s.number) ⊎ (2 ≤ s.depth)
+
+abbrev Stands : Option Spot → Type 0
+Stands None = Unit {0}
+Stands (Some (At_page s)) = IsRootOrBelow s
+Stands (Some (At_inline host inner)) = Unit {0}
+
+bucket_stands : (host : ℕ) (e : Entry) (b small : Bool) → Stands (if b then Some (if small then At_inline host e.inner else At_page (start_of e.child)) else None)
+bucket_stands host e false small = tt
+bucket_stands host e true true = tt
+bucket_stands host e true false = inl refl
+
+below_root : (s : PageSpot) → IsRootOrBelow s → 2 ≤ suc s.depth
+below_root s (inl e) = let one = ap (λ (t : PageSpot). t.depth) e in omega (arith, one)
+below_root s (inr h) = omega (arith, h)
+
+entry_stands : (is_leaf : Bool) (s : PageSpot) (o next : Option Entry) → IsRootOrBelow s → Stands (step_entry is_leaf s o next)
+entry_stands is_leaf s None next h = tt
+entry_stands false s (Some e) next h = inr (below_root s h)
+entry_stands true s (Some e) next h = bucket_stands s.number e e.is_bucket (e.child == 0)
+
+page_stands : (r : Result Node ℕ) (s : PageSpot) (i : ℕ) → IsRootOrBelow s → Stands (step_at r s i)
+page_stands (Err fault) s i h = tt
+page_stands (Ok node) s i h = entry_stands node.is_leaf s _ _ h
+
+step_stands : (nodes : Nodes) (here : Option Spot) (i : ℕ) → Stands here → Stands (step nodes here i)
+step_stands nodes None i h = tt
+step_stands nodes (Some (At_page s)) i h = page_stands (nodes s.number) s i h
+step_stands nodes (Some (At_inline host inner)) i h = tt
+
+follow_stands : (nodes : Nodes) (here : Option Spot) (way : List ℕ) → Stands here → Stands (follow nodes here way)
+follow_stands nodes here [] h = h
+follow_stands nodes here (i ∷ way) h = follow_stands nodes (step nodes here i) way (step_stands nodes here i h)
+
+module _ (file : List ℕ) (meta : Meta) where
+  abbrev nodes : Nodes
+  nodes = node_at file meta
+
+  -- so a page at depth 1 is its bucket's root page
+  root_on_way : (root : ℕ) → IsOnWay file meta root 1 → (way : List ℕ) × (reached nodes meta.root way ≡ Some (At_page (start_of root)))
+  root_on_way root on = (on.way, on.led ∙ ap (λ (s : PageSpot). Some (At_page s)) (is_start (subst Stands on.led (follow_stands nodes (Some (At_page (start_of meta.root))) on.way (inl refl)))))
+    where
+      is_start : IsRootOrBelow on.spot → on.spot ≡ start_of root
+      is_start (inl e) = e ∙ ap start_of on.is
+      is_start (inr deep) = let one = on.deep in absurd (let no : ⊥ = omega (arith, deep, one) in no)
+
+  module _ (trees : HasSoundTrees file meta) (root : ℕ) (on : IsOnWay file meta root 1) where
+    good_pages : Enough nodes meta.high_water root
+    good_pages = let (way, leads) = root_on_way root on in (bucket_sum file meta trees way root leads (λ n. 0)).0
+
+    pub are_good : AreGood file meta (root ∷ [])
+    are_good m (inl e) = subst (Enough nodes meta.high_water) (sym e) good_pages
+    are_good m (inr h) = absurd h
+
+    all_filled : AllFilled nodes meta.high_water (start_of root)
+    all_filled v s node leads page leaf =
+        let (way, at) = root_on_way root on in
+        trees.filled (way ++ v) s node (follow_append nodes (Some (At_page (start_of meta.root))) way v ∙ ap (λ (o : Option Spot). follow nodes o v) at ∙ leads) page leaf
+
+    not_zero : root ≢ 0
+    not_zero e =
+        let (way, at) = root_on_way root on in
+        let good = (trees.good way (start_of root) at).1 in
+        let two = trees.above_metas way root (subst (λ (o : Option Spot). SpanHas nodes o root) (sym at) (in_own_span nodes (start_of root) good.0 good.1)) in
+        omega (arith, two, e)
+
+    root_depth : IsDepth nodes root (depth_of file meta root)
+    root_depth = depth_is nodes meta.high_water root good_pages all_filled not_zero
+
+    same_weight : (f : Figure) (o : Option Spot) → spot_figure file meta f o ≡ spot_weight nodes (own_figure file meta f) o
+    same_weight f None = refl
+    same_weight f (Some (At_page s)) = refl
+    same_weight f (Some (At_inline host inner)) = refl
+
+    -- the sums over the bucket's tour, and its depth
+    pub paged_stats_are : (stats : Stats) → ((f : Figure) → figure f stats ≡ capped (bucket_figure f + total_of file meta (own_figure file meta f) (root ∷ []))) → stats.depth ≡ capped (depth_of file meta root)
+        → IsPagedStats file meta root stats
+    paged_stats_are stats sums deep =
+        let (way, leads) = root_on_way root on in
+        let (_, (tour, whole, _)) = bucket_sum file meta trees way root leads (λ n. 0) in
+        record {
+          sums = record {
+            tour = tour;
+            whole = whole;
+            sums = λ f.
+                let own = own_figure file meta f in
+                let (_, (other, is, sum)) = bucket_sum file meta trees way root leads own in
+                let same : tour_figure file meta f (reached nodes root) tour ≡ sum_by (λ way. spot_weight nodes own (reached nodes root way)) tour
+                = λ i. sum_by (λ way. same_weight f (reached nodes root way) i) tour in
+                let one = ap (sum_by (λ way. spot_weight nodes own (reached nodes root way))) (one_tour (reached nodes root) tour other whole is) in
+                let cons = sum_by-cons (weight nodes own meta.high_water) root [] in
+                let read = sums f in
+                omega (arith, same, one, sum, cons, read);
+          };
+          depth = depth_of file meta root;
+          deep = root_depth;
+          shown = deep;
+        }
+
+-- any figures are those of a record
+stats_from : (Figure → ℕ) → ℕ → Stats
+stats_from sums deep = record {
+  buckets = sums buckets;
+  inline_buckets = sums inline_buckets;
+  inline_used = sums inline_used;
+  keys = sums keys;
+  depth = deep;
+  branch_pages = sums branch_pages;
+  branch_overflow = sums branch_overflow;
+  branch_allocated = sums branch_allocated;
+  branch_used = sums branch_used;
+  leaf_pages = sums leaf_pages;
+  leaf_overflow = sums leaf_overflow;
+  leaf_allocated = sums leaf_allocated;
+  leaf_used = sums leaf_used;
+}
+
+figure_from : (sums : Figure → ℕ) (deep : ℕ) (f : Figure) → figure f (stats_from sums deep) ≡ sums f
+unfolding stats_from
+figure_from sums deep buckets = refl
+figure_from sums deep inline_buckets = refl
+figure_from sums deep inline_used = refl
+figure_from sums deep keys = refl
+figure_from sums deep branch_pages = refl
+figure_from sums deep branch_overflow = refl
+figure_from sums deep branch_allocated = refl
+figure_from sums deep branch_used = refl
+figure_from sums deep leaf_pages = refl
+figure_from sums deep leaf_overflow = refl
+figure_from sums deep leaf_allocated = refl
+figure_from sums deep leaf_used = refl
+
+depth_from_is : (sums : Figure → ℕ) (deep : ℕ) → (stats_from sums deep).depth ≡ deep
+unfolding stats_from
+depth_from_is sums deep = refl
+
+pub some_stats : (file : List ℕ) (meta : Meta) (start : Start) → HasSoundTrees file meta → IsStart file meta start → (stats : Stats) × IsStatsOf file meta start stats
+some_stats file meta (Root_page root) trees on =
+    let sums : Figure → ℕ = λ f. capped (bucket_figure f + total_of file meta (own_figure file meta f) (root ∷ [])) in
+    (stats_from sums (capped (depth_of file meta root)), paged_stats_are file meta trees root on _ (figure_from sums _) (depth_from_is sums _))
+some_stats file meta (Inline_page elements) trees on =
+    let sums : Figure → ℕ = λ f. capped (inline_figure f elements) in
+    (stats_from sums 1, record { sums = figure_from sums 1; depth = depth_from_is sums 1 })

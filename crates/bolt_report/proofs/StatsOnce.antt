@@ -1,0 +1,62 @@
+-- The figures of a bucket are one.
+use Rattle.std.proofs.Common.{◌≡◌, ◌∙◌, ℕ, ◌+◌, ◌≤◌, inl, inr, List, sym, ap, refl, arith}
+use Rattle.bolt_format.specs.declared.meta.Meta.{Meta}
+use Rattle.bolt_check.specs.Nodes.{Entry, Nodes, node_at}
+use Rattle.bolt_check.specs.Ways.{reached}
+use Rattle.bolt_check.proofs.TourLemmas.{one_tour}
+use Rattle.bolt_tree.specs.Entries.{Inline_page, Root_page, Start}
+use Rattle.bolt_report.specs.Depths.{IsBucketIn, IsDeepest, IsDepth, IsHeight, inline, paged}
+use Rattle.bolt_report.specs.Figures.{Figure, bucket_figure, buckets, inline_buckets, inline_used, keys, branch_pages, branch_overflow, branch_allocated, branch_used, leaf_pages, leaf_overflow, leaf_allocated, leaf_used, capped, figure}
+use Rattle.bolt_report.specs.StatsOf.{AreSums, IsStatsOf, tour_figure}
+use Rattle.bolt_report.specs.declared.figures.Stats.{Stats}
+
+one_height : (nodes : Nodes) (root a b : ℕ) → IsHeight nodes root a → IsHeight nodes root b → a ≡ b
+one_height nodes root a b h k =
+    let p = h.least k.address k.longest in let q = k.least h.address h.longest in
+    let e = h.height in let f = k.height in omega (arith, p, q, e, f)
+
+not_deeper : (nodes : Nodes) (root a b : ℕ) (f g : Entry → ℕ) → ((e : Entry) → IsBucketIn nodes root e → f e ≡ g e) → IsDeepest nodes root f a → IsDeepest nodes root g b → a ≤ b
+not_deeper nodes root a b f g same h k =
+    elim h.met [
+      | inl zero ↦ omega (arith, zero)
+      | inr (e, (is, at)) ↦ let s = same e is in let up = k.above e is in omega (arith, s, up, at)
+    ]
+
+pub one_depth : (nodes : Nodes) {root : ℕ} {a b : ℕ} → IsDepth nodes root a → IsDepth nodes root b → a ≡ b
+one_depth nodes inline inline = refl
+one_depth nodes inline (paged h d depth ne height below deepest) = absurd (ne refl)
+one_depth nodes (paged h d depth ne height below deepest) inline = absurd (ne refl)
+one_depth nodes (paged {root} h d depth ne height below deepest) (paged k c other ne2 height2 below2 deepest2) =
+    let same : (e : Entry) → IsBucketIn nodes root e → depth e ≡ other e = λ e is. one_depth nodes (below e is) (below2 e is) in
+    let heights = one_height nodes root h k height height2 in
+    let up = not_deeper nodes root d c depth other same deepest deepest2 in
+    let down = not_deeper nodes root c d other depth (λ e is. sym (same e is)) deepest2 deepest in
+    omega (arith, heights, up, down)
+
+pub one_sum : (file : List ℕ) (meta : Meta) (root : ℕ) (a b : Stats) → AreSums file meta root a → AreSums file meta root b → (f : Figure) → figure f a ≡ figure f b
+one_sum file meta root a b h k f =
+    let reach = reached (node_at file meta) root in
+    h.sums f ∙ ap (λ (tour : List (List ℕ)). capped (bucket_figure f + tour_figure file meta f reach tour)) (one_tour reach h.tour k.tour h.whole k.whole) ∙ sym (k.sums f)
+
+same_stats : (a b : Stats) → ((f : Figure) → figure f a ≡ figure f b) → a.depth ≡ b.depth → a ≡ b
+same_stats a b same deep = λ i. record {
+  buckets = same buckets i;
+  inline_buckets = same inline_buckets i;
+  inline_used = same inline_used i;
+  keys = same keys i;
+  branch_pages = same branch_pages i;
+  branch_overflow = same branch_overflow i;
+  branch_allocated = same branch_allocated i;
+  branch_used = same branch_used i;
+  leaf_pages = same leaf_pages i;
+  leaf_overflow = same leaf_overflow i;
+  leaf_allocated = same leaf_allocated i;
+  leaf_used = same leaf_used i;
+  depth = deep i;
+}
+
+pub one_stats : (file : List ℕ) (meta : Meta) (start : Start) (a b : Stats) → IsStatsOf file meta start a → IsStatsOf file meta start b → a ≡ b
+one_stats file meta (Root_page root) a b h k =
+    same_stats a b (one_sum file meta root a b h.sums k.sums)
+    (h.shown ∙ ap capped (one_depth (node_at file meta) h.deep k.deep) ∙ sym k.shown)
+one_stats file meta (Inline_page elements) a b h k = same_stats a b (λ f. h.sums f ∙ sym (k.sums f)) (h.depth ∙ sym k.depth)

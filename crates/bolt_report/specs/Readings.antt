@@ -1,0 +1,58 @@
+-- What is still to be read of a bucket, and sums over it.
+use Rattle.std.specs.Prelude.{◌==◌, ℕ, Bool, true, false, List, [], ◌∷◌, map, sum_by, if◌then◌else◌}
+use Rattle.bolt_format.specs.Elements.{LeafElement, head_root}
+use Rattle.bolt_format.specs.Pages.{page_at}
+use Rattle.bolt_format.specs.declared.meta.Meta.{Meta}
+use Rattle.bolt_check.specs.Nodes.{Entry, Node, node_at}
+use Rattle.bolt_check.specs.Subtrees.{Enough, Has, kid_pages, weight}
+use Rattle.bolt_report.specs.Figures.{Figure, page_figure}
+use Rattle.bolt_report.specs.declared.tour.OpenBucket.{OpenBucket}
+use Rattle.bolt_report.specs.declared.tour.OpenPage.{OpenPage}
+
+-- the pages and the buckets of the code, by their numbers
+abbrev pub numbers_of : List OpenPage → List ℕ
+numbers_of pages = map (λ (p : OpenPage). p.number) pages
+
+abbrev pub roots_of : List OpenBucket → List ℕ
+roots_of buckets = map (λ (b : OpenBucket). b.root) buckets
+
+abbrev pub open_page : ℕ → ℕ → OpenPage
+open_page depth n = record { number = n; depth = depth }
+
+abbrev pub open_bucket : ℕ → ℕ → OpenBucket
+open_bucket above n = record { root = n; above = above }
+
+-- these pages and all pages below them are good
+abbrev pub AreGood : List ℕ → Meta → List ℕ → Type 0
+AreGood file meta ns = (m : ℕ) → Has m ns → Enough (node_at file meta) meta.high_water m
+
+-- a sum over these pages and all pages below them
+abbrev pub total_of : List ℕ → Meta → (ℕ → ℕ) → List ℕ → ℕ
+total_of file meta own ns = sum_by (weight (node_at file meta) own meta.high_water) ns
+
+-- a figure of one page
+abbrev pub own_figure : List ℕ → Meta → Figure → ℕ → ℕ
+own_figure file meta f n = page_figure f meta.page_size (page_at file meta n)
+
+-- counts pages
+abbrev pub one : ℕ → ℕ
+one n = 1
+
+-- the root page of the bucket that an element of a leaf is, unless it is inline
+abbrev pub root_of : LeafElement → List ℕ
+root_of e = if e.is_bucket then (if head_root e.value == 0 then [] else head_root e.value ∷ []) else []
+
+-- the children of a branch, and the root pages of the buckets of a leaf
+abbrev pub pages_in_bucket : Bool → List Entry → List ℕ
+pages_in_bucket false entries = kid_pages false entries
+pages_in_bucket true entries = []
+
+abbrev pub inner_pages : Node → List ℕ
+inner_pages node = pages_in_bucket node.is_leaf node.entries
+
+abbrev pub roots_in_bucket : Bool → List Entry → List ℕ
+roots_in_bucket false entries = []
+roots_in_bucket true entries = kid_pages true entries
+
+abbrev pub inner_roots : Node → List ℕ
+inner_roots node = roots_in_bucket node.is_leaf node.entries
