@@ -14,6 +14,7 @@ pub mod PagesAnswers
 pub mod PathReading
 pub mod ReadFiles
 pub mod RootEntries
+pub mod StatsAnswers
 pub mod WholeLines
 pub mod WordSteps
 pub mod WrittenLines

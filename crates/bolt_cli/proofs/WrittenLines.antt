@@ -17,7 +17,7 @@ use Rattle.bolt_cli.specs.declared.words.Refusal.TheVariants.{Memory, Help, Usag
 use Rattle.bolt_cli.specs.LineWords.{Known, Syntax, Text, after, give, refuse, values_of}
 use Rattle.bolt_cli.specs.PathWords.{each_part, part_of, result_and_then}
 use Rattle.bolt_cli.specs.declared.parts.Parts.TheVariants as parts
-use Rattle.bolt_cli.specs.PlainWords.{Asked, IsInRange, IsPart, Reading, asked_of, asks, asks_at, buckets, check, file_operand, first_of, form_of, form_option, form_word, from_option, get, info, keys, line_of, list, meta_option, page, pages, part_operand, parts_option, reading_in, reading_of, refused, slot_by, unread, words_for}
+use Rattle.bolt_cli.specs.PlainWords.{Asked, IsInRange, IsPart, Reading, asked_of, asks, asks_at, buckets, check, file_operand, first_of, form_of, form_option, form_word, from_option, get, info, keys, line_of, list, meta_option, page, pages, part_operand, parts_option, reading_in, reading_of, refused, slot_by, stats, unread, words_for}
 use Rattle.bolt_cli.proofs.GivenRows.{Given}
 use Rattle.bolt_cli.proofs.PageIds.{decimal_numerals, good_id}
 use Rattle.bolt_cli.proofs.WordSteps.{known}
@@ -160,6 +160,9 @@ line_of-words_for name (get file (Some Zero) (part ∷ path) Bytes) in_range = g
 line_of-words_for name (get file (Some One) (part ∷ path) Printable) in_range = get_read (Some One) Printable file part path in_range
 line_of-words_for name (get file (Some One) (part ∷ path) Hex) in_range = get_read (Some One) Hex file part path in_range
 line_of-words_for name (get file (Some One) (part ∷ path) Bytes) in_range = get_read (Some One) Bytes file part path in_range
+line_of-words_for name (stats file None) in_range = refl
+line_of-words_for name (stats file (Some Zero)) in_range = refl
+line_of-words_for name (stats file (Some One)) in_range = refl
 line_of-words_for name (list file None []) in_range = refl
 line_of-words_for name (list file (Some Zero) []) in_range = refl
 line_of-words_for name (list file (Some One) []) in_range = refl

@@ -1,5 +1,5 @@
 -- What the program answers to each command, and what its sinks take: docs/COMMANDS.md, "What a run writes".
-use Rattle.std.specs.Prelude.{◌≡◌, ◌<◌, ◌-◌, ◌⊎◌, ℕ, List, [], ◌∷◌, ◌++◌, true, codes, length, take, Option, Some, None, Result, Ok, Err}
+use Rattle.std.specs.Prelude.{◌≡◌, ◌<◌, ◌-◌, ◌⊎◌, ℕ, List, [], ◌∷◌, ◌++◌, Bool, true, false, codes, length, take, Option, Some, None, Result, Ok, Err}
 use Rattle.std.specs.Io.KnownBytes.{Appends}
 use Rattle.bolt_check.specs.Roles.{AreRoles}
 use Rattle.bolt_check.specs.Sound.{HasSoundTrees, IsRefused, IsSlotRefused, IsSound}
@@ -16,13 +16,16 @@ use Rattle.bolt_format.specs.declared.meta.MetaFault.{MetaFault}
 use Rattle.bolt_format.specs.declared.meta.Slot.{Slot}
 use Rattle.bolt_report.specs.FaultWords.{findings_text}
 use Rattle.bolt_report.specs.Forms.{value_text}
+use Rattle.bolt_report.specs.Figures.{add_stats, stats_text}
 use Rattle.bolt_report.specs.KeyLines.{buckets_text, keys_text}
 use Rattle.bolt_report.specs.ListLines.{listing_text}
 use Rattle.bolt_report.specs.MetaLines.{info_text}
 use Rattle.bolt_report.specs.PageTables.{pages_text}
 use Rattle.bolt_report.specs.PageTexts.{page_text, page_text_fault}
+use Rattle.bolt_report.specs.StatsOf.{IsStatsOf}
+use Rattle.bolt_report.specs.declared.figures.Stats.{Stats}
 use Rattle.bolt_report.specs.declared.form.Form.{Form}
-use Rattle.bolt_tree.specs.Entries.{AreEntries, IsEntry, Item, Root_page, Start, Value}
+use Rattle.bolt_tree.specs.Entries.{AreEntries, IsEntry, Item, Root_page, Start, Value, start_of}
 use Rattle.bolt_tree.specs.Listing.{IsListing, Member, rest_from}
 use Rattle.bolt_tree.specs.Paths.{Holds, Names, Path}
 use Rattle.bolt_cli.specs.Failures.{IsToldAs, failure_line}
@@ -120,6 +123,43 @@ IsListAnswer file from meta answer = (listing : List Member) × IsListing file m
 abbrev pub IsPagesAnswer : List ℕ → Meta → Answer → Type 0
 IsPagesAnswer file meta answer = (roles : ℕ → Role) × AreRoles file meta roles × IsWholeOrCut (pages_text file meta roles) answer
 
+abbrev pub no_stats : Stats
+no_stats = record {
+  buckets = 0;
+  inline_buckets = 0;
+  inline_used = 0;
+  keys = 0;
+  depth = 0;
+  branch_pages = 0;
+  branch_overflow = 0;
+  branch_allocated = 0;
+  branch_used = 0;
+  leaf_pages = 0;
+  leaf_overflow = 0;
+  leaf_allocated = 0;
+  leaf_used = 0;
+}
+
+-- what an entry adds to the figures so far: those of the bucket that it is
+abbrev pub AddsBy : Bool → List ℕ → Meta → LeafElement → (before after : Stats) → Type 0
+AddsBy true file meta e before after = (own : Stats) × IsStatsOf file meta (start_of e.value) own × (after ≡ add_stats before own)
+AddsBy false file meta e before after = after ≡ before
+
+abbrev pub AddsEntry : List ℕ → Meta → LeafElement → (before after : Stats) → Type 0
+AddsEntry file meta e before after = AddsBy e.is_bucket file meta e before after
+
+-- the figures of the buckets among these entries, added to those before
+abbrev pub IsTotal : List ℕ → Meta → List LeafElement → (before total : Stats) → Type 0
+IsTotal file meta [] before total = total ≡ before
+IsTotal file meta (e ∷ entries) before total = (after : Stats) × AddsEntry file meta e before after × IsTotal file meta entries after total
+
+-- the sum over the root's buckets; or memory ran out before anything was put
+abbrev pub IsStatsAnswer : List ℕ → Meta → Answer → Type 0
+IsStatsAnswer file meta answer =
+    ((entries : List LeafElement) × (total : Stats) × ∥ AreEntries (IsEntry file meta) (Root_page meta.root) entries × IsTotal file meta entries no_stats total ∥₁
+    × (answer ≡ done (stats_text total)))
+    ⊎ (answer ≡ refused failure.Memory)
+
 -- the answer where the file is sound, or where it is refused
 abbrev pub IsCheckedAnswer : List ℕ → (Meta → Answer → Type 0) → (CheckFault → Answer → Type 0) → Answer → Type 0
 IsCheckedAnswer file IsAccepted IsRefusal answer =
@@ -153,6 +193,7 @@ IsAnswer file (job.Page name id) = IsOpenAnswer file (λ slot meta. page_answer 
 IsAnswer file (job.Pages name) = IsCheckedAnswer file (IsPagesAnswer file) IsFileRefusal
 IsAnswer file (job.Check name) = IsCheckedAnswer file (λ meta answer. answer ≡ done (codes "OK\n")) (λ fault answer. answer ≡ check_refusal fault)
 IsAnswer file (job.Buckets name slot form) = IsReadAnswer file slot (IsBucketsAnswer file form)
+IsAnswer file (job.Stats name slot) = IsReadAnswer file slot (IsStatsAnswer file)
 IsAnswer file (job.Keys name slot path form) = IsReadAnswer file slot (IsKeysAnswer file (path_in path.items) form)
 IsAnswer file (job.Get name slot path form) = IsReadAnswer file slot (IsGetAnswer file (path_in path.items) form)
 IsAnswer file (job.List name slot from) = IsReadAnswer file slot (IsListAnswer file (path_in from.items))

@@ -47,6 +47,7 @@ syntaxes =
     ∷ record { name = codes "buckets"; operands = file_operand ∷ []; options = form_option ∷ meta_option ∷ [] }
     ∷ record { name = codes "keys"; operands = file_operand ∷ part_operand ∷ []; options = form_option ∷ parts_option ∷ meta_option ∷ [] }
     ∷ record { name = codes "get"; operands = file_operand ∷ part_operand ∷ []; options = form_option ∷ parts_option ∷ meta_option ∷ [] }
+    ∷ record { name = codes "stats"; operands = file_operand ∷ []; options = meta_option ∷ [] }
     ∷ record { name = codes "list"; operands = file_operand ∷ []; options = from_option ∷ meta_option ∷ [] }
     ∷ []
 
@@ -61,6 +62,7 @@ pub data Asked : Type 0 where
   buckets : Text → Option Slot → Form → Asked
   keys : Text → Option Slot → Path → Form → Asked
   get : Text → Option Slot → Path → Form → Asked
+  stats : Text → Option Slot → Asked
   list : Text → Option Slot → Path → Asked
 
 -- the path that the code owns
@@ -75,6 +77,7 @@ asked_of (job.Check file) = check (string_bytes file)
 asked_of (job.Buckets file slot form) = buckets (string_bytes file) slot form
 asked_of (job.Keys file slot path form) = keys (string_bytes file) slot (path_in path.items) form
 asked_of (job.Get file slot path form) = get (string_bytes file) slot (path_in path.items) form
+asked_of (job.Stats file slot) = stats (string_bytes file) slot
 asked_of (job.List file slot from) = list (string_bytes file) slot (path_in from.items)
 
 -- the FILE of a job
@@ -86,6 +89,7 @@ file_name (job.Check file) = string_bytes file
 file_name (job.Buckets file slot form) = string_bytes file
 file_name (job.Keys file slot path form) = string_bytes file
 file_name (job.Get file slot path form) = string_bytes file
+file_name (job.Stats file slot) = string_bytes file
 file_name (job.List file slot from) = string_bytes file
 
 -- the words that a line gives by each name
@@ -169,6 +173,10 @@ asks_keys values = asks_at keys values
 abbrev pub asks_get : Values → Result Asked Text
 asks_get values = asks_at get values
 
+abbrev pub asks_stats : Values → Result Asked Text
+asks_stats values = result_and_then (λ file. result_and_then (λ slot. Ok (stats file slot))
+    (slot_by (first_of (values (codes "meta"))))) (text_by (codes "FILE") values)
+
 abbrev pub asks_list : Values → Result Asked Text
 asks_list values = result_and_then (λ file. result_and_then (λ slot. result_and_then (λ from. Ok (list file slot from))
     (hex_path_by (first_of (values (codes "from"))))) (slot_by (first_of (values (codes "meta"))))) (text_by (codes "FILE") values)
@@ -183,6 +191,7 @@ asked name values =
     else if bytes_eq name (codes "buckets") then asks_buckets values
     else if bytes_eq name (codes "keys") then asks_keys values
     else if bytes_eq name (codes "get") then asks_get values
+    else if bytes_eq name (codes "stats") then asks_stats values
     else if bytes_eq name (codes "list") then asks_list values
     else Err (codes "command missing")
 
@@ -241,6 +250,7 @@ words_for name (check file) = name ∷ codes "check" ∷ codes "--" ∷ file ∷
 words_for name (buckets file slot form) = name ∷ codes "buckets" ∷ slot_words slot (codes "--form" ∷ form_word form ∷ codes "--" ∷ file ∷ [])
 words_for name (keys file slot path form) = name ∷ codes "keys" ∷ slot_words slot (path_words file path form)
 words_for name (get file slot path form) = name ∷ codes "get" ∷ slot_words slot (path_words file path form)
+words_for name (stats file slot) = name ∷ codes "stats" ∷ slot_words slot (codes "--" ∷ file ∷ [])
 words_for name (list file slot from) = name ∷ codes "list" ∷ slot_words slot (from_words from (codes "--" ∷ file ∷ []))
 
 abbrev pub IsPath : Path → Type 0

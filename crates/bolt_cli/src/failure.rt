@@ -5,7 +5,7 @@ ghost use Rattle.bolt_report.specs.FaultWords.{finding_text};
 ghost use Rattle.bolt_cli.specs.Failures.{failure_line, failure_text, reported};
 ghost use Rattle.bolt_cli.specs.declared.failure.Failure.TheVariants as failure;
 
-use bolt_check::Finding;
+use bolt_check::{Finding, NoMemory};
 use bolt_format::{MetaFault, PageFault, Sink, SinkFault};
 use bolt_report::{ReportFault, finding_text, meta_fault_text, page_fault_text};
 use std::alloc::AllocFailed;
@@ -33,6 +33,14 @@ impl<T: Drop> From<AllocFailed<T>> for Failure {
     ghost from_gives = { λ _ result. result ≡ failure.Memory };
 
     fn from(_error: AllocFailed<T>) -> Failure {
+        Failure::Memory
+    }
+}
+
+impl From<NoMemory> for Failure {
+    ghost from_gives = { λ _ result. result ≡ failure.Memory };
+
+    fn from(_error: NoMemory) -> Failure {
         Failure::Memory
     }
 }

@@ -30,6 +30,11 @@ pub enum Job {
         slot: Option<Slot>,
         form: Form,
     },
+    /// The figures of the root's buckets, added up.
+    Stats {
+        file: String,
+        slot: Option<Slot>,
+    },
     /// The keys of the bucket at a path.
     Keys {
         file: String,
@@ -64,6 +69,7 @@ impl Job {
             Job::Info { file } => file.as_str(),
             Job::Page { file, id: _ } => file.as_str(),
             Job::Pages { file } => file.as_str(),
+            Job::Stats { file, slot: _ } => file.as_str(),
             Job::Check { file } => file.as_str(),
             Job::Buckets {
                 file,

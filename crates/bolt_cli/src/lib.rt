@@ -18,6 +18,7 @@ mod pages_command;
 mod parts;
 mod path_words;
 mod runs;
+mod stats_command;
 mod status;
 mod syntax;
 mod words;

@@ -12,6 +12,7 @@ use crate::keys_command::print_keys;
 use crate::list_command::print_list;
 use crate::page_command::print_page;
 use crate::pages_command::print_pages;
+use crate::stats_command::print_stats;
 use crate::status::Status;
 use bolt_format::Sink;
 use std::alloc::Global;
@@ -54,6 +55,7 @@ fn do_job<O: Sink>(alloc: Global, job: &Job, file: &[u8], out: &mut O) -> Result
         Job::Info { file: _ } => print_info(file, out),
         Job::Page { file: _, id } => print_page(file, *id, out),
         Job::Pages { file: _ } => print_pages(alloc, file, out),
+        Job::Stats { file: _, slot } => print_stats(alloc, file, *slot, out),
         Job::Check { file: _ } => print_check(alloc, file, out),
         Job::Buckets {
             file: _,

@@ -96,7 +96,7 @@ const META: Choice = Choice {
 };
 
 /// The line of each command, in the order in which help tells them.
-pub(crate) static SYNTAXES: [Syntax; 8] = [
+pub(crate) static SYNTAXES: [Syntax; 9] = [
     Syntax {
         name: "info",
         about: "Show the meta in force: page size, transaction, root, freelist, high-water mark",
@@ -138,6 +138,12 @@ pub(crate) static SYNTAXES: [Syntax; 8] = [
         about: "Show the value of a key",
         operands: &[FILE, KEY_PART],
         options: &[FORM, PARTS, META],
+    },
+    Syntax {
+        name: "stats",
+        about: "Show figures of all buckets: how many, how deep, and what their pages hold",
+        operands: &[FILE],
+        options: &[META],
     },
     Syntax {
         name: "list",

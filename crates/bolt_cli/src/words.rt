@@ -3,7 +3,7 @@ ghost use Rattle.std.specs.Prelude.{◌≡◌, IfErr, IfOk, MatchResult, Some, N
 ghost use Rattle.clap.specs.Words.{fault_of, found_of, kind_of, rows_of, subcommand_rows_of};
 ghost use Rattle.bolt_cli.specs.CommandLine.{Asks, Gives, HasKindOf, IsRefusalOf, IsRefusedBy, asked_by, asked_by_subcommand, program, values_in};
 ghost use Rattle.bolt_cli.specs.LineWords.{Text};
-ghost use Rattle.bolt_cli.specs.PlainWords.{Asked, IsInRange, asked_of, asks, asks_buckets, asks_check, asks_get, asks_info, asks_keys, asks_list, asks_page, asks_pages, first_of, form_by, form_of, line_of, page_id, path_by, path_in, slot_by, text_by, words_for};
+ghost use Rattle.bolt_cli.specs.PlainWords.{Asked, IsInRange, asked_of, asks, asks_buckets, asks_check, asks_get, asks_info, asks_keys, asks_list, asks_page, asks_pages, asks_stats, first_of, form_by, form_of, line_of, page_id, path_by, path_in, slot_by, text_by, words_for};
 ghost use Rattle.bolt_cli.specs.declared.words.Refusal.TheVariants.{Memory};
 
 use crate::command_line;
@@ -47,8 +47,8 @@ impl<T: Drop> From<AllocFailed<T>> for Refusal {
 /// Reads the words of a command line, of which the first is the program's name.
 ///
 /// The lines are `info FILE`, `page FILE ID`, `pages FILE`, `check FILE`, `buckets FILE [--form F]`,
-/// `keys FILE PART.. [--form F] [--parts P]`, `get FILE PART.. [--form F] [--parts P]` and
-/// `list FILE [--from HEXPATH]`; the last four also take `--meta M`, with M 0 or 1. Options stand before, between or behind the operands, once each, as
+/// `keys FILE PART.. [--form F] [--parts P]`, `get FILE PART.. [--form F] [--parts P]` `stats FILE` and
+/// `list FILE [--from HEXPATH]`; `buckets` and those behind it also take `--meta M`, with M 0 or 1. Options stand before, between or behind the operands, once each, as
 /// `--form hex` or `--form=hex`. A word that begins with a hyphen and has more is an option, unless
 /// `--` stands before it. An ID is decimal digits, at least one, of a number below 2^64; F is
 /// `printable`, `hex` or `bytes`; P is `text` or `hex` and says how each PART is written; a HEXPATH
@@ -105,6 +105,7 @@ fn read_matches(alloc: Global, matches: &ArgMatches<'_>) -> Result<Job, Refusal>
         Some(("buckets", matches)) => read_buckets(alloc, matches),
         Some(("keys", matches)) => read_keys(alloc, matches),
         Some(("get", matches)) => read_get(alloc, matches),
+        Some(("stats", matches)) => read_stats(alloc, matches),
         Some(("list", matches)) => read_list(alloc, matches),
         _ => Err(Refusal::Word("command missing")),
     }
@@ -185,6 +186,14 @@ fn read_list(alloc: Global, matches: &ArgMatches<'_>) -> Result<Job, Refusal>
     let slot = read_slot(choice(matches, "meta"))?;
     let from = read_from(alloc, choice(matches, "from"))?;
     Ok(Job::List { file, slot, from })
+}
+
+fn read_stats(alloc: Global, matches: &ArgMatches<'_>) -> Result<Job, Refusal>
+    ensures { Gives asked_of (asks_stats (values_in (rows_of (found_of matches.now)))) result }
+{
+    let file = read_text(alloc, matches, "FILE")?;
+    let slot = read_slot(choice(matches, "meta"))?;
+    Ok(Job::Stats { file, slot })
 }
 
 // The path that the words of PART write.

@@ -1,0 +1,117 @@
+-- The figures of a bucket's buckets, added up entry by entry.
+use Rattle.std.proofs.Common.{◌≡◌, ◌∙◌, ℕ, zero, suc, Bool, true, false, IsTrue, List, [], ◌∷◌, Option, Some, None, drop, refl, sym, ap, subst, rules}
+use Rattle.std.proofs.Math.Logic.{∥∥₁_elim, ∥∥₁_map}
+use Rattle.std.proofs.Props.{props}
+use Rattle.std.specs.List.{Contains}
+use Rattle.bolt_check.specs.CheckedFiles.{bytes_of, meta_of}
+use Rattle.bolt_check.specs.Keys.{Key}
+use Rattle.bolt_check.specs.declared.checked_file.Checked.{Checked}
+use Rattle.bolt_format.specs.Elements.{LeafElement}
+use Rattle.bolt_format.specs.declared.meta.Meta.{Meta}
+use Rattle.bolt_format.specs.declared.meta.Slot.{Slot}
+use Rattle.bolt_tree.specs.Buckets.{bucket_checked, bucket_start}
+use Rattle.bolt_tree.specs.BucketViews.{entries_of}
+use Rattle.bolt_tree.specs.Entries.{AreEntries, IsEntry, Root_page, Start, start_of}
+use Rattle.bolt_tree.specs.EntriesLeft.{ForEntries, entries_left}
+use Rattle.bolt_tree.specs.Lookups.{IsBucketAt}
+use Rattle.bolt_tree.specs.Places.{Fresh, On, Past, Place}
+use Rattle.bolt_tree.specs.declared.bucket.Bucket.{Bucket}
+use Rattle.bolt_tree.proofs.Leaving.{the_entries}
+use Rattle.bolt_tree.proofs.Lists.{contains_head, contains_tail}
+use Rattle.bolt_tree.proofs.Named.{entry_once}
+use Rattle.bolt_report.specs.Figures.{add_stats}
+use Rattle.bolt_report.specs.StatsOf.{IsStatsOf}
+use Rattle.bolt_report.specs.declared.figures.Stats.{Stats}
+use Rattle.bolt_cli.proofs.ReadFiles.{read_trees}
+use Rattle.bolt_cli.proofs.RootEntries.{of_root, root_entries}
+use Rattle.bolt_cli.specs.Answers.{AddsBy, AddsEntry, IsReadUnder, IsTotal, no_stats}
+
+-- ---- one entry
+
+adds_bucket : (file : List ℕ) (meta : Meta) (e : LeafElement) (own before : Stats) → IsTrue e.is_bucket → IsStatsOf file meta (start_of e.value) own → AddsEntry file meta e before (add_stats before own)
+adds_bucket file meta e own before is_bucket are = subst (λ b. AddsBy b file meta e before (add_stats before own)) (sym is_bucket) (own, are, refl)
+
+pub adds_nothing : (file : List ℕ) (meta : Meta) (e : LeafElement) (before : Stats) → e.is_bucket ≡ false → AddsEntry file meta e before before
+adds_nothing file meta e before is_value = subst (λ b. AddsBy b file meta e before before) (sym is_value) refl
+
+module _ (bucket : Bucket) where
+  abbrev file_in : List ℕ
+  file_in = bytes_of (bucket_checked bucket)
+
+  abbrev meta_in : Meta
+  meta_in = meta_of (bucket_checked bucket)
+
+  abbrev Entry : Start → LeafElement → Type 0
+  Entry = entries_of (bucket_checked bucket)
+
+  -- the figures of the bucket under a key are those of the entry with that key
+  pub adds_found : (inner : Bucket) (key : Key) (own before sum : Stats) (e : LeafElement) → bucket_checked inner ≡ bucket_checked bucket
+      → IsBucketAt Entry (bucket_start bucket) key (Some inner)
+      → ∥ IsStatsOf (bytes_of (bucket_checked inner)) (meta_of (bucket_checked inner)) (bucket_start inner) own ∥₁ → sum ≡ add_stats before own
+      → Entry (bucket_start bucket) e → e.key ≡ key → ∥ AddsEntry file_in meta_in e before sum ∥₁
+  adds_found inner key own before sum e same found stats is entry named =
+      let (entries, known) = the_entries bucket in
+      let figures = subst (λ (c : Checked). ∥ IsStatsOf (bytes_of c) (meta_of c) (bucket_start inner) own ∥₁) same stats in
+      ∥∥₁_elim known (hlevel props) (λ are. ∥∥₁_elim found (hlevel props) (λ (x, there, key_is, is_bucket, start, sequence). ∥∥₁_map figures (λ own_are.
+      let one = entry_once Entry (bucket_start bucket) entries are x e there entry (key_is ∙ sym named) in
+      let at = subst (λ (s : Start). IsStatsOf file_in meta_in s own) start own_are in
+      subst (AddsEntry file_in meta_in e before) (sym is)
+      (subst (λ (y : LeafElement). AddsEntry file_in meta_in y before (add_stats before own)) one (adds_bucket file_in meta_in x own before is_bucket at)))))
+
+-- ---- the entries that are left
+
+in_rest : (n : ℕ) (entries : List LeafElement) (e : LeafElement) (left : List LeafElement) → drop n entries ≡ e ∷ left → Contains entries e
+in_rest zero entries e left is = subst (λ (xs : List LeafElement). Contains xs e) (sym is) (contains_head e left)
+in_rest (suc n) [] e left is = absurd (search (rules, is))
+in_rest (suc n) (x ∷ entries) e left is = contains_tail x e entries (in_rest n entries e left is)
+
+pub first_left : (entries : List LeafElement) (place : Place) (e : LeafElement) (left : List LeafElement) → entries_left entries place ≡ e ∷ left → Contains entries e
+first_left entries Fresh e left is = in_rest zero entries e left is
+first_left entries (On i) e left is = in_rest (suc i) entries e left is
+first_left entries Past e left is = absurd (search (rules, is))
+
+-- what is left makes the whole, so it does with the next entry
+pub total_more : (file : List ℕ) (meta : Meta) (old new : List LeafElement) (e : LeafElement) (before after total : Stats) → old ≡ e ∷ new → ∥ AddsEntry file meta e before after ∥₁
+    → ∥ IsTotal file meta new after total ∥₁ → ∥ IsTotal file meta old before total ∥₁
+total_more file meta old new e before after total is adds later =
+    subst (λ (entries : List LeafElement). ∥ IsTotal file meta entries before total ∥₁) (sym is)
+    (∥∥₁_elim adds (hlevel props) (λ one. ∥∥₁_map later (λ rest. (after, one, rest))))
+
+pub total_end : (file : List ℕ) (meta : Meta) (left : List LeafElement) (total : Stats) → left ≡ [] → ∥ IsTotal file meta left total total ∥₁
+total_end file meta left total none = subst (λ (entries : List LeafElement). ∥ IsTotal file meta entries total total ∥₁) (sym none) ∣ refl ∣₁
+
+-- ---- no figures
+
+abbrev AreZero : Stats → Type 0
+AreZero s =
+    (s.buckets ≡ 0) × ((s.inline_buckets ≡ 0) × ((s.inline_used ≡ 0) × ((s.keys ≡ 0) × ((s.depth ≡ 0) × ((s.branch_pages ≡ 0) × ((s.branch_overflow ≡ 0) × ((s.branch_allocated ≡ 0) × ((s.branch_used ≡ 0) × ((s.leaf_pages ≡ 0) × ((s.leaf_overflow ≡ 0) × ((s.leaf_allocated ≡ 0) × ((s.leaf_used ≡ 0)))))))))))))
+
+pub no_figures : (s : Stats) → AreZero s → s ≡ no_stats
+no_figures s none = λ i. record {
+  buckets = none.0 i;
+  inline_buckets = none.1.0 i;
+  inline_used = none.1.1.0 i;
+  keys = none.1.1.1.0 i;
+  depth = none.1.1.1.1.0 i;
+  branch_pages = none.1.1.1.1.1.0 i;
+  branch_overflow = none.1.1.1.1.1.1.0 i;
+  branch_allocated = none.1.1.1.1.1.1.1.0 i;
+  branch_used = none.1.1.1.1.1.1.1.1.0 i;
+  leaf_pages = none.1.1.1.1.1.1.1.1.1.0 i;
+  leaf_overflow = none.1.1.1.1.1.1.1.1.1.1.0 i;
+  leaf_allocated = none.1.1.1.1.1.1.1.1.1.1.1.0 i;
+  leaf_used = none.1.1.1.1.1.1.1.1.1.1.1.1 i;
+}
+
+-- ---- the root bucket
+
+pub root_total : (file : List ℕ) (slot : Option Slot) (checked : Checked) (root : Bucket) (total : Stats) → bytes_of checked ≡ file → IsReadUnder file slot (meta_of checked)
+    → bucket_checked root ≡ checked → bucket_start root ≡ Root_page (meta_of checked).root
+    → ForEntries (bucket_checked root) (bucket_start root) (λ entries. ∥ IsTotal (bytes_of (bucket_checked root)) (meta_of (bucket_checked root)) entries no_stats total ∥₁)
+    → (entries : List LeafElement) × ∥ AreEntries (IsEntry file (meta_of checked)) (Root_page (meta_of checked).root) entries × IsTotal file (meta_of checked) entries no_stats total ∥₁
+root_total file slot checked root total same under is begins promised =
+    let (entries, are) = root_entries file (meta_of checked) (read_trees file slot (meta_of checked) under) in
+    let known = of_root file checked root (λ entries. ∥ IsTotal (bytes_of (bucket_checked root)) (meta_of (bucket_checked root)) entries no_stats total ∥₁) same is begins promised entries are in
+    let of_checked = subst (λ (c : Checked). ∥ IsTotal (bytes_of c) (meta_of c) entries no_stats total ∥₁) is known in
+    let of_file = subst (λ (f : List ℕ). ∥ IsTotal f (meta_of checked) entries no_stats total ∥₁) same of_checked in
+    (entries, ∥∥₁_map of_file (λ sum. (are, sum)))

@@ -1,0 +1,49 @@
+use Rattle.std.proofs.Common.{◌≡◌, ◌∙◌, List, Some, ap, subst, sym}
+use Rattle.bolt_check.specs.CheckedFiles.{bytes_of, meta_of}
+use Rattle.bolt_report.specs.declared.figures.Stats.{Stats}
+use Rattle.bolt_tree.specs.Buckets.{bucket_checked, bucket_start}
+use Rattle.bolt_tree.specs.Cursors.{cursor_checked, cursor_place, cursor_start}
+use Rattle.bolt_tree.specs.Entries.{EntryView}
+use Rattle.bolt_tree.specs.EntriesLeft.{entries_left}
+use Rattle.bolt_tree.specs.Places.{Fresh, Place}
+use Rattle.bolt_tree.specs.ShownEntries.{shown_entry}
+use Rattle.bolt_tree.proofs.Leaving.{fewer_left, next_shows}
+use Rattle.bolt_cli.specs.Answers.{IsTotal}
+use Rattle.bolt_cli.proofs.StatsAnswers.{first_left, no_figures, total_end, total_more}
+use Rattle.bolt_cli.proofs.stats_command.sum_buckets.Goals as goal
+
+pub rest-init : goal.rest-init
+rest-init c = record {
+  checked = c.cursor-cursor.ensures.checked;
+  start = c.cursor-cursor.ensures.start;
+  sum = λ entries are total known.
+      let bucket = c.args.bucket.now in
+      let Sum : Stats → Place → Type 0 = λ before place. ∥ IsTotal (bytes_of (bucket_checked bucket)) (meta_of (bucket_checked bucket)) (entries_left entries place) before total ∥₁ in
+      subst (λ (before : Stats). Sum before Fresh) (no_figures c.default-total.result c.default-total.ensures) (subst (Sum c.default-total.result) c.cursor-cursor.ensures.place known);
+}
+
+pub rest-smaller : goal.rest-smaller
+rest-smaller c =
+    fewer_left c.args.bucket.now (cursor_checked c.rest.cursor) (cursor_start c.rest.cursor) (cursor_place c.rest.cursor) (cursor_place c.next.new.self) (shown_entry c.in-Some.entry)
+    c.rest.invariant.checked c.rest.invariant.start c.in-Some.ensures.moves
+
+pub rest-preserved : goal.rest-preserved
+rest-preserved c = record {
+  checked = c.in-Some.ensures.checked ∙ c.rest.invariant.checked;
+  start = c.in-Some.ensures.start ∙ c.rest.invariant.start;
+  sum = λ entries are total later.
+      let bucket = c.args.bucket.now in
+      let (e, shown, first) = next_shows (cursor_checked c.rest.cursor) (bucket_checked bucket) (cursor_start c.rest.cursor) (bucket_start bucket)
+      (cursor_place c.rest.cursor) (cursor_place c.next.new.self) (Some (shown_entry c.in-Some.entry)) c.rest.invariant.checked c.rest.invariant.start c.in-Some.ensures.moves entries are in
+      let entry = (are.exact e).0 (first_left entries (cursor_place c.rest.cursor) e _ first) in
+      let adds = c.in_ok-total.ensures e entry (sym (ap (λ (v : EntryView). v.key) shown)) in
+      c.rest.invariant.sum entries are total
+      (total_more (bytes_of (bucket_checked bucket)) (meta_of (bucket_checked bucket)) (entries_left entries (cursor_place c.rest.cursor)) (entries_left entries (cursor_place c.next.new.self)) e _ _ total first adds later);
+}
+
+pub returns : goal.returns
+returns c = λ entries are.
+    let bucket = c.args.bucket.now in
+    let none = next_shows (cursor_checked c.rest.cursor) (bucket_checked bucket) (cursor_start c.rest.cursor) (bucket_start bucket)
+    (cursor_place c.rest.cursor) (cursor_place c.next.new.self) _ c.rest.invariant.checked c.rest.invariant.start c.in_default.ensures.moves entries are in
+    c.rest.invariant.sum entries are c.rest.total (total_end (bytes_of (bucket_checked bucket)) (meta_of (bucket_checked bucket)) (entries_left entries (cursor_place c.rest.cursor)) c.rest.total none)

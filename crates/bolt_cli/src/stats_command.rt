@@ -1,0 +1,61 @@
+//! The command `stats`.
+ghost use Rattle.std.specs.Prelude.{◌≡◌, IfOk};
+ghost use Rattle.bolt_check.specs.CheckedFiles.{bytes_of, meta_of};
+ghost use Rattle.bolt_format.specs.Elements.{LeafElement};
+ghost use Rattle.bolt_tree.specs.Buckets.{bucket_checked, bucket_start};
+ghost use Rattle.bolt_tree.specs.BucketViews.{entries_of};
+ghost use Rattle.bolt_tree.specs.EntriesLeft.{ForEntries};
+ghost use Rattle.bolt_cli.specs.Answers.{AddsEntry, Answer, Does, IsReadAnswer, IsStatsAnswer, IsTotal, no_stats};
+
+use crate::failure::Failure;
+use crate::open_read::open_read;
+use bolt_check::NoMemory;
+use bolt_format::{Sink, Slot};
+use bolt_report::{Stats, add, stats, stats_text};
+use bolt_tree::Bucket;
+use std::alloc::Global;
+
+/// Puts the figures of the root's buckets, added up.
+pub(crate) fn print_stats<O: Sink>(
+    alloc: Global,
+    file: &[u8],
+    slot: Option<Slot>,
+    out: &mut O,
+) -> Result<u8, Failure>
+    ensures { (answer : Answer) × IsReadAnswer file.now slot (IsStatsAnswer file.now) answer
+        × Does O.taken O.failed out.old out.new answer result }
+{
+    let checked = open_read(alloc, file, slot)?;
+    let total = sum_buckets(alloc, &Bucket::root(checked))?;
+    stats_text(&total, out)?;
+    Ok(0)
+}
+
+/// The figures of the buckets in a bucket, added up.
+fn sum_buckets(alloc: Global, bucket: &Bucket<'_>) -> Result<Stats, NoMemory>
+    ensures { IfOk result (λ total. ForEntries (bucket_checked bucket.now) (bucket_start bucket.now) (λ entries.
+        ∥ IsTotal (bytes_of (bucket_checked bucket.now)) (meta_of (bucket_checked bucket.now)) entries no_stats total ∥₁)) }
+{
+    let mut total = Stats::default();
+    let mut cursor = bucket.cursor();
+    'rest: while let Some(entry) = cursor.next() {
+        total = add_entry(alloc, bucket, entry.key, total)?;
+    }
+    Ok(total)
+}
+
+/// The figures so far, and those of the entry with this key where it is a bucket.
+fn add_entry(
+    alloc: Global,
+    bucket: &Bucket<'_>,
+    key: &[u8],
+    total: Stats,
+) -> Result<Stats, NoMemory>
+    ensures { IfOk result (λ sum. (e : LeafElement) → entries_of (bucket_checked bucket.now) (bucket_start bucket.now) e → e.key ≡ key.now
+        → ∥ AddsEntry (bytes_of (bucket_checked bucket.now)) (meta_of (bucket_checked bucket.now)) e total sum ∥₁) }
+{
+    match bucket.bucket(key) {
+        Some(inner) => Ok(add(total, stats(alloc, &inner)?)),
+        None => Ok(total),
+    }
+}
