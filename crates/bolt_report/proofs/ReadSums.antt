@@ -12,6 +12,7 @@ use Rattle.bolt_report.specs.Readings.{AreGood, inner_pages, inner_roots, number
 use Rattle.bolt_report.specs.declared.figures.Stats.{Stats}
 use Rattle.bolt_report.specs.declared.tour.OpenBucket.{OpenBucket}
 use Rattle.bolt_report.specs.declared.tour.OpenPage.{OpenPage}
+use Rattle.bolt_report.proofs.DepthSums.{page_has, root_has}
 
 -- the last page was taken
 pub popped : (old new : List OpenPage) (p : OpenPage) → old ≡ new ++ p ∷ [] → numbers_of old ≡ numbers_of new ++ p.number ∷ []
@@ -26,14 +27,6 @@ module _ (file : List ℕ) (meta : Meta) where
       → total_of file meta own (pages_in_bucket is_leaf entries) + total_of file meta own (roots_in_bucket is_leaf entries) ≡ total_of file meta own (kid_pages is_leaf entries)
   inner_sum own false entries = omega arith
   inner_sum own true entries = omega arith
-
-  inner_has : (m : ℕ) (is_leaf : Bool) (entries : List Entry) → Has m (pages_in_bucket is_leaf entries) → Has m (kid_pages is_leaf entries)
-  inner_has m false entries h = h
-  inner_has m true entries h = absurd h
-
-  root_has : (m : ℕ) (is_leaf : Bool) (entries : List Entry) → Has m (roots_in_bucket is_leaf entries) → Has m (kid_pages is_leaf entries)
-  root_has m false entries h = absurd h
-  root_has m true entries h = h
 
   -- what a page shows itself, and what is then left, are what was left
   pub read_sum : (own : ℕ → ℕ) (rest roots pages found : List ℕ) (n : ℕ) (node : Node) → node_at file meta n ≡ Ok node → Enough (node_at file meta) meta.high_water n
@@ -56,7 +49,7 @@ module _ (file : List ℕ) (meta : Meta) where
       let here : P n = good n (has_left n (rest ++ n ∷ []) roots (has_right n rest (n ∷ []) (inl refl))) in
       let kid : (k : ℕ) → Has k (kid_pages node.is_leaf node.entries) → P k = enough_kids (node_at file meta) meta.high_water n node page here in
       has_either m pages found P
-      (λ k i. has_either k rest (inner_pages node) P (λ x j. good x (has_left x (rest ++ n ∷ []) roots (has_left x rest (n ∷ []) j))) (λ x j. kid x (inner_has x node.is_leaf node.entries j)) (subst (λ (l : List ℕ). Has k l) a i))
+      (λ k i. has_either k rest (inner_pages node) P (λ x j. good x (has_left x (rest ++ n ∷ []) roots (has_left x rest (n ∷ []) j))) (λ x j. kid x (page_has x node.is_leaf node.entries j)) (subst (λ (l : List ℕ). Has k l) a i))
       (λ k i. has_either k roots (inner_roots node) P (λ x j. good x (has_right x (rest ++ n ∷ []) roots j)) (λ x j. kid x (root_has x node.is_leaf node.entries j)) (subst (λ (l : List ℕ). Has k l) b i))
       h
 

@@ -15,7 +15,10 @@ fn check_figures(rt: &impl Abort, alloc: Global, file: &[u8], want: &Stats) -> R
     let root = Bucket::root(check(alloc, file)?);
     let mut total = Stats::default();
     let mut cursor = root.cursor();
-    while let Some(entry) = cursor.next() {
+    for _ in 0..u64::MAX {
+        let Some(entry) = cursor.next() else {
+            break;
+        };
         if let Item::Bucket { .. } = entry.item {
             if let Some(bucket) = root.bucket(entry.key) {
                 total = add(total, stats(alloc, &bucket)?);
