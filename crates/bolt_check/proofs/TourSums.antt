@@ -77,7 +77,7 @@ module _ (nodes : Nodes) where
   weight_more own zero n h = absurd h
   weight_more own (suc k) n (node, page, kids) =
       let same : sum_by (weight nodes own (suc k)) (kids_at (nodes n)) ≡ sum_by (weight nodes own k) (kids_at (nodes n))
-          = sum_same (weight nodes own (suc k)) (weight nodes own k) (kids_at (nodes n)) (λ m i. weight_more own k m (kids m (subst (λ (r : Result Node ℕ). Has m (kids_at r)) page i))) in
+      = sum_same (weight nodes own (suc k)) (weight nodes own k) (kids_at (nodes n)) (λ m i. weight_more own k m (kids m (subst (λ (r : Result Node ℕ). Has m (kids_at r)) page i))) in
       ap (λ (w : ℕ). own n + w) same
 
   -- the pages that a page leads to
@@ -128,10 +128,13 @@ module _ (nodes : Nodes) where
   enough (suc k) left s le fits =
       let has = fits.within [] s refl in
       let less = shorter s.number left has in
-      let good = fits.good [] s refl in
-      (good.0, good.1, λ m h.
-        let (j, t, leads, same) = kid_step s good.0 good.1 m h in
-        subst (Enough nodes k) same (enough k (without s.number left has) t (omega (arith, le, less)) (fits_down left s t j fits has leads)))
+      let good = fits.good [] s refl in (
+        good.0,
+        good.1,
+        λ m h.
+            let (j, t, leads, same) = kid_step s good.0 good.1 m h in
+            subst (Enough nodes k) same (enough k (without s.number left has) t (omega (arith, le, less)) (fits_down left s t j fits has leads)),
+      )
 
   -- what a spot adds: a page its own, an inline bucket nothing
   abbrev pub spot_weight : (ℕ → ℕ) → Option Spot → ℕ
@@ -157,7 +160,7 @@ module _ (nodes : Nodes) where
         → sum_by (λ way. spot_weight own (old way)) ((0 ∷ []) ∷ map f tour) ≡ spot_weight own (Some s) + sum_by (λ way. spot_weight own (new way)) tour
     visit_sum old new s f v tour is =
         let rest = sum_map f (λ way. spot_weight own (old way)) (λ way. spot_weight own (new way)) tour (λ way i.
-            let (t, e) = is.only way i in ap (spot_weight own) (v.same way t e ∙ sym e)) in
+        let (t, e) = is.only way i in ap (spot_weight own) (v.same way t e ∙ sym e)) in
         let here = ap (spot_weight own) v.leads in
         let p = sum_by-cons (λ way. spot_weight own (old way)) (0 ∷ []) (map f tour) in
         omega (arith, rest, here, p)
@@ -167,9 +170,9 @@ module _ (nodes : Nodes) where
         let kid_spots : List Spot = somes (places node.is_leaf s node.entries) in
         let here : Enough nodes k s.number = all s.number (inl refl) in
         let pages : pages_of (kid_spots ++ rest) ≡ kid_pages node.is_leaf node.entries ++ pages_of rest
-            = pages_append kid_spots rest ∙ ap (λ (l : List ℕ). l ++ pages_of rest) (pages_of_kids node.is_leaf s node.entries) in
+        = pages_append kid_spots rest ∙ ap (λ (l : List ℕ). l ++ pages_of rest) (pages_of_kids node.is_leaf s node.entries) in
         let (tour, is, sum) = below (λ m h. has_either m (kid_pages node.is_leaf node.entries) (pages_of rest) (Enough nodes k) (enough_kids k s.number node page here) (λ x i. all x (inr i))
-            (subst (λ (l : List ℕ). Has m l) pages h)) in
+        (subst (λ (l : List ℕ). Has m l) pages h)) in
         let v = visits nodes Anything Anything (At_page s) rest (places node.is_leaf s node.entries) (kids_step nodes s node page) (λ n h. inl tt) (λ n h. tt) (λ n h. tt) in
         let first = visit_sum _ _ (At_page s) _ v tour is in
         let both = ap (sum_by (weight nodes own k)) pages ∙ sum_append (weight nodes own k) (kid_pages node.is_leaf node.entries) (pages_of rest) in
@@ -195,7 +198,7 @@ module _ (nodes : Nodes) where
         let good : Enough nodes k root = enough k left (start_of root) le fits in
         let (tour, is, sum) = found nodes HasSum sums (suc (length left)) left (s ∷ []) (omega arith) (fits_root nodes left s fits) (λ m h. elim h [ inl e ↦ subst (Enough nodes k) (sym e) good | inr i ↦ absurd i ]) in
         let moved = sum_map (tail nodes) (λ way. spot_weight own (reached nodes root way)) (λ way. spot_weight own (forest nodes (s ∷ []) way)) tour (λ way i.
-            let (t, e) = is.only way i in ap (spot_weight own) (tail_leads nodes s way t e ∙ sym e)) in
+        let (t, e) = is.only way i in ap (spot_weight own) (tail_leads nodes s way t e ∙ sym e)) in
         let one = sum_by-cons (weight nodes own k) root [] in
         (good, (map (tail nodes) tour, root_tour nodes s tour is, omega (arith, moved, sum, one)))
 

@@ -1,12 +1,12 @@
-//! Rows of the commands `keys`, `get`, `list` and `pages`.
+//! Rows of the commands `keys`, `get`, `list`, `pages` and `stats`.
 
-use crate::commands::{FileRow, Outcome, Row, check_files, check_rows};
+use crate::commands::{FileRow, Outcome, Row, check_files, check_row, check_rows};
 use crate::samples::{GREATEST_OVERFLOW, WITHOUT_FREELIST};
 use Element::{Bucket, Value};
 use Outcome::{Fails, Prints, PrintsBytes};
 use format_rows::maker::{Element, FRESH, MetaFields, NO_FREELIST, inline};
 use format_rows::samples::{
-    FRESH_FILE, INLINE_BUCKET, Sample, forty_values, make, two_buckets, with_root,
+    BRANCH_ROOT, FRESH_FILE, INLINE_BUCKET, Sample, forty_values, make, two_buckets, with_root,
 };
 use std::test::Fail;
 
@@ -225,6 +225,68 @@ fn tables(rt: HostRuntime) -> Result<(), Fail> {
     Ok(())
 }
 
+/// The figures of the root's buckets.
+static FIGURES: [FileRow<'static>; 4] = [
+    (
+        "the fresh file",
+        FRESH_FILE,
+        Prints(
+            "buckets 0\ninline buckets 0\ninline used 0\nkeys 0\ndepth 0\n\
+            branch pages 0\nbranch overflow 0\nbranch allocated 0\nbranch used 0\n\
+            leaf pages 0\nleaf overflow 0\nleaf allocated 0\nleaf used 0\n",
+        ),
+    ),
+    (
+        "an inline bucket",
+        INLINE_BUCKET,
+        Prints(
+            "buckets 1\ninline buckets 1\ninline used 36\nkeys 1\ndepth 1\n\
+            branch pages 0\nbranch overflow 0\nbranch allocated 0\nbranch used 0\n\
+            leaf pages 0\nleaf overflow 0\nleaf allocated 0\nleaf used 0\n",
+        ),
+    ),
+    (
+        "a branch as root, and no buckets",
+        BRANCH_ROOT,
+        Prints(
+            "buckets 0\ninline buckets 0\ninline used 0\nkeys 0\ndepth 0\n\
+            branch pages 0\nbranch overflow 0\nbranch allocated 0\nbranch used 0\n\
+            leaf pages 0\nleaf overflow 0\nleaf allocated 0\nleaf used 0\n",
+        ),
+    ),
+    (
+        "an overflow past the mark",
+        GREATEST_OVERFLOW,
+        Fails("file refused: page 3: out of range"),
+    ),
+];
+
+const STATS: &[&str] = &["stats", "FILE"];
+
+#[test]
+fn figures(rt: HostRuntime) -> Result<(), Fail> {
+    let alloc = rt.alloc();
+    check_files(&rt, alloc, STATS, &FIGURES)?;
+    let two = two_buckets(alloc)?;
+    let inline_text = "buckets 2\ninline buckets 2\ninline used 50\nkeys 1\ndepth 1\n\
+        branch pages 0\nbranch overflow 0\nbranch allocated 0\nbranch used 0\n\
+        leaf pages 0\nleaf overflow 0\nleaf allocated 0\nleaf used 0\n";
+    let row = (STATS, Prints(inline_text));
+    check_row(&rt, alloc, "two buckets", two.as_slice(), row)?;
+    let forty = forty_values(alloc)?;
+    let text = "buckets 1\ninline buckets 0\ninline used 0\nkeys 40\ndepth 2\n\
+        branch pages 1\nbranch overflow 0\nbranch allocated 1024\nbranch used 88\n\
+        leaf pages 4\nleaf overflow 0\nleaf allocated 4096\nleaf used 4064\n";
+    check_row(
+        &rt,
+        alloc,
+        "four leaves",
+        forty.as_slice(),
+        (STATS, Prints(text)),
+    )?;
+    Ok(())
+}
+
 /// The line of the `n`-th of the forty values.
 fn push_line(text: &mut String, n: usize) -> Result<(), Fail> {
     let tens = n / 10;
@@ -236,6 +298,10 @@ fn push_line(text: &mut String, n: usize) -> Result<(), Fail> {
     text.push_str("\n")?;
     Ok(())
 }
+
+const LIST: &[&str] = &["list", "FILE"];
+
+const LIST_LATER: &[&str] = &["list", "FILE", "--from", "62/3135"];
 
 /// Forty values on four leaves, from the first and from the sixteenth.
 #[test]
@@ -252,12 +318,9 @@ fn several_leaves(rt: HostRuntime) -> Result<(), Fail> {
     }
     assert_eq!(rt; all.len(), 7012);
     assert_eq!(rt; rest.len(), 4375);
-    let whole: [&str; 2] = ["list", "FILE"];
-    let later: [&str; 4] = ["list", "FILE", "--from", "62/3135"];
-    let rows: [Row<'_>; 2] = [
-        (whole.as_slice(), Prints(all.as_str())),
-        (later.as_slice(), Prints(rest.as_str())),
-    ];
-    check_rows(&rt, alloc, "four leaves", file.as_slice(), &rows)?;
+    let whole = (LIST, Prints(all.as_str()));
+    check_row(&rt, alloc, "four leaves", file.as_slice(), whole)?;
+    let later = (LIST_LATER, Prints(rest.as_str()));
+    check_row(&rt, alloc, "four leaves", file.as_slice(), later)?;
     Ok(())
 }

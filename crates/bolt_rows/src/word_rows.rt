@@ -23,6 +23,7 @@ static HELP: [Row<'static>; 7] = [
               buckets  List the names of the buckets in the root bucket\n  \
               keys     List the keys of a bucket, those of its buckets among them\n  \
               get      Show the value of a key\n  \
+              stats    Show figures of all buckets: how many, how deep, and what their pages hold\n  \
               list     List all that the file holds, keys and values in hex, in the order of paths\n\
             \n\
             Options:\n  \
@@ -110,7 +111,7 @@ static COMMANDS: [Row<'static>; 5] = [
         &[],
         Refused(
             "error: 'luntsegi' requires a subcommand but one was not provided\n  \
-            [subcommands: info, page, pages, check, buckets, keys, get, list]\n\
+            [subcommands: info, page, pages, check, buckets, keys, get, stats, list]\n\
             \n\
             Usage: luntsegi <COMMAND>\n\
             \n\
@@ -486,6 +487,7 @@ fn file_words(rt: HostRuntime) -> Result<(), Fail> {
         check_file(&rt, alloc, &["get", file, "", "-"], file)?;
         check_file(&rt, alloc, &["list", "--from", "00/fF", file], file)?;
         check_file(&rt, alloc, &["list", "--meta=1", file], file)?;
+        check_file(&rt, alloc, &["stats", file, "--meta", "0"], file)?;
     }
     // Behind two hyphens a word is an operand, whatever it begins with.
     for file in ["--form", "--form=hex", "--help", "--"] {
