@@ -1,6 +1,6 @@
 //! Rows of the commands `keys`, `get`, `list` and `pages`.
 
-use crate::commands::{FileRow, Outcome, Row, check_files, check_rows};
+use crate::commands::{FileRow, Outcome, Row, check_files, check_row, check_rows};
 use crate::samples::{GREATEST_OVERFLOW, WITHOUT_FREELIST};
 use Element::{Bucket, Value};
 use Outcome::{Fails, Prints, PrintsBytes};
@@ -237,6 +237,10 @@ fn push_line(text: &mut String, n: usize) -> Result<(), Fail> {
     Ok(())
 }
 
+const LIST: &[&str] = &["list", "FILE"];
+
+const LIST_LATER: &[&str] = &["list", "FILE", "--from", "62/3135"];
+
 /// Forty values on four leaves, from the first and from the sixteenth.
 #[test]
 fn several_leaves(rt: HostRuntime) -> Result<(), Fail> {
@@ -252,12 +256,9 @@ fn several_leaves(rt: HostRuntime) -> Result<(), Fail> {
     }
     assert_eq!(rt; all.len(), 7012);
     assert_eq!(rt; rest.len(), 4375);
-    let whole: [&str; 2] = ["list", "FILE"];
-    let later: [&str; 4] = ["list", "FILE", "--from", "62/3135"];
-    let rows: [Row<'_>; 2] = [
-        (whole.as_slice(), Prints(all.as_str())),
-        (later.as_slice(), Prints(rest.as_str())),
-    ];
-    check_rows(&rt, alloc, "four leaves", file.as_slice(), &rows)?;
+    let whole = (LIST, Prints(all.as_str()));
+    check_row(&rt, alloc, "four leaves", file.as_slice(), whole)?;
+    let later = (LIST_LATER, Prints(rest.as_str()));
+    check_row(&rt, alloc, "four leaves", file.as_slice(), later)?;
     Ok(())
 }
