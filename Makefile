@@ -43,10 +43,10 @@ LONG = out/long.db
 # with a million small entries, on one with 200,000 buckets in its root bucket, and on one of 256 MB
 # with values of 100 KB.
 bench: $(PROGRAM) $(LARGE) $(WIDE) $(LONG)
-	python3 tools/bench/time_commands.py $(PROGRAM) $(LARGE) info check buckets pages list \
+	python3 tools/bench/time_commands.py $(PROGRAM) $(LARGE) info check buckets pages stats list \
 		"keys bucket-0" "get bucket-0 entry-000000000000100000"
-	python3 tools/bench/time_commands.py $(PROGRAM) $(WIDE) info check buckets pages list
-	python3 tools/bench/time_commands.py $(PROGRAM) $(LONG) info check buckets pages list
+	python3 tools/bench/time_commands.py $(PROGRAM) $(WIDE) info check buckets pages stats list
+	python3 tools/bench/time_commands.py $(PROGRAM) $(LONG) info check buckets pages stats list
 
 $(LARGE): tools/bench/make_large.py
 	mkdir -p $(@D)
