@@ -1,3 +1,4 @@
+pub mod Compacting
 pub mod Copies
 pub mod Cut
 pub mod Divisions
@@ -6,4 +7,6 @@ pub mod Laid
 pub mod Layout
 pub mod Levels
 pub mod PageBytes
+pub mod Private
+pub mod Puts
 pub mod Storable

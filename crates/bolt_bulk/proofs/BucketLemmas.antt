@@ -1,0 +1,118 @@
+-- What is open of a bucket: its leaf closes, and then runs above it.
+use Rattle.std.proofs.Common.{◌≡◌, ◌≢◌, ◌∙◌, ℕ, ◌+◌, ◌<◌, ◌≤◌, nat_lt, nat_le, true, false, List, [], ◌∷◌, ◌++◌, length, OnErr, OnOk, Option, Result, Ok, Err, refl, sym, ap, inl, inr, arith}
+use Rattle.std.proofs.lemmas.Bool.{leb-true, ltb-true}
+use Rattle.std.proofs.lemmas.List.{length-map}
+use Rattle.bolt_format.specs.Elements.{BranchElement, LeafElement}
+use Rattle.bolt_format.specs.Sinks.{AppendsProperBeginning}
+use Rattle.bolt_format.specs.declared.element.Leaf.{Leaf}
+use Rattle.bolt_bulk.specs.Cut.{max_items}
+use Rattle.bolt_bulk.specs.Laid.{Placed}
+use Rattle.bolt_bulk.specs.Layout.{placed_bytes}
+use Rattle.bolt_bulk.specs.Levels.{overflow_of}
+use Rattle.bolt_bulk.specs.PageBytes.{page_bytes}
+use Rattle.bolt_bulk.specs.Private.HeldItems.{AreHeld, held_view, held_views}
+use Rattle.bolt_bulk.specs.Private.OpenBuckets.{HasRoomFor, IsLeafRun, bucket_end_next, leaf_closed, leaves_of}
+use Rattle.bolt_bulk.specs.Private.Rows.{OpenRows, leaf_key, leaf_page, leaves_have_room, rows_close_put, rows_end_put, rows_next, rows_push, rows_put, rows_room, rows_room_put}
+use Rattle.bolt_bulk.specs.Private.TakenItems.{rows_taking}
+use Rattle.bolt_bulk.specs.Puts.{Puts}
+use Rattle.bolt_bulk.specs.declared.fault.BulkFault.{BulkFault}
+use Rattle.bolt_bulk.specs.declared.held.Held.{Held}
+use Rattle.bolt_bulk.specs.declared.open_bucket.LeafRun.{LeafRun}
+use Rattle.bolt_bulk.proofs.ClimbLemmas.{next_grows}
+use Rattle.bolt_bulk.proofs.CloseLemmas.{end_grows}
+use Rattle.bolt_bulk.proofs.HeldRuns.{none_small}
+use Rattle.bolt_bulk.proofs.PutsLemmas.{pages_some, proper_same, puts_same, puts_then, short_then}
+use Rattle.bolt_bulk.proofs.RunLemmas.{few_or_fits}
+
+-- where a run has room on its page an item can be added
+pub room_fits : (page_size size : ℕ) (run : LeafRun) → page_size ≤ 33554432 → IsLeafRun run → size < 4294967280 → leaves_have_room page_size (leaves_of run) size ≡ true → HasRoomFor run size
+room_fits page_size size run high is small room =
+    let views : List LeafElement = held_views run.inlined.items run.items.items in
+    let l = length-map run.items.items (held_view run.inlined.items) in
+    elim (few_or_fits (nat_lt (length views) 1) (nat_le (run.size + size) page_size) (nat_lt (length views) max_items) room) [
+      | inl one ↦
+          (let none : length views < 1 = ltb-true _ _ one in
+          let e = none_small run.inlined.items run.items.items run.size (omega arith) is.sized in
+          record { small = omega arith; few = omega arith })
+      | inr both ↦
+          (let fit : run.size + size ≤ page_size = leb-true _ _ both.0 in
+          let few : length views < 65534 = ltb-true _ _ both.1 in
+          record { small = omega arith; few = omega arith })
+    ]
+
+first_short : (inlined : List Leaf) (items : List Held) → AreHeld inlined items → length (leaf_key (held_views inlined items)) ≤ 1073741824
+first_short inlined [] all = omega arith
+first_short inlined (x ∷ items) all = all.0.0
+
+-- the key of a leaf's element is one of its items' keys
+pub closed_short : (inlined : List Leaf) (items : List Held) (size next : ℕ) (closed : BranchElement) → AreHeld inlined items
+    → closed ≡ leaf_closed (record { elements = held_views inlined items; size = size }) next → length closed.key ≤ 1073741824
+closed_short inlined items size next closed all same =
+    let k = ap (λ (e : BranchElement). length e.key) same in
+    let f = first_short inlined items all in omega arith
+
+-- a leaf that has no room closes, and its element climbs
+pub room_large : (page_size limit : ℕ) (rows : OpenRows) (key : List ℕ) (size : ℕ) → leaves_have_room page_size rows.leaves size ≡ false
+    → limit < rows.next + (1 + overflow_of page_size rows.leaves.size) → limit < (rows_room page_size rows key size).next
+room_large page_size limit rows key size none large =
+    let g = next_grows page_size key (leaf_closed rows.leaves rows.next) (rows.next + (1 + overflow_of page_size rows.leaves.size)) rows.uppers in
+    let same : (rows_room page_size rows key size).next ≡ rows_next page_size key (leaf_closed rows.leaves rows.next) (rows.next + (1 + overflow_of page_size rows.leaves.size)) rows.uppers = rw none refl in
+    omega arith
+
+pub room_made : {S A B : Type 0} {taken : S → Option (List ℕ)} {failed : S → ℕ} (page_size : ℕ) (rows : OpenRows) (key : List ℕ) (size : ℕ) (old mid new : S) (closed : BranchElement) (after : ℕ) (x : A) (result : Result B BulkFault)
+    → leaves_have_room page_size rows.leaves size ≡ false → closed ≡ leaf_closed rows.leaves rows.next → after ≡ rows.next + (1 + overflow_of page_size rows.leaves.size)
+    → Puts taken failed old mid (page_bytes page_size rows.next (leaf_page page_size rows.leaves rows.next).view) (Ok x)
+    → Puts taken failed mid new (placed_bytes page_size (rows_put page_size key closed after rows.uppers)) result
+    → Puts taken failed old new (placed_bytes page_size (rows_room_put page_size rows key size)) result
+room_made page_size rows key size old mid new closed after x result none same number one two =
+    let text : rows_room_put page_size rows key size ≡ leaf_page page_size rows.leaves rows.next ∷ rows_put page_size key (leaf_closed rows.leaves rows.next) (rows.next + (1 + overflow_of page_size rows.leaves.size)) rows.uppers = rw none refl in
+    let put : rows_put page_size key closed after rows.uppers ≡ rows_put page_size key (leaf_closed rows.leaves rows.next) (rows.next + (1 + overflow_of page_size rows.leaves.size)) rows.uppers =
+    ap (λ (e : BranchElement). rows_put page_size key e after rows.uppers) same ∙ ap (λ (n : ℕ). rows_put page_size key (leaf_closed rows.leaves rows.next) n rows.uppers) number in
+    puts_same old new _ _ result
+    (ap (λ (ps : List Placed). page_bytes page_size rows.next (leaf_page page_size rows.leaves rows.next).view ++ placed_bytes page_size ps) put ∙ ap (λ (ps : List Placed). placed_bytes page_size ps) (sym text))
+    (puts_then old mid new _ _ x result one two)
+
+-- the end: the leaf closes, and then each run above
+pub end_large : (page_size limit : ℕ) (rows : OpenRows) → limit < rows.next + (1 + overflow_of page_size rows.leaves.size) → limit < bucket_end_next page_size rows
+end_large page_size limit rows large =
+    let g = end_grows page_size (leaf_closed rows.leaves rows.next) (rows.next + (1 + overflow_of page_size rows.leaves.size)) rows.uppers in omega arith
+
+end_text : (page_size : ℕ) (rows : OpenRows) (closed : BranchElement) (after : ℕ) → closed ≡ leaf_closed rows.leaves rows.next → after ≡ rows.next + (1 + overflow_of page_size rows.leaves.size)
+    → page_bytes page_size rows.next (leaf_page page_size rows.leaves rows.next).view ++ placed_bytes page_size (rows_close_put page_size closed after rows.uppers) ≡ placed_bytes page_size (rows_end_put page_size rows)
+end_text page_size rows closed after same number =
+    let put : rows_close_put page_size closed after rows.uppers ≡ rows_close_put page_size (leaf_closed rows.leaves rows.next) (rows.next + (1 + overflow_of page_size rows.leaves.size)) rows.uppers =
+    ap (λ (e : BranchElement). rows_close_put page_size e after rows.uppers) same ∙ ap (λ (n : ℕ). rows_close_put page_size (leaf_closed rows.leaves rows.next) n rows.uppers) number in
+    ap (λ (ps : List Placed). page_bytes page_size rows.next (leaf_page page_size rows.leaves rows.next).view ++ placed_bytes page_size ps) put
+
+pub end_made : {S A B : Type 0} {taken : S → Option (List ℕ)} {failed : S → ℕ} (page_size : ℕ) (rows : OpenRows) (old mid new : S) (closed : BranchElement) (after : ℕ) (x : A) (result : Result B BulkFault)
+    → closed ≡ leaf_closed rows.leaves rows.next → after ≡ rows.next + (1 + overflow_of page_size rows.leaves.size)
+    → Puts taken failed old mid (page_bytes page_size rows.next (leaf_page page_size rows.leaves rows.next).view) (Ok x)
+    → Puts taken failed mid new (placed_bytes page_size (rows_close_put page_size closed after rows.uppers)) result
+    → Puts taken failed old new (placed_bytes page_size (rows_end_put page_size rows)) result
+end_made page_size rows old mid new closed after x result same number one two =
+    puts_same old new _ _ result (end_text page_size rows closed after same number) (puts_then old mid new _ _ x result one two)
+
+on_err_same : {A E : Type 0} (old new : Option (List ℕ)) (text same : List ℕ) (r : Result A E) → text ≡ same → OnErr r (AppendsProperBeginning old new text) → OnErr r (AppendsProperBeginning old new same)
+on_err_same old new text same (Ok x) e a = tt
+on_err_same old new text same (Err x) e a = proper_same old new text same e a
+
+pub end_short : {S A B : Type 0} {taken : S → Option (List ℕ)} {failed : S → ℕ} (page_size : ℕ) (rows : OpenRows) (old mid new : S) (closed : BranchElement) (after : ℕ) (x : A) (result : Result B BulkFault)
+    → closed ≡ leaf_closed rows.leaves rows.next → after ≡ rows.next + (1 + overflow_of page_size rows.leaves.size)
+    → Puts taken failed old mid (page_bytes page_size rows.next (leaf_page page_size rows.leaves rows.next).view) (Ok x)
+    → OnErr result (AppendsProperBeginning (taken mid) (taken new) (placed_bytes page_size (rows_close_put page_size closed after rows.uppers)))
+    → OnErr result (AppendsProperBeginning (taken old) (taken new) (placed_bytes page_size (rows_end_put page_size rows)))
+end_short {taken = taken} page_size rows old mid new closed after x result same number one two =
+    on_err_same (taken old) (taken new) _ _ result (end_text page_size rows closed after same number) (short_then old mid new _ _ x result one two)
+
+pub end_some : (page_size : ℕ) (rows : OpenRows) → placed_bytes page_size (rows_end_put page_size rows) ≢ []
+end_some page_size rows =
+    pages_some page_size (leaf_page page_size rows.leaves rows.next) (rows_close_put page_size (leaf_closed rows.leaves rows.next) (rows.next + (1 + overflow_of page_size rows.leaves.size)) rows.uppers)
+
+-- an item was taken
+pub take_rows : (page_size : ℕ) (final made rows : OpenRows) (e : LeafElement) (size : ℕ) → final ≡ rows_push made e size made.next → made ≡ rows_room page_size rows e.key size
+    → final ≡ rows_taking page_size rows e size
+take_rows page_size final made rows e size p q = p ∙ ap (λ (m : OpenRows). rows_push m e size m.next) q
+
+pub on_ok : {A E : Type 0} (P Q : Type 0) (r : Result A E) → (P → Q) → OnOk r P → OnOk r Q
+on_ok P Q (Ok x) f h = f h
+on_ok P Q (Err e) f h = tt

@@ -1,0 +1,95 @@
+-- A forward pass over a tree, with a frame for each bucket that waits: what comes of them is the root page, and what was put are its pages.
+use Rattle.std.proofs.Common.{◌≡◌, ◌∙◌, ℕ, List, [], ◌∷◌, ◌++◌, refl, sym, ap, subst, append_assoc}
+use Rattle.std.proofs.lemmas.List.{append-nil}
+use Rattle.bolt_format.specs.Elements.{BranchElement, LeafElement}
+use Rattle.bolt_tree.specs.Tree.{Tree}
+use Rattle.bolt_bulk.specs.Items.{bucket_item, items_of, root_of}
+use Rattle.bolt_bulk.specs.Laid.{Laid, Placed}
+use Rattle.bolt_bulk.specs.Levels.{root_over}
+use Rattle.bolt_bulk.specs.Layout.{first_page, layout_pages}
+use Rattle.bolt_bulk.specs.Private.OpenRuns.{Frame, Open, all_put, base_in, end_of, end_puts, frames_put, making_room, next_number, nothing_open, pages_put, pushing, room_puts, taking}
+use Rattle.bolt_bulk.specs.Private.Coming.{IsPass, IsStack, held_item}
+use Rattle.bolt_bulk.proofs.OpenRunLemmas.{ends, ends_put, opens, pushed_put, room_put, takes, takes_begun}
+
+-- The beginning: nothing is open, nothing was put.
+pub pass_begins : (page_size : ℕ) (tree : Tree) → IsPass page_size [] nothing_open (items_of page_size tree) (root_of page_size tree)
+unfolding root_of
+pass_begins page_size tree = record {
+  root = root_over page_size (items_of page_size tree);
+  current = opens page_size (items_of page_size tree);
+  begun = record { whole = λ e. refl };
+  stack = refl;
+}
+
+-- An item with no pages below it: room is made, and it is taken.
+pub pass_takes : (page_size : ℕ) (frames : List Frame) (state : Open) (item : Laid LeafElement) (items : List (Laid LeafElement)) (whole : Laid BranchElement)
+    → IsPass page_size frames state (item ∷ items) whole → IsPass page_size frames (taking page_size state item) items whole
+pass_takes page_size frames state item items whole pass = record {
+  root = pass.root;
+  current = takes page_size state item items pass.root pass.begun pass.current;
+  begun = takes_begun page_size state item;
+  stack = pass.stack;
+}
+
+pub put_takes : (page_size : ℕ) (frames : List Frame) (state : Open) (item : Laid LeafElement) → ((n : ℕ) → item.pages n ≡ [])
+    → all_put frames (taking page_size state item) ≡ all_put frames state ++ room_puts page_size state item.key item.size (base_in frames)
+put_takes page_size frames state item none =
+    let b : ℕ = base_in frames in
+    let made : Open = making_room page_size state item.key item.size in
+    let one = pushed_put made item b ∙ (ap (λ (ps : List Placed). pages_put made b ++ ps) (none (next_number made b)) ∙ append-nil (pages_put made b)) in
+    ap (λ (ps : List Placed). frames_put frames ++ ps) (one ∙ room_put page_size state item.key item.size b)
+    ∙ sym (append_assoc (frames_put frames) (pages_put state b) (room_puts page_size state item.key item.size b))
+
+-- A bucket with a root page: room is made, and a bucket within begins.
+abbrev pub waiting : ℕ → Open → List ℕ → ℕ → Laid BranchElement → Tree → Frame
+waiting page_size state key sequence root after =
+    record { state = making_room page_size state key (bucket_item key sequence root).size; key = key; sequence = sequence; after = after }
+
+pub pass_enters : (page_size : ℕ) (frames : List Frame) (state : Open) (key : List ℕ) (sequence : ℕ) (inner : List (Laid LeafElement)) (after : Tree) (whole : Laid BranchElement)
+    → IsPass page_size frames state (bucket_item key sequence (root_over page_size inner) ∷ items_of page_size after) whole
+    → IsPass page_size (waiting page_size state key sequence (root_over page_size inner) after ∷ frames) nothing_open inner whole
+pass_enters page_size frames state key sequence inner after whole pass =
+    let item : Laid LeafElement = bucket_item key sequence (root_over page_size inner) in
+    record {
+      root = root_over page_size inner;
+      current = opens page_size inner;
+      begun = record { whole = λ e. refl };
+      stack = (pass.root, takes page_size state item (items_of page_size after) pass.root pass.begun pass.current, takes_begun page_size state item, pass.stack);
+    }
+
+pub put_enters : (page_size : ℕ) (frames : List Frame) (state : Open) (key : List ℕ) (sequence : ℕ) (root : Laid BranchElement) (after : Tree)
+    → all_put (waiting page_size state key sequence root after ∷ frames) nothing_open
+    ≡ all_put frames state ++ room_puts page_size state key (bucket_item key sequence root).size (base_in frames)
+put_enters page_size frames state key sequence root after =
+    let size : ℕ = (bucket_item key sequence root).size in
+    append-nil (frames_put (waiting page_size state key sequence root after ∷ frames))
+    ∙ (ap (λ (ps : List Placed). frames_put frames ++ ps) (room_put page_size state key size (base_in frames))
+    ∙ sym (append_assoc (frames_put frames) (pages_put state (base_in frames)) (room_puts page_size state key size (base_in frames))))
+
+-- The end of a bucket within: its runs close, and the bucket that waits takes its item.
+pub pass_leaves : (page_size : ℕ) (frame : Frame) (frames : List Frame) (state : Open) (whole : Laid BranchElement) → IsPass page_size (frame ∷ frames) state [] whole
+    → IsPass page_size frames (pushing frame.state (held_item frame (end_of page_size state))) (items_of page_size frame.after) whole
+pass_leaves page_size frame frames state whole pass =
+    let same : pass.root ≡ end_of page_size state = sym (ends page_size state pass.root pass.current) in
+    let (outer, is, begun, rest) = subst (λ (r : Laid BranchElement). IsStack page_size (frame ∷ frames) r whole) same pass.stack in
+    record { root = outer; current = is; begun = begun; stack = rest }
+
+pub put_leaves : (page_size : ℕ) (frame : Frame) (frames : List Frame) (state : Open)
+    → all_put frames (pushing frame.state (held_item frame (end_of page_size state))) ≡ all_put (frame ∷ frames) state ++ end_puts page_size state (base_in (frame ∷ frames))
+put_leaves page_size frame frames state =
+    let b : ℕ = base_in frames in
+    let item : Laid LeafElement = held_item frame (end_of page_size state) in
+    let next : ℕ = base_in (frame ∷ frames) in
+    let xs : List Placed = frames_put frames in
+    let ys : List Placed = pages_put frame.state b in
+    let zs : List Placed = pages_put state next in
+    let es : List Placed = end_puts page_size state next in
+    ap (λ (ps : List Placed). xs ++ ps) (pushed_put frame.state item b ∙ ap (λ (ps : List Placed). ys ++ ps) (ends_put page_size state next))
+    ∙ (sym (append_assoc xs ys (zs ++ es)) ∙ sym (append_assoc (xs ++ ys) zs es))
+
+-- The end: what was put and what the last runs put are the pages of the layout.
+pub pass_ends : (page_size : ℕ) (tree : Tree) (state : Open) → IsPass page_size [] state [] (root_of page_size tree)
+    → all_put [] state ++ end_puts page_size state first_page ≡ layout_pages page_size tree
+pass_ends page_size tree state pass =
+    let same : end_of page_size state ≡ root_of page_size tree = ends page_size state pass.root pass.current ∙ pass.stack in
+    sym (ends_put page_size state first_page) ∙ ap (λ (r : Laid BranchElement). r.pages first_page) same

@@ -1,0 +1,119 @@
+-- Entries that are values, in front of a tree: what they are as items, and whether a bucket with them is inline.
+use Rattle.std.proofs.Common.{◌≡◌, ◌∙◌, ℕ, ◌+◌, ◌/◌, ◌≤◌, ◌<◌, ◌⊎◌, ◌&&◌, Bool, true, false, not, nat_le, List, [], ◌∷◌, ◌++◌, length, refl, sym, ap, inl, inr, arith}
+use Rattle.std.specs.List.{AllByRecursion}
+use Rattle.std.proofs.lemmas.Bool.{le-leb, lt-leb}
+use Rattle.std.proofs.lemmas.List.{length-append}
+use Rattle.std.proofs.lemmas.List.Sums.{sum_by-cons}
+use Rattle.bolt_format.specs.Elements.{LeafElement}
+use Rattle.bolt_tree.specs.Tree.{Tree, end, with_bucket, with_value}
+use Rattle.bolt_bulk.specs.Cut.{max_items, run_size}
+use Rattle.bolt_bulk.specs.Items.{holds_bucket, is_inline, items_of, leaf_item}
+use Rattle.bolt_bulk.specs.Laid.{Laid, elements_of, numbers_of, pages_of, size_of}
+use Rattle.bolt_bulk.specs.PageBytes.{leaf_data}
+use Rattle.bolt_bulk.specs.Private.OpenRows.{IsKeyedItem}
+use Rattle.bolt_bulk.specs.Private.Passes.{onto}
+use Rattle.bolt_bulk.specs.Private.TakenItems.{entries_size}
+
+abbrev pub IsValue : LeafElement → Type 0
+IsValue e = e.is_bucket ≡ false
+
+-- the items of entries that are values
+abbrev pub value_items : List LeafElement → List (Laid LeafElement)
+value_items [] = []
+value_items (e ∷ entries) = leaf_item e.key e.value false ∷ value_items entries
+
+pub onto_items : (page_size : ℕ) (entries : List LeafElement) (tree : Tree) → items_of page_size (onto entries tree) ≡ value_items entries ++ items_of page_size tree
+onto_items page_size [] tree = refl
+onto_items page_size (e ∷ entries) tree = ap (λ (items : List (Laid LeafElement)). leaf_item e.key e.value false ∷ items) (onto_items page_size entries tree)
+
+pub onto_push : (entries : List LeafElement) (e : LeafElement) (tree : Tree) → onto (entries ++ e ∷ []) tree ≡ onto entries (with_value e.key e.value tree)
+onto_push [] e tree = refl
+onto_push (x ∷ entries) e tree = ap (λ (t : Tree). with_value x.key x.value t) (onto_push entries e tree)
+
+pub onto_holds : (entries : List LeafElement) (tree : Tree) → holds_bucket (onto entries tree) ≡ holds_bucket tree
+onto_holds [] tree = refl
+onto_holds (e ∷ entries) tree = onto_holds entries tree
+
+pub values_size : (entries : List LeafElement) → run_size size_of (value_items entries) ≡ entries_size entries
+values_size [] = refl
+values_size (e ∷ entries) =
+    let ih = values_size entries in
+    let own = sum_by-cons (size_of {E = LeafElement}) (leaf_item e.key e.value false) (value_items entries) in
+    let a = length-append e.key (e.value ++ leaf_data entries) in
+    let b = length-append e.value (leaf_data entries) in omega arith
+
+pub onto_size : (page_size : ℕ) (entries : List LeafElement) (tree : Tree)
+    → run_size size_of (items_of page_size (onto entries tree)) + 16 ≡ entries_size entries + run_size size_of (items_of page_size tree)
+onto_size page_size [] tree = omega arith
+onto_size page_size (e ∷ entries) tree =
+    let ih = onto_size page_size entries tree in
+    let own = sum_by-cons (size_of {E = LeafElement}) (leaf_item e.key e.value false) (items_of page_size (onto entries tree)) in
+    let a = length-append e.key (e.value ++ leaf_data entries) in
+    let b = length-append e.value (leaf_data entries) in omega arith
+
+pub onto_count : (page_size : ℕ) (entries : List LeafElement) (tree : Tree) → length (items_of page_size (onto entries tree)) ≡ length entries + length (items_of page_size tree)
+onto_count page_size [] tree = omega arith
+onto_count page_size (e ∷ entries) tree = let ih = onto_count page_size entries tree in omega arith
+
+same_value : (e : LeafElement) → IsValue e → record { key = e.key; value = e.value; is_bucket = false } ≡ e
+same_value e v = ap (λ (b : Bool). record { key = e.key; value = e.value; is_bucket = b }) (sym v)
+
+pub values_elements : (entries : List LeafElement) (n : ℕ) → AllByRecursion IsValue entries → elements_of (value_items entries) n ≡ entries
+values_elements [] n all = refl
+values_elements (e ∷ entries) n all =
+    ap (λ (x : LeafElement). x ∷ elements_of (value_items entries) (n + 0)) (same_value e all.0) ∙ ap (λ (es : List LeafElement). e ∷ es) (values_elements entries (n + 0) all.1)
+
+pub values_numbers : (entries : List LeafElement) → numbers_of (value_items entries) ≡ 0
+values_numbers [] = refl
+values_numbers (e ∷ entries) = let ih = values_numbers entries in omega arith
+
+pub values_pages : (entries : List LeafElement) (n : ℕ) → pages_of (value_items entries) n ≡ []
+values_pages [] n = refl
+values_pages (e ∷ entries) n = values_pages entries (n + 0)
+
+pub values_keyed : (entries : List LeafElement) → AllByRecursion IsKeyedItem (value_items entries)
+values_keyed [] = tt
+values_keyed (e ∷ entries) = ((λ n. refl), values_keyed entries)
+
+pub values_count : (entries : List LeafElement) → length (value_items entries) ≡ length entries
+values_count [] = refl
+values_count (e ∷ entries) = let ih = values_count entries in omega arith
+
+-- a bucket of values alone that takes a quarter of a page at most is inline
+pub ends_inline : (page_size : ℕ) (entries : List LeafElement) → entries_size entries ≤ page_size / 4 → length entries ≤ 65534
+    → is_inline page_size (onto entries end) (items_of page_size (onto entries end)) ≡ true
+ends_inline page_size entries small few =
+    let h = onto_holds entries end in
+    let s = onto_size page_size entries end in
+    let c = onto_count page_size entries end in
+    let fits : nat_le (run_size size_of (items_of page_size (onto entries end))) (page_size / 4) ≡ true = le-leb _ _ (omega arith) in
+    let cap : nat_le (length (items_of page_size (onto entries end))) max_items ≡ true = le-leb _ _ (omega arith) in
+    rw (h, fits, cap) refl
+
+never_first : (a b : Bool) → (a && (false && b)) ≡ false
+never_first true b = refl
+never_first false b = refl
+
+never_last : (a b : Bool) → (a && (b && false)) ≡ false
+never_last true true = refl
+never_last true false = refl
+never_last false b = refl
+
+-- one with a value more than takes a quarter of a page, or than a page may have, isn't
+pub value_too_large : (page_size : ℕ) (entries : List LeafElement) (key value : List ℕ) (after : Tree)
+    → (page_size / 4 < entries_size entries + (16 + (length key + length value))) ⊎ (65534 ≤ length entries)
+    → is_inline page_size (onto entries (with_value key value after)) (items_of page_size (onto entries (with_value key value after))) ≡ false
+value_too_large page_size entries key value after large =
+    let s = onto_size page_size entries (with_value key value after) in
+    let own = sum_by-cons (size_of {E = LeafElement}) (leaf_item key value false) (items_of page_size after) in
+    let c = onto_count page_size entries (with_value key value after) in
+    let inside : Tree = onto entries (with_value key value after) in
+    elim large [
+      | inl long ↦ (let no : nat_le (run_size size_of (items_of page_size inside)) (page_size / 4) ≡ false = lt-leb _ _ (omega arith) in rw no (never_first (not (holds_bucket inside)) (nat_le (length (items_of page_size inside)) max_items)))
+      | inr many ↦ (let no : nat_le (length (items_of page_size inside)) max_items ≡ false = lt-leb _ _ (omega arith) in rw no (never_last (not (holds_bucket inside)) (nat_le (run_size size_of (items_of page_size inside)) (page_size / 4))))
+    ]
+
+-- and one that holds a bucket isn't
+pub bucket_has_root : (page_size : ℕ) (entries : List LeafElement) (key : List ℕ) (sequence : ℕ) (inside after : Tree)
+    → is_inline page_size (onto entries (with_bucket key sequence inside after)) (items_of page_size (onto entries (with_bucket key sequence inside after))) ≡ false
+bucket_has_root page_size entries key sequence inside after = rw (onto_holds entries (with_bucket key sequence inside after)) refl

@@ -1,0 +1,465 @@
+-- The steps of a pass, over what code keeps of it.
+use Rattle.std.proofs.Common.{◌≡◌, ◌∙◌, ℕ, ◌+◌, ◌<◌, true, false, List, [], ◌∷◌, ◌++◌, length, map, reverse, Option, Some, None, Result, Ok, Err, Bor, Vec, Global, refl, sym, ap, subst, arith, append_assoc}
+use Rattle.std.specs.Prelude.{⊤, IfErr, IfOk, OnOk}
+use Rattle.std.specs.List.{AllByRecursion}
+use Rattle.std.proofs.KnownBytes.{Appends-nil, Appends-trans}
+use Rattle.std.proofs.lemmas.List.{append-nil, length-map, map-append, reverse-append}
+use Rattle.bolt_format.specs.ElementPlaces.{leaf_view}
+use Rattle.bolt_format.specs.Elements.{LeafElement}
+use Rattle.bolt_format.specs.declared.element.Leaf.{Leaf}
+use Rattle.bolt_format.proofs.SinkLemmas.{AppendsBeginning-none, AppendsBeginning-second, AppendsBeginning-whole}
+use Rattle.bolt_tree.specs.Tree.{Tree, end, with_bucket, with_value}
+use Rattle.bolt_bulk.specs.Items.{items_of, leaf_item, root_of}
+use Rattle.bolt_bulk.specs.Laid.{Laid, Placed}
+use Rattle.bolt_bulk.specs.Layout.{layout_pages, placed_bytes}
+use Rattle.bolt_bulk.specs.Levels.{root_over}
+use Rattle.bolt_bulk.specs.Private.Levels.{Level}
+use Rattle.bolt_bulk.specs.PageBytes.{inline_value}
+use Rattle.bolt_bulk.specs.Private.Coming.{IsPass, held_item}
+use Rattle.bolt_bulk.specs.Private.OpenBuckets.{bucket_end_next, rows_of}
+use Rattle.bolt_bulk.specs.Private.OpenRows.{IsOpenRows}
+use Rattle.bolt_bulk.specs.Private.OpenRuns.{Frame, Open, base_in, end_of, making_room, next_number, pushing, taking}
+use Rattle.bolt_bulk.specs.Private.Passes.{AreWaiting, HasRoot, IsAt, IsPending, IsSmall, StandsBefore, Steps, level_of, onto}
+use Rattle.bolt_bulk.specs.Private.Rows.{OpenRows, rows_end, rows_end_put, rows_push, rows_room, rows_room_put}
+use Rattle.bolt_bulk.specs.Private.TakenItems.{inline_element, root_element, rows_taking, value_element}
+use Rattle.bolt_bulk.specs.Puts.{Puts}
+use Rattle.bolt_bulk.specs.declared.bounds.Bounds.{Bounds}
+use Rattle.bolt_bulk.specs.declared.fault.BulkFault.{BulkFault}
+use Rattle.bolt_bulk.specs.declared.fault.BulkFault.TheVariants as fault
+use Rattle.bolt_bulk.specs.declared.open_bucket.OpenBucket.{OpenBucket}
+use Rattle.bolt_bulk.specs.declared.pass.Pass.{Pass}
+use Rattle.bolt_bulk.specs.declared.pass.Pending.{Pending}
+use Rattle.bolt_bulk.specs.declared.steps.Waiting.{Waiting}
+use Rattle.bolt_bulk.proofs.Frames.{waiting}
+use Rattle.bolt_bulk.proofs.Heights.{enters_bounded}
+use Rattle.bolt_bulk.proofs.HeldRuns.{length-inline_value}
+use Rattle.bolt_bulk.proofs.Ontos.{IsValue, onto_items, onto_push, value_items}
+use Rattle.bolt_bulk.proofs.PassSteps.{IsOn, inline_item, on_before, on_enters, on_leaves, on_numbers, on_takes, open_values, pass_takes_all, root_item, values_put, values_rows}
+use Rattle.bolt_bulk.proofs.PutBefore.{bytes-append}
+
+-- ---- results
+
+pub on_ok_map : {A E : Type 0} {P Q : Type 0} (result : Result A E) → OnOk result P → (P → Q) → OnOk result Q
+on_ok_map (Ok x) p f = f p
+on_ok_map (Err e) p f = tt
+
+pub if_err_map : {A E : Type 0} {P Q : E → Type 0} (result : Result A E) → IfErr result P → ((e : E) → P e → Q e) → IfErr result Q
+if_err_map (Ok x) p f = tt
+if_err_map (Err e) p f = f e p
+
+pub if_ok_map : {A E : Type 0} {P Q : A → Type 0} (result : Result A E) → IfOk result P → ((x : A) → P x → Q x) → IfOk result Q
+if_ok_map (Ok x) p f = f x p
+if_ok_map (Err e) p f = tt
+
+-- ---- sinks
+
+-- nothing is put, and a fault other than that of the sink is told
+pub puts_none : {S A : Type 0} {taken : S → Option (List ℕ)} {failed : S → ℕ} (old : S) (result : Result A BulkFault) → IfErr result (λ e. e ≡ fault.Sink → ⊥)
+    → Puts taken failed old old [] result
+puts_none {taken} {failed} old (Ok x) other = record { all = Appends-nil (taken old); sound = refl; beginning = tt; failure = tt; other = tt }
+puts_none {taken} {failed} old (Err e) other = record { all = tt; sound = tt; beginning = AppendsBeginning-none (taken old) []; failure = λ s. absurd (other s); other = λ _. refl }
+
+-- what was put well, where the call fails for want of memory then
+pub puts_failed : {S A B : Type 0} {taken : S → Option (List ℕ)} {failed : S → ℕ} (old new : S) (text : List ℕ) (x : A) → Puts taken failed old new text (Ok x) → Puts {A = B} taken failed old new text (Err fault.Memory)
+puts_failed {taken} {failed} old new text x a = record {
+  all = tt;
+  sound = tt;
+  beginning = AppendsBeginning-whole (taken old) (taken new) text a.all;
+  failure = λ s. absurd cc;
+  other = λ _. a.sound;
+}
+
+-- the same, told of nothing
+pub puts_well : {S A : Type 0} {taken : S → Option (List ℕ)} {failed : S → ℕ} (old new : S) (text : List ℕ) (x : A) → Puts taken failed old new text (Ok x) → Puts {A = ⊤} taken failed old new text (Ok tt)
+puts_well old new text x a = record { all = a.all; sound = a.sound; beginning = tt; failure = tt; other = tt }
+
+pub puts_fault : {S A B : Type 0} {taken : S → Option (List ℕ)} {failed : S → ℕ} (old new : S) (text : List ℕ) (e : BulkFault) → Puts {A = A} taken failed old new text (Err e) → Puts {A = B} taken failed old new text (Err e)
+puts_fault old new text e a = record { all = tt; sound = tt; beginning = a.beginning; failure = a.failure; other = a.other }
+
+-- ---- one step after another
+
+module _ {S : Type 0} (tree : Tree) (taken : S → Option (List ℕ)) (failed : S → ℕ) (bounds : Bounds) where
+  abbrev StepsBy : {A : Type 0} (old new : S) (put : List Placed) (At : List Placed → Type 0) (result : Result A BulkFault) → Type 0
+  StepsBy old new put At result = Steps tree taken failed old new bounds put At result
+
+  puts_then : {A B : Type 0} (old mid new : S) (first second : List ℕ) (x : A) (result : Result B BulkFault) → Puts taken failed old mid first (Ok x) → Puts taken failed mid new second result
+      → Puts taken failed old new (first ++ second) result
+  puts_then old mid new first second x (Ok y) a b = record {
+    all = Appends-trans (taken old) (taken mid) (taken new) first second a.all b.all;
+    sound = b.sound ∙ a.sound;
+    beginning = tt;
+    failure = tt;
+    other = tt;
+  }
+  puts_then old mid new first second x (Err e) a b = record {
+    all = tt;
+    sound = tt;
+    beginning = AppendsBeginning-second (taken old) (taken mid) (taken new) first second a.all b.beginning;
+    failure = b.failure;
+    other = λ f. b.other f ∙ a.sound;
+  }
+
+  pub steps_then : {A B : Type 0} (old mid new : S) (put : List Placed) (Mid At : List Placed → Type 0) (x : A) (result : Result B BulkFault)
+      → StepsBy old mid put Mid (Ok x) → ((all : List Placed) → Mid all → StepsBy mid new all At result) → StepsBy old new put At result
+  steps_then old mid new put Mid At x result one two =
+      let then = two (put ++ one.more) one.at in
+      let same : (put ++ one.more) ++ then.more ≡ put ++ (one.more ++ then.more) = append_assoc put one.more then.more in
+      record {
+        more = one.more ++ then.more;
+        puts = subst (λ (bs : List ℕ). Puts taken failed old new bs result) (sym (bytes-append bounds.page_size one.more then.more)) (puts_then old mid new _ _ x result one.puts then.puts);
+        at = subst (λ (ps : List Placed). OnOk result (At ps)) same then.at;
+        before = subst (λ (ps : List Placed). StandsBefore ps (layout_pages bounds.page_size tree)) same then.before;
+        large = then.large;
+      }
+
+  -- a fault is handed on
+  pub steps_stop : {A B : Type 0} (old new : S) (put : List Placed) (Mid At : List Placed → Type 0) (e : BulkFault) → StepsBy {A = A} old new put Mid (Err e) → StepsBy {A = B} old new put At (Err e)
+  steps_stop old new put Mid At e one = record {
+    more = one.more;
+    puts = record { all = tt; sound = tt; beginning = one.puts.beginning; failure = one.puts.failure; other = one.puts.other };
+    at = tt;
+    before = one.before;
+    large = one.large;
+  }
+
+  -- memory ran out after steps that went well
+  pub steps_failed : {A B : Type 0} (old new : S) (put : List Placed) (At : List Placed → Type 0) (x : A) → StepsBy old new put At (Ok x) → StepsBy {A = B} old new put At (Err fault.Memory)
+  steps_failed old new put At x one = record { more = one.more; puts = puts_failed old new _ x one.puts; at = tt; before = one.before; large = λ e. absurd cc }
+
+-- ---- what stands in a pass
+
+-- with nothing that may be inline
+pub on_of : (tree : Tree) (pass : Pass) (levels : List Level) (left : Tree) (put : List Placed) (is : IsAt tree pass levels left put) → pass.pending ≡ None
+    → (levels ≡ map level_of is.frames) × IsOn pass.bounds.page_size tree is.frames is.state (items_of pass.bounds.page_size left) (rows_of pass.bucket pass.next) put
+on_of tree pass levels left put is none =
+    let (same, rest) = subst (λ (p : Option Pending). IsPending p pass.entries.items (map level_of is.frames) is.rest levels left) none is.pends in
+    let under = subst (λ (t : Tree). IsPass pass.bounds.page_size is.frames is.state (items_of pass.bounds.page_size t) (root_of pass.bounds.page_size tree)) rest is.under in
+    (same, record { under = under; rows_are = is.rows; put_is = is.put_is; bounded = is.bounded })
+
+-- with a bucket that may be inline
+abbrev pub HasPending : (tree : Tree) (pass : Pass) (levels : List Level) (left : Tree) (put : List Placed) (is : IsAt tree pass levels left put) → Pending → Type 0
+HasPending tree pass levels left put is p = (after : Tree)
+    × (levels ≡ record { key = p.key.now; after = after } ∷ map level_of is.frames)
+    × IsOn pass.bounds.page_size tree is.frames is.state (items_of pass.bounds.page_size (with_bucket p.key.now p.sequence (onto (map leaf_view pass.entries.items) left) after)) (rows_of pass.bucket pass.next) put
+
+pending_of : (tree : Tree) (pass : Pass) (levels : List Level) (left : Tree) (put : List Placed) (p : Pending) (is : IsAt tree pass levels left put) → pass.pending ≡ Some p → HasPending tree pass levels left put is p
+pending_of tree pass levels left put p is some =
+    let (after, same, rest) = subst (λ (q : Option Pending). IsPending q pass.entries.items (map level_of is.frames) is.rest levels left) some is.pends in
+    let under = subst (λ (t : Tree). IsPass pass.bounds.page_size is.frames is.state (items_of pass.bounds.page_size t) (root_of pass.bounds.page_size tree)) rest is.under in
+    (after, same, record { under = under; rows_are = is.rows; put_is = is.put_is; bounded = is.bounded })
+
+-- what was put stands before the rest, at any time
+pub at_before : (tree : Tree) (pass : Pass) (levels : List Level) (left : Tree) (put : List Placed) → IsAt tree pass levels left put → StandsBefore put (layout_pages pass.bounds.page_size tree)
+at_before tree pass levels left put is =
+    on_before pass.bounds.page_size tree is.frames is.state (items_of pass.bounds.page_size is.rest) (rows_of pass.bucket pass.next) put (record { under = is.under; rows_are = is.rows; put_is = is.put_is; bounded = is.bounded })
+
+-- a step that puts nothing
+pub steps_none : {S A : Type 0} {taken : S → Option (List ℕ)} {failed : S → ℕ} (tree : Tree) (pass : Pass) (levels : List Level) (left : Tree) (put : List Placed) (old : S) (At : List Placed → Type 0) (result : Result A BulkFault)
+    → IsAt tree pass levels left put → IfErr result (λ e. e ≡ fault.Memory) → OnOk result (At put) → Steps tree taken failed old old pass.bounds put At result
+steps_none tree pass levels left put old At (Ok x) is memory at = record {
+  more = [];
+  puts = puts_none old (Ok x) tt;
+  at = subst At (sym (append-nil put)) at;
+  before = subst (λ (ps : List Placed). StandsBefore ps (layout_pages pass.bounds.page_size tree)) (sym (append-nil put)) (at_before tree pass levels left put is);
+  large = tt;
+}
+steps_none tree pass levels left put old At (Err e) is memory at = record {
+  more = [];
+  puts = puts_none old (Err e) (λ s. absurd (let other : fault.Memory ≡ fault.Sink = sym memory ∙ s in cc));
+  at = tt;
+  before = subst (λ (ps : List Placed). StandsBefore ps (layout_pages pass.bounds.page_size tree)) (sym (append-nil put)) (at_before tree pass levels left put is);
+  large = λ s. absurd (let other : fault.Memory ≡ fault.TooLarge = sym memory ∙ s in cc);
+}
+
+-- the innermost level is that of the first frame
+first_frame : (level : Level) (levels : List Level) (frames : List Frame) → level ∷ levels ≡ map level_of frames
+    → (frame : Frame) × (others : List Frame) × (frames ≡ frame ∷ others) × ((levels ≡ map level_of others) × (frame.after ≡ level.after))
+first_frame level levels [] e = absurd cc
+first_frame level levels (frame ∷ frames) e =
+    let first : level ≡ level_of frame = cc in
+    let others : levels ≡ map level_of frames = cc in
+    (frame, frames, refl, (others, ap (λ (l : Level). l.after) (sym first)))
+
+-- entries that code keeps as values are shown as such
+shown_values : (entries : List Leaf) → AllByRecursion (λ (entry : Leaf). entry.is_bucket ≡ false) entries → AllByRecursion IsValue (map leaf_view entries)
+shown_values [] all = tt
+shown_values (e ∷ entries) all = (all.0, shown_values entries all.1)
+
+module _ {S : Type 0} (taken : S → Option (List ℕ)) (failed : S → ℕ) (tree : Tree) (pass : Pass) (put : List Placed) where
+  abbrev P : ℕ
+  P = pass.bounds.page_size
+
+  abbrev rows_now : OpenRows
+  rows_now = rows_of pass.bucket pass.next
+
+  -- ---- a value of the open bucket
+  pub value_steps : {A : Type 0} (levels : List Level) (key value : List ℕ) (after : Tree) (old new : S) (bucket : OpenBucket) (next : ℕ) (result : Result A BulkFault)
+      → IsAt tree pass levels (with_value key value after) put → pass.pending ≡ None
+      → Puts taken failed old new (placed_bytes P (rows_room_put P rows_now key (16 + (length key + length value)))) result
+      → OnOk result (rows_of bucket next ≡ rows_taking P rows_now (value_element key value) (16 + (length key + length value)))
+      → IfErr result (λ e. e ≡ fault.TooLarge → pass.bounds.limit < (rows_room P rows_now key (16 + (length key + length value))).next)
+      → Steps tree taken failed old new pass.bounds put
+      (IsAt tree (record { alloc = pass.alloc; bounds = pass.bounds; waiting = pass.waiting; bucket = bucket; pending = pass.pending; entries = pass.entries; next = next; around = pass.around; most = pass.most }) levels after) result
+  value_steps levels key value after old new bucket next result is none puts rows large =
+      let (same, on) = on_of tree pass levels (with_value key value after) put is none in
+      let made : Open = taking P is.state (leaf_item key value false) in
+      let then = on_takes P tree is.frames is.state key value false (items_of P after) rows_now put on (λ n e. absurd cc) in
+      let few = on_numbers P tree is.frames made _ _ _ then in
+      record {
+        more = rows_room_put P rows_now key (16 + (length key + length value));
+        puts = puts;
+        at = on_ok_map result rows (λ e. record {
+          frames = is.frames;
+          state = made;
+          rest = after;
+          under = then.under;
+          rows = subst (λ (r : OpenRows). IsOpenRows r made (base_in is.frames)) (sym e) then.rows_are;
+          waits = is.waits;
+          put_is = then.put_is;
+          bounded = then.bounded;
+          pends = subst (λ (p : Option Pending). IsPending p pass.entries.items (map level_of is.frames) after levels after) (sym none) (same, refl);
+        });
+        before = on_before P tree is.frames made _ _ _ then;
+        large = if_err_map result large (λ e l h. let m = l h in omega (arith, m, few));
+      }
+
+  -- ---- the end of a bucket that is inline
+  pub inline_steps : {A : Type 0} (level : Level) (levels : List Level) (p : Pending) (size : ℕ) (old new : S) (bucket : OpenBucket) (entries : Vec Leaf Global) (next : ℕ) (result : Result A BulkFault)
+      → IsAt tree pass (level ∷ levels) end put → pass.pending ≡ Some p → IsSmall P p pass.entries.items → size ≡ length (inline_value p.sequence (map leaf_view pass.entries.items))
+      → Puts taken failed old new (placed_bytes P (rows_room_put P rows_now p.key.now (16 + (length p.key.now + size)))) result
+      → OnOk result (rows_of bucket next ≡ rows_taking P rows_now (inline_element p.key.now p.sequence (map leaf_view pass.entries.items)) (16 + (length p.key.now + size)))
+      → IfErr result (λ e. e ≡ fault.TooLarge → pass.bounds.limit < (rows_room P rows_now p.key.now (16 + (length p.key.now + size))).next)
+      → Steps tree taken failed old new pass.bounds put
+      (IsAt tree (record { alloc = pass.alloc; bounds = pass.bounds; waiting = pass.waiting; bucket = bucket; pending = None; entries = entries; next = next; around = pass.around; most = pass.most }) levels level.after) result
+  inline_steps level levels p size old new bucket entries next result is some small sized puts rows large =
+      let (after, same, on) = pending_of tree pass (level ∷ levels) end put p is some in
+      let shown : List LeafElement = map leaf_view pass.entries.items in
+      let value : List ℕ = inline_value p.sequence shown in
+      let values = shown_values pass.entries.items small.values in
+      let few = small.few in
+      let count = length-map pass.entries.items leaf_view in
+      let sizes = small.sized in
+      let fits = small.small in
+      let item = inline_item P p.key.now p.sequence shown values (omega arith) (omega arith) in
+      let on2 = subst (λ (i : Laid LeafElement). IsOn P tree is.frames is.state (i ∷ items_of P after) rows_now put) item on in
+      let long = length-inline_value p.sequence shown in
+      let then0 = on_takes P tree is.frames is.state p.key.now value true (items_of P after) rows_now put on2 (λ n e. omega arith) in
+      let made : Open = taking P is.state (leaf_item p.key.now value true) in
+      let Then : ℕ → Type 0 = λ n. IsOn P tree is.frames made (items_of P after) (rows_taking P rows_now (inline_element p.key.now p.sequence shown) (16 + (length p.key.now + n))) (put ++ rows_room_put P rows_now p.key.now (16 + (length p.key.now + n))) in
+      let then : Then size = subst Then (sym sized) then0 in
+      let numbers = on_numbers P tree is.frames made _ _ _ then in
+      let first : level ≡ record { key = p.key.now; after = after } = cc in
+      let others : levels ≡ map level_of is.frames = cc in
+      let behind : after ≡ level.after = ap (λ (l : Level). l.after) (sym first) in
+      record {
+        more = rows_room_put P rows_now p.key.now (16 + (length p.key.now + size));
+        puts = puts;
+        at = on_ok_map result rows (λ e. record {
+          frames = is.frames;
+          state = made;
+          rest = after;
+          under = then.under;
+          rows = subst (λ (r : OpenRows). IsOpenRows r made (base_in is.frames)) (sym e) then.rows_are;
+          waits = is.waits;
+          put_is = then.put_is;
+          bounded = then.bounded;
+          pends = (others, behind);
+        });
+        before = on_before P tree is.frames made _ _ _ then;
+        large = if_err_map result large (λ e l h. let m = l h in omega (arith, m, numbers));
+      }
+
+  -- ---- a bucket that has a root page is opened, and the one around it waits
+
+  abbrev opened_rows : Pending → ℕ → OpenRows
+  opened_rows p next = record { leaves = record { elements = map leaf_view pass.entries.items; size = p.size }; uppers = []; next = next }
+
+  -- where it stands then
+  abbrev room_for : Pending → OpenRows
+  room_for p = rows_room P rows_now p.key.now (32 + length p.key.now)
+
+  abbrev frame_of : Pending → Tree → Tree → Open → Frame
+  frame_of p left after state = waiting P state p.key.now p.sequence (root_over P (items_of P (onto (map leaf_view pass.entries.items) left))) after
+
+  record HasOpened (levels : List Level) (left : Tree) (p : Pending) (is : IsAt tree pass levels left put) : Type 0 where
+    after : Tree
+    same : levels ≡ record { key = p.key.now; after = after } ∷ map level_of is.frames
+    outer : IsOpenRows (room_for p) (making_room P is.state p.key.now (32 + length p.key.now)) (base_in is.frames)
+    base : (room_for p).next ≡ base_in (frame_of p left after is.state ∷ is.frames)
+    values : AllByRecursion IsValue (map leaf_view pass.entries.items)
+    on : IsOn P tree (frame_of p left after is.state ∷ is.frames) (open_values (value_items (map leaf_view pass.entries.items))) (items_of P left) (opened_rows p (room_for p).next)
+        (put ++ rows_room_put P rows_now p.key.now (32 + length p.key.now))
+
+  has_opened : (levels : List Level) (left : Tree) (p : Pending) (is : IsAt tree pass levels left put) → pass.pending ≡ Some p → IsSmall P p pass.entries.items → HasRoot P (onto (map leaf_view pass.entries.items) left)
+      → HasOpened levels left p is
+  has_opened levels left p is some small rooted =
+      let (after, same, on) = pending_of tree pass levels left put p is some in
+      let shown : List LeafElement = map leaf_view pass.entries.items in
+      let values = shown_values pass.entries.items small.values in
+      let few = small.few in
+      let count = length-map pass.entries.items leaf_view in
+      let sizes = small.sized in
+      let fits = small.small in
+      let inner : List (Laid LeafElement) = items_of P (onto shown left) in
+      let item = root_item P p.key.now p.sequence (onto shown left) rooted in
+      let on2 = subst (λ (i : Laid LeafElement). IsOn P tree is.frames is.state (i ∷ items_of P after) rows_now put) item on in
+      let (entered, made, placed) = on_enters P tree is.frames is.state p.key.now p.sequence inner after rows_now put on2 in
+      let frames : List Frame = frame_of p left after is.state ∷ is.frames in
+      let begun = subst (λ (items : List (Laid LeafElement)). IsPass P frames (open_values []) items (root_of P tree)) (onto_items P shown left) entered in
+      let under = pass_takes_all P frames [] shown (items_of P left) (root_of P tree) (omega arith) (omega arith) begun in
+      let room_is : 32 + length p.key.now ≡ 16 + (length p.key.now + 16) = omega arith in
+      let base : (room_for p).next ≡ base_in frames = made.next_is ∙ ap (λ (n : ℕ). next_number (making_room P is.state p.key.now n) (base_in is.frames)) room_is in
+      record {
+        after = after;
+        same = same;
+        outer = made;
+        base = base;
+        values = values;
+        on = record { under = under; rows_are = values_rows shown p.size (base_in frames) (room_for p).next values sizes base; put_is = placed ∙ values_put frames shown; bounded = enters_bounded P is.frames is.state p.key.now p.sequence (root_over P inner) after shown on2.bounded (omega arith) };
+      }
+
+  -- a fault on the way
+  pub open_stops : {A : Type 0} (levels : List Level) (left : Tree) (p : Pending) (old new : S) (At : List Placed → Type 0) (e : BulkFault)
+      → IsAt tree pass levels left put → pass.pending ≡ Some p → IsSmall P p pass.entries.items → HasRoot P (onto (map leaf_view pass.entries.items) left)
+      → Puts {A = A} taken failed old new (placed_bytes P (rows_room_put P rows_now p.key.now (32 + length p.key.now))) (Err e)
+      → (e ≡ fault.TooLarge → pass.bounds.limit < (room_for p).next)
+      → Steps {A = A} tree taken failed old new pass.bounds put At (Err e)
+  open_stops levels left p old new At e is some small rooted puts large =
+      let then = has_opened levels left p is some small rooted in
+      let numbers = on_numbers P tree _ _ _ _ _ then.on in
+      record {
+        more = rows_room_put P rows_now p.key.now (32 + length p.key.now);
+        puts = puts;
+        at = tt;
+        before = on_before P tree _ _ _ _ _ then.on;
+        large = λ h. let m = large h in omega (arith, m, numbers);
+      }
+
+  -- all went well
+  pub open_steps : (levels : List Level) (left : Tree) (p : Pending) (old new : S) (bucket : OpenBucket) (w : Waiting) (around : Vec Waiting Global) (entries : Vec Leaf Global) (next held : ℕ)
+      → IsAt tree pass levels left put → pass.pending ≡ Some p → IsSmall P p pass.entries.items → HasRoot P (onto (map leaf_view pass.entries.items) left)
+      → Puts {A = ⊤} taken failed old new (placed_bytes P (rows_room_put P rows_now p.key.now (32 + length p.key.now))) (Ok tt)
+      → around.items ≡ pass.waiting.items ++ w ∷ [] → rows_of w.bucket next ≡ room_for p → w.key.now ≡ p.key.now → w.sequence ≡ p.sequence → rows_of bucket next ≡ opened_rows p next
+      → Steps {A = ⊤} tree taken failed old new pass.bounds put
+      (IsAt tree (record { alloc = pass.alloc; bounds = pass.bounds; waiting = around; bucket = bucket; pending = None; entries = entries; next = next; around = held; most = pass.most }) levels left) (Ok tt)
+  open_steps levels left p old new bucket w around entries next held is some small rooted puts items rows key sequence values_are =
+      let then = has_opened levels left p is some small rooted in
+      let frame : Frame = frame_of p left then.after is.state in
+      let frames : List Frame = frame ∷ is.frames in
+      let state : Open = open_values (value_items (map leaf_view pass.entries.items)) in
+      let next_is : next ≡ (room_for p).next = ap (λ (r : OpenRows). r.next) rows in
+      let room_is : 32 + length p.key.now ≡ 16 + (length p.key.now + 16) = omega arith in
+      record {
+        more = rows_room_put P rows_now p.key.now (32 + length p.key.now);
+        puts = puts;
+        at = record {
+          frames = frames;
+          state = state;
+          rest = left;
+          under = then.on.under;
+          rows = subst (λ (r : OpenRows). IsOpenRows r state (base_in frames)) (sym values_are)
+              (values_rows (map leaf_view pass.entries.items) p.size (base_in frames) next then.values small.sized (next_is ∙ then.base));
+          waits = subst (λ (ws : List Waiting). AreWaiting ws frames) (sym (ap reverse items ∙ reverse-append pass.waiting.items (w ∷ []))) (
+            subst (λ (n : ℕ). IsOpenRows (rows_of w.bucket n) frame.state (base_in is.frames)) (next_is ∙ then.base)
+                (subst (λ (n : ℕ). IsOpenRows (rows_of w.bucket next) (making_room P is.state p.key.now n) (base_in is.frames)) room_is
+                (subst (λ (r : OpenRows). IsOpenRows r (making_room P is.state p.key.now (32 + length p.key.now)) (base_in is.frames)) (sym rows) then.outer)),
+            key,
+            sequence,
+            is.waits,
+          );
+          put_is = then.on.put_is;
+          bounded = then.on.bounded;
+          pends = (then.same, refl);
+        };
+        before = on_before P tree _ _ _ _ _ then.on;
+        large = tt;
+      }
+
+  -- ---- the open bucket ends, and the one around it goes on
+  pub leave_steps : {A : Type 0} (level : Level) (levels : List Level) (w : Waiting) (old new : S) (bucket : OpenBucket) (around : Vec Waiting Global) (next held : ℕ) (result : Result A BulkFault)
+      → IsAt tree pass (level ∷ levels) end put → pass.pending ≡ None → pass.waiting.items ≡ around.items ++ w ∷ []
+      → Puts taken failed old new (placed_bytes P (rows_end_put P rows_now)) result
+      → OnOk result ((before : ℕ) → rows_of bucket next ≡ rows_push (rows_of w.bucket before) (root_element w.key.now (rows_end P rows_now) w.sequence) (32 + length w.key.now) (bucket_end_next P rows_now))
+      → IfErr result (λ e. e ≡ fault.TooLarge → pass.bounds.limit < bucket_end_next P rows_now)
+      → Steps tree taken failed old new pass.bounds put
+      (IsAt tree (record { alloc = pass.alloc; bounds = pass.bounds; waiting = around; bucket = bucket; pending = pass.pending; entries = pass.entries; next = next; around = held; most = pass.most }) levels level.after) result
+  leave_steps level levels w old new bucket around next held result is none popped puts rows large =
+      let (same, on) = on_of tree pass (level ∷ levels) end put is none in
+      let (frame, frames, more_frames, top) = first_frame level levels is.frames same in
+      let ws : reverse pass.waiting.items ≡ w ∷ reverse around.items = ap reverse popped ∙ reverse-append around.items (w ∷ []) in
+      let waits = subst (λ (fs : List Frame). AreWaiting (reverse pass.waiting.items) fs) more_frames is.waits in
+      let (outer, key, sequence, others) = subst (λ (l : List Waiting). AreWaiting l (frame ∷ frames)) ws waits in
+      let on2 = subst (λ (fs : List Frame). IsOn P tree fs is.state [] rows_now put) more_frames on in
+      let made : Open = pushing frame.state (held_item frame (end_of P is.state)) in
+      let base : ℕ = base_in (frame ∷ frames) in
+      let then = on_leaves P tree frame frames is.state rows_now (rows_of w.bucket base) put on2 outer refl in
+      let numbers = on_numbers P tree frames made _ _ _ then in
+      let size : 32 + length w.key.now ≡ 16 + (length frame.key + 16) = (let n = ap (λ (k : List ℕ). length k) key in omega arith) in
+      let Row : List ℕ → ℕ → ℕ → OpenRows = λ k s n. rows_push (rows_of w.bucket base) (root_element k (rows_end P rows_now) s) n (bucket_end_next P rows_now) in
+      let row_is : Row w.key.now w.sequence (32 + length w.key.now) ≡ Row frame.key frame.sequence (16 + (length frame.key + 16)) =
+      ap (λ (n : ℕ). Row w.key.now w.sequence n) size ∙ (ap (λ (k : List ℕ). Row k w.sequence (16 + (length frame.key + 16))) key ∙ ap (λ (s : ℕ). Row frame.key s (16 + (length frame.key + 16))) sequence) in
+      record {
+        more = rows_end_put P rows_now;
+        puts = puts;
+        at = on_ok_map result rows (λ e. record {
+          frames = frames;
+          state = made;
+          rest = frame.after;
+          under = then.under;
+          rows = subst (λ (r : OpenRows). IsOpenRows r made (base_in frames)) (sym (e base ∙ row_is)) then.rows_are;
+          waits = others;
+          put_is = then.put_is;
+          bounded = then.bounded;
+          pends = subst (λ (p : Option Pending). IsPending p pass.entries.items (map level_of frames) frame.after levels level.after) (sym none) top;
+        });
+        before = on_before P tree frames made _ _ _ then;
+        large = if_err_map result large (λ e l h. let m = l h in omega (arith, m, numbers));
+      }
+
+-- ---- what takes no step in the layout
+
+module _ (tree : Tree) (pass : Pass) (levels : List Level) (put : List Placed) where
+  -- a value of a bucket that may be inline
+  pub keep_at : (key value : List ℕ) (after : Tree) (p : Pending) (entry : Leaf) (size : ℕ) (entries : Vec Leaf Global) → IsAt tree pass levels (with_value key value after) put → pass.pending ≡ Some p
+      → entries.items ≡ pass.entries.items ++ entry ∷ [] → leaf_view entry ≡ value_element key value
+      → IsAt tree (record { alloc = pass.alloc; bounds = pass.bounds; waiting = pass.waiting; bucket = pass.bucket; pending = Some (record { key = p.key; sequence = p.sequence; size = size }); entries = entries; next = pass.next; around = pass.around; most = pass.most }) levels after put
+  keep_at key value after p entry size entries is some pushed view =
+      let (behind, same, rest) = subst (λ (q : Option Pending). IsPending q pass.entries.items (map level_of is.frames) is.rest levels (with_value key value after)) some is.pends in
+      let shown : List LeafElement = map leaf_view pass.entries.items in
+      let all : map leaf_view entries.items ≡ shown ++ value_element key value ∷ [] =
+      ap (map leaf_view) pushed ∙ (map-append leaf_view pass.entries.items (entry ∷ []) ∙ ap (λ (e : LeafElement). shown ++ e ∷ []) view) in
+      let onto_is : onto (map leaf_view entries.items) after ≡ onto shown (with_value key value after) =
+      ap (λ (es : List LeafElement). onto es after) all ∙ onto_push shown (value_element key value) after in
+      record {
+        frames = is.frames;
+        state = is.state;
+        rest = is.rest;
+        under = is.under;
+        rows = is.rows;
+        waits = is.waits;
+        put_is = is.put_is;
+        bounded = is.bounded;
+        pends = (behind, same, rest ∙ ap (λ (t : Tree). with_bucket p.key.now p.sequence t behind) (sym onto_is));
+      }
+
+  -- a bucket that may be inline
+  pub begin_at : (key : Bor (List ℕ)) (sequence : ℕ) (inside after : Tree) → IsAt tree pass levels (with_bucket key.now sequence inside after) put → pass.pending ≡ None → pass.entries.items ≡ []
+      → IsAt tree (record { alloc = pass.alloc; bounds = pass.bounds; waiting = pass.waiting; bucket = pass.bucket; pending = Some (record { key = key; sequence = sequence; size = 16 }); entries = pass.entries; next = pass.next; around = pass.around; most = pass.most })
+      (record { key = key.now; after = after } ∷ levels) inside put
+  begin_at key sequence inside after is none empty =
+      let (same, rest) = subst (λ (q : Option Pending). IsPending q pass.entries.items (map level_of is.frames) is.rest levels (with_bucket key.now sequence inside after)) none is.pends in
+      record {
+        frames = is.frames;
+        state = is.state;
+        rest = is.rest;
+        under = is.under;
+        rows = is.rows;
+        waits = is.waits;
+        put_is = is.put_is;
+        bounded = is.bounded;
+        pends = (
+          after,
+          ap (λ (ls : List Level). record { key = key.now; after = after } ∷ ls) same,
+          rest ∙ ap (λ (es : List Leaf). with_bucket key.now sequence (onto (map leaf_view es) inside) after) (sym empty),
+        );
+      }

@@ -1,0 +1,227 @@
+-- The next member of a listing in a pass, the beginning of a pass, and its end.
+use Rattle.std.proofs.Common.{◌≡◌, ◌≢◌, ◌∙◌, ℕ, suc, ◌+◌, ◌≤◌, List, [], ◌∷◌, ◌++◌, length, map, Option, Some, None, Result, Ok, Err, OnErr, refl, sym, ap, subst, arith, append_assoc}
+use Rattle.std.specs.List.{AllByRecursion}
+use Rattle.std.proofs.lemmas.List.{length-append}
+use Rattle.bolt_check.specs.Keys.{Key}
+use Rattle.bolt_format.specs.Elements.{BranchElement}
+use Rattle.bolt_format.specs.Sinks.{AppendsBeginning, AppendsProperBeginning}
+use Rattle.bolt_tree.specs.Entries.{Bucket, Value}
+use Rattle.bolt_tree.specs.Listing.{Member}
+use Rattle.bolt_tree.specs.Paths.{Path}
+use Rattle.bolt_tree.specs.Tree.{Tree, end, listing_below, listing_of, with_bucket, with_value}
+use Rattle.bolt_bulk.specs.Items.{root_of}
+use Rattle.bolt_bulk.specs.Laid.{Laid, Placed}
+use Rattle.bolt_bulk.specs.Layout.{first_page, layout_mark, layout_pages, layout_root, placed_bytes}
+use Rattle.bolt_bulk.specs.Storable.{HasLengths}
+use Rattle.bolt_bulk.specs.Private.Endings.{Ends, IsFitMember, last_part}
+use Rattle.bolt_bulk.specs.Private.Levels.{Level, left_in, path_in}
+use Rattle.bolt_bulk.specs.Private.OpenBuckets.{bucket_end_next, rows_of}
+use Rattle.bolt_bulk.specs.Private.OpenRows.{IsOpenRows}
+use Rattle.bolt_bulk.specs.Private.OpenRuns.{Frame, Open, all_put, end_of, nothing_open}
+use Rattle.bolt_bulk.specs.Private.Passes.{HasLeft, IsAt, Steps, depth_of, level_of, pending_depth}
+use Rattle.bolt_bulk.specs.Private.Rows.{OpenRows, no_leaves, rows_end, rows_end_put}
+use Rattle.bolt_bulk.specs.Puts.{Puts}
+use Rattle.bolt_bulk.specs.declared.bounds.Bounds.{Bounds}
+use Rattle.bolt_bulk.specs.declared.fault.BulkFault.{BulkFault}
+use Rattle.bolt_bulk.specs.declared.pass.Ended.{Ended}
+use Rattle.bolt_bulk.specs.declared.pass.Pass.{Pass}
+use Rattle.bolt_bulk.specs.declared.pass.Pending.{Pending}
+use Rattle.bolt_bulk.proofs.Frames.{pass_begins, pass_ends}
+use Rattle.bolt_bulk.proofs.Heights.{begins_bounded}
+use Rattle.bolt_bulk.proofs.Members.{all_left, next_bucket, next_short, next_value, none_at_all}
+use Rattle.bolt_bulk.proofs.OpenRowLemmas.{nothing_rows, rows_ended}
+use Rattle.bolt_bulk.proofs.OpenRunLemmas.{ends}
+use Rattle.bolt_bulk.proofs.PassAt.{on_of}
+use Rattle.bolt_bulk.proofs.PassLeft.{depth_levels}
+use Rattle.bolt_bulk.proofs.PassRows.{end_numbered}
+use Rattle.bolt_bulk.proofs.PassSteps.{IsOn}
+use Rattle.bolt_bulk.proofs.PutsLemmas.{bytes-append, pages_some, puts_first, puts_then, short_then}
+
+-- ---- the next member
+
+pub last_pushed : (path : Path) (key : Key) → last_part (path ++ key ∷ []) ≡ key
+last_pushed [] key = refl
+last_pushed (part ∷ []) key = refl
+last_pushed (part ∷ next ∷ path) key = last_pushed (next ∷ path) key
+
+pub record HasValue (tree : Tree) (pass : Pass) (key value : List ℕ) (members : List Member) (put : List Placed) : Type 0 where
+  pub levels : List Level
+  pub after : Tree
+  pub at : IsAt tree pass levels (with_value key value after) put
+  pub members_are : left_in levels after ≡ members
+
+pub has_value : (tree : Tree) (pass : Pass) (path : Path) (key value : List ℕ) (members : List Member) (put : List Placed) → HasLeft tree pass ((path, Value value) ∷ members) put → depth_of pass ≤ length path → last_part path ≡ key
+    → HasValue tree pass key value members put
+has_value tree pass path key value members put has deep last =
+    let d = depth_levels tree pass has.levels has.left put has.at in
+    let short = next_short has.levels has.left (path, Value value) members has.members_are in
+    let (own, after, left, path_is, members_is) = next_value has.levels has.left path value members has.members_are (omega arith) in
+    let same : own ≡ key = sym (last_pushed (path_in has.levels) own) ∙ (ap last_part (sym path_is) ∙ last) in
+    record {
+      levels = has.levels;
+      after = after;
+      at = subst (λ (k : Key). IsAt tree pass has.levels (with_value k value after) put) same (subst (λ (t : Tree). IsAt tree pass has.levels t put) left has.at);
+      members_are = sym members_is;
+    }
+
+pub record HasBucket (tree : Tree) (pass : Pass) (key : Key) (sequence : ℕ) (members : List Member) (put : List Placed) : Type 0 where
+  pub levels : List Level
+  pub inside : Tree
+  pub after : Tree
+  pub at : IsAt tree pass levels (with_bucket key sequence inside after) put
+  pub members_are : left_in (record { key = key; after = after } ∷ levels) inside ≡ members
+
+pub has_bucket : (tree : Tree) (pass : Pass) (path : Path) (key : Key) (sequence : ℕ) (members : List Member) (put : List Placed) → HasLeft tree pass ((path, Bucket sequence) ∷ members) put → depth_of pass ≤ length path → last_part path ≡ key
+    → HasBucket tree pass key sequence members put
+has_bucket tree pass path key sequence members put has deep last =
+    let d = depth_levels tree pass has.levels has.left put has.at in
+    let short = next_short has.levels has.left (path, Bucket sequence) members has.members_are in
+    let (own, inside, after, left, path_is, members_is) = next_bucket has.levels has.left path sequence members has.members_are (omega arith) in
+    let same : own ≡ key = sym (last_pushed (path_in has.levels) own) ∙ (ap last_part (sym path_is) ∙ last) in
+    record {
+      levels = has.levels;
+      inside = inside;
+      after = after;
+      at = subst (λ (k : Key). IsAt tree pass has.levels (with_bucket k sequence inside after) put) same (subst (λ (t : Tree). IsAt tree pass has.levels t put) left has.at);
+      members_are = ap (λ (k : Key). left_in (record { key = k; after = after } ∷ has.levels) inside) (sym same) ∙ sym members_is;
+    }
+
+-- The members of the listing of a tree that can be stored fit.
+fit_append : (xs ys : List Member) → AllByRecursion IsFitMember xs → AllByRecursion IsFitMember ys → AllByRecursion IsFitMember (xs ++ ys)
+fit_append [] ys a b = b
+fit_append (x ∷ xs) ys a b = (a.0, fit_append xs ys a.1 b)
+
+one_part : (path : Path) (key : Key) → length key ≤ 1073741824 → (1 ≤ length (path ++ key ∷ [])) × (length (last_part (path ++ key ∷ [])) ≤ 1073741824)
+one_part path key short =
+    let l = length-append path (key ∷ []) in
+    let last = ap (λ (k : Key). length k) (last_pushed path key) in
+    (omega arith, omega arith)
+
+pub members_fit : (path : Path) (tree : Tree) → HasLengths tree → AllByRecursion IsFitMember (listing_below path tree)
+members_fit path end lengths = tt
+members_fit path (with_value key value after) (key_fits, value_fits, others) =
+    let (some, last) = one_part path key key_fits.1 in ((some, last, value_fits), members_fit path after others)
+members_fit path (with_bucket key sequence inside after) (key_fits, sequence_fits, inner, others) =
+    let (some, last) = one_part path key key_fits.1 in
+    ((some, last, tt), fit_append (listing_below (path ++ key ∷ []) inside) (listing_below path after) (members_fit (path ++ key ∷ []) inside inner) (members_fit path after others))
+
+-- ---- the beginning
+
+pub has_begun : (tree : Tree) (pass : Pass) → pass.waiting.items ≡ [] → pass.pending ≡ None → rows_of pass.bucket pass.next ≡ record { leaves = no_leaves; uppers = []; next = first_page } → HasLeft tree pass (listing_of tree) []
+has_begun tree pass none nothing rows = record {
+  levels = [];
+  left = tree;
+  at = record {
+    frames = [];
+    state = nothing_open;
+    rest = tree;
+    under = pass_begins pass.bounds.page_size tree;
+    rows = subst (λ (r : OpenRows). IsOpenRows r nothing_open first_page) (sym rows) (nothing_rows first_page);
+    waits = rw none tt;
+    put_is = refl;
+    bounded = begins_bounded pass.bounds.page_size;
+    pends = rw nothing (refl, refl);
+  };
+  members_are = all_left tree;
+}
+
+-- ---- the end
+
+no_levels : (levels : List Level) → suc (length levels) ≤ 1 → levels ≡ []
+no_levels [] h = refl
+no_levels (level ∷ levels) h = absurd (omega arith)
+
+no_frames : (frames : List Frame) → [] ≡ map level_of frames → frames ≡ []
+no_frames [] e = refl
+no_frames (frame ∷ frames) e = absurd cc
+
+only_none : (pending : Option Pending) → pending_depth pending ≤ 0 → pending ≡ None
+only_none None h = refl
+only_none (Some p) h = absurd (omega arith)
+
+no_pending : (pass : Pass) → depth_of pass ≤ 1 → pass.pending ≡ None
+no_pending pass h = only_none pass.pending (omega arith)
+
+pub record HasEnd (tree : Tree) (pass : Pass) (put : List Placed) : Type 0 where
+  pub pages : layout_pages pass.bounds.page_size tree ≡ put ++ rows_end_put pass.bounds.page_size (rows_of pass.bucket pass.next)
+  pub root : rows_end pass.bounds.page_size (rows_of pass.bucket pass.next) ≡ layout_root pass.bounds.page_size tree
+  pub mark : bucket_end_next pass.bounds.page_size (rows_of pass.bucket pass.next) ≡ layout_mark pass.bounds.page_size tree
+
+root_ended : (page_size : ℕ) (tree : Tree) (state : Open) (rows : OpenRows) (put : List Placed) → IsOn page_size tree [] state [] rows put
+    → (layout_pages page_size tree ≡ put ++ rows_end_put page_size rows) × (rows_end page_size rows ≡ layout_root page_size tree) × (bucket_end_next page_size rows ≡ layout_mark page_size tree)
+root_ended page_size tree state rows put on =
+    let ended = rows_ended page_size rows state first_page on.rows_are in
+    let whole : end_of page_size state ≡ root_of page_size tree = ends page_size state on.under.root on.under.current ∙ on.under.stack in (
+      sym (pass_ends page_size tree state on.under) ∙ (ap (λ (ps : List Placed). all_put [] state ++ ps) (sym ended.0) ∙ ap (λ (ps : List Placed). ps ++ rows_end_put page_size rows) (sym on.put_is)),
+      ended.1 ∙ ap (λ (r : Laid BranchElement). (r.element first_page).child) whole,
+      end_numbered page_size rows state first_page on.rows_are ∙ ap (λ (r : Laid BranchElement). first_page + r.numbers) whole,
+    )
+
+pub has_end : (tree : Tree) (pass : Pass) (put : List Placed) → HasLeft tree pass [] put → depth_of pass ≤ 1 → HasEnd tree pass put
+has_end tree pass put has shallow =
+    let d = depth_levels tree pass has.levels has.left put has.at in
+    let none = no_levels has.levels (omega arith) in
+    let left : has.left ≡ end = none_at_all has.levels has.left has.members_are in
+    let at = subst (λ (t : Tree). IsAt tree pass [] t put) left (subst (λ (ls : List Level). IsAt tree pass ls has.left put) none has.at) in
+    let (same, on) = on_of tree pass [] end put at (no_pending pass shallow) in
+    let frames = no_frames at.frames same in
+    let on2 = subst (λ (fs : List Frame). IsOn pass.bounds.page_size tree fs at.state [] (rows_of pass.bucket pass.next) put) frames on in
+    let (pages, root, mark) = root_ended pass.bounds.page_size tree at.state (rows_of pass.bucket pass.next) put on2 in
+    record { pages = pages; root = root; mark = mark }
+
+-- A beginning of a text isn't the whole of a longer one.
+some_more : (xs ys : List ℕ) → ys ≢ [] → (xs ++ ys) ≢ []
+some_more [] ys some = some
+some_more (x ∷ xs) ys some = λ e. cc
+
+proper_more : (old new : Option (List ℕ)) (first second : List ℕ) → AppendsBeginning old new first → second ≢ [] → AppendsProperBeginning old new (first ++ second)
+proper_more old new first second a some = record {
+  front = a.front;
+  rest = a.rest ++ second;
+  parts = ap (λ (text : List ℕ). text ++ second) a.parts ∙ append_assoc a.front a.rest second;
+  short = some_more a.rest second some;
+  taken = a.taken;
+}
+
+rest_some : (page_size : ℕ) (pages : List Placed) → 1 ≤ length pages → placed_bytes page_size pages ≢ []
+rest_some page_size [] some = absurd (omega arith)
+rest_some page_size (page ∷ pages) some = pages_some page_size page pages
+
+module _ {S : Type 0} (tree : Tree) (taken : S → Option (List ℕ)) (failed : S → ℕ) (bounds : Bounds) where
+  -- a step failed on the way
+  pub ends_early : {A : Type 0} (old new : S) (put : List Placed) (At : List Placed → Type 0) (e : BulkFault) → Steps {A = A} tree taken failed old new bounds put At (Err e) → Ends tree taken failed old new bounds put (Err e)
+  ends_early old new put At e steps =
+      let P : ℕ = bounds.page_size in
+      let others : List Placed = steps.more ++ steps.before.rest in
+      let bytes : placed_bytes P others ≡ placed_bytes P steps.more ++ placed_bytes P steps.before.rest = bytes-append P steps.more steps.before.rest in
+      record {
+        others = others;
+        all = steps.before.parts ∙ append_assoc put steps.more steps.before.rest;
+        puts = subst (λ (bs : List ℕ). Puts {A = Ended} taken failed old new bs (Err e)) (sym bytes) (puts_first old new (placed_bytes P steps.more) (placed_bytes P steps.before.rest) e steps.puts);
+        short = subst (λ (bs : List ℕ). AppendsProperBeginning (taken old) (taken new) bs) (sym bytes)
+            (proper_more (taken old) (taken new) (placed_bytes P steps.more) (placed_bytes P steps.before.rest) steps.puts.beginning (rest_some P steps.before.rest steps.before.some));
+        root = tt;
+        mark = tt;
+        within = tt;
+        large = steps.large;
+      }
+
+  -- after steps that went well
+  pub ends_after : {A : Type 0} (old mid new : S) (put : List Placed) (At : List Placed → Type 0) (x : A) (result : Result Ended BulkFault) → Steps tree taken failed old mid bounds put At (Ok x)
+      → ((all : List Placed) → At all → Ends tree taken failed mid new bounds all result) → Ends tree taken failed old new bounds put result
+  ends_after old mid new put At x result one two =
+      let P : ℕ = bounds.page_size in
+      let then = two (put ++ one.more) one.at in
+      let others : List Placed = one.more ++ then.others in
+      let bytes : placed_bytes P others ≡ placed_bytes P one.more ++ placed_bytes P then.others = bytes-append P one.more then.others in
+      record {
+        others = others;
+        all = then.all ∙ append_assoc put one.more then.others;
+        puts = subst (λ (bs : List ℕ). Puts taken failed old new bs result) (sym bytes) (puts_then old mid new (placed_bytes P one.more) (placed_bytes P then.others) x result one.puts then.puts);
+        short = subst (λ (bs : List ℕ). OnErr result (AppendsProperBeginning (taken old) (taken new) bs)) (sym bytes)
+            (short_then old mid new (placed_bytes P one.more) (placed_bytes P then.others) x result one.puts then.short);
+        root = then.root;
+        mark = then.mark;
+        within = then.within;
+        large = then.large;
+      }

@@ -1,0 +1,68 @@
+-- What is known of a pass without its tree, after a step.
+use Rattle.std.proofs.Common.{◌≡◌, ◌∙◌, ℕ, ◌+◌, ◌/◌, ◌≤◌, ◌<◌, false, List, [], ◌∷◌, ◌++◌, Bor, length, map, Option, Some, refl, sym, ap, subst, arith}
+use Rattle.std.specs.List.{AllByRecursion}
+use Rattle.std.proofs.lemmas.List.{length-append, length-map, map-append}
+use Rattle.bolt_format.specs.ElementPlaces.{leaf_view}
+use Rattle.bolt_format.specs.Elements.{LeafElement}
+use Rattle.bolt_format.specs.declared.element.Leaf.{Leaf}
+use Rattle.bolt_bulk.specs.PageBytes.{inline_value, leaf_data}
+use Rattle.bolt_bulk.specs.Private.Passes.{IsPendingSmall, IsSmall}
+use Rattle.bolt_bulk.specs.Private.TakenItems.{entries_size, inline_size}
+use Rattle.bolt_bulk.specs.declared.pass.Pending.{Pending}
+use Rattle.bolt_bulk.proofs.LeafPuts.{length-inline_value}
+use Rattle.bolt_bulk.proofs.ListLemmas.{all_append}
+
+data_push : (es : List LeafElement) (e : LeafElement) → length (leaf_data (es ++ e ∷ [])) ≡ length (leaf_data es) + (length e.key + length e.value)
+data_push [] e =
+    let a = length-append e.key (e.value ++ []) in
+    let b = length-append e.value [] in omega arith
+data_push (x ∷ es) e =
+    let ih = data_push es e in
+    let a = length-append x.key (x.value ++ leaf_data (es ++ e ∷ [])) in
+    let b = length-append x.value (leaf_data (es ++ e ∷ [])) in
+    let c = length-append x.key (x.value ++ leaf_data es) in
+    let d = length-append x.value (leaf_data es) in omega arith
+
+-- the bucket that may be inline
+pub small_of : (page_size : ℕ) (pending : Option Pending) (p : Pending) (entries : List Leaf) → pending ≡ Some p → IsPendingSmall page_size pending entries → IsSmall page_size p entries
+small_of page_size pending p entries some small = subst (λ (q : Option Pending). IsPendingSmall page_size q entries) some small
+
+-- a value more
+pub small_push : (page_size size : ℕ) (p : Pending) (entries more : List Leaf) (entry : Leaf) → IsSmall page_size p entries → length entry.key.now ≤ 1073741824 → entry.is_bucket ≡ false
+    → size ≡ p.size + (16 + (length entry.key.now + length entry.value.now)) → size ≤ page_size / 4 → length entries < 65534 → more ≡ entries ++ entry ∷ []
+    → IsSmall page_size (record { key = p.key; sequence = p.sequence; size = size }) more
+small_push page_size size p entries more entry is key value sized small few pushed =
+    let shown : map leaf_view more ≡ map leaf_view entries ++ leaf_view entry ∷ [] = ap (map leaf_view) pushed ∙ map-append leaf_view entries (entry ∷ []) in
+    let d = data_push (map leaf_view entries) (leaf_view entry) in
+    let l = length-append (map leaf_view entries) (leaf_view entry ∷ []) in
+    let n = ap (λ (es : List Leaf). length es) pushed ∙ length-append entries (entry ∷ []) in
+    let s = is.sized in
+    let now : entries_size (map leaf_view more) ≡ entries_size (map leaf_view entries ++ leaf_view entry ∷ []) = ap entries_size shown in
+    record {
+      key = is.key;
+      sized = omega arith;
+      small = small;
+      few = omega arith;
+      keys = subst (λ (es : List Leaf). AllByRecursion (λ (e : Leaf). length e.key.now ≤ 1073741824) es) (sym pushed) (all_append (λ (e : Leaf). length e.key.now ≤ 1073741824) entries (entry ∷ []) is.keys (key, tt));
+      values = subst (λ (es : List Leaf). AllByRecursion (λ (e : Leaf). e.is_bucket ≡ false) es) (sym pushed) (all_append (λ (e : Leaf). e.is_bucket ≡ false) entries (entry ∷ []) is.values (value, tt));
+    }
+
+-- a bucket without entries
+pub small_begun : (page_size sequence : ℕ) (key : Bor (List ℕ)) (entries : List Leaf) → 1024 ≤ page_size → length key.now ≤ 1073741824 → entries ≡ []
+    → IsSmall page_size (record { key = key; sequence = sequence; size = 16 }) entries
+small_begun page_size sequence key entries low short none = subst (IsSmall page_size (record { key = key; sequence = sequence; size = 16 })) (sym none)
+    (record { key = short; sized = refl; small = omega arith; few = omega arith; keys = tt; values = tt })
+
+-- the size of the value of an inline bucket
+pub inline_sized : (page_size : ℕ) (p : Pending) (entries : List Leaf) → IsSmall page_size p entries → p.size + 16 ≡ inline_size (map leaf_view entries)
+inline_sized page_size p entries is = let s = is.sized in omega arith
+
+pub inline_long : (page_size : ℕ) (p : Pending) (entries : List Leaf) → IsSmall page_size p entries → p.size + 16 ≡ length (inline_value p.sequence (map leaf_view entries))
+inline_long page_size p entries is =
+    let s = is.sized in
+    let l = length-inline_value leaf_view p.sequence entries in
+    let n = length-map entries leaf_view in omega arith
+
+pub last_of : {X : Type 0} (P : X → Type 0) (xs : List X) (x : X) → AllByRecursion P (xs ++ x ∷ []) → P x × AllByRecursion P xs
+last_of P [] x all = (all.0, tt)
+last_of P (y ∷ xs) x all = let (last, others) = last_of P xs x all.1 in (last, (all.0, others))

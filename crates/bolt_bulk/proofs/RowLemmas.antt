@@ -1,0 +1,95 @@
+-- The code's rows are the open runs.
+use Rattle.std.proofs.Common.{◌≡◌, ◌∙◌, ℕ, ◌+◌, true, false, List, [], ◌∷◌, ◌++◌, length, refl, sym, ap, inl, inr, arith}
+use Rattle.std.specs.List.{AllByRecursion}
+use Rattle.std.proofs.lemmas.Bool.{cases_Bool}
+use Rattle.std.proofs.lemmas.List.Sums.{sum_by_push}
+use Rattle.bolt_format.specs.Elements.{BranchElement}
+use Rattle.bolt_bulk.specs.Cut.{run_size}
+use Rattle.bolt_bulk.specs.Laid.{Laid, Placed, elements_of, first_key, numbers_of, size_of}
+use Rattle.bolt_bulk.specs.Levels.{branch_view, overflow_of, page_over, run_overflow}
+use Rattle.bolt_bulk.specs.Private.OpenRuns.{climb, climb_puts, has_room, key_size, numbers_in, own_page, put_in}
+use Rattle.bolt_bulk.specs.Private.Rows.{BranchRow, no_row, row_has_room, row_key, row_page, row_push, rows_climb, rows_put}
+use Rattle.bolt_bulk.specs.Private.OpenRows.{AreRows, IsKeyed, IsRow}
+use Rattle.bolt_bulk.proofs.ListLemmas.{all_append}
+use Rattle.bolt_bulk.proofs.OverRows.{numbers-append}
+
+pub elements-append : {E : Type 0} (xs ys : List (Laid E)) (n : ℕ) → elements_of (xs ++ ys) n ≡ elements_of xs n ++ elements_of ys (n + numbers_of xs)
+elements-append [] ys n = ap (λ (m : ℕ). elements_of ys m) (let e : n ≡ n + 0 = omega arith in e)
+elements-append {E = E} (x ∷ xs) ys n =
+    let ih = elements-append xs ys (n + x.numbers) in
+    let e : n + x.numbers + numbers_of xs ≡ n + numbers_of (x ∷ xs) = omega arith in
+    ap (λ (es : List E). x.element n ∷ es) (ih ∙ ap (λ (m : ℕ). elements_of xs (n + x.numbers) ++ elements_of ys m) e)
+
+pub length-elements : {E : Type 0} (items : List (Laid E)) (n : ℕ) → length (elements_of items n) ≡ length items
+length-elements [] n = refl
+length-elements (item ∷ items) n = let ih = length-elements items (n + item.numbers) in omega arith
+
+pub row_pushed : (row : BranchRow) (run : List (Laid BranchElement)) (n : ℕ) (q : Laid BranchElement) (e : BranchElement) → IsRow row run n → IsKeyed q → e ≡ q.element (n + numbers_of run)
+    → IsRow (row_push row e) (run ++ q ∷ []) n
+row_pushed row run n q e is keyed same =
+    let s = sum_by_push (size_of {E = BranchElement}) run q in
+    let size = is.size_is in
+    let k : length e.key ≡ length q.key = ap (λ (x : BranchElement). length x.key) same ∙ ap (λ (x : List ℕ). length x) (keyed.1 (n + numbers_of run)) in
+    let z = keyed.0 in
+    record {
+      same = ap (λ (es : List BranchElement). es ++ e ∷ []) is.same ∙ (ap (λ (x : BranchElement). elements_of run n ++ x ∷ []) same ∙ sym (elements-append run (q ∷ []) n));
+      size_is = omega arith;
+      keyed = all_append IsKeyed run (q ∷ []) is.keyed (keyed, tt);
+    }
+
+pub room_same : (page_size : ℕ) (row : BranchRow) (run : List (Laid BranchElement)) (n size : ℕ) → IsRow row run n → row_has_room page_size row size ≡ has_room page_size 2 run size
+room_same page_size row run n size is =
+    let l : length row.elements ≡ length run = ap (λ (es : List BranchElement). length es) is.same ∙ length-elements run n in
+    rw (l, is.size_is) refl
+
+pub key_same : (run : List (Laid BranchElement)) (n : ℕ) → AllByRecursion IsKeyed run → row_key (elements_of run n) ≡ first_key run
+key_same [] n keyed = refl
+key_same (x ∷ run) n keyed = keyed.0.1 n
+
+pub same_element : (a b : BranchElement) → a.key ≡ b.key → a.child ≡ b.child → a ≡ b
+same_element a b p q =
+    let f : List ℕ → ℕ → BranchElement = λ x y. record { key = x; child = y } in
+    ap (λ (x : List ℕ). f x a.child) p ∙ ap (f b.key) q
+
+pub placed_same : (page_size : ℕ) (row : BranchRow) (run : List (Laid BranchElement)) (n next : ℕ) → IsRow row run n → next ≡ n + numbers_of run → row_page page_size row next ≡ own_page branch_view page_size run n
+placed_same page_size row run n next is number =
+    let f : ℕ → ℕ → List BranchElement → Placed = λ m s es. record { number = m; view = branch_view (overflow_of page_size s) es } in
+    ap (λ (m : ℕ). f m row.size row.elements) number
+    ∙ (ap (λ (s : ℕ). f (n + numbers_of run) s row.elements) is.size_is ∙ ap (λ (es : List BranchElement). f (n + numbers_of run) (run_size size_of run) es) is.same)
+
+-- the climb of the rows is that of the runs
+pub rows_climbed : (page_size : ℕ) (key : List ℕ) (e : BranchElement) (next b : ℕ) (q : Laid BranchElement) (rows : List BranchRow) (uppers : List (List (Laid BranchElement))) → AreRows rows uppers b → IsKeyed q
+    → e ≡ q.element (b + numbers_in uppers) → next ≡ b + numbers_in uppers + q.numbers
+    → AreRows (rows_climb page_size key e next rows) (climb page_size key q uppers) b × (rows_put page_size key e next rows ≡ climb_puts page_size key q uppers b)
+rows_climbed page_size key e next b q [] [] are keyed same number =
+    let at : b + 0 ≡ b + 0 + 0 = omega arith in
+    let base : IsRow no_row [] (b + 0) = record { same = refl; size_is = refl; keyed = tt } in
+    ((row_pushed no_row [] (b + 0) q e base keyed (same ∙ ap q.element at), tt), refl)
+rows_climbed page_size key e next b q [] (run ∷ uppers) are keyed same number = absurd are
+rows_climbed page_size key e next b q (row ∷ rows) [] are keyed same number = absurd are
+rows_climbed page_size key e next b q (row ∷ rows) (run ∷ uppers) are keyed same number =
+    let m : ℕ = b + numbers_in uppers in
+    let count = numbers-append (put_in uppers) run in
+    let place : b + numbers_in (run ∷ uppers) ≡ m + numbers_of run = omega arith in
+    let pushed = row_pushed row run m q e are.0 keyed (same ∙ ap q.element place) in
+    let test = room_same page_size (row_push row e) (run ++ q ∷ []) m (key_size key) pushed in
+    let q2 : Laid BranchElement = page_over branch_view page_size (run ++ q ∷ []) in
+    let more = numbers-append run (q ∷ []) in
+    let next_is : next ≡ m + numbers_of (run ++ q ∷ []) = omega arith in
+    let e2 : BranchElement = record { key = row_key (row_push row e).elements; child = next } in
+    let over : overflow_of page_size (row_push row e).size ≡ run_overflow page_size (run ++ q ∷ []) = ap (overflow_of page_size) pushed.size_is in
+    let named : e2 ≡ q2.element m = same_element e2 (q2.element m) (ap row_key pushed.same ∙ key_same (run ++ q ∷ []) m pushed.keyed) next_is in
+    let after : next + (1 + overflow_of page_size (row_push row e).size) ≡ m + q2.numbers = omega arith in
+    let ih = rows_climbed page_size key e2 (next + (1 + overflow_of page_size (row_push row e).size)) b q2 rows uppers are.1 (refl, λ n. refl) named after in
+    elim (cases_Bool (has_room page_size 2 (run ++ q ∷ []) (key_size key))) [
+      | inl t ↦ (let u : row_has_room page_size (row_push row e) (key_size key) ≡ true = test ∙ t in rw (t, u) ((pushed, are.1), refl))
+      | inr f ↦
+          (let u : row_has_room page_size (row_push row e) (key_size key) ≡ false = test ∙ f in
+          let here : IsRow no_row [] (b + numbers_in (climb page_size key q2 uppers)) = record { same = refl; size_is = refl; keyed = tt } in
+          let own = placed_same page_size (row_push row e) (run ++ q ∷ []) m next pushed next_is in
+          rw (f, u) (
+            (here, ih.0),
+            ap (λ (p : Placed). p ∷ rows_put page_size key e2 (next + (1 + overflow_of page_size (row_push row e).size)) rows) own
+                ∙ ap (λ (ps : List Placed). own_page branch_view page_size (run ++ q ∷ []) m ∷ ps) ih.1,
+          ))
+    ]

@@ -1,0 +1,74 @@
+-- A run of pages that takes one more, and closes where the next won't join it.
+use Rattle.std.proofs.Common.{div-add-mod', add-mul, ◌≡◌, ◌∙◌, ◌⊎◌, ℕ, ◌+◌, ◌-◌, ◌*◌, ◌/◌, ◌<◌, ◌≤◌, ◌||◌, ◌&&◌, nat_lt, nat_le, Bool, true, false, List, [], ◌∷◌, ◌++◌, length, refl, ap, inl, inr, arith}
+use Rattle.std.proofs.lemmas.Bool.{leb-true, ltb-true}
+use Rattle.std.proofs.lemmas.List.{length-append, append-nil}
+use Rattle.bolt_format.specs.Elements.{BranchElement}
+use Rattle.bolt_bulk.specs.Cut.{max_items}
+use Rattle.bolt_bulk.specs.Levels.{overflow_of}
+use Rattle.bolt_bulk.specs.PageBytes.{branch_data}
+use Rattle.bolt_bulk.specs.Private.BranchRuns.{IsPushed, IsSizedRow, IsStanding}
+use Rattle.bolt_bulk.specs.Private.Rows.{BranchRow, no_row, row_has_room, row_push}
+use Rattle.bolt_bulk.proofs.PageRows.{overflow_room, overflow_small}
+
+pub record OverflowFits (page_size size : ℕ) : Type 0 where
+  pub small : overflow_of page_size size ≤ size
+  pub room : size ≤ (1 + overflow_of page_size size) * page_size
+  pub fits : (1 + overflow_of page_size size) * page_size ≤ size + page_size
+
+overflow_most : (page_size size : ℕ) → (1 + overflow_of page_size size) * page_size ≤ size + page_size
+unfolding overflow_of
+overflow_most page_size size =
+    let q : ℕ = (size - 1) / page_size in
+    let split = div-add-mod' (size - 1) page_size in
+    let e = add-mul 1 q page_size in omega arith
+
+pub overflow_fits : (page_size size : ℕ) → 0 < page_size → 0 < size → OverflowFits page_size size
+overflow_fits page_size size page some = record { small = overflow_small page_size size; room = overflow_room page_size size page some; fits = overflow_most page_size size }
+
+data_push : (es : List BranchElement) (e : BranchElement) → length (branch_data (es ++ e ∷ [])) ≡ length (branch_data es) + length e.key
+data_push [] e = ap (λ (t : List ℕ). length t) (append-nil e.key) ∙ omega arith
+data_push (x ∷ es) e =
+    let a = length-append x.key (branch_data (es ++ e ∷ [])) in
+    let b = length-append x.key (branch_data es) in
+    let ih = data_push es e in omega arith
+
+pub pushed_sized : (row : BranchRow) (e : BranchElement) → IsSizedRow row → IsSizedRow (row_push row e)
+pushed_sized row e sized =
+    let a = data_push row.elements e in
+    let b = length-append row.elements (e ∷ []) in omega arith
+
+pub pushed : (row : BranchRow) (e : BranchElement) → IsStanding row → length e.key ≤ 1073741824 → IsPushed (row_push row e)
+pushed row e is key =
+    let s = is.small in
+    let f = is.few in
+    let b = length-append row.elements (e ∷ []) in
+    record { sized = pushed_sized row e is.sized; some = omega arith; small = omega arith; few = omega arith }
+
+pub few_or_fits : (a b c : Bool) → (a || (b && c)) ≡ true → (a ≡ true) ⊎ ((b ≡ true) × (c ≡ true))
+few_or_fits true b c h = inl refl
+few_or_fits false true true h = inr (refl, refl)
+few_or_fits false true false h = absurd (cc)
+few_or_fits false false c h = absurd (cc)
+
+alone_small : (es : List BranchElement) (e : BranchElement) (size : ℕ) → length (es ++ e ∷ []) < 2 → size ≡ 16 + (16 * length (es ++ e ∷ []) + length (branch_data (es ++ e ∷ []))) → length e.key ≤ 1073741824 → size ≤ 1073741856
+alone_small [] e size one sized key = let a = data_push [] e in omega arith
+alone_small (x ∷ es) e size one sized key = let b = length-append es (e ∷ []) in absurd (omega arith)
+
+pub stays_standing : (page_size k : ℕ) (row : BranchRow) (e : BranchElement) → page_size ≤ 33554432 → IsStanding row → length e.key ≤ 1073741824 → row_has_room page_size (row_push row e) k ≡ true → IsStanding (row_push row e)
+stays_standing page_size k row e high is key room =
+    let p = pushed row e is key in
+    elim (few_or_fits (nat_lt (length (row_push row e).elements) 2) (nat_le ((row_push row e).size + k) page_size) (nat_lt (length (row_push row e).elements) max_items) room) [
+      | inl one ↦
+          (let few : length (row_push row e).elements < 2 = ltb-true _ _ one in
+          record { sized = p.sized; small = alone_small row.elements e (row_push row e).size few p.sized key; few = omega arith })
+      | inr both ↦
+          (let fit : (row_push row e).size + k ≤ page_size = leb-true _ _ both.0 in
+          let few : length (row_push row e).elements < 65534 = ltb-true _ _ both.1 in
+          record { sized = p.sized; small = omega arith; few = few })
+    ]
+
+pub no_row_standing : IsStanding no_row
+no_row_standing = record { sized = refl; small = omega arith; few = omega arith }
+
+pub one_page : (page : List ℕ) → page ++ [] ≡ page
+one_page page = append-nil page

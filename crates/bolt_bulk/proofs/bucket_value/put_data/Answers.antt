@@ -1,0 +1,28 @@
+-- Each piece is the next entry.
+use Rattle.std.proofs.Common.{arith, get_or, refl}
+use Rattle.bolt_format.specs.ElementPlaces.{leaf_view}
+use Rattle.bolt_bulk.proofs.ElementPuts.{data_of, datum_left, datum_none}
+use Rattle.bolt_bulk.proofs.HeldPuts.{no_entry}
+use Rattle.bolt_bulk.proofs.LeafPuts.{datum_of, leaf_datum}
+use Rattle.bolt_bulk.proofs.PutParts.{front_more, front_none, front_stop, front_whole}
+use Rattle.bolt_bulk.proofs.WholePuts.{whole_same}
+use Rattle.bolt_bulk.proofs.bucket_value.put_data.Goals as goal
+
+pub loop-i-init : goal.loop-i-init
+loop-i-init g c = front_none c.args.sink.now (data_of (datum_of leaf_view) c.args.entries.now)
+
+pub loop-i-preserved : goal.loop-i-preserved
+loop-i-preserved g c =
+    let left = datum_left (datum_of leaf_view) c.args.entries.now c.loop-i.i no_entry (get_or c.args.entries.now c.loop-i.i no_entry) c.loop-i-test.true refl in
+    front_more _ _ _ _ _ _ _ _ left c.loop-i.invariant c.in_ok-put_entry.ensures
+
+pub returns-in_err-put_entry : goal.returns-in_err-put_entry
+returns-in_err-put_entry g c =
+    let left = datum_left (datum_of leaf_view) c.args.entries.now c.loop-i.i no_entry (get_or c.args.entries.now c.loop-i.i no_entry) c.loop-i-test.true refl in
+    whole_same _ _ _ _ _ (leaf_datum leaf_view c.args.entries.now)
+    (front_stop _ _ _ _ _ _ _ _ _ left c.loop-i.invariant c.in_err-put_entry.ensures c.from_residual.ensures.0)
+
+pub returns : goal.returns
+returns g c =
+    whole_same _ _ _ _ _ (leaf_datum leaf_view c.args.entries.now)
+    (front_whole _ _ _ _ (datum_none (datum_of leaf_view) c.args.entries.now c.loop-i.i (omega arith)) c.loop-i.invariant)

@@ -1,0 +1,11 @@
+-- The data before number i were put.
+use Rattle.std.proofs.Common.{drop}
+use Rattle.bolt_format.specs.ElementPlaces.{leaf_view}
+use Rattle.bolt_bulk.proofs.ElementPuts.{data_of}
+use Rattle.bolt_bulk.proofs.LeafPuts.{datum_of}
+use Rattle.bolt_bulk.proofs.PutParts.{PutFront}
+use Rattle.bolt_bulk.proofs.bucket_value.put_data.Given as goal
+
+abbrev pub invariant-loop-i : goal.invariant-loop-i
+invariant-loop-i g l =
+    PutFront g.S.Sink.taken g.S.Sink.failed l.initial.sink l.sink (data_of (datum_of leaf_view) l.entries) (data_of (datum_of leaf_view) (drop l.i l.entries))

@@ -1,0 +1,17 @@
+use Rattle.bolt_bulk.proofs.FileLayouts.{accepted, has_length, one_tree, refused}
+use Rattle.bolt_bulk.proofs.file_laws.file_has_one_layout.Goals as goal
+
+pub returns-clause-tree : goal.returns-clause-tree
+returns-clause-tree c = one_tree c.args.checked.now (rw c.bytes.ensures at c.are_bytes.ensures) c.a_files_listing_is_of_one_tree.ensures
+
+pub returns-clause-length : goal.returns-clause-length
+returns-clause-length c =
+    has_length c.args.checked.now (rw c.bytes.ensures at c.are_bytes.ensures) c.a_files_listing_is_of_one_tree.ensures c.layout_has_length.ensures c.args.page_size c.requires
+
+pub returns-clause-accepted : goal.returns-clause-accepted
+returns-clause-accepted c =
+    accepted c.args.checked.now (rw c.bytes.ensures at c.are_bytes.ensures) c.a_copy_lists_the_same.ensures c.args.page_size c.requires (rw c.meta.ensures at c.fits.ensures)
+
+pub returns-clause-beginnings : goal.returns-clause-beginnings
+returns-clause-beginnings c =
+    refused c.args.checked.now (rw c.bytes.ensures at c.are_bytes.ensures) c.a_files_listing_is_of_one_tree.ensures c.beginnings_are_refused.ensures c.args.page_size c.requires (rw c.meta.ensures at c.fits.ensures)

@@ -1,0 +1,11 @@
+-- The data before number i were put.
+use Rattle.std.proofs.Common.{drop}
+use Rattle.bolt_bulk.specs.Private.HeldItems.{held_view}
+use Rattle.bolt_bulk.proofs.ElementPuts.{data_of}
+use Rattle.bolt_bulk.proofs.LeafPuts.{datum_of}
+use Rattle.bolt_bulk.proofs.PutParts.{PutFront}
+use Rattle.bolt_bulk.proofs.leaf_page.put_data.Given as goal
+
+abbrev pub invariant-loop-i : goal.invariant-loop-i
+invariant-loop-i g l =
+    PutFront g.S.Sink.taken g.S.Sink.failed l.initial.sink l.sink (data_of (datum_of (held_view l.inlined)) l.items) (data_of (datum_of (held_view l.inlined)) (drop l.i l.items))

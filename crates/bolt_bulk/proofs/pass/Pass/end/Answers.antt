@@ -1,0 +1,50 @@
+-- What is open of the root bucket ends, which is the rest of the layout.
+use Rattle.std.proofs.Common.{◌∙◌, [], Result, Ok, Err, arith, subst}
+use Rattle.bolt_bulk.specs.Private.Endings.{Ends}
+use Rattle.bolt_bulk.specs.Private.OpenBuckets.{rows_of}
+use Rattle.bolt_bulk.specs.Private.Passes.{HasLeft}
+use Rattle.bolt_bulk.specs.Private.Rows.{rows_end_put}
+use Rattle.bolt_bulk.specs.declared.bounds.Bounds.{Bounds}
+use Rattle.bolt_bulk.specs.declared.fault.BulkFault.{BulkFault}
+use Rattle.bolt_bulk.specs.declared.pass.Ended.{Ended}
+use Rattle.bolt_bulk.proofs.PassAt.{puts_fault}
+use Rattle.bolt_bulk.proofs.PassEnds.{ends_after, ends_early, has_end}
+use Rattle.bolt_bulk.proofs.pass.Pass.end.Goals as goal
+
+pub returns-in-Err-clause-ends : goal.returns-in-Err-clause-ends
+returns-in-Err-clause-ends g c = λ tree put has.
+    ends_early tree g.S.Sink.taken g.S.Sink.failed c.args.self.now.bounds c.args.sink.now c.leave_to.new.sink put (HasLeft tree c.leave_to.new.self []) c.in-Err.fault (c.in-Err.ensures.steps tree [] put has tt)
+
+pub returns-in-Err-end-clause-ends : goal.returns-in-Err-end-clause-ends
+returns-in-Err-end-clause-ends g c = λ tree put has.
+    let stop : Result Ended BulkFault = Err c.in-Err-end.fault in
+    ends_after tree g.S.Sink.taken g.S.Sink.failed c.args.self.now.bounds c.args.sink.now c.leave_to.new.sink c.end.new.sink put (HasLeft tree c.leave_to.new.self []) tt stop (c.in_default.ensures.steps tree [] put has tt)
+    (λ all mid. let end = has_end tree c.leave_to.new.self all mid c.in_default.ensures.depth in
+    subst (λ (b : Bounds). Ends tree g.S.Sink.taken g.S.Sink.failed c.leave_to.new.sink c.end.new.sink b all stop) c.in_default.ensures.bounds
+    (record {
+      others = rows_end_put c.leave_to.new.self.bounds.page_size (rows_of c.leave_to.new.self.bucket c.leave_to.new.self.next);
+      all = end.pages;
+      puts = puts_fault _ _ _ c.in-Err-end.fault c.in-Err-end.ensures.pages;
+      short = c.in-Err-end.ensures.short;
+      root = tt;
+      mark = tt;
+      within = tt;
+      large = λ h. let m = c.in-Err-end.ensures.large h in let n = end.mark in omega (arith, m, n);
+    }))
+
+pub returns-in-Ok-clause-ends : goal.returns-in-Ok-clause-ends
+returns-in-Ok-clause-ends g c = λ tree put has.
+    let well : Result Ended BulkFault = Ok (record { root = c.in-Ok.root; high_water = c.end.new.next; held = c.leave_to.new.self.most }) in
+    ends_after tree g.S.Sink.taken g.S.Sink.failed c.args.self.now.bounds c.args.sink.now c.leave_to.new.sink c.end.new.sink put (HasLeft tree c.leave_to.new.self []) tt well (c.in_default.ensures.steps tree [] put has tt)
+    (λ all mid. let end = has_end tree c.leave_to.new.self all mid c.in_default.ensures.depth in
+    subst (λ (b : Bounds). Ends tree g.S.Sink.taken g.S.Sink.failed c.leave_to.new.sink c.end.new.sink b all well) c.in_default.ensures.bounds
+    (record {
+      others = rows_end_put c.leave_to.new.self.bounds.page_size (rows_of c.leave_to.new.self.bucket c.leave_to.new.self.next);
+      all = end.pages;
+      puts = record { all = c.in-Ok.ensures.pages.all; sound = c.in-Ok.ensures.pages.sound; beginning = tt; failure = tt; other = tt };
+      short = tt;
+      root = c.in-Ok.ensures.root ∙ end.root;
+      mark = c.in-Ok.ensures.next ∙ end.mark;
+      within = c.in-Ok.ensures.within;
+      large = tt;
+    }))

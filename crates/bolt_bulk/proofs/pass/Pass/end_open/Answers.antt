@@ -1,0 +1,39 @@
+-- The bucket around it takes the item of the one that ends.
+use Rattle.std.proofs.Common.{List, subst}
+use Rattle.std.specs.List.{AllByRecursion}
+use Rattle.bolt_bulk.specs.Private.Waiting.{IsWaiting}
+use Rattle.bolt_bulk.specs.declared.steps.Waiting.{Waiting}
+use Rattle.bolt_bulk.proofs.HeldPasses.{waits_less}
+use Rattle.bolt_bulk.proofs.PassAt.{leave_steps, puts_well, steps_stop}
+use Rattle.bolt_bulk.proofs.PassReady.{last_of}
+use Rattle.bolt_bulk.proofs.pass.Pass.end_open.Goals as goal
+
+pub leave-requires-clause-waits : goal.leave-requires-clause-waits
+leave-requires-clause-waits g c =
+    (last_of (IsWaiting c.args.self.now.bounds.page_size) c.pop.new.self.items c.in-Some.waiting
+    (subst (λ (ws : List Waiting). AllByRecursion (IsWaiting c.args.self.now.bounds.page_size) ws) c.in-Some.ensures.items c.requires.ready.waiting)).0
+
+pub returns-in-Err-clause-steps : goal.returns-in-Err-clause-steps
+returns-in-Err-clause-steps g c = λ tree level levels put is.
+    steps_stop tree g.S.Sink.taken g.S.Sink.failed c.args.self.now.bounds c.args.sink.now c.leave.new.sink put _ _ c.in-Err.fault
+    (leave_steps g.S.Sink.taken g.S.Sink.failed tree c.args.self.now put level levels c.in-Some.waiting c.args.sink.now c.leave.new.sink c.args.self.now.bucket c.pop.new.self c.leave.new.next 0 _ is c.requires.pending
+    c.in-Some.ensures.items (rw c.replace-inner.ensures.value at c.in-Err.ensures.pages) tt (rw c.replace-inner.ensures.value at c.in-Err.ensures.large))
+
+pub returns-in-Ok-clause-steps : goal.returns-in-Ok-clause-steps
+returns-in-Ok-clause-steps g c = λ tree level levels put is.
+    leave_steps g.S.Sink.taken g.S.Sink.failed tree c.args.self.now put level levels c.in-Some.waiting c.args.sink.now c.leave.new.sink c.in-Ok.outer c.pop.new.self c.leave.new.next _ _ is c.requires.pending
+    c.in-Some.ensures.items (puts_well _ _ _ c.in-Ok.outer (rw c.replace-inner.ensures.value at c.in-Ok.ensures.pages)) (rw c.replace-inner.ensures.value at c.in-Ok.ensures.rows) tt
+
+pub returns-in-Ok-clause-ready : goal.returns-in-Ok-clause-ready
+returns-in-Ok-clause-ready g c =
+    let ready = c.requires.ready in
+    let counted = waits_less c.pop.new.self.items c.args.self.now.waiting.items c.in-Some.waiting ready.counted c.in-Some.ensures.items in
+    record {
+      bucket = c.in-Ok.ensures.open;
+      next = c.in-Ok.ensures.within;
+      waiting = (last_of (IsWaiting c.args.self.now.bounds.page_size) c.pop.new.self.items c.in-Some.waiting
+          (subst (λ (ws : List Waiting). AllByRecursion (IsWaiting c.args.self.now.bounds.page_size) ws) c.in-Some.ensures.items ready.waiting)).1;
+      pending = ready.pending;
+      counted = counted.0;
+      around = counted.1;
+    }

@@ -1,0 +1,27 @@
+-- The value stands behind the others, and none has taken a step in the layout.
+use Rattle.std.proofs.Common.{rules, ◌≡◌, ◌++◌, [], ◌∷◌, false, refl}
+use Rattle.bolt_format.specs.declared.element.Leaf.{Leaf}
+use Rattle.bolt_bulk.proofs.PassAt.{keep_at}
+use Rattle.bolt_bulk.proofs.PassReady.{small_of, small_push}
+use Rattle.bolt_bulk.proofs.pass.Pass.keep_value.Goals as goal
+
+pub returns-clause-ready : goal.returns-clause-ready
+returns-clause-ready c =
+    let entry : Leaf = record { key = c.args.key; value = c.args.value; is_bucket = false } in
+    let items : c.push.new.self.items ≡ c.args.self.now.entries.items ++ entry ∷ [] = search rules in
+    let ready = c.requires.ready in
+    let small = small_of c.args.self.now.bounds.page_size c.args.self.now.pending c.args.pending c.args.self.now.entries.items c.requires.pending ready.pending in
+    record {
+      bucket = ready.bucket;
+      next = ready.next;
+      waiting = ready.waiting;
+      pending = small_push c.args.self.now.bounds.page_size c.args.size c.args.pending c.args.self.now.entries.items c.push.new.self.items entry small c.requires.key refl c.requires.size c.requires.small c.requires.few items;
+      counted = ready.counted;
+      around = ready.around;
+    }
+
+pub returns-clause-at : goal.returns-clause-at
+returns-clause-at c = λ tree after levels put is.
+    let entry : Leaf = record { key = c.args.key; value = c.args.value; is_bucket = false } in
+    let items : c.push.new.self.items ≡ c.args.self.now.entries.items ++ entry ∷ [] = search rules in
+    keep_at tree c.args.self.now levels put c.args.key.now c.args.value.now after c.args.pending entry c.args.size c.push.new.self is c.requires.pending items refl

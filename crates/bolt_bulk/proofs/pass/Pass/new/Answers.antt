@@ -1,0 +1,7 @@
+-- Nothing is open, and all is left.
+use Rattle.std.proofs.Common.{refl}
+use Rattle.bolt_bulk.proofs.PassEnds.{has_begun}
+use Rattle.bolt_bulk.proofs.pass.Pass.new.Goals as goal
+
+pub returns-clause-at : goal.returns-clause-at
+returns-clause-at c = λ tree. has_begun tree _ c.new.ensures.items refl (c.new-2.ensures.rows 3)

@@ -1,0 +1,54 @@
+-- The bucket is opened with its entries so far, and the one around it waits with room for it.
+use Rattle.std.proofs.Common.{rules, ◌≡◌, ◌++◌, ◌∷◌, [], List, Err, subst, sym}
+use Rattle.std.specs.List.{AllByRecursion}
+use Rattle.bolt_bulk.specs.Private.OpenBuckets.{IsOpenBucket}
+use Rattle.bolt_bulk.specs.declared.fault.BulkFault.TheVariants as fault
+use Rattle.bolt_bulk.specs.Private.Waiting.{IsWaiting}
+use Rattle.bolt_bulk.specs.declared.open_bucket.OpenBucket.{OpenBucket}
+use Rattle.bolt_bulk.specs.declared.steps.Waiting.{Waiting}
+use Rattle.bolt_bulk.proofs.HeldPasses.{more_around, waits_more}
+use Rattle.bolt_bulk.proofs.ListLemmas.{all_append}
+use Rattle.bolt_bulk.proofs.PassAt.{open_steps, open_stops, puts_failed, puts_fault, puts_well, steps_none}
+use Rattle.bolt_bulk.proofs.PassReady.{small_of}
+use Rattle.bolt_bulk.proofs.pass.Pass.open_pending.Goals as goal
+
+pub returns-in-Err-clause-steps : goal.returns-in-Err-clause-steps
+returns-in-Err-clause-steps g c = λ tree left levels put is rooted.
+    steps_none tree c.args.self.now levels left put c.args.sink.now _ (Err c.in-Err.fault) is c.in-Err.ensures.fault tt
+
+pub returns-in-Err-waiting-clause-steps : goal.returns-in-Err-waiting-clause-steps
+returns-in-Err-waiting-clause-steps g c = λ tree left levels put is rooted.
+    let small = small_of c.args.self.now.bounds.page_size c.args.self.now.pending c.args.pending c.args.self.now.entries.items c.requires.pending c.requires.ready.pending in
+    open_stops g.S.Sink.taken g.S.Sink.failed tree c.args.self.now put levels left c.args.pending c.args.sink.now c.enter-waiting.new.sink _ c.in-Err-waiting.fault is c.requires.pending small rooted
+    (puts_fault _ _ _ c.in-Err-waiting.fault (rw c.replace-outer.ensures.value at c.in-Err-waiting.ensures.pages)) (rw c.replace-outer.ensures.value at c.in-Err-waiting.ensures.large)
+
+pub returns-then-is_err-clause-steps : goal.returns-then-is_err-clause-steps
+returns-then-is_err-clause-steps g c = λ tree left levels put is rooted.
+    let small = small_of c.args.self.now.bounds.page_size c.args.self.now.pending c.args.pending c.args.self.now.entries.items c.requires.pending c.requires.ready.pending in
+    open_stops g.S.Sink.taken g.S.Sink.failed tree c.args.self.now put levels left c.args.pending c.args.sink.now c.enter-waiting.new.sink _ fault.Memory is c.requires.pending small rooted
+    (puts_failed _ _ _ c.in-Ok-waiting.waiting (rw c.replace-outer.ensures.value at c.in-Ok-waiting.ensures.pages)) (λ e. absurd cc)
+
+pub returns-clause-steps : goal.returns-clause-steps
+returns-clause-steps g c = λ tree left levels put is rooted.
+    let small = small_of c.args.self.now.bounds.page_size c.args.self.now.pending c.args.pending c.args.self.now.entries.items c.requires.pending c.requires.ready.pending in
+    let items : c.push.new.self.items ≡ c.args.self.now.waiting.items ++ c.in-Ok-waiting.waiting ∷ [] = search rules in
+    let values = rw (c.as_slice.ensures.value, sym c.replace-outer.ensures.after) at (c.in-Ok.ensures.rows c.enter-waiting.new.next) in
+    open_steps g.S.Sink.taken g.S.Sink.failed tree c.args.self.now put levels left c.args.pending c.args.sink.now c.enter-waiting.new.sink c.replace-outer.new.dest c.in-Ok-waiting.waiting c.push.new.self c.clear.new.self
+    c.enter-waiting.new.next _ is c.requires.pending small rooted (puts_well _ _ _ c.in-Ok-waiting.waiting (rw c.replace-outer.ensures.value at c.in-Ok-waiting.ensures.pages))
+    items (rw c.replace-outer.ensures.value at c.in-Ok-waiting.ensures.rows) c.in-Ok-waiting.ensures.key c.in-Ok-waiting.ensures.sequence values
+
+pub returns-clause-ready : goal.returns-clause-ready
+returns-clause-ready g c =
+    let waiting : List Waiting = c.args.self.now.waiting.items in
+    let w : Waiting = c.in-Ok-waiting.waiting in
+    let ready = c.requires.ready in
+    let items : c.push.new.self.items ≡ waiting ++ w ∷ [] = search rules in
+    record {
+      bucket = subst (λ (bucket : OpenBucket). IsOpenBucket bucket) (sym c.replace-outer.ensures.after) c.in-Ok.ensures.open;
+      next = c.in-Ok-waiting.ensures.within;
+      waiting = subst (λ (ws : List Waiting). AllByRecursion (IsWaiting c.args.self.now.bounds.page_size) ws) (sym items)
+          (all_append (IsWaiting c.args.self.now.bounds.page_size) waiting (w ∷ []) ready.waiting (c.in-Ok-waiting.ensures.waits, tt));
+      pending = c.clear.ensures.items;
+      counted = waits_more waiting c.push.new.self.items w c.args.self.now.around ready.counted c.in-Ok-waiting.ensures.around ready.around items;
+      around = more_around c.args.self.now.around c.saturating_add-around.result c.held.result waiting c.push.new.self.items w ready.around c.held.ensures c.saturating_add-around.ensures items;
+    }

@@ -1,0 +1,55 @@
+-- What `plan` and `compact` answer: docs/LAYOUT.md, "The calls".
+-- The layout is that of the listing of the file, at the page size asked for, with the sequence of the file's root bucket.
+use Rattle.std.specs.Prelude.{◌≡◌, ◌<◌, ◌≤◌, ◌+◌, ◌*◌, ◌^◌, ℕ, max, List, [], ◌∷◌, length, Option, Result, IfErr, IfOk, IsErr, OnErr, OnOk}
+use Rattle.std.specs.Io.KnownBytes.{Appends, Keeps}
+use Rattle.bolt_format.specs.Sinks.{AppendsProperBeginning}
+use Rattle.bolt_check.specs.CheckedFiles.{meta_of}
+use Rattle.bolt_check.specs.declared.checked_file.Checked.{Checked}
+use Rattle.bolt_tree.specs.Listing.{Member}
+use Rattle.bolt_tree.specs.Tree.{tree_of}
+use Rattle.bolt_bulk.specs.Copies.{layout_of_listing}
+use Rattle.bolt_bulk.specs.Layout.{layout_mark, layout_root}
+use Rattle.bolt_bulk.specs.declared.fault.BulkFault.{BulkFault}
+use Rattle.bolt_bulk.specs.declared.fault.BulkFault.TheVariants as bulk
+use Rattle.bolt_bulk.specs.declared.fault.PlanFault.{PlanFault}
+use Rattle.bolt_bulk.specs.declared.fault.PlanFault.TheVariants as planned
+use Rattle.bolt_bulk.specs.declared.outcome.Done.{Done}
+use Rattle.bolt_bulk.specs.declared.outcome.Plan.{Plan}
+
+-- the layout that a copy of a checked file has
+abbrev pub layout_for : Checked → (page_size : ℕ) → List Member → List ℕ
+layout_for checked page_size listing = layout_of_listing page_size listing (meta_of checked).root_sequence
+
+-- a layout has fewer bytes than this
+abbrev pub too_many : ℕ
+too_many = 2 ^ 63
+
+-- the plan is the layout's root page and high-water mark, which has fewer than 2^63 bytes; or it has no fewer, or memory ran out
+pub record Plans (checked : Checked) (page_size : ℕ) (listing : List Member) (result : Result Plan PlanFault) : Type 0 where
+  pub root : IfOk result (λ plan. plan.root ≡ layout_root page_size (tree_of listing))
+  pub high_water : IfOk result (λ plan. plan.high_water ≡ layout_mark page_size (tree_of listing))
+  pub fits : OnOk result (length (layout_for checked page_size listing) < too_many)
+  pub large : IfErr result (λ fault. fault ≡ planned.TooLarge → too_many ≤ length (layout_for checked page_size listing))
+
+-- The sink took the whole layout, with no failure, exactly where the answer is Ok, and then the number of its bytes is told; and else a
+-- beginning of it that isn't the whole. The fault Sink comes only with a failure of the sink, and any other without one. TooLarge comes
+-- only where the layout has 2^63 bytes or more, and of such a layout nothing is put, whatever the answer is, which is none but a fault.
+pub record Copies {S : Type 0} (taken : S → Option (List ℕ)) (failed : S → ℕ) (old new : S) (layout : List ℕ) (result : Result Done BulkFault) : Type 0 where
+  pub all : OnOk result (Appends (taken old) (taken new) layout)
+  pub bytes : IfOk result (λ done. done.bytes ≡ length layout)
+  pub sound : OnOk result (failed new ≡ failed old)
+  pub short : OnErr result (AppendsProperBeginning (taken old) (taken new) layout)
+  pub failure : IfErr result (λ fault. fault ≡ bulk.Sink → 0 < failed new)
+  pub other : IfErr result (λ fault. (fault ≡ bulk.Sink → ⊥) → failed new ≡ failed old)
+  pub large : IfErr result (λ fault. fault ≡ bulk.TooLarge → too_many ≤ length layout)
+  pub refuses : too_many ≤ length layout → IsErr result × Keeps (taken old) (taken new) × (failed new ≡ failed old)
+  pub untouched : too_many ≤ length layout → IfErr result (λ fault. fault ≡ bulk.Sink → ⊥)
+
+-- the parts of the longest path of a listing
+abbrev pub longest : List Member → ℕ
+longest [] = 0
+longest (member ∷ listing) = max (length member.0) (longest listing)
+
+-- the most items that may stand in open runs at one time, however many entries there are
+abbrev pub most_held : (page_size : ℕ) → List Member → ℕ
+most_held page_size listing = 4 * page_size * (1 + longest listing)

@@ -1,0 +1,42 @@
+-- What the end of a pass leaves, and what is known of the members of a listing.
+use Rattle.std.specs.Prelude.{◌≡◌, ◌<◌, ◌≤◌, ℕ, List, [], ◌∷◌, ◌++◌, length, Option, Result, IfErr, IfOk, OnErr}
+use Rattle.bolt_check.specs.Keys.{Key}
+use Rattle.bolt_format.specs.ElementLengths.{IsValueLength}
+use Rattle.bolt_format.specs.Sinks.{AppendsProperBeginning}
+use Rattle.bolt_tree.specs.Entries.{Bucket, Item, Value}
+use Rattle.bolt_tree.specs.Listing.{Member}
+use Rattle.bolt_tree.specs.Paths.{Path}
+use Rattle.bolt_tree.specs.Tree.{Tree}
+use Rattle.bolt_bulk.specs.Laid.{Placed}
+use Rattle.bolt_bulk.specs.Layout.{layout_mark, layout_pages, layout_root, placed_bytes}
+use Rattle.bolt_bulk.specs.Puts.{Puts}
+use Rattle.bolt_bulk.specs.declared.bounds.Bounds.{Bounds}
+use Rattle.bolt_bulk.specs.declared.fault.BulkFault.{BulkFault}
+use Rattle.bolt_bulk.specs.declared.fault.BulkFault.TheVariants as fault
+use Rattle.bolt_bulk.specs.declared.pass.Ended.{Ended}
+
+-- These pages were put before; the others of the layout are put, or a beginning of their bytes that isn't the whole. The root page and the
+-- high-water mark are told.
+pub record Ends {S : Type 0} (tree : Tree) (taken : S → Option (List ℕ)) (failed : S → ℕ) (old new : S) (bounds : Bounds) (put : List Placed) (result : Result Ended BulkFault) : Type 0 where
+  pub others : List Placed
+  pub all : layout_pages bounds.page_size tree ≡ put ++ others
+  pub puts : Puts taken failed old new (placed_bytes bounds.page_size others) result
+  pub short : OnErr result (AppendsProperBeginning (taken old) (taken new) (placed_bytes bounds.page_size others))
+  pub root : IfOk result (λ ended. ended.root ≡ layout_root bounds.page_size tree)
+  pub mark : IfOk result (λ ended. ended.high_water ≡ layout_mark bounds.page_size tree)
+  pub within : IfOk result (λ ended. ended.high_water ≤ bounds.limit)
+  pub large : IfErr result (λ e. e ≡ fault.TooLarge → bounds.limit < layout_mark bounds.page_size tree)
+
+-- the last part of a path
+abbrev pub last_part : Path → Key
+last_part [] = []
+last_part (key ∷ []) = key
+last_part (key ∷ next ∷ path) = last_part (next ∷ path)
+
+-- a member has a path, with keys and values of lengths that the format allows
+abbrev pub IsFitItem : Item → Type 0
+IsFitItem (Value value) = IsValueLength (length value)
+IsFitItem (Bucket sequence) = Unit {0}
+
+abbrev pub IsFitMember : Member → Type 0
+IsFitMember member = (1 ≤ length member.0) × (length (last_part member.0) ≤ 1073741824) × IsFitItem member.1

@@ -1,0 +1,43 @@
+-- A bucket that is open, as code keeps it: the run of items of its leaf under way, and the runs of pages above.
+use Rattle.std.specs.Prelude.{◌≡◌, ◌<◌, ℕ, ◌+◌, length}
+use Rattle.std.specs.List.{AllByRecursion}
+use Rattle.bolt_format.specs.Elements.{BranchElement}
+use Rattle.bolt_bulk.specs.Levels.{overflow_of}
+use Rattle.bolt_bulk.specs.Private.BranchRuns.{IsStanding, rows_above, rows_end_next}
+use Rattle.bolt_bulk.specs.Private.HeldItems.{AreHeld, held_views, inlined_in, page_size_of}
+use Rattle.bolt_bulk.specs.Private.Rows.{LeafRow, OpenRows, leaf_key}
+use Rattle.bolt_bulk.specs.declared.open_bucket.LeafRun.{LeafRun}
+use Rattle.bolt_bulk.specs.declared.open_bucket.OpenBucket.{OpenBucket}
+
+-- a run of items as the row that it is,
+abbrev pub leaves_of : LeafRun → LeafRow
+leaves_of run = record { elements = held_views run.inlined.items run.items.items; size = run.size }
+
+-- with the size of its page, and no entries in its row but those of its own inline buckets
+pub record IsLeafRun (run : LeafRun) : Type 0 where
+  pub held : AreHeld run.inlined.items run.items.items
+  pub sized : run.size ≡ page_size_of run.inlined.items run.items.items
+  pub small : run.size < 4294967296
+  pub few : length run.items.items < 65535
+  pub inlined : length run.inlined.items ≡ inlined_in run.items.items
+
+-- an item of this size can be added
+pub record HasRoomFor (run : LeafRun) (size : ℕ) : Type 0 where
+  pub small : run.size + size < 4294967296
+  pub few : length run.items.items < 65534
+
+-- what is open of a bucket, with the number of the next page
+abbrev pub rows_of : OpenBucket → ℕ → OpenRows
+rows_of bucket next = record { leaves = leaves_of bucket.leaves; uppers = rows_above bucket.uppers.items; next = next }
+
+pub record IsOpenBucket (bucket : OpenBucket) : Type 0 where
+  pub leaves : IsLeafRun bucket.leaves
+  pub uppers : AllByRecursion IsStanding (rows_above bucket.uppers.items)
+
+-- the element of a leaf page that closes
+abbrev pub leaf_closed : LeafRow → ℕ → BranchElement
+leaf_closed row next = record { key = leaf_key row.elements; child = next }
+
+-- the number after the bucket's root page
+abbrev pub bucket_end_next : ℕ → OpenRows → ℕ
+bucket_end_next page_size rows = rows_end_next page_size (leaf_closed rows.leaves rows.next) (rows.next + (1 + overflow_of page_size rows.leaves.size)) rows.uppers

@@ -1,0 +1,122 @@
+-- The open runs of a bucket whose pages are put in one forward pass: a run of leaf items, and above it one run of pages for each level.
+-- A run closes before the first page of what no longer joins it is put, so an upper run may stand empty: then the page that is under way
+-- below begins the next run.
+use Rattle.std.specs.Prelude.{ℕ, ◌+◌, Bool, ◌||◌, ◌&&◌, nat_lt, nat_le, List, [], ◌∷◌, ◌++◌, length, if◌then◌else◌}
+use Rattle.bolt_format.specs.Elements.{BranchElement, LeafElement}
+use Rattle.bolt_format.specs.Pages.{PageView}
+use Rattle.bolt_bulk.specs.Layout.{first_page}
+use Rattle.bolt_tree.specs.Tree.{Tree}
+use Rattle.bolt_bulk.specs.Cut.{max_items, run_size}
+use Rattle.bolt_bulk.specs.Laid.{Laid, Placed, elements_of, numbers_of, pages_of, size_of}
+use Rattle.bolt_bulk.specs.Levels.{branch_view, leaf_view, page_over, run_overflow}
+
+-- an item of this size joins the run
+abbrev pub has_room : {E : Type 0} → ℕ → ℕ → List (Laid E) → ℕ → Bool
+has_room page_size least run size = nat_lt (length run) least || (nat_le (run_size size_of run + size) page_size && nat_lt (length run) max_items)
+
+-- the size of a branch item with this key
+abbrev pub key_size : List ℕ → ℕ
+key_size key = 16 + length key
+
+-- the first key of the page over a run, where the page under way below it has this first key
+abbrev pub coming_key : List (Laid BranchElement) → List ℕ → List ℕ
+coming_key [] key = key
+coming_key (page ∷ run) key = page.key
+
+-- the pages in upper runs that were put, the outermost first
+abbrev pub put_in : List (List (Laid BranchElement)) → List (Laid BranchElement)
+put_in [] = []
+put_in (run ∷ uppers) = put_in uppers ++ run
+
+abbrev pub numbers_in : List (List (Laid BranchElement)) → ℕ
+numbers_in uppers = numbers_of (put_in uppers)
+
+-- A page q has closed, and a page with this first key comes next. Each upper run takes the page below it that closed, and closes where the next one won't join it.
+abbrev pub climb : ℕ → List ℕ → Laid BranchElement → List (List (Laid BranchElement)) → List (List (Laid BranchElement))
+climb page_size key q [] = (q ∷ []) ∷ []
+climb page_size key q (run ∷ uppers) =
+    let stays = (run ++ q ∷ []) ∷ uppers in
+    let closes = [] ∷ climb page_size key (page_over branch_view page_size (run ++ q ∷ [])) uppers in
+    if has_room page_size 2 (run ++ q ∷ []) (key_size key) then stays else closes
+
+-- the page over a run itself, apart from those below it
+abbrev pub own_page : {E : Type 0} → (ℕ → List E → PageView) → ℕ → List (Laid E) → ℕ → Placed
+own_page view page_size run number = record { number = number + numbers_of run; view = view (run_overflow page_size run) (elements_of run number) }
+
+-- the pages that this puts, where the bucket's pages begin at a number
+abbrev pub climb_puts : ℕ → List ℕ → Laid BranchElement → List (List (Laid BranchElement)) → ℕ → List Placed
+climb_puts page_size key q [] number = []
+climb_puts page_size key q (run ∷ uppers) number =
+    let closed = own_page branch_view page_size (run ++ q ∷ []) (number + numbers_in uppers) in
+    let more = closed ∷ climb_puts page_size key (page_over branch_view page_size (run ++ q ∷ [])) uppers number in
+    if has_room page_size 2 (run ++ q ∷ []) (key_size key) then [] else more
+
+-- at the end each run closes in turn, up to the root page
+abbrev pub close : ℕ → Laid BranchElement → List (List (Laid BranchElement)) → Laid BranchElement
+close page_size q [] = q
+close page_size q (run ∷ uppers) = close page_size (page_over branch_view page_size (run ++ q ∷ [])) uppers
+
+abbrev pub close_puts : ℕ → Laid BranchElement → List (List (Laid BranchElement)) → ℕ → List Placed
+close_puts page_size q [] number = []
+close_puts page_size q (run ∷ uppers) number =
+    own_page branch_view page_size (run ++ q ∷ []) (number + numbers_in uppers) ∷ close_puts page_size (page_over branch_view page_size (run ++ q ∷ [])) uppers number
+
+-- A bucket that is open: its upper runs, and the run of leaf items.
+pub record Open : Type 0 where
+  pub uppers : List (List (Laid BranchElement))
+  pub run : List (Laid LeafElement)
+
+abbrev pub nothing_open : Open
+nothing_open = record { uppers = []; run = [] }
+
+-- the pages of an open bucket that were put, where they begin at a number; and the number of the next one
+abbrev pub pages_put : Open → ℕ → List Placed
+pages_put state number = pages_of (put_in state.uppers) number ++ pages_of state.run (number + numbers_in state.uppers)
+
+abbrev pub next_number : Open → ℕ → ℕ
+next_number state number = number + numbers_in state.uppers + numbers_of state.run
+
+-- Room for the next item, by its key and size: it is there, or the run closes before any of the item's pages is put.
+abbrev pub making_room : ℕ → Open → List ℕ → ℕ → Open
+making_room page_size state key size =
+    let closed : Open = record { uppers = climb page_size key (page_over leaf_view page_size state.run) state.uppers; run = [] } in
+    if has_room page_size 1 state.run size then state else closed
+
+abbrev pub room_puts : ℕ → Open → List ℕ → ℕ → ℕ → List Placed
+room_puts page_size state key size number =
+    let closed = own_page leaf_view page_size state.run (number + numbers_in state.uppers) ∷ climb_puts page_size key (page_over leaf_view page_size state.run) state.uppers number in
+    if has_room page_size 1 state.run size then [] else closed
+
+abbrev pub pushing : Open → Laid LeafElement → Open
+pushing state item = record { uppers = state.uppers; run = state.run ++ item ∷ [] }
+
+abbrev pub taking : ℕ → Open → Laid LeafElement → Open
+taking page_size state item = pushing (making_room page_size state item.key item.size) item
+
+-- the end of the bucket
+abbrev pub end_of : ℕ → Open → Laid BranchElement
+end_of page_size state = close page_size (page_over leaf_view page_size state.run) state.uppers
+
+abbrev pub end_puts : ℕ → Open → ℕ → List Placed
+end_puts page_size state number =
+    own_page leaf_view page_size state.run (number + numbers_in state.uppers) ∷ close_puts page_size (page_over leaf_view page_size state.run) state.uppers number
+
+-- A bucket that waits for one within it, of this key and sequence; what comes after that one; and its state, which has room for it.
+pub record Frame : Type 0 where
+  pub state : Open
+  pub key : List ℕ
+  pub sequence : ℕ
+  pub after : Tree
+
+-- the buckets that wait, the innermost first: where the pages of the bucket within them begin, and the pages that they put
+abbrev pub base_in : List Frame → ℕ
+base_in [] = first_page
+base_in (frame ∷ frames) = next_number frame.state (base_in frames)
+
+abbrev pub frames_put : List Frame → List Placed
+frames_put [] = []
+frames_put (frame ∷ frames) = frames_put frames ++ pages_put frame.state (base_in frames)
+
+-- all pages that were put
+abbrev pub all_put : List Frame → Open → List Placed
+all_put frames state = frames_put frames ++ pages_put state (base_in frames)

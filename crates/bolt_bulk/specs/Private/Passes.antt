@@ -1,0 +1,123 @@
+-- Where a pass stands in the tree that it goes along, as code keeps it, and what a step of it leaves.
+use Rattle.std.specs.Prelude.{◌≡◌, ◌<◌, ◌≤◌, ℕ, suc, ◌+◌, ◌/◌, false, List, [], ◌∷◌, ◌++◌, length, map, reverse, Option, Some, None, Result, IfErr, OnOk}
+use Rattle.std.specs.List.{AllByRecursion}
+use Rattle.bolt_format.specs.ElementPlaces.{leaf_view}
+use Rattle.bolt_format.specs.Elements.{LeafElement}
+use Rattle.bolt_format.specs.declared.element.Leaf.{Leaf}
+use Rattle.bolt_tree.specs.Listing.{Member}
+use Rattle.bolt_tree.specs.Tree.{Tree, with_bucket, with_value}
+use Rattle.bolt_bulk.specs.Items.{is_inline, items_of, root_of}
+use Rattle.bolt_bulk.specs.Laid.{Placed}
+use Rattle.bolt_bulk.specs.Layout.{layout_mark, layout_pages, placed_bytes}
+use Rattle.bolt_bulk.specs.Private.Coming.{IsPass}
+use Rattle.bolt_bulk.specs.Private.Heights.{AllBounded}
+use Rattle.bolt_bulk.specs.Private.HeldCounts.{AreCounted, capped, held_around}
+use Rattle.bolt_bulk.specs.Private.Levels.{Level, left_in}
+use Rattle.bolt_bulk.specs.Private.OpenBuckets.{IsOpenBucket, rows_of}
+use Rattle.bolt_bulk.specs.Private.OpenRows.{IsOpenRows}
+use Rattle.bolt_bulk.specs.Private.OpenRuns.{Frame, Open, all_put, base_in}
+use Rattle.bolt_bulk.specs.Private.TakenItems.{entries_size}
+use Rattle.bolt_bulk.specs.Private.Waiting.{IsWaiting}
+use Rattle.bolt_bulk.specs.Puts.{Puts}
+use Rattle.bolt_bulk.specs.declared.bounds.Bounds.{Bounds}
+use Rattle.bolt_bulk.specs.declared.fault.BulkFault.{BulkFault}
+use Rattle.bolt_bulk.specs.declared.fault.BulkFault.TheVariants as fault
+use Rattle.bolt_bulk.specs.declared.pass.Pass.{Pass}
+use Rattle.bolt_bulk.specs.declared.pass.Pending.{Pending}
+use Rattle.bolt_bulk.specs.declared.steps.Waiting.{Waiting}
+
+-- entries that are values, in front of a tree
+abbrev pub onto : List LeafElement → Tree → Tree
+onto [] tree = tree
+onto (e ∷ entries) tree = with_value e.key e.value (onto entries tree)
+
+abbrev pub level_of : Frame → Level
+level_of frame = record { key = frame.key; after = frame.after }
+
+-- the buckets that wait in code, the innermost first, are the frames
+abbrev pub AreWaiting : List Waiting → List Frame → Type 0
+AreWaiting [] [] = Unit {0}
+AreWaiting [] (frame ∷ frames) = ⊥
+AreWaiting (waiting ∷ others) [] = ⊥
+AreWaiting (waiting ∷ others) (frame ∷ frames) =
+    IsOpenRows (rows_of waiting.bucket (base_in (frame ∷ frames))) frame.state (base_in frames)
+    × (waiting.key.now ≡ frame.key) × (waiting.sequence ≡ frame.sequence) × AreWaiting others frames
+
+-- A bucket that may be inline is the next entry of the open one: it is entered as a level, but not opened yet.
+abbrev pub IsPending : Option Pending → List Leaf → (outer : List Level) → (rest : Tree) → (levels : List Level) → (left : Tree) → Type 0
+IsPending None entries outer rest levels left = (levels ≡ outer) × (rest ≡ left)
+IsPending (Some pending) entries outer rest levels left = (after : Tree)
+    × (levels ≡ record { key = pending.key.now; after = after } ∷ outer)
+    × (rest ≡ with_bucket pending.key.now pending.sequence (onto (map leaf_view entries) left) after)
+
+-- The pass has put these pages, and of the innermost bucket these entries are left.
+pub record IsAt (tree : Tree) (pass : Pass) (levels : List Level) (left : Tree) (put : List Placed) : Type 0 where
+  pub frames : List Frame
+  pub state : Open
+  pub rest : Tree
+  pub under : IsPass pass.bounds.page_size frames state (items_of pass.bounds.page_size rest) (root_of pass.bounds.page_size tree)
+  pub rows : IsOpenRows (rows_of pass.bucket pass.next) state (base_in frames)
+  pub waits : AreWaiting (reverse pass.waiting.items) frames
+  pub put_is : put ≡ all_put frames state
+  pub pends : IsPending pass.pending pass.entries.items (map level_of frames) rest levels left
+  pub bounded : AllBounded pass.bounds.page_size frames state
+
+-- What is known of it without the tree. A bucket that may be inline has values alone, which take at most a quarter of a page.
+pub record IsSmall (page_size : ℕ) (pending : Pending) (entries : List Leaf) : Type 0 where
+  pub key : length pending.key.now ≤ 1073741824
+  pub sized : pending.size ≡ entries_size (map leaf_view entries)
+  pub small : pending.size ≤ page_size / 4
+  pub few : length entries ≤ 65534
+  pub keys : AllByRecursion (λ (entry : Leaf). length entry.key.now ≤ 1073741824) entries
+  pub values : AllByRecursion (λ (entry : Leaf). entry.is_bucket ≡ false) entries
+
+abbrev pub IsPendingSmall : (page_size : ℕ) → Option Pending → List Leaf → Type 0
+IsPendingSmall page_size None entries = entries ≡ []
+IsPendingSmall page_size (Some pending) entries = IsSmall page_size pending entries
+
+pub record IsReady (pass : Pass) : Type 0 where
+  pub bucket : IsOpenBucket pass.bucket
+  pub next : pass.next ≤ pass.bounds.limit
+  pub waiting : AllByRecursion (IsWaiting pass.bounds.page_size) pass.waiting.items
+  pub pending : IsPendingSmall pass.bounds.page_size pass.pending pass.entries.items
+  pub counted : AreCounted 0 pass.waiting.items
+  pub around : pass.around ≡ capped (held_around pass.waiting.items)
+
+-- how many buckets are around what is left
+abbrev pub pending_depth : Option Pending → ℕ
+pending_depth None = 0
+pending_depth (Some pending) = 1
+
+abbrev pub depth_of : Pass → ℕ
+depth_of pass = suc (length pass.waiting.items) + pending_depth pass.pending
+
+-- a bucket with these entries has a root page
+abbrev pub HasRoot : (page_size : ℕ) → Tree → Type 0
+HasRoot page_size inside = is_inline page_size inside (items_of page_size inside) ≡ false
+
+-- these pages stand before others of the layout
+pub record StandsBefore (front whole : List Placed) : Type 0 where
+  pub rest : List Placed
+  pub parts : whole ≡ front ++ rest
+  pub some : 1 ≤ length rest
+
+-- A step puts further pages, of which others of the layout come behind, or a beginning of their bytes where it fails. It is too large a
+-- layout where a step says so.
+pub record Steps {S A : Type 0} (tree : Tree) (taken : S → Option (List ℕ)) (failed : S → ℕ) (old new : S) (bounds : Bounds) (put : List Placed) (At : List Placed → Type 0) (result : Result A BulkFault) : Type 0 where
+  pub more : List Placed
+  pub puts : Puts taken failed old new (placed_bytes bounds.page_size more) result
+  pub at : OnOk result (At (put ++ more))
+  pub before : StandsBefore (put ++ more) (layout_pages bounds.page_size tree)
+  pub large : IfErr result (λ e. e ≡ fault.TooLarge → bounds.limit < layout_mark bounds.page_size tree)
+
+-- no path of the next member is longer
+abbrev pub IsNoDeeper : ℕ → List Member → Type 0
+IsNoDeeper depth [] = Unit {0}
+IsNoDeeper depth (member ∷ members) = length member.0 ≤ depth
+
+-- it stands where these members are left
+pub record HasLeft (tree : Tree) (pass : Pass) (members : List Member) (put : List Placed) : Type 0 where
+  pub levels : List Level
+  pub left : Tree
+  pub at : IsAt tree pass levels left put
+  pub members_are : left_in levels left ≡ members

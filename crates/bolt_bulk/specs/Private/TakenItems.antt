@@ -1,0 +1,25 @@
+-- The items that a bucket takes, as elements of its leaf, and what is open of it then.
+use Rattle.std.specs.Prelude.{ℕ, ◌+◌, ◌*◌, true, false, List, length}
+use Rattle.bolt_format.specs.Elements.{LeafElement}
+use Rattle.bolt_bulk.specs.PageBytes.{inline_value, leaf_data, root_value}
+use Rattle.bolt_bulk.specs.Private.Rows.{OpenRows, rows_push, rows_room}
+
+abbrev pub value_element : (key value : List ℕ) → LeafElement
+value_element key value = record { key = key; value = value; is_bucket = false }
+
+abbrev pub inline_element : (key : List ℕ) → (sequence : ℕ) → List LeafElement → LeafElement
+inline_element key sequence entries = record { key = key; value = inline_value sequence entries; is_bucket = true }
+
+abbrev pub root_element : (key : List ℕ) → (root sequence : ℕ) → LeafElement
+root_element key root sequence = record { key = key; value = root_value root sequence; is_bucket = true }
+
+-- the sizes of a page over entries, and of the value of an inline bucket that has them
+abbrev pub entries_size : List LeafElement → ℕ
+entries_size entries = 16 + (16 * length entries + length (leaf_data entries))
+
+abbrev pub inline_size : List LeafElement → ℕ
+inline_size entries = 32 + (16 * length entries + length (leaf_data entries))
+
+-- room is made for an item of this size, and it is added
+abbrev pub rows_taking : (page_size : ℕ) → OpenRows → LeafElement → (size : ℕ) → OpenRows
+rows_taking page_size rows e size = rows_push (rows_room page_size rows e.key size) e size (rows_room page_size rows e.key size).next

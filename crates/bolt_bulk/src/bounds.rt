@@ -1,0 +1,44 @@
+//! How large pages are, and how many of them there may be.
+ghost use Rattle.std.specs.Prelude.{◌≡◌, ◌+◌, ◌<◌, ◌≤◌, IfErr, IfOk};
+ghost use Rattle.bolt_bulk.specs.Levels.{overflow_of};
+ghost use Rattle.bolt_bulk.specs.declared.fault.BulkFault.TheVariants as fault;
+
+use crate::fault::BulkFault;
+
+/// The most items that a page may have.
+pub(crate) const MAX_ITEMS: usize = 65534;
+
+/// How large pages are, and the highest high-water mark that a copy may have.
+#[derive(Clone, Copy)]
+pub(crate) struct Bounds {
+    pub page_size: usize,
+    pub limit: u64,
+    ghost low: { 1024 ≤ page_size },
+    ghost high: { page_size ≤ 33554432 },
+}
+
+/// How many further pages a page of this size takes.
+#[tactic(auto, unfolding(crate::specs::Levels::overflow_of))]
+pub(crate) fn overflow(page_size: usize, size: usize) -> usize
+    requires page { 0 < page_size }
+    requires size { 0 < size }
+    ensures { result ≡ overflow_of page_size size }
+{
+    (size - 1) / page_size
+}
+
+/// The number after a page of this size that has the next number.
+pub(crate) fn number_after(bounds: &Bounds, size: usize, next: u64) -> Result<u64, BulkFault>
+    requires size { 0 < size }
+    requires next { next ≤ bounds.now.limit }
+    ensures number { IfOk result (λ n. n ≡ next + (1 + overflow_of bounds.now.page_size size)) }
+    ensures within { IfOk result (λ n. n ≤ bounds.now.limit) }
+    ensures large { IfErr result (λ _. bounds.now.limit < next + (1 + overflow_of bounds.now.page_size size)) }
+    ensures fault { IfErr result (λ e. e ≡ fault.TooLarge) }
+{
+    let further = overflow(bounds.page_size, size) as u64;
+    if further >= bounds.limit - next {
+        return Err(BulkFault::TooLarge);
+    }
+    Ok(next + (1 + further))
+}

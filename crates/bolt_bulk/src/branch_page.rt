@@ -1,0 +1,71 @@
+//! A branch page, as it is put.
+ghost use Rattle.std.specs.Prelude.{◌≡◌, ◌+◌, ◌*◌, ◌<◌, ◌≤◌, length, map};
+ghost use Rattle.bolt_format.specs.ElementPlaces.{branch_view};
+ghost use Rattle.bolt_bulk.specs.Levels.{branch_view as branch_page_view};
+ghost use Rattle.bolt_bulk.specs.PageBytes.{branch_data, branch_header, branch_headers, page_bytes};
+ghost use Rattle.bolt_bulk.specs.Puts.{PutsWhole};
+
+use crate::pieces::{put, put_zeros};
+use crate::row::{BRANCH_FLAGS, ELEMENT_LEN, Row, header, push_u32, push_u64};
+use bolt_format::{Branch, Sink, SinkFault};
+
+/// The header of an element.
+#[tactic(auto, unfolding(crate::specs::PageBytes::branch_header))]
+fn element_header(pos: u32, branch: &Branch<'_>) -> Row
+    requires { length branch.now.key.now < 4294967296 }
+    ensures { result.items ≡ branch_header pos (branch_view branch.now) }
+{
+    let mut row = Row::new();
+    push_u32(&mut row, pos);
+    push_u32(&mut row, branch.key.len() as u32);
+    push_u64(&mut row, branch.child);
+    row
+}
+
+/// Puts the headers of elements. The keys of all of them are packed behind the last header.
+fn put_headers<S: Sink>(branches: &[Branch<'_>], sink: &mut S) -> Result<(), SinkFault>
+    requires { 16 * length branches.now + length (branch_data (map branch_view branches.now)) < 4294967296 }
+    ensures { PutsWhole S.taken S.failed sink.old sink.new (branch_headers 0 (map branch_view branches.now)) result }
+{
+    let mut pos = ELEMENT_LEN * branches.len();
+    for i in 0..branches.len() {
+        let branch = &branches[i];
+        let row = element_header(pos as u32, branch);
+        put(row.as_slice(), sink)?;
+        pos = pos - ELEMENT_LEN + branch.key.len();
+    }
+    Ok(())
+}
+
+/// Puts the keys of elements.
+fn put_keys<S: Sink>(branches: &[Branch<'_>], sink: &mut S) -> Result<(), SinkFault>
+    ensures { PutsWhole S.taken S.failed sink.old sink.new (branch_data (map branch_view branches.now)) result }
+{
+    for i in 0..branches.len() {
+        put(branches[i].key, sink)?;
+    }
+    Ok(())
+}
+
+/// Puts a branch page over these elements, which has `size` bytes before its zeros.
+pub(crate) fn put_branch_page<S: Sink>(
+    number: u64,
+    page_size: usize,
+    overflow: u32,
+    branches: &[Branch<'_>],
+    size: usize,
+    sink: &mut S,
+) -> Result<(), SinkFault>
+    requires count { length branches.now < 65535 }
+    requires size { size ≡ 16 + (16 * length branches.now + length (branch_data (map branch_view branches.now))) }
+    requires small { size < 4294967296 }
+    requires room { size ≤ (1 + overflow) * page_size }
+    requires fits { (1 + overflow) * page_size < 18446744073709551616 }
+    ensures { PutsWhole S.taken S.failed sink.old sink.new (page_bytes page_size number (branch_page_view overflow (map branch_view branches.now))) result }
+{
+    let row = header(number, BRANCH_FLAGS, branches.len() as u16, overflow);
+    put(row.as_slice(), sink)?;
+    put_headers(branches, sink)?;
+    put_keys(branches, sink)?;
+    put_zeros((1 + overflow as usize) * page_size - size, sink)
+}

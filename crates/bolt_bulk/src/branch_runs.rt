@@ -1,0 +1,227 @@
+//! The runs of pages that stand open above a bucket's leaves.
+ghost use Rattle.std.specs.Prelude.{◌≡◌, ◌+◌, ◌<◌, ◌≤◌, [], ◌∷◌, IfErr, IfOk, OnErr, OnOk, length, option_map};
+ghost use Rattle.std.specs.List.{AllByRecursion};
+ghost use Rattle.bolt_format.specs.ElementPlaces.{branch_view};
+ghost use Rattle.bolt_format.specs.Sinks.{AppendsProperBeginning};
+ghost use Rattle.bolt_bulk.specs.Layout.{placed_bytes};
+ghost use Rattle.bolt_bulk.specs.Levels.{overflow_of};
+ghost use Rattle.bolt_bulk.specs.Private.BranchRuns.{IsPushed, IsSizedRow, IsStanding, element_up, own_element, row_of, rows_above, rows_end_next, row_taking, taking_next, taking_puts, taking_up};
+ghost use Rattle.bolt_bulk.specs.Private.OpenRuns.{key_size};
+ghost use Rattle.bolt_bulk.specs.Private.Rows.{no_row, row_has_room, row_page, row_push, rows_climb, rows_close_put, rows_next, rows_put, rows_root};
+ghost use Rattle.bolt_bulk.specs.Puts.{Puts, PutsWhole};
+ghost use Rattle.bolt_bulk.specs.declared.fault.BulkFault.TheVariants as fault;
+
+use crate::bounds::{Bounds, MAX_ITEMS, number_after, overflow};
+use crate::branch_page::put_branch_page;
+use crate::fault::BulkFault;
+use bolt_format::{Branch, Sink, SinkFault};
+use std::alloc::Global;
+
+/// A run of pages that is open, and the size of the page over it.
+#[derive(Drop)]
+pub(crate) struct BranchRun<'a> {
+    pub elements: Vec<Branch<'a>>,
+    pub size: usize,
+}
+
+impl<'a> BranchRun<'a> {
+    /// A run without pages.
+    fn new(alloc: Global) -> BranchRun<'a>
+        ensures { row_of result ≡ no_row }
+    {
+        BranchRun {
+            elements: Vec::new(alloc),
+            size: 16,
+        }
+    }
+
+    /// Adds the element of a page.
+    fn push(&mut self, page: Branch<'a>) -> Result<(), BulkFault>
+        requires size { self.old.size + length page.key.now < 9223372036854775808 }
+        ensures row { OnOk result (row_of self.new ≡ row_push (row_of self.old) (branch_view page.entry)) }
+        ensures fault { IfErr result (λ e. e ≡ fault.Memory) }
+    {
+        if self.elements.push(page).is_err() {
+            return Err(BulkFault::Memory);
+        }
+        self.size += 16 + page.key.len();
+        Ok(())
+    }
+
+    /// Whether the element of a page with this first key joins.
+    fn has_room(&self, page_size: usize, key: &[u8]) -> bool
+        requires { self.now.size + length key.now < 9223372036854775808 }
+        ensures { result ≡ row_has_room page_size (row_of self.now) (key_size key.now) }
+    {
+        self.elements.len() < 2
+            || (self.size + (16 + key.len()) <= page_size && self.elements.len() < MAX_ITEMS)
+    }
+
+    /// Takes the element of a page that has closed, where a page with this first key comes next.
+    /// A run that this one doesn't join closes: its page is put, and its element given.
+    fn take<S: Sink>(
+        &mut self,
+        bounds: &Bounds,
+        key: &[u8],
+        closed: Branch<'a>,
+        next: &mut u64,
+        sink: &mut S,
+    ) -> Result<Option<Branch<'a>>, BulkFault>
+        requires standing { IsStanding (row_of self.old) }
+        requires key { length key.now ≤ 1073741824 }
+        requires closed { length closed.key.now ≤ 1073741824 }
+        requires next { next.old ≤ bounds.now.limit }
+        ensures pages { Puts S.taken S.failed sink.old sink.new (placed_bytes bounds.now.page_size (taking_puts bounds.now.page_size key.now (branch_view closed.entry) next.old (row_of self.old))) result }
+        ensures row { OnOk result (row_of self.new ≡ row_taking bounds.now.page_size key.now (branch_view closed.entry) (row_of self.old)) }
+        ensures standing { OnOk result (IsStanding (row_of self.new)) }
+        ensures next { OnOk result (next.new ≡ taking_next bounds.now.page_size key.now (branch_view closed.entry) next.old (row_of self.old)) }
+        ensures within { OnOk result (next.new ≤ bounds.now.limit) }
+        ensures up { IfOk result (λ up. option_map branch_view up ≡ taking_up bounds.now.page_size key.now (branch_view closed.entry) next.old (row_of self.old)) }
+        ensures large { IfErr result (λ e. e ≡ fault.TooLarge → bounds.now.limit < taking_next bounds.now.page_size key.now (branch_view closed.entry) next.old (row_of self.old)) }
+    {
+        self.push(closed)?;
+        if self.has_room(bounds.page_size, key) {
+            return Ok(None);
+        }
+        let up = self.close(bounds, next, sink)?;
+        Ok(Some(up))
+    }
+
+    /// Takes the element of the last page below, and closes: the run's page is put, and its
+    /// element given.
+    fn end<S: Sink>(
+        &mut self,
+        bounds: &Bounds,
+        closed: Branch<'a>,
+        next: &mut u64,
+        sink: &mut S,
+    ) -> Result<Branch<'a>, BulkFault>
+        requires standing { IsStanding (row_of self.old) }
+        requires closed { length closed.key.now ≤ 1073741824 }
+        requires next { next.old ≤ bounds.now.limit }
+        ensures pages { Puts S.taken S.failed sink.old sink.new (placed_bytes bounds.now.page_size (row_page bounds.now.page_size (row_push (row_of self.old) (branch_view closed.entry)) next.old ∷ [])) result }
+        ensures short { OnErr result (AppendsProperBeginning (S.taken sink.old) (S.taken sink.new) (placed_bytes bounds.now.page_size (row_page bounds.now.page_size (row_push (row_of self.old) (branch_view closed.entry)) next.old ∷ []))) }
+        ensures up { IfOk result (λ up. branch_view up ≡ element_up (branch_view closed.entry) next.old (row_of self.old)) }
+        ensures standing { OnOk result (IsStanding (row_of self.new)) }
+        ensures next { OnOk result (next.new ≡ next.old + (1 + overflow_of bounds.now.page_size (row_push (row_of self.old) (branch_view closed.entry)).size)) }
+        ensures within { OnOk result (next.new ≤ bounds.now.limit) }
+        ensures large { IfErr result (λ e. e ≡ fault.TooLarge → bounds.now.limit < next.old + (1 + overflow_of bounds.now.page_size (row_push (row_of self.old) (branch_view closed.entry)).size)) }
+    {
+        self.push(closed)?;
+        self.close(bounds, next, sink)
+    }
+
+    /// Puts the page over the run, and begins the next run. Gives the page's element.
+    fn close<S: Sink>(
+        &mut self,
+        bounds: &Bounds,
+        next: &mut u64,
+        sink: &mut S,
+    ) -> Result<Branch<'a>, BulkFault>
+        requires pushed { IsPushed (row_of self.old) }
+        requires next { next.old ≤ bounds.now.limit }
+        ensures pages { Puts S.taken S.failed sink.old sink.new (placed_bytes bounds.now.page_size (row_page bounds.now.page_size (row_of self.old) next.old ∷ [])) result }
+        ensures short { OnErr result (AppendsProperBeginning (S.taken sink.old) (S.taken sink.new) (placed_bytes bounds.now.page_size (row_page bounds.now.page_size (row_of self.old) next.old ∷ []))) }
+        ensures up { IfOk result (λ up. branch_view up ≡ own_element (row_of self.old) next.old) }
+        ensures row { OnOk result (row_of self.new ≡ no_row) }
+        ensures next { OnOk result (next.new ≡ next.old + (1 + overflow_of bounds.now.page_size self.old.size)) }
+        ensures within { OnOk result (next.new ≤ bounds.now.limit) }
+        ensures large { IfErr result (λ e. e ≡ fault.TooLarge → bounds.now.limit < next.old + (1 + overflow_of bounds.now.page_size self.old.size)) }
+    {
+        let number = *next;
+        let after = number_after(bounds, self.size, number)?;
+        self.put(bounds, number, sink)?;
+        let up = Branch {
+            key: self.elements[0].key,
+            child: number,
+        };
+        self.elements.clear();
+        self.size = 16;
+        *next = after;
+        Ok(up)
+    }
+
+    /// Puts the page over the run.
+    fn put<S: Sink>(&self, bounds: &Bounds, number: u64, sink: &mut S) -> Result<(), SinkFault>
+        requires sized { IsSizedRow (row_of self.now) }
+        requires small { self.now.size < 4294967296 }
+        requires few { length self.now.elements.items < 65535 }
+        ensures { PutsWhole S.taken S.failed sink.old sink.new (placed_bytes bounds.now.page_size (row_page bounds.now.page_size (row_of self.now) number ∷ [])) result }
+    {
+        let further = overflow(bounds.page_size, self.size);
+        put_branch_page(
+            number,
+            bounds.page_size,
+            further as u32,
+            self.elements.as_slice(),
+            self.size,
+            sink,
+        )
+    }
+}
+
+/// A page has closed, and a page with this first key comes next. Each run takes the page below it
+/// that closed, and closes where the next one won't join it.
+pub(crate) fn climb<'a, S: Sink>(
+    alloc: Global,
+    bounds: &Bounds,
+    key: &[u8],
+    closed: Branch<'a>,
+    uppers: &mut Vec<BranchRun<'a>>,
+    next: &mut u64,
+    sink: &mut S,
+) -> Result<(), BulkFault>
+    requires standing { AllByRecursion IsStanding (rows_above uppers.old.items) }
+    requires key { length key.now ≤ 1073741824 }
+    requires closed { length closed.key.now ≤ 1073741824 }
+    requires next { next.old ≤ bounds.now.limit }
+    ensures pages { Puts S.taken S.failed sink.old sink.new (placed_bytes bounds.now.page_size (rows_put bounds.now.page_size key.now (branch_view closed.entry) next.old (rows_above uppers.old.items))) result }
+    ensures rows { OnOk result (rows_above uppers.new.items ≡ rows_climb bounds.now.page_size key.now (branch_view closed.entry) next.old (rows_above uppers.old.items)) }
+    ensures standing { OnOk result (AllByRecursion IsStanding (rows_above uppers.new.items)) }
+    ensures next { OnOk result (next.new ≡ rows_next bounds.now.page_size key.now (branch_view closed.entry) next.old (rows_above uppers.old.items)) }
+    ensures within { OnOk result (next.new ≤ bounds.now.limit) }
+    ensures large { IfErr result (λ e. e ≡ fault.TooLarge → bounds.now.limit < rows_next bounds.now.page_size key.now (branch_view closed.entry) next.old (rows_above uppers.old.items)) }
+{
+    let mut closed = closed;
+    for i in 0..uppers.len() {
+        match uppers[i].take(bounds, key, closed, next, sink) {
+            Err(fault) => return Err(fault),
+            Ok(None) => return Ok(()),
+            Ok(Some(up)) => closed = up,
+        }
+    }
+    let mut run = BranchRun::new(alloc);
+    run.push(closed)?;
+    if uppers.push(run).is_err() {
+        return Err(BulkFault::Memory);
+    }
+    Ok(())
+}
+
+/// Closes each run in turn, up to the root page, and gives its number.
+pub(crate) fn close_all<'a, S: Sink>(
+    bounds: &Bounds,
+    closed: Branch<'a>,
+    uppers: &mut Vec<BranchRun<'a>>,
+    next: &mut u64,
+    sink: &mut S,
+) -> Result<u64, BulkFault>
+    requires standing { AllByRecursion IsStanding (rows_above uppers.old.items) }
+    requires closed { length closed.key.now ≤ 1073741824 }
+    requires next { next.old ≤ bounds.now.limit }
+    ensures pages { Puts S.taken S.failed sink.old sink.new (placed_bytes bounds.now.page_size (rows_close_put bounds.now.page_size (branch_view closed.entry) next.old (rows_above uppers.old.items))) result }
+    ensures short { OnErr result (AppendsProperBeginning (S.taken sink.old) (S.taken sink.new) (placed_bytes bounds.now.page_size (rows_close_put bounds.now.page_size (branch_view closed.entry) next.old (rows_above uppers.old.items)))) }
+    ensures root { IfOk result (λ root. root ≡ rows_root bounds.now.page_size (branch_view closed.entry) next.old (rows_above uppers.old.items)) }
+    ensures next { OnOk result (next.new ≡ rows_end_next bounds.now.page_size (branch_view closed.entry) next.old (rows_above uppers.old.items)) }
+    ensures within { OnOk result (next.new ≤ bounds.now.limit) }
+    ensures large { IfErr result (λ e. e ≡ fault.TooLarge → bounds.now.limit < rows_end_next bounds.now.page_size (branch_view closed.entry) next.old (rows_above uppers.old.items)) }
+{
+    let mut closed = closed;
+    for i in 0..uppers.len() {
+        match uppers[i].end(bounds, closed, next, sink) {
+            Err(fault) => return Err(fault),
+            Ok(up) => closed = up,
+        }
+    }
+    Ok(closed.child)
+}

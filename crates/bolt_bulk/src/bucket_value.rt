@@ -1,0 +1,76 @@
+//! The value of a bucket, as it is put.
+ghost use Rattle.std.specs.Prelude.{◌≡◌, ◌+◌, ◌*◌, ◌<◌, ◌++◌, length, map};
+ghost use Rattle.bolt_format.specs.ElementPlaces.{leaf_view};
+ghost use Rattle.bolt_bulk.specs.PageBytes.{inline_value, leaf_data, leaf_headers, root_value};
+ghost use Rattle.bolt_bulk.specs.Puts.{PutsWhole};
+
+use crate::pieces::put;
+use crate::row::{ELEMENT_LEN, LEAF_FLAGS, Row, header, leaf_element_header, push_u64};
+use bolt_format::{Leaf, Sink, SinkFault};
+
+/// The bytes of the value of a bucket with a root page.
+pub(crate) const ROOT_VALUE_LEN: usize = 16;
+
+/// The value of a bucket with a root page, or the first bytes of one that is inline.
+#[tactic(auto, unfolding(crate::specs::PageBytes::root_value))]
+pub(crate) fn root_row(page: u64, sequence: u64) -> Row
+    ensures { result.items ≡ root_value page sequence }
+{
+    let mut row = Row::new();
+    push_u64(&mut row, page);
+    push_u64(&mut row, sequence);
+    row
+}
+
+/// Puts the headers of entries. The data of all of them is packed behind the last header.
+fn put_headers<S: Sink>(entries: &[Leaf<'_>], sink: &mut S) -> Result<(), SinkFault>
+    requires { 16 * length entries.now + length (leaf_data (map leaf_view entries.now)) < 4294967296 }
+    ensures { PutsWhole S.taken S.failed sink.old sink.new (leaf_headers 0 (map leaf_view entries.now)) result }
+{
+    let mut pos = ELEMENT_LEN * entries.len();
+    for i in 0..entries.len() {
+        let entry = &entries[i];
+        let key = entry.key.len();
+        let value = entry.value.len();
+        let row = leaf_element_header(pos as u32, entry.is_bucket, key as u32, value as u32);
+        put(row.as_slice(), sink)?;
+        pos = pos - ELEMENT_LEN + key + value;
+    }
+    Ok(())
+}
+
+/// Puts the key and the value of an entry.
+fn put_entry<S: Sink>(entry: &Leaf<'_>, sink: &mut S) -> Result<(), SinkFault>
+    ensures { PutsWhole S.taken S.failed sink.old sink.new (entry.now.key.now ++ entry.now.value.now) result }
+{
+    put(entry.key, sink)?;
+    put(entry.value, sink)
+}
+
+/// Puts the data of entries.
+fn put_data<S: Sink>(entries: &[Leaf<'_>], sink: &mut S) -> Result<(), SinkFault>
+    ensures { PutsWhole S.taken S.failed sink.old sink.new (leaf_data (map leaf_view entries.now)) result }
+{
+    for i in 0..entries.len() {
+        put_entry(&entries[i], sink)?;
+    }
+    Ok(())
+}
+
+/// Puts the value of an inline bucket, packed anew.
+pub(crate) fn put_inline_value<S: Sink>(
+    sequence: u64,
+    entries: &[Leaf<'_>],
+    sink: &mut S,
+) -> Result<(), SinkFault>
+    requires count { length entries.now < 65535 }
+    requires size { 16 * length entries.now + length (leaf_data (map leaf_view entries.now)) < 4294967296 }
+    ensures { PutsWhole S.taken S.failed sink.old sink.new (inline_value sequence (map leaf_view entries.now)) result }
+{
+    let root = root_row(0, sequence);
+    put(root.as_slice(), sink)?;
+    let page = header(0, LEAF_FLAGS, entries.len() as u16, 0);
+    put(page.as_slice(), sink)?;
+    put_headers(entries, sink)?;
+    put_data(entries, sink)
+}

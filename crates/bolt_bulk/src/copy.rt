@@ -1,0 +1,105 @@
+//! The compact copy of a checked file, written in one forward pass.
+ghost use Rattle.std.specs.Prelude.{◌≡◌, ◌*◌, ◌≤◌, ◌<◌, ◌/◌, IfOk, OnOk, length};
+ghost use Rattle.bolt_check.specs.CheckedFiles.{meta_of};
+ghost use Rattle.bolt_format.specs.Metas.{IsPageSize};
+ghost use Rattle.bolt_tree.specs.FileListings.{ForListing};
+ghost use Rattle.bolt_tree.specs.Tree.{tree_of};
+ghost use Rattle.bolt_bulk.specs.Compacting.{Copies, Plans, layout_for, most_held, too_many};
+ghost use Rattle.bolt_bulk.specs.Copies.{IsSoundCopy, RefusesBeginnings};
+ghost use Rattle.bolt_bulk.specs.Layout.{layout_root};
+
+use crate::all_pages::put_pages;
+use crate::bounds::Bounds;
+use crate::fault::{BulkFault, PlanFault};
+use crate::file_laws::file_has_one_layout;
+use crate::first_pages::{Facts, put_first_pages};
+use crate::no_sink::NoSink;
+use crate::outcome::{Done, Plan};
+use bolt_check::Checked;
+use bolt_format::Sink;
+use std::alloc::Global;
+
+/// The most bytes that a copy may have.
+const MAX_LEN: u64 = 0x7FFF_FFFF_FFFF_FFFF;
+
+/// How large the pages of a copy are, and how many it may have.
+fn bounds_of(page_size: u64) -> Bounds
+    requires { IsPageSize page_size }
+    ensures page_size { result.page_size ≡ page_size }
+    ensures limit { result.limit ≡ 9223372036854775807 / page_size }
+    ensures room { 3 ≤ result.limit }
+    ensures bytes { result.limit * result.page_size < 9223372036854775808 }
+{
+    Bounds {
+        page_size: page_size as usize,
+        limit: MAX_LEN / page_size,
+    }
+}
+
+/// Where a copy of a file at this page size will have its root page and its high-water mark
+/// (docs/LAYOUT.md). Nothing is written.
+///
+/// # Errors
+///
+/// `TooLarge` where the layout has 2^63 bytes or more, and nothing else is answered then but
+/// `Memory`; `Memory` where memory ran out.
+pub fn plan(alloc: Global, checked: Checked<'_>, page_size: u64) -> Result<Plan, PlanFault>
+    requires { IsPageSize page_size }
+    ensures { ForListing checked.entry (λ listing. Plans checked.entry page_size listing result) }
+{
+    file_has_one_layout(&checked, page_size);
+    match put_pages(alloc, bounds_of(page_size), checked, &mut NoSink) {
+        Ok(ended) => Ok(Plan {
+            root: ended.root,
+            high_water: ended.high_water,
+        }),
+        Err(BulkFault::TooLarge) => Err(PlanFault::TooLarge),
+        Err(BulkFault::Memory) => Err(PlanFault::Memory),
+        Err(BulkFault::Sink) => unreachable!(),
+    }
+}
+
+/// Puts the compact copy of a file at this page size: the one layout of what the file holds
+/// (docs/LAYOUT.md), in one forward pass over the file, without freeing a page in between. Where
+/// the answer isn't `Ok`, the sink took a beginning of it that isn't the whole, which `check`
+/// refuses.
+///
+/// # Errors
+///
+/// `TooLarge` where the layout has 2^63 bytes or more, and no byte was put then; `Memory` where
+/// memory ran out; `Sink` where the sink failed.
+pub fn compact<S: Sink>(
+    alloc: Global,
+    checked: Checked<'_>,
+    page_size: u64,
+    sink: &mut S,
+) -> Result<Done, BulkFault>
+    requires { IsPageSize page_size }
+    ensures copied { ForListing checked.entry (λ listing. Copies S.taken S.failed sink.old sink.new (layout_for checked.entry page_size listing) result) }
+    ensures accepted { OnOk result (ForListing checked.entry (λ listing. ∥ IsSoundCopy page_size (tree_of listing) (meta_of checked.entry).root_sequence listing ∥₁)) }
+    ensures held { IfOk result (λ done. ForListing checked.entry (λ listing. done.held ≤ most_held page_size listing)) }
+    ensures beginnings { ForListing checked.entry (λ listing. length (layout_for checked.entry page_size listing) < too_many → ∥ RefusesBeginnings (layout_for checked.entry page_size listing) (layout_root page_size (tree_of listing)) ∥₁) }
+{
+    file_has_one_layout(&checked, page_size);
+    let plan = match plan(alloc, checked, page_size) {
+        Ok(plan) => plan,
+        Err(PlanFault::Memory) => return Err(BulkFault::Memory),
+        Err(PlanFault::TooLarge) => return Err(BulkFault::TooLarge),
+    };
+    let facts = Facts {
+        page_size: page_size as u32,
+        root: plan.root,
+        sequence: checked.meta().root_sequence,
+        mark: plan.high_water,
+    };
+    if let Err(_) = put_first_pages(&facts, sink) {
+        return Err(BulkFault::Sink);
+    }
+    match put_pages(alloc, bounds_of(page_size), checked, sink) {
+        Err(fault) => Err(fault),
+        Ok(ended) => Ok(Done {
+            bytes: ended.high_water * page_size,
+            held: ended.held,
+        }),
+    }
+}

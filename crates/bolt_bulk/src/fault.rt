@@ -1,0 +1,58 @@
+//! Why no plan, or no copy, is made.
+ghost use Rattle.std.specs.Prelude.{◌≡◌};
+ghost use Rattle.bolt_bulk.specs.declared.fault.BulkFault.TheVariants as bulk;
+ghost use Rattle.bolt_bulk.specs.declared.fault.PlanFault.TheVariants as planned;
+
+use bolt_format::SinkFault;
+use bolt_tree::NoMemory;
+use std::alloc::AllocError;
+use thiserror::Error;
+
+/// Why a copy can't be planned.
+#[derive(Clone, Copy, Debug, PartialEq, Eq, Error)]
+pub enum PlanFault {
+    /// Memory ran out.
+    #[error("out of memory")]
+    Memory,
+    /// The layout would have 2^63 bytes or more.
+    #[error("layout too large")]
+    TooLarge,
+}
+
+/// Why a copy isn't written whole.
+#[derive(Clone, Copy, Debug, PartialEq, Eq, Error)]
+pub enum BulkFault {
+    /// Memory ran out.
+    #[error("out of memory")]
+    Memory,
+    /// The layout would have 2^63 bytes or more.
+    #[error("layout too large")]
+    TooLarge,
+    /// The sink failed.
+    #[error("write failed")]
+    Sink,
+}
+
+impl From<SinkFault> for BulkFault {
+    ghost from_gives = { λ _ fault. fault ≡ bulk.Sink };
+
+    fn from(_fault: SinkFault) -> Self {
+        BulkFault::Sink
+    }
+}
+
+impl From<AllocError> for BulkFault {
+    ghost from_gives = { λ _ fault. fault ≡ bulk.Memory };
+
+    fn from(_error: AllocError) -> Self {
+        BulkFault::Memory
+    }
+}
+
+impl From<NoMemory> for BulkFault {
+    ghost from_gives = { λ _ fault. fault ≡ bulk.Memory };
+
+    fn from(_fault: NoMemory) -> Self {
+        BulkFault::Memory
+    }
+}

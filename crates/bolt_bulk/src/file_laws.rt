@@ -1,0 +1,49 @@
+//! What holds of the layout of a checked file.
+ghost use Rattle.std.specs.Prelude.{◌≡◌, ◌≤◌, ◌<◌, ◌*◌, ◌^◌, length};
+ghost use Rattle.bolt_check.specs.CheckedFiles.{bytes_of, meta_of};
+ghost use Rattle.bolt_format.specs.Bytes.{IsBytes};
+ghost use Rattle.bolt_format.specs.Metas.{IsPageSize};
+ghost use Rattle.bolt_tree.specs.FileListings.{ForListing};
+ghost use Rattle.bolt_tree.specs.Tree.{listing_of, tree_of};
+ghost use Rattle.bolt_bulk.specs.Compacting.{layout_for, too_many};
+ghost use Rattle.bolt_bulk.specs.Copies.{IsOfOneTree, IsSoundCopy, RefusesBeginnings};
+ghost use Rattle.bolt_bulk.specs.Layout.{layout_mark, layout_root};
+
+use crate::laws::{
+    a_copy_lists_the_same, a_files_listing_is_of_one_tree, beginnings_are_refused,
+    layout_has_length,
+};
+use bolt_check::Checked;
+
+/// A slice of bytes has none above 255.
+fn are_bytes(bytes: &[u8])
+    ensures { IsBytes bytes.now }
+{
+    let _ = bytes.len();
+}
+
+/// A number of 64 bits is below 2^64.
+fn fits(n: u64)
+    ensures { n < 2 ^ 64 }
+{
+    let _ = n;
+}
+
+/// The listing of a file is that of one tree, the layout has as many bytes as its pages, and where
+/// these are fewer than 2^63 it is a sound copy, whose beginnings are refused.
+pub(crate) fn file_has_one_layout(checked: &Checked<'_>, page_size: u64)
+    requires { IsPageSize page_size }
+    ensures tree { ForListing checked.now (λ listing. ∥ IsOfOneTree listing ∥₁) }
+    ensures length { ForListing checked.now (λ listing. length (layout_for checked.now page_size listing) ≡ layout_mark page_size (tree_of listing) * page_size) }
+    ensures accepted { ForListing checked.now (λ listing. length (layout_for checked.now page_size listing) < too_many
+        → ∥ IsSoundCopy page_size (tree_of listing) (meta_of checked.now).root_sequence listing ∥₁) }
+    ensures beginnings { ForListing checked.now (λ listing. length (layout_for checked.now page_size listing) < too_many
+        → ∥ RefusesBeginnings (layout_for checked.now page_size listing) (layout_root page_size (tree_of listing)) ∥₁) }
+{
+    are_bytes(checked.bytes());
+    fits(checked.meta().root_sequence);
+    a_files_listing_is_of_one_tree();
+    layout_has_length();
+    a_copy_lists_the_same();
+    beginnings_are_refused();
+}

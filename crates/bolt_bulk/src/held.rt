@@ -1,0 +1,76 @@
+//! An item of a leaf that is open: a key with a value, with a bucket that is packed anew into its
+//! value, or with the root page of a bucket.
+ghost use Rattle.std.specs.Prelude.{◌≡◌, List, length};
+ghost use Rattle.bolt_bulk.specs.Private.HeldItems.{IsStored, is_stored_bucket, stored_value};
+ghost use Rattle.bolt_bulk.specs.Puts.{PutsWhole};
+
+use crate::bucket_value::{ROOT_VALUE_LEN, put_inline_value, root_row};
+use crate::pieces::put;
+use bolt_format::{Leaf, Sink, SinkFault};
+
+/// What stands under a key in a copy.
+#[derive(Clone, Copy)]
+pub(crate) enum Stored<'a> {
+    /// The bytes of a value.
+    Value(&'a [u8]),
+    /// A bucket with a root page.
+    Root {
+        page: u64,
+        sequence: u64,
+    },
+    /// A bucket within its own value, which has `size` bytes. Its entries stand in the row of those
+    /// of all inline buckets of the run: `count` of them, from the entry `first` on.
+    Inline {
+        sequence: u64,
+        first: usize,
+        count: usize,
+        size: usize,
+    },
+}
+
+/// An item of a leaf.
+#[derive(Clone, Copy)]
+pub(crate) struct Held<'a> {
+    pub key: &'a [u8],
+    pub stored: Stored<'a>,
+}
+
+impl<'a> Stored<'a> {
+    /// How many bytes the value has.
+    pub(crate) fn len(&self) -> usize
+        ensures { (inlined : List Leaf) → IsStored inlined self.now → result ≡ length (stored_value inlined self.now) }
+    {
+        match *self {
+            Stored::Value(value) => value.len(),
+            Stored::Root { .. } => ROOT_VALUE_LEN,
+            Stored::Inline { size, .. } => size,
+        }
+    }
+
+    /// Whether it is a bucket.
+    pub(crate) fn is_bucket(&self) -> bool
+        ensures { result ≡ is_stored_bucket self.now }
+    {
+        match *self {
+            Stored::Value(_) => false,
+            Stored::Root { .. } | Stored::Inline { .. } => true,
+        }
+    }
+
+    /// Puts the value, where the entries of inline buckets stand in this row.
+    pub(crate) fn put<S: Sink>(&self, inlined: &[Leaf<'_>], sink: &mut S) -> Result<(), SinkFault>
+        requires { IsStored inlined.now self.now }
+        ensures { PutsWhole S.taken S.failed sink.old sink.new (stored_value inlined.now self.now) result }
+    {
+        match *self {
+            Stored::Value(value) => put(value, sink),
+            Stored::Root { page, sequence } => put(root_row(page, sequence).as_slice(), sink),
+            Stored::Inline {
+                sequence,
+                first,
+                count,
+                ..
+            } => put_inline_value(sequence, &inlined[first..first + count], sink),
+        }
+    }
+}

@@ -1,0 +1,420 @@
+//! The pass over what a file holds. It goes along a walk, and puts the pages of the copy as soon as
+//! they are known.
+ghost use Rattle.std.specs.Prelude.{[], ◌≡◌, ◌+◌, ◌/◌, ◌<◌, ◌≤◌, ◌∷◌, ◌++◌, ℕ, Some, None, IfErr, IfOk, List, OnErr, OnOk, length, map};
+
+use crate::bounds::{Bounds, MAX_ITEMS};
+use crate::fault::BulkFault;
+use crate::open_bucket::OpenBucket;
+use crate::steps::{Waiting, enter, leave, take_inline, take_value};
+use bolt_format::{Leaf, Sink};
+use bolt_tree::Item;
+use std::alloc::Global;
+use std::mem;
+
+/// A bucket that has only values so far, which take at most a quarter of a page. Whether it is
+/// inline is known at its end, or when it has more.
+#[derive(Clone, Copy)]
+pub(crate) struct Pending<'a> {
+    pub key: &'a [u8],
+    pub sequence: u64,
+    /// The size of the leaf page over its entries so far.
+    pub size: usize,
+}
+
+/// What a pass comes to.
+#[derive(Clone, Copy)]
+pub(crate) struct Ended {
+    /// The page number of the root page.
+    pub root: u64,
+    /// The number behind the last page.
+    pub high_water: u64,
+    /// The greatest number of items that stood in open runs at one time.
+    pub held: u64,
+}
+
+/// What is open in a pass.
+#[derive(Drop)]
+pub(crate) struct Pass<'a> {
+    pub alloc: Global,
+    pub bounds: Bounds,
+    /// The buckets around the one that is open, the innermost last.
+    pub waiting: Vec<Waiting<'a>>,
+    pub bucket: OpenBucket<'a>,
+    /// The bucket within the open one that may be inline, and its entries so far.
+    pub pending: Option<Pending<'a>>,
+    pub entries: Vec<Leaf<'a>>,
+    /// The number of the next page.
+    pub next: u64,
+    /// How many items the buckets hold that wait; 2^64 - 1 where there are more.
+    pub around: u64,
+    /// The most items that stood in open runs at one time, of the times that were counted.
+    pub most: u64,
+}
+
+impl<'a> Pass<'a> {
+    ghost use Rattle.bolt_tree.specs.Tree.{Tree, end, listing_of, with_bucket, with_value};
+    ghost use Rattle.bolt_bulk.specs.Laid.{Placed};
+    ghost use Rattle.bolt_bulk.specs.Private.Levels.{Level};
+    ghost use Rattle.bolt_format.specs.ElementPlaces.{leaf_view};
+    ghost use Rattle.bolt_bulk.specs.Private.Passes.{HasLeft, HasRoot, IsAt, IsNoDeeper, IsReady, Steps, depth_of, onto};
+    ghost use Rattle.bolt_bulk.specs.Private.Endings.{Ends, IsFitMember};
+    ghost use Rattle.bolt_tree.specs.Listing.{Member};
+    ghost use Rattle.bolt_tree.specs.Paths.{path_of};
+    ghost use Rattle.bolt_tree.specs.ShownEntries.{item_view};
+
+    /// A pass before the first page.
+    pub(crate) fn new(alloc: Global, bounds: Bounds) -> Pass<'a>
+        requires { 3 ≤ bounds.limit }
+        ensures bounds { result.bounds ≡ bounds }
+        ensures most { result.most ≡ 0 }
+        ensures ready { IsReady result }
+        ensures at { (tree : Tree) → HasLeft tree result (listing_of tree) [] }
+    {
+        Pass {
+            alloc,
+            bounds,
+            waiting: Vec::new(alloc),
+            bucket: OpenBucket::new(alloc),
+            pending: None,
+            entries: Vec::new(alloc),
+            next: 3,
+            around: 0,
+            most: 0,
+        }
+    }
+
+    /// How many buckets stand around the next entry.
+    fn depth(&self) -> usize
+        ensures { result ≡ depth_of self.now }
+    {
+        match self.pending {
+            Some(_) => self.waiting.len() + 2,
+            None => self.waiting.len() + 1,
+        }
+    }
+
+    /// Takes a value of the innermost bucket.
+    fn take_value<S: Sink>(
+        &mut self,
+        key: &'a [u8],
+        value: &'a [u8],
+        sink: &mut S,
+    ) -> Result<(), BulkFault>
+        requires ready { IsReady self.old }
+        requires key { length key.now ≤ 1073741824 }
+        requires value { length value.now < 2147483647 }
+        ensures bounds { OnOk result (self.new.bounds ≡ self.old.bounds) }
+        ensures most { OnOk result (self.new.most ≡ self.old.most) }
+        ensures ready { OnOk result (IsReady self.new) }
+        ensures depth { OnOk result (depth_of self.new ≡ depth_of self.old) }
+        ensures steps { (tree after : Tree) (levels : List Level) (put : List Placed) → IsAt tree self.old levels (with_value key.now value.now after) put
+            → Steps tree S.taken S.failed sink.old sink.new self.old.bounds put (IsAt tree self.new levels after) result }
+    {
+        let Some(pending) = self.pending else {
+            return self.put_value(key, value, sink);
+        };
+        let size = pending.size + (16 + (key.len() + value.len()));
+        if size <= self.bounds.page_size / 4 && self.entries.len() < MAX_ITEMS {
+            return self.keep_value(pending, key, value, size);
+        }
+        match self.open_pending(pending, sink) {
+            Err(fault) => Err(fault),
+            Ok(()) => self.put_value(key, value, sink),
+        }
+    }
+
+    /// Takes a value of the bucket that may be inline, which has room for it.
+    fn keep_value(
+        &mut self,
+        pending: Pending<'a>,
+        key: &'a [u8],
+        value: &'a [u8],
+        size: usize,
+    ) -> Result<(), BulkFault>
+        requires ready { IsReady self.old }
+        requires pending { self.old.pending ≡ Some pending }
+        requires key { length key.now ≤ 1073741824 }
+        requires size { size ≡ pending.size + (16 + (length key.now + length value.now)) }
+        requires small { size ≤ self.old.bounds.page_size / 4 }
+        requires few { length self.old.entries.items < 65534 }
+        ensures bounds { OnOk result (self.new.bounds ≡ self.old.bounds) }
+        ensures most { OnOk result (self.new.most ≡ self.old.most) }
+        ensures ready { OnOk result (IsReady self.new) }
+        ensures depth { OnOk result (depth_of self.new ≡ depth_of self.old) }
+        ensures at { (tree after : Tree) (levels : List Level) (put : List Placed) → IsAt tree self.old levels (with_value key.now value.now after) put
+            → OnOk result (IsAt tree self.new levels after put) }
+        ensures fault { IfErr result (λ e. e ≡ BulkFault.Memory) }
+    {
+        let entry = Leaf {
+            key,
+            value,
+            is_bucket: false,
+        };
+        if self.entries.push(entry).is_err() {
+            return Err(BulkFault::Memory);
+        }
+        self.pending = Some(Pending { size, ..pending });
+        Ok(())
+    }
+
+    /// Takes a value of the open bucket.
+    fn put_value<S: Sink>(
+        &mut self,
+        key: &'a [u8],
+        value: &'a [u8],
+        sink: &mut S,
+    ) -> Result<(), BulkFault>
+        requires ready { IsReady self.old }
+        requires pending { self.old.pending ≡ None }
+        requires key { length key.now ≤ 1073741824 }
+        requires value { length value.now < 2147483647 }
+        ensures bounds { OnOk result (self.new.bounds ≡ self.old.bounds) }
+        ensures most { OnOk result (self.new.most ≡ self.old.most) }
+        ensures ready { OnOk result (IsReady self.new) }
+        ensures depth { OnOk result (depth_of self.new ≡ depth_of self.old) }
+        ensures steps { (tree after : Tree) (levels : List Level) (put : List Placed) → IsAt tree self.old levels (with_value key.now value.now after) put
+            → Steps tree S.taken S.failed sink.old sink.new self.old.bounds put (IsAt tree self.new levels after) result }
+    {
+        take_value(
+            self.alloc,
+            &self.bounds,
+            &mut self.bucket,
+            key,
+            value,
+            &mut self.next,
+            sink,
+        )
+    }
+
+    /// Enters a bucket of the innermost one.
+    fn take_bucket<S: Sink>(
+        &mut self,
+        key: &'a [u8],
+        sequence: u64,
+        sink: &mut S,
+    ) -> Result<(), BulkFault>
+        requires ready { IsReady self.old }
+        requires key { length key.now ≤ 1073741824 }
+        ensures bounds { OnOk result (self.new.bounds ≡ self.old.bounds) }
+        ensures most { OnOk result (self.new.most ≡ self.old.most) }
+        ensures ready { OnOk result (IsReady self.new) }
+        ensures depth { OnOk result (depth_of self.new ≡ depth_of self.old + 1) }
+        ensures steps { (tree inside after : Tree) (levels : List Level) (put : List Placed) → IsAt tree self.old levels (with_bucket key.now sequence inside after) put
+            → Steps tree S.taken S.failed sink.old sink.new self.old.bounds put (IsAt tree self.new (record { key = key.now; after = after } ∷ levels) inside) result }
+    {
+        let Some(pending) = self.pending else {
+            self.begin(key, sequence);
+            return Ok(());
+        };
+        match self.open_pending(pending, sink) {
+            Err(fault) => Err(fault),
+            Ok(()) => {
+                self.begin(key, sequence);
+                Ok(())
+            }
+        }
+    }
+
+    /// Begins a bucket of the open one, which may be inline.
+    fn begin(&mut self, key: &'a [u8], sequence: u64)
+        requires ready { IsReady self.old }
+        requires pending { self.old.pending ≡ None }
+        requires key { length key.now ≤ 1073741824 }
+        ensures bounds { self.new.bounds ≡ self.old.bounds }
+        ensures most { self.new.most ≡ self.old.most }
+        ensures ready { IsReady self.new }
+        ensures depth { depth_of self.new ≡ depth_of self.old + 1 }
+        ensures at { (tree inside after : Tree) (levels : List Level) (put : List Placed) → IsAt tree self.old levels (with_bucket key.now sequence inside after) put
+            → IsAt tree self.new (record { key = key.now; after = after } ∷ levels) inside put }
+    {
+        self.pending = Some(Pending {
+            key,
+            sequence,
+            size: 16,
+        });
+    }
+
+    /// Opens the bucket that turns out to have a root page, with its entries so far. The one around
+    /// it waits.
+    fn open_pending<S: Sink>(&mut self, pending: Pending<'a>, sink: &mut S) -> Result<(), BulkFault>
+        requires ready { IsReady self.old }
+        requires pending { self.old.pending ≡ Some pending }
+        ensures bounds { OnOk result (self.new.bounds ≡ self.old.bounds) }
+        ensures most { OnOk result (self.new.most ≡ self.old.most) }
+        ensures ready { OnOk result (IsReady self.new) }
+        ensures depth { OnOk result (depth_of self.new ≡ depth_of self.old) }
+        ensures pending { OnOk result (self.new.pending ≡ None) }
+        ensures steps { (tree left : Tree) (levels : List Level) (put : List Placed) → IsAt tree self.old levels left put
+            → HasRoot self.old.bounds.page_size (onto (map leaf_view self.old.entries.items) left)
+            → Steps tree S.taken S.failed sink.old sink.new self.old.bounds put (IsAt tree self.new levels left) result }
+    {
+        let inner = OpenBucket::of_values(self.alloc, self.entries.as_slice(), pending.size);
+        let inner = match inner {
+            Err(fault) => return Err(fault),
+            Ok(inner) => inner,
+        };
+        let outer = mem::replace(&mut self.bucket, inner);
+        let waiting = enter(
+            self.alloc,
+            &self.bounds,
+            outer,
+            pending.key,
+            pending.sequence,
+            self.around,
+            &mut self.next,
+            sink,
+        );
+        let waiting = match waiting {
+            Err(fault) => return Err(fault),
+            Ok(waiting) => waiting,
+        };
+        let around = self.around.saturating_add(waiting.bucket.held());
+        if self.waiting.push(waiting).is_err() {
+            return Err(BulkFault::Memory);
+        }
+        self.around = around;
+        self.entries.clear();
+        self.pending = None;
+        Ok(())
+    }
+
+    /// Ends the innermost bucket.
+    fn leave<S: Sink>(&mut self, sink: &mut S) -> Result<(), BulkFault>
+        requires ready { IsReady self.old }
+        requires within { 1 < depth_of self.old }
+        ensures bounds { OnOk result (self.new.bounds ≡ self.old.bounds) }
+        ensures most { OnOk result (self.new.most ≡ self.old.most) }
+        ensures ready { OnOk result (IsReady self.new) }
+        ensures depth { OnOk result (depth_of self.new + 1 ≡ depth_of self.old) }
+        ensures steps { (tree : Tree) (level : Level) (levels : List Level) (put : List Placed) → IsAt tree self.old (level ∷ levels) end put
+            → Steps tree S.taken S.failed sink.old sink.new self.old.bounds put (IsAt tree self.new levels level.after) result }
+    {
+        match self.pending {
+            Some(pending) => self.end_inline(pending, sink),
+            None => self.end_open(sink),
+        }
+    }
+
+    /// Ends the bucket that may be inline, which is so.
+    fn end_inline<S: Sink>(&mut self, pending: Pending<'a>, sink: &mut S) -> Result<(), BulkFault>
+        requires ready { IsReady self.old }
+        requires pending { self.old.pending ≡ Some pending }
+        ensures bounds { OnOk result (self.new.bounds ≡ self.old.bounds) }
+        ensures most { OnOk result (self.new.most ≡ self.old.most) }
+        ensures ready { OnOk result (IsReady self.new) }
+        ensures depth { OnOk result (depth_of self.new + 1 ≡ depth_of self.old) }
+        ensures steps { (tree : Tree) (level : Level) (levels : List Level) (put : List Placed) → IsAt tree self.old (level ∷ levels) end put
+            → Steps tree S.taken S.failed sink.old sink.new self.old.bounds put (IsAt tree self.new levels level.after) result }
+    {
+        let taken = take_inline(
+            self.alloc,
+            &self.bounds,
+            &mut self.bucket,
+            pending.key,
+            pending.sequence,
+            self.entries.as_slice(),
+            pending.size + 16,
+            &mut self.next,
+            sink,
+        );
+        if let Err(fault) = taken {
+            return Err(fault);
+        }
+        self.entries.clear();
+        self.pending = None;
+        Ok(())
+    }
+
+    /// Ends the open bucket, and goes on with the one around it.
+    fn end_open<S: Sink>(&mut self, sink: &mut S) -> Result<(), BulkFault>
+        requires ready { IsReady self.old }
+        requires pending { self.old.pending ≡ None }
+        requires waiting { 0 < length self.old.waiting.items }
+        ensures bounds { OnOk result (self.new.bounds ≡ self.old.bounds) }
+        ensures most { OnOk result (self.new.most ≡ self.old.most) }
+        ensures ready { OnOk result (IsReady self.new) }
+        ensures depth { OnOk result (depth_of self.new + 1 ≡ depth_of self.old) }
+        ensures steps { (tree : Tree) (level : Level) (levels : List Level) (put : List Placed) → IsAt tree self.old (level ∷ levels) end put
+            → Steps tree S.taken S.failed sink.old sink.new self.old.bounds put (IsAt tree self.new levels level.after) result }
+    {
+        let Some(waiting) = self.waiting.pop() else {
+            unreachable!()
+        };
+        let around = waiting.around;
+        let inner = mem::replace(&mut self.bucket, OpenBucket::new(self.alloc));
+        match leave(&self.bounds, inner, waiting, &mut self.next, sink) {
+            Err(fault) => Err(fault),
+            Ok(outer) => {
+                self.bucket = outer;
+                self.around = around;
+                Ok(())
+            }
+        }
+    }
+
+    /// Ends buckets until so many are open.
+    fn leave_to<S: Sink>(&mut self, depth: usize, sink: &mut S) -> Result<(), BulkFault>
+        requires ready { IsReady self.old }
+        requires some { 1 ≤ depth }
+        ensures bounds { OnOk result (self.new.bounds ≡ self.old.bounds) }
+        ensures most { OnOk result (self.new.most ≡ self.old.most) }
+        ensures ready { OnOk result (IsReady self.new) }
+        ensures depth { OnOk result (depth_of self.new ≤ depth) }
+        ensures steps { (tree : Tree) (members : List Member) (put : List Placed) → HasLeft tree self.old members put → IsNoDeeper depth members
+            → Steps tree S.taken S.failed sink.old sink.new self.old.bounds put (HasLeft tree self.new members) result }
+    {
+        'levels: while self.depth() > depth {
+            if let Err(fault) = self.leave(sink) {
+                return Err(fault);
+            }
+        }
+        Ok(())
+    }
+
+    /// Takes the next member of a walk.
+    pub(crate) fn take<S: Sink>(
+        &mut self,
+        path: &[&'a [u8]],
+        item: Item<'a>,
+        sink: &mut S,
+    ) -> Result<(), BulkFault>
+        requires ready { IsReady self.old }
+        requires fit { IsFitMember (path_of path.now, item_view item) }
+        ensures bounds { OnOk result (self.new.bounds ≡ self.old.bounds) }
+        ensures most { OnOk result (self.new.most ≡ self.old.most) }
+        ensures ready { OnOk result (IsReady self.new) }
+        ensures depth { OnOk result (depth_of self.new ≤ 1 + length path.now) }
+        ensures steps { (tree : Tree) (members : List Member) (put : List Placed) → HasLeft tree self.old ((path_of path.now, item_view item.entry) ∷ members) put
+            → Steps tree S.taken S.failed sink.old sink.new self.old.bounds put (HasLeft tree self.new members) result }
+    {
+        let Some((key, _)) = path.split_last() else {
+            unreachable!()
+        };
+        if let Err(fault) = self.leave_to(path.len(), sink) {
+            return Err(fault);
+        }
+        match item {
+            Item::Value(value) => self.take_value(key, value, sink),
+            Item::Bucket { sequence } => self.take_bucket(key, sequence, sink),
+        }
+    }
+
+    /// Ends all that is open, up to the root page of the root bucket.
+    pub(crate) fn end<S: Sink>(&mut self, sink: &mut S) -> Result<Ended, BulkFault>
+        requires { IsReady self.old }
+        ensures held { IfOk result (λ ended. ended.held ≡ self.old.most) }
+        ensures ends { (tree : Tree) (put : List Placed) → HasLeft tree self.old [] put → Ends tree S.taken S.failed sink.old sink.new self.old.bounds put result }
+    {
+        if let Err(fault) = self.leave_to(1, sink) {
+            return Err(fault);
+        }
+        match self.bucket.end(&self.bounds, &mut self.next, sink) {
+            Err(fault) => Err(fault),
+            Ok(root) => Ok(Ended {
+                root,
+                high_water: self.next,
+                held: self.most,
+            }),
+        }
+    }
+}

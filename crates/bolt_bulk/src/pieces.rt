@@ -1,0 +1,32 @@
+//! A text put whole, piece by piece.
+ghost use Rattle.std.specs.Prelude.{replicate};
+ghost use Rattle.bolt_bulk.specs.Puts.{PutsWhole};
+
+use bolt_format::{Sink, SinkFault};
+
+/// A block of zeros.
+static ZEROS: [u8; 4096] = [0; 4096];
+
+/// Puts bytes in one piece. Where there are none nothing is put, so a put that fails leaves
+/// something out.
+pub(crate) fn put<S: Sink>(bytes: &[u8], sink: &mut S) -> Result<(), SinkFault>
+    ensures { PutsWhole S.taken S.failed sink.old sink.new bytes.now result }
+{
+    if bytes.is_empty() {
+        return Ok(());
+    }
+    sink.put(bytes)
+}
+
+/// Puts so many zeros.
+pub(crate) fn put_zeros<S: Sink>(count: usize, sink: &mut S) -> Result<(), SinkFault>
+    ensures { PutsWhole S.taken S.failed sink.old sink.new (replicate count 0) result }
+{
+    let mut left = count;
+    while left > 0 {
+        let size = left.min(ZEROS.len());
+        put(&ZEROS[..size], sink)?;
+        left -= size;
+    }
+    Ok(())
+}
