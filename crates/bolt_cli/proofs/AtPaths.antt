@@ -16,7 +16,7 @@ use Rattle.bolt_tree.specs.Entries.{AreEntries, Item, Start, Value, item_of, sta
 use Rattle.bolt_tree.specs.EntriesLeft.{ForEntries}
 use Rattle.bolt_tree.specs.FileListings.{root_of}
 use Rattle.bolt_tree.specs.Lookups.{IsBucketAt, IsValueAt}
-use Rattle.bolt_tree.specs.Paths.{Holds, Names, Path}
+use Rattle.bolt_tree.specs.Paths.{Path}
 use Rattle.bolt_tree.specs.declared.bucket.Bucket.{Bucket}
 use Rattle.bolt_tree.proofs.AllEntries.{all_entries, checked_entries}
 use Rattle.bolt_tree.proofs.Named.{held_down, held_up, names_push}

@@ -1,12 +1,11 @@
 -- The answer of a job that may want memory on its way, whether its text was put whole or not.
-use Rattle.std.proofs.Common.{◌≡◌, ◌∙◌, ◌⊎◌, ◌++◌, ℕ, List, [], Option, Result, Ok, Err, inl, inr, ap, refl}
+use Rattle.std.proofs.Common.{◌≡◌, ◌∙◌, ◌⊎◌, ℕ, List, Option, Ok, Err, inl, inr, ap, refl}
 use Rattle.std.specs.Result.{IsErrAnd}
 use Rattle.bolt_report.specs.Reports.{Reports}
 use Rattle.bolt_report.specs.declared.fault.ReportFault.{ReportFault}
 use Rattle.bolt_report.specs.declared.fault.ReportFault.TheVariants as report
 use Rattle.bolt_cli.specs.Answers.{Answer, Does, Ending, IsWholeOrCut, done}
 use Rattle.bolt_cli.specs.Failures.{reported}
-use Rattle.bolt_cli.specs.declared.failure.Failure.{Failure}
 use Rattle.bolt_cli.specs.declared.failure.Failure.TheVariants as failure
 use Rattle.bolt_cli.proofs.Doing.{Does-part, Does-whole}
 

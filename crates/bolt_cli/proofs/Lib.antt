@@ -2,14 +2,15 @@ pub mod Alike
 pub mod AtPaths
 pub mod BuiltRules
 pub mod CommandLineLemmas
+pub mod CopyAnswers
 pub mod CutTexts
 pub mod Doing
 pub mod GivenRows
 pub mod LineReading
 pub mod Lines
 pub mod ListAnswers
+pub mod Numbers
 pub mod PageAnswers
-pub mod PageIds
 pub mod PagesAnswers
 pub mod PathReading
 pub mod ReadFiles

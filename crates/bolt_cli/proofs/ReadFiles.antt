@@ -1,5 +1,11 @@
 -- What is known of a file that is read, under whatever meta.
-use Rattle.std.proofs.Common.{ℕ, List, Option, Some, None}
+use Rattle.std.proofs.Common.{ℕ, List, Option, Some, None, ap, inl, inr, subst, sym}
+use Rattle.std.proofs.Math.Logic.{∥∥₁_elim}
+use Rattle.std.proofs.Props.{props}
+use Rattle.bolt_check.specs.CheckedFiles.{meta_of}
+use Rattle.bolt_check.specs.declared.checked_file.Checked.{Checked}
+use Rattle.bolt_format.specs.Metas.{IsInSlot, IsMeta, IsPageSize}
+use Rattle.bolt_format.specs.declared.meta.Slot.TheVariants.{One, Zero}
 use Rattle.bolt_check.specs.Sound.{HasSoundTrees}
 use Rattle.bolt_format.specs.declared.meta.Meta.{Meta}
 use Rattle.bolt_format.specs.declared.meta.Slot.{Slot}
@@ -8,3 +14,17 @@ use Rattle.bolt_cli.specs.Answers.{IsReadUnder}
 pub read_trees : (file : List ℕ) (slot : Option Slot) (meta : Meta) → IsReadUnder file slot meta → HasSoundTrees file meta
 read_trees file None meta (slot, chosen, sound) = sound.trees
 read_trees file (Some slot) meta (valid, trees) = trees
+
+-- ---- the page size
+
+meta_page_size : (file : List ℕ) (at : ℕ) (meta : Meta) → IsMeta file at meta → IsPageSize meta.page_size
+meta_page_size file at meta is = subst IsPageSize (sym (ap (λ (m : Meta). m.page_size) is.fields)) is.size
+
+slot_page_size : (file : List ℕ) (slot : Slot) (meta : Meta) → IsInSlot file slot meta → IsPageSize meta.page_size
+slot_page_size file Zero meta is = meta_page_size file 0 meta is
+slot_page_size file One meta (inl is) = meta_page_size file _ meta is.2
+slot_page_size file One meta (inr is) = meta_page_size file is.1.at meta is.1.valid
+
+pub checked_page_size : (checked : Checked) → IsPageSize (meta_of checked).page_size
+unfolding meta_of
+checked_page_size checked = ∥∥₁_elim checked.sound (hlevel props) (λ sound. slot_page_size checked.bytes.now sound.slot checked.meta sound.valid)

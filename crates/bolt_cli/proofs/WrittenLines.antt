@@ -6,6 +6,7 @@ use Rattle.std.proofs.lemmas.Fmt.{decimal_nonempty, digits_decimal, digits_value
 use Rattle.hex.specs.Hex.{IsBytes, encode_lower}
 use Rattle.bolt_check.specs.Keys.{Key}
 use Rattle.bolt_tree.specs.Paths.{Path}
+use Rattle.bolt_format.specs.Metas.{IsPageSize}
 use Rattle.bolt_format.specs.declared.meta.Slot.{Slot}
 use Rattle.bolt_format.specs.declared.meta.Slot.TheVariants.{One, Zero}
 use Rattle.bolt_report.specs.declared.form.Form.{Form}
@@ -17,9 +18,9 @@ use Rattle.bolt_cli.specs.declared.words.Refusal.TheVariants.{Memory, Help, Usag
 use Rattle.bolt_cli.specs.LineWords.{Known, Syntax, Text, after, give, refuse, values_of}
 use Rattle.bolt_cli.specs.PathWords.{each_part, part_of, result_and_then}
 use Rattle.bolt_cli.specs.declared.parts.Parts.TheVariants as parts
-use Rattle.bolt_cli.specs.PlainWords.{Asked, IsInRange, IsPart, Reading, asked_of, asks, asks_at, buckets, check, file_operand, first_of, form_of, form_option, form_word, from_option, get, info, keys, line_of, list, meta_option, page, pages, part_operand, parts_option, reading_in, reading_of, refused, slot_by, stats, unread, words_for}
+use Rattle.bolt_cli.specs.PlainWords.{Asked, IsInRange, IsPart, Reading, asked_of, asks, asks_at, buckets, check, compact, file_operand, first_of, form_of, form_option, form_word, from_option, get, info, keys, line_of, list, meta_option, page, page_size_of, pages, part_operand, parts_option, reading_in, reading_of, refused, slot_by, stats, unread, words_for}
 use Rattle.bolt_cli.proofs.GivenRows.{Given}
-use Rattle.bolt_cli.proofs.PageIds.{decimal_numerals, good_id}
+use Rattle.bolt_cli.proofs.Numbers.{decimal_numerals, good_number, size_written}
 use Rattle.bolt_cli.proofs.WordSteps.{known}
 use Rattle.bolt_cli.proofs.WrittenPaths.{hex_words, is_no_option, one_word, parts_read, word_read}
 
@@ -122,11 +123,16 @@ list_read (Some One) file part path parts =
     ap (λ b. reading_in list_line (fold (after list_line) (if b then refuse (from_place (Some One)) else give (codes "from") (one_word (part ∷ path)) (from_place (Some One))) (codes "--" ∷ file ∷ []))) (is_no_option part path parts)
     ∙ ap (λ r. reading_of (result_and_then (λ path. Ok (list file (Some One) path)) r)) (word_read part path parts)
 
+-- a page size that is read
+copy_read : (slot : Option Slot) (file target : Text) (size : ℕ) → IsPageSize size
+    → reading_of (result_and_then (λ (n : Option ℕ). Ok (compact file slot target n)) (page_size_of (decimal size))) ≡ asks (compact file slot target (Some size))
+copy_read slot file target size accepted = ap (λ (r : Result (Option ℕ) Text). reading_of (result_and_then (λ (n : Option ℕ). Ok (compact file slot target n)) r)) (size_written size accepted)
+
 line_of-words_for : (name : Text) (wanted : Asked) → IsInRange wanted → line_of (words_for name wanted) ≡ asks wanted
 line_of-words_for name (info file) in_range = refl
 line_of-words_for name (page file id) in_range =
     let value = digits_value-decimal decimal_numerals id in_range in
-    let good = good_id (decimal id) (digits_decimal decimal_numerals id in_range) (decimal_nonempty id in_range)
+    let good = good_number (decimal id) (digits_decimal decimal_numerals id in_range) (decimal_nonempty id in_range)
     (let Fits : ℕ → Type 0 = λ n. n < 2 ^ 64 in subst Fits (sym value) in_range) in
     rw (good, value) refl
 line_of-words_for name (pages file) in_range = refl
@@ -169,6 +175,12 @@ line_of-words_for name (list file (Some One) []) in_range = refl
 line_of-words_for name (list file None (part ∷ path)) in_range = list_read None file part path in_range
 line_of-words_for name (list file (Some Zero) (part ∷ path)) in_range = list_read (Some Zero) file part path in_range
 line_of-words_for name (list file (Some One) (part ∷ path)) in_range = list_read (Some One) file part path in_range
+line_of-words_for name (compact file None target None) in_range = refl
+line_of-words_for name (compact file (Some Zero) target None) in_range = refl
+line_of-words_for name (compact file (Some One) target None) in_range = refl
+line_of-words_for name (compact file None target (Some size)) in_range = copy_read None file target size in_range
+line_of-words_for name (compact file (Some Zero) target (Some size)) in_range = copy_read (Some Zero) file target size in_range
+line_of-words_for name (compact file (Some One) target (Some size)) in_range = copy_read (Some One) file target size in_range
 
 abbrev asked_in : Asked → Reading → Asked
 asked_in other (asks job) = job

@@ -1,6 +1,8 @@
 -- What the program answers to each command, and what its sinks take: docs/COMMANDS.md, "What a run writes".
-use Rattle.std.specs.Prelude.{◌≡◌, ◌<◌, ◌-◌, ◌⊎◌, ℕ, List, [], ◌∷◌, ◌++◌, Bool, true, false, codes, length, take, Option, Some, None, Result, Ok, Err}
-use Rattle.std.specs.Io.KnownBytes.{Appends}
+use Rattle.std.specs.Prelude.{◌≡◌, ◌<◌, ◌≤◌, ◌-◌, ◌⊎◌, ℕ, List, [], ◌∷◌, ◌++◌, Bool, true, false, codes, decimal, length, take, Option, Some, None, Result, Ok, Err}
+use Rattle.std.specs.Io.KnownBytes.{Appends, Keeps}
+use Rattle.bolt_bulk.specs.Compacting.{too_many}
+use Rattle.bolt_bulk.specs.Copies.{layout_of_listing}
 use Rattle.bolt_check.specs.Roles.{AreRoles}
 use Rattle.bolt_check.specs.Sound.{HasSoundTrees, IsRefused, IsSlotRefused, IsSound}
 use Rattle.bolt_check.specs.declared.fault.CheckFault.{CheckFault}
@@ -9,7 +11,7 @@ use Rattle.bolt_check.specs.declared.finding.Finding.{Finding}
 use Rattle.bolt_check.specs.declared.role.Role.{Role}
 use Rattle.bolt_format.specs.Elements.{LeafElement}
 use Rattle.bolt_format.specs.Metas.{HasMetaFault, IsChosen, IsInSlot}
-use Rattle.bolt_format.specs.Sinks.{AppendsBeginning}
+use Rattle.bolt_format.specs.Sinks.{AppendsBeginning, AppendsProperBeginning}
 use Rattle.bolt_format.specs.declared.fault.PageFault.{PageFault}
 use Rattle.bolt_format.specs.declared.meta.Meta.{Meta}
 use Rattle.bolt_format.specs.declared.meta.MetaFault.{MetaFault}
@@ -33,6 +35,7 @@ use Rattle.bolt_cli.specs.declared.failure.Failure.{Failure}
 use Rattle.bolt_cli.specs.declared.failure.Failure.TheVariants as failure
 use Rattle.bolt_cli.specs.declared.job.Job.{Job}
 use Rattle.bolt_cli.specs.declared.job.Job.TheVariants as job
+use Rattle.bolt_cli.specs.declared.page_size.PageSize.{PageSize}
 use Rattle.bolt_cli.specs.PlainWords.{path_in}
 
 -- How a job ends: with a status, or with a failure that is told.
@@ -184,26 +187,74 @@ IsReadAnswer file slot IsAccepted answer =
     ((meta : Meta) × IsReadUnder file slot meta × IsAccepted meta answer)
     ⊎ ((fault : CheckFault) × IsRefusedUnder file slot fault × IsFileRefusal fault answer)
 
--- ---- all commands
-
--- the answer to a job
-abbrev pub IsAnswer : List ℕ → Job → Answer → Type 0
-IsAnswer file (job.Info name) = IsOpenAnswer file (λ slot meta. done (info_text slot meta))
-IsAnswer file (job.Page name id) = IsOpenAnswer file (λ slot meta. page_answer (page_text_fault file meta id) (page_text file meta id))
-IsAnswer file (job.Pages name) = IsCheckedAnswer file (IsPagesAnswer file) IsFileRefusal
-IsAnswer file (job.Check name) = IsCheckedAnswer file (λ meta answer. answer ≡ done (codes "OK\n")) (λ fault answer. answer ≡ check_refusal fault)
-IsAnswer file (job.Buckets name slot form) = IsReadAnswer file slot (IsBucketsAnswer file form)
-IsAnswer file (job.Stats name slot) = IsReadAnswer file slot (IsStatsAnswer file)
-IsAnswer file (job.Keys name slot path form) = IsReadAnswer file slot (IsKeysAnswer file (path_in path.items) form)
-IsAnswer file (job.Get name slot path form) = IsReadAnswer file slot (IsGetAnswer file (path_in path.items) form)
-IsAnswer file (job.List name slot from) = IsReadAnswer file slot (IsListAnswer file (path_in from.items))
-
 -- From its state `old` to `new` standard output took the text of the answer with no failure, and the job ends so; or it failed, took a
 -- beginning, and the job ends with that.
 abbrev pub Does : {S : Type 0} → (taken : S → Option (List ℕ)) (failed : S → ℕ) (old new : S) → Answer → Ending → Type 0
 Does taken failed old new answer ending =
     (Appends (taken old) (taken new) answer.out × (failed new ≡ failed old) × (ending ≡ answer.ending))
     ⊎ ((0 < failed new) × AppendsBeginning (taken old) (taken new) answer.out × (ending ≡ Err failure.Write))
+
+-- ---- `compact`
+
+-- the line that tells the lengths of the file and of its copy
+abbrev pub lengths_line : (source copy : ℕ) → List ℕ
+lengths_line source copy = (decimal source ++ codes " -> ") ++ (decimal copy ++ codes " bytes\n")
+
+-- the page size of the copy: the one that is asked for, or else that of the file
+abbrev pub copy_page_size : Option PageSize → Meta → ℕ
+copy_page_size (Some size) meta = size.bytes
+copy_page_size None meta = meta.page_size
+
+-- why a copy isn't whole: memory ran out, the layout has 2^63 bytes or more, or the target failed
+abbrev pub StopsCopy : {T : Type 0} → (failed : T → ℕ) (old new : T) → (layout : List ℕ) → Failure → Type 0
+StopsCopy failed old new layout failure.Memory = failed new ≡ failed old
+StopsCopy failed old new layout failure.TooLarge = (too_many ≤ length layout) × (failed new ≡ failed old)
+StopsCopy failed old new layout failure.Write = 0 < failed new
+StopsCopy failed old new layout _ = ⊥
+
+-- The target took a beginning of the layout that isn't the whole, and the failure says why. Of a layout with 2^63 bytes or more it took nothing.
+pub record StopsShort {T : Type 0} (taken : T → Option (List ℕ)) (failed : T → ℕ) (old new : T) (layout : List ℕ) (failure : Failure) : Type 0 where
+  pub short : AppendsProperBeginning (taken old) (taken new) layout
+  pub why : StopsCopy failed old new layout failure
+  pub large : too_many ≤ length layout → Keeps (taken old) (taken new)
+
+-- ---- all commands
+
+-- standard output and the target, each from its state `old` to `new`
+module _ {O T : Type 0} (out_taken : O → Option (List ℕ)) (out_failed : O → ℕ) (out_old out_new : O)
+    (target_taken : T → Option (List ℕ)) (target_failed : T → ℕ) (target_old target_new : T) where
+  -- standard output takes the text of the answer, and the target isn't touched
+  abbrev pub Prints : (Answer → Type 0) → Ending → Type 0
+  Prints IsWanted ending = (answer : Answer) × IsWanted answer × Does out_taken out_failed out_old out_new answer ending × (target_new ≡ target_old)
+
+  -- The target took the whole layout with no failure, which has fewer than 2^63 bytes, and then standard output is to take the line; or the
+  -- target stopped short, standard output isn't touched, and the job ends with the failure.
+  abbrev pub WritesCopy : (layout line : List ℕ) → Ending → Type 0
+  WritesCopy layout line ending =
+      ((length layout < too_many) × Appends (target_taken target_old) (target_taken target_new) layout × (target_failed target_new ≡ target_failed target_old)
+      × Does out_taken out_failed out_old out_new (done line) ending)
+      ⊎ ((failure : Failure) × StopsShort target_taken target_failed target_old target_new layout failure × (out_new ≡ out_old) × (ending ≡ Err failure))
+
+  -- the layout of the file's listing, at the copy's page size; or the file is refused, and neither is touched
+  abbrev pub Compacts : List ℕ → Option Slot → Option PageSize → Ending → Type 0
+  Compacts file slot size ending =
+      ((meta : Meta) × (listing : List Member) × IsReadUnder file slot meta × IsListing file meta listing
+      × (let layout = layout_of_listing (copy_page_size size meta) listing meta.root_sequence in WritesCopy layout (lengths_line (length file) (length layout)) ending))
+      ⊎ ((fault : CheckFault) × (failure : Failure) × IsRefusedUnder file slot fault × IsToldAs fault failure
+      × (out_new ≡ out_old) × (target_new ≡ target_old) × (ending ≡ Err failure))
+
+  -- what a job does, and how it ends
+  abbrev pub DoesJob : List ℕ → Job → Ending → Type 0
+  DoesJob file (job.Info name) = Prints (IsOpenAnswer file (λ slot meta. done (info_text slot meta)))
+  DoesJob file (job.Page name id) = Prints (IsOpenAnswer file (λ slot meta. page_answer (page_text_fault file meta id) (page_text file meta id)))
+  DoesJob file (job.Pages name) = Prints (IsCheckedAnswer file (IsPagesAnswer file) IsFileRefusal)
+  DoesJob file (job.Check name) = Prints (IsCheckedAnswer file (λ meta answer. answer ≡ done (codes "OK\n")) (λ fault answer. answer ≡ check_refusal fault))
+  DoesJob file (job.Buckets name slot form) = Prints (IsReadAnswer file slot (IsBucketsAnswer file form))
+  DoesJob file (job.Stats name slot) = Prints (IsReadAnswer file slot (IsStatsAnswer file))
+  DoesJob file (job.Keys name slot path form) = Prints (IsReadAnswer file slot (IsKeysAnswer file (path_in path.items) form))
+  DoesJob file (job.Get name slot path form) = Prints (IsReadAnswer file slot (IsGetAnswer file (path_in path.items) form))
+  DoesJob file (job.List name slot from) = Prints (IsReadAnswer file slot (IsListAnswer file (path_in from.items)))
+  DoesJob file (job.Compact name slot out size) = Compacts file slot size
 
 -- ---- the end of a run
 

@@ -1,5 +1,7 @@
 -- Why a job isn't done, and what is told of it: docs/COMMANDS.md, "What a run writes".
 use Rattle.std.specs.Prelude.{◌≡◌, ◌≢◌, ℕ, List, [], ◌∷◌, ◌++◌, codes}
+use Rattle.bolt_bulk.specs.declared.fault.BulkFault.{BulkFault}
+use Rattle.bolt_bulk.specs.declared.fault.BulkFault.TheVariants as bulk
 use Rattle.bolt_check.specs.declared.fault.CheckFault.{CheckFault}
 use Rattle.bolt_check.specs.declared.fault.CheckFault.TheVariants as check
 use Rattle.bolt_check.specs.declared.finding.Finding.{Finding}
@@ -7,7 +9,7 @@ use Rattle.bolt_report.specs.FaultWords.{finding_text, meta_fault_text, page_fau
 use Rattle.bolt_report.specs.declared.fault.ReportFault.{ReportFault}
 use Rattle.bolt_report.specs.declared.fault.ReportFault.TheVariants as report
 use Rattle.bolt_cli.specs.declared.failure.Failure.{Failure}
-use Rattle.bolt_cli.specs.declared.failure.Failure.TheVariants.{Metas, File, Page, NoBucket, NoKey, Memory, Write}
+use Rattle.bolt_cli.specs.declared.failure.Failure.TheVariants.{Metas, File, Page, NoBucket, NoKey, Memory, TooLarge, Write}
 
 abbrev pub failure_text : Failure → List ℕ
 failure_text (Metas fault) = meta_fault_text fault
@@ -16,6 +18,7 @@ failure_text (Page fault) = page_fault_text fault
 failure_text NoBucket = codes "bucket not found\n"
 failure_text NoKey = codes "key not found\n"
 failure_text Memory = codes "out of memory\n"
+failure_text TooLarge = codes "layout too large\n"
 failure_text Write = codes "write failed\n"
 
 -- a failure is one line on standard error
@@ -27,6 +30,12 @@ abbrev pub reported : ReportFault → Failure
 reported report.Sink = Write
 reported report.NoMemory = Memory
 reported (report.Page fault) = Page fault
+
+-- the failure where a copy wasn't written whole
+abbrev pub copied : BulkFault → Failure
+copied bulk.Memory = Memory
+copied bulk.TooLarge = TooLarge
+copied bulk.Sink = Write
 
 -- of findings the first is told
 abbrev pub TellsFirst : List Finding → Failure → Type 0

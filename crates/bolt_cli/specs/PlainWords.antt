@@ -1,19 +1,21 @@
 -- The command line in the words of its user: `line_of` says what words ask for, and knows nothing of `clap`. docs/COMMANDS.md, "Words".
-use Rattle.std.specs.Prelude.{◌&&◌, ◌+◌, ◌-◌, ◌*◌, ◌^◌, ◌<◌, ℕ, Bool, true, false, List, [], ◌∷◌, All, Option, Some, None, Result, Ok, Err, Vec, codes, find, length, map, nat_lt, string_bytes, if◌then◌else◌}
+use Rattle.std.specs.Prelude.{◌==◌, ◌&&◌, ◌+◌, ◌-◌, ◌*◌, ◌^◌, ◌<◌, ℕ, Bool, true, false, List, [], ◌∷◌, ◌++◌, All, Option, Some, None, Result, Ok, Err, Vec, codes, find, length, map, nat_lt, option_map, string_bytes, if◌then◌else◌}
 use Rattle.std.specs.Fmt.{decimal}
-use Rattle.std.specs.List.{join_with_byte}
+use Rattle.std.specs.List.{join_with_byte, list_any}
 use Rattle.std.specs.Str.{all_ascii_digits, bytes_eq}
 use Rattle.hex.specs.Hex.{IsBytes, encode_lower}
 use Rattle.bolt_check.specs.Keys.{Key}
 use Rattle.bolt_tree.specs.Paths.{Path}
+use Rattle.bolt_format.specs.Metas.{IsPageSize, page_sizes}
 use Rattle.bolt_format.specs.declared.meta.Slot.{Slot}
 use Rattle.bolt_format.specs.declared.meta.Slot.TheVariants.{One, Zero}
 use Rattle.bolt_report.specs.declared.form.Form.{Form}
 use Rattle.bolt_report.specs.declared.form.Form.TheVariants.{Printable, Hex, Bytes}
-use Rattle.bolt_cli.specs.LineWords.{Choice, Known, Operand, Syntax, Text, is_complete, known_after, long, values_of}
+use Rattle.bolt_cli.specs.LineWords.{Choice, Known, Operand, Syntax, Text, is_complete, known_after, long, short, values_of}
 use Rattle.bolt_cli.specs.PathWords.{each_part, hex_path_by, part_of, parts_by, result_and_then}
 use Rattle.bolt_cli.specs.declared.job.Job.{Job}
 use Rattle.bolt_cli.specs.declared.job.Job.TheVariants as job
+use Rattle.bolt_cli.specs.declared.page_size.PageSize.{PageSize}
 
 abbrev pub file_operand : Operand
 file_operand = record { name = codes "FILE"; several = false }
@@ -37,6 +39,13 @@ from_option = record { name = codes "from"; flag = long (codes "from"); required
 abbrev pub meta_option : Choice
 meta_option = record { name = codes "meta"; flag = long (codes "meta"); required = false }
 
+-- the file of a copy, by `-o` (111)
+abbrev pub output_option : Choice
+output_option = record { name = codes "output"; flag = short 111; required = true }
+
+abbrev pub page_size_option : Choice
+page_size_option = record { name = codes "page-size"; flag = long (codes "page-size"); required = false }
+
 -- all commands
 abbrev pub syntaxes : List Syntax
 syntaxes =
@@ -49,6 +58,7 @@ syntaxes =
     ∷ record { name = codes "get"; operands = file_operand ∷ part_operand ∷ []; options = form_option ∷ parts_option ∷ meta_option ∷ [] }
     ∷ record { name = codes "stats"; operands = file_operand ∷ []; options = meta_option ∷ [] }
     ∷ record { name = codes "list"; operands = file_operand ∷ []; options = from_option ∷ meta_option ∷ [] }
+    ∷ record { name = codes "compact"; operands = file_operand ∷ []; options = output_option ∷ page_size_option ∷ meta_option ∷ [] }
     ∷ []
 
 -- ---- what a line asks for
@@ -64,10 +74,15 @@ pub data Asked : Type 0 where
   get : Text → Option Slot → Path → Form → Asked
   stats : Text → Option Slot → Asked
   list : Text → Option Slot → Path → Asked
+  compact : (file : Text) → Option Slot → (target : Text) → (page_size : Option ℕ) → Asked
 
 -- the path that the code owns
 abbrev pub path_in : {Z : Type 0} → List (Vec ℕ Z) → Path
 path_in {Z} parts = map (λ (part : Vec ℕ Z). part.items) parts
+
+-- the page size that the code has
+abbrev pub size_in : Option PageSize → Option ℕ
+size_in size = option_map (λ (s : PageSize). s.bytes) size
 
 abbrev pub asked_of : Job → Asked
 asked_of (job.Info file) = info (string_bytes file)
@@ -79,6 +94,7 @@ asked_of (job.Keys file slot path form) = keys (string_bytes file) slot (path_in
 asked_of (job.Get file slot path form) = get (string_bytes file) slot (path_in path.items) form
 asked_of (job.Stats file slot) = stats (string_bytes file) slot
 asked_of (job.List file slot from) = list (string_bytes file) slot (path_in from.items)
+asked_of (job.Compact file slot target size) = compact (string_bytes file) slot (string_bytes target) (size_in size)
 
 -- the FILE of a job
 abbrev pub file_name : Job → Text
@@ -91,6 +107,12 @@ file_name (job.Keys file slot path form) = string_bytes file
 file_name (job.Get file slot path form) = string_bytes file
 file_name (job.Stats file slot) = string_bytes file
 file_name (job.List file slot from) = string_bytes file
+file_name (job.Compact file slot target size) = string_bytes file
+
+-- the OUT of a job that has one
+abbrev pub target_name : Job → Option Text
+target_name (job.Compact file slot target size) = Some (string_bytes target)
+target_name _ = None
 
 -- the words that a line gives by each name
 abbrev pub Values : Type 0
@@ -112,12 +134,27 @@ abbrev pub decimal_value : Text → ℕ
 decimal_value [] = 0
 decimal_value (digit ∷ rest) = (digit - 48) * 10 ^ length rest + decimal_value rest
 
--- an ID is digits alone, one or more, of a number below 2 ^ 64
-abbrev pub is_page_id : Text → Bool
-is_page_id word = nat_lt 0 (length word) && all_ascii_digits word && nat_lt (decimal_value word) (2 ^ 64)
+-- digits alone, one or more, of a number below 2 ^ 64
+abbrev pub is_number : Text → Bool
+is_number word = nat_lt 0 (length word) && all_ascii_digits word && nat_lt (decimal_value word) (2 ^ 64)
+
+abbrev pub number_of : Text → Option ℕ
+number_of word = if is_number word then Some (decimal_value word) else None
 
 abbrev pub page_id : Text → Result ℕ Text
-page_id word = if is_page_id word then Ok (decimal_value word) else Err (codes "bad page id")
+page_id word = if is_number word then Ok (decimal_value word) else Err (codes "bad page id")
+
+-- of these numbers some are page sizes
+abbrev pub is_page_size : Text → Bool
+is_page_size word = is_number word && list_any (λ size. size == decimal_value word) page_sizes
+
+-- the page size of a copy by its word; without one it is that of the file
+abbrev pub page_size_of : Text → Result (Option ℕ) Text
+page_size_of word = if is_page_size word then Ok (Some (decimal_value word)) else Err (codes "bad page size")
+
+abbrev pub page_size_by : Option Text → Result (Option ℕ) Text
+page_size_by (Some word) = page_size_of word
+page_size_by None = Ok None
 
 -- a form by its word; without one names are printable
 abbrev pub form_of : Text → Result Form Text
@@ -181,6 +218,10 @@ abbrev pub asks_list : Values → Result Asked Text
 asks_list values = result_and_then (λ file. result_and_then (λ slot. result_and_then (λ from. Ok (list file slot from))
     (hex_path_by (first_of (values (codes "from"))))) (slot_by (first_of (values (codes "meta"))))) (text_by (codes "FILE") values)
 
+abbrev pub asks_compact : Values → Result Asked Text
+asks_compact values = result_and_then (λ file. result_and_then (λ slot. result_and_then (λ target. result_and_then (λ size. Ok (compact file slot target size))
+    (page_size_by (first_of (values (codes "page-size"))))) (text_by (codes "output") values)) (slot_by (first_of (values (codes "meta"))))) (text_by (codes "FILE") values)
+
 -- what a command asks for, or which word can't be read and why
 abbrev pub asked : Text → Values → Result Asked Text
 asked name values =
@@ -193,6 +234,7 @@ asked name values =
     else if bytes_eq name (codes "get") then asks_get values
     else if bytes_eq name (codes "stats") then asks_stats values
     else if bytes_eq name (codes "list") then asks_list values
+    else if bytes_eq name (codes "compact") then asks_compact values
     else Err (codes "command missing")
 
 -- ---- lines
@@ -241,6 +283,14 @@ abbrev pub from_words : Path → List Text → List Text
 from_words [] words = words
 from_words (part ∷ path) words = codes "--from" ∷ join_with_byte 47 (map encode_lower (part ∷ path)) ∷ words
 
+-- a page size and the file of a copy, each in one word
+abbrev pub size_words : Option ℕ → List Text → List Text
+size_words None words = words
+size_words (Some size) words = (codes "--page-size=" ++ decimal size) ∷ words
+
+abbrev pub target_word : Text → Text
+target_word target = codes "-o=" ++ target
+
 -- words that ask for the job, whatever its texts are
 abbrev pub words_for : Text → Asked → List Text
 words_for name (info file) = name ∷ codes "info" ∷ codes "--" ∷ file ∷ []
@@ -252,6 +302,7 @@ words_for name (keys file slot path form) = name ∷ codes "keys" ∷ slot_words
 words_for name (get file slot path form) = name ∷ codes "get" ∷ slot_words slot (path_words file path form)
 words_for name (stats file slot) = name ∷ codes "stats" ∷ slot_words slot (codes "--" ∷ file ∷ [])
 words_for name (list file slot from) = name ∷ codes "list" ∷ slot_words slot (from_words from (codes "--" ∷ file ∷ []))
+words_for name (compact file slot target size) = name ∷ codes "compact" ∷ slot_words slot (size_words size (target_word target ∷ codes "--" ∷ file ∷ []))
 
 abbrev pub IsPath : Path → Type 0
 IsPath [] = ⊥
@@ -260,11 +311,17 @@ IsPath (part ∷ path) = All IsBytes (part ∷ path)
 abbrev pub IsPart : Key → Type 0
 IsPart part = (0 < length part) × IsBytes part
 
+-- a page size that is asked for is accepted
+abbrev pub IsSize : Option ℕ → Type 0
+IsSize None = Unit {0}
+IsSize (Some size) = IsPageSize size
+
 -- A job that words can ask for: its numbers and bytes fit their types, a path has a part, and one that is written in one word has a byte
--- in each.
+-- in each, and a page size is accepted.
 abbrev pub IsInRange : Asked → Type 0
 IsInRange (page file id) = id < 2 ^ 64
 IsInRange (keys file slot path form) = IsPath path
 IsInRange (get file slot path form) = IsPath path
 IsInRange (list file slot from) = All IsPart from
+IsInRange (compact file slot target size) = IsSize size
 IsInRange _ = Unit {0}

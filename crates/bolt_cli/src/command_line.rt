@@ -1,6 +1,6 @@
 //! What `clap` is told of the command line.
 ghost use Rattle.std.specs.Prelude.{◌≡◌, false, IfOk, map};
-ghost use Rattle.clap.specs.Words.{rule_of};
+ghost use Rattle.clap.specs.Words.{new_app, rule_of};
 ghost use Rattle.bolt_cli.specs.CommandLine.{IsCommand, bare_program, command_of, operand_rule, option_rule, program, program_of};
 ghost use Rattle.bolt_cli.specs.Syntaxes.{choice_view, operand_view, syntax_view};
 
@@ -36,10 +36,21 @@ fn option_arg<'a>(alloc: Global, option: &'a Choice) -> Arg<'a>
     }
 }
 
+/// A command that has no arguments yet.
+fn bare_command<'a>(alloc: Global, syntax: &'a Syntax) -> Command<'a>
+    ensures { IsCommand (new_app syntax.now.name.now) result }
+{
+    let command = Command::new(alloc, syntax.name).about(syntax.about);
+    match syntax.note {
+        Some(note) => command.after_help(note),
+        None => command,
+    }
+}
+
 fn command<'a>(alloc: Global, syntax: &'a Syntax) -> Result<Command<'a>, AllocError>
     ensures { IfOk result (IsCommand (command_of (syntax_view syntax.now))) }
 {
-    let mut command = Command::new(alloc, syntax.name).about(syntax.about);
+    let mut command = bare_command(alloc, syntax);
     for operand in syntax.operands {
         command = command.arg(operand_arg(alloc, operand))?;
     }

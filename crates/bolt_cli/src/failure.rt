@@ -2,9 +2,10 @@
 ghost use Rattle.std.specs.Prelude.{◌≡◌, ◌++◌, codes};
 ghost use Rattle.bolt_format.specs.Writes.{Writes};
 ghost use Rattle.bolt_report.specs.FaultWords.{finding_text};
-ghost use Rattle.bolt_cli.specs.Failures.{failure_line, failure_text, reported};
+ghost use Rattle.bolt_cli.specs.Failures.{copied, failure_line, failure_text, reported};
 ghost use Rattle.bolt_cli.specs.declared.failure.Failure.TheVariants as failure;
 
+use bolt_bulk::BulkFault;
 use bolt_check::{Finding, NoMemory};
 use bolt_format::{MetaFault, PageFault, Sink, SinkFault};
 use bolt_report::{ReportFault, finding_text, meta_fault_text, page_fault_text};
@@ -25,7 +26,9 @@ pub enum Failure {
     NoKey,
     /// Memory ran out.
     Memory,
-    /// Standard output couldn't be written.
+    /// The copy would have 2^63 bytes or more.
+    TooLarge,
+    /// Standard output or the copy couldn't be written.
     Write,
 }
 
@@ -73,6 +76,18 @@ impl From<ReportFault> for Failure {
     }
 }
 
+impl From<BulkFault> for Failure {
+    ghost from_gives = { λ fault result. result ≡ copied fault };
+
+    fn from(fault: BulkFault) -> Failure {
+        match fault {
+            BulkFault::Memory => Failure::Memory,
+            BulkFault::TooLarge => Failure::TooLarge,
+            BulkFault::Sink => Failure::Write,
+        }
+    }
+}
+
 /// Puts the line of a failure: `error: ` and its text.
 pub(crate) fn put_failure<E: Sink>(failure: &Failure, err: &mut E) -> Result<(), ReportFault>
     ensures { Writes E.taken E.failed err.old err.new (failure_line failure.now) result }
@@ -91,6 +106,7 @@ fn put_text<E: Sink>(failure: &Failure, err: &mut E) -> Result<(), ReportFault>
         Failure::NoBucket => put_words(b"bucket not found\n", err),
         Failure::NoKey => put_words(b"key not found\n", err),
         Failure::Memory => put_words(b"out of memory\n", err),
+        Failure::TooLarge => put_words(b"layout too large\n", err),
         Failure::Write => put_words(b"write failed\n", err),
     }
 }

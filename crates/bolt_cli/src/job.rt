@@ -1,5 +1,6 @@
 //! What a command line asks for.
 
+use crate::page_size::PageSize;
 use bolt_format::Slot;
 use bolt_report::Form;
 
@@ -55,11 +56,18 @@ pub enum Job {
         slot: Option<Slot>,
         from: Vec<Vec<u8>>,
     },
+    /// A compact copy to another file, at a page size of its own or that of the file.
+    Compact {
+        file: String,
+        slot: Option<Slot>,
+        target: String,
+        page_size: Option<PageSize>,
+    },
 }
 
 impl Job {
-    ghost use Rattle.std.specs.Prelude.{◌≡◌};
-    ghost use Rattle.bolt_cli.specs.PlainWords.{file_name};
+    ghost use Rattle.std.specs.Prelude.{◌≡◌, option_map};
+    ghost use Rattle.bolt_cli.specs.PlainWords.{file_name, target_name};
 
     /// The FILE that the job is done on.
     pub fn file(&self) -> &str
@@ -93,6 +101,27 @@ impl Job {
                 slot: _,
                 from: _,
             } => file.as_str(),
+            Job::Compact {
+                file,
+                slot: _,
+                target: _,
+                page_size: _,
+            } => file.as_str(),
+        }
+    }
+
+    /// The OUT of a job that writes a file.
+    pub fn target(&self) -> Option<&str>
+        ensures { option_map (λ name. name.now) result ≡ target_name self.now }
+    {
+        match self {
+            Job::Compact {
+                file: _,
+                slot: _,
+                target,
+                page_size: _,
+            } => Some(target.as_str()),
+            _ => None,
         }
     }
 }

@@ -4,6 +4,7 @@
 mod buckets_command;
 mod check_command;
 mod command_line;
+mod compact_command;
 mod failure;
 mod get_command;
 mod info_command;
@@ -14,6 +15,7 @@ mod open_bucket;
 mod open_checked;
 mod open_read;
 mod page_command;
+mod page_size;
 mod pages_command;
 mod parts;
 mod path_words;
@@ -25,6 +27,7 @@ mod words;
 
 pub use failure::Failure;
 pub use job::Job;
+pub use page_size::PageSize;
 pub use runs::run;
 pub use status::Status;
 pub use words::{Refusal, read_words};

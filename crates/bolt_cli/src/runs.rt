@@ -1,9 +1,10 @@
 //! Runs a job: what it writes, and its status.
 ghost use Rattle.std.specs.Prelude.{◌≡◌, Result};
-ghost use Rattle.bolt_cli.specs.Answers.{Answer, Does, Ending, IsAnswer, Takes, status_of, told};
+ghost use Rattle.bolt_cli.specs.Answers.{DoesJob, Ending, Takes, status_of, told};
 
 use crate::buckets_command::print_buckets;
 use crate::check_command::print_check;
+use crate::compact_command::write_copy;
 use crate::failure::{Failure, put_failure};
 use crate::get_command::print_value;
 use crate::info_command::print_info;
@@ -18,7 +19,7 @@ use bolt_format::Sink;
 use std::alloc::Global;
 
 /// Does a job on the bytes of its file (docs/COMMANDS.md, "What a run writes"): the text goes to
-/// `out`, the line of a failure to `err`. `target` is not touched.
+/// `out`, the line of a failure to `err`, and a copy to `target`, which other jobs don't touch.
 pub fn run<O: Sink, E: Sink, T: Sink>(
     alloc: Global,
     job: &Job,
@@ -27,12 +28,11 @@ pub fn run<O: Sink, E: Sink, T: Sink>(
     err: &mut E,
     target: &mut T,
 ) -> Status
-    ensures answer { (answer : Answer) × (ending : Ending) × IsAnswer file.now job.now answer
-        × Does O.taken O.failed out.old out.new answer ending × (result.code ≡ status_of ending)
-        × Takes E.taken E.failed err.old err.new (told ending) }
-    ensures target { target.new ≡ target.old }
+    ensures { (ending : Ending)
+        × DoesJob O.taken O.failed out.old out.new T.taken T.failed target.old target.new file.now job.now ending
+        × (result.code ≡ status_of ending) × Takes E.taken E.failed err.old err.new (told ending) }
 {
-    match do_job(alloc, job, file, out) {
+    match do_job(alloc, job, file, out, target) {
         Ok(code) => Status { code },
         Err(failure) => tell(&failure, err),
     }
@@ -48,8 +48,14 @@ fn tell<E: Sink>(failure: &Failure, err: &mut E) -> Status
 }
 
 /// Does a job, and answers its status.
-fn do_job<O: Sink>(alloc: Global, job: &Job, file: &[u8], out: &mut O) -> Result<u8, Failure>
-    ensures { (answer : Answer) × IsAnswer file.now job.now answer × Does O.taken O.failed out.old out.new answer result }
+fn do_job<O: Sink, T: Sink>(
+    alloc: Global,
+    job: &Job,
+    file: &[u8],
+    out: &mut O,
+    target: &mut T,
+) -> Result<u8, Failure>
+    ensures { DoesJob O.taken O.failed out.old out.new T.taken T.failed target.old target.new file.now job.now result }
 {
     match job {
         Job::Info { file: _ } => print_info(file, out),
@@ -79,5 +85,11 @@ fn do_job<O: Sink>(alloc: Global, job: &Job, file: &[u8], out: &mut O) -> Result
             slot,
             from,
         } => print_list(alloc, file, *slot, from.as_slice(), out),
+        Job::Compact {
+            file: _,
+            slot,
+            target: _,
+            page_size,
+        } => write_copy(alloc, file, *slot, *page_size, out, target),
     }
 }

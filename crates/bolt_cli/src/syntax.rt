@@ -37,6 +37,8 @@ pub(crate) struct Syntax {
     pub operands: &'static [Operand],
     /// In the order in which help tells them; on a line they stand anywhere.
     pub options: &'static [Choice],
+    /// What help says behind the options.
+    pub note: Option<&'static str>,
 }
 
 const FILE: Operand = Operand {
@@ -95,60 +97,96 @@ const META: Choice = Choice {
     required: false,
 };
 
+const OUTPUT: Choice = Choice {
+    name: "output",
+    flag: Flag::Short('o'),
+    value: "OUT",
+    help: "The file that the copy goes to, which must not exist",
+    required: true,
+};
+
+const PAGE_SIZE: Choice = Choice {
+    name: "page-size",
+    flag: Flag::Long("page-size"),
+    value: "N",
+    help: "The copy's page size in bytes, a power of two from 1024 to 33554432 [default: the file's]",
+    required: false,
+};
+
+const COPY_NOTE: &str = "Where a branch page of the copy has one child, bbolt may panic when it \
+    deletes from it, as 1.3.6 does. Before a program writes into the copy, run bbolt's own compact \
+    over it.";
+
 /// The line of each command, in the order in which help tells them.
-pub(crate) static SYNTAXES: [Syntax; 9] = [
+pub(crate) static SYNTAXES: [Syntax; 10] = [
     Syntax {
         name: "info",
         about: "Show the meta in force: page size, transaction, root, freelist, high-water mark",
         operands: &[FILE],
         options: &[],
+        note: None,
     },
     Syntax {
         name: "page",
         about: "Show one page: its type and what it holds, keys and values in hex",
         operands: &[FILE, ID],
         options: &[],
+        note: None,
     },
     Syntax {
         name: "pages",
         about: "Show what each page is for: a row for each, and how many free ones the file lacks",
         operands: &[FILE],
         options: &[],
+        note: None,
     },
     Syntax {
         name: "check",
         about: "Say whether the file is sound, and if not, each thing that is wrong",
         operands: &[FILE],
         options: &[],
+        note: None,
     },
     Syntax {
         name: "buckets",
         about: "List the names of the buckets in the root bucket",
         operands: &[FILE],
         options: &[FORM, META],
+        note: None,
     },
     Syntax {
         name: "keys",
         about: "List the keys of a bucket, those of its buckets among them",
         operands: &[FILE, BUCKET_PART],
         options: &[FORM, PARTS, META],
+        note: None,
     },
     Syntax {
         name: "get",
         about: "Show the value of a key",
         operands: &[FILE, KEY_PART],
         options: &[FORM, PARTS, META],
+        note: None,
     },
     Syntax {
         name: "stats",
         about: "Show figures of all buckets: how many, how deep, and what their pages hold",
         operands: &[FILE],
         options: &[META],
+        note: None,
     },
     Syntax {
         name: "list",
         about: "List all that the file holds, keys and values in hex, in the order of paths",
         operands: &[FILE],
         options: &[FROM, META],
+        note: None,
+    },
+    Syntax {
+        name: "compact",
+        about: "Write a compact copy: all that the file holds, and no free pages",
+        operands: &[FILE],
+        options: &[OUTPUT, PAGE_SIZE, META],
+        note: Some(COPY_NOTE),
     },
 ];

@@ -1,13 +1,14 @@
 //! Reads the words of a command line.
-ghost use Rattle.std.specs.Prelude.{◌≡◌, IfErr, IfOk, MatchResult, Some, None, map, option_map, string_bytes};
+ghost use Rattle.std.specs.Prelude.{◌≡◌, Err, IfErr, IfOk, MatchOption, MatchResult, None, Ok, Some, codes, map, option_map, string_bytes};
 ghost use Rattle.clap.specs.Words.{fault_of, found_of, kind_of, rows_of, subcommand_rows_of};
 ghost use Rattle.bolt_cli.specs.CommandLine.{Asks, Gives, HasKindOf, IsRefusalOf, IsRefusedBy, asked_by, asked_by_subcommand, program, values_in};
 ghost use Rattle.bolt_cli.specs.LineWords.{Text};
-ghost use Rattle.bolt_cli.specs.PlainWords.{Asked, IsInRange, asked_of, asks, asks_buckets, asks_check, asks_get, asks_info, asks_keys, asks_list, asks_page, asks_pages, asks_stats, first_of, form_by, form_of, line_of, page_id, path_by, path_in, slot_by, text_by, words_for};
+ghost use Rattle.bolt_cli.specs.PlainWords.{Asked, IsInRange, asked, asked_of, asks, asks_buckets, asks_check, asks_compact, asks_get, asks_info, asks_keys, asks_list, asks_page, asks_pages, asks_stats, first_of, form_by, form_of, line_of, number_of, page_id, page_size_by, page_size_of, path_by, path_in, size_in, slot_by, text_by, words_for};
 ghost use Rattle.bolt_cli.specs.declared.words.Refusal.TheVariants.{Memory};
 
 use crate::command_line;
 use crate::job::Job;
+use crate::page_size::PageSize;
 use crate::path_words::{read_from, read_parts, read_path};
 use bolt_format::Slot;
 use bolt_report::Form;
@@ -47,19 +48,21 @@ impl<T: Drop> From<AllocFailed<T>> for Refusal {
 /// Reads the words of a command line, of which the first is the program's name.
 ///
 /// The lines are `info FILE`, `page FILE ID`, `pages FILE`, `check FILE`, `buckets FILE [--form F]`,
-/// `keys FILE PART.. [--form F] [--parts P]`, `get FILE PART.. [--form F] [--parts P]` `stats FILE` and
-/// `list FILE [--from HEXPATH]`; `buckets` and those behind it also take `--meta M`, with M 0 or 1. Options stand before, between or behind the operands, once each, as
-/// `--form hex` or `--form=hex`. A word that begins with a hyphen and has more is an option, unless
-/// `--` stands before it. An ID is decimal digits, at least one, of a number below 2^64; F is
-/// `printable`, `hex` or `bytes`; P is `text` or `hex` and says how each PART is written; a HEXPATH
-/// is parts in hexadecimal, of at least one byte each, joined by slashes.
+/// `keys FILE PART.. [--form F] [--parts P]`, `get FILE PART.. [--form F] [--parts P]`, `stats FILE`,
+/// `list FILE [--from HEXPATH]` and `compact -o OUT FILE [--page-size N]`; `buckets` and those
+/// behind it also take `--meta M`, with M 0 or 1. Options stand before, between or behind the
+/// operands, once each, as `--form hex` or `--form=hex`, and `-o OUT`, `-oOUT` or `-o=OUT`. A word
+/// that begins with a hyphen and has more is an option, unless `--` stands before it. An ID is
+/// decimal digits, at least one, of a number below 2^64; F is `printable`, `hex` or `bytes`; P is
+/// `text` or `hex` and says how each PART is written; a HEXPATH is parts in hexadecimal, of at
+/// least one byte each, joined by slashes; N is decimal digits of an accepted page size.
 ///
 /// # Errors
 ///
 /// Words that are no such line are refused, with `Refusal::Help` where help is asked for before a
 /// word is out of place, and else with `Refusal::Usage`. A line with a word that can't be read is
-/// refused as `Refusal::Word`: `bad page id`, `bad form`, `bad parts`, `bad hex` or
-/// `bad meta`.
+/// refused as `Refusal::Word`: `bad page id`, `bad form`, `bad parts`, `bad hex`, `bad meta` or
+/// `bad page size`.
 /// `Refusal::Memory` comes where memory runs out.
 pub fn read_words(alloc: Global, words: Vec<String>) -> Result<Job, Refusal>
     ensures answer { let texts = map string_bytes words.items in let line = line_of texts in
@@ -98,15 +101,25 @@ fn read_matches(alloc: Global, matches: &ArgMatches<'_>) -> Result<Job, Refusal>
     ensures { Gives asked_of (asked_by_subcommand (subcommand_rows_of matches.now)) result }
 {
     match matches.subcommand() {
-        Some(("info", matches)) => read_info(alloc, matches),
-        Some(("page", matches)) => read_page(alloc, matches),
-        Some(("pages", matches)) => read_pages(alloc, matches),
-        Some(("check", matches)) => read_check(alloc, matches),
-        Some(("buckets", matches)) => read_buckets(alloc, matches),
-        Some(("keys", matches)) => read_keys(alloc, matches),
-        Some(("get", matches)) => read_get(alloc, matches),
-        Some(("stats", matches)) => read_stats(alloc, matches),
-        Some(("list", matches)) => read_list(alloc, matches),
+        Some((name, matches)) => read_command(alloc, name, matches),
+        None => Err(Refusal::Word("command missing")),
+    }
+}
+
+fn read_command(alloc: Global, name: &str, matches: &ArgMatches<'_>) -> Result<Job, Refusal>
+    ensures { Gives asked_of (asked name.now (values_in (rows_of (found_of matches.now)))) result }
+{
+    match name {
+        "info" => read_info(alloc, matches),
+        "page" => read_page(alloc, matches),
+        "pages" => read_pages(alloc, matches),
+        "check" => read_check(alloc, matches),
+        "buckets" => read_buckets(alloc, matches),
+        "keys" => read_keys(alloc, matches),
+        "get" => read_get(alloc, matches),
+        "stats" => read_stats(alloc, matches),
+        "list" => read_list(alloc, matches),
+        "compact" => read_compact(alloc, matches),
         _ => Err(Refusal::Word("command missing")),
     }
 }
@@ -196,6 +209,21 @@ fn read_stats(alloc: Global, matches: &ArgMatches<'_>) -> Result<Job, Refusal>
     Ok(Job::Stats { file, slot })
 }
 
+fn read_compact(alloc: Global, matches: &ArgMatches<'_>) -> Result<Job, Refusal>
+    ensures { Gives asked_of (asks_compact (values_in (rows_of (found_of matches.now)))) result }
+{
+    let file = read_text(alloc, matches, "FILE")?;
+    let slot = read_slot(choice(matches, "meta"))?;
+    let target = read_text(alloc, matches, "output")?;
+    let page_size = read_page_size(choice(matches, "page-size"))?;
+    Ok(Job::Compact {
+        file,
+        slot,
+        target,
+        page_size,
+    })
+}
+
 // The path that the words of PART write.
 fn read_parts_of(alloc: Global, matches: &ArgMatches<'_>) -> Result<Vec<Vec<u8>>, Refusal>
     ensures { Gives (λ path. path_in path.items) (path_by (values_in (rows_of (found_of matches.now)))) result }
@@ -233,14 +261,39 @@ fn choice<'a>(matches: &ArgMatches<'a>, id: &str) -> Option<&'a str>
 fn read_page_id(word: &str) -> Result<u64, Refusal>
     ensures { Gives (λ id. id) (page_id word.now) result }
 {
+    match read_number(word) {
+        Some(id) => Ok(id),
+        None => Err(Refusal::Word("bad page id")),
+    }
+}
+
+fn read_page_size(word: Option<&str>) -> Result<Option<PageSize>, Refusal>
+    ensures { Gives size_in (page_size_by (option_map (λ text. text.now) word.entry)) result }
+{
+    let Some(word) = word else {
+        return Ok(None);
+    };
+    match read_size(word) {
+        Some(size) => Ok(Some(size)),
+        None => Err(Refusal::Word("bad page size")),
+    }
+}
+
+fn read_size(word: &str) -> Option<PageSize>
+    ensures { MatchOption result (page_size_of word.now ≡ Err (codes "bad page size")) (λ size. page_size_of word.now ≡ Ok (Some size.bytes)) }
+{
+    PageSize::new(read_number(word)?)
+}
+
+// The number that digits alone write.
+fn read_number(word: &str) -> Option<u64>
+    ensures { result ≡ number_of word.now }
+{
     // `parse` would take a plus before the digits.
     if word.starts_with('+') {
-        return Err(Refusal::Word("bad page id"));
+        return None;
     }
-    match word.parse::<u64>() {
-        Ok(id) => Ok(id),
-        Err(_) => Err(Refusal::Word("bad page id")),
-    }
+    word.parse().ok()
 }
 
 fn read_slot(word: Option<&str>) -> Result<Option<Slot>, Refusal>

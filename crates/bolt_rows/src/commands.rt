@@ -42,7 +42,7 @@ pub const CHECK: &[&str] = &["check", "FILE"];
 pub const BUCKETS: &[&str] = &["buckets", "FILE"];
 
 /// What a run wrote on standard output and on standard error, and its status.
-type Written<'a> = (&'a [u8], &'a [u8], u8);
+pub type Written<'a> = (&'a [u8], &'a [u8], u8);
 
 /// The beginning of what was written, as a failed row shows it.
 fn beginning(bytes: &[u8]) -> &str {
@@ -50,7 +50,14 @@ fn beginning(bytes: &[u8]) -> &str {
     std::str::from_utf8(shown).unwrap_or("bytes that are no text")
 }
 
-fn check_written(rt: &impl Abort, name: &str, words: &[&str], got: Written<'_>, want: Written<'_>) {
+/// The run wrote what is wanted.
+pub fn check_written(
+    rt: &impl Abort,
+    name: &str,
+    words: &[&str],
+    got: Written<'_>,
+    want: Written<'_>,
+) {
     let is_same = got.0 == want.0 && got.1 == want.1 && got.2 == want.2;
     let (out, err, status) = (beginning(got.0), beginning(got.1), got.2);
     let (wanted_out, wanted_err, wanted_status) = (beginning(want.0), beginning(want.1), want.2);

@@ -9,6 +9,8 @@ mod check_command_rows;
 #[cfg(test)]
 mod commands;
 #[cfg(test)]
+mod compact_command_rows;
+#[cfg(test)]
 mod large_file_rows;
 #[cfg(test)]
 mod large_page_rows;

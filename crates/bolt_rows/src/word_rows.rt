@@ -7,7 +7,7 @@ use std::alloc::{AllocError, Global};
 use std::process::Abort;
 use std::test::Fail;
 
-static HELP: [Row<'static>; 7] = [
+static HELP: [Row<'static>; 8] = [
     (
         &["--help"],
         Helps(
@@ -24,7 +24,8 @@ static HELP: [Row<'static>; 7] = [
               keys     List the keys of a bucket, those of its buckets among them\n  \
               get      Show the value of a key\n  \
               stats    Show figures of all buckets: how many, how deep, and what their pages hold\n  \
-              list     List all that the file holds, keys and values in hex, in the order of paths\n\
+              list     List all that the file holds, keys and values in hex, in the order of paths\n  \
+              compact  Write a compact copy: all that the file holds, and no free pages\n\
             \n\
             Options:\n  \
               -h, --help  Print help\n",
@@ -50,6 +51,7 @@ static HELP: [Row<'static>; 7] = [
     (&["keys", "FILE", "b", "--help"], Helps(KEYS_HELP)),
     (&["get", "-h"], Helps(GET_HELP)),
     (&["list", "--help"], Helps(LIST_HELP)),
+    (&["compact", "--help"], Helps(COMPACT_HELP)),
 ];
 
 const KEYS_HELP: &str = "List the keys of a bucket, those of its buckets among them\n\
@@ -105,13 +107,29 @@ const BUCKETS_HELP: &str = "List the names of the buckets in the root bucket\n\
           --meta <M>  Read the file under the meta in slot 0 or 1, whatever its freelist says\n  \
       -h, --help      Print help\n";
 
+const COMPACT_HELP: &str = "Write a compact copy: all that the file holds, and no free pages\n\
+    \n\
+    Usage: luntsegi compact [OPTIONS] -o <OUT> <FILE>\n\
+    \n\
+    Arguments:\n  \
+      <FILE>  The database file; it is read, never written\n\
+    \n\
+    Options:\n  \
+      -o <OUT>             The file that the copy goes to, which must not exist\n      \
+          --page-size <N>  The copy's page size in bytes, a power of two from 1024 to 33554432 [default: the file's]\n      \
+          --meta <M>       Read the file under the meta in slot 0 or 1, whatever its freelist says\n  \
+      -h, --help           Print help\n\
+    \n\
+    Where a branch page of the copy has one child, bbolt may panic when it deletes from it, as \
+    1.3.6 does. Before a program writes into the copy, run bbolt's own compact over it.\n";
+
 /// Lines without a command, or with one that isn't known.
 static COMMANDS: [Row<'static>; 5] = [
     (
         &[],
         Refused(
             "error: 'luntsegi' requires a subcommand but one was not provided\n  \
-            [subcommands: info, page, pages, check, buckets, keys, get, stats, list]\n\
+            [subcommands: info, page, pages, check, buckets, keys, get, stats, list, compact]\n\
             \n\
             Usage: luntsegi <COMMAND>\n\
             \n\
@@ -160,7 +178,7 @@ const SIMILAR_BUCKET: &str = "error: unrecognized subcommand 'bucket'\n\
     For more information, try '--help'.\n";
 
 /// Lines with too few operands, or with too many.
-static OPERANDS: [Row<'static>; 13] = [
+static OPERANDS: [Row<'static>; 16] = [
     (
         &["info"],
         Refused(
@@ -291,10 +309,37 @@ static OPERANDS: [Row<'static>; 13] = [
             For more information, try '--help'.\n",
         ),
     ),
+    (&["compact", "FILE"], Refused(WITHOUT_OUT)),
+    (
+        &["compact", "-o", "OUT"],
+        Refused(
+            "error: the following required arguments were not provided:\n  <FILE>\n\
+            \n\
+            Usage: luntsegi compact -o <OUT> <FILE>\n\
+            \n\
+            For more information, try '--help'.\n",
+        ),
+    ),
+    (
+        &["compact", "-o", "OUT", "FILE", "other"],
+        Refused(
+            "error: unexpected argument 'other' found\n\
+            \n\
+            Usage: luntsegi compact [OPTIONS] -o <OUT> <FILE>\n\
+            \n\
+            For more information, try '--help'.\n",
+        ),
+    ),
 ];
 
+const WITHOUT_OUT: &str = "error: the following required arguments were not provided:\n  -o <OUT>\n\
+    \n\
+    Usage: luntsegi compact -o <OUT> <FILE>\n\
+    \n\
+    For more information, try '--help'.\n";
+
 /// Options that a line doesn't have, one without its value, and one that comes twice.
-static OPTIONS: [Row<'static>; 8] = [
+static OPTIONS: [Row<'static>; 13] = [
     (
         &["info", "FILE", "--bogus"],
         Refused(
@@ -371,6 +416,60 @@ static OPTIONS: [Row<'static>; 8] = [
         &["buckets", "FILE", "--form=hex", "--form=hex"],
         Refused(FORM_TWICE),
     ),
+    (
+        &["compact", "FILE", "-o"],
+        Refused(
+            "error: a value is required for '-o <OUT>' but none was supplied\n\
+            \n\
+            For more information, try '--help'.\n",
+        ),
+    ),
+    (
+        &["compact", "-o", "x", "FILE", "-oy"],
+        Refused(
+            "error: the argument '-o <OUT>' cannot be used multiple times\n\
+            \n\
+            Usage: luntsegi compact [OPTIONS] -o <OUT> <FILE>\n\
+            \n\
+            For more information, try '--help'.\n",
+        ),
+    ),
+    (
+        &["compact", "-o", "-x", "FILE"],
+        Refused(
+            "error: unexpected argument '-x' found\n\
+            \n  \
+              tip: to pass '-x' as a value, use '-- -x'\n\
+            \n\
+            Usage: luntsegi compact [OPTIONS] -o <OUT> <FILE>\n\
+            \n\
+            For more information, try '--help'.\n",
+        ),
+    ),
+    (
+        &["compact", "--output", "x", "FILE"],
+        Refused(
+            "error: unexpected argument '--output' found\n\
+            \n  \
+              tip: to pass '--output' as a value, use '-- --output'\n\
+            \n\
+            Usage: luntsegi compact [OPTIONS] -o <OUT> <FILE>\n\
+            \n\
+            For more information, try '--help'.\n",
+        ),
+    ),
+    (
+        &["list", "-o", "x", "FILE"],
+        Refused(
+            "error: unexpected argument '-o' found\n\
+            \n  \
+              tip: to pass '-o' as a value, use '-- -o'\n\
+            \n\
+            Usage: luntsegi list [OPTIONS] <FILE>\n\
+            \n\
+            For more information, try '--help'.\n",
+        ),
+    ),
 ];
 
 const FORM_TWICE: &str = "error: the argument '--form <F>' cannot be used multiple times\n\
@@ -409,6 +508,21 @@ static FORMS: [&'static str; 5] = ["", "nosuch", "Hex", "hex ", "printable,hex"]
 /// Words that are no slot of a meta.
 static SLOTS: [&'static str; 6] = ["", "2", "x", "01", "10", "+1"];
 
+/// Words that are no accepted page size.
+static PAGE_SIZES: [&'static str; 11] = [
+    "",
+    "x",
+    "0",
+    "512",
+    "1000",
+    "1025",
+    "67108864",
+    "+4096",
+    "4096 ",
+    "0x1000",
+    "18446744073709555712",
+];
+
 /// Words that are no bytes in hexadecimal.
 static HEXES: [&'static str; 6] = ["6", "6g", "0x61", "616", " 61", "\u{663}"];
 
@@ -435,6 +549,11 @@ fn refused_words(rt: HostRuntime) -> Result<(), Fail> {
     for slot in &SLOTS {
         let words = ["list", "FILE", "--meta", *slot];
         let row = (words.as_slice(), RefusedWord("bad meta"));
+        check_row(&rt, rt.alloc(), "no file", &[], row)?;
+    }
+    for size in &PAGE_SIZES {
+        let words = ["compact", "-o", "OUT", "FILE", "--page-size", *size];
+        let row = (words.as_slice(), RefusedWord("bad page size"));
         check_row(&rt, rt.alloc(), "no file", &[], row)?;
     }
     for hex in &HEXES {
@@ -464,6 +583,45 @@ fn check_file(
     Ok(())
 }
 
+/// The words ask for a copy to this target.
+fn check_target(
+    rt: &impl Abort,
+    alloc: Global,
+    words: &[&str],
+    target: &str,
+) -> Result<(), AllocError> {
+    match read_words(alloc, words_of(alloc, words)?) {
+        Ok(job) => assert!(rt; job.target() == Some(target), "the target of {words:?}"),
+        Err(_) => assert!(rt; false, "{words:?} are refused"),
+    }
+    Ok(())
+}
+
+#[test]
+fn target_words(rt: HostRuntime) -> Result<(), Fail> {
+    let alloc = rt.alloc();
+    for target in ["", "-", "out.db", "FILE", "\u{663}"] {
+        check_target(&rt, alloc, &["compact", "-o", target, "FILE"], target)?;
+        check_target(&rt, alloc, &["compact", "FILE", "-o", target], target)?;
+    }
+    check_target(&rt, alloc, &["compact", "-oout.db", "FILE"], "out.db")?;
+    check_target(&rt, alloc, &["compact", "-o=out.db", "FILE"], "out.db")?;
+    check_target(&rt, alloc, &["compact", "-o=-o", "--", "-o"], "-o")?;
+    for size in ["1024", "4096", "33554432", "0004096"] {
+        let words = ["compact", "--page-size", size, "-o", "out.db", "FILE"];
+        check_target(&rt, alloc, &words, "out.db")?;
+    }
+    let words = [
+        "compact",
+        "FILE",
+        "--meta=0",
+        "-oout.db",
+        "--page-size=2048",
+    ];
+    check_target(&rt, alloc, &words, "out.db")?;
+    Ok(())
+}
+
 #[test]
 fn file_words(rt: HostRuntime) -> Result<(), Fail> {
     let alloc = rt.alloc();
@@ -488,6 +646,7 @@ fn file_words(rt: HostRuntime) -> Result<(), Fail> {
         check_file(&rt, alloc, &["list", "--from", "00/fF", file], file)?;
         check_file(&rt, alloc, &["list", "--meta=1", file], file)?;
         check_file(&rt, alloc, &["stats", file, "--meta", "0"], file)?;
+        check_file(&rt, alloc, &["compact", "-o", "out.db", file], file)?;
     }
     // Behind two hyphens a word is an operand, whatever it begins with.
     for file in ["--form", "--form=hex", "--help", "--"] {

@@ -1,0 +1,26 @@
+//! The page size of a copy.
+ghost use Rattle.std.specs.Prelude.{◌≡◌, IfNone, IfSome};
+ghost use Rattle.bolt_format.specs.Metas.{IsPageSize};
+
+use bolt_format::page_size_ok;
+
+/// A page size that is accepted.
+#[derive(Clone, Copy, Debug)]
+pub struct PageSize {
+    pub bytes: u64,
+    pub ghost accepted: { IsPageSize bytes },
+}
+
+impl PageSize {
+    /// The page size of this many bytes, where pages may have them.
+    pub fn new(bytes: u64) -> Option<PageSize>
+        ensures same { IfSome result (λ size. size.bytes ≡ bytes) }
+        ensures refused { IfNone result (¬ IsPageSize bytes) }
+    {
+        if page_size_ok(bytes) {
+            Some(PageSize { bytes })
+        } else {
+            None
+        }
+    }
+}
