@@ -18,12 +18,21 @@ $(PROGRAM):
 demo: $(PROGRAM)
 	$(PROGRAM) list examples/app.db
 
-# What the program prints of each real database, compared with what bbolt finds in it; and that
-# output which can't be written is told, whatever was found.
+COPY = out/copy.db
+
+# What the program prints of each real database, compared with what bbolt finds in it; that a compact
+# copy of each is sound and lists the same, and is made where nothing stands; and that output which
+# can't be written is told, whatever was found.
 examples: $(PROGRAM)
 	for list in $(SOUND); do $(PROGRAM) buckets $${list%.buckets}.db | cmp - $$list || exit 1; done
 	for list in $(LISTED); do $(PROGRAM) list $${list%.list}.db | cmp - $$list || exit 1; done
 	for list in $(SOUND); do $(PROGRAM) check $${list%.buckets}.db | grep -qx OK || exit 1; done
+	mkdir -p $(dir $(COPY))
+	for list in $(LISTED); do rm -f $(COPY) && $(PROGRAM) compact -o $(COPY) $${list%.list}.db > /dev/null \
+		&& $(PROGRAM) check $(COPY) | grep -qx OK && $(PROGRAM) list $(COPY) | cmp - $$list || exit 1; done
+	$(PROGRAM) compact -o $(COPY) $(LEAKED).db 2>&1 | grep -qx "error: output exists"
+	rm $(COPY) && $(PROGRAM) compact --meta 1 -o $(COPY) $(LEAKED).db > /dev/null
+	$(PROGRAM) list $(COPY) | cmp - $(LEAKED).list
 	$(PROGRAM) list --meta 1 $(LEAKED).db | cmp - $(LEAKED).list
 	! $(PROGRAM) check $(LEAKED).db > /dev/null
 	$(PROGRAM) check $(LEAKED).db | cmp - $(LEAKED).findings
