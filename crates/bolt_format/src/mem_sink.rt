@@ -4,10 +4,12 @@ ghost use Rattle.std.specs.Prelude.{◌≡◌, [], Some};
 use crate::sink::{Sink, SinkFault};
 use std::alloc::Global;
 
-/// A sink that keeps its bytes in memory. A refused growth is a failure.
+/// A sink that keeps its bytes in memory, of which it may be given a limit. A refused growth is a
+/// failure.
 #[derive(Drop)]
 pub struct MemSink {
     items: Vec<u8>,
+    fuse: usize,
     failures: u64,
 }
 
@@ -17,8 +19,18 @@ impl MemSink {
         ensures taken { ⟦<MemSink as Sink>⟧.taken result ≡ Some [] }
         ensures sound { ⟦<MemSink as Sink>⟧.failed result ≡ 0 }
     {
+        MemSink::with_fuse(alloc, usize::MAX)
+    }
+
+    /// A sink that took nothing yet, and fails where it would take more than `fuse` bytes in all,
+    /// after taking what still fits: for tests of what a failure leaves.
+    pub fn with_fuse(alloc: Global, fuse: usize) -> Self
+        ensures taken { ⟦<MemSink as Sink>⟧.taken result ≡ Some [] }
+        ensures sound { ⟦<MemSink as Sink>⟧.failed result ≡ 0 }
+    {
         MemSink {
             items: Vec::new(alloc),
+            fuse,
             failures: 0,
         }
     }
@@ -40,7 +52,9 @@ impl Sink for MemSink {
         if self.failures > 0 {
             return Err(SinkFault);
         }
-        if self.items.extend_from_slice(bytes).is_err() {
+        let room = self.fuse.saturating_sub(self.items.len());
+        let (front, rest) = bytes.split_at(room.min(bytes.len()));
+        if self.items.extend_from_slice(front).is_err() || !rest.is_empty() {
             self.failures = 1;
             return Err(SinkFault);
         }
