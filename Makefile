@@ -19,10 +19,12 @@ demo: $(PROGRAM)
 	$(PROGRAM) list examples/app.db
 
 COPY = out/copy.db
+# The documents that show commands with what they print.
+SHOWING = README.md docs/GUIDE.md docs/COMMANDS.md docs/luntsegi.1
 
 # What the program prints of each real database, compared with what bbolt finds in it; that a compact
 # copy of each is sound and lists the same, and is made where nothing stands; and that output which
-# can't be written is told, whatever was found.
+# can't be written is told, whatever was found; and that documents show what is printed.
 examples: $(PROGRAM)
 	for list in $(SOUND); do $(PROGRAM) buckets $${list%.buckets}.db | cmp - $$list || exit 1; done
 	for list in $(LISTED); do $(PROGRAM) list $${list%.list}.db | cmp - $$list || exit 1; done
@@ -38,7 +40,7 @@ examples: $(PROGRAM)
 	$(PROGRAM) check $(LEAKED).db | cmp - $(LEAKED).findings
 	$(PROGRAM) check $(LEAKED).db 2>&1 > /dev/full | grep -qx "error: write failed"
 	$(PROGRAM) check $(LEAKED).db 2> /dev/null > /dev/full; test $$? -eq 1
-	python3 -B tools/usage/run_examples.py $(PROGRAM) README.md docs/GUIDE.md docs/luntsegi.1
+	python3 -B tools/usage/run_examples.py $(PROGRAM) $(SHOWING)
 
 # That the manual page and what bash and zsh complete say what help does.
 manual: $(PROGRAM)

@@ -4,10 +4,10 @@
     run_examples.py PROGRAM DOCUMENT..
 
 In a document an example is a block that is indented by four spaces or, on a manual page, literal.
-Of an example that begins with `$ `, each such line is a command, and the lines below it are all
-that it prints, on both streams. The commands are run in order in the current folder, where
-`luntsegi` is PROGRAM; files that they write go to out/examples, which is emptied first. Prints
-what differs; the status is 1 then, and where a document has no command.
+Each line of it that begins with `$ ` is a command, and the lines below it are all that it prints,
+on both streams. The commands are run in order in the current folder, where `luntsegi` is PROGRAM;
+files that they write go to out/examples, which is emptied first. Prints what differs; the status is
+1 then, and where a document has no command.
 """
 
 import difflib
@@ -29,8 +29,7 @@ def blocks(text):
 
 def commands(text):
     """The commands of a document, each with what it prints."""
-    shown = [block for block in blocks(text) if block.startswith("$ ")]
-    parts = [part for block in shown for part in re.split(r"(?m)^\$ ", block)[1:]]
+    parts = [part for block in blocks(text) for part in re.split(r"(?m)^\$ ", block)[1:]]
     return [part.partition("\n")[::2] for part in parts]
 
 
@@ -51,7 +50,8 @@ def differs(name, command, wanted, found):
     if found == wanted:
         return False
     print(f"{name}: $ {command}")
-    print("\n".join(difflib.unified_diff(wanted.splitlines(), found.splitlines(), "shown", "printed", lineterm="")))
+    lines = difflib.unified_diff(wanted.splitlines(), found.splitlines(), "shown", "printed", lineterm="")
+    print("\n".join(lines))
     return True
 
 
