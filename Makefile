@@ -42,8 +42,10 @@ examples: $(PROGRAM)
 	$(PROGRAM) check $(LEAKED).db 2> /dev/null > /dev/full; test $$? -eq 1
 	python3 -B tools/usage/run_examples.py $(PROGRAM) $(SHOWING)
 
-# That the manual page and what bash and zsh complete say what help does.
+# That the manual page and what bash and zsh complete say what help does; and, where mandoc is
+# installed, that it finds nothing in the page.
 manual: $(PROGRAM)
+	if command -v mandoc > /dev/null; then mandoc -Tlint docs/luntsegi.1; fi
 	python3 -B tools/usage/compare_manual.py $(PROGRAM) docs/luntsegi.1
 	python3 -B tools/usage/compare_completions.py $(PROGRAM)
 
