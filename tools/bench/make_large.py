@@ -47,16 +47,17 @@ class Pages:
         self.free = []
 
     def put_at(self, number, flags, count, body):
-        page = HEADER.pack(number, flags, count, 0) + body
-        assert len(page) <= PAGE_SIZE
+        """Puts a page, with as many behind it as it needs, and answers how many these are."""
+        overflow = (HEADER.size + len(body) - 1) // PAGE_SIZE
+        span = HEADER.pack(number, flags, count, overflow) + body
         self.out.seek(number * PAGE_SIZE)
-        self.out.write(page.ljust(PAGE_SIZE, b"\0"))
+        self.out.write(span.ljust((overflow + 1) * PAGE_SIZE, b"\0"))
+        return overflow
 
     def put(self, flags, count, body):
         """The number of the page that was put."""
         number = self.next
-        self.next += 1
-        self.put_at(number, flags, count, body)
+        self.next += 1 + self.put_at(number, flags, count, body)
         return number
 
     def leave_free(self, count):
@@ -148,10 +149,8 @@ def buckets(pages, count):
         yield BUCKET_FLAGS, b"bucket-%d" % number, struct.pack("<QQ", root, 0)
 
 
-def put_meta(pages, number, root):
-    record = META_RECORD.pack(
-        MAGIC, VERSION, PAGE_SIZE, 0, root, 0, FREELIST_PAGE, pages.next, number
-    )
+def put_meta(pages, number, root, freelist=FREELIST_PAGE):
+    record = META_RECORD.pack(MAGIC, VERSION, PAGE_SIZE, 0, root, 0, freelist, pages.next, number)
     pages.put_at(number, META, 0, record + struct.pack("<Q", checksum(record)))
 
 

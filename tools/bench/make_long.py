@@ -10,7 +10,7 @@ of about 256 MiB.
 
 import sys
 
-from make_large import FREELIST, FREELIST_PAGE, HEADER, LEAF, PAGE_SIZE, VALUE_FLAGS, Pages
+from make_large import FREELIST, FREELIST_PAGE, LEAF, VALUE_FLAGS, Pages
 from make_large import leaf_body, put_branches, put_meta
 
 VALUE = bytes(range(250)) * 400
@@ -18,14 +18,7 @@ VALUE = bytes(range(250)) * 400
 
 def put_long_leaf(pages, key):
     """What leads to a leaf with one long value: its key and its number."""
-    body = leaf_body([(VALUE_FLAGS, key, VALUE)])
-    overflow = (HEADER.size + len(body) - 1) // PAGE_SIZE
-    number = pages.next
-    pages.next += overflow + 1
-    pages.out.seek(number * PAGE_SIZE)
-    span = HEADER.pack(number, LEAF, 1, overflow) + body
-    pages.out.write(span.ljust((overflow + 1) * PAGE_SIZE, b"\0"))
-    return key, number
+    return key, pages.put(LEAF, 1, leaf_body([(VALUE_FLAGS, key, VALUE)]))
 
 
 def main():

@@ -140,7 +140,7 @@ found_by_name test (r ∷ rs) a differ found =
 
 -- ---- which rule a word finds
 
-either_false : (b : Bool) → (b || false) ≡ b
+pub either_false : (b : Bool) → (b || false) ≡ b
 either_false true = refl
 either_false false = refl
 

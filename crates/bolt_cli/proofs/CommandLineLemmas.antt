@@ -16,7 +16,7 @@ use Rattle.clap.specs.declared.error.ErrorKind.{ErrorKind}
 use Rattle.clap.specs.declared.error.ErrorKind.TheVariants as kind
 use Rattle.bolt_cli.specs.declared.job.Job.{Job}
 use Rattle.bolt_cli.specs.declared.words.Refusal.{Refusal}
-use Rattle.bolt_cli.specs.declared.words.Refusal.TheVariants.{Memory, Help, Usage, Word}
+use Rattle.bolt_cli.specs.declared.words.Refusal.TheVariants.{Memory, Help, Version, Usage, Word}
 use Rattle.bolt_cli.specs.CommandLine.{Asks, Gives, HasKindOf, IsCommand, IsRefusedBy, asked_by, asked_by_subcommand, command_with, program, values_in}
 use Rattle.bolt_cli.specs.PlainWords.{Asked, asked, asked_of, first_of}
 
@@ -103,6 +103,8 @@ pub fault_refused : (k : ErrorKind) (kinds : Kinds) (wanted : Result Asked Text)
 fault_refused k kinds wanted Memory by found = tt
 fault_refused k kinds wanted (Help text) by (inl full) = let bad : kind.DisplayHelp ≡ kind.OutOfMemory = sym by ∙ full in absurd (search rules)
 fault_refused k kinds wanted (Help text) by (inr among) = subst (λ (x : ErrorKind). IsAmong x kinds) by among
+fault_refused k kinds wanted (Version text) by (inl full) = let bad : kind.DisplayVersion ≡ kind.OutOfMemory = sym by ∙ full in absurd (search rules)
+fault_refused k kinds wanted (Version text) by (inr among) = subst (λ (x : ErrorKind). IsAmong x kinds) by among
 fault_refused k kinds wanted (Usage text) by (inl full) = absurd (by.1 full)
 fault_refused k kinds wanted (Usage text) by (inr among) = (k, among, by.0)
 fault_refused k kinds wanted (Word why) by found = absurd by

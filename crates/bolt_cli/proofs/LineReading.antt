@@ -223,12 +223,12 @@ option_agrees s good given ahead rows pending d word words rest later o (Some v)
     ]
 
 -- the fault of an option that the line doesn't have, or of that of help
-pub unknown_long : (c : List Rule) (helps : Bool) (v : Option Text) (h : Held) → IsFault (long_fault c false (option_or_help None helps) v h)
+unknown_long : (c : List Rule) (helps : Bool) (v : Option Text) (h : Held) → IsFault (long_fault c false (option_or_help None helps) v h)
 unknown_long c false v h = tt
 unknown_long c true None h = fault_second (settle_fault c false h) _ tt
 unknown_long c true (Some v) h = tt
 
-pub unknown_short : (c : List Rule) (helps : Bool) (rest : Text) (h : Held) (later : Held → Kinds) → IsFault (short_fault c false (option_or_help None helps) rest h later)
+unknown_short : (c : List Rule) (helps : Bool) (rest : Text) (h : Held) (later : Held → Kinds) → IsFault (short_fault c false (option_or_help None helps) rest h later)
 unknown_short c false rest h later = tt
 unknown_short c true rest h later = fault_first _ _ (fault_second (settle_fault c false h) _ tt)
 

@@ -10,8 +10,8 @@ use Rattle.std.proofs.lemmas.Slice.Eq.{bytes_eq-Decides}
 use Rattle.std.proofs.lemmas.Str.{IsUtf8-string_bytes}
 use Rattle.clap.specs.Lexer.{long_of}
 use Rattle.clap.specs.Words.{App, IsAmong, Kinds, Row, Rule, Shape, Text, fault_of}
-use Rattle.clap.specs.Walk.{Held, Names, Step, Walk, after_step, answers_to, finished, idle, long_or_other, nothing_held, settled, subcommand_met, subcommand_or_other, trailing, walked}
-use Rattle.clap.specs.Simple.{built, entered, label_of, names_of, rows_at}
+use Rattle.clap.specs.Walk.{Held, Names, Step, Walk, after_step, answers_to, arg_by_long, arg_by_short, finished, idle, long_or_other, nothing_held, settled, subcommand_met, subcommand_or_other, trailing, walked}
+use Rattle.clap.specs.Simple.{built, entered, filled, label_of, names_of, rows_at, version_rule}
 use Rattle.clap.specs.Kinds.{or_else}
 use Rattle.clap.specs.Faults.{bundle_step_fault, check_fault, defaults_fault, entered_fault, flag_word_fault, flags_fault, level_fault, long_fault, other_fault, settle_fault, short_fault, step_fault, turn_fault, walk_fault}
 use Rattle.clap.specs.declared.error.ErrorKind.{ErrorKind}
@@ -19,14 +19,14 @@ use Rattle.clap.specs.declared.error.ErrorKind.TheVariants as kind
 use Rattle.clap.proofs.OnLiterals.{clap_on_literals}
 use Rattle.bolt_cli.specs.declared.job.Job.{Job}
 use Rattle.bolt_cli.specs.declared.words.Refusal.{Refusal}
-use Rattle.bolt_cli.specs.declared.words.Refusal.TheVariants.{Memory, Help, Usage, Word}
+use Rattle.bolt_cli.specs.declared.words.Refusal.TheVariants.{Memory, Help, Version, Usage, Word}
 use Rattle.bolt_cli.specs.CommandLine.{Asks, IsRefusalOf, IsRefusedBy, asked_by, asked_by_subcommand, program, values_in}
 use Rattle.bolt_cli.specs.LineWords.{Syntax, is_complete, is_dashes, is_option, known_after, long_name, long_value, values_of}
 use Rattle.bolt_cli.specs.PlainWords.{Asked, Reading, asked, asked_of, asks, line_of, reading_by, reading_of, refused, syntaxes, unread}
-use Rattle.bolt_cli.proofs.BuiltRules.{all_found, is_good, line_shape, long_found, short_found}
+use Rattle.bolt_cli.proofs.BuiltRules.{all_found, either_false, help_built, is_good, line_shape}
 use Rattle.bolt_cli.proofs.GivenRows.{Given, values-given}
 use Rattle.bolt_cli.proofs.WordSteps.{IsFault, ReadsAs, fault_first, fault_second, faults_from, first_char, option_cases, plain_value, rows_from, short_flags, walk_at}
-use Rattle.bolt_cli.proofs.LineReading.{found_passes, unknown_long, unknown_short}
+use Rattle.bolt_cli.proofs.LineReading.{found_passes}
 use Rattle.bolt_cli.proofs.WholeLines.{line_agrees}
 
 -- ---- commands
@@ -177,19 +177,52 @@ unnamed_turn word unnamed other =
     ∙ ap (λ b. or_else (if b then [] else flag_word_fault top.top.rules false (long_of word) word h)
     (step_fault top.top 1 (if b then (h, trailing 1) else met).0 (if b then (h, trailing 1) else met).1)) other
 
+abbrev version_built : Rule
+version_built = filled version_rule
+
+-- the program's own options
+abbrev own_option : Bool → Bool → Option Rule
+own_option helps tells = cond helps (Some help_built) (cond tells (Some version_built) None)
+
+abbrev is_help : Text → Bool
+is_help name = bytes_eq (codes "help") name
+
+abbrev is_version : Text → Bool
+is_version name = bytes_eq (codes "version") name
+
+own_long : (name : Text) → arg_by_long top.top.rules name ≡ own_option (is_help name) (is_version name)
+own_long name = ap₂ own_option (either_false (is_help name)) (either_false (is_version name))
+
+own_short : (letter : ℕ) → arg_by_short top.top.rules letter ≡ own_option (104 == letter) (86 == letter)
+own_short letter = ap₂ own_option (either_false (104 == letter)) (either_false (86 == letter))
+
+-- neither they nor other options give a line
+long_strays : (helps tells : Bool) (v : Option Text) → IsFault (long_fault top.top.rules false (own_option helps tells) v nothing_held)
+long_strays false false v = tt
+long_strays true tells None = tt
+long_strays true tells (Some v) = tt
+long_strays false true None = tt
+long_strays false true (Some v) = tt
+
+short_strays : (helps tells : Bool) (rest : Text) (later : Held → Kinds) → IsFault (short_fault top.top.rules false (own_option helps tells) rest nothing_held later)
+short_strays false false rest later = tt
+short_strays true tells rest later = tt
+short_strays false true rest later = tt
+
 option_unknown : (word : Text) → IsUtf8 word → is_option word ≡ true → is_dashes word ≡ false → IsFault (flag_word_fault top.top.rules false (long_of word) word nothing_held)
 unfolding flags_fault
 option_unknown word text hyphen other =
     option_cases (λ w. IsFault (flag_word_fault top.top.rules false (long_of w) w nothing_held))
-    (λ z zs. subst (λ a. IsFault (long_fault top.top.rules false a (long_value (z ∷ zs)) nothing_held)) (sym (long_found (long_name (z ∷ zs)) 1 [] []))
-    (unknown_long top.top.rules (bytes_eq (codes "help") (long_name (z ∷ zs))) (long_value (z ∷ zs)) nothing_held))
+    (λ z zs. let name = long_name (z ∷ zs) in
+    subst (λ a. IsFault (long_fault top.top.rules false a (long_value (z ∷ zs)) nothing_held)) (sym (own_long name))
+    (long_strays (is_help name) (is_version name) (long_value (z ∷ zs))))
     (λ y ys apart letters.
     let (char, chars_after, are, same) = first_char y ys letters in
     let after_letter = drop (length (encode_utf8 char)) (y ∷ ys) in
     subst IsFault (sym (short_flags top.top.rules y ys [] None apart))
     (subst (λ first. IsFault (bundle_step_fault top.top.rules false first (y ∷ ys) 0 nothing_held (flags_fault top.top.rules false (length ys)))) (sym (ap (λ (cs : List ℕ). slice_get cs 0) are))
-    (subst (λ a. IsFault (short_fault top.top.rules false a after_letter nothing_held (flags_fault top.top.rules false (length ys) after_letter 0))) (sym (short_found char 1 [] []))
-    (unknown_short top.top.rules (104 == char) after_letter nothing_held _))))
+    (subst (λ a. IsFault (short_fault top.top.rules false a after_letter nothing_held (flags_fault top.top.rules false (length ys) after_letter 0))) (sym (own_short char))
+    (short_strays (104 == char) (86 == char) after_letter _))))
     word text hyphen other
 
 no_command : (word : Text) (words : List Text) → IsUtf8 word → find (is_named word) syntaxes ≡ None → FaultsAt word words
@@ -272,6 +305,9 @@ answer_fits line words (Err Memory) reads ok err = tt
 answer_fits (asks job) words (Err (Help text)) reads ok err = absurd (none_among kind.DisplayHelp (fault_of program words) reads.0 err)
 answer_fits (unread why) words (Err (Help text)) reads ok err = absurd (none_among kind.DisplayHelp (fault_of program words) reads.0 err)
 answer_fits refused words (Err (Help text)) reads ok err = (refl, err)
+answer_fits (asks job) words (Err (Version text)) reads ok err = absurd (none_among kind.DisplayVersion (fault_of program words) reads.0 err)
+answer_fits (unread why) words (Err (Version text)) reads ok err = absurd (none_among kind.DisplayVersion (fault_of program words) reads.0 err)
+answer_fits refused words (Err (Version text)) reads ok err = (refl, err)
 answer_fits (asks job) words (Err (Usage text)) reads ok err = absurd (none_among err.0 (fault_of program words) reads.0 err.1)
 answer_fits (unread why) words (Err (Usage text)) reads ok err = absurd (none_among err.0 (fault_of program words) reads.0 err.1)
 answer_fits refused words (Err (Usage text)) reads ok err = (refl, err)

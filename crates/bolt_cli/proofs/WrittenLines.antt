@@ -14,7 +14,7 @@ use Rattle.bolt_report.specs.declared.form.Form.TheVariants.{Printable, Hex, Byt
 use Rattle.bolt_cli.specs.CommandLine.{IsRefusalOf}
 use Rattle.bolt_cli.specs.declared.job.Job.{Job}
 use Rattle.bolt_cli.specs.declared.words.Refusal.{Refusal}
-use Rattle.bolt_cli.specs.declared.words.Refusal.TheVariants.{Memory, Help, Usage, Word}
+use Rattle.bolt_cli.specs.declared.words.Refusal.TheVariants.{Memory, Help, Version, Usage, Word}
 use Rattle.bolt_cli.specs.LineWords.{Known, Syntax, Text, after, give, refuse, values_of}
 use Rattle.bolt_cli.specs.PathWords.{each_part, part_of, result_and_then}
 use Rattle.bolt_cli.specs.declared.parts.Parts.TheVariants as parts
@@ -192,6 +192,7 @@ answered_as : (words : List Text) (wanted : Asked) (line : Reading) (answer : Re
 answered_as words wanted line (Ok job) is answers = ap (asked_in wanted) (sym answers ∙ is)
 answered_as words wanted line (Err Memory) is answers = refl
 answered_as words wanted line (Err (Help text)) is answers = let bad : asks wanted ≡ refused = sym is ∙ answers.0 in absurd (search rules)
+answered_as words wanted line (Err (Version text)) is answers = let bad : asks wanted ≡ refused = sym is ∙ answers.0 in absurd (search rules)
 answered_as words wanted line (Err (Usage text)) is answers = let bad : asks wanted ≡ refused = sym is ∙ answers.0 in absurd (search rules)
 answered_as words wanted line (Err (Word why)) is answers = let bad : asks wanted ≡ unread why.now = sym is ∙ answers in absurd (search rules)
 

@@ -9,7 +9,7 @@ use Rattle.clap.specs.declared.error.ErrorKind.{ErrorKind}
 use Rattle.clap.specs.declared.error.ErrorKind.TheVariants as kind
 use Rattle.bolt_cli.specs.declared.job.Job.{Job}
 use Rattle.bolt_cli.specs.declared.words.Refusal.{Refusal}
-use Rattle.bolt_cli.specs.declared.words.Refusal.TheVariants.{Memory, Help, Usage, Word}
+use Rattle.bolt_cli.specs.declared.words.Refusal.TheVariants.{Memory, Help, Version, Usage, Word}
 use Rattle.bolt_cli.specs.LineWords.{Choice, Flag, Operand, Syntax, Text, long, short}
 use Rattle.bolt_cli.specs.PlainWords.{Asked, Reading, Values, asked, asked_of, refused, syntaxes, unread}
 
@@ -49,10 +49,10 @@ command_with name rules = let bare = new_app name in record bare { top = record 
 abbrev pub command_of : Syntax → App
 command_of s = command_with s.name (rules_for s)
 
--- the program's own level: it takes no argument, and wants a subcommand
+-- the program's own level: it takes no argument, wants a subcommand and tells its version
 abbrev pub bare_program : App
 bare_program = let bare = new_app (codes "luntsegi") in record bare {
-  top = record bare.top { subcommand_required = true; disable_help_subcommand = true };
+  top = record bare.top { has_version = true; subcommand_required = true; disable_help_subcommand = true };
 }
 
 abbrev pub program_of : List Syntax → App
@@ -91,24 +91,35 @@ Gives view wanted answer = MatchResult answer (λ value. wanted ≡ Ok (view val
 abbrev pub Asks : List Text → Job → Type 0
 Asks words job = (asked_by words ≡ Ok (asked_of job)) × (fault_of program words ≡ [])
 
+-- a fault that asks neither for help nor for the version
+abbrev pub IsUsage : ErrorKind → Type 0
+IsUsage fault = (fault ≢ kind.DisplayHelp) × (fault ≢ kind.DisplayVersion)
+
+-- one of the faults is such
+abbrev pub IsAmongUsage : Kinds → Type 0
+IsAmongUsage kinds = (fault : ErrorKind) × IsAmong fault kinds × IsUsage fault
+
 -- the refusal is one for words with these faults, which ask for this
 abbrev pub IsRefusedBy : Kinds → Result Asked Text → Refusal → Type 0
 IsRefusedBy kinds wanted Memory = Unit {0}
 IsRefusedBy kinds wanted (Help text) = IsAmong kind.DisplayHelp kinds
-IsRefusedBy kinds wanted (Usage text) = (fault : ErrorKind) × IsAmong fault kinds × (fault ≢ kind.DisplayHelp)
+IsRefusedBy kinds wanted (Version text) = IsAmong kind.DisplayVersion kinds
+IsRefusedBy kinds wanted (Usage text) = IsAmongUsage kinds
 IsRefusedBy kinds wanted (Word why) = (kinds ≡ []) × (wanted ≡ Err why.now)
 
 -- the refusal is the one for an error of `clap`'s of this kind
 abbrev pub HasKindOf : ErrorKind → Refusal → Type 0
 HasKindOf fault Memory = fault ≡ kind.OutOfMemory
 HasKindOf fault (Help text) = fault ≡ kind.DisplayHelp
-HasKindOf fault (Usage text) = (fault ≢ kind.DisplayHelp) × (fault ≢ kind.OutOfMemory)
+HasKindOf fault (Version text) = fault ≡ kind.DisplayVersion
+HasKindOf fault (Usage text) = IsUsage fault × (fault ≢ kind.OutOfMemory)
 HasKindOf fault (Word why) = ⊥
 
--- Words that say this are refused so; memory may run out at any words. Which lines are told by help and which by usage is what `clap` says
--- of the command line that it is told of.
+-- Words that say this are refused so; memory may run out at any words. Which lines are told by help, which by the version and which by usage
+-- is what `clap` says of the command line that it is told of.
 abbrev pub IsRefusalOf : List Text → Reading → Refusal → Type 0
 IsRefusalOf words line Memory = Unit {0}
 IsRefusalOf words line (Help text) = (line ≡ refused) × IsAmong kind.DisplayHelp (fault_of program words)
-IsRefusalOf words line (Usage text) = (line ≡ refused) × ((fault : ErrorKind) × IsAmong fault (fault_of program words) × (fault ≢ kind.DisplayHelp))
+IsRefusalOf words line (Version text) = (line ≡ refused) × IsAmong kind.DisplayVersion (fault_of program words)
+IsRefusalOf words line (Usage text) = (line ≡ refused) × IsAmongUsage (fault_of program words)
 IsRefusalOf words line (Word why) = line ≡ unread why.now

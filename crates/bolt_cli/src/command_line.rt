@@ -4,7 +4,7 @@ ghost use Rattle.clap.specs.Words.{new_app, rule_of};
 ghost use Rattle.bolt_cli.specs.CommandLine.{IsCommand, bare_program, command_of, operand_rule, option_rule, program, program_of};
 ghost use Rattle.bolt_cli.specs.Syntaxes.{choice_view, operand_view, syntax_view};
 
-use crate::syntax::{Choice, Flag, Operand, SYNTAXES, Syntax};
+use crate::syntax::{Choice, Flag, Operand, SYNTAXES, Syntax, VERSION};
 use clap::{Arg, ArgAction, Command};
 use std::alloc::{AllocError, Global};
 
@@ -65,7 +65,8 @@ pub(crate) fn program<'a>(alloc: Global) -> Result<Command<'a>, AllocError>
     ensures { IfOk result (IsCommand program) }
 {
     let program = Command::new(alloc, "luntsegi")
-        .about("Inspect bbolt database files, the files in which etcd and others keep their data")
+        .about("Inspect and compact bbolt database files, in which etcd and others keep their data")
+        .version(VERSION)
         .subcommand_required(true)
         .disable_help_subcommand(true);
     with_commands(alloc, program, &SYNTAXES)

@@ -117,6 +117,9 @@ const COPY_NOTE: &str = "Where a branch page of the copy has one child, bbolt ma
     deletes from it, as 1.3.6 does. Before a program writes into the copy, run bbolt's own compact \
     over it.";
 
+/// The number that `--version` tells.
+pub(crate) const VERSION: &str = "0.1.0";
+
 /// The line of each command, in the order in which help tells them.
 pub(crate) static SYNTAXES: [Syntax; 10] = [
     Syntax {

@@ -23,6 +23,8 @@ pub enum Refusal {
     Memory,
     /// Help was asked for: its text.
     Help(String),
+    /// The version was asked for: its line.
+    Version(String),
     /// The words are no line of a command: the text that says why.
     Usage(String),
     /// The words are a line of a command, but one of them can't be read: what is wrong with it.
@@ -60,8 +62,8 @@ impl<T: Drop> From<AllocFailed<T>> for Refusal {
 /// # Errors
 ///
 /// Words that are no such line are refused, with `Refusal::Help` where help is asked for before a
-/// word is out of place, and else with `Refusal::Usage`. A line with a word that can't be read is
-/// refused as `Refusal::Word`: `bad page id`, `bad form`, `bad parts`, `bad hex`, `bad meta` or
+/// word is out of place, with `Refusal::Version` where `--version` or `-V` stands in the place of a
+/// command, and else with `Refusal::Usage`. A line with a word that can't be read is refused as `Refusal::Word`: `bad page id`, `bad form`, `bad parts`, `bad hex`, `bad meta` or
 /// `bad page size`.
 /// `Refusal::Memory` comes where memory runs out.
 pub fn read_words(alloc: Global, words: Vec<String>) -> Result<Job, Refusal>
@@ -93,6 +95,7 @@ fn refusal_of(alloc: Global, error: &Error) -> Result<Refusal, AllocError>
     match error.kind() {
         ErrorKind::OutOfMemory => Ok(Refusal::Memory),
         ErrorKind::DisplayHelp => Ok(Refusal::Help(format!(in alloc; "{error}")?)),
+        ErrorKind::DisplayVersion => Ok(Refusal::Version(format!(in alloc; "{error}")?)),
         _ => Ok(Refusal::Usage(format!(in alloc; "{error}")?)),
     }
 }

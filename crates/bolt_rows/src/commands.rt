@@ -21,8 +21,10 @@ pub enum Outcome<'a> {
     Refused(&'a str),
     /// Status 2, and `error: ` and this line on standard error.
     RefusedWord(&'a str),
-    /// Status 0, and this text, which was asked for, on standard output.
+    /// Status 0, and this text of help, which was asked for, on standard output.
     Helps(&'a str),
+    /// Status 0, and this line of the version, which was asked for, on standard output.
+    TellsVersion(&'a str),
 }
 
 /// The words after the program's name, in which FILE stands for the file, and what they come to.
@@ -31,7 +33,7 @@ pub type Row<'a> = (&'a [&'a str], Outcome<'a>);
 /// The name of a file, the file, and what a command on it comes to.
 pub type FileRow<'a> = (&'a str, Sample<'a>, Outcome<'a>);
 
-use Outcome::{Fails, Finds, Helps, Prints, PrintsBytes, Refused, RefusedWord};
+use Outcome::{Fails, Finds, Helps, Prints, PrintsBytes, Refused, RefusedWord, TellsVersion};
 
 pub const INFO: &[&str] = &["info", "FILE"];
 
@@ -86,7 +88,9 @@ pub fn words_of(alloc: Global, words: &[&str]) -> Result<Vec<String>, AllocError
 /// The answer to words that ask for no job.
 fn check_refusal(rt: &impl Abort, refusal: &Refusal, words: &[&str], want: Outcome<'_>) {
     match (refusal, want) {
-        (Refusal::Help(text), Helps(wanted)) | (Refusal::Usage(text), Refused(wanted)) => {
+        (Refusal::Help(text), Helps(wanted))
+        | (Refusal::Version(text), TellsVersion(wanted))
+        | (Refusal::Usage(text), Refused(wanted)) => {
             assert_eq!(rt; text.as_str(), wanted, "the text at {words:?}");
         }
         (Refusal::Word(line), RefusedWord(wanted)) => {
@@ -136,7 +140,7 @@ pub fn check_job(
             let line = error_line(alloc, text)?;
             check_written(rt, name, words, got, (b"", line.as_bytes(), 1));
         }
-        Refused(_) | RefusedWord(_) | Helps(_) => {
+        Refused(_) | RefusedWord(_) | Helps(_) | TellsVersion(_) => {
             assert!(rt; false, "{words:?} on {name} are accepted");
         }
     }

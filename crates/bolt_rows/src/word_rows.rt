@@ -1,17 +1,17 @@
 //! Rows of command lines that are refused, of those that ask for help, and of long words.
 
 use crate::commands::{Outcome, Row, check_row, check_rows, words_of};
-use Outcome::{Helps, Refused, RefusedWord};
+use Outcome::{Helps, Refused, RefusedWord, TellsVersion};
 use bolt_cli::read_words;
 use std::alloc::{AllocError, Global};
 use std::process::Abort;
 use std::test::Fail;
 
-static HELP: [Row<'static>; 8] = [
+static HELP: [Row<'static>; 11] = [
     (
         &["--help"],
         Helps(
-            "Inspect bbolt database files, the files in which etcd and others keep their data\n\
+            "Inspect and compact bbolt database files, in which etcd and others keep their data\n\
             \n\
             Usage: luntsegi <COMMAND>\n\
             \n\
@@ -28,7 +28,8 @@ static HELP: [Row<'static>; 8] = [
               compact  Write a compact copy: all that the file holds, and no free pages\n\
             \n\
             Options:\n  \
-              -h, --help  Print help\n",
+              -h, --help     Print help\n  \
+              -V, --version  Print version\n",
         ),
     ),
     (
@@ -46,6 +47,9 @@ static HELP: [Row<'static>; 8] = [
               -h, --help  Print help\n",
         ),
     ),
+    (&["--version"], TellsVersion("luntsegi 0.1.0\n")),
+    (&["-V"], TellsVersion("luntsegi 0.1.0\n")),
+    (&["--version", "info", "FILE"], TellsVersion("luntsegi 0.1.0\n")),
     (&["buckets", "--help"], Helps(BUCKETS_HELP)),
     (&["buckets", "FILE", "-h"], Helps(BUCKETS_HELP)),
     (&["keys", "FILE", "b", "--help"], Helps(KEYS_HELP)),
@@ -339,7 +343,19 @@ const WITHOUT_OUT: &str = "error: the following required arguments were not prov
     For more information, try '--help'.\n";
 
 /// Options that a line doesn't have, one without its value, and one that comes twice.
-static OPTIONS: [Row<'static>; 13] = [
+static OPTIONS: [Row<'static>; 14] = [
+    (
+        &["info", "FILE", "--version"],
+        Refused(
+            "error: unexpected argument '--version' found\n\
+            \n  \
+              tip: to pass '--version' as a value, use '-- --version'\n\
+            \n\
+            Usage: luntsegi info <FILE>\n\
+            \n\
+            For more information, try '--help'.\n",
+        ),
+    ),
     (
         &["info", "FILE", "--bogus"],
         Refused(

@@ -1,7 +1,9 @@
 -- One turn of a climb, in what is known of open buckets: only that it is so.
-use Rattle.std.proofs.Common.{◌≡◌, ◌∙◌, ◌+◌, ◌-◌, ℕ, suc, List, [], ◌∷◌, ◌++◌, take, Option, Some, None, MatchOption, refl, sym, ap, subst, arith, append-nil, Bor}
+use Rattle.std.proofs.Common.{◌≡◌, ◌∙◌, ◌+◌, ◌-◌, ◌<◌, ℕ, suc, List, [], ◌∷◌, ◌++◌, take, Option, Some, None, MatchOption, refl, sym, ap, subst, arith, append-nil, Bor, false, get_or, length, rules, slice_set, true}
 use Rattle.std.specs.Option.{option_to_list}
 use Rattle.std.proofs.Math.Logic.{∥∥₁_elim, ∥∥₁_map}
+use Rattle.std.proofs.Math.Seq.{take-length, take-suc, take-suc-set}
+use Rattle.std.proofs.lemmas.List.{length-set, take-set}
 use Rattle.std.proofs.Props.{props}
 use Rattle.bolt_format.specs.Elements.{LeafElement}
 use Rattle.bolt_check.specs.declared.checked_file.Checked.{Checked}
@@ -18,7 +20,26 @@ use Rattle.bolt_tree.specs.declared.cursor.Cursor.{Cursor}
 use Rattle.bolt_tree.proofs.Filters.{filter_none}
 use Rattle.bolt_tree.proofs.OpenSteps.{Top, path_popped, next_ended, next_entry, next_given, next_open, open_pop}
 
--- the last cursor and the last key were taken off
+-- the last element of a list with this length
+pub last_split : {A : Type 0} (xs : List A) (n : ℕ) (x : A) → n ≡ length xs → 0 < n → x ≡ get_or xs (n - 1) x → xs ≡ take (n - 1) xs ++ x ∷ []
+last_split {A} xs n x len some is =
+    let n_is : n ≡ suc (n - 1) = omega (arith, some) in
+    let whole : take (suc (n - 1)) xs ≡ xs = ap (λ (k : ℕ). take k xs) (sym n_is ∙ len) ∙ take-length xs in
+    sym whole ∙ take-suc xs (n - 1) x (omega (arith, len, some)) ∙ ap (λ (y : A). take (n - 1) xs ++ y ∷ []) (sym is)
+
+-- another one is put in its place
+pub last_set : {A : Type 0} (xs : List A) (n : ℕ) (y : A) → n ≡ length xs → 0 < n → slice_set xs (n - 1) y ≡ take (n - 1) xs ++ y ∷ []
+last_set {A} xs n y len some =
+    let n_is : n ≡ suc (n - 1) = omega (arith, some) in
+    let long : length (slice_set xs (n - 1) y) ≡ n = length-set xs (n - 1) y ∙ sym len in
+    sym (ap (λ (k : ℕ). take k (slice_set xs (n - 1) y)) (sym n_is ∙ sym long) ∙ take-length (slice_set xs (n - 1) y))
+    ∙ take-suc-set xs (n - 1) y (omega (arith, len, some))
+
+-- the rest is what it was
+pub last_gone : {A : Type 0} (xs rest : List A) (n : ℕ) (y : A) → rest ≡ take (n - 1) (slice_set xs (n - 1) y) → rest ≡ take (n - 1) xs
+last_gone xs rest n y gone = gone ∙ take-set xs (n - 1) y
+
+-- the last cursor is looked at by itself, and the last key was taken off
 pub record Popped (checked : Checked) (cursors : List Cursor) (cursor : Cursor) (old new : Path) : Type 0 where
   pub all : HasEntries (entries_of checked) (root_of checked)
   pub top : Top checked [] cursors cursor old
@@ -47,8 +68,10 @@ module _ (checked : Checked) (cursors : List Cursor) (cursor moved : Cursor) (ol
   abbrev MovesOn : Option LeafElement → Type 0
   MovesOn o = Moves (entries_of (cursor_checked cursor)) (cursor_start cursor) next_move (cursor_place cursor) (cursor_place moved) o
 
-  pub stays : ∥ HasEntries (entries_of checked) (root_of checked) × AreOpen checked [] cursors new ∥₁
-  stays = ∥∥₁_map known (λ k. (k.all, subst (λ (keys : Path). AreOpen checked [] cursors keys) (sym k.left) k.top.below))
+  pub stays : (after : List Cursor) → after ≡ cursors → ∥ HasEntries (entries_of checked) (root_of checked) × AreOpen checked [] after new ∥₁
+  stays after rest = ∥∥₁_map known (λ k.
+      let below = subst (λ (keys : Path). AreOpen checked [] cursors keys) (sym k.left) k.top.below in
+      (k.all, subst (λ (cs : List Cursor). AreOpen checked [] cs new) (sym rest) below))
 
   pub ends : MovesOn None → (listing : List Member) → Lists (entries_of checked) (root_of checked) listing → beyond old listing ≡ beyond new listing
   ends moves listing lists =
@@ -88,14 +111,10 @@ all_closed checked cursors keys buckets none =
 pub none_beyond : (keys : Path) (listing : List Member) → keys ≡ [] → beyond keys listing ≡ []
 none_beyond keys listing none = ap (λ (p : Path). beyond p listing) none ∙ filter_none (λ m. is_beyond [] m.0) listing (λ m h. refl)
 
--- where nothing was taken off, nothing was there
-pub emptied : {A : Type 0} (old new : List A) (n : ℕ) → n ≡ 0 → new ≡ take (n - 1) old → old ≡ new ++ [] → old ≡ []
-emptied {A} old new n zero_old rest items =
-    let none : new ≡ [] = rest ∙ ap (λ (k : ℕ). take (k - 1) old) zero_old in items ∙ ap (λ (xs : List A). xs ++ []) none
-
-pub same_open : (checked : Checked) (old new : List Cursor) (keys : Path) → old ≡ new ++ [] → ∥ HasEntries (entries_of checked) (root_of checked) × AreOpen checked [] old keys ∥₁
-    → ∥ HasEntries (entries_of checked) (root_of checked) × AreOpen checked [] new keys ∥₁
-same_open checked old new keys items buckets = ∥∥₁_map buckets (λ t. (t.0, subst (λ (cs : List Cursor). AreOpen checked [] cs keys) (items ∙ append-nil new) t.1))
+-- where there is no last element, there is none
+pub emptied : {A : Type 0} (xs : List A) (n : ℕ) → n ≡ length xs → (0 < n → false ≡ true) → xs ≡ []
+emptied [] n len none = refl
+emptied (x ∷ xs) n len none = let bad : false ≡ true = none (omega (arith, len)) in absurd (search rules)
 
 pub listed_in : (a b : Checked) (listing : List Member) → a ≡ b → Lists (entries_of b) (root_of b) listing → Lists (entries_of a) (root_of a) listing
 listed_in a b listing same lists = subst (λ (file : Checked). Lists (entries_of file) (root_of file) listing) (sym same) lists

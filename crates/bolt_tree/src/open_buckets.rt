@@ -211,13 +211,14 @@ impl<'a> OpenBuckets<'a> {
         ensures left { ForListing self.old.checked (λ listing. MatchOption result (beyond (open_path self.old) listing ≡ [])
             (λ leaf. beyond (open_path self.old) listing ≡ (open_path self.new, item_of (leaf_view leaf)) ∷ behind (open_path self.new) listing)) }
     {
-        while let Some(mut cursor) = self.cursors.pop() {
+        while let Some(cursor) = self.cursors.last_mut() {
+            let found = cursor.next_element();
             let _ = self.path.pop();
-            if let Some(leaf) = cursor.next_element() {
-                self.cursors.push_reserved(cursor);
+            if let Some(leaf) = found {
                 self.path.push_reserved(leaf.key);
                 return Some(leaf);
             }
+            let _ = self.cursors.pop();
         }
         None
     }

@@ -48,7 +48,7 @@ fn tell_refusal(rt: &HostRuntime, refusal: Refusal) -> u8 {
             let _ = eprint!(rt; "{text}");
             REFUSED
         }
-        Refusal::Help(text) => match print!(rt; "{text}") {
+        Refusal::Help(text) | Refusal::Version(text) => match print!(rt; "{text}") {
             Ok(()) => 0,
             Err(_) => tell(rt, "write failed", FAILED),
         },

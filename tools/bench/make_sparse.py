@@ -1,0 +1,33 @@
+#!/usr/bin/env python3
+"""Makes a sound database file most of which is free pages, for `make bench`.
+
+    make_sparse.py FILE [FREE]
+
+The format is that of docs/FORMAT.md. A hundred thousand small entries stand in the root bucket, and
+behind their pages FREE pages are free, of which the freelist behind them tells. Without FREE there
+are 60,000, in a file of about 256 MiB.
+"""
+
+import struct
+import sys
+
+from make_large import FREELIST, Pages, entries, put_bucket, put_meta
+
+ENTRIES = 100_000
+
+
+def main():
+    free = int(sys.argv[2]) if len(sys.argv) > 2 else 60_000
+    with open(sys.argv[1], "wb") as out:
+        pages = Pages(out)
+        root = put_bucket(pages, entries(0, ENTRIES))
+        pages.free.append(2)
+        pages.leave_free(free)
+        ids = struct.pack("<%dQ" % len(pages.free), *pages.free)
+        freelist = pages.put(FREELIST, len(pages.free), ids)
+        put_meta(pages, 0, root, freelist)
+        put_meta(pages, 1, root, freelist)
+
+
+if __name__ == "__main__":
+    main()

@@ -1,0 +1,87 @@
+#!/usr/bin/env python3
+"""Times `luntsegi compact` on sound files, for `make bench`.
+
+    time_copies.py PROGRAM FILE..
+
+Each copy is made into the folder of its file, and timed beside `check` of the file and beside a
+plain copy of as many bytes with a sync, in turn; the figures are medians of five. The status is 1
+where a copy fails, is not sound or takes longer than `check` and 1.5 times the plain copy, or where
+it takes more memory than the file, a byte for each page of it, 32 MiB, and OPEN bytes for each
+bucket that stands open. Where the environment has BBOLT, the path of bbolt's program, its `compact`
+is timed too.
+"""
+
+import os
+import subprocess
+import sys
+import time
+from statistics import median
+
+from time_commands import PAGE_SIZE
+
+ROUNDS = 5
+ROOM = 32 * 2**20
+
+
+def seconds(words):
+    """How long the command took, which has to end well, and the most memory that it took."""
+    begin = time.perf_counter()
+    child = subprocess.Popen(words, stdout=subprocess.DEVNULL, stderr=subprocess.DEVNULL)
+    _, status, usage = os.wait4(child.pid, 0)
+    child.returncode = os.waitstatus_to_exitcode(status)
+    if child.returncode != 0:
+        sys.exit(f"{' '.join(words)}: status {child.returncode}")
+    return time.perf_counter() - begin, usage.ru_maxrss * 1024
+
+
+def fresh(path):
+    """A path at which nothing stands."""
+    if os.path.exists(path):
+        os.remove(path)
+    return path
+
+
+def one_round(program, file, copy, plain):
+    """The seconds of check, of the copy and of the plain copy, and the memory of the copy."""
+    checked, _ = seconds([program, "check", file])
+    copied, memory = seconds([program, "compact", "-o", fresh(copy), file])
+    synced, _ = seconds(["dd", f"if={copy}", f"of={fresh(plain)}", "bs=1M", "conv=fsync"])
+    return checked, copied, synced, memory
+
+
+def time_copy(program, file):
+    """Tells the figures of one file, and whether they are as they should be."""
+    copy, plain = file + ".copy", file + ".plain"
+    rounds = [one_round(program, file, copy, plain) for _ in range(ROUNDS)]
+    checked, copied, synced, memory = (median(column) for column in zip(*rounds))
+    seconds([program, "check", copy])
+    length = os.path.getsize(file)
+    allowed, most = checked + 1.5 * synced, length + length // PAGE_SIZE + ROOM
+    print(
+        f"compact {file}: {copied:.2f} s of {allowed:.2f} (check {checked:.2f}, plain copy "
+        f"{synced:.2f}), {os.path.getsize(copy)} bytes of {length}, memory {memory} of {most}"
+    )
+    for path in (copy, plain):
+        os.remove(path)
+    return copied <= allowed and memory <= most
+
+
+def time_bbolt(bbolt, file):
+    copy = file + ".copy"
+    took = median(seconds([bbolt, "compact", "-o", fresh(copy), file])[0] for _ in range(ROUNDS))
+    print(f"  bbolt's compact: {took:.2f} s, {os.path.getsize(copy)} bytes")
+    os.remove(copy)
+
+
+def main():
+    program, *files = sys.argv[1:]
+    good = True
+    for file in files:
+        good = time_copy(program, file) and good
+        if "BBOLT" in os.environ:
+            time_bbolt(os.environ["BBOLT"], file)
+    sys.exit(0 if good else 1)
+
+
+if __name__ == "__main__":
+    main()
