@@ -5,7 +5,7 @@ SOUND = $(wildcard examples/*.buckets)
 LISTED = $(filter-out $(LEAKED).list,$(wildcard examples/*.list))
 LEAKED = examples/leaked
 
-.PHONY: build demo examples test bench memory install clean
+.PHONY: build demo examples manual test bench memory install dist deb clean
 
 # Proves the program and the libraries below it, and builds it.
 build:
@@ -19,10 +19,12 @@ demo: $(PROGRAM)
 	$(PROGRAM) list examples/app.db
 
 COPY = out/copy.db
+# The documents that show commands with what they print.
+SHOWING = README.md docs/GUIDE.md docs/COMMANDS.md docs/luntsegi.1
 
 # What the program prints of each real database, compared with what bbolt finds in it; that a compact
 # copy of each is sound and lists the same, and is made where nothing stands; and that output which
-# can't be written is told, whatever was found.
+# can't be written is told, whatever was found; and that documents show what is printed.
 examples: $(PROGRAM)
 	for list in $(SOUND); do $(PROGRAM) buckets $${list%.buckets}.db | cmp - $$list || exit 1; done
 	for list in $(LISTED); do $(PROGRAM) list $${list%.list}.db | cmp - $$list || exit 1; done
@@ -38,10 +40,18 @@ examples: $(PROGRAM)
 	$(PROGRAM) check $(LEAKED).db | cmp - $(LEAKED).findings
 	$(PROGRAM) check $(LEAKED).db 2>&1 > /dev/full | grep -qx "error: write failed"
 	$(PROGRAM) check $(LEAKED).db 2> /dev/null > /dev/full; test $$? -eq 1
+	python3 -B tools/usage/run_examples.py $(PROGRAM) $(SHOWING)
 
-# The merge gate: real databases, and then every proof from nothing, the wrong
+# That the manual page and what bash and zsh complete say what help does; and, where mandoc is
+# installed, that it finds nothing in the page.
+manual: $(PROGRAM)
+	if command -v mandoc > /dev/null; then mandoc -Tlint docs/luntsegi.1; fi
+	python3 -B tools/usage/compare_manual.py $(PROGRAM) docs/luntsegi.1
+	python3 -B tools/usage/compare_completions.py $(PROGRAM)
+
+# The merge gate: real databases, the manual, and then every proof from nothing, the wrong
 # bodies, the tests and the program.
-test: examples
+test: examples manual
 	rt ci
 
 LARGE = out/large.db
@@ -89,8 +99,21 @@ $(DEEP): tools/bench/make_deep.py
 	mkdir -p $(@D)
 	python3 -B tools/bench/make_deep.py $@
 
+# The folder in which zsh looks for completions.
+ZSH_COMPLETIONS ?= $(PREFIX)/share/zsh/site-functions
+
 install: $(PROGRAM)
 	install -D -m 755 $(PROGRAM) $(DESTDIR)$(PREFIX)/bin/luntsegi
+	install -D -m 644 docs/luntsegi.1 $(DESTDIR)$(PREFIX)/share/man/man1/luntsegi.1
+	install -D -m 644 completions/luntsegi.bash $(DESTDIR)$(PREFIX)/share/bash-completion/completions/luntsegi
+	install -D -m 644 completions/_luntsegi $(DESTDIR)$(ZSH_COMPLETIONS)/_luntsegi
+
+# Packages: an archive of what is installed and the documents, and a Debian package.
+dist: $(PROGRAM)
+	tools/package/make_package.sh archive $(PROGRAM)
+
+deb: $(PROGRAM)
+	tools/package/make_package.sh deb $(PROGRAM)
 
 clean:
 	rm -rf crates/*/out out
