@@ -57,15 +57,20 @@ test: examples manual
 LARGE = out/large.db
 WIDE = out/wide.db
 LONG = out/long.db
+SPARSE = out/sparse.db
+VERY_DEEP = out/very_deep.db
 
 # Times the reading of a file (info), the checker and what prints of a file: on a database of 256 MB
 # with a million small entries, on one with 200,000 buckets in its root bucket, and on one of 256 MB
-# with values of 100 KB.
-bench: $(PROGRAM) $(LARGE) $(WIDE) $(LONG)
+# with values of 100 KB. Then it times compact copies, of the first and the last of these, of one of
+# 256 MB most of which is free pages, and of one with 50,000 buckets one within another. With BBOLT,
+# the path of bbolt's program, in the environment, bbolt copies the same files.
+bench: $(PROGRAM) $(LARGE) $(WIDE) $(LONG) $(SPARSE) $(VERY_DEEP)
 	python3 tools/bench/time_commands.py $(PROGRAM) $(LARGE) info check buckets pages stats list \
 		"keys bucket-0" "get bucket-0 entry-000000000000100000"
 	python3 tools/bench/time_commands.py $(PROGRAM) $(WIDE) info check buckets pages stats list
 	python3 tools/bench/time_commands.py $(PROGRAM) $(LONG) info check buckets pages stats list
+	python3 -B tools/bench/time_copies.py $(PROGRAM) $(LARGE) $(LONG) $(SPARSE) $(VERY_DEEP)
 
 $(LARGE): tools/bench/make_large.py
 	mkdir -p $(@D)
@@ -78,6 +83,14 @@ $(WIDE): tools/bench/make_wide.py
 $(LONG): tools/bench/make_long.py
 	mkdir -p $(@D)
 	python3 -B tools/bench/make_long.py $@
+
+$(SPARSE): tools/bench/make_sparse.py
+	mkdir -p $(@D)
+	python3 -B tools/bench/make_sparse.py $@
+
+$(VERY_DEEP): tools/bench/make_deep.py
+	mkdir -p $(@D)
+	python3 -B tools/bench/make_deep.py $@ 50000
 
 DEEP = out/deep.db
 REFUSED = rt try --data deep.db=$(abspath $(DEEP)) --fail-alloc
