@@ -5,7 +5,7 @@ SOUND = $(wildcard examples/*.buckets)
 LISTED = $(filter-out $(LEAKED).list,$(wildcard examples/*.list))
 LEAKED = examples/leaked
 
-.PHONY: build demo examples test bench memory install clean
+.PHONY: build demo examples failures test fuzz bench memory install clean
 
 # Proves the program and the libraries below it, and builds it.
 build:
@@ -39,9 +39,28 @@ examples: $(PROGRAM)
 	$(PROGRAM) check $(LEAKED).db 2>&1 > /dev/full | grep -qx "error: write failed"
 	$(PROGRAM) check $(LEAKED).db 2> /dev/null > /dev/full; test $$? -eq 1
 
-# The merge gate: real databases, and then every proof from nothing, the wrong
-# bodies, the tests and the program.
-test: examples
+LISTED_LONG = out/listed_long.db
+
+# Files that can't be read or made, devices that are full, and streams that are closed.
+failures: $(PROGRAM) $(LISTED_LONG)
+	sh tools/streams/try_failures.sh $(PROGRAM) examples/app.db $(LEAKED).db $(LISTED_LONG)
+
+$(LISTED_LONG): tools/bench/make_wide.py
+	mkdir -p $(@D)
+	python3 -B tools/bench/make_wide.py $@ 5000
+
+FUZZ = PYTHONPATH=tools/bench python3 -B tools/fuzz/fuzz.py $(PROGRAM)
+SECONDS ?= 60
+SEED ?= $(shell date +%s)
+
+# Compares the program's answers on random files. SEED=N goes through the files of another run again.
+fuzz: $(PROGRAM)
+	$(FUZZ) --seed $(SEED) --seconds $(SECONDS)
+
+# The merge gate: real databases, failures, refused memory, random files that are the same each time,
+# and then every proof from nothing, the wrong bodies, the tests and the program.
+test: examples failures memory
+	$(FUZZ) --seed 1 --files 36
 	rt ci
 
 LARGE = out/large.db
@@ -70,20 +89,37 @@ $(LONG): tools/bench/make_long.py
 	python3 -B tools/bench/make_long.py $@
 
 DEEP = out/deep.db
-REFUSED = rt try --data deep.db=$(abspath $(DEEP)) --fail-alloc
-
+NESTED = out/nested.db
+REFUSE = out/refuse.so
 REFUSED_ROWS = out/refused_rows
+SWEEP = python3 -B tools/refuse/sweep_memory.py $(PROGRAM) $(REFUSE)
 
-# Refuses memory. Each row of memory_rows has its 1000th request refused: nine of these are requests
-# of a walk, which is asked again and goes on, and of two neighbours one stands before the calls that
-# make no request and one behind them. The first request of the program is refused too.
-memory: $(DEEP)
-	cd crates/luntsegi && $(REFUSED) 1 -- check deep.db 2>&1 | grep -x "error: out of memory"
+# Refuses memory. The program has each of its requests refused in turn: on a file of 60 nested
+# buckets and on a real one under every command, on 20,000 nested buckets under those that make few,
+# and of the many that a copy of these makes each 1500th. Then each row of memory_rows has its 1000th
+# request refused: nine of these are requests of a walk, which is asked again and goes on, and of two
+# neighbours one stands before the calls that make no request and one behind them.
+memory: $(PROGRAM) $(REFUSE) $(NESTED) $(DEEP)
+	$(SWEEP) $(NESTED) 1 info "page 3" pages check buckets stats list "list --from 62/62" "keys b b" \
+		"get b x" "compact -o OUT"
+	$(SWEEP) examples/app.db 1 "page 5" pages check buckets stats list "keys users" \
+		"get settings theme" "compact -o OUT --page-size 1024" "info --help" "info more" "list --from x"
+	$(SWEEP) $(LEAKED).db 1 check "list --meta 1" "compact -o OUT --meta 1"
+	$(SWEEP) $(DEEP) 1 info check buckets stats
+	$(SWEEP) $(DEEP) 1500 "compact -o OUT"
 	-cd crates/tree_rows && rt try --test --fail-alloc 1000 -- memory_rows > $(abspath $(REFUSED_ROWS)) 2>&1
 	grep -c "refused at depth ., and gives all" $(REFUSED_ROWS) | grep -x 6
 	grep -c "refused at its beginning, and gives the rest" $(REFUSED_ROWS) | grep -x 3
 	grep -c "refused before the calls" $(REFUSED_ROWS) | grep -x 1
 	grep -c "refused behind the calls" $(REFUSED_ROWS) | grep -x 1
+
+$(REFUSE): tools/refuse/refuse.c
+	mkdir -p $(@D)
+	$(CC) -O2 -Wall -shared -fPIC -o $@ $<
+
+$(NESTED): tools/bench/make_deep.py
+	mkdir -p $(@D)
+	python3 -B tools/bench/make_deep.py $@ 60
 
 $(DEEP): tools/bench/make_deep.py
 	mkdir -p $(@D)
