@@ -5,7 +5,7 @@ SOUND = $(wildcard examples/*.buckets)
 LISTED = $(filter-out $(LEAKED).list,$(wildcard examples/*.list))
 LEAKED = examples/leaked
 
-.PHONY: build demo examples failures test fuzz bench memory install clean
+.PHONY: build demo examples failures fuzz fuzz-wrong test bench memory install clean
 
 # Proves the program and the libraries below it, and builds it.
 build:
@@ -49,18 +49,23 @@ $(LISTED_LONG): tools/bench/make_wide.py
 	mkdir -p $(@D)
 	python3 -B tools/bench/make_wide.py $@ 5000
 
-FUZZ = PYTHONPATH=tools/bench python3 -B tools/fuzz/fuzz.py $(PROGRAM)
+FUZZ = PYTHONPATH=tools/bench python3 -B tools/fuzz
 SECONDS ?= 60
 SEED ?= $(shell date +%s)
 
 # Compares the program's answers on random files. SEED=N goes through the files of another run again.
+# BBOLT=PATH has bbolt's own command answer too, on the files that both accept.
 fuzz: $(PROGRAM)
-	$(FUZZ) --seed $(SEED) --seconds $(SECONDS)
+	$(FUZZ)/fuzz.py $(PROGRAM) --seed $(SEED) --seconds $(SECONDS) $(if $(BBOLT),--bbolt $(BBOLT))
+
+# Alters the program's answers in many ways, each of which the comparisons have to find.
+fuzz-wrong: $(PROGRAM)
+	$(FUZZ)/try_wrong.py $(PROGRAM)
 
 # The merge gate: real databases, failures, refused memory, random files that are the same each time,
 # and then every proof from nothing, the wrong bodies, the tests and the program.
 test: examples failures memory
-	$(FUZZ) --seed 1 --files 36
+	$(FUZZ)/fuzz.py $(PROGRAM) --seed 1 --files 36
 	rt ci
 
 LARGE = out/large.db

@@ -3,7 +3,7 @@
 import os
 import re
 
-from program import Difference, want
+from program import want
 
 MOST_PATHS = 8
 MOST_PAGES = 40
@@ -171,36 +171,38 @@ class Shown:
         return [int(line) for line in self.lines]
 
 
-def compare_tree(file, info, entries):
-    """What `page` shows along a bucket's pages is what is listed. Answers how many of the root
-    bucket's own pages are branches, and how many leaves; nothing where there are many pages."""
-    opened = 0
-    own = {"branch": 0, "leaf": 0}
+def shown_tree(file, info):
+    """The pages that `page` shows from the root page on, each with the path of its bucket; nothing
+    where there are many."""
+    tree = []
     stack = [((), info["root"])]
-    found = []
     while stack:
         path, number = stack.pop()
-        opened += 1
-        if opened > MOST_PAGES:
-            return None
         page = Shown(file.text("page", number))
-        want(page.kind in own, "page", number, "of a sound file is a", page.kind)
-        own[page.kind] += not path
-        for element in reversed(page.elements()):
+        tree.append((path, page))
+        if len(tree) > MOST_PAGES:
+            return None
+        want(page.kind in ("branch", "leaf"), "page", number, "of a sound tree is a", page.kind)
+        for element in page.elements():
             if element.child is not None:
                 stack.append((path, element.child))
-                continue
-            inner = path + (element.key,)
-            found.append(inner)
-            item = element.value if element.root is None else element.sequence
-            want(entries.get(inner) == item, "page", number, "and list differ at", word_of(inner))
-            if element.root:
-                stack.append((inner, element.root))
-    rooted = {path for path in found} | {()}
-    held = [path for path in entries if path[:-1] in rooted and path not in found]
-    inline = {path[:-1] for path in held}
-    want(all(isinstance(entries.get(path), int) for path in inline), "page shows less than list")
-    return own
+            elif element.root:
+                stack.append((path + (element.key,), element.root))
+    return tree
+
+
+def compare_tree(tree, entries):
+    """What `page` shows along the tree is what is listed but for what inline buckets hold."""
+    rooted = {path for path, _ in tree}
+    shown = {}
+    for path, page in tree:
+        for element in page.elements():
+            if element.child is None:
+                is_bucket = element.value is None
+                shown[path + (element.key,)] = element.sequence if is_bucket else element.value
+    listed = {path: item for path, item in entries.items() if path[:-1] in rooted}
+    for path in listed.keys() | shown.keys():
+        want(listed.get(path) == shown.get(path), "page and list differ at", word_of(path))
 
 
 def rows_of(text):
@@ -236,7 +238,7 @@ def compare_pages(file, info, length):
     return [kind for _, _, kind in rows]
 
 
-def compare_figures(file, entries, kinds, own):
+def compare_figures(file, entries, kinds, tree):
     """The figures are those of what is listed, and of the pages but the root bucket's own."""
     figures = dict(line.rsplit(b" ", 1) for line in file.text("stats").splitlines())
     figures = {name.decode(): int(number) for name, number in figures.items()}
@@ -244,8 +246,8 @@ def compare_figures(file, entries, kinds, own):
     want(figures["buckets"] == buckets, "stats tells", figures["buckets"], "buckets of", buckets)
     keys = sum(len(path) > 1 for path in entries)
     want(figures["keys"] == keys, "stats tells", figures["keys"], "keys of", keys)
-    for kind in own or ():
-        pages = kinds.count(kind) - own[kind]
+    for kind in ("branch", "leaf") if tree else ():
+        pages = kinds.count(kind) - sum(page.kind == kind for path, page in tree if not path)
         want(figures[f"{kind} pages"] == pages, "stats tells other", kind, "pages than", pages)
 
 
@@ -329,9 +331,11 @@ def compare_sound(file):
     compare_keys(file, entries)
     compare_values(file, entries)
     compare_missing(file, entries)
-    own = compare_tree(file, info, entries)
+    tree = shown_tree(file, info)
+    if tree:
+        compare_tree(tree, entries)
     kinds = compare_pages(file, info, os.path.getsize(file.path))
-    compare_figures(file, entries, kinds, own)
+    compare_figures(file, entries, kinds, tree)
     compare_copy(file, listing)
     compare_beginnings(file, os.path.join(file.folder, "copy.db"))
     for slot in (0, 1):
@@ -344,11 +348,12 @@ def compare_sound(file):
 # A file that is refused
 
 UNDER_ALL = ("pages", "buckets", "stats", "list")
-# Findings of a page itself: the first test of docs/FORMAT.md that it fails.
-PAGE_FAULTS = {
-    "out of range", "cut off", "wrong page number", "invalid type", "element past the page",
-    "element data out of order", "key length refused", "value length refused", "leaf flags refused",
-    "bucket value too short", "inline page refused", "bucket in an inline bucket",
+# Findings of a page itself, by the tests of docs/FORMAT.md: of its header and span, and behind these.
+SPAN_FAULTS = {"out of range", "cut off", "wrong page number", "invalid type"}
+ELEMENT_FAULTS = {
+    "element past the page", "element data out of order", "key length refused",
+    "value length refused", "leaf flags refused", "bucket value too short", "inline page refused",
+    "bucket in an inline bucket",
 }
 # Findings of a good page's keys or elements.
 KEY_FAULTS = {
@@ -373,14 +378,23 @@ def compare_bad_page(file, info, number, words):
     if words in KEY_FAULTS:
         want(answer.is_ok(), "check says", words, "of page", number, "and page", answer)
         compare_keys_found(Shown(answer.out), words)
-    elif words in PAGE_FAULTS and answer.is_ok():
-        kind = Shown(answer.out).kind
-        is_freelist = number == info["freelist"]
-        is_other = kind in ("branch", "leaf", "meta") if is_freelist else kind in ("freelist", "meta")
-        want(words == "invalid type" and is_other, "check says", words, "of page", number, "and page", answer)
-    elif words in PAGE_FAULTS:
+    elif words == "invalid type" and (answer.is_ok() or number == info["freelist"]):
+        compare_kind(info, number, answer)
+    elif words in SPAN_FAULTS | ELEMENT_FAULTS:
         fault = f"error: page {number}: {words}\n".encode()
         want(answer.err == fault, "check says", words, "of page", number, "and page", answer)
+
+
+def compare_kind(info, number, answer):
+    """A page of another kind than it should be, which is a good one for `page` or, in the place of
+    the freelist, one whose elements aren't looked at."""
+    if answer.is_ok():
+        kind = Shown(answer.out).kind
+        is_so = kind in ("freelist", "meta") or number == info["freelist"]
+    else:
+        faults = ELEMENT_FAULTS | {"invalid type"}
+        is_so = answer.err.decode() in {f"error: page {number}: {words}\n" for words in faults}
+    want(is_so, "check says invalid type of page", number, "and page", answer)
 
 
 def compare_keys_found(page, words):
@@ -407,26 +421,42 @@ def findings_of(text):
     return [(int(first), int(last or first), words) for first, last, words in found]
 
 
+def span_of(page):
+    return range(int(page.number), int(page.number) + 1 + int(page.overflow))
+
+
+def runs_of(numbers):
+    """The longest runs of these numbers, each as its first and its last."""
+    runs = []
+    for number in sorted(numbers):
+        if runs and runs[-1][1] == number - 1:
+            runs[-1] = (runs[-1][0], number)
+        else:
+            runs.append((number, number))
+    return runs
+
+
 def compare_accounts(file, info, findings):
-    """Findings of the freelist are those of the ids that `page` shows on it."""
-    ids = Shown(file.text("page", info["freelist"])).ids()
+    """Findings of the freelist are those of the ids that `page` shows on it and, where the tree has
+    few pages, of the pages that `page` shows."""
+    page = Shown(file.text("page", info["freelist"]))
+    ids = page.ids()
     within = range(2, info["high water"])
-    told = {words: [] for words in ACCOUNT_FAULTS}
-    for first, last, words in findings:
-        told[words].append((first, last))
+    twice = {number for number in ids if ids.count(number) > 1 and number in within}
     expected = {
-        "freed twice": {number for number in ids if number in within and ids.count(number) > 1},
-        "free page out of range": {number for number in ids if number not in within},
+        "freed twice": [(number, number) for number in sorted(twice)],
+        "free page out of range": [(number, number) for number in sorted(set(ids)) if number not in within],
     }
-    for words, numbers in expected.items():
-        want({first for first, _ in told[words]} == numbers, words, "is told of other pages than", numbers)
-    listed = set(ids)
-    for first, _ in told["reachable freed"]:
-        want(first in listed and first in within, "reachable freed is told of", first)
-    for first, last in told["unreachable unfreed"]:
-        is_free = first >= 2 and last < info["high water"] and not any(first <= number <= last for number in ids)
-        want(is_free, "unreachable unfreed is told of", first, "to", last)
-    want(findings == sorted(findings, key=lambda finding: finding[0]), "findings stand out of order")
+    tree = shown_tree(file, info)
+    if tree:
+        used = set(span_of(page)).union(*(span_of(shown) for _, shown in tree))
+        expected["reachable freed"] = [(number, number) for number in sorted(used & set(ids))]
+        expected["unreachable unfreed"] = runs_of(set(within) - used - set(ids))
+    for words, pages in expected.items():
+        told = [(first, last) for first, last, said in findings if said == words]
+        want(told == pages, words, "is told of", told, "and not of", pages)
+    firsts = [first for first, _, _ in findings]
+    want(firsts == sorted(firsts), "findings stand out of order")
 
 
 def compare_unsound(file, checked):

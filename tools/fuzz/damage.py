@@ -12,20 +12,29 @@ def put_number(data, place, width, number):
     data[place : place + width] = (number % 256**width).to_bytes(width, "little")
 
 
+def draw_field(draw, made):
+    """A field that stands in the file, of each kind as often as of another; or nothing."""
+    fields = [field for field in made.fields if field.place + field.width <= len(made.data)]
+    kinds = sorted({field.of for field in fields})
+    of = draw.choice(kinds) if kinds else None
+    return draw.choice([field for field in fields if field.of == of] or [None])
+
+
 def set_field(draw, made):
-    """Gives a field of a page, an element, a bucket or a meta another number."""
-    place, width = draw.choice(draw.choice([made.fields, made.fields, made.meta_fields]))
-    if place + width > len(made.data):
-        return
-    now = int.from_bytes(made.data[place : place + width], "little")
-    numbers = [0, 1, now - 1, now + 1, draw.randrange(40), 256**width - 1, draw.randrange(256**width)]
-    put_number(made.data, place, width, draw.choice(numbers))
+    """Gives a field another number."""
+    field = draw_field(draw, made)
+    if field:
+        width = field.width
+        now = int.from_bytes(made.data[field.place : field.place + width], "little")
+        numbers = [0, 1, now - 1, now + 1, draw.randrange(40), 256**width - 1, draw.randrange(256**width)]
+        put_number(made.data, field.place, width, draw.choice(numbers))
 
 
 def copy_field(draw, made):
-    """Gives a field the number of another one."""
-    (to, width), (source, _) = draw.choices(made.fields, k=2)
-    made.data[to : to + width] = made.data[source : source + width]
+    """Gives a field the bytes that stand at another one."""
+    to, source = draw_field(draw, made), draw_field(draw, made)
+    if to and source.place + to.width <= len(made.data):
+        made.data[to.place : to.place + to.width] = made.data[source.place : source.place + to.width]
 
 
 def set_byte(draw, made):

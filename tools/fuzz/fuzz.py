@@ -1,12 +1,12 @@
 #!/usr/bin/env python3
 """Compares the program's answers on random files, for `make fuzz`.
 
-    fuzz.py PROGRAM --seed N [--seconds N | --files N] [--first N] [--folder F]
+    fuzz.py PROGRAM --seed N [--seconds N | --files N] [--first N] [--folder F] [--bbolt PATH]
 
 File N of a seed is the same in each run, whatever the others are. Every other file is sound, and
 the program must accept it and list what it was made of; the others are damaged in one to eight
 places. A file on which something doesn't hold is kept in the folder, and what doesn't is printed.
-The status is 1 where there is one.
+The status is 1 where there is one. With --bbolt, bbolt's own command is asked too.
 """
 
 import argparse
@@ -17,6 +17,7 @@ import tempfile
 import time
 from collections import Counter
 
+from bbolt import agrees
 from buckets import listing_text
 from comparisons import File, compare
 from damage import damage
@@ -24,19 +25,17 @@ from program import Difference, Program, want
 from sound import draw_sound
 
 
-def compare_made(file, made):
+def compare_made(file, made, kind, listing):
     """A sound file is accepted and lists what it was made of, under both its metas."""
-    kind, listing = compare(file)
     want(kind == "accepted", "a sound file is", kind, file.run("check"))
     want(listing == listing_text(made.tree()), "the listing isn't what the file was made of")
     for slot, tree in enumerate(made.trees):
         if tree is not None:
             under = file.text("list", "--meta", slot)
             want(under == listing_text(tree), "the listing under meta", slot, "isn't what it was made of")
-    return kind
 
 
-def compare_one(program, seed, number, folder):
+def compare_one(program, seed, number, folder, bbolt=None):
     """Makes this file of the seed and compares all answers to it. Answers what it was."""
     draw = random.Random(f"{seed} {number}")
     made = draw_sound(draw)
@@ -47,7 +46,12 @@ def compare_one(program, seed, number, folder):
     with open(path, "wb") as out:
         out.write(made.data)
     file = File(program, draw, path, folder)
-    return "damaged, " + compare(file)[0] if is_damaged else "sound, " + compare_made(file, made)
+    kind, listing = compare(file)
+    if not is_damaged:
+        compare_made(file, made, kind, listing)
+    if bbolt and kind == "accepted" and agrees(bbolt, file, listing):
+        kind += " by bbolt too"
+    return f"{'damaged' if is_damaged else 'sound'}, {kind}"
 
 
 def read_words():
@@ -58,6 +62,7 @@ def read_words():
     parser.add_argument("--files", type=int, default=sys.maxsize)
     parser.add_argument("--first", type=int, default=0)
     parser.add_argument("--folder", default="out/fuzz")
+    parser.add_argument("--bbolt", type=os.path.abspath)
     return parser.parse_args()
 
 
@@ -78,7 +83,7 @@ def main():
     with tempfile.TemporaryDirectory() as folder:
         while number < words.first + words.files and time.monotonic() < end:
             try:
-                kinds[compare_one(program, words.seed, number, folder)] += 1
+                kinds[compare_one(program, words.seed, number, folder, words.bbolt)] += 1
             except Difference as difference:
                 failed += 1
                 print(f"{keep(words, number, folder)}: {difference}", flush=True)

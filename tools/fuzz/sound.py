@@ -16,12 +16,20 @@ BUCKET_HEAD = struct.Struct("<QQ")
 META_BYTES = 80
 
 
-def widths(form):
-    """Where the fields of a record stand, and how wide each is."""
-    place = 0
+@dataclass(frozen=True)
+class Field:
+    """A number in a file: of what it is, where it stands, and how wide it is."""
+
+    of: str
+    place: int
+    width: int
+
+
+def fields_at(of, form, place):
+    """The fields of a record that stands there."""
     for code in form.format.lstrip("<"):
         width = struct.calcsize("<" + code)
-        yield place, width
+        yield Field(of, place, width)
         place += width
 
 
@@ -48,6 +56,7 @@ class Child:
     page: Page
 
     form = BRANCH_ELEMENT
+    flags = VALUE_FLAGS
 
     def data(self):
         return self.key
@@ -72,6 +81,11 @@ class Value:
     def header(self, position):
         return LEAF_ELEMENT.pack(self.flags, position, len(self.key), len(self.data()) - len(self.key))
 
+    def fields(self, place):
+        """The fields of an inline bucket's head, which stands there, and of its page's header."""
+        yield from fields_at("bucket", BUCKET_HEAD, place)
+        yield from fields_at("inline", HEADER, place + BUCKET_HEAD.size)
+
 
 @dataclass
 class Rooted(Value):
@@ -83,21 +97,24 @@ class Rooted(Value):
     def data(self):
         return self.key + BUCKET_HEAD.pack(self.page.number, self.sequence) + self.value
 
+    def fields(self, place):
+        return fields_at("bucket", BUCKET_HEAD, place)
 
-def page_bytes(page, number, overflow):
-    """The header, the table and the data of a branch or a leaf, and where their fields stand."""
+
+def page_bytes(page, number, overflow, place=0):
+    """The header, the table and the data of a branch or a leaf that stands there, and their fields."""
     count = len(page.elements)
-    fields = list(widths(HEADER))
+    fields = list(fields_at("header", HEADER, place))
     table, data = [], []
     end = HEADER.size * (1 + count)
     for index, (element, gap) in enumerate(zip(page.elements, page.gaps)):
-        place = HEADER.size * (1 + index)
-        fields += [(place + at, width) for at, width in widths(element.form)]
+        begin = HEADER.size * (1 + index)
+        fields += fields_at("element", element.form, place + begin)
         data += [bytes(gap), element.data()]
         end += gap
-        table.append(element.header(end - place))
-        if getattr(element, "flags", VALUE_FLAGS) == BUCKET_FLAGS:
-            fields += [(end + len(element.key) + at, 8) for at in (0, 8)]
+        table.append(element.header(end - begin))
+        if element.flags == BUCKET_FLAGS:
+            fields += element.fields(place + end + len(element.key))
         end += len(element.data())
     header = HEADER.pack(number, page.kind, count, overflow)
     return b"".join([header, *table, *data]), fields
@@ -226,7 +243,6 @@ class Made:
     page_size: int
     data: bytearray = None
     fields: list = field(default_factory=list)
-    meta_fields: list = field(default_factory=list)
     slot: int = 0
     trees: list = field(default_factory=lambda: [None, None])
 
@@ -261,18 +277,20 @@ class Image:
         for page in pages:
             page.number = number
             number += 1 + page.overflow
+        self.last = pages[-1]
         self.mark = number + self.past_end
         filling = draw.choice([bytes, draw.randbytes])
         self.made.data = bytearray(filling(number * self.made.page_size))
 
     def put(self, place, data, fields):
         self.made.data[place : place + len(data)] = data
-        self.made.fields += [(place + at, width) for at, width in fields]
+        self.made.fields += fields
 
     def put_tree(self, state):
         for page in state.pages:
-            body, fields = page_bytes(page, page.number, page.overflow)
-            self.put(page.number * self.made.page_size, body, fields)
+            place = page.number * self.made.page_size
+            body, fields = page_bytes(page, page.number, page.overflow, place)
+            self.put(place, body, fields)
 
     def put_freelist(self, state):
         """The freelist's page, with all that this state doesn't use, in any order."""
@@ -287,8 +305,10 @@ class Image:
         if self.draw.random() < 0.3 or count >= LONG_FORM:
             count, ids = LONG_FORM, [count] + ids
         header = HEADER.pack(page.number, FREELIST, count, page.overflow)
-        fields = list(widths(HEADER)) + [(HEADER.size + 8 * at, 8) for at in range(len(ids))]
-        self.put(page.number * self.made.page_size, header + struct.pack(f"<{len(ids)}Q", *ids), fields)
+        place = page.number * self.made.page_size
+        form = struct.Struct(f"<{'Q' * len(ids)}")
+        fields = fields_at("id", form, place + HEADER.size)
+        self.put(place, header + form.pack(*ids), [*fields_at("header", HEADER, place), *fields])
 
     def put_meta(self, slot, state, txid):
         draw = self.draw
@@ -298,18 +318,19 @@ class Image:
             state.root.number, state.tree.sequence, freelist, self.mark, txid,
         )
         record += struct.pack("<Q", checksum(record))
-        fields = [(HEADER.size + at, width) for at, width in widths(META_RECORD)]
         header = HEADER.pack(slot, META, 0, 0) if draw.random() < 0.9 else draw.randbytes(HEADER.size)
         place = slot * self.made.page_size
-        self.put(place, header + record, fields)
-        self.made.meta_fields += [(place + at, width) for at, width in fields]
+        self.put(place, header + record, fields_at("meta", META_RECORD, place + HEADER.size))
         self.made.trees[slot] = state.tree
 
     def end(self):
-        """The file may go on past the mark."""
-        draw = self.draw
+        """The file may go on past the mark, or end within free pages."""
+        draw, data = self.draw, self.made.data
         if self.past_end == 0 and draw.random() < 0.2:
-            self.made.data += draw.randbytes(draw.randint(1, 3 * self.made.page_size))
+            data += draw.randbytes(draw.randint(1, 3 * self.made.page_size))
+        elif self.last.kind == 0:
+            place = self.last.number * self.made.page_size
+            del data[draw.randint(place, len(data)) :]
 
 
 def draw_sound(draw):
