@@ -41,9 +41,25 @@ examples: $(PROGRAM)
 
 LISTED_LONG = out/listed_long.db
 
-# Files that can't be read or made, devices that are full, and streams that are closed.
-failures: $(PROGRAM) $(LISTED_LONG)
+REFUSE = out/refuse.so
+SWEEP = python3 -B tools/refuse/sweep.py $(PROGRAM) $(REFUSE)
+EACH_COMMAND = info "page 5" pages check buckets stats list "keys users" "get settings theme" \
+	"get settings none" "info --help" "info more" "list --from x"
+
+# Files that can't be read or made, devices that are full, and streams that are closed. Then each
+# write of each command fails in turn, of seven bytes at most; of the many that a copy makes each 10th
+# fails; and so do each read of FILE and the sync of OUT.
+failures: $(PROGRAM) $(REFUSE) $(LISTED_LONG)
 	sh tools/streams/try_failures.sh $(PROGRAM) examples/app.db $(LEAKED).db $(LISTED_LONG)
+	$(SWEEP) write 1 examples/app.db $(EACH_COMMAND)
+	$(SWEEP) write 1 $(LEAKED).db check list
+	$(SWEEP) write 10 examples/app.db "compact -o OUT"
+	$(SWEEP) read 1 examples/app.db info list "compact -o OUT"
+	$(SWEEP) sync 1 examples/app.db "compact -o OUT"
+
+$(REFUSE): tools/refuse/refuse.c
+	mkdir -p $(@D)
+	$(CC) -O2 -Wall -shared -fPIC -o $@ $<
 
 $(LISTED_LONG): tools/bench/make_wide.py
 	mkdir -p $(@D)
@@ -95,9 +111,7 @@ $(LONG): tools/bench/make_long.py
 
 DEEP = out/deep.db
 NESTED = out/nested.db
-REFUSE = out/refuse.so
 REFUSED_ROWS = out/refused_rows
-SWEEP = python3 -B tools/refuse/sweep_memory.py $(PROGRAM) $(REFUSE)
 
 # Refuses memory. The program has each of its requests refused in turn: on a file of 60 nested
 # buckets and on a real one under every command, on 20,000 nested buckets under those that make few,
@@ -105,22 +119,17 @@ SWEEP = python3 -B tools/refuse/sweep_memory.py $(PROGRAM) $(REFUSE)
 # request refused: nine of these are requests of a walk, which is asked again and goes on, and of two
 # neighbours one stands before the calls that make no request and one behind them.
 memory: $(PROGRAM) $(REFUSE) $(NESTED) $(DEEP)
-	$(SWEEP) $(NESTED) 1 info "page 3" pages check buckets stats list "list --from 62/62" "keys b b" \
-		"get b x" "compact -o OUT"
-	$(SWEEP) examples/app.db 1 "page 5" pages check buckets stats list "keys users" \
-		"get settings theme" "compact -o OUT --page-size 1024" "info --help" "info more" "list --from x"
-	$(SWEEP) $(LEAKED).db 1 check "list --meta 1" "compact -o OUT --meta 1"
-	$(SWEEP) $(DEEP) 1 info check buckets stats
-	$(SWEEP) $(DEEP) 1500 "compact -o OUT"
+	$(SWEEP) memory 1 $(NESTED) info "page 3" pages check buckets stats list "list --from 62/62" \
+		"keys b b" "get b x" "compact -o OUT"
+	$(SWEEP) memory 1 examples/app.db $(EACH_COMMAND) "compact -o OUT --page-size 1024"
+	$(SWEEP) memory 1 $(LEAKED).db check "list --meta 1" "compact -o OUT --meta 1"
+	$(SWEEP) memory 1 $(DEEP) info check buckets stats
+	$(SWEEP) memory 1500 $(DEEP) "compact -o OUT"
 	-cd crates/tree_rows && rt try --test --fail-alloc 1000 -- memory_rows > $(abspath $(REFUSED_ROWS)) 2>&1
 	grep -c "refused at depth ., and gives all" $(REFUSED_ROWS) | grep -x 6
 	grep -c "refused at its beginning, and gives the rest" $(REFUSED_ROWS) | grep -x 3
 	grep -c "refused before the calls" $(REFUSED_ROWS) | grep -x 1
 	grep -c "refused behind the calls" $(REFUSED_ROWS) | grep -x 1
-
-$(REFUSE): tools/refuse/refuse.c
-	mkdir -p $(@D)
-	$(CC) -O2 -Wall -shared -fPIC -o $@ $<
 
 $(NESTED): tools/bench/make_deep.py
 	mkdir -p $(@D)
