@@ -32,6 +32,14 @@ def word_of(path):
     return "/".join(key.hex() for key in path)
 
 
+def words_of(draw, path):
+    """The words that ask for a path: in hexadecimal or, where they can be, as text."""
+    is_text = all(byte in PRINTABLE for key in path for byte in key)
+    if is_text and draw.random() < 0.5:
+        return ["--", *(key.decode() for key in path)]
+    return ["--parts", "hex", *(key.hex() for key in path)]
+
+
 class File:
     """A file that the program is asked about, with a folder for its copies."""
 
@@ -109,10 +117,8 @@ def compare_keys(file, entries):
     buckets = [path for path, item in entries.items() if isinstance(item, int)]
     for bucket in file.some(buckets):
         names = [path[-1] for path in entries if path[:-1] == bucket]
-        parts = [key.hex() for key in bucket]
-        form = file.draw.choice(list(FORMS))
-        printed = file.text("keys", "--parts", "hex", "--form", form, *parts)
-        want(printed == lines_in(form, names), "keys --form", form, *parts)
+        words = ["--form", file.draw.choice(list(FORMS)), *words_of(file.draw, bucket)]
+        want(file.text("keys", *words) == lines_in(words[1], names), "keys", *words)
     names = [path[0] for path, item in entries.items() if len(path) == 1 and isinstance(item, int)]
     for form in FORMS:
         want(file.text("buckets", "--form", form) == lines_in(form, names), "buckets --form", form)
@@ -122,23 +128,22 @@ def compare_values(file, entries):
     """The value at a path is that of the listing, in each form."""
     values = {path: item for path, item in entries.items() if isinstance(item, bytes)}
     for path in file.some(values):
-        parts = [key.hex() for key in path]
         for form in FORMS:
-            printed = file.text("get", "--parts", "hex", "--form", form, *parts)
-            want(printed == lines_in(form, [values[path]]), "get --form", form, *parts)
+            words = ["--form", form, *words_of(file.draw, path)]
+            want(file.text("get", *words) == lines_in(form, [values[path]]), "get", *words)
 
 
 def compare_missing(file, entries):
     """A path that holds something else or nothing is told as that."""
     for path in file.some(paths_between(file.draw, file.some(entries))):
-        parts = ["--parts", "hex", *(key.hex() for key in path)]
+        words = words_of(file.draw, path)
         in_bucket = not path[:-1] or isinstance(entries.get(path[:-1]), int)
-        got, keys = file.run("get", *parts), file.run("keys", *parts)
+        got, keys = file.run("get", *words), file.run("keys", *words)
         if not isinstance(entries.get(path), bytes):
             fault = b"key not found" if in_bucket else b"bucket not found"
-            want(got.err == b"error: " + fault + b"\n", "get", *parts, "answered:", got)
+            want(got.err == b"error: " + fault + b"\n", "get", *words, "answered:", got)
         if not isinstance(entries.get(path), int):
-            want(keys.err == b"error: bucket not found\n", "keys", *parts, "answered:", keys)
+            want(keys.err == b"error: bucket not found\n", "keys", *words, "answered:", keys)
 
 
 class Element:
@@ -228,27 +233,42 @@ def compare_pages(file, info, length):
             page = Shown(file.text("page", number))
             want(page.row() == line, "page", number, "and pages differ:", page.row(), line)
     begun = min(info["high water"], -(-length // info["page size"]))
-    want(numbers == list(range(begun)), "pages has other pages than those that begin in the file")
+    is_whole = len(numbers) == begun and numbers == list(range(begun))
+    want(is_whole, "pages has other pages than those that begin in the file")
     want(past_end == info["high water"] - begun, "pages tells", past_end, "free pages past the end")
     want([kind for _, _, kind in rows][:2] == ["meta"] * 2, "pages has no metas at its beginning")
     if info["freelist"] is not None:
         ids = Shown(file.text("page", info["freelist"])).ids()
         free = [number for _, number, kind in rows if kind == "free"]
-        want(sorted(ids) == free + list(range(begun, info["high water"])), "pages and the freelist differ")
+        want(len(ids) == len(free) + past_end, "the freelist has other ids than pages has free pages")
+        within = [number for number in ids if number < begun]
+        want(sorted(within) == free, "pages and the freelist differ")
     return [kind for _, _, kind in rows]
 
 
-def compare_figures(file, entries, kinds, tree):
-    """The figures are those of what is listed, and of the pages but the root bucket's own."""
-    figures = dict(line.rsplit(b" ", 1) for line in file.text("stats").splitlines())
-    figures = {name.decode(): int(number) for name, number in figures.items()}
-    buckets = sum(isinstance(item, int) for item in entries.values())
-    want(figures["buckets"] == buckets, "stats tells", figures["buckets"], "buckets of", buckets)
-    keys = sum(len(path) > 1 for path in entries)
-    want(figures["keys"] == keys, "stats tells", figures["keys"], "keys of", keys)
-    for kind in ("branch", "leaf") if tree else ():
-        pages = kinds.count(kind) - sum(page.kind == kind for path, page in tree if not path)
-        want(figures[f"{kind} pages"] == pages, "stats tells other", kind, "pages than", pages)
+def figures_of(file):
+    lines = file.text("stats").decode().splitlines()
+    return {name: int(number) for name, number in (line.rsplit(" ", 1) for line in lines)}
+
+
+def compare_figures(file, info, entries, kinds, tree):
+    """The figures are those of what is listed and, where `page` shows the tree, of its pages but the
+    root bucket's own."""
+    figures = figures_of(file)
+    expected = {
+        "buckets": sum(isinstance(item, int) for item in entries.values()),
+        "keys": sum(len(path) > 1 for path in entries),
+    }
+    for kind in ("branch", "leaf"):
+        pages = figures[f"{kind} pages"] + figures[f"{kind} overflow"]
+        expected[f"{kind} allocated"] = pages * info["page size"]
+        if tree:
+            own = sum(page.kind == kind for path, page in tree if not path)
+            expected[f"{kind} pages"] = kinds.count(kind) - own
+    if tree:
+        expected["inline buckets"] = sum(element.root == 0 for _, page in tree for element in page.elements())
+    for name, number in expected.items():
+        want(figures[name] == number, "stats tells", figures[name], name, "and not", number)
 
 
 def compare_copy(file, listing, *words):
@@ -335,7 +355,7 @@ def compare_sound(file):
     if tree:
         compare_tree(tree, entries)
     kinds = compare_pages(file, info, os.path.getsize(file.path))
-    compare_figures(file, entries, kinds, tree)
+    compare_figures(file, info, entries, kinds, tree)
     compare_copy(file, listing)
     compare_beginnings(file, os.path.join(file.folder, "copy.db"))
     for slot in (0, 1):
@@ -422,17 +442,18 @@ def findings_of(text):
 
 
 def span_of(page):
+    """The numbers of the pages of a span, which lies in the file."""
     return range(int(page.number), int(page.number) + 1 + int(page.overflow))
 
 
-def runs_of(numbers):
-    """The longest runs of these numbers, each as its first and its last."""
+def runs_between(numbers, first, end):
+    """The longest runs of what lies from the first number to before the end and is none of these
+    numbers, each as its first and its last. The end may be as large as a mark can be."""
     runs = []
-    for number in sorted(numbers):
-        if runs and runs[-1][1] == number - 1:
-            runs[-1] = (runs[-1][0], number)
-        else:
-            runs.append((number, number))
+    for number in sorted(number for number in numbers if first <= number < end) + [end]:
+        if first < number:
+            runs.append((first, number - 1))
+        first = number + 1
     return runs
 
 
@@ -451,7 +472,7 @@ def compare_accounts(file, info, findings):
     if tree:
         used = set(span_of(page)).union(*(span_of(shown) for _, shown in tree))
         expected["reachable freed"] = [(number, number) for number in sorted(used & set(ids))]
-        expected["unreachable unfreed"] = runs_of(set(within) - used - set(ids))
+        expected["unreachable unfreed"] = runs_between(used | set(ids), within.start, within.stop)
     for words, pages in expected.items():
         told = [(first, last) for first, last, said in findings if said == words]
         want(told == pages, words, "is told of", told, "and not of", pages)

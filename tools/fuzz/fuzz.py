@@ -12,6 +12,7 @@ The status is 1 where there is one. With --bbolt, bbolt's own command is asked t
 import argparse
 import os
 import random
+import resource
 import sys
 import tempfile
 import time
@@ -23,6 +24,10 @@ from comparisons import File, compare
 from damage import damage
 from program import Difference, Program, want
 from sound import draw_sound
+
+
+# How much memory this and the program may have, so that neither can take all of a machine's.
+MOST_MEMORY = 2**32
 
 
 def compare_made(file, made, kind, listing):
@@ -76,6 +81,7 @@ def keep(words, number, folder):
 
 def main():
     words = read_words()
+    resource.setrlimit(resource.RLIMIT_AS, (MOST_MEMORY, MOST_MEMORY))
     program = Program(words.program)
     end = time.monotonic() + words.seconds
     kinds, failed, number = Counter(), 0, words.first

@@ -82,9 +82,13 @@ class Value:
         return LEAF_ELEMENT.pack(self.flags, position, len(self.key), len(self.data()) - len(self.key))
 
     def fields(self, place):
-        """The fields of an inline bucket's head, which stands there, and of its page's header."""
+        """The fields of an inline bucket's head, which stands there, and of its page."""
         yield from fields_at("bucket", BUCKET_HEAD, place)
-        yield from fields_at("inline", HEADER, place + BUCKET_HEAD.size)
+        place += BUCKET_HEAD.size
+        yield from fields_at("inline", HEADER, place)
+        count = HEADER.unpack_from(self.value, BUCKET_HEAD.size)[2]
+        for index in range(count):
+            yield from fields_at("inline", LEAF_ELEMENT, place + HEADER.size * (1 + index))
 
 
 @dataclass

@@ -146,7 +146,7 @@ def alters_figure(name):
     alters("stats")(add_one)
 
 
-for figure in (b"buckets", b"keys", b"branch pages", b"leaf pages"):
+for figure in (b"buckets", b"inline buckets", b"keys", b"branch pages", b"leaf allocated"):
     alters_figure(figure)
 
 
@@ -215,7 +215,7 @@ def raise_mark(words, answer):
 @alters("info")
 def change_slot(words, answer):
     """info shows the other slot"""
-    answer.out = answer.out.replace(b"meta 0", b"meta 2").replace(b"meta 1", b"meta 0").replace(b"meta 2", b"meta 1")
+    answer.out = re.sub(rb"meta (\d)", lambda found: b"meta %d" % (1 - int(found[1])), answer.out)
 
 
 @alters("check", status=1)
