@@ -3,7 +3,7 @@
 import shutil
 import subprocess
 
-from comparisons import PRINTABLE, entries_of, lines_in
+from answers import PRINTABLE, entries_of, lines_in
 from program import SECONDS, want
 
 

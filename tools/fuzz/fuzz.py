@@ -18,11 +18,12 @@ import tempfile
 import time
 from collections import Counter
 
+from answers import File
 from bbolt import agrees
 from buckets import listing_text
-from comparisons import File, compare
+from comparisons import compare
 from damage import damage
-from program import Difference, Program, want
+from program import FAILURES, Program, want
 from sound import draw_sound
 
 
@@ -90,9 +91,9 @@ def main():
         while number < words.first + words.files and time.monotonic() < end:
             try:
                 kinds[compare_one(program, words.seed, number, folder, words.bbolt)] += 1
-            except Difference as difference:
+            except FAILURES as difference:
                 failed += 1
-                print(f"{keep(words, number, folder)}: {difference}", flush=True)
+                print(f"{keep(words, number, folder)}: {difference!r}", flush=True)
             number += 1
     for kind, count in sorted(kinds.items()):
         print(f"{count} {kind}")

@@ -49,6 +49,10 @@ class Difference(Exception):
     """What doesn't hold of a file."""
 
 
+# How a comparison ends that fails: an answer may also be of no form that can be read.
+FAILURES = (Difference, LookupError, ValueError)
+
+
 def want(is_so, *what):
     if not is_so:
         raise Difference(" ".join(str(part) for part in what))

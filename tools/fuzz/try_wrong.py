@@ -14,7 +14,7 @@ import sys
 import tempfile
 
 from fuzz import compare_one
-from program import Difference, Program
+from program import FAILURES, Program
 
 SEED = 1
 MOST_FILES = 200
@@ -316,8 +316,8 @@ def finds(path, alter, folder):
     for number in range(MOST_FILES):
         try:
             compare_one(program, SEED, number, folder)
-        except Difference as difference:
-            return number, str(difference)
+        except FAILURES as difference:
+            return number, repr(difference)
     return None, "not found"
 
 
