@@ -130,7 +130,8 @@ failing_error() {
 	same_without_error nonsense
 }
 
-# OUT on a device with too little room: a limit on the length of files stands for it.
+# OUT on a device with too little room: a limit on the length of files stands for it, with the
+# signal ignored by which the system would end the program.
 full_target() {
 	for blocks in 0 1 8 16; do
 		begin compact with "$blocks" blocks
