@@ -5,7 +5,7 @@ SOUND = $(wildcard examples/*.buckets)
 LISTED = $(filter-out $(LEAKED).list,$(wildcard examples/*.list))
 LEAKED = examples/leaked
 
-.PHONY: build demo examples manual test bench memory install dist deb clean
+.PHONY: build demo examples manual failures fuzz fuzz-wrong test bench memory install dist deb clean
 
 # Proves the program and the libraries below it, and builds it.
 build:
@@ -49,9 +49,49 @@ manual: $(PROGRAM)
 	python3 -B tools/usage/compare_manual.py $(PROGRAM) docs/luntsegi.1
 	python3 -B tools/usage/compare_completions.py $(PROGRAM)
 
-# The merge gate: real databases, the manual, and then every proof from nothing, the wrong
-# bodies, the tests and the program.
-test: examples manual
+LISTED_LONG = out/listed_long.db
+
+REFUSE = out/refuse.so
+SWEEP = python3 -B tools/refuse/sweep.py $(PROGRAM) $(REFUSE)
+EACH_COMMAND = info "page 5" pages check buckets stats list "keys users" "get settings theme" \
+	"get settings none" "info --help" "info more" "list --from x"
+
+# Files that can't be read or made, devices that are full, and streams that are closed. Then each
+# write of each command fails in turn, of seven bytes at most; of the many that a copy makes each 10th
+# fails; and so do each read of FILE and the sync of OUT.
+failures: $(PROGRAM) $(REFUSE) $(LISTED_LONG)
+	sh tools/streams/try_failures.sh $(PROGRAM) examples/app.db $(LEAKED).db $(LISTED_LONG)
+	$(SWEEP) write 1 examples/app.db $(EACH_COMMAND)
+	$(SWEEP) write 1 $(LEAKED).db check list
+	$(SWEEP) write 10 examples/app.db "compact -o OUT"
+	$(SWEEP) read 1 examples/app.db info list "compact -o OUT"
+	$(SWEEP) sync 1 examples/app.db "compact -o OUT"
+
+$(REFUSE): tools/refuse/refuse.c
+	mkdir -p $(@D)
+	$(CC) -O2 -Wall -shared -fPIC -o $@ $<
+
+$(LISTED_LONG): tools/bench/make_wide.py
+	mkdir -p $(@D)
+	python3 -B tools/bench/make_wide.py $@ 5000
+
+FUZZ = PYTHONPATH=tools/bench python3 -B tools/fuzz
+SECONDS ?= 60
+SEED ?= $(shell date +%s)
+
+# Compares the program's answers on random files. SEED=N goes through the files of another run again.
+# BBOLT=PATH has bbolt's own command answer too, on the files that both accept.
+fuzz: $(PROGRAM)
+	$(FUZZ)/fuzz.py $(PROGRAM) --seed $(SEED) --seconds $(SECONDS) $(if $(BBOLT),--bbolt $(BBOLT))
+
+# Alters the program's answers in many ways, each of which the comparisons have to find.
+fuzz-wrong: $(PROGRAM)
+	$(FUZZ)/try_wrong.py $(PROGRAM)
+
+# The merge gate: real databases, the manual, failures, refused memory, random files that are the same
+# each time, and then every proof from nothing, the wrong bodies, the tests and the program.
+test: examples manual failures memory
+	$(FUZZ)/fuzz.py $(PROGRAM) --seed 1 --files 36
 	rt ci
 
 LARGE = out/large.db
@@ -93,20 +133,30 @@ $(VERY_DEEP): tools/bench/make_deep.py
 	python3 -B tools/bench/make_deep.py $@ 50000
 
 DEEP = out/deep.db
-REFUSED = rt try --data deep.db=$(abspath $(DEEP)) --fail-alloc
-
+NESTED = out/nested.db
 REFUSED_ROWS = out/refused_rows
 
-# Refuses memory. Each row of memory_rows has its 1000th request refused: nine of these are requests
-# of a walk, which is asked again and goes on, and of two neighbours one stands before the calls that
-# make no request and one behind them. The first request of the program is refused too.
-memory: $(DEEP)
-	cd crates/luntsegi && $(REFUSED) 1 -- check deep.db 2>&1 | grep -x "error: out of memory"
+# Refuses memory. The program has each of its requests refused in turn: on a file of 60 nested
+# buckets and on a real one under every command, on 20,000 nested buckets under those that make few,
+# and of the many that a copy of these makes each 1500th. Then each row of memory_rows has its 1000th
+# request refused: nine of these are requests of a walk, which is asked again and goes on, and of two
+# neighbours one stands before the calls that make no request and one behind them.
+memory: $(PROGRAM) $(REFUSE) $(NESTED) $(DEEP)
+	$(SWEEP) memory 1 $(NESTED) info "page 3" pages check buckets stats list "list --from 62/62" \
+		"keys b b" "get b x" "compact -o OUT"
+	$(SWEEP) memory 1 examples/app.db $(EACH_COMMAND) "compact -o OUT --page-size 1024"
+	$(SWEEP) memory 1 $(LEAKED).db check "list --meta 1" "compact -o OUT --meta 1"
+	$(SWEEP) memory 1 $(DEEP) info check buckets stats
+	$(SWEEP) memory 1500 $(DEEP) "compact -o OUT"
 	-cd crates/tree_rows && rt try --test --fail-alloc 1000 -- memory_rows > $(abspath $(REFUSED_ROWS)) 2>&1
 	grep -c "refused at depth ., and gives all" $(REFUSED_ROWS) | grep -x 6
 	grep -c "refused at its beginning, and gives the rest" $(REFUSED_ROWS) | grep -x 3
 	grep -c "refused before the calls" $(REFUSED_ROWS) | grep -x 1
 	grep -c "refused behind the calls" $(REFUSED_ROWS) | grep -x 1
+
+$(NESTED): tools/bench/make_deep.py
+	mkdir -p $(@D)
+	python3 -B tools/bench/make_deep.py $@ 60
 
 $(DEEP): tools/bench/make_deep.py
 	mkdir -p $(@D)
