@@ -5,7 +5,7 @@ SOUND = $(wildcard examples/*.buckets)
 LISTED = $(filter-out $(LEAKED).list,$(wildcard examples/*.list))
 LEAKED = examples/leaked
 
-.PHONY: build demo examples manual failures fuzz fuzz-wrong test bench memory install dist deb clean
+.PHONY: build demo examples manual failures fuzz fuzz-wrong wrong-bodies test bench memory install dist deb clean
 
 # Proves the program and the libraries below it, and builds it.
 build:
@@ -87,6 +87,10 @@ fuzz: $(PROGRAM)
 # Alters the program's answers in many ways, each of which the comparisons have to find.
 fuzz-wrong: $(PROGRAM)
 	$(FUZZ)/try_wrong.py $(PROGRAM)
+
+# More wrong bodies than the gate has time for.
+wrong-bodies:
+	tools/wrong_bodies/try_more.sh
 
 # The merge gate: real databases, the manual, failures, refused memory, random files that are the same
 # each time, and then every proof from nothing, the wrong bodies, the tests and the program.

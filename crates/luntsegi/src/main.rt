@@ -133,12 +133,18 @@ fn run_over<T: Target + Drop>(rt: &HostRuntime, job: &Job, file: &[u8], target: 
 }
 
 /// Writes what was gathered, and answers the status. A flush that fails is a fault, whatever the
-/// job found, unless the job told it already.
+/// job found, unless the job told it already; nothing is written then any more.
 fn write_out(rt: &HostRuntime, out: WriteSink<BufWriter<Stdout>>, code: u8) -> u8 {
     let is_told = out.failures() > 0;
-    match out.into_inner().flush() {
-        Err(_) if !is_told => tell(rt, "write failed", FAILED),
-        _ => code,
+    let mut gathered = out.into_inner();
+    if gathered.flush().is_ok() {
+        return code;
+    }
+    let _unwritten = gathered.into_parts();
+    if is_told {
+        code
+    } else {
+        tell(rt, "write failed", FAILED)
     }
 }
 
