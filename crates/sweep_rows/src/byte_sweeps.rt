@@ -1,5 +1,5 @@
-//! A file of four pages with each byte changed to each other one, under each command: 1,044,480
-//! files.
+//! A file of four pages with each byte changed to each other one, under each command but `keys` and
+//! `get`: 1,044,480 files.
 
 use crate::ran::{Ran, job_of};
 use bolt_cli::{Job, Refusal};
@@ -74,7 +74,7 @@ fn is_read(at: usize) -> bool {
     tells_page(at, 2) || tells_page(at, 3)
 }
 
-/// All commands, as jobs.
+/// The commands that are run, as jobs.
 #[derive(Drop)]
 struct Jobs {
     info: Job,
