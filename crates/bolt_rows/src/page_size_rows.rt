@@ -44,11 +44,11 @@ fn check_pair(
 }
 
 /// Bucket `b` inline, with one value.
-fn inline_value(
+fn inline_value<'a>(
     alloc: Global,
     page_size: u32,
-    key: &[u8],
-    value: &[u8],
+    key: &'a [u8],
+    value: &'a [u8],
 ) -> Result<Vec<u8>, AllocError> {
     let held = inline(alloc, 0, &[Value(key, value)])?;
     let elements = [Bucket(b"b", held.as_slice())];
