@@ -5,7 +5,7 @@ SOUND = $(wildcard examples/*.buckets)
 LISTED = $(filter-out $(LEAKED).list,$(wildcard examples/*.list))
 LEAKED = examples/leaked
 
-.PHONY: build demo examples test bench memory install clean
+.PHONY: build demo examples manual failures fuzz fuzz-wrong test bench memory install dist deb clean
 
 # Proves the program and the libraries below it, and builds it.
 build:
@@ -19,10 +19,12 @@ demo: $(PROGRAM)
 	$(PROGRAM) list examples/app.db
 
 COPY = out/copy.db
+# The documents that show commands with what they print.
+SHOWING = README.md docs/GUIDE.md docs/COMMANDS.md docs/luntsegi.1
 
 # What the program prints of each real database, compared with what bbolt finds in it; that a compact
 # copy of each is sound and lists the same, and is made where nothing stands; and that output which
-# can't be written is told, whatever was found.
+# can't be written is told, whatever was found; and that documents show what is printed.
 examples: $(PROGRAM)
 	for list in $(SOUND); do $(PROGRAM) buckets $${list%.buckets}.db | cmp - $$list || exit 1; done
 	for list in $(LISTED); do $(PROGRAM) list $${list%.list}.db | cmp - $$list || exit 1; done
@@ -38,24 +40,77 @@ examples: $(PROGRAM)
 	$(PROGRAM) check $(LEAKED).db | cmp - $(LEAKED).findings
 	$(PROGRAM) check $(LEAKED).db 2>&1 > /dev/full | grep -qx "error: write failed"
 	$(PROGRAM) check $(LEAKED).db 2> /dev/null > /dev/full; test $$? -eq 1
+	python3 -B tools/usage/run_examples.py $(PROGRAM) $(SHOWING)
 
-# The merge gate: real databases, and then every proof from nothing, the wrong
-# bodies, the tests and the program.
-test: examples
+# That the manual page and what bash and zsh complete say what help does; and, where mandoc is
+# installed, that it finds nothing in the page.
+manual: $(PROGRAM)
+	if command -v mandoc > /dev/null; then mandoc -Tlint docs/luntsegi.1; fi
+	python3 -B tools/usage/compare_manual.py $(PROGRAM) docs/luntsegi.1
+	python3 -B tools/usage/compare_completions.py $(PROGRAM)
+
+LISTED_LONG = out/listed_long.db
+
+REFUSE = out/refuse.so
+SWEEP = python3 -B tools/refuse/sweep.py $(PROGRAM) $(REFUSE)
+EACH_COMMAND = info "page 5" pages check buckets stats list "keys users" "get settings theme" \
+	"get settings none" "info --help" "info more" "list --from x"
+
+# Files that can't be read or made, devices that are full, and streams that are closed. Then each
+# write of each command fails in turn, of seven bytes at most; of the many that a copy makes each 10th
+# fails; and so do each read of FILE and the sync of OUT.
+failures: $(PROGRAM) $(REFUSE) $(LISTED_LONG)
+	sh tools/streams/try_failures.sh $(PROGRAM) examples/app.db $(LEAKED).db $(LISTED_LONG)
+	$(SWEEP) write 1 examples/app.db $(EACH_COMMAND)
+	$(SWEEP) write 1 $(LEAKED).db check list
+	$(SWEEP) write 10 examples/app.db "compact -o OUT"
+	$(SWEEP) read 1 examples/app.db info list "compact -o OUT"
+	$(SWEEP) sync 1 examples/app.db "compact -o OUT"
+
+$(REFUSE): tools/refuse/refuse.c
+	mkdir -p $(@D)
+	$(CC) -O2 -Wall -shared -fPIC -o $@ $<
+
+$(LISTED_LONG): tools/bench/make_wide.py
+	mkdir -p $(@D)
+	python3 -B tools/bench/make_wide.py $@ 5000
+
+FUZZ = PYTHONPATH=tools/bench python3 -B tools/fuzz
+SECONDS ?= 60
+SEED ?= $(shell date +%s)
+
+# Compares the program's answers on random files. SEED=N goes through the files of another run again.
+# BBOLT=PATH has bbolt's own command answer too, on the files that both accept.
+fuzz: $(PROGRAM)
+	$(FUZZ)/fuzz.py $(PROGRAM) --seed $(SEED) --seconds $(SECONDS) $(if $(BBOLT),--bbolt $(BBOLT))
+
+# Alters the program's answers in many ways, each of which the comparisons have to find.
+fuzz-wrong: $(PROGRAM)
+	$(FUZZ)/try_wrong.py $(PROGRAM)
+
+# The merge gate: real databases, the manual, failures, refused memory, random files that are the same
+# each time, and then every proof from nothing, the wrong bodies, the tests and the program.
+test: examples manual failures memory
+	$(FUZZ)/fuzz.py $(PROGRAM) --seed 1 --files 36
 	rt ci
 
 LARGE = out/large.db
 WIDE = out/wide.db
 LONG = out/long.db
+SPARSE = out/sparse.db
+VERY_DEEP = out/very_deep.db
 
 # Times the reading of a file (info), the checker and what prints of a file: on a database of 256 MB
 # with a million small entries, on one with 200,000 buckets in its root bucket, and on one of 256 MB
-# with values of 100 KB.
-bench: $(PROGRAM) $(LARGE) $(WIDE) $(LONG)
+# with values of 100 KB. Then it times compact copies, of the first and the last of these, of one of
+# 256 MB most of which is free pages, and of one with 50,000 buckets one within another. With BBOLT,
+# the path of bbolt's program, in the environment, bbolt copies the same files.
+bench: $(PROGRAM) $(LARGE) $(WIDE) $(LONG) $(SPARSE) $(VERY_DEEP)
 	python3 tools/bench/time_commands.py $(PROGRAM) $(LARGE) info check buckets pages stats list \
 		"keys bucket-0" "get bucket-0 entry-000000000000100000"
 	python3 tools/bench/time_commands.py $(PROGRAM) $(WIDE) info check buckets pages stats list
 	python3 tools/bench/time_commands.py $(PROGRAM) $(LONG) info check buckets pages stats list
+	python3 -B tools/bench/time_copies.py $(PROGRAM) $(LARGE) $(LONG) $(SPARSE) $(VERY_DEEP)
 
 $(LARGE): tools/bench/make_large.py
 	mkdir -p $(@D)
@@ -69,28 +124,59 @@ $(LONG): tools/bench/make_long.py
 	mkdir -p $(@D)
 	python3 -B tools/bench/make_long.py $@
 
-DEEP = out/deep.db
-REFUSED = rt try --data deep.db=$(abspath $(DEEP)) --fail-alloc
+$(SPARSE): tools/bench/make_sparse.py
+	mkdir -p $(@D)
+	python3 -B tools/bench/make_sparse.py $@
 
+$(VERY_DEEP): tools/bench/make_deep.py
+	mkdir -p $(@D)
+	python3 -B tools/bench/make_deep.py $@ 50000
+
+DEEP = out/deep.db
+NESTED = out/nested.db
 REFUSED_ROWS = out/refused_rows
 
-# Refuses memory. Each row of memory_rows has its 1000th request refused: nine of these are requests
-# of a walk, which is asked again and goes on, and of two neighbours one stands before the calls that
-# make no request and one behind them. The first request of the program is refused too.
-memory: $(DEEP)
-	cd crates/luntsegi && $(REFUSED) 1 -- check deep.db 2>&1 | grep -x "error: out of memory"
+# Refuses memory. The program has each of its requests refused in turn: on a file of 60 nested
+# buckets and on a real one under every command, on 20,000 nested buckets under those that make few,
+# and of the many that a copy of these makes each 1500th. Then each row of memory_rows has its 1000th
+# request refused: nine of these are requests of a walk, which is asked again and goes on, and of two
+# neighbours one stands before the calls that make no request and one behind them.
+memory: $(PROGRAM) $(REFUSE) $(NESTED) $(DEEP)
+	$(SWEEP) memory 1 $(NESTED) info "page 3" pages check buckets stats list "list --from 62/62" \
+		"keys b b" "get b x" "compact -o OUT"
+	$(SWEEP) memory 1 examples/app.db $(EACH_COMMAND) "compact -o OUT --page-size 1024"
+	$(SWEEP) memory 1 $(LEAKED).db check "list --meta 1" "compact -o OUT --meta 1"
+	$(SWEEP) memory 1 $(DEEP) info check buckets stats
+	$(SWEEP) memory 1500 $(DEEP) "compact -o OUT"
 	-cd crates/tree_rows && rt try --test --fail-alloc 1000 -- memory_rows > $(abspath $(REFUSED_ROWS)) 2>&1
 	grep -c "refused at depth ., and gives all" $(REFUSED_ROWS) | grep -x 6
 	grep -c "refused at its beginning, and gives the rest" $(REFUSED_ROWS) | grep -x 3
 	grep -c "refused before the calls" $(REFUSED_ROWS) | grep -x 1
 	grep -c "refused behind the calls" $(REFUSED_ROWS) | grep -x 1
 
+$(NESTED): tools/bench/make_deep.py
+	mkdir -p $(@D)
+	python3 -B tools/bench/make_deep.py $@ 60
+
 $(DEEP): tools/bench/make_deep.py
 	mkdir -p $(@D)
 	python3 -B tools/bench/make_deep.py $@
 
+# The folder in which zsh looks for completions.
+ZSH_COMPLETIONS ?= $(PREFIX)/share/zsh/site-functions
+
 install: $(PROGRAM)
 	install -D -m 755 $(PROGRAM) $(DESTDIR)$(PREFIX)/bin/luntsegi
+	install -D -m 644 docs/luntsegi.1 $(DESTDIR)$(PREFIX)/share/man/man1/luntsegi.1
+	install -D -m 644 completions/luntsegi.bash $(DESTDIR)$(PREFIX)/share/bash-completion/completions/luntsegi
+	install -D -m 644 completions/_luntsegi $(DESTDIR)$(ZSH_COMPLETIONS)/_luntsegi
+
+# Packages: an archive of what is installed and the documents, and a Debian package.
+dist: $(PROGRAM)
+	tools/package/make_package.sh archive $(PROGRAM)
+
+deb: $(PROGRAM)
+	tools/package/make_package.sh deb $(PROGRAM)
 
 clean:
 	rm -rf crates/*/out out

@@ -1,0 +1,95 @@
+# Completion for bash: the commands of luntsegi, their options and values, and file names.
+
+# The options of a command that have a value.
+_luntsegi_valued() {
+    case $1 in
+        buckets) echo --form --meta ;;
+        keys | get) echo --form --parts --meta ;;
+        stats) echo --meta ;;
+        list) echo --from --meta ;;
+        compact) echo -o --page-size --meta ;;
+    esac
+}
+
+# The values of an option that has few. -o takes a file name, which is completed as one.
+_luntsegi_values() {
+    case $1 in
+        --form) echo printable hex bytes ;;
+        --parts) echo text hex ;;
+        --meta) echo 0 1 ;;
+    esac
+}
+
+# Whether the words from the third up to the cursor have no operand, so that FILE is to come.
+# An = stands as a word of its own between an option and its value.
+_luntsegi_wants_file() {
+    local at word
+    for ((at = 2; at < COMP_CWORD; at++)); do
+        word=${COMP_WORDS[at]}
+        case $word in
+            --) ;;
+            --form | --parts | --meta | --from | --page-size | -o)
+                [[ ${COMP_WORDS[at + 1]} == = ]] && ((at++))
+                ((at++))
+                ;;
+            -?*) ;;
+            *) return 1 ;;
+        esac
+    done
+}
+
+_luntsegi_words() {
+    mapfile -t COMPREPLY < <(compgen -W "$1" -- "$2")
+}
+
+_luntsegi_files() {
+    compopt -o filenames 2> /dev/null
+    mapfile -t COMPREPLY < <(compgen -f -- "$1")
+}
+
+# The option whose value the cursor may be at: the word before, or the one before an =.
+_luntsegi_option() {
+    local before=${COMP_WORDS[COMP_CWORD - 1]}
+    [[ $before == = ]] && before=${COMP_WORDS[COMP_CWORD - 2]}
+    echo "$before"
+}
+
+# Completes the first word.
+_luntsegi_command() {
+    case $1 in
+        -*) _luntsegi_words "-h --help -V --version" "$1" ;;
+        *) _luntsegi_words "info page pages check buckets keys get stats list compact" "$1" ;;
+    esac
+}
+
+# Completes an option, or an operand: the name of a file, or what nobody but the user knows.
+_luntsegi_option_or_operand() {
+    if [[ $1 == -* && " ${COMP_WORDS[*]:0:COMP_CWORD} " != *" -- "* ]]; then
+        _luntsegi_words "$(_luntsegi_valued "${COMP_WORDS[1]}") -h --help" "$1"
+    elif _luntsegi_wants_file; then
+        _luntsegi_files "$1"
+    fi
+}
+
+_luntsegi_argument() {
+    local option
+    option=$(_luntsegi_option)
+    case $option in
+        -o) _luntsegi_files "$1" ;;
+        --form | --parts | --meta) _luntsegi_words "$(_luntsegi_values "$option")" "$1" ;;
+        --from | --page-size) ;;
+        *) _luntsegi_option_or_operand "$1" ;;
+    esac
+}
+
+_luntsegi() {
+    local current=${COMP_WORDS[COMP_CWORD]}
+    COMPREPLY=()
+    if ((COMP_CWORD == 1)); then
+        _luntsegi_command "$current"
+    else
+        _luntsegi_argument "${current#=}"
+    fi
+}
+
+complete -F _luntsegi luntsegi

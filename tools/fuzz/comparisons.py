@@ -1,0 +1,105 @@
+"""What holds of the answers to a file, whatever it is: each compares answers of the program alone."""
+
+import os
+
+from answers import entries_of, info_of, read, shown_tree
+from copies import compare_beginnings, compare_copy, compare_slot
+from findings import ACCOUNT_FAULTS, compare_accounts, compare_bad_page, findings_of
+from listings import compare_keys, compare_missing, compare_order, compare_rests, compare_values
+from pages import compare_figures, compare_pages, compare_tree
+from program import want
+
+UNDER_ALL = ("pages", "buckets", "stats", "list")
+
+
+def compare_sound(file):
+    """What holds of a file that `check` accepts. Answers its listing."""
+    listing = file.text("list")
+    entries = entries_of(listing)
+    info = info_of(file)
+    compare_order(listing)
+    compare_rests(file, listing)
+    compare_keys(file, entries)
+    compare_values(file, entries)
+    compare_missing(file, entries)
+    tree = shown_tree(file, info)
+    if tree:
+        compare_tree(tree, entries)
+    kinds = compare_pages(file, info, os.path.getsize(file.path))
+    compare_figures(file, info, entries, kinds, tree)
+    compare_copy(file, listing)
+    compare_beginnings(file, os.path.join(file.folder, "copy.db"))
+    for slot in (0, 1):
+        listed = compare_slot(file, slot)
+        is_same = listed.is_ok() and listed.out == listing
+        want(slot != info["meta"] or is_same, "list --meta", slot, "isn't list")
+    return listing
+
+
+def compare_refusals(file, fault):
+    """Every command that wants a sound file is refused alike, and a copy of it is empty."""
+    copy = file.copy("copy.db")
+    answers = [file.run(command) for command in UNDER_ALL]
+    answers += [file.run("keys", "00"), file.run("get", "00"), file.run("compact", "-o", copy)]
+    for answer in answers:
+        want(answer.status == 1 and answer.err == fault, "told is", answer, "and not", fault)
+    want(read(copy) == b"", "the copy of what is refused isn't empty")
+
+
+def compare_unsound(file, checked):
+    """What holds of a file that `check` refuses for what it finds."""
+    first_line = checked.out.splitlines()[0]
+    info = info_of(file)
+    compare_refusals(file, b"error: file refused: " + first_line + b"\n")
+    findings = findings_of(checked.out)
+    number, _, words = findings[0]
+    is_of_accounts = words in ACCOUNT_FAULTS
+    want(is_of_accounts or len(findings) == 1, "more than one finding of the trees")
+    if is_of_accounts:
+        compare_accounts(file, info, findings)
+    else:
+        compare_bad_page(file, info, number, words)
+    for slot in (0, 1):
+        listed = compare_slot(file, slot)
+        if slot == info["meta"] and is_of_accounts:
+            want(listed.is_ok(), "the trees are sound, but not under their meta:", listed)
+        elif slot == info["meta"] and not listed.is_ok():
+            want(listed.err == b"error: file refused: " + first_line + b"\n", "told is", listed)
+
+
+def compare_closed(file, checked):
+    """A file with no valid meta is refused alike by every command."""
+    compare_refusals(file, checked.err)
+    for words in (["info"], ["page", 0], ["list", "--meta", 0], ["list", "--meta", 1]):
+        answer = file.run(*words)
+        want(answer.status == 1 and answer.err == checked.err, *words, "answered:", answer)
+
+
+def compare_limits(file):
+    """No page is shown at the mark or above it, nor one that begins past the file's end."""
+    info = info_of(file)
+    mark, page_size = info["high water"], info["page size"]
+    past_end = os.path.getsize(file.path) // page_size + 1
+    for number, words in ((mark, "out of range"), (past_end, "cut off")):
+        words = words if number < mark else "out of range"
+        answer = file.run("page", number)
+        want(answer.err == f"error: page {number}: {words}\n".encode(), "page", number, "answered:", answer)
+
+
+def compare(file):
+    """Compares all answers to a file. Answers what `check` made of it, and its listing if sound."""
+    before = read(file.path)
+    checked = file.run("check")
+    listing = None
+    if checked.is_ok():
+        kind, listing = "accepted", compare_sound(file)
+    elif checked.err:
+        kind = "without a meta"
+        compare_closed(file, checked)
+    else:
+        kind = "refused"
+        compare_unsound(file, checked)
+    if not checked.err:
+        compare_limits(file)
+    want(read(file.path) == before, "the file was changed")
+    return kind, listing

@@ -1,0 +1,115 @@
+"""Runs the program, and says of each run what holds of all of them."""
+
+import re
+import subprocess
+
+SECONDS = 10
+
+HEX = rb"[0-9a-f]"
+ENTRY = rb"%b+(?:/%b+)*(?: = %b*| bucket \d+)\n" % (HEX, HEX, HEX)
+ITEM = rb"(?:%b+ -> \d+|%b+ = %b*|%b+ bucket \d+ \d+|\d+)\n" % (HEX, HEX, HEX, HEX)
+FINDING = rb"pages? \d+(?: to \d+)?: [a-z ]+"
+FIGURES = [
+    "buckets", "inline buckets", "inline used", "keys", "depth", "branch pages", "branch overflow",
+    "branch allocated", "branch used", "leaf pages", "leaf overflow", "leaf allocated", "leaf used",
+]
+TABLE = rb"ID       TYPE       ITEMS  OVRFLW\n={8} ={10} ={6} ={6}\n"
+ROW = rb"\d+ +(?:meta|freelist|branch|leaf|free) +\d* +\d* *\n"
+PAST_END = rb"(?:\d+ free pages past the end of the file\n)?"
+
+# What each command prints where it does what it is asked; names, keys and values are compared whole.
+TEXTS = {
+    "info": rb"page size \d+\nmeta [01]\ntxid \d+\nroot \d+\nsequence \d+\n"
+    rb"freelist (?:\d+|none)\nhigh water \d+\n",
+    "page": rb"page \d+\ntype (?:branch|leaf|meta|freelist)\nitems \d+\noverflow \d+\n(?:%b)*" % ITEM,
+    "pages": TABLE + rb"(?:%b)*" % ROW + PAST_END,
+    "check": rb"OK\n",
+    "stats": b"".join(figure.encode() + rb" \d+\n" for figure in FIGURES),
+    "list": rb"(?:%b)*" % ENTRY,
+    "compact": rb"\d+ -> \d+ bytes\n",
+}
+FINDINGS = re.compile(rb"(?:%b\n)+\d+ errors found\n" % FINDING)
+META_FAULT = rb"file too short|invalid database|version mismatch|checksum error|page size refused"
+REFUSED = rb"file refused: " + FINDING
+
+# What each command tells of a file with a valid meta where it doesn't.
+FAULTS = {
+    "page": FINDING,
+    "pages": REFUSED,
+    "buckets": REFUSED,
+    "keys": REFUSED + rb"|bucket not found",
+    "get": REFUSED + rb"|bucket not found|key not found",
+    "stats": REFUSED,
+    "list": REFUSED,
+    "compact": REFUSED,
+}
+
+
+class Difference(Exception):
+    """What doesn't hold of a file."""
+
+
+# How a comparison ends that fails: an answer may also be of no form that can be read.
+FAILURES = (Difference, LookupError, ValueError)
+
+
+def want(is_so, *what):
+    if not is_so:
+        raise Difference(" ".join(str(part) for part in what))
+
+
+class Answer:
+    """What a run printed, and its status."""
+
+    def __init__(self, status, out, err):
+        self.status = status
+        self.out = out
+        self.err = err
+
+    def is_ok(self):
+        return self.status == 0
+
+    def __repr__(self):
+        return f"status {self.status}, {self.out[-300:]!r}, {self.err[-300:]!r}"
+
+
+class Program:
+    """The program, with the number of its runs."""
+
+    def __init__(self, path):
+        self.path = path
+        self.runs = 0
+
+    def ask(self, words):
+        """What the program answers to these words."""
+        self.runs += 1
+        try:
+            ended = subprocess.run([self.path, *words], capture_output=True, timeout=SECONDS, close_fds=False)
+        except subprocess.TimeoutExpired:
+            raise Difference(*words, "didn't end within", SECONDS, "seconds") from None
+        return Answer(ended.returncode, ended.stdout, ended.stderr)
+
+    def run(self, *words):
+        """The answer to these words: status 0 with a text, or 1 with a fault or with findings."""
+        answer = self.ask([str(word) for word in words])
+        want(is_stated(words[0], answer), *words, "answered:", answer)
+        return answer
+
+    def text(self, *words):
+        """What these words print, which want no fault."""
+        answer = self.run(*words)
+        want(answer.is_ok(), *words, "answered:", answer)
+        return answer.out
+
+
+def is_stated(command, answer):
+    """The answer is of a form that is stated for the command."""
+    if answer.status == 0:
+        form = TEXTS.get(command)
+        return answer.err == b"" and (form is None or re.fullmatch(form, answer.out) is not None)
+    if answer.status != 1:
+        return False
+    if command == "check" and answer.err == b"":
+        return FINDINGS.fullmatch(answer.out) is not None
+    faults = META_FAULT + b"|" + FAULTS.get(command, META_FAULT)
+    return answer.out == b"" and re.fullmatch(rb"error: (?:%b)\n" % faults, answer.err) is not None

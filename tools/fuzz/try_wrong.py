@@ -1,0 +1,337 @@
+#!/usr/bin/env python3
+"""Shows that no comparison passes whatever it is given, for `make fuzz-wrong`.
+
+    try_wrong.py PROGRAM
+
+Each alteration below stands between the program and the comparisons and makes one kind of answer
+wrong. The comparisons have to find it on one of the first files of a seed. The status is 1 where
+they find one of them on no file.
+"""
+
+import os
+import re
+import sys
+import tempfile
+
+from fuzz import compare_one
+from program import FAILURES, Program
+
+SEED = 1
+MOST_FILES = 200
+ALTERATIONS = []
+
+
+class Wrong(Program):
+    """The program, with its answers altered."""
+
+    def __init__(self, path, alter):
+        super().__init__(path)
+        self.alter = alter
+
+    def ask(self, words):
+        answer = super().ask(words)
+        self.alter(words, answer)
+        return answer
+
+
+def alters(command, *options, status=0):
+    """Registers an alteration of the answers of this command, with these options and this status."""
+
+    def register(alter):
+        def alter_meant(words, answer):
+            is_meant = words[0] == command and all(option in words for option in options)
+            if is_meant and answer.status == status:
+                alter(words, answer)
+
+        ALTERATIONS.append((alter.__doc__, alter_meant))
+        return alter
+
+    return register
+
+
+def out_of(words):
+    """The OUT of a run of `compact`."""
+    return words[words.index("-o") + 1]
+
+
+def set_bytes(path, place, data):
+    with open(path, "r+b") as file:
+        file.seek(place, os.SEEK_END if place < 0 else os.SEEK_SET)
+        file.write(data)
+
+
+@alters("list")
+def drop_last(words, answer):
+    """list drops its last line"""
+    answer.out = b"".join(answer.out.splitlines(keepends=True)[:-1])
+
+
+@alters("list")
+def repeat_line(words, answer):
+    """list repeats its first line"""
+    answer.out = b"".join(answer.out.splitlines(keepends=True)[:1]) + answer.out
+
+
+@alters("list")
+def swap_lines(words, answer):
+    """list swaps two lines"""
+    lines = answer.out.splitlines(keepends=True)
+    answer.out = b"".join(lines[1:2] + lines[:1] + lines[2:])
+
+
+@alters("list")
+def change_value(words, answer):
+    """list shows another value"""
+    answer.out = re.sub(rb"= [0-9a-f]{2}", b"= 00", answer.out, count=1)
+
+
+@alters("list")
+def change_sequence(words, answer):
+    """list shows another sequence"""
+    answer.out = re.sub(rb"bucket \d+", b"bucket 5", answer.out)
+
+
+@alters("list", "--from")
+def drop_first(words, answer):
+    """list --from drops its first line"""
+    answer.out = b"".join(answer.out.splitlines(keepends=True)[1:])
+
+
+@alters("list", "--meta")
+def list_nothing(words, answer):
+    """list --meta lists nothing"""
+    answer.out = b""
+
+
+@alters("keys")
+def drop_key(words, answer):
+    """keys drops its last line"""
+    answer.out = b"".join(answer.out.splitlines(keepends=True)[:-1])
+
+
+@alters("buckets")
+def add_name(words, answer):
+    """buckets adds a name"""
+    answer.out += b"more\n"
+
+
+@alters("get")
+def change_got(words, answer):
+    """get shows another value"""
+    answer.out = b"other\n"
+
+
+@alters("get", status=1)
+def swap_faults(words, answer):
+    """get tells that there is no bucket where there is no key"""
+    answer.err = answer.err.replace(b"key not", b"bucket not")
+
+
+@alters("keys", status=1)
+def show_nothing(words, answer):
+    """keys shows nothing where there is no bucket"""
+    answer.status, answer.err = 0, b""
+
+
+def alters_figure(name):
+    def add_one(words, answer):
+        answer.out = re.sub(
+            rb"^%b (\d+)$" % name,
+            lambda found: b"%b %d" % (name, int(found[1]) + 1),
+            answer.out,
+            flags=re.MULTILINE,
+        )
+
+    add_one.__doc__ = f"stats adds one to its {name.decode()}"
+    alters("stats")(add_one)
+
+
+for figure in (b"buckets", b"inline buckets", b"keys", b"branch pages", b"leaf allocated"):
+    alters_figure(figure)
+
+
+@alters("pages")
+def drop_row(words, answer):
+    """pages drops its last row"""
+    answer.out = b"".join(answer.out.splitlines(keepends=True)[:-1])
+
+
+@alters("pages")
+def change_kind(words, answer):
+    """pages calls a leaf a branch"""
+    answer.out = answer.out.replace(b"leaf  ", b"branch")
+
+
+@alters("pages")
+def call_free(words, answer):
+    """pages calls a free page a leaf"""
+    answer.out = answer.out.replace(b"free", b"leaf")
+
+
+@alters("pages")
+def count_items(words, answer):
+    """pages counts other items"""
+    answer.out = re.sub(rb"leaf       \d", b"leaf       7", answer.out)
+
+
+@alters("page")
+def change_shown(words, answer):
+    """page shows another value"""
+    answer.out = re.sub(rb"= [0-9a-f]{2}", b"= 00", answer.out)
+
+
+@alters("page")
+def change_type(words, answer):
+    """page calls a leaf a branch"""
+    answer.out = answer.out.replace(b"type leaf", b"type branch")
+
+
+@alters("page")
+def show_all(words, answer):
+    """page shows an id more of a freelist"""
+    if b"type freelist" in answer.out:
+        answer.out += b"9\n"
+
+
+@alters("page", status=1)
+def accept_page(words, answer):
+    """page accepts every page"""
+    text = f"page {words[2]}\ntype leaf\nitems 0\noverflow 0\n"
+    answer.status, answer.out, answer.err = 0, text.encode(), b""
+
+
+@alters("page", status=1)
+def change_page_fault(words, answer):
+    """page tells another fault"""
+    answer.err = re.sub(rb"(page \d+): .*", rb"\1: cut off", answer.err)
+
+
+@alters("info")
+def raise_mark(words, answer):
+    """info shows a higher mark"""
+    answer.out = re.sub(rb"high water ", b"high water 1", answer.out)
+
+
+@alters("info")
+def change_slot(words, answer):
+    """info shows the other slot"""
+    answer.out = re.sub(rb"meta (\d)", lambda found: b"meta %d" % (1 - int(found[1])), answer.out)
+
+
+@alters("check", status=1)
+def accept_all(words, answer):
+    """check accepts every file"""
+    answer.status, answer.out, answer.err = 0, b"OK\n", b""
+
+
+@alters("check")
+def refuse_all(words, answer):
+    """check refuses every file"""
+    answer.status, answer.out = 1, b"page 2: cut off\n1 errors found\n"
+
+
+@alters("check", status=1)
+def miscount(words, answer):
+    """check counts other findings"""
+    answer.out = re.sub(rb"\d+ errors found", b"9 errors found", answer.out)
+
+
+@alters("check", status=1)
+def drop_finding(words, answer):
+    """check drops its last finding"""
+    *findings, _, count = answer.out.splitlines(keepends=True) or [b"", b""]
+    if findings:
+        answer.out = b"".join(findings) + b"%d errors found\n" % len(findings)
+
+
+@alters("check", status=1)
+def change_number(words, answer):
+    """check finds something of another page"""
+    answer.out = re.sub(rb"page (\d+)", lambda found: b"page %d" % (int(found[1]) + 1), answer.out)
+
+
+@alters("list", status=1)
+def tell_other(words, answer):
+    """list tells another finding than the rest"""
+    answer.err = answer.err.replace(b"page ", b"page 1")
+
+
+@alters("stats", status=1)
+def stats_of_all(words, answer):
+    """stats ends without a word on what is refused"""
+    answer.err = b""
+
+
+@alters("compact")
+def cut_copy(words, answer):
+    """compact drops the last byte of the copy"""
+    os.truncate(out_of(words), os.path.getsize(out_of(words)) - 1)
+
+
+@alters("compact", "--page-size")
+def change_copy(words, answer):
+    """compact puts another last byte at another page size"""
+    set_bytes(out_of(words), -1, b"\1")
+
+
+@alters("compact")
+def lose_copy(words, answer):
+    """compact copies nothing but the metas"""
+    set_bytes(out_of(words), 2048, bytes(os.path.getsize(out_of(words)) - 2048))
+
+
+@alters("compact", status=1)
+def fill_copy(words, answer):
+    """compact puts something of what is refused"""
+    set_bytes(out_of(words), 0, b"luntsegi")
+
+
+@alters("compact")
+def tell_lengths(words, answer):
+    """compact tells other lengths"""
+    answer.out = b"1 -> 1 bytes\n"
+
+
+@alters("stats")
+def touch_file(words, answer):
+    """stats writes into its file"""
+    set_bytes(words[1], 0, b"\xff")
+
+
+@alters("pages")
+def add_noise(words, answer):
+    """pages says more on standard error"""
+    answer.err = b"done\n"
+
+
+@alters("buckets")
+def crash(words, answer):
+    """buckets ends by a signal"""
+    answer.status = -11
+
+
+def finds(path, alter, folder):
+    """The number of the first file on which the comparisons find this alteration, and what they say."""
+    program = Wrong(path, alter)
+    for number in range(MOST_FILES):
+        try:
+            compare_one(program, SEED, number, folder)
+        except FAILURES as difference:
+            return number, repr(difference)
+    return None, "not found"
+
+
+def main():
+    path = os.path.abspath(sys.argv[1])
+    missed = 0
+    with tempfile.TemporaryDirectory() as folder:
+        for title, alter in ALTERATIONS:
+            number, said = finds(path, alter, folder)
+            missed += number is None
+            print(f"{title}: file {number}: {said[:100]}", flush=True)
+    print(f"{len(ALTERATIONS)} alterations, {missed} not found")
+    sys.exit(0 if missed == 0 else 1)
+
+
+if __name__ == "__main__":
+    main()

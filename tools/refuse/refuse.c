@@ -1,0 +1,93 @@
+/* Refuses a process one call, as `make memory` and `make failures` want it: this library is loaded
+   before the C library.
+
+   REFUSED_CALL says of which kind (memory, read, write or sync) and REFUSED_NUMBER which one of
+   these, from 1. REFUSED_MARK names a file that is made when it is refused: so whoever set these
+   knows whether it was called at all. Where a write was refused the device is full: all later ones
+   to the same file are refused too. With REFUSED_MOST a write moves so many bytes at most. */
+
+#define _GNU_SOURCE
+#include <dlfcn.h>
+#include <errno.h>
+#include <fcntl.h>
+#include <stdlib.h>
+#include <string.h>
+#include <sys/types.h>
+#include <unistd.h>
+
+/* The C library's own, by the names that it keeps for those who stand in front of it. */
+void *__libc_malloc(size_t size);
+void *__libc_calloc(size_t count, size_t size);
+void *__libc_realloc(void *block, size_t size);
+
+static const char *refused_call = "";
+static long refused_number;
+static size_t most_moved = (size_t)-1;
+static long made;
+static int full_file = -1;
+static ssize_t (*next_read)(int, void *, size_t);
+static ssize_t (*next_write)(int, const void *, size_t);
+static int (*next_sync)(int);
+
+__attribute__((constructor)) static void begin(void)
+{
+	const char *call = getenv("REFUSED_CALL");
+	const char *number = getenv("REFUSED_NUMBER");
+	const char *most = getenv("REFUSED_MOST");
+
+	next_read = dlsym(RTLD_NEXT, "read");
+	next_write = dlsym(RTLD_NEXT, "write");
+	next_sync = dlsym(RTLD_NEXT, "fsync");
+	refused_call = call ? call : "";
+	refused_number = number ? atol(number) : 0;
+	most_moved = most ? (size_t)atol(most) : most_moved;
+}
+
+/* Counts a call of this kind, and says whether it is the one; the error is then this one. */
+static int is_refused(const char *call, int error)
+{
+	const char *mark = getenv("REFUSED_MARK");
+
+	if (strcmp(call, refused_call) != 0 || ++made != refused_number)
+		return 0;
+	if (mark)
+		close(open(mark, O_WRONLY | O_CREAT, 0600));
+	errno = error;
+	return 1;
+}
+
+void *malloc(size_t size)
+{
+	return is_refused("memory", ENOMEM) ? NULL : __libc_malloc(size);
+}
+
+void *calloc(size_t count, size_t size)
+{
+	return is_refused("memory", ENOMEM) ? NULL : __libc_calloc(count, size);
+}
+
+void *realloc(void *block, size_t size)
+{
+	return is_refused("memory", ENOMEM) ? NULL : __libc_realloc(block, size);
+}
+
+ssize_t read(int file, void *to, size_t count)
+{
+	return is_refused("read", EIO) ? -1 : next_read(file, to, count);
+}
+
+ssize_t write(int file, const void *from, size_t count)
+{
+	if (is_refused("write", ENOSPC))
+		full_file = file;
+	if (file == full_file) {
+		errno = ENOSPC;
+		return -1;
+	}
+	return next_write(file, from, count < most_moved ? count : most_moved);
+}
+
+int fsync(int file)
+{
+	return is_refused("sync", EIO) ? -1 : next_sync(file);
+}

@@ -1,0 +1,115 @@
+#!/usr/bin/env python3
+"""Refuses the program each of its calls of a kind in turn, for `make memory` and `make failures`.
+
+    sweep.py PROGRAM LIBRARY CALL STEP FILE COMMAND..
+
+CALL is memory, read, write or sync; LIBRARY is what refuses (refuse.c). A COMMAND may be several
+words, of which those behind the first stand behind FILE; OUT stands for a file that isn't there.
+With STEP 1 each call that a command makes is refused in a run of its own, with another STEP the
+first and from there on each that is so many further. A run has to end as docs/COMMANDS.md says:
+with the full answer, or with status 1, the line of the failure, and what may be there then of the
+text and of OUT. Writes move seven bytes at most, so that they fail at many places. Prints how many
+runs ended in which way. The status is 1 where one ends otherwise, and where no failure is told.
+"""
+
+import os
+import subprocess
+import sys
+import tempfile
+from collections import Counter
+
+SECONDS = 60
+MOST_WRITTEN = "7"
+FULL = "the full answer"
+PART_OF_LINE = "a part of its line"
+MAY_BEGIN = ("list", "pages")
+
+# The lines that tell the failure of a call; the first of them has to come.
+LINES = {
+    "memory": ("out of memory", "cannot read FILE", "cannot make OUT"),
+    "read": ("cannot read FILE",),
+    "write": ("write failed", PART_OF_LINE),
+    "sync": ("write failed",),
+}
+
+
+class Command:
+    """The words of a command on a file, of which calls are refused, and a folder for what it makes."""
+
+    def __init__(self, program, library, call, file, words, folder):
+        self.call = call
+        self.out = os.path.join(folder, "copy.db")
+        self.mark = os.path.join(folder, "mark")
+        self.name, *behind = words.split()
+        self.words = [program, self.name, file] + [self.out if word == "OUT" else word for word in behind]
+        self.refusal = {"LD_PRELOAD": library, "REFUSED_CALL": call, "REFUSED_MARK": self.mark}
+        if call == "write":
+            self.refusal["REFUSED_MOST"] = MOST_WRITTEN
+        names = {"FILE": file, "OUT": self.out}
+        self.lines = {self.line(words, names): words for words in LINES[call]}
+
+    @staticmethod
+    def line(words, names):
+        return f"error: {' '.join(names.get(word, word) for word in words.split())}\n".encode()
+
+    def run(self, number):
+        """Runs it with this call refused, and answers its status, output, error and copy."""
+        for made in (self.out, self.mark):
+            if os.path.exists(made):
+                os.remove(made)
+        refusal = {**self.refusal, "REFUSED_NUMBER": str(number)}
+        ended = subprocess.run(self.words, capture_output=True, timeout=SECONDS, env=refusal)
+        copy = None
+        if os.path.exists(self.out):
+            with open(self.out, "rb") as out:
+                copy = out.read()
+        return ended.returncode, ended.stdout, ended.stderr, copy
+
+    def was_refused(self):
+        return os.path.exists(self.mark)
+
+    def outcome(self, full, answer):
+        """How a run with a refusal ended, or nothing where it ended in no stated way."""
+        status, out, err, copy = answer
+        if answer == full:
+            return FULL
+        if self.call == "write" and (status, out, copy) == (full[0], full[1], full[3]):
+            return PART_OF_LINE if full[2].startswith(err) else None
+        may_begin = self.name in MAY_BEGIN if self.call == "memory" else self.call == "write"
+        is_begun = out == b"" or (may_begin and full[1].startswith(out) and out != full[1])
+        is_taken = copy is None or (full[3].startswith(copy) and (self.call != "memory" or copy != full[3]))
+        return self.lines.get(err) if status == 1 and is_begun and is_taken else None
+
+
+def sweep(command, step):
+    """Refuses calls in turn, and prints how the runs ended. Answers whether each ended as stated."""
+    full = command.run(0)
+    outcomes, wrong = Counter(), []
+    number = 1
+    answer = command.run(number)
+    while command.was_refused():
+        outcome = command.outcome(full, answer)
+        if outcome is None:
+            wrong.append(number)
+            print(f"{command.call} {number} of {command.words[1:]}: {answer[:3]!r:.500}")
+        outcomes[outcome] += 1
+        number += step
+        answer = command.run(number)
+    ends = ", ".join(f"{count} {outcome}" for outcome, count in outcomes.items())
+    print(f"{' '.join(command.words[1:])}: {sum(outcomes.values())} times {command.call}: {ends}", flush=True)
+    is_done = full[2] not in command.lines and answer == full
+    return is_done and not wrong and any(outcomes[told] > 0 for told in LINES[command.call])
+
+
+def main():
+    program, library, call, step, file, *commands = sys.argv[1:]
+    program, library = os.path.abspath(program), os.path.abspath(library)
+    good = True
+    with tempfile.TemporaryDirectory() as folder:
+        for words in commands:
+            good = sweep(Command(program, library, call, file, words, folder), int(step)) and good
+    sys.exit(0 if good else 1)
+
+
+if __name__ == "__main__":
+    main()

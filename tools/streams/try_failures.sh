@@ -1,0 +1,185 @@
+#!/bin/sh
+# Lets the program's files and streams fail, for `make failures`.
+#
+#   try_failures.sh PROGRAM SOUND REFUSED LONG
+#
+# SOUND is examples/app.db, REFUSED a file that isn't sound, and LONG a sound one whose listing is
+# longer than a pipe holds. Each case wants the status and the line of docs/COMMANDS.md, and the first that gets
+# another one ends the script with status 1.
+
+set -u
+program=$1 sound=$2 refused=$3 long=$4
+folder=$(mktemp -d)
+trap 'rm -rf "$folder"' EXIT
+out=$folder/out err=$folder/err copy=$folder/copy.db
+
+# Says what is run next, and forgets what was printed before.
+begin() {
+	said=$*
+	: >"$folder/out" >"$folder/err"
+}
+
+# Runs the program, and keeps its status and, where they aren't sent elsewhere, its output and error.
+run() {
+	begin "$@"
+	timeout 10 "$program" "$@" >"$out" 2>"$err"
+	status=$?
+}
+
+fail() {
+	echo "$said: $1: status $status" >&2
+	cat "$folder/err" >&2
+	exit 1
+}
+
+# The last run told this fault and nothing else.
+want_fault() {
+	[ "$status" -eq 1 ] || fail "wants status 1"
+	[ "$(cat "$folder/err")" = "error: $1" ] || fail "wants error: $1"
+	[ ! -s "$folder/out" ] || fail "wants no output"
+}
+
+# OUT is there and isn't accepted.
+want_refused_copy() {
+	[ -f "$copy" ] || fail "made no OUT"
+	"$program" check "$copy" >"$folder/checked" 2>&1 && fail "OUT is accepted"
+	rm "$copy"
+}
+
+# OUT is there and lists what its source lists.
+want_whole_copy() {
+	"$program" list "$copy" >"$folder/copied" && "$program" list "$sound" | cmp -s - "$folder/copied" ||
+		fail "OUT isn't the copy"
+	rm "$copy"
+}
+
+# Standard output that can't be written is told, whatever the command.
+full_output() {
+	out=/dev/full
+	for command in info pages check buckets stats list; do
+		run $command "$sound"
+		want_fault "write failed"
+	done
+	run page "$sound" 0
+	want_fault "write failed"
+	run keys "$sound" settings
+	want_fault "write failed"
+	run get "$sound" settings theme
+	want_fault "write failed"
+	run check "$refused"
+	want_fault "write failed"
+	run --help
+	want_fault "write failed"
+	run compact -o "$copy" "$sound"
+	want_fault "write failed"
+	want_whole_copy
+	out=$folder/out
+}
+
+# Standard output that is closed is told too; OUT isn't written in its place.
+closed_output() {
+	for command in list check "compact -o $copy"; do
+		begin $command
+		timeout 10 "$program" $command "$sound" >&- 2>"$err"
+		status=$?
+		want_fault "write failed"
+	done
+	want_whole_copy
+}
+
+# A reader that leaves early gets its line, and the program ends.
+closed_pipe() {
+	begin list "$long"
+	{
+		timeout 10 "$program" list "$long" 2>"$err"
+		echo $? >"$folder/status"
+	} | head -n 1 >"$folder/first"
+	status=$(cat "$folder/status")
+	want_fault "write failed"
+	"$program" list "$long" >"$folder/listed"
+	head -n 1 "$folder/listed" | cmp -s - "$folder/first" || fail "wants its first line"
+}
+
+# The last run's status and output are those that were kept.
+want_same() {
+	[ "$status" -eq "$was" ] || fail "wants status $was"
+	cmp -s "$out" "$folder/was" || fail "wants the same output"
+}
+
+# Standard error that is full or closed changes neither the status nor the output.
+same_without_error() {
+	run "$@"
+	was=$status
+	mv "$out" "$folder/was"
+	err=/dev/full
+	run "$@"
+	err=$folder/err
+	want_same
+	timeout 10 "$program" "$@" >"$out" 2>&-
+	status=$?
+	want_same
+}
+
+failing_error() {
+	same_without_error check "$sound"
+	same_without_error check "$refused"
+	same_without_error list "$refused"
+	same_without_error get "$sound" settings nothing
+	same_without_error info "$folder/missing"
+	same_without_error page "$sound" x
+	same_without_error nonsense
+}
+
+# OUT on a device with too little room: a limit on the length of files stands for it, with the
+# signal ignored by which the system would end the program.
+full_target() {
+	for blocks in 0 1 8 16; do
+		begin compact with "$blocks" blocks
+		(
+			trap '' XFSZ
+			ulimit -f "$blocks"
+			timeout 10 "$program" compact -o "$copy" "$sound" 2>&1 >"$out"
+			echo $?
+		) | cat >"$folder/told"
+		status=$(tail -n 1 "$folder/told")
+		head -n 1 "$folder/told" >"$err"
+		want_fault "write failed"
+		want_refused_copy
+	done
+}
+
+# OUT that can't be made, or is there.
+unmade_target() {
+	for target in "$folder/missing/copy.db" "$sound/copy.db" /proc/copy.db; do
+		run compact -o "$target" "$sound"
+		want_fault "cannot make $target"
+	done
+	cp "$sound" "$folder/same.db"
+	ln -s missing "$folder/link"
+	for target in "$folder/same.db" "$folder" "$folder/link" /dev/full; do
+		run compact -o "$target" "$folder/same.db"
+		want_fault "output exists"
+	done
+	cmp "$sound" "$folder/same.db" || fail "changed its file"
+	[ ! -e "$folder/missing" ] || fail "made what a link leads to"
+}
+
+# FILE that can't be read; OUT isn't made then.
+unread_file() {
+	for file in "$folder/missing" "$folder" "$sound/file" ""; do
+		for command in info pages check buckets stats list "compact -o $copy"; do
+			run $command "$file"
+			want_fault "cannot read $file"
+		done
+	done
+	[ ! -e "$copy" ] || fail "made OUT"
+}
+
+full_output
+closed_output
+closed_pipe
+failing_error
+full_target
+unmade_target
+unread_file
+echo "failures: all told"

@@ -1,0 +1,74 @@
+"""What a shell offers for the last of the words of a line, by the files of completions."""
+
+import os
+import pty
+import subprocess
+import tempfile
+
+BASH = """
+source completions/luntsegi.bash
+cd "$1"
+COMP_WORDS=("${@:2}")
+COMP_CWORD=$(($# - 2))
+_luntsegi
+printf '%s\\n' "${COMPREPLY[@]}"
+"""
+
+# Notes what compadd would offer, but for the calls by which other functions ask it for matches.
+ZSH = """
+PROMPT=
+TMOUT=20
+fpath=($COMPLETIONS $fpath)
+autoload -Uz compinit
+compinit -D -u
+bindkey '^I' complete-word
+zstyle ':completion:*' insert-tab false
+compadd() {
+    if [[ ${@[1,(i)(-|--)]} == *-(O|A|D)\\ * ]]; then
+        builtin compadd "$@"
+        return
+    fi
+    local -a hits
+    builtin compadd -A hits "$@"
+    print -rl -- $hits >> $OFFERED
+    builtin compadd "$@"
+}
+comppostfuncs=(exit)
+"""
+
+
+def offered_by_bash(folder, words):
+    run = subprocess.run(
+        ["bash", "--norc", "-c", BASH, "bash", folder, *words], capture_output=True, text=True, check=True
+    )
+    return sorted(set(run.stdout.split()))
+
+
+def offered_by_zsh(folder, words):
+    """Types the words and a tab to a zsh that has a terminal, and takes what it noted."""
+    with tempfile.TemporaryDirectory() as own:
+        offered = os.path.join(own, "offered")
+        with open(os.path.join(own, ".zshrc"), "w", encoding="utf-8") as file:
+            file.write(ZSH)
+        with open(offered, "w", encoding="utf-8"):
+            pass
+        places = {"ZDOTDIR": own, "OFFERED": offered, "COMPLETIONS": os.path.abspath("completions")}
+        child, terminal = pty.fork()
+        if child == 0:
+            os.chdir(folder)
+            os.execvpe("zsh", ["zsh", "-d", "-i"], {**os.environ, **places})
+        os.write(terminal, (" ".join(words) + "\t").encode())
+        read_to_end(terminal)
+        os.waitpid(child, 0)
+        with open(offered, encoding="utf-8") as file:
+            return sorted(set(file.read().split()))
+
+
+def read_to_end(terminal):
+    """Reads a terminal until nobody has its other end."""
+    try:
+        while os.read(terminal, 4096):
+            pass
+    except OSError:
+        pass
+    os.close(terminal)

@@ -1,0 +1,77 @@
+#!/usr/bin/env python3
+"""Runs the commands that documents show, and compares what they print.
+
+    run_examples.py PROGRAM DOCUMENT..
+
+In a document an example is a block that is indented by four spaces or, on a manual page, literal.
+Each line of it that begins with `$ ` is a command, and the lines below it are all that it prints,
+on both streams. The commands are run in order in the current folder, where `luntsegi` is PROGRAM;
+files that they write go to out/examples, which is emptied first. Prints what differs; the status is
+1 then, and where a document has no command.
+"""
+
+import difflib
+import os
+import re
+import shutil
+import subprocess
+import sys
+import tempfile
+
+WRITTEN = "out/examples"
+
+
+def blocks(text):
+    """The examples of a document, without their indent."""
+    indented = [re.sub(r"(?m)^ {4}", "", block) for block in re.findall(r"(?m)(?:^ {4}.*\n)+", text)]
+    return indented + re.findall(r"(?ms)^\.Bd -literal.*?\n(.*?)^\.Ed", text)
+
+
+def commands(text):
+    """The commands of a document, each with what it prints."""
+    parts = [part for block in blocks(text) for part in re.split(r"(?m)^\$ ", block)[1:]]
+    return [part.partition("\n")[::2] for part in parts]
+
+
+def printed(command, folder):
+    """What a command prints, where programs are looked for in a folder first."""
+    environment = dict(os.environ, PATH=folder + os.pathsep + os.environ["PATH"], LC_ALL="C")
+    run = subprocess.run(
+        ["sh", "-c", command],
+        env=environment,
+        stdin=subprocess.DEVNULL,
+        stdout=subprocess.PIPE,
+        stderr=subprocess.STDOUT,
+    )
+    return run.stdout.decode(errors="replace")
+
+
+def differs(name, command, wanted, found):
+    if found == wanted:
+        return False
+    print(f"{name}: $ {command}")
+    lines = difflib.unified_diff(wanted.splitlines(), found.splitlines(), "shown", "printed", lineterm="")
+    print("\n".join(lines))
+    return True
+
+
+def run_document(name, folder):
+    """Runs a document's commands, and says whether it has any and all print what is shown."""
+    with open(name, encoding="utf-8") as file:
+        shown = commands(file.read())
+    shutil.rmtree(WRITTEN, ignore_errors=True)
+    os.makedirs(WRITTEN)
+    different = [differs(name, command, wanted, printed(command, folder)) for command, wanted in shown]
+    print(f"{name}: {len(shown)} commands, {sum(different)} differ")
+    return bool(shown) and not any(different)
+
+
+def main():
+    program, *names = sys.argv[1:]
+    with tempfile.TemporaryDirectory() as folder:
+        os.symlink(os.path.abspath(program), os.path.join(folder, "luntsegi"))
+        right = [run_document(name, folder) for name in names]
+    sys.exit(not all(right))
+
+
+main()
