@@ -40,7 +40,7 @@ fn run_words<O: Sink, T: Sink>(
 }
 
 /// The copy that the words make of the file, of which this line is told.
-fn copy_of(
+pub fn copy_of(
     rt: &impl Abort,
     alloc: Global,
     name: &str,
@@ -66,7 +66,7 @@ const FREE_PAGE: Sample<'static> = Sample {
 };
 
 /// A page that is neither in use nor free.
-const LEAKED_PAGE: Sample<'static> = Sample {
+pub const LEAKED_PAGE: Sample<'static> = Sample {
     fields: MetaFields { mark: 5, ..FRESH },
     pages_held: 5,
     ..FRESH_FILE

@@ -1,6 +1,7 @@
 //! Rows of the greatest pages: as large as a page may be, and with as many elements as it may have.
 
 use crate::commands::{CHECK, INFO, Outcome, check_refused, check_row};
+use crate::page_size_rows::check_copy;
 use Element::Bucket;
 use Outcome::Prints;
 use format_rows::maker::{
@@ -129,5 +130,29 @@ fn greatest_buckets(rt: HostRuntime) -> Result<(), Fail> {
     let bytes = with_leaf(alloc, 8_388_608, &[Bucket(b"b", stored.as_slice())])?;
     assert_eq!(rt; bytes.len(), 33_554_432);
     check_row(&rt, alloc, "65,534 keys inline", bytes.as_slice(), row)?;
+    Ok(())
+}
+
+/// A run of a copy, and an inline bucket of it, stop at 65,534 elements, however large the page.
+#[test]
+fn copies_of_greatest_buckets(rt: HostRuntime) -> Result<(), Fail> {
+    let alloc = rt.alloc();
+    let keys = pairs(alloc)?;
+    let elements = values(alloc, keys.as_slice())?;
+    assert_eq!(rt; elements.len(), 65_536);
+    let (first, rest) = elements.split_at(65_534);
+    let (one, _) = rest.split_at(1);
+    let file = with_bucket(alloc, 8_388_608, first, rest)?;
+    let want = with_bucket(alloc, 2_097_152, first, rest)?;
+    check_copy(&rt, alloc, file.as_slice(), "2097152", want.as_slice())?;
+    let file = with_bucket(alloc, 2_097_152, first, one)?;
+    let want = with_bucket(alloc, 8_388_608, first, one)?;
+    check_copy(&rt, alloc, file.as_slice(), "8388608", want.as_slice())?;
+    let stored = inline(alloc, 0, first)?;
+    let root = [Bucket(b"b", stored.as_slice())];
+    let file = with_leaf(alloc, 2_097_152, &root)?;
+    let want = with_leaf(alloc, 8_388_608, &root)?;
+    assert_eq!(rt; want.len(), 33_554_432);
+    check_copy(&rt, alloc, file.as_slice(), "8388608", want.as_slice())?;
     Ok(())
 }

@@ -19,6 +19,8 @@ mod meta_option_rows;
 #[cfg(test)]
 mod page_command_rows;
 #[cfg(test)]
+mod page_size_rows;
+#[cfg(test)]
 mod refused_rows;
 #[cfg(test)]
 mod samples;

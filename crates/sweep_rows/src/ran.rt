@@ -1,0 +1,74 @@
+//! What the job of a command line comes to on a file in memory.
+
+use bolt_cli::{Job, Refusal, read_words, run};
+use bolt_format::{MemSink, Sink};
+use std::alloc::Global;
+use std::process::Abort;
+
+/// The job that a command line asks for, its words with a space between.
+pub fn job_of(alloc: Global, line: &str) -> Result<Job, Refusal> {
+    let mut words = Vec::new(alloc);
+    for word in line.split_whitespace() {
+        words.push(String::from_str(alloc, word)?)?;
+    }
+    read_words(alloc, words)
+}
+
+/// What a run wrote, and its status.
+#[derive(Drop)]
+pub struct Ran {
+    pub out: MemSink,
+    pub err: MemSink,
+    pub target: MemSink,
+    pub code: u8,
+}
+
+/// A status, and what stands on standard output and on standard error then.
+pub type Wanted<'a> = (u8, &'a [u8], &'a [u8]);
+
+impl Ran {
+    /// A run over sinks that take all.
+    pub fn on(alloc: Global, job: &Job, file: &[u8]) -> Ran {
+        let out = MemSink::new(alloc);
+        Ran::over(alloc, job, file, out, MemSink::new(alloc))
+    }
+
+    /// A run over this standard output and this standard error.
+    pub fn over(alloc: Global, job: &Job, file: &[u8], mut out: MemSink, mut err: MemSink) -> Ran {
+        let mut target = MemSink::new(alloc);
+        let code = run(alloc, job, file, &mut out, &mut err, &mut target).code;
+        Ran {
+            out,
+            err,
+            target,
+            code,
+        }
+    }
+
+    /// Whether the run came to this.
+    pub fn is(&self, want: Wanted<'_>) -> bool {
+        self.code == want.0 && self.out.bytes() == want.1 && self.err.bytes() == want.2
+    }
+
+    /// The run came to this, but for the copy.
+    pub fn check(&self, rt: &impl Abort, name: &str, at: usize, want: Wanted<'_>) {
+        let (code, out, err) = (self.code, shown(&self.out), shown(&self.err));
+        let (wanted, wanted_out, wanted_err) = (want.0, beginning(want.1), beginning(want.2));
+        assert!(rt;
+            self.is(want),
+            "{name} at {at}: status {code}, output {out:?}, error {err:?}, \
+            and not status {wanted}, output {wanted_out:?}, error {wanted_err:?}"
+        );
+    }
+}
+
+/// The beginning of what was taken, as a failed test shows it.
+fn shown(sink: &MemSink) -> &str {
+    beginning(sink.bytes())
+}
+
+/// The beginning of bytes, as a failed test shows it.
+fn beginning(bytes: &[u8]) -> &str {
+    let front = bytes.get(..200).unwrap_or(bytes);
+    std::str::from_utf8(front).unwrap_or("bytes that are no text")
+}
