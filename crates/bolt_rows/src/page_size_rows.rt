@@ -4,7 +4,7 @@ use crate::commands::{Outcome, check_row};
 use crate::compact_command_rows::{LEAKED_PAGE, copy_of};
 use Element::{Bucket, Value};
 use Outcome::Prints;
-use format_rows::maker::{Element, FRESH, MetaFields, database, inline, leaf, reference};
+use format_rows::maker::{Element, FRESH, MetaFields, branch, database, inline, leaf, reference};
 use format_rows::samples::{make, with_root};
 use std::alloc::{AllocError, Global};
 use std::process::Abort;
@@ -150,6 +150,80 @@ fn nested_buckets(rt: HostRuntime) -> Result<(), Fail> {
     )?;
     let row = (["stats", "FILE"].as_slice(), Prints(NESTED_FIGURES));
     check_row(&rt, alloc, "nested buckets", large.as_slice(), row)?;
+    Ok(())
+}
+
+/// Bucket `b` on one leaf, with value `a` and bucket `c`, which is inline and has a value.
+fn value_and_bucket(alloc: Global, a: &[u8]) -> Result<Vec<u8>, AllocError> {
+    let inner = inline(alloc, 0, &[Value(b"k", &[b'x'; 300])])?;
+    let outer = leaf(alloc, 3, &[Value(b"a", a), Bucket(b"c", inner.as_slice())])?;
+    let rooted = reference(alloc, 3, 0)?;
+    let root = leaf(alloc, 4, &[Bucket(b"b", rooted.as_slice())])?;
+    let fields = MetaFields {
+        root: 4,
+        mark: 5,
+        ..FRESH
+    };
+    let pages = [(3, outer.as_slice()), (4, root.as_slice())];
+    database(alloc, 5, &fields, &pages)
+}
+
+/// The same with `c` on a page of its own, before the one leaf of `b`.
+fn on_one_leaf(alloc: Global, a: &[u8]) -> Result<Vec<u8>, AllocError> {
+    let inner = leaf(alloc, 3, &[Value(b"k", &[b'x'; 300])])?;
+    let rooted = reference(alloc, 3, 0)?;
+    let outer = leaf(alloc, 4, &[Value(b"a", a), Bucket(b"c", rooted.as_slice())])?;
+    let rooted = reference(alloc, 4, 0)?;
+    let root = leaf(alloc, 5, &[Bucket(b"b", rooted.as_slice())])?;
+    let fields = MetaFields {
+        root: 5,
+        mark: 6,
+        ..MetaFields::fresh(1024)
+    };
+    let pages = [
+        (3, inner.as_slice()),
+        (4, outer.as_slice()),
+        (5, root.as_slice()),
+    ];
+    database(alloc, 6, &fields, &pages)
+}
+
+/// The same with two leaves of `b`, of which the first closes before the page of `c`.
+fn on_two_leaves(alloc: Global, a: &[u8]) -> Result<Vec<u8>, AllocError> {
+    let first = leaf(alloc, 3, &[Value(b"a", a)])?;
+    let inner = leaf(alloc, 4, &[Value(b"k", &[b'x'; 300])])?;
+    let rooted = reference(alloc, 4, 0)?;
+    let second = leaf(alloc, 5, &[Bucket(b"c", rooted.as_slice())])?;
+    let both = branch(alloc, 6, &[(b"a", 3), (b"c", 5)])?;
+    let rooted = reference(alloc, 6, 0)?;
+    let root = leaf(alloc, 7, &[Bucket(b"b", rooted.as_slice())])?;
+    let fields = MetaFields {
+        root: 7,
+        mark: 8,
+        ..MetaFields::fresh(1024)
+    };
+    let pages = [
+        (3, first.as_slice()),
+        (4, inner.as_slice()),
+        (5, second.as_slice()),
+        (6, both.as_slice()),
+        (7, root.as_slice()),
+    ];
+    database(alloc, 8, &fields, &pages)
+}
+
+/// With one byte more in `a` there is no room beside it for the bucket behind it.
+#[test]
+fn room_for_a_bucket(rt: HostRuntime) -> Result<(), Fail> {
+    let alloc = rt.alloc();
+    let file = value_and_bucket(alloc, &[b'y'; 958])?;
+    let want = on_one_leaf(alloc, &[b'y'; 958])?;
+    assert_eq!(rt; want.len(), 6144);
+    check_copy(&rt, alloc, file.as_slice(), "1024", want.as_slice())?;
+    let file = value_and_bucket(alloc, &[b'y'; 959])?;
+    let want = on_two_leaves(alloc, &[b'y'; 959])?;
+    assert_eq!(rt; want.len(), 8192);
+    check_copy(&rt, alloc, file.as_slice(), "1024", want.as_slice())?;
     Ok(())
 }
 

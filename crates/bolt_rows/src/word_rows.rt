@@ -49,7 +49,10 @@ static HELP: [Row<'static>; 11] = [
     ),
     (&["--version"], TellsVersion("luntsegi 0.1.0\n")),
     (&["-V"], TellsVersion("luntsegi 0.1.0\n")),
-    (&["--version", "info", "FILE"], TellsVersion("luntsegi 0.1.0\n")),
+    (
+        &["--version", "info", "FILE"],
+        TellsVersion("luntsegi 0.1.0\n"),
+    ),
     (&["buckets", "--help"], Helps(BUCKETS_HELP)),
     (&["buckets", "FILE", "-h"], Helps(BUCKETS_HELP)),
     (&["keys", "FILE", "b", "--help"], Helps(KEYS_HELP)),

@@ -10,6 +10,8 @@ mod cut_sweeps;
 #[cfg(test)]
 mod hostile_rows;
 #[cfg(test)]
+mod layout_rows;
+#[cfg(test)]
 mod layouts;
 #[cfg(test)]
 mod ran;
