@@ -1,51 +1,37 @@
 -- One turn of a climb, in what is known of open buckets: only that it is so.
-use Rattle.std.proofs.Common.{◌≡◌, ◌∙◌, ◌+◌, ◌-◌, ◌<◌, ℕ, suc, List, [], ◌∷◌, ◌++◌, take, Option, Some, None, MatchOption, refl, sym, ap, subst, arith, append-nil, Bor, false, get_or, length, rules, slice_set, true}
+use Rattle.std.proofs.Common.{◌≡◌, ◌∙◌, ◌+◌, ◌-◌, ◌<◌, ℕ, suc, List, [], ◌∷◌, ◌++◌, take, Option, Some, None, MatchOption, refl, sym, ap, subst, arith, Bor, length}
 use Rattle.std.specs.Option.{option_to_list}
 use Rattle.std.proofs.Math.Logic.{∥∥₁_elim, ∥∥₁_map}
-use Rattle.std.proofs.Math.Seq.{take-length, take-suc, take-suc-set}
-use Rattle.std.proofs.lemmas.List.{length-set, take-set}
+use Rattle.std.proofs.lemmas.List.{length-append}
 use Rattle.std.proofs.Props.{props}
 use Rattle.bolt_format.specs.Elements.{LeafElement}
 use Rattle.bolt_check.specs.declared.checked_file.Checked.{Checked}
 use Rattle.bolt_tree.specs.BucketViews.{entries_of}
 use Rattle.bolt_tree.specs.FileListings.{root_of}
-use Rattle.bolt_tree.specs.Cursors.{cursor_checked, cursor_place, cursor_start}
 use Rattle.bolt_tree.specs.Entries.{Start, item_of}
 use Rattle.bolt_tree.specs.Listing.{Lists, Member}
 use Rattle.bolt_tree.specs.Paths.{HasEntries, Names, Path, path_of}
 use Rattle.bolt_tree.specs.Places.{Moves, next_move}
+use Rattle.bolt_tree.specs.Private.Kept.{CursorView}
 use Rattle.bolt_tree.specs.Private.OpenBuckets.{AreOpen}
 use Rattle.bolt_tree.specs.Private.Behind.{behind, beyond, is_beyond}
-use Rattle.bolt_tree.specs.declared.cursor.Cursor.{Cursor}
 use Rattle.bolt_tree.proofs.Filters.{filter_none}
 use Rattle.bolt_tree.proofs.OpenSteps.{Top, path_popped, next_ended, next_entry, next_given, next_open, open_pop}
 
--- the last element of a list with this length
-pub last_split : {A : Type 0} (xs : List A) (n : ℕ) (x : A) → n ≡ length xs → 0 < n → x ≡ get_or xs (n - 1) x → xs ≡ take (n - 1) xs ++ x ∷ []
-last_split {A} xs n x len some is =
-    let n_is : n ≡ suc (n - 1) = omega (arith, some) in
-    let whole : take (suc (n - 1)) xs ≡ xs = ap (λ (k : ℕ). take k xs) (sym n_is ∙ len) ∙ take-length xs in
-    sym whole ∙ take-suc xs (n - 1) x (omega (arith, len, some)) ∙ ap (λ (y : A). take (n - 1) xs ++ y ∷ []) (sym is)
-
--- another one is put in its place
-pub last_set : {A : Type 0} (xs : List A) (n : ℕ) (y : A) → n ≡ length xs → 0 < n → slice_set xs (n - 1) y ≡ take (n - 1) xs ++ y ∷ []
-last_set {A} xs n y len some =
-    let n_is : n ≡ suc (n - 1) = omega (arith, some) in
-    let long : length (slice_set xs (n - 1) y) ≡ n = length-set xs (n - 1) y ∙ sym len in
-    sym (ap (λ (k : ℕ). take k (slice_set xs (n - 1) y)) (sym n_is ∙ sym long) ∙ take-length (slice_set xs (n - 1) y))
-    ∙ take-suc-set xs (n - 1) y (omega (arith, len, some))
-
--- the rest is what it was
-pub last_gone : {A : Type 0} (xs rest : List A) (n : ℕ) (y : A) → rest ≡ take (n - 1) (slice_set xs (n - 1) y) → rest ≡ take (n - 1) xs
-last_gone xs rest n y gone = gone ∙ take-set xs (n - 1) y
+-- without its last element a list is shorter
+pub one_less : {A : Type 0} (old new front : List A) (x : A) → old ≡ front ++ x ∷ [] → new ≡ front → length new < length old
+one_less old new front x was is =
+    let long = ap length was ∙ length-append front (x ∷ []) in
+    let short = ap length is in
+    omega (arith, long, short)
 
 -- the last cursor is looked at by itself, and the last key was taken off
-pub record Popped (checked : Checked) (cursors : List Cursor) (cursor : Cursor) (old new : Path) : Type 0 where
+pub record Popped (checked : Checked) (cursors : List CursorView) (cursor : CursorView) (old new : Path) : Type 0 where
   pub all : HasEntries (entries_of checked) (root_of checked)
   pub top : Top checked [] cursors cursor old
   pub left : new ≡ top.front
 
-module _ (checked : Checked) (before cursors : List Cursor) (cursor : Cursor) (old new : List (Bor (List ℕ))) (taken : Option (Bor (List ℕ))) (n m : ℕ)
+module _ (checked : Checked) (before cursors : List CursorView) (cursor : CursorView) (old new : List (Bor (List ℕ))) (taken : Option (Bor (List ℕ))) (n m : ℕ)
     (buckets : ∥ HasEntries (entries_of checked) (root_of checked) × AreOpen checked [] before (path_of old) ∥₁) (last : before ≡ cursors ++ cursor ∷ [])
     (items : old ≡ new ++ option_to_list taken) (rest : new ≡ take (n - 1) old) (cases : MatchOption taken ((n ≡ 0) × (m ≡ 0)) (λ _. m + 1 ≡ n)) where
   more_or_less : (o : Option (Bor (List ℕ))) → MatchOption o ((n ≡ 0) × (m ≡ 0)) (λ _. m + 1 ≡ n) → MatchOption o ((n ≡ 0) × (m ≡ 0)) (λ _. suc m ≡ n)
@@ -54,7 +40,7 @@ module _ (checked : Checked) (before cursors : List Cursor) (cursor : Cursor) (o
 
   of : HasEntries (entries_of checked) (root_of checked) × AreOpen checked [] before (path_of old) → Popped checked cursors cursor (path_of old) (path_of new) × (suc m ≡ n)
   of (all, are) =
-      let top = open_pop checked [] cursors cursor (path_of old) (subst (λ (cs : List Cursor). AreOpen checked [] cs (path_of old)) last are) in
+      let top = open_pop checked [] cursors cursor (path_of old) (subst (λ (cs : List CursorView). AreOpen checked [] cs (path_of old)) last are) in
       let both = path_popped old new taken n m top.front top.key top.split items rest (more_or_less taken cases) in
       (record { all = all; top = top; left = both.0 }, both.1)
 
@@ -64,33 +50,33 @@ module _ (checked : Checked) (before cursors : List Cursor) (cursor : Cursor) (o
   pub popped_len : suc m ≡ n
   popped_len = ∥∥₁_elim buckets (hlevel props) (λ t. (of t).1)
 
-module _ (checked : Checked) (cursors : List Cursor) (cursor moved : Cursor) (old new : Path) (known : ∥ Popped checked cursors cursor old new ∥₁) where
+module _ (checked : Checked) (cursors : List CursorView) (cursor moved : CursorView) (old new : Path) (known : ∥ Popped checked cursors cursor old new ∥₁) where
   abbrev MovesOn : Option LeafElement → Type 0
-  MovesOn o = Moves (entries_of (cursor_checked cursor)) (cursor_start cursor) next_move (cursor_place cursor) (cursor_place moved) o
+  MovesOn o = Moves (entries_of cursor.checked) cursor.start next_move cursor.place moved.place o
 
-  pub stays : (after : List Cursor) → after ≡ cursors → ∥ HasEntries (entries_of checked) (root_of checked) × AreOpen checked [] after new ∥₁
+  pub stays : (after : List CursorView) → after ≡ cursors → ∥ HasEntries (entries_of checked) (root_of checked) × AreOpen checked [] after new ∥₁
   stays after rest = ∥∥₁_map known (λ k.
       let below = subst (λ (keys : Path). AreOpen checked [] cursors keys) (sym k.left) k.top.below in
-      (k.all, subst (λ (cs : List Cursor). AreOpen checked [] cs new) (sym rest) below))
+      (k.all, subst (λ (cs : List CursorView). AreOpen checked [] cs new) (sym rest) below))
 
   pub ends : MovesOn None → (listing : List Member) → Lists (entries_of checked) (root_of checked) listing → beyond old listing ≡ beyond new listing
   ends moves listing lists =
       ∥∥₁_elim known (hlevel props) (λ k. next_ended checked k.all cursors cursor moved old k.top moves listing lists ∙ ap (λ (keys : Path). beyond keys listing) (sym k.left))
 
-  pub opens : (e : LeafElement) (after : List Cursor) (keys : Path) → cursor_checked moved ≡ cursor_checked cursor → cursor_start moved ≡ cursor_start cursor → MovesOn (Some e)
+  pub opens : (e : LeafElement) (after : List CursorView) (keys : Path) → moved.checked ≡ cursor.checked → moved.start ≡ cursor.start → MovesOn (Some e)
       → after ≡ cursors ++ moved ∷ [] → keys ≡ new ++ e.key ∷ [] → ∥ HasEntries (entries_of checked) (root_of checked) × AreOpen checked [] after keys ∥₁
   opens e after keys file start moves put path =
       ∥∥₁_map known (λ k.
       let at : keys ≡ k.top.front ++ e.key ∷ [] = path ∙ ap (λ (p : Path). p ++ e.key ∷ []) k.left in (
         k.all,
-        subst (λ (cs : List Cursor). AreOpen checked [] cs keys) (sym put)
+        subst (λ (cs : List CursorView). AreOpen checked [] cs keys) (sym put)
             (subst (λ (ks : Path). AreOpen checked [] (cursors ++ moved ∷ []) ks) (sym at) (next_open checked k.all cursors cursor moved old k.top e file start moves)),
       ))
 
   pub leads_on : (e : LeafElement) (keys : Path) → MovesOn (Some e) → keys ≡ new ++ e.key ∷ []
       → ∥ ((path : Path) × (bucket : Start) × (keys ≡ path ++ e.key ∷ []) × Names (entries_of checked) (root_of checked) path bucket × entries_of checked bucket e) ∥₁
   leads_on e keys moves path =
-      ∥∥₁_map known (λ k. (k.top.front, cursor_start cursor, path ∙ ap (λ (p : Path). p ++ e.key ∷ []) k.left, k.top.names, next_entry checked k.all cursors cursor moved old k.top e moves))
+      ∥∥₁_map known (λ k. (k.top.front, cursor.start, path ∙ ap (λ (p : Path). p ++ e.key ∷ []) k.left, k.top.names, next_entry checked k.all cursors cursor moved old k.top e moves))
 
   pub gives : (e : LeafElement) (keys : Path) → MovesOn (Some e) → keys ≡ new ++ e.key ∷ [] → (listing : List Member) → Lists (entries_of checked) (root_of checked) listing
       → beyond old listing ≡ (keys, item_of e) ∷ behind keys listing
@@ -104,17 +90,12 @@ long : (checked : Checked) (keys : Path) → AreOpen checked [] [] keys → keys
 long checked [] are = refl
 long checked (key ∷ keys) are = absurd are
 
-pub all_closed : (checked : Checked) (cursors : List Cursor) (keys : Path) → ∥ HasEntries (entries_of checked) (root_of checked) × AreOpen checked [] cursors keys ∥₁ → cursors ≡ [] → keys ≡ []
+pub all_closed : (checked : Checked) (cursors : List CursorView) (keys : Path) → ∥ HasEntries (entries_of checked) (root_of checked) × AreOpen checked [] cursors keys ∥₁ → cursors ≡ [] → keys ≡ []
 all_closed checked cursors keys buckets none =
-    ∥∥₁_elim buckets (hlevel props) (λ t. long checked keys (subst (λ (cs : List Cursor). AreOpen checked [] cs keys) none t.1))
+    ∥∥₁_elim buckets (hlevel props) (λ t. long checked keys (subst (λ (cs : List CursorView). AreOpen checked [] cs keys) none t.1))
 
 pub none_beyond : (keys : Path) (listing : List Member) → keys ≡ [] → beyond keys listing ≡ []
 none_beyond keys listing none = ap (λ (p : Path). beyond p listing) none ∙ filter_none (λ m. is_beyond [] m.0) listing (λ m h. refl)
-
--- where there is no last element, there is none
-pub emptied : {A : Type 0} (xs : List A) (n : ℕ) → n ≡ length xs → (0 < n → false ≡ true) → xs ≡ []
-emptied [] n len none = refl
-emptied (x ∷ xs) n len none = let bad : false ≡ true = none (omega (arith, len)) in absurd (search rules)
 
 pub listed_in : (a b : Checked) (listing : List Member) → a ≡ b → Lists (entries_of b) (root_of b) listing → Lists (entries_of a) (root_of a) listing
 listed_in a b listing same lists = subst (λ (file : Checked). Lists (entries_of file) (root_of file) listing) (sym same) lists

@@ -10,14 +10,13 @@ use Rattle.bolt_check.specs.Keys.{Key, key_cmp}
 use Rattle.bolt_check.specs.declared.checked_file.Checked.{Checked}
 use Rattle.bolt_tree.specs.BucketViews.{entries_of}
 use Rattle.bolt_tree.specs.FileListings.{root_of}
-use Rattle.bolt_tree.specs.Cursors.{cursor_checked, cursor_place, cursor_start}
 use Rattle.bolt_tree.specs.Entries.{AreEntries, Start}
 use Rattle.bolt_tree.specs.Listing.{Lists, Member, rest_from}
 use Rattle.bolt_tree.specs.Paths.{HasEntries, Names, Path}
 use Rattle.bolt_tree.specs.Places.{Moves, least_from, seek_move}
+use Rattle.bolt_tree.specs.Private.Kept.{CursorView}
 use Rattle.bolt_tree.specs.Private.OpenBuckets.{AreOpen, StandsOn, is_end}
 use Rattle.bolt_tree.specs.Private.Behind.{beyond}
-use Rattle.bolt_tree.specs.declared.cursor.Cursor.{Cursor}
 use Rattle.bolt_tree.proofs.CursorMoves.{comes_from}
 use Rattle.bolt_tree.proofs.Entering.{Fresh_at}
 use Rattle.bolt_tree.proofs.EntryOrder.{contains_at, seek_from}
@@ -30,25 +29,25 @@ neither a b Less e h k = absurd (let f = ap is_lt e in cc)
 neither a b Equal e h k = key_exact a b e
 neither a b Greater e h k = absurd (let f : key_cmp b a ≡ Less = key_total.antisymm b a ∙ ap ordering_reverse e in let g = ap is_lt f in cc)
 
-module _ (checked : Checked) (cursors : List Cursor) (keys : Path) (fresh moved : Cursor) (part : Key) (known : ∥ Fresh_at checked cursors keys fresh ∥₁) where
+module _ (checked : Checked) (cursors : List CursorView) (keys : Path) (fresh moved : CursorView) (part : Key) (known : ∥ Fresh_at checked cursors keys fresh ∥₁) where
   abbrev MovesFrom : Option LeafElement → Type 0
-  MovesFrom o = Moves (entries_of (cursor_checked fresh)) (cursor_start fresh) (λ entries place. seek_move part entries) (cursor_place fresh) (cursor_place moved) o
+  MovesFrom o = Moves (entries_of fresh.checked) fresh.start (λ entries place. seek_move part entries) fresh.place moved.place o
 
-  here : (o : Option LeafElement) → Fresh_at checked cursors keys fresh → MovesFrom o → Moves (entries_of checked) (cursor_start fresh) (λ entries place. seek_move part entries) (cursor_place fresh) (cursor_place moved) o
-  here o k moves = subst (λ (file : Checked). Moves (entries_of file) (cursor_start fresh) (λ entries place. seek_move part entries) (cursor_place fresh) (cursor_place moved) o) k.file moves
+  here : (o : Option LeafElement) → Fresh_at checked cursors keys fresh → MovesFrom o → Moves (entries_of checked) fresh.start (λ entries place. seek_move part entries) fresh.place moved.place o
+  here o k moves = subst (λ (file : Checked). Moves (entries_of file) fresh.start (λ entries place. seek_move part entries) fresh.place moved.place o) k.file moves
 
-  stands : (e : LeafElement) → Fresh_at checked cursors keys fresh → cursor_start moved ≡ cursor_start fresh → MovesFrom (Some e) → StandsOn (entries_of checked) moved e.key
+  stands : (e : LeafElement) → Fresh_at checked cursors keys fresh → moved.start ≡ fresh.start → MovesFrom (Some e) → StandsOn (entries_of checked) moved e.key
   stands e k start moves entries are =
-      let own : AreEntries (entries_of checked) (cursor_start fresh) entries = subst (λ (s : Start). AreEntries (entries_of checked) s entries) start are in
-      let came = comes_from part entries (cursor_place moved) (Some e) (here (Some e) k moves entries own) in
+      let own : AreEntries (entries_of checked) fresh.start entries = subst (λ (s : Start). AreEntries (entries_of checked) s entries) start are in
+      let came = comes_from part entries moved.place (Some e) (here (Some e) k moves entries own) in
       (least_from part entries, e, came.0, came.1, refl)
 
-  pub from_opens : (e : LeafElement) (after : List Cursor) (path : Path) → cursor_checked moved ≡ cursor_checked fresh → cursor_start moved ≡ cursor_start fresh → MovesFrom (Some e)
+  pub from_opens : (e : LeafElement) (after : List CursorView) (path : Path) → moved.checked ≡ fresh.checked → moved.start ≡ fresh.start → MovesFrom (Some e)
       → after ≡ cursors ++ moved ∷ [] → path ≡ keys ++ e.key ∷ [] → ∥ HasEntries (entries_of checked) (root_of checked) × AreOpen checked [] after path ∥₁
   from_opens e after path file start moves put at =
       ∥∥₁_map known (λ k. (
         k.all,
-        subst (λ (cs : List Cursor). AreOpen checked [] cs path) (sym put) (subst (λ (ks : Path). AreOpen checked [] (cursors ++ moved ∷ []) ks) (sym at)
+        subst (λ (cs : List CursorView). AreOpen checked [] cs path) (sym put) (subst (λ (ks : Path). AreOpen checked [] (cursors ++ moved ∷ []) ks) (sym at)
             (open_push checked [] cursors moved keys e.key k.are (file ∙ k.file) (subst (λ (s : Start). Names (entries_of checked) (root_of checked) keys s) (sym start) k.names)
             (stands e k start moves))),
       ))
@@ -57,34 +56,34 @@ module _ (checked : Checked) (cursors : List Cursor) (keys : Path) (fresh moved 
       → ∥ ((front : Path) × (bucket : Start) × (path ≡ front ++ e.key ∷ []) × Names (entries_of checked) (root_of checked) front bucket × entries_of checked bucket e) ∥₁
   from_leads e path moves at =
       ∥∥₁_map known (λ k.
-      let own = k.all keys (cursor_start fresh) k.names in
-      let came = comes_from part own.0 (cursor_place moved) (Some e) (here (Some e) k moves own.0 own.1) in
-      (keys, cursor_start fresh, at, k.names, (own.1.exact e).0 (contains_at own.0 (least_from part own.0) e came.1)))
+      let own = k.all keys fresh.start k.names in
+      let came = comes_from part own.0 moved.place (Some e) (here (Some e) k moves own.0 own.1) in
+      (keys, fresh.start, at, k.names, (own.1.exact e).0 (contains_at own.0 (least_from part own.0) e came.1)))
 
   -- it is the part itself, or behind it
   pub from_same : (e : LeafElement) → MovesFrom (Some e) → is_lt (key_cmp part e.key) ≡ false → part ≡ e.key
   from_same e moves not_less =
       ∥∥₁_elim known (hlevel props) (λ k.
-      let own = k.all keys (cursor_start fresh) k.names in
-      let came = comes_from part own.0 (cursor_place moved) (Some e) (here (Some e) k moves own.0 own.1) in
+      let own = k.all keys fresh.start k.names in
+      let came = comes_from part own.0 moved.place (Some e) (here (Some e) k moves own.0 own.1) in
       neither part e.key (key_cmp part e.key) refl not_less (seek_from part own.0 e came.1))
 
   pub from_greater : (e : LeafElement) (rest path : Path) → MovesFrom (Some e) → is_lt (key_cmp part e.key) ≡ true → path ≡ keys ++ e.key ∷ []
       → (listing : List Member) → Lists (entries_of checked) (root_of checked) listing → rest_from path listing ≡ rest_from (keys ++ part ∷ rest) listing
   from_greater e rest path moves less at listing lists =
       ∥∥₁_elim known (hlevel props) (λ k.
-      let own = k.all keys (cursor_start fresh) k.names in
-      let came = comes_from part own.0 (cursor_place moved) (Some e) (here (Some e) k moves own.0 own.1) in
+      let own = k.all keys fresh.start k.names in
+      let came = comes_from part own.0 moved.place (Some e) (here (Some e) k moves own.0 own.1) in
       subst (λ (ks : Path). rest_from ks listing ≡ rest_from (keys ++ part ∷ rest) listing) (sym at)
-      (sym (rest_greater (entries_of checked) (root_of checked) k.all listing lists keys (cursor_start fresh) k.names own.0 e part rest own.1 came.1 (less_lt _ less))))
+      (sym (rest_greater (entries_of checked) (root_of checked) k.all listing lists keys fresh.start k.names own.0 e part rest own.1 came.1 (less_lt _ less))))
 
   pub from_none : (rest : Path) → MovesFrom None → (listing : List Member) → Lists (entries_of checked) (root_of checked) listing
       → beyond keys listing ≡ rest_from (keys ++ part ∷ rest) listing
   from_none rest moves listing lists =
       ∥∥₁_elim known (hlevel props) (λ k.
-      let own = k.all keys (cursor_start fresh) k.names in
-      let long = comes_from part own.0 (cursor_place moved) None (here None k moves own.0 own.1) in
-      sym (rest_none (entries_of checked) (root_of checked) k.all listing lists keys (cursor_start fresh) k.names own.0 part rest own.1 long))
+      let own = k.all keys fresh.start k.names in
+      let long = comes_from part own.0 moved.place None (here None k moves own.0 own.1) in
+      sym (rest_none (entries_of checked) (root_of checked) k.all listing lists keys fresh.start k.names own.0 part rest own.1 long))
 
   -- the path goes on below a value
   pub from_value : (e : LeafElement) (rest path : Path) → MovesFrom (Some e) → part ≡ e.key → e.is_bucket ≡ false → is_end rest ≡ false → path ≡ keys ++ e.key ∷ []
@@ -92,12 +91,12 @@ module _ (checked : Checked) (cursors : List Cursor) (keys : Path) (fresh moved 
   from_value e [] path moves same value more at listing lists = absurd (let f : true ≡ false = more in cc)
   from_value e (k ∷ rest) path moves same value more at listing lists =
       ∥∥₁_elim known (hlevel props) (λ n.
-      let own = n.all keys (cursor_start fresh) n.names in
-      let came = comes_from part own.0 (cursor_place moved) (Some e) (here (Some e) n moves own.0 own.1) in
-      let is : entries_of checked (cursor_start fresh) e = (own.1.exact e).0 (contains_at own.0 (least_from part own.0) e came.1) in
+      let own = n.all keys fresh.start n.names in
+      let came = comes_from part own.0 moved.place (Some e) (here (Some e) n moves own.0 own.1) in
+      let is : entries_of checked fresh.start e = (own.1.exact e).0 (contains_at own.0 (least_from part own.0) e came.1) in
       let whole : (keys ++ e.key ∷ []) ++ k ∷ rest ≡ keys ++ part ∷ k ∷ rest = append_assoc keys (e.key ∷ []) (k ∷ rest) ∙ ap (λ (q : Key). keys ++ q ∷ k ∷ rest) (sym same) in
       subst (λ (ks : Path). beyond ks listing ≡ rest_from (keys ++ part ∷ k ∷ rest) listing) (sym at)
-      (sym (rest_past_value (entries_of checked) (root_of checked) n.all listing lists keys (cursor_start fresh) n.names e k rest is value)
+      (sym (rest_past_value (entries_of checked) (root_of checked) n.all listing lists keys fresh.start n.names e k rest is value)
       ∙ ap (λ (ks : Path). rest_from ks listing) whole))
 
 -- the path ends here

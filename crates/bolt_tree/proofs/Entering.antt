@@ -7,7 +7,6 @@ use Rattle.bolt_check.specs.declared.checked_file.Checked.{Checked}
 use Rattle.bolt_tree.specs.Buckets.{bucket_checked, bucket_start}
 use Rattle.bolt_tree.specs.BucketViews.{entries_of}
 use Rattle.bolt_tree.specs.FileListings.{root_of}
-use Rattle.bolt_tree.specs.Cursors.{cursor_checked, cursor_place, cursor_start}
 use Rattle.bolt_tree.specs.Starts.{HasStart}
 use Rattle.bolt_check.specs.CheckedFiles.{bytes_of, meta_of}
 use Rattle.bolt_tree.proofs.BucketWays.{root_starts, starts_below, starts_named}
@@ -15,10 +14,10 @@ use Rattle.bolt_tree.specs.Entries.{AreEntries, Start, item_of, start_of}
 use Rattle.bolt_tree.specs.Listing.{Lists, Member, rest_from}
 use Rattle.bolt_tree.specs.Paths.{HasEntries, Names, Path}
 use Rattle.bolt_tree.specs.Places.{Moves, first_move}
+use Rattle.bolt_tree.specs.Private.Kept.{CursorView}
 use Rattle.bolt_tree.specs.Private.OpenBuckets.{AreOpen, StandsOn}
 use Rattle.bolt_tree.specs.Private.Behind.{behind, beyond}
 use Rattle.bolt_tree.specs.declared.bucket.Bucket.{Bucket}
-use Rattle.bolt_tree.specs.declared.cursor.Cursor.{Cursor}
 use Rattle.bolt_tree.proofs.CursorMoves.{comes_first}
 use Rattle.bolt_tree.proofs.EntryOrder.{contains_at}
 use Rattle.bolt_tree.proofs.Giving.{give_first, give_itself, give_none, give_past_value}
@@ -26,15 +25,15 @@ use Rattle.bolt_tree.proofs.Named.{names_push}
 use Rattle.bolt_tree.proofs.OpenSteps.{open_push}
 
 -- a fresh cursor of the bucket that the path names
-pub record Fresh_at (checked : Checked) (cursors : List Cursor) (keys : Path) (fresh : Cursor) : Type 0 where
+pub record Fresh_at (checked : Checked) (cursors : List CursorView) (keys : Path) (fresh : CursorView) : Type 0 where
   pub all : HasEntries (entries_of checked) (root_of checked)
   pub are : AreOpen checked [] cursors keys
-  pub file : cursor_checked fresh ≡ checked
-  pub names : Names (entries_of checked) (root_of checked) keys (cursor_start fresh)
+  pub file : fresh.checked ≡ checked
+  pub names : Names (entries_of checked) (root_of checked) keys fresh.start
 
-pub made : (checked : Checked) (cursors : List Cursor) (keys : Path) (bucket : Bucket) (fresh : Cursor) → ∥ HasEntries (entries_of checked) (root_of checked) × AreOpen checked [] cursors keys ∥₁
+pub made : (checked : Checked) (cursors : List CursorView) (keys : Path) (bucket : Bucket) (fresh : CursorView) → ∥ HasEntries (entries_of checked) (root_of checked) × AreOpen checked [] cursors keys ∥₁
     → ∥ (bucket_checked bucket ≡ checked) × Names (entries_of checked) (root_of checked) keys (bucket_start bucket) ∥₁
-    → cursor_checked fresh ≡ bucket_checked bucket → cursor_start fresh ≡ bucket_start bucket → ∥ Fresh_at checked cursors keys fresh ∥₁
+    → fresh.checked ≡ bucket_checked bucket → fresh.start ≡ bucket_start bucket → ∥ Fresh_at checked cursors keys fresh ∥₁
 made checked cursors keys bucket fresh buckets named file start =
     ∥∥₁_elim buckets ∥∥₁_prop (λ t. ∥∥₁_map named (λ n. record {
       all = t.0;
@@ -43,25 +42,25 @@ made checked cursors keys bucket fresh buckets named file start =
       names = subst (λ (s : Start). Names (entries_of checked) (root_of checked) keys s) (sym start) n.1;
     }))
 
-module _ (checked : Checked) (cursors : List Cursor) (keys : Path) (fresh moved : Cursor) (known : ∥ Fresh_at checked cursors keys fresh ∥₁) where
+module _ (checked : Checked) (cursors : List CursorView) (keys : Path) (fresh moved : CursorView) (known : ∥ Fresh_at checked cursors keys fresh ∥₁) where
   abbrev MovesFirst : Option LeafElement → Type 0
-  MovesFirst o = Moves (entries_of (cursor_checked fresh)) (cursor_start fresh) (λ entries place. first_move entries) (cursor_place fresh) (cursor_place moved) o
+  MovesFirst o = Moves (entries_of fresh.checked) fresh.start (λ entries place. first_move entries) fresh.place moved.place o
 
-  here : (o : Option LeafElement) → Fresh_at checked cursors keys fresh → MovesFirst o → Moves (entries_of checked) (cursor_start fresh) (λ entries place. first_move entries) (cursor_place fresh) (cursor_place moved) o
-  here o k moves = subst (λ (file : Checked). Moves (entries_of file) (cursor_start fresh) (λ entries place. first_move entries) (cursor_place fresh) (cursor_place moved) o) k.file moves
+  here : (o : Option LeafElement) → Fresh_at checked cursors keys fresh → MovesFirst o → Moves (entries_of checked) fresh.start (λ entries place. first_move entries) fresh.place moved.place o
+  here o k moves = subst (λ (file : Checked). Moves (entries_of file) fresh.start (λ entries place. first_move entries) fresh.place moved.place o) k.file moves
 
-  stands : (e : LeafElement) → Fresh_at checked cursors keys fresh → cursor_start moved ≡ cursor_start fresh → MovesFirst (Some e) → StandsOn (entries_of checked) moved e.key
+  stands : (e : LeafElement) → Fresh_at checked cursors keys fresh → moved.start ≡ fresh.start → MovesFirst (Some e) → StandsOn (entries_of checked) moved e.key
   stands e k start moves entries are =
-      let own : AreEntries (entries_of checked) (cursor_start fresh) entries = subst (λ (s : Start). AreEntries (entries_of checked) s entries) start are in
-      let came = comes_first entries (cursor_place moved) (Some e) (here (Some e) k moves entries own) in
+      let own : AreEntries (entries_of checked) fresh.start entries = subst (λ (s : Start). AreEntries (entries_of checked) s entries) start are in
+      let came = comes_first entries moved.place (Some e) (here (Some e) k moves entries own) in
       (0, e, came.0, came.1, refl)
 
-  pub first_opens : (e : LeafElement) (after : List Cursor) (path : Path) → cursor_checked moved ≡ cursor_checked fresh → cursor_start moved ≡ cursor_start fresh → MovesFirst (Some e)
+  pub first_opens : (e : LeafElement) (after : List CursorView) (path : Path) → moved.checked ≡ fresh.checked → moved.start ≡ fresh.start → MovesFirst (Some e)
       → after ≡ cursors ++ moved ∷ [] → path ≡ keys ++ e.key ∷ [] → ∥ HasEntries (entries_of checked) (root_of checked) × AreOpen checked [] after path ∥₁
   first_opens e after path file start moves put at =
       ∥∥₁_map known (λ k. (
         k.all,
-        subst (λ (cs : List Cursor). AreOpen checked [] cs path) (sym put) (subst (λ (ks : Path). AreOpen checked [] (cursors ++ moved ∷ []) ks) (sym at)
+        subst (λ (cs : List CursorView). AreOpen checked [] cs path) (sym put) (subst (λ (ks : Path). AreOpen checked [] (cursors ++ moved ∷ []) ks) (sym at)
             (open_push checked [] cursors moved keys e.key k.are (file ∙ k.file) (subst (λ (s : Start). Names (entries_of checked) (root_of checked) keys s) (sym start) k.names)
             (stands e k start moves))),
       ))
@@ -70,29 +69,29 @@ module _ (checked : Checked) (cursors : List Cursor) (keys : Path) (fresh moved 
       → ∥ ((front : Path) × (bucket : Start) × (path ≡ front ++ e.key ∷ []) × Names (entries_of checked) (root_of checked) front bucket × entries_of checked bucket e) ∥₁
   first_leads e path moves at =
       ∥∥₁_map known (λ k.
-      let own = k.all keys (cursor_start fresh) k.names in
-      let came = comes_first own.0 (cursor_place moved) (Some e) (here (Some e) k moves own.0 own.1) in
-      (keys, cursor_start fresh, at, k.names, (own.1.exact e).0 (contains_at own.0 0 e came.1)))
+      let own = k.all keys fresh.start k.names in
+      let came = comes_first own.0 moved.place (Some e) (here (Some e) k moves own.0 own.1) in
+      (keys, fresh.start, at, k.names, (own.1.exact e).0 (contains_at own.0 0 e came.1)))
 
   pub first_gives : (e : LeafElement) (path : Path) → MovesFirst (Some e) → path ≡ keys ++ e.key ∷ [] → (listing : List Member) → Lists (entries_of checked) (root_of checked) listing
       → behind keys listing ≡ (path, item_of e) ∷ behind path listing
   first_gives e path moves at listing lists =
       ∥∥₁_elim known (hlevel props) (λ k.
-      let own = k.all keys (cursor_start fresh) k.names in
-      let came = comes_first own.0 (cursor_place moved) (Some e) (here (Some e) k moves own.0 own.1) in
+      let own = k.all keys fresh.start k.names in
+      let came = comes_first own.0 moved.place (Some e) (here (Some e) k moves own.0 own.1) in
       subst (λ (ks : Path). behind keys listing ≡ (ks, item_of e) ∷ behind ks listing) (sym at)
-      (give_first (entries_of checked) (root_of checked) k.all listing lists keys (cursor_start fresh) k.names own.0 e own.1 came.1))
+      (give_first (entries_of checked) (root_of checked) k.all listing lists keys fresh.start k.names own.0 e own.1 came.1))
 
   pub first_none : MovesFirst None → (listing : List Member) → Lists (entries_of checked) (root_of checked) listing → behind keys listing ≡ beyond keys listing
   first_none moves listing lists =
       ∥∥₁_elim known (hlevel props) (λ k.
-      let own = k.all keys (cursor_start fresh) k.names in
-      let none = comes_first own.0 (cursor_place moved) None (here None k moves own.0 own.1) in
-      give_none (entries_of checked) (root_of checked) k.all listing lists keys (cursor_start fresh) k.names
-      (subst (λ (es : List LeafElement). AreEntries (entries_of checked) (cursor_start fresh) es) none own.1))
+      let own = k.all keys fresh.start k.names in
+      let none = comes_first own.0 moved.place None (here None k moves own.0 own.1) in
+      give_none (entries_of checked) (root_of checked) k.all listing lists keys fresh.start k.names
+      (subst (λ (es : List LeafElement). AreEntries (entries_of checked) fresh.start es) none own.1))
 
 -- the path leads to an element
-module _ (checked : Checked) (cursors : List Cursor) (keys : Path) (e : LeafElement) (buckets : ∥ HasEntries (entries_of checked) (root_of checked) × AreOpen checked [] cursors keys ∥₁)
+module _ (checked : Checked) (cursors : List CursorView) (keys : Path) (e : LeafElement) (buckets : ∥ HasEntries (entries_of checked) (root_of checked) × AreOpen checked [] cursors keys ∥₁)
     (on : ∥ ((front : Path) × (bucket : Start) × (keys ≡ front ++ e.key ∷ []) × Names (entries_of checked) (root_of checked) front bucket × entries_of checked bucket e) ∥₁) where
   pub named_by : (bucket : Bucket) → IsTrue e.is_bucket → bucket_checked bucket ≡ checked → bucket_start bucket ≡ start_of e.value
       → ∥ (bucket_checked bucket ≡ checked) × Names (entries_of checked) (root_of checked) keys (bucket_start bucket) ∥₁
@@ -117,11 +116,11 @@ module _ (checked : Checked) (cursors : List Cursor) (keys : Path) (e : LeafElem
       (give_itself (entries_of checked) (root_of checked) t.0 listing lists front bucket names e is)))
 
 -- the same of the same file
-pub placed_in : (a b : Checked) (cursors others : List Cursor) (keys path : Path) → b ≡ a → others ≡ cursors → path ≡ keys
+pub placed_in : (a b : Checked) (cursors others : List CursorView) (keys path : Path) → b ≡ a → others ≡ cursors → path ≡ keys
     → ∥ HasEntries (entries_of a) (root_of a) × AreOpen a [] cursors keys ∥₁ → ∥ HasEntries (entries_of b) (root_of b) × AreOpen b [] others path ∥₁
 placed_in a b cursors others keys path file same at buckets =
     ∥∥₁_map buckets (λ t. subst (λ (c : Checked). HasEntries (entries_of c) (root_of c) × AreOpen c [] others path) (sym file)
-    (t.0, subst (λ (cs : List Cursor). AreOpen a [] cs path) (sym same) (subst (λ (ks : Path). AreOpen a [] cursors ks) (sym at) t.1)))
+    (t.0, subst (λ (cs : List CursorView). AreOpen a [] cs path) (sym same) (subst (λ (ks : Path). AreOpen a [] cursors ks) (sym at) t.1)))
 
 pub leads_in : (a b : Checked) (keys : Path) (e : LeafElement) → b ≡ a
     → ∥ ((front : Path) × (bucket : Start) × (keys ≡ front ++ e.key ∷ []) × Names (entries_of a) (root_of a) front bucket × entries_of a bucket e) ∥₁

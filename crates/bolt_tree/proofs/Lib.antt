@@ -16,6 +16,7 @@ mod Giving
 pub mod HalvesLemmas
 pub mod HeldLemmas
 pub mod ListLemmas
+pub mod KeptLemmas
 pub mod Leaving
 pub mod Lists
 mod Looking

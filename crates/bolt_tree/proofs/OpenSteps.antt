@@ -6,14 +6,13 @@ use Rattle.bolt_check.specs.Keys.{Key}
 use Rattle.bolt_check.specs.declared.checked_file.Checked.{Checked}
 use Rattle.bolt_tree.specs.BucketViews.{entries_of}
 use Rattle.bolt_tree.specs.FileListings.{root_of}
-use Rattle.bolt_tree.specs.Cursors.{cursor_checked, cursor_place, cursor_start}
 use Rattle.bolt_tree.specs.Entries.{AreEntries, Start, item_of}
 use Rattle.bolt_tree.specs.Listing.{Lists, Member}
 use Rattle.bolt_tree.specs.Paths.{HasEntries, Names, Path, path_of}
 use Rattle.bolt_tree.specs.Places.{Moves, next_move}
+use Rattle.bolt_tree.specs.Private.Kept.{CursorView}
 use Rattle.bolt_tree.specs.Private.OpenBuckets.{AreOpen, StandsOn}
 use Rattle.bolt_tree.specs.Private.Behind.{behind, beyond}
-use Rattle.bolt_tree.specs.declared.cursor.Cursor.{Cursor}
 use Rattle.bolt_tree.proofs.CursorMoves.{comes_next}
 use Rattle.bolt_tree.proofs.EntryOrder.{contains_at}
 use Rattle.bolt_tree.proofs.Giving.{give_after_last, give_next}
@@ -30,7 +29,7 @@ snoc_front (a ∷ xs) (b ∷ ys) x y e =
     let same = snoc_front xs ys x y rest in
     let first : a ≡ b = cc in cc
 
-no_snoc : {A : Type 0} (xs : List A) (x : A) → [] ≡ xs ++ x ∷ [] → ⊥
+pub no_snoc : {A : Type 0} (xs : List A) (x : A) → [] ≡ xs ++ x ∷ [] → ⊥
 no_snoc [] x e = cc
 no_snoc (a ∷ xs) x e = cc
 
@@ -39,16 +38,16 @@ path_push [] x = refl
 path_push (y ∷ xs) x = ap (λ (ks : Path). y.now ∷ ks) (path_push xs x)
 
 -- what stands open below the last cursor, and what is known of that
-pub record Top (checked : Checked) (before : Path) (cursors : List Cursor) (cursor : Cursor) (keys : Path) : Type 0 where
+pub record Top (checked : Checked) (before : Path) (cursors : List CursorView) (cursor : CursorView) (keys : Path) : Type 0 where
   pub front : Path
   pub key : Key
   pub split : keys ≡ front ++ key ∷ []
   pub below : AreOpen checked before cursors front
-  pub checked_file : cursor_checked cursor ≡ checked
-  pub names : Names (entries_of checked) (root_of checked) (before ++ front) (cursor_start cursor)
+  pub checked_file : cursor.checked ≡ checked
+  pub names : Names (entries_of checked) (root_of checked) (before ++ front) cursor.start
   pub stands : StandsOn (entries_of checked) cursor key
 
-pub open_pop : (checked : Checked) (before : Path) (cursors : List Cursor) (cursor : Cursor) (keys : Path) → AreOpen checked before (cursors ++ cursor ∷ []) keys
+pub open_pop : (checked : Checked) (before : Path) (cursors : List CursorView) (cursor : CursorView) (keys : Path) → AreOpen checked before (cursors ++ cursor ∷ []) keys
     → Top checked before cursors cursor keys
 open_pop checked before [] cursor [] h = absurd h
 open_pop checked before [] cursor (key ∷ []) (same, names, stands, more) =
@@ -58,7 +57,7 @@ open_pop checked before [] cursor (key ∷ []) (same, names, stands, more) =
       split = refl;
       below = tt;
       checked_file = same;
-      names = subst (λ (p : Path). Names (entries_of checked) (root_of checked) p (cursor_start cursor)) (sym (append-nil before)) names;
+      names = subst (λ (p : Path). Names (entries_of checked) (root_of checked) p cursor.start) (sym (append-nil before)) names;
       stands = stands;
     }
 open_pop checked before [] cursor (key ∷ next ∷ keys) (same, names, stands, more) = absurd more
@@ -71,15 +70,15 @@ open_pop checked before (c ∷ cursors) cursor (key ∷ keys) (same, names, stan
       split = ap (λ (ks : Path). key ∷ ks) top.split;
       below = (same, names, stands, top.below);
       checked_file = top.checked_file;
-      names = subst (λ (p : Path). Names (entries_of checked) (root_of checked) p (cursor_start cursor)) (append_assoc before (key ∷ []) top.front) top.names;
+      names = subst (λ (p : Path). Names (entries_of checked) (root_of checked) p cursor.start) (append_assoc before (key ∷ []) top.front) top.names;
       stands = top.stands;
     }
 
-pub open_push : (checked : Checked) (before : Path) (cursors : List Cursor) (cursor : Cursor) (keys : Path) (key : Key) → AreOpen checked before cursors keys
-    → cursor_checked cursor ≡ checked → Names (entries_of checked) (root_of checked) (before ++ keys) (cursor_start cursor) → StandsOn (entries_of checked) cursor key
+pub open_push : (checked : Checked) (before : Path) (cursors : List CursorView) (cursor : CursorView) (keys : Path) (key : Key) → AreOpen checked before cursors keys
+    → cursor.checked ≡ checked → Names (entries_of checked) (root_of checked) (before ++ keys) cursor.start → StandsOn (entries_of checked) cursor key
     → AreOpen checked before (cursors ++ cursor ∷ []) (keys ++ key ∷ [])
 open_push checked before [] cursor [] key h same names stands =
-    (same, subst (λ (p : Path). Names (entries_of checked) (root_of checked) p (cursor_start cursor)) (append-nil before) names, stands, tt)
+    (same, subst (λ (p : Path). Names (entries_of checked) (root_of checked) p cursor.start) (append-nil before) names, stands, tt)
 open_push checked before [] cursor (k ∷ keys) key h same names stands = absurd h
 open_push checked before (c ∷ cursors) cursor [] key h same names stands = absurd h
 open_push checked before (c ∷ cursors) cursor (k ∷ keys) key (s, n, t, more) same names stands = (
@@ -87,7 +86,7 @@ open_push checked before (c ∷ cursors) cursor (k ∷ keys) key (s, n, t, more)
   n,
   t,
   open_push checked (before ++ k ∷ []) cursors cursor keys key more same
-      (subst (λ (p : Path). Names (entries_of checked) (root_of checked) p (cursor_start cursor)) (sym (append_assoc before (k ∷ []) keys)) names) stands,
+      (subst (λ (p : Path). Names (entries_of checked) (root_of checked) p cursor.start) (sym (append_assoc before (k ∷ []) keys)) names) stands,
 )
 
 -- a key was taken off the path
@@ -102,52 +101,52 @@ path_popped old new (Some ref) n m front key keys items rest less =
     (snoc_front (path_of new) front ref.now key (sym (path_push new ref) ∙ ap path_of (sym items) ∙ keys), less)
 
 -- The last cursor moves on, from where it stands to where it comes.
-module _ (checked : Checked) (all : HasEntries (entries_of checked) (root_of checked)) (cursors : List Cursor) (cursor moved : Cursor) (keys : Path)
+module _ (checked : Checked) (all : HasEntries (entries_of checked) (root_of checked)) (cursors : List CursorView) (cursor moved : CursorView) (keys : Path)
     (top : Top checked [] cursors cursor keys) where
   abbrev MovesOn : Option LeafElement → Type 0
-  MovesOn o = Moves (entries_of (cursor_checked cursor)) (cursor_start cursor) next_move (cursor_place cursor) (cursor_place moved) o
+  MovesOn o = Moves (entries_of cursor.checked) cursor.start next_move cursor.place moved.place o
 
-  here : (o : Option LeafElement) → MovesOn o → Moves (entries_of checked) (cursor_start cursor) next_move (cursor_place cursor) (cursor_place moved) o
+  here : (o : Option LeafElement) → MovesOn o → Moves (entries_of checked) cursor.start next_move cursor.place moved.place o
   here o moves =
-      subst (λ (file : Checked). Moves (entries_of file) (cursor_start cursor) next_move (cursor_place cursor) (cursor_place moved) o) top.checked_file moves
+      subst (λ (file : Checked). Moves (entries_of file) cursor.start next_move cursor.place moved.place o) top.checked_file moves
 
   -- to an entry
-  pub next_stands : (e : LeafElement) → cursor_start moved ≡ cursor_start cursor → MovesOn (Some e) → StandsOn (entries_of checked) moved e.key
+  pub next_stands : (e : LeafElement) → moved.start ≡ cursor.start → MovesOn (Some e) → StandsOn (entries_of checked) moved e.key
   next_stands e start moves entries are =
-      let own : AreEntries (entries_of checked) (cursor_start cursor) entries = subst (λ (s : Start). AreEntries (entries_of checked) s entries) start are in
+      let own : AreEntries (entries_of checked) cursor.start entries = subst (λ (s : Start). AreEntries (entries_of checked) s entries) start are in
       let (i, old, on, at, key) = top.stands entries own in
-      let came = comes_next entries i old (cursor_place cursor) (cursor_place moved) (Some e) on at (here (Some e) moves entries own) in
+      let came = comes_next entries i old cursor.place moved.place (Some e) on at (here (Some e) moves entries own) in
       (suc i, e, came.0, came.1, refl)
 
-  pub next_open : (e : LeafElement) → cursor_checked moved ≡ cursor_checked cursor → cursor_start moved ≡ cursor_start cursor → MovesOn (Some e)
+  pub next_open : (e : LeafElement) → moved.checked ≡ cursor.checked → moved.start ≡ cursor.start → MovesOn (Some e)
       → AreOpen checked [] (cursors ++ moved ∷ []) (top.front ++ e.key ∷ [])
   next_open e file start moves =
       open_push checked [] cursors moved top.front e.key top.below (file ∙ top.checked_file)
       (subst (λ (s : Start). Names (entries_of checked) (root_of checked) top.front s) (sym start) top.names) (next_stands e start moves)
 
-  pub next_entry : (e : LeafElement) → MovesOn (Some e) → entries_of checked (cursor_start cursor) e
+  pub next_entry : (e : LeafElement) → MovesOn (Some e) → entries_of checked cursor.start e
   next_entry e moves =
-      let own = all top.front (cursor_start cursor) top.names in
+      let own = all top.front cursor.start top.names in
       let (i, old, on, at, key) = top.stands own.0 own.1 in
-      let came = comes_next own.0 i old (cursor_place cursor) (cursor_place moved) (Some e) on at (here (Some e) moves own.0 own.1) in
+      let came = comes_next own.0 i old cursor.place moved.place (Some e) on at (here (Some e) moves own.0 own.1) in
       (own.1.exact e).0 (contains_at own.0 (suc i) e came.1)
 
   pub next_given : (e : LeafElement) → MovesOn (Some e) → (listing : List Member) → Lists (entries_of checked) (root_of checked) listing
       → beyond keys listing ≡ (top.front ++ e.key ∷ [], item_of e) ∷ behind (top.front ++ e.key ∷ []) listing
   next_given e moves listing lists =
-      let own = all top.front (cursor_start cursor) top.names in
+      let own = all top.front cursor.start top.names in
       let (i, old, on, at, key) = top.stands own.0 own.1 in
-      let came = comes_next own.0 i old (cursor_place cursor) (cursor_place moved) (Some e) on at (here (Some e) moves own.0 own.1) in
+      let came = comes_next own.0 i old cursor.place moved.place (Some e) on at (here (Some e) moves own.0 own.1) in
       let same : top.front ++ old.key ∷ [] ≡ keys = ap (λ (k : Key). top.front ++ k ∷ []) key ∙ sym top.split in
       subst (λ (p : Path). beyond p listing ≡ (top.front ++ e.key ∷ [], item_of e) ∷ behind (top.front ++ e.key ∷ []) listing) same
-      (give_next (entries_of checked) (root_of checked) all listing lists top.front (cursor_start cursor) top.names own.0 i old e own.1 at came.1)
+      (give_next (entries_of checked) (root_of checked) all listing lists top.front cursor.start top.names own.0 i old e own.1 at came.1)
 
   -- or to none
   pub next_ended : MovesOn None → (listing : List Member) → Lists (entries_of checked) (root_of checked) listing → beyond keys listing ≡ beyond top.front listing
   next_ended moves listing lists =
-      let own = all top.front (cursor_start cursor) top.names in
+      let own = all top.front cursor.start top.names in
       let (i, old, on, at, key) = top.stands own.0 own.1 in
-      let short = comes_next own.0 i old (cursor_place cursor) (cursor_place moved) None on at (here None moves own.0 own.1) in
+      let short = comes_next own.0 i old cursor.place moved.place None on at (here None moves own.0 own.1) in
       let same : top.front ++ old.key ∷ [] ≡ keys = ap (λ (k : Key). top.front ++ k ∷ []) key ∙ sym top.split in
       subst (λ (p : Path). beyond p listing ≡ beyond top.front listing) same
-      (give_after_last (entries_of checked) (root_of checked) all listing lists top.front (cursor_start cursor) top.names own.0 i old own.1 at short)
+      (give_after_last (entries_of checked) (root_of checked) all listing lists top.front cursor.start top.names own.0 i old own.1 at short)

@@ -8,9 +8,9 @@ use Rattle.bolt_tree.specs.BucketViews.{entries_of}
 use Rattle.bolt_tree.specs.FileListings.{root_of}
 use Rattle.bolt_tree.specs.Listing.{Lists, Member, rest_from}
 use Rattle.bolt_tree.specs.Paths.{HasEntries, Path, path_of}
+use Rattle.bolt_tree.specs.Private.Kept.{CursorView}
 use Rattle.bolt_tree.specs.Private.OpenBuckets.{AreOpen, is_end}
 use Rattle.bolt_tree.specs.Private.Behind.{behind}
-use Rattle.bolt_tree.specs.declared.cursor.Cursor.{Cursor}
 use Rattle.bolt_tree.proofs.Seeking.{behind_all, rest_all}
 
 pub parts_whole : (path : List (Bor (List ℕ))) (i : ℕ) (d : Bor (List ℕ)) → i < length path
@@ -37,7 +37,7 @@ none_left [] i h k more = refl
 none_left (x ∷ xs) i h k more = absurd (let f = more (omega arith) in omega arith)
 
 -- with no part, all is left
-pub from_start : (checked : Checked) (cursors : List Cursor) (keys path : Path) → ∥ HasEntries (entries_of checked) (root_of checked) × AreOpen checked [] cursors keys ∥₁ → keys ≡ [] → path ≡ []
+pub from_start : (checked : Checked) (cursors : List CursorView) (keys path : Path) → ∥ HasEntries (entries_of checked) (root_of checked) × AreOpen checked [] cursors keys ∥₁ → keys ≡ [] → path ≡ []
     → (listing : List Member) → Lists (entries_of checked) (root_of checked) listing → behind keys listing ≡ rest_from path listing
 from_start checked cursors keys path buckets none empty listing lists =
     ∥∥₁_elim buckets (hlevel props) (λ t.

@@ -10,10 +10,11 @@ use Rattle.bolt_tree.specs.FileListings.{root_of}
 use Rattle.bolt_tree.specs.Entries.{Start}
 use Rattle.bolt_tree.specs.Listing.{Lists, Member}
 use Rattle.bolt_tree.specs.Paths.{HasEntries, Names, Path, path_of}
+use Rattle.bolt_tree.specs.Private.Kept.{CursorView}
+use Rattle.bolt_tree.specs.Private.OpenCursors.{cursors_of}
 use Rattle.bolt_tree.specs.Private.OpenBuckets.{AreOpen, IsAhead, IsInPlace, open_path}
 use Rattle.bolt_tree.specs.Private.Behind.{behind}
 use Rattle.bolt_tree.specs.declared.bucket.Bucket.{Bucket}
-use Rattle.bolt_tree.specs.declared.cursor.Cursor.{Cursor}
 use Rattle.bolt_tree.specs.declared.open_buckets.Ahead.{Ahead}
 use Rattle.bolt_tree.specs.declared.open_buckets.Ahead.TheVariants.{Enter, Give, Leave}
 use Rattle.bolt_tree.specs.declared.open_buckets.OpenBuckets.{OpenBuckets}
@@ -26,12 +27,12 @@ ahead_prop buckets (Give leaf) = hlevel props
 ahead_prop buckets Leave = hlevel props
 
 -- where only the room for more has changed
-pub ahead_in : (old new : OpenBuckets) (ahead : Ahead) → new.checked ≡ old.checked → open_path new ≡ open_path old → IsAhead old ahead → IsAhead new ahead
+pub ahead_in : (old new : OpenBuckets) (ahead : Ahead) → new.cursors.checked ≡ old.cursors.checked → open_path new ≡ open_path old → IsAhead old ahead → IsAhead new ahead
 ahead_in old new (Enter bucket) file same h =
     ∥∥₁_map h (λ n. (
       n.0 ∙ sym file,
       subst (λ (c : Checked). Names (entries_of c) (root_of c) (open_path new) (bucket_start bucket)) (sym file)
-          (subst (λ (ks : Path). Names (entries_of old.checked) (root_of old.checked) ks (bucket_start bucket)) (sym same) n.1),
+          (subst (λ (ks : Path). Names (entries_of old.cursors.checked) (root_of old.cursors.checked) ks (bucket_start bucket)) (sym same) n.1),
     ))
 ahead_in old new (Give leaf) file same h = (
   h.0,
@@ -41,14 +42,14 @@ ahead_in old new (Give leaf) file same h = (
 ahead_in old new Leave file same h = h
 
 -- a walk begins at the root
-pub begins : (checked : Checked) (buckets : OpenBuckets) (bucket : Bucket) → buckets.checked ≡ checked → buckets.cursors.items ≡ [] → buckets.path.items ≡ []
+pub begins : (checked : Checked) (buckets : OpenBuckets) (bucket : Bucket) → buckets.cursors.checked ≡ checked → cursors_of buckets.cursors ≡ [] → buckets.path.items ≡ []
     → bucket_checked bucket ≡ checked → bucket_start bucket ≡ root_of checked → ∥ IsInPlace buckets × IsAhead buckets (Enter bucket) ∥₁
 begins checked buckets bucket file none at bfile start =
     let path : open_path buckets ≡ [] = ap path_of at in
-    let are : AreOpen buckets.checked [] buckets.cursors.items (open_path buckets) =
-    subst (λ (cs : List Cursor). AreOpen buckets.checked [] cs (open_path buckets)) (sym none) (subst (λ (ks : Path). AreOpen buckets.checked [] [] ks) (sym path) tt) in
-    let names : Names (entries_of buckets.checked) (root_of buckets.checked) (open_path buckets) (bucket_start bucket) =
-    subst (λ (ks : Path). Names (entries_of buckets.checked) (root_of buckets.checked) ks (bucket_start bucket)) (sym path) (ap root_of file ∙ sym start) in
+    let are : AreOpen buckets.cursors.checked [] (cursors_of buckets.cursors) (open_path buckets) =
+    subst (λ (cs : List CursorView). AreOpen buckets.cursors.checked [] cs (open_path buckets)) (sym none) (subst (λ (ks : Path). AreOpen buckets.cursors.checked [] [] ks) (sym path) tt) in
+    let names : Names (entries_of buckets.cursors.checked) (root_of buckets.cursors.checked) (open_path buckets) (bucket_start bucket) =
+    subst (λ (ks : Path). Names (entries_of buckets.cursors.checked) (root_of buckets.cursors.checked) ks (bucket_start bucket)) (sym path) (ap root_of file ∙ sym start) in
     ∥∥₁_map (checked_entries checked) (λ h. (∣ (subst (λ (c : Checked). HasEntries (entries_of c) (root_of c)) (sym file) h, are) ∣₁, ∣ (bfile ∙ sym file, names) ∣₁))
 
 pub all_ahead : (checked : Checked) (keys : Path) → keys ≡ [] → (listing : List Member) → Lists (entries_of checked) (root_of checked) listing

@@ -9,7 +9,7 @@ use Rattle.bolt_tree.specs.Private.OpenBuckets.{left_by, told_path, open_path}
 use Rattle.bolt_tree.specs.declared.walk.Walk.{Walk}
 
 unfoldable pub walk_checked : Walk → Checked
-walk_checked walk = walk.buckets.checked
+walk_checked walk = walk.buckets.cursors.checked
 
 -- what of a listing is before the walk
 unfoldable pub left_of : Walk → List Member → List Member

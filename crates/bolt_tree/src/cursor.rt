@@ -6,14 +6,16 @@ ghost use Rattle.bolt_format.specs.Elements.{IsBucketValue};
 ghost use Rattle.bolt_tree.specs.BucketViews.{entries_of};
 ghost use Rattle.bolt_tree.specs.CursorBounds.{OpensByNext, OpensGap, OpensSeek, SeeksInBounds};
 ghost use Rattle.bolt_tree.specs.Private.Held.{IsHeld};
+ghost use Rattle.bolt_tree.specs.Private.Kept.{IsKept, kept_view};
 ghost use Rattle.bolt_tree.specs.Pagers.{pager_checked, pager_opened};
 ghost use Rattle.bolt_tree.specs.Places.{Fresh, Moves, Past, first_move, last_move, next_move, prev_move, seek_move};
 ghost use Rattle.bolt_tree.specs.Starts.{HasStart, start_at};
 
 use crate::at::At;
 use crate::pager::Pager;
-use crate::position::Stack;
+use crate::position::{Position, Stack, stack_of};
 use crate::trail::Trail;
+use bolt_check::Checked;
 use bolt_format::Leaf;
 
 /// A cursor over the entries of a bucket, in byte order of their keys. It stands before the first
@@ -29,6 +31,7 @@ pub struct Cursor<'a> {
 
 impl<'a> Cursor<'a> {
     ghost use Rattle.bolt_tree.specs.Cursors.{cursor_bucket, cursor_checked, cursor_compared, cursor_opened, cursor_place, cursor_start};
+    ghost use Rattle.bolt_tree.specs.Private.CursorViews.{cursor_view};
 
     /// A cursor before the first call, over a bucket of the pager's file. It reaches pages with a
     /// number by its pager alone.
@@ -51,6 +54,50 @@ impl<'a> Cursor<'a> {
             is_past: false,
             compared: 0,
         }
+    }
+
+    /// A cursor where one stood that had these positions; its counts begin anew.
+    #[tactic(auto, unfolding(crate::specs::Cursors::cursor_checked, crate::specs::Cursors::cursor_place, crate::specs::Cursors::cursor_start))]
+    pub(crate) fn resume(
+        checked: Checked<'a>,
+        at: At<'a>,
+        is_past: bool,
+        positions: &[Position<'a>],
+    ) -> Cursor<'a>
+        requires { ∥ IsKept checked at is_past positions.now ∥₁ }
+        ensures { cursor_view result ≡ kept_view checked.entry at.entry is_past positions.now }
+    {
+        let trail = Trail {
+            pager: Pager::new(checked),
+            at,
+            stack: stack_of(positions),
+        };
+        Cursor {
+            trail,
+            is_past,
+            compared: 0,
+        }
+    }
+
+    /// Where its bucket's tree begins.
+    pub(crate) fn at(&self) -> At<'a>
+        ensures { result ≡ self.now.trail.at }
+    {
+        self.trail.at
+    }
+
+    /// Whether it stands past the last entry.
+    pub(crate) fn is_past(&self) -> bool
+        ensures { result ≡ self.now.is_past }
+    {
+        self.is_past
+    }
+
+    /// The pages from the root page to that on which it stands.
+    pub(crate) fn positions(&self) -> &[Position<'a>]
+        ensures { result.now ≡ self.now.trail.stack.items }
+    {
+        self.trail.stack.as_slice()
     }
 
     /// How many pages its pager has opened.

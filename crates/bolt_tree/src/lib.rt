@@ -1,7 +1,7 @@
 //! What a sound file holds: its buckets, a cursor over the entries of one, and a walk over all that
 //! the file holds. A cursor keeps the pages that it has opened on a stack, from the bucket's root
-//! page to a leaf, and opens each page by its pager alone. A walk keeps a cursor for each open
-//! bucket.
+//! page to a leaf, and opens each page by its pager alone. A walk keeps a cursor for the innermost
+//! open bucket, and of the cursors of the others their positions.
 #![tactic(auto)]
 
 mod at;
@@ -16,6 +16,7 @@ pub mod listing_laws;
 mod lookup;
 mod moves;
 mod open_buckets;
+mod open_cursors;
 mod opened;
 mod pager;
 mod position;

@@ -10,9 +10,13 @@ ghost use Rattle.bolt_tree.specs.Listing.{rest_from};
 ghost use Rattle.bolt_tree.specs.Private.Behind.{behind, beyond};
 ghost use Rattle.bolt_tree.specs.FileListings.{ForListing};
 ghost use Rattle.bolt_tree.specs.Paths.{path_of};
+ghost use Rattle.bolt_tree.specs.Cursors.{cursor_checked};
+ghost use Rattle.bolt_tree.specs.Private.CursorViews.{cursor_view};
+ghost use Rattle.bolt_tree.specs.Private.OpenCursors.{cursors_of};
 
 use crate::bucket::Bucket;
 use crate::cursor::Cursor;
+use crate::open_cursors::OpenCursors;
 use bolt_check::{Checked, NoMemory};
 use bolt_format::Leaf;
 use std::alloc::Global;
@@ -41,8 +45,7 @@ pub(crate) enum Sought<'a> {
 /// path. Both have the same length.
 #[derive(Drop)]
 pub(crate) struct OpenBuckets<'a> {
-    pub checked: Checked<'a>,
-    pub cursors: Vec<Cursor<'a>>,
+    pub cursors: OpenCursors<'a>,
     pub path: Vec<&'a [u8]>,
 }
 
@@ -51,27 +54,26 @@ impl<'a> OpenBuckets<'a> {
 
     /// No open bucket.
     pub fn new(alloc: Global, checked: Checked<'a>) -> OpenBuckets<'a>
-        ensures checked { result.checked ≡ checked.entry }
-        ensures cursors { result.cursors.items ≡ [] }
+        ensures checked { result.cursors.checked ≡ checked.entry }
+        ensures cursors { cursors_of result.cursors ≡ [] }
         ensures path { result.path.items ≡ [] }
     {
         OpenBuckets {
-            checked,
-            cursors: Vec::new(alloc),
+            cursors: OpenCursors::new(alloc, checked),
             path: Vec::new(alloc),
         }
     }
 
     /// Adds an open bucket. Where memory runs out, nothing has changed.
     fn push(&mut self, cursor: Cursor<'a>, key: &'a [u8]) -> Result<(), NoMemory>
-        ensures checked { self.new.checked ≡ self.old.checked }
-        ensures cursors { OnOk result (self.new.cursors.items ≡ self.old.cursors.items ++ cursor.entry ∷ []) }
+        requires { ∥ cursor_checked cursor ≡ self.old.cursors.checked ∥₁ }
+        ensures checked { self.new.cursors.checked ≡ self.old.cursors.checked }
+        ensures cursors { OnOk result (cursors_of self.new.cursors ≡ cursors_of self.old.cursors ++ cursor_view cursor.entry ∷ []) }
         ensures path { OnOk result (open_path self.new ≡ open_path self.old ++ key.now ∷ []) }
-        ensures same { OnErr result ((self.new.cursors.items ≡ self.old.cursors.items) × (self.new.path.items ≡ self.old.path.items)) }
+        ensures same { OnErr result ((cursors_of self.new.cursors ≡ cursors_of self.old.cursors) × (self.new.path.items ≡ self.old.path.items)) }
     {
-        self.cursors.reserve(1)?;
         self.path.reserve(1)?;
-        self.cursors.push_reserved(cursor);
+        self.cursors.push(cursor)?;
         self.path.push_reserved(key);
         Ok(())
     }
@@ -81,12 +83,12 @@ impl<'a> OpenBuckets<'a> {
     fn enter(&mut self, bucket: Bucket<'a>) -> Result<Option<Leaf<'a>>, NoMemory>
         requires placed { IsInPlace self.old }
         requires named { IsNamed self.old bucket }
-        ensures checked { self.new.checked ≡ self.old.checked }
+        ensures checked { self.new.cursors.checked ≡ self.old.cursors.checked }
         ensures placed { IsInPlace self.new }
         ensures on { IfOk result (λ found. IfSome found (IsAt self.new)) }
         ensures none { IfOk result (λ found. IfNone found (open_path self.new ≡ open_path self.old)) }
         ensures same { OnErr result (open_path self.new ≡ open_path self.old) }
-        ensures left { IfOk result (λ found. ForListing self.old.checked (λ listing. MatchOption found (behind (open_path self.old) listing ≡ beyond (open_path self.old) listing)
+        ensures left { IfOk result (λ found. ForListing self.old.cursors.checked (λ listing. MatchOption found (behind (open_path self.old) listing ≡ beyond (open_path self.old) listing)
             (λ leaf. behind (open_path self.old) listing ≡ (open_path self.new, item_of (leaf_view leaf)) ∷ behind (open_path self.new) listing))) }
     {
         let mut cursor = bucket.cursor();
@@ -101,12 +103,12 @@ impl<'a> OpenBuckets<'a> {
     pub fn advance(&mut self, ahead: Ahead<'a>) -> Result<Option<Leaf<'a>>, NoMemory>
         requires placed { IsInPlace self.old }
         requires ahead { IsAhead self.old ahead }
-        ensures checked { self.new.checked ≡ self.old.checked }
+        ensures checked { self.new.cursors.checked ≡ self.old.cursors.checked }
         ensures placed { IsInPlace self.new }
         ensures on { IfOk result (λ found. IfSome found (IsAt self.new)) }
         ensures ended { IfOk result (λ found. IfNone found (open_path self.new ≡ [])) }
         ensures same { OnErr result (open_path self.new ≡ open_path self.old) }
-        ensures left { IfOk result (λ found. ForListing self.old.checked (λ listing. MatchOption found (left_by ahead.entry (open_path self.old) listing ≡ [])
+        ensures left { IfOk result (λ found. ForListing self.old.cursors.checked (λ listing. MatchOption found (left_by ahead.entry (open_path self.old) listing ≡ [])
             (λ leaf. left_by ahead.entry (open_path self.old) listing ≡ (open_path self.new, item_of (leaf_view leaf)) ∷ behind (open_path self.new) listing))) }
     {
         match ahead {
@@ -124,11 +126,11 @@ impl<'a> OpenBuckets<'a> {
         requires placed { IsInPlace self.now }
         requires on { IsAt self.now leaf.now }
         ensures ahead { IsAhead self.now result }
-        ensures left { ForListing self.now.checked (λ listing. left_by result (open_path self.now) listing ≡ behind (open_path self.now) listing) }
+        ensures left { ForListing self.now.cursors.checked (λ listing. left_by result (open_path self.now) listing ≡ behind (open_path self.now) listing) }
         ensures told { told_path result (open_path self.now) ≡ open_path self.now }
     {
         if leaf.is_bucket {
-            Ahead::Enter(Bucket::of(self.checked, leaf))
+            Ahead::Enter(Bucket::of(self.cursors.checked, leaf))
         } else {
             Ahead::Leave
         }
@@ -137,11 +139,11 @@ impl<'a> OpenBuckets<'a> {
     /// Comes to the next entry behind all that the path begins, to give it.
     fn come(&mut self) -> Ahead<'a>
         requires { IsInPlace self.old }
-        ensures checked { self.new.checked ≡ self.old.checked }
+        ensures checked { self.new.cursors.checked ≡ self.old.cursors.checked }
         ensures placed { IsInPlace self.new }
         ensures ahead { IsAhead self.new result }
         ensures untold { told_path result (open_path self.new) ≡ [] }
-        ensures left { ForListing self.old.checked (λ listing. left_by result (open_path self.new) listing ≡ beyond (open_path self.old) listing) }
+        ensures left { ForListing self.old.cursors.checked (λ listing. left_by result (open_path self.new) listing ≡ beyond (open_path self.old) listing) }
     {
         match self.climb() {
             Some(leaf) => Ahead::Give(leaf),
@@ -158,7 +160,7 @@ impl<'a> OpenBuckets<'a> {
     ) -> Result<Sought<'a>, NoMemory>
         requires placed { IsInPlace self.old }
         requires named { IsNamed self.old bucket }
-        ensures checked { OnOk result (self.new.checked ≡ self.old.checked) }
+        ensures checked { OnOk result (self.new.cursors.checked ≡ self.old.cursors.checked) }
         ensures placed { OnOk result (IsInPlace self.new) }
         ensures sought { IfOk result (IsSought self.old self.new part.now is_last) }
     {
@@ -174,7 +176,7 @@ impl<'a> OpenBuckets<'a> {
             return Ok(Sought::Here(Ahead::Give(leaf)));
         }
         if leaf.is_bucket {
-            return Ok(Sought::Inside(Bucket::of(self.checked, &leaf)));
+            return Ok(Sought::Inside(Bucket::of(self.cursors.checked, &leaf)));
         }
         Ok(Sought::Here(self.come()))
     }
@@ -184,11 +186,11 @@ impl<'a> OpenBuckets<'a> {
         requires placed { IsInPlace self.old }
         requires named { IsNamed self.old root }
         requires empty { open_path self.old ≡ [] }
-        ensures checked { OnOk result (self.new.checked ≡ self.old.checked) }
+        ensures checked { OnOk result (self.new.cursors.checked ≡ self.old.cursors.checked) }
         ensures placed { OnOk result (IsInPlace self.new) }
         ensures ahead { IfOk result (IsAhead self.new) }
         ensures untold { IfOk result (λ ahead. told_path ahead (open_path self.new) ≡ []) }
-        ensures left { IfOk result (λ ahead. ForListing self.old.checked (λ listing. left_by ahead (open_path self.new) listing ≡ rest_from (path_of path.now) listing)) }
+        ensures left { IfOk result (λ ahead. ForListing self.old.cursors.checked (λ listing. left_by ahead (open_path self.new) listing ≡ rest_from (path_of path.now) listing)) }
     {
         let mut bucket = root;
         for (i, part) in path.iter().enumerate() {
@@ -204,21 +206,21 @@ impl<'a> OpenBuckets<'a> {
     /// none.
     pub fn climb(&mut self) -> Option<Leaf<'a>>
         requires { IsInPlace self.old }
-        ensures checked { self.new.checked ≡ self.old.checked }
+        ensures checked { self.new.cursors.checked ≡ self.old.cursors.checked }
         ensures placed { IsInPlace self.new }
         ensures on { IfSome result (IsAt self.new) }
         ensures ended { IfNone result (open_path self.new ≡ []) }
-        ensures left { ForListing self.old.checked (λ listing. MatchOption result (beyond (open_path self.old) listing ≡ [])
+        ensures left { ForListing self.old.cursors.checked (λ listing. MatchOption result (beyond (open_path self.old) listing ≡ [])
             (λ leaf. beyond (open_path self.old) listing ≡ (open_path self.new, item_of (leaf_view leaf)) ∷ behind (open_path self.new) listing)) }
     {
-        while let Some(cursor) = self.cursors.last_mut() {
-            let found = cursor.next_element();
+        while !self.cursors.is_empty() {
+            let found = self.cursors.next_element();
             let _ = self.path.pop();
             if let Some(leaf) = found {
                 self.path.push_reserved(leaf.key);
                 return Some(leaf);
             }
-            let _ = self.cursors.pop();
+            self.cursors.pop();
         }
         None
     }

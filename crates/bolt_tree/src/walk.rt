@@ -12,7 +12,8 @@ use bolt_check::{Checked, NoMemory};
 use std::alloc::Global;
 
 /// A walk over all that a file holds, in the order of the paths: each value and each bucket once,
-/// a bucket before what it holds. It keeps a cursor for each open bucket, and calls itself nowhere.
+/// a bucket before what it holds. It keeps where it stands in each open bucket, and calls itself
+/// nowhere.
 #[derive(Drop)]
 pub struct Walk<'a> {
     buckets: OpenBuckets<'a>,

@@ -21,7 +21,7 @@ const MADE_FOR_WALKS: usize = 40;
 const MADE_FOR_CALLS: usize = 158;
 
 /// How many buckets are nested in the file of the walks.
-const DEPTH: usize = 5;
+const DEPTH: usize = 6;
 
 /// Behind this many requests makes so many more that the refused one is this one of those that come
 /// next; the first is 1.

@@ -9,14 +9,14 @@ use Rattle.bolt_check.specs.declared.checked_file.Checked.{Checked}
 use Rattle.bolt_tree.specs.Buckets.{bucket_checked, bucket_start}
 use Rattle.bolt_tree.specs.BucketViews.{entries_of}
 use Rattle.bolt_tree.specs.FileListings.{ForListing, root_of}
-use Rattle.bolt_tree.specs.Cursors.{cursor_checked, cursor_place, cursor_start}
 use Rattle.bolt_tree.specs.Entries.{AreEntries, Start}
 use Rattle.bolt_tree.specs.Listing.{Member, rest_from}
 use Rattle.bolt_tree.specs.Paths.{HasEntries, Names, Path, path_of}
 use Rattle.bolt_tree.specs.Places.{On}
 use Rattle.bolt_tree.specs.Private.Behind.{behind, beyond}
+use Rattle.bolt_tree.specs.Private.Kept.{CursorView}
+use Rattle.bolt_tree.specs.Private.OpenCursors.{cursors_of}
 use Rattle.bolt_tree.specs.declared.bucket.Bucket.{Bucket}
-use Rattle.bolt_tree.specs.declared.cursor.Cursor.{Cursor}
 use Rattle.bolt_tree.specs.declared.open_buckets.Ahead.{Ahead}
 use Rattle.bolt_tree.specs.declared.open_buckets.Ahead.TheVariants.{Enter, Give, Leave}
 use Rattle.bolt_tree.specs.declared.open_buckets.Sought.{Sought}
@@ -27,32 +27,32 @@ abbrev pub open_path : OpenBuckets → Path
 open_path buckets = path_of buckets.path.items
 
 -- a cursor stands on an entry with this key
-abbrev pub StandsOn : (Start → LeafElement → Type 0) → Cursor → Key → Type 0
-StandsOn Entry cursor key = (entries : List LeafElement) → AreEntries Entry (cursor_start cursor) entries
-    → (i : ℕ) × (e : LeafElement) × (cursor_place cursor ≡ On i) × (slice_get entries i ≡ Some e) × (e.key ≡ key)
+abbrev pub StandsOn : (Start → LeafElement → Type 0) → CursorView → Key → Type 0
+StandsOn Entry cursor key = (entries : List LeafElement) → AreEntries Entry cursor.start entries
+    → (i : ℕ) × (e : LeafElement) × (cursor.place ≡ On i) × (slice_get entries i ≡ Some e) × (e.key ≡ key)
 
 -- Each of these cursors is over the bucket that the keys before it name, and stands on the key in its place.
-abbrev pub AreOpen : Checked → Path → List Cursor → Path → Type 0
+abbrev pub AreOpen : Checked → Path → List CursorView → Path → Type 0
 AreOpen checked before [] [] = Unit {0}
 AreOpen checked before [] (key ∷ keys) = ⊥
 AreOpen checked before (cursor ∷ cursors) [] = ⊥
 AreOpen checked before (cursor ∷ cursors) (key ∷ keys) =
-    (cursor_checked cursor ≡ checked) × Names (entries_of checked) (root_of checked) before (cursor_start cursor) × StandsOn (entries_of checked) cursor key
+    (cursor.checked ≡ checked) × Names (entries_of checked) (root_of checked) before cursor.start × StandsOn (entries_of checked) cursor key
     × AreOpen checked (before ++ key ∷ []) cursors keys
 
 abbrev pub IsInPlace : OpenBuckets → Type 0
-IsInPlace buckets = ∥ HasEntries (entries_of buckets.checked) (root_of buckets.checked) × AreOpen buckets.checked [] buckets.cursors.items (open_path buckets) ∥₁
+IsInPlace buckets = ∥ HasEntries (entries_of buckets.cursors.checked) (root_of buckets.cursors.checked) × AreOpen buckets.cursors.checked [] (cursors_of buckets.cursors) (open_path buckets) ∥₁
 
 -- the path leads to this element
 abbrev pub IsAt : OpenBuckets → Leaf → Type 0
 IsAt buckets leaf =
     (IsTrue leaf.is_bucket → IsBucketValue leaf.value.now)
-    × ∥ ((path : Path) × (bucket : Start) × (open_path buckets ≡ path ++ leaf.key.now ∷ []) × Names (entries_of buckets.checked) (root_of buckets.checked) path bucket
-    × entries_of buckets.checked bucket (leaf_view leaf)) ∥₁
+    × ∥ ((path : Path) × (bucket : Start) × (open_path buckets ≡ path ++ leaf.key.now ∷ []) × Names (entries_of buckets.cursors.checked) (root_of buckets.cursors.checked) path bucket
+    × entries_of buckets.cursors.checked bucket (leaf_view leaf)) ∥₁
 
 -- the bucket is one of the same file, and the path names it
 abbrev pub IsNamed : OpenBuckets → Bucket → Type 0
-IsNamed buckets bucket = ∥ (bucket_checked bucket ≡ buckets.checked) × Names (entries_of buckets.checked) (root_of buckets.checked) (open_path buckets) (bucket_start bucket) ∥₁
+IsNamed buckets bucket = ∥ (bucket_checked bucket ≡ buckets.cursors.checked) × Names (entries_of buckets.cursors.checked) (root_of buckets.cursors.checked) (open_path buckets) (bucket_start bucket) ∥₁
 
 -- open buckets from which this may be done next
 abbrev pub IsAhead : OpenBuckets → Ahead → Type 0
@@ -83,4 +83,4 @@ abbrev pub IsSought : OpenBuckets → OpenBuckets → Key → Bool → Sought �
 IsSought old new part is_last (Inside bucket) = (open_path new ≡ open_path old ++ part ∷ []) × IsNamed new bucket × (is_last ≡ false)
 IsSought old new part is_last (Here ahead) =
     IsAhead new ahead × (told_path ahead (open_path new) ≡ [])
-    × ((rest : Path) → is_end rest ≡ is_last → ForListing old.checked (λ listing. left_by ahead (open_path new) listing ≡ rest_from (open_path old ++ part ∷ rest) listing))
+    × ((rest : Path) → is_end rest ≡ is_last → ForListing old.cursors.checked (λ listing. left_by ahead (open_path new) listing ≡ rest_from (open_path old ++ part ∷ rest) listing))

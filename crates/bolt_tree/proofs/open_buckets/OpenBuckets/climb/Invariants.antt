@@ -1,16 +1,17 @@
 use Rattle.bolt_tree.specs.FileListings.{ForListing}
-use Rattle.std.proofs.Common.{◌≡◌, vec_len}
+use Rattle.std.proofs.Common.{◌≡◌, length}
 use Rattle.bolt_tree.specs.Private.OpenBuckets.{IsInPlace, open_path}
+use Rattle.bolt_tree.specs.Private.OpenCursors.{cursors_of}
 use Rattle.bolt_tree.specs.Private.Behind.{beyond}
 use Rattle.bolt_tree.proofs.open_buckets.OpenBuckets.climb.Given as goal
 
 -- what stands beyond the path is what stood beyond it at the beginning
-abbrev pub invariant-loop-cursor : goal.invariant-loop-cursor
-invariant-loop-cursor l = record {
-  checked : l.self.checked ≡ l.initial.self.checked;
+abbrev pub invariant-loop-self : goal.invariant-loop-self
+invariant-loop-self l = record {
+  checked : l.self.cursors.checked ≡ l.initial.self.cursors.checked;
   placed : IsInPlace l.self;
-  left : ForListing l.self.checked (λ listing. beyond (open_path l.initial.self) listing ≡ beyond (open_path l.self) listing);
+  left : ForListing l.self.cursors.checked (λ listing. beyond (open_path l.initial.self) listing ≡ beyond (open_path l.self) listing);
 }
 
-abbrev pub decreases-loop-cursor : goal.decreases-loop-cursor
-decreases-loop-cursor l = vec_len l.self.cursors
+abbrev pub decreases-loop-self : goal.decreases-loop-self
+decreases-loop-self l = length (cursors_of l.self.cursors)

@@ -1,3 +1,4 @@
+use Rattle.bolt_tree.specs.Private.OpenCursors.{cursors_of}
 use Rattle.bolt_tree.specs.Paths.{path_of}
 use Rattle.std.proofs.Common.{◌∙◌, sym}
 use Rattle.bolt_format.specs.ElementPlaces.{leaf_view}
@@ -8,8 +9,8 @@ use Rattle.bolt_tree.proofs.open_buckets.OpenBuckets.come.Goals as goal
 
 pub returns-in-Some-clause-left : goal.returns-in-Some-clause-left
 returns-in-Some-clause-left c = λ listing lists.
-    let there = listed_in c.climb.new.self.checked c.args.self.now.checked listing c.in-Some.ensures.checked lists in
-    itself c.climb.new.self.checked c.climb.new.self.cursors.items (path_of c.climb.new.self.path.items) (leaf_view c.in-Some.leaf) c.in-Some.ensures.placed c.in-Some.ensures.on.1 listing there
+    let there = listed_in c.climb.new.self.cursors.checked c.args.self.now.cursors.checked listing c.in-Some.ensures.checked lists in
+    itself c.climb.new.self.cursors.checked (cursors_of c.climb.new.self.cursors) (path_of c.climb.new.self.path.items) (leaf_view c.in-Some.leaf) c.in-Some.ensures.placed c.in-Some.ensures.on.1 listing there
     ∙ sym (c.in-Some.ensures.left listing lists)
 
 pub returns-in-None-clause-left : goal.returns-in-None-clause-left

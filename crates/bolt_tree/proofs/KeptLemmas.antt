@@ -1,0 +1,171 @@
+-- Cursors that wait, and go on.
+use Rattle.std.proofs.Common.{◌≡◌, ◌∙◌, ◌≤◌, ◌-◌, ℕ, Bool, true, List, [], ◌∷◌, ◌++◌, Option, Some, None, drop, take, length, reverse, refl, sym, ap, subst, arith}
+use Rattle.std.proofs.Math.Logic.{∥∥₁_elim, ∥∥₁_map}
+use Rattle.std.proofs.Math.Seq.{drop-append_seam, take-append_seam, take-length}
+use Rattle.std.proofs.Props.{props}
+use Rattle.std.proofs.lemmas.List.{length-append, length-drop, reverse-append}
+use Rattle.bolt_check.specs.declared.checked_file.Checked.{Checked}
+use Rattle.bolt_tree.specs.BucketViews.{BucketView, bucket_in}
+use Rattle.bolt_tree.specs.Cursors.{cursor_checked, cursor_place, cursor_start}
+use Rattle.bolt_tree.specs.Pagers.{pager_checked}
+use Rattle.bolt_tree.specs.Private.CursorViews.{AreOfFile, IsInnermost, cursor_view, innermost_views}
+use Rattle.bolt_tree.specs.Private.Held.{IsHeld}
+use Rattle.bolt_tree.specs.Private.Kept.{AreKept, CursorView, IsKept, kept_view, kept_views}
+use Rattle.bolt_tree.specs.Private.Stacks.{Frame, HasStack, IsAtRest}
+use Rattle.bolt_tree.specs.Private.Trails.{frames_of}
+use Rattle.bolt_tree.specs.Starts.{start_at}
+use Rattle.bolt_tree.specs.declared.at.At.{At}
+use Rattle.bolt_tree.specs.declared.cursor.Cursor.{Cursor}
+use Rattle.bolt_tree.specs.declared.open_cursors.Waiting.{Waiting}
+use Rattle.bolt_tree.specs.declared.position.Position.{Position}
+use Rattle.bolt_tree.specs.declared.trail.Trail.{Trail}
+use Rattle.bolt_tree.proofs.OpenSteps.{no_snoc, snoc_front}
+use Rattle.bolt_tree.proofs.StackLemmas.{stack_short}
+use Rattle.bolt_tree.proofs.TrailLemmas.{length-frames}
+
+frames_short : (bucket : BucketView) (frames : List Frame) → HasStack bucket frames → length frames ≤ 64
+frames_short bucket [] stack = omega arith
+frames_short bucket (f ∷ below) stack = stack_short bucket f below stack
+
+-- so many positions have room in a cursor
+pub kept_short : (checked : Checked) (at : At) (is_past : Bool) (positions : List Position) → ∥ IsKept checked at is_past positions ∥₁ → length positions ≤ 64
+kept_short checked at is_past positions kept =
+    ∥∥₁_elim kept (hlevel props) (λ k.
+    subst (λ (n : ℕ). n ≤ 64) (length-frames positions) (frames_short (bucket_in checked (start_at at)) (frames_of positions) k.stack))
+
+-- a cursor goes on by the positions that were kept
+pub resumed : (trail : Trail) (is_past : Bool) (checked : Checked) (positions : List Position) → pager_checked trail.pager ≡ checked → trail.stack.items ≡ positions
+    → ∥ IsKept checked trail.at is_past positions ∥₁ → ∥ IsHeld trail is_past ∥₁
+resumed trail is_past checked positions file items kept =
+    ∥∥₁_map kept (λ k. record {
+      stack = subst (λ (c : Checked). HasStack (bucket_in c (start_at trail.at)) (frames_of trail.stack.items)) (sym file)
+          (subst (λ (ps : List Position). HasStack (bucket_in checked (start_at trail.at)) (frames_of ps)) (sym items) k.stack);
+      rest = subst (λ (ps : List Position). IsAtRest (frames_of ps)) (sym items) k.rest;
+      empty = subst (λ (ps : List Position). is_past ≡ true → frames_of ps ≡ []) (sym items) k.empty;
+    })
+
+-- those of a cursor may be kept
+held_kept : (trail : Trail) (is_past : Bool) (checked : Checked) → pager_checked trail.pager ≡ checked → IsHeld trail is_past → IsKept checked trail.at is_past trail.stack.items
+held_kept trail is_past checked file h = record {
+  stack = subst (λ (c : Checked). HasStack (bucket_in c (start_at trail.at)) (frames_of trail.stack.items)) file h.stack;
+  rest = h.rest;
+  empty = h.empty;
+}
+
+-- one more that waits
+module _ (checked : Checked) (waiting : List Waiting) (w : Waiting) (positions more : List Position) (begins : w.begin ≡ length positions) where
+  last_first : reverse (waiting ++ w ∷ []) ≡ w ∷ reverse waiting
+  last_first = reverse-append waiting (w ∷ [])
+
+  dropped : drop w.begin (positions ++ more) ≡ more
+  dropped = ap (λ (n : ℕ). drop n (positions ++ more)) begins ∙ drop-append_seam positions more
+
+  taken : take w.begin (positions ++ more) ≡ positions
+  taken = ap (λ (n : ℕ). take n (positions ++ more)) begins ∙ take-append_seam positions more
+
+  pub one_more : AreKept checked (reverse waiting) positions → IsKept checked w.at w.is_past more → AreKept checked (reverse (waiting ++ w ∷ [])) (positions ++ more)
+  one_more are is =
+      subst (λ (ws : List Waiting). AreKept checked ws (positions ++ more)) (sym last_first) (
+        (let l = length-append positions more in omega (arith, l, begins)),
+        subst (λ (ps : List Position). IsKept checked w.at w.is_past ps) (sym dropped) is,
+        subst (λ (ps : List Position). AreKept checked (reverse waiting) ps) (sym taken) are,
+      )
+
+  pub one_more_view : kept_views checked (reverse (waiting ++ w ∷ [])) (positions ++ more) ≡ kept_views checked (reverse waiting) positions ++ kept_view checked w.at w.is_past more ∷ []
+  one_more_view =
+      ap (λ (ws : List Waiting). kept_views checked ws (positions ++ more)) last_first
+      ∙ (ap (λ (ps : List Position). kept_views checked (reverse waiting) ps ++ kept_view checked w.at w.is_past (drop w.begin (positions ++ more)) ∷ []) taken
+      ∙ ap (λ (ps : List Position). kept_views checked (reverse waiting) positions ++ kept_view checked w.at w.is_past ps ∷ []) dropped)
+
+-- a cursor of the file shows what its positions show
+cursor_kept : (checked : Checked) (cursor : Cursor) → cursor_checked cursor ≡ checked → kept_view checked cursor.trail.at cursor.is_past cursor.trail.stack.items ≡ cursor_view cursor
+unfolding cursor_checked cursor_place cursor_start
+cursor_kept checked cursor file = ap (λ (c : Checked). kept_view c cursor.trail.at cursor.is_past cursor.trail.stack.items) (sym file)
+
+file_of : (checked : Checked) (cursor : Cursor) → cursor_checked cursor ≡ checked → pager_checked cursor.trail.pager ≡ checked
+unfolding cursor_checked
+file_of checked cursor file = file
+
+-- the innermost cursor waits, and another one is put behind it
+module _ (checked : Checked) (waiting : List Waiting) (positions : List Position) (innermost : Option Cursor) (outer cursor : Cursor) (begin : ℕ)
+    (known : ∥ AreOfFile checked waiting positions innermost ∥₁) (is : innermost ≡ Some outer) (begins : begin ≡ length positions) (file : ∥ cursor_checked cursor ≡ checked ∥₁) where
+  abbrev put : Waiting
+  put = record { at = outer.trail.at; is_past = outer.is_past; begin = begin }
+
+  of_file : AreOfFile checked waiting positions innermost → cursor_checked outer ≡ checked
+  of_file k = subst (λ (o : Option Cursor). IsInnermost checked waiting o) is k.1
+
+  pub waits : ∥ AreOfFile checked (waiting ++ put ∷ []) (positions ++ outer.trail.stack.items) (Some cursor) ∥₁
+  waits =
+      ∥∥₁_elim known (hlevel props) (λ k. ∥∥₁_elim outer.held (hlevel props) (λ h. ∥∥₁_map file (λ f. (
+        one_more checked waiting put positions outer.trail.stack.items begins k.0
+            (held_kept outer.trail outer.is_past checked (file_of checked outer (of_file k)) h),
+        f,
+      ))))
+
+  pub waits_view : kept_views checked (reverse (waiting ++ put ∷ [])) (positions ++ outer.trail.stack.items) ≡ kept_views checked (reverse waiting) positions ++ innermost_views innermost
+  waits_view =
+      ∥∥₁_elim known (hlevel props) (λ k.
+      one_more_view checked waiting put positions outer.trail.stack.items begins
+      ∙ (ap (λ (v : CursorView). kept_views checked (reverse waiting) positions ++ v ∷ []) (cursor_kept checked outer (of_file k))
+      ∙ ap (λ (o : Option Cursor). kept_views checked (reverse waiting) positions ++ innermost_views o) (sym is)))
+
+-- without an innermost cursor there is none
+pub none_open : (checked : Checked) (waiting : List Waiting) (positions : List Position) (innermost : Option Cursor) → ∥ AreOfFile checked waiting positions innermost ∥₁ → innermost ≡ None
+    → ∥ kept_views checked (reverse waiting) positions ++ innermost_views innermost ≡ [] ∥₁
+none_open checked waiting positions innermost known is =
+    ∥∥₁_map known (λ k.
+    let none : waiting ≡ [] = subst (λ (o : Option Cursor). IsInnermost checked waiting o) is k.1 in
+    ap (λ (o : Option Cursor). kept_views checked (reverse waiting) positions ++ innermost_views o) is
+    ∙ ap (λ (ws : List Waiting). kept_views checked (reverse ws) positions ++ []) none)
+
+-- the first one
+pub first_one : (checked : Checked) (waiting : List Waiting) (positions : List Position) (innermost : Option Cursor) (cursor : Cursor) → ∥ AreOfFile checked waiting positions innermost ∥₁ → innermost ≡ None
+    → ∥ cursor_checked cursor ≡ checked ∥₁ → ∥ AreOfFile checked waiting positions (Some cursor) ∥₁
+first_one checked waiting positions innermost cursor known is file = ∥∥₁_elim known (hlevel props) (λ k. ∥∥₁_map file (λ f. (k.0, f)))
+
+-- the last one that waits is taken off
+module _ (checked : Checked) (old new : List Waiting) (w : Waiting) (positions : List Position) (innermost : Option Cursor)
+    (known : ∥ AreOfFile checked old positions innermost ∥₁) (split : old ≡ new ++ w ∷ []) where
+  all_but : AreOfFile checked old positions innermost → AreKept checked (w ∷ reverse new) positions
+  all_but k = subst (λ (ws : List Waiting). AreKept checked ws positions) (ap reverse split ∙ reverse-append new (w ∷ [])) k.0
+
+  whole : drop w.begin positions ≡ take (length positions - w.begin) (drop w.begin positions)
+  whole = sym (ap (λ (n : ℕ). take n (drop w.begin positions)) (sym (length-drop w.begin positions)) ∙ take-length (drop w.begin positions))
+
+  pub goes_on : ∥ IsKept checked w.at w.is_past (take (length positions - w.begin) (drop w.begin positions)) ∥₁
+  goes_on = ∥∥₁_map known (λ k. subst (λ (ps : List Position). IsKept checked w.at w.is_past ps) whole (all_but k).1)
+
+  pub others : (cursor : Cursor) → cursor_view cursor ≡ kept_view checked w.at w.is_past (take (length positions - w.begin) (drop w.begin positions))
+      → ∥ AreOfFile checked new (take w.begin positions) (Some cursor) ∥₁
+  others cursor view = ∥∥₁_map known (λ k. ((all_but k).2, ap (λ (v : CursorView). v.checked) view))
+
+  under : (o : Option Cursor) (outer : List CursorView) (last : CursorView) → IsInnermost checked old o → kept_views checked (reverse old) positions ++ innermost_views o ≡ outer ++ last ∷ []
+      → kept_views checked (reverse old) positions ≡ outer
+  under None outer last none e = absurd (no_snoc new w (sym none ∙ split))
+  under (Some c) outer last f e = snoc_front (kept_views checked (reverse old) positions) outer (cursor_view c) last e
+
+  pub views_left : (cursor : Cursor) (outer : List CursorView) (last : CursorView)
+      → cursor_view cursor ≡ kept_view checked w.at w.is_past (take (length positions - w.begin) (drop w.begin positions))
+      → kept_views checked (reverse old) positions ++ innermost_views innermost ≡ outer ++ last ∷ []
+      → kept_views checked (reverse new) (take w.begin positions) ++ cursor_view cursor ∷ [] ≡ outer
+  views_left cursor outer last view all =
+      let same : kept_views checked (reverse new) (take w.begin positions) ++ cursor_view cursor ∷ [] ≡ kept_views checked (reverse old) positions =
+      ap (λ (v : CursorView). kept_views checked (reverse new) (take w.begin positions) ++ v ∷ []) (view ∙ ap (kept_view checked w.at w.is_past) (sym whole))
+      ∙ sym (ap (λ (ws : List Waiting). kept_views checked ws positions) (ap reverse split ∙ reverse-append new (w ∷ []))) in
+      same ∙ (∥∥₁_elim known (hlevel props) (λ k. under innermost outer last k.1 all))
+
+-- the same of the same
+pub same_file : (checked : Checked) (waiting others : List Waiting) (positions more : List Position) (innermost : Option Cursor) → others ≡ waiting → more ≡ positions
+    → ∥ AreOfFile checked waiting positions innermost ∥₁ → ∥ AreOfFile checked others more innermost ∥₁
+same_file checked waiting others positions more innermost same_waiting same_positions known =
+    subst (λ (ws : List Waiting). ∥ AreOfFile checked ws more innermost ∥₁) (sym same_waiting)
+    (subst (λ (ps : List Position). ∥ AreOfFile checked waiting ps innermost ∥₁) (sym same_positions) known)
+
+pub same_views : (checked : Checked) (waiting others : List Waiting) (positions more : List Position) → others ≡ waiting → more ≡ positions
+    → kept_views checked (reverse others) more ≡ kept_views checked (reverse waiting) positions
+same_views checked waiting others positions more same_waiting same_positions = rw (same_waiting, same_positions) refl
+
+pub put_last : (waiting others put : List Waiting) (at place : At) (is_past was : Bool) (begin : ℕ) → put ≡ others ++ record { at = at; is_past = is_past; begin = begin } ∷ [] → others ≡ waiting
+    → at ≡ place → is_past ≡ was → put ≡ waiting ++ record { at = place; is_past = was; begin = begin } ∷ []
+put_last waiting others put at place is_past was begin e same same_at same_past = e ∙ rw (same, same_at, same_past) refl

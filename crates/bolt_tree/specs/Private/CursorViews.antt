@@ -1,0 +1,38 @@
+-- What the cursors of open buckets show: the innermost one is whole, of the others their positions are kept.
+use Rattle.std.specs.Prelude.{◌≡◌, List, [], ◌∷◌, ◌++◌, Option, Some, None, reverse}
+use Rattle.bolt_format.specs.Elements.{LeafElement}
+use Rattle.bolt_check.specs.declared.checked_file.Checked.{Checked}
+use Rattle.bolt_tree.specs.BucketViews.{entries_of}
+use Rattle.bolt_tree.specs.Cursors.{cursor_checked, cursor_place, cursor_start}
+use Rattle.bolt_tree.specs.Places.{Moves, next_move}
+use Rattle.bolt_tree.specs.Private.Kept.{AreKept, CursorView}
+use Rattle.bolt_tree.specs.declared.cursor.Cursor.{Cursor}
+use Rattle.bolt_tree.specs.declared.open_cursors.Waiting.{Waiting}
+use Rattle.bolt_tree.specs.declared.position.Position.{Position}
+
+abbrev pub cursor_view : Cursor → CursorView
+cursor_view cursor = record { checked = cursor_checked cursor; start = cursor_start cursor; place = cursor_place cursor }
+
+-- without an innermost cursor none waits
+abbrev pub IsInnermost : Checked → List Waiting → Option Cursor → Type 0
+IsInnermost checked waiting None = waiting ≡ []
+IsInnermost checked waiting (Some cursor) = cursor_checked cursor ≡ checked
+
+abbrev pub innermost_views : Option Cursor → List CursorView
+innermost_views None = []
+innermost_views (Some cursor) = cursor_view cursor ∷ []
+
+-- all are cursors of this file
+abbrev pub AreOfFile : Checked → List Waiting → List Position → Option Cursor → Type 0
+AreOfFile checked waiting positions innermost = AreKept checked (reverse waiting) positions × IsInnermost checked waiting innermost
+
+-- the last cursor moves on, and gives this answer
+pub record MovesLast (old new : List CursorView) (answer : Option LeafElement) : Type 0 where
+  pub outer : List CursorView
+  pub cursor : CursorView
+  pub moved : CursorView
+  pub was : old ≡ outer ++ cursor ∷ []
+  pub is : new ≡ outer ++ moved ∷ []
+  pub file : moved.checked ≡ cursor.checked
+  pub start : moved.start ≡ cursor.start
+  pub moves : Moves (entries_of cursor.checked) cursor.start next_move cursor.place moved.place answer

@@ -1,0 +1,40 @@
+-- What is kept of the cursors that wait: their positions.
+use Rattle.std.specs.Prelude.{◌≡◌, ◌≤◌, Bool, true, List, [], ◌∷◌, ◌++◌, drop, take, length}
+use Rattle.bolt_check.specs.declared.checked_file.Checked.{Checked}
+use Rattle.bolt_tree.specs.BucketViews.{bucket_in}
+use Rattle.bolt_tree.specs.Entries.{Start}
+use Rattle.bolt_tree.specs.Places.{Place}
+use Rattle.bolt_tree.specs.Private.BucketPages.{contents_in}
+use Rattle.bolt_tree.specs.Private.Held.{place_by}
+use Rattle.bolt_tree.specs.Private.Stacks.{HasStack, IsAtRest}
+use Rattle.bolt_tree.specs.Private.Trails.{frames_of}
+use Rattle.bolt_tree.specs.Starts.{start_at}
+use Rattle.bolt_tree.specs.declared.at.At.{At}
+use Rattle.bolt_tree.specs.declared.open_cursors.Waiting.{Waiting}
+use Rattle.bolt_tree.specs.declared.position.Position.{Position}
+
+-- a cursor without its counts: its file and bucket, and where it stands
+pub record CursorView : Type 0 where
+  pub checked : Checked
+  pub start : Start
+  pub place : Place
+
+-- the positions are a stack of the bucket, on which a cursor may rest
+pub record IsKept (checked : Checked) (at : At) (is_past : Bool) (positions : List Position) : Type 0 where
+  pub stack : HasStack (bucket_in checked (start_at at)) (frames_of positions)
+  pub rest : IsAtRest (frames_of positions)
+  pub empty : is_past ≡ true → frames_of positions ≡ []
+
+abbrev pub kept_view : Checked → At → Bool → List Position → CursorView
+kept_view checked at is_past positions =
+    record { checked = checked; start = start_at at; place = place_by is_past (contents_in (bucket_in checked (start_at at))) (frames_of positions) }
+
+-- The cursors that wait, the innermost of them first: the positions of each stand behind those of the ones around it.
+abbrev pub AreKept : Checked → List Waiting → List Position → Type 0
+AreKept checked [] positions = Unit {0}
+AreKept checked (w ∷ outer) positions =
+    (w.begin ≤ length positions) × IsKept checked w.at w.is_past (drop w.begin positions) × AreKept checked outer (take w.begin positions)
+
+abbrev pub kept_views : Checked → List Waiting → List Position → List CursorView
+kept_views checked [] positions = []
+kept_views checked (w ∷ outer) positions = kept_views checked outer (take w.begin positions) ++ kept_view checked w.at w.is_past (drop w.begin positions) ∷ []

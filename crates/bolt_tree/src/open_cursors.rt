@@ -1,0 +1,112 @@
+//! The cursors of the open buckets of a walk.
+ghost use Rattle.std.specs.Prelude.{◌≡◌, ◌++◌, ◌∷◌, [], List, IfSome, IsTrue, OnErr, OnOk};
+ghost use Rattle.std.specs.Option.{option_map};
+ghost use Rattle.bolt_format.specs.ElementPlaces.{leaf_view};
+ghost use Rattle.bolt_format.specs.Elements.{IsBucketValue};
+ghost use Rattle.bolt_tree.specs.Cursors.{cursor_checked};
+ghost use Rattle.bolt_tree.specs.Private.CursorViews.{AreOfFile, MovesLast, cursor_view};
+ghost use Rattle.bolt_tree.specs.Private.Kept.{CursorView};
+
+use crate::at::At;
+use crate::cursor::Cursor;
+use crate::position::Position;
+use bolt_check::{Checked, NoMemory};
+use bolt_format::Leaf;
+use std::alloc::Global;
+
+/// A cursor that waits while a bucket inside its own is open: where its bucket's tree begins, and
+/// where its positions begin among those of all that wait.
+#[derive(Clone, Copy)]
+pub(crate) struct Waiting<'a> {
+    pub at: At<'a>,
+    pub is_past: bool,
+    pub begin: usize,
+}
+
+/// A cursor for each open bucket. A whole one has room for the greatest depth; so of those that
+/// wait, only their positions are kept.
+#[derive(Drop)]
+pub(crate) struct OpenCursors<'a> {
+    pub checked: Checked<'a>,
+    waiting: Vec<Waiting<'a>>,
+    positions: Vec<Position<'a>>,
+    innermost: Option<Cursor<'a>>,
+    ghost kept: { ∥ AreOfFile checked waiting.items positions.items innermost ∥₁ },
+}
+
+impl<'a> OpenCursors<'a> {
+    ghost use Rattle.bolt_tree.specs.Private.OpenCursors.{cursors_of};
+
+    /// No cursor.
+    pub fn new(alloc: Global, checked: Checked<'a>) -> OpenCursors<'a>
+        ensures checked { result.checked ≡ checked.entry }
+        ensures none { cursors_of result ≡ [] }
+    {
+        OpenCursors {
+            checked,
+            waiting: Vec::new(alloc),
+            positions: Vec::new(alloc),
+            innermost: None,
+        }
+    }
+
+    /// Whether no bucket is open.
+    pub fn is_empty(&self) -> bool
+        ensures empty { IsTrue result → cursors_of self.now ≡ [] }
+        ensures some { cursors_of self.now ≡ [] → IsTrue result }
+    {
+        self.innermost.is_none()
+    }
+
+    /// Adds the cursor of a bucket inside the innermost one. Where memory runs out, nothing has
+    /// changed.
+    pub fn push(&mut self, cursor: Cursor<'a>) -> Result<(), NoMemory>
+        requires { ∥ cursor_checked cursor ≡ self.old.checked ∥₁ }
+        ensures checked { self.new.checked ≡ self.old.checked }
+        ensures cursors { OnOk result (cursors_of self.new ≡ cursors_of self.old ++ cursor_view cursor.entry ∷ []) }
+        ensures same { OnErr result (cursors_of self.new ≡ cursors_of self.old) }
+    {
+        let Some(outer) = &self.innermost else {
+            self.innermost = Some(cursor);
+            return Ok(());
+        };
+        self.waiting.reserve(1)?;
+        let begin = self.positions.len();
+        self.positions.extend_from_slice(outer.positions())?;
+        self.waiting.push_reserved(Waiting {
+            at: outer.at(),
+            is_past: outer.is_past(),
+            begin,
+        });
+        self.innermost = Some(cursor);
+        Ok(())
+    }
+
+    /// Moves the innermost cursor to its next entry. It stays where it is if there is none.
+    pub fn next_element(&mut self) -> Option<Leaf<'a>>
+        requires { cursors_of self.old ≡ [] → ⊥ }
+        ensures checked { self.new.checked ≡ self.old.checked }
+        ensures moves { MovesLast (cursors_of self.old) (cursors_of self.new) (option_map leaf_view result) }
+        ensures bucket { IfSome result (λ leaf. IsTrue leaf.is_bucket → IsBucketValue leaf.value.now) }
+    {
+        match &mut self.innermost {
+            Some(cursor) => cursor.next_element(),
+            None => unreachable!(),
+        }
+    }
+
+    /// Drops the innermost cursor. The one around it stands where it stood.
+    pub fn pop(&mut self)
+        ensures checked { self.new.checked ≡ self.old.checked }
+        ensures cursors { (outer : List CursorView) (last : CursorView) → cursors_of self.old ≡ outer ++ last ∷ [] → cursors_of self.new ≡ outer }
+    {
+        let Some(outer) = self.waiting.pop() else {
+            self.innermost = None;
+            return;
+        };
+        let positions = &self.positions[outer.begin..];
+        let cursor = Cursor::resume(self.checked, outer.at, outer.is_past, positions);
+        self.positions.truncate(outer.begin);
+        self.innermost = Some(cursor);
+    }
+}
