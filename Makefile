@@ -92,11 +92,13 @@ fuzz-wrong: $(PROGRAM)
 wrong-bodies:
 	tools/wrong_bodies/try_more.sh
 
-# The merge gate: real databases, the manual, failures, refused memory, random files that are the same
-# each time, and then every proof from nothing, the wrong bodies, the tests and the program.
-test: examples manual failures memory
-	$(FUZZ)/fuzz.py $(PROGRAM) --seed 1 --files 36
+# The merge gate: every proof from nothing, the wrong bodies, the tests and the program, which this
+# builds; and then, of the program, real databases, the manual, failures, refused memory, and random
+# files that are the same each time.
+test:
 	rt ci
+	$(MAKE) examples manual failures memory
+	$(FUZZ)/fuzz.py $(PROGRAM) --seed 1 --files 36
 
 LARGE = out/large.db
 WIDE = out/wide.db

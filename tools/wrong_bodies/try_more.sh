@@ -1,13 +1,10 @@
 #!/bin/sh
 # Has the prover refuse more wrong bodies than the gate has time for: those of the folders beside this
 # file, one for each crate, on a copy of the crates.
-#
-#     try_more.sh
 set -eu
 here=$(dirname "$0")
-room=$PWD/out/wrong_bodies
-rm -rf "$room"
-mkdir -p "$room"
+room=$(mktemp -d)
+trap 'rm -rf "$room"' EXIT
 cp -R HANDLES crates.txt crates "$room"
 rm -r "$room"/crates/*/must-fail
 for edits in "$here"/*/; do
