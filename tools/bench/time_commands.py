@@ -3,9 +3,10 @@
 
     time_commands.py PROGRAM FILE COMMAND..
 
-A COMMAND may be several words, of which those behind the first stand behind FILE. Prints the seconds that each command took, and the most memory that one took. The status is 1 where
-a command fails or takes 2 seconds or more, or where one takes more memory than the file, a byte for
-each page of it, and 16 MiB.
+A COMMAND may be several words, of which those behind the first stand behind FILE. Prints the seconds
+that each command took, and the most memory that one took. The status is 1 where a command fails or
+takes 2 seconds or more, or where one takes more memory than the file, a byte for each page of it, and
+16 MiB.
 """
 
 import os

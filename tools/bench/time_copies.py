@@ -6,9 +6,8 @@
 Each copy is made into the folder of its file, and timed beside `check` of the file and beside a
 plain copy of as many bytes with a sync, in turn; the figures are medians of five. The status is 1
 where a copy fails, is not sound or takes longer than `check` and 1.5 times the plain copy, or where
-it takes more memory than the file, a byte for each page of it, 32 MiB, and OPEN bytes for each
-bucket that stands open. Where the environment has BBOLT, the path of bbolt's program, its `compact`
-is timed too.
+it takes more memory than the file, a byte for each page of it, and 32 MiB. Where the environment has
+BBOLT, the path of bbolt's program, its `check` and `compact` are timed too.
 """
 
 import os
@@ -67,9 +66,11 @@ def time_copy(program, file):
 
 
 def time_bbolt(bbolt, file):
+    """Tells the same figures of bbolt's program."""
     copy = file + ".copy"
-    took = median(seconds([bbolt, "compact", "-o", fresh(copy), file])[0] for _ in range(ROUNDS))
-    print(f"  bbolt's compact: {took:.2f} s, {os.path.getsize(copy)} bytes")
+    checked = median(seconds([bbolt, "check", file])[0] for _ in range(ROUNDS))
+    copied = median(seconds([bbolt, "compact", "-o", fresh(copy), file])[0] for _ in range(ROUNDS))
+    print(f"  by bbolt: {copied:.2f} s (check {checked:.2f}), {os.path.getsize(copy)} bytes")
     os.remove(copy)
 
 
