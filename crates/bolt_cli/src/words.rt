@@ -63,8 +63,8 @@ impl<T: Drop> From<AllocFailed<T>> for Refusal {
 ///
 /// Words that are no such line are refused, with `Refusal::Help` where help is asked for before a
 /// word is out of place, with `Refusal::Version` where `--version` or `-V` stands in the place of a
-/// command, and else with `Refusal::Usage`. A line with a word that can't be read is refused as `Refusal::Word`: `bad page id`, `bad form`, `bad parts`, `bad hex`, `bad meta` or
-/// `bad page size`.
+/// command, and else with `Refusal::Usage`. A line with a word that can't be read is refused as
+/// `Refusal::Word`: `bad page id`, `bad form`, `bad parts`, `bad hex`, `bad meta` or `bad page size`.
 /// `Refusal::Memory` comes where memory runs out.
 pub fn read_words(alloc: Global, words: Vec<String>) -> Result<Job, Refusal>
     ensures answer { let texts = map string_bytes words.items in let line = line_of texts in
