@@ -82,7 +82,7 @@ cursor_kept : (checked : Checked) (cursor : Cursor) → cursor_checked cursor �
 unfolding cursor_checked cursor_place cursor_start
 cursor_kept checked cursor file = ap (λ (c : Checked). kept_view c cursor.trail.at cursor.is_past cursor.trail.stack.items) (sym file)
 
-file_of : (checked : Checked) (cursor : Cursor) → cursor_checked cursor ≡ checked → pager_checked cursor.trail.pager ≡ checked
+pub file_of : (checked : Checked) (cursor : Cursor) → cursor_checked cursor ≡ checked → pager_checked cursor.trail.pager ≡ checked
 unfolding cursor_checked
 file_of checked cursor file = file
 
@@ -123,6 +123,23 @@ none_open checked waiting positions innermost known is =
 pub first_one : (checked : Checked) (waiting : List Waiting) (positions : List Position) (innermost : Option Cursor) (cursor : Cursor) → ∥ AreOfFile checked waiting positions innermost ∥₁ → innermost ≡ None
     → ∥ cursor_checked cursor ≡ checked ∥₁ → ∥ AreOfFile checked waiting positions (Some cursor) ∥₁
 first_one checked waiting positions innermost cursor known is file = ∥∥₁_elim known (hlevel props) (λ k. ∥∥₁_map file (λ f. (k.0, f)))
+
+-- the innermost cursor is one of the file, and there is one where another waits
+pub innermost_file : (checked : Checked) (waiting : List Waiting) (positions : List Position) (innermost : Option Cursor) (cursor : Cursor) → ∥ AreOfFile checked waiting positions innermost ∥₁
+    → innermost ≡ Some cursor → cursor_checked cursor ≡ checked
+innermost_file checked waiting positions innermost cursor known is =
+    ∥∥₁_elim known (hlevel props) (λ k. subst (λ (o : Option Cursor). IsInnermost checked waiting o) is k.1)
+
+pub none_waits : (checked : Checked) (waiting new : List Waiting) (w : Waiting) (positions : List Position) (innermost : Option Cursor) → ∥ AreOfFile checked waiting positions innermost ∥₁
+    → waiting ≡ new ++ w ∷ [] → innermost ≡ None → ⊥
+none_waits checked waiting new w positions innermost known split is =
+    ∥∥₁_elim known (hlevel props) (λ k. no_snoc new w (sym (subst (λ (o : Option Cursor). IsInnermost checked waiting o) is k.1) ∙ split))
+
+-- what a cursor shows that goes on by the last of the positions
+pub goes_on_view : (checked file : Checked) (w : Waiting) (positions slice : List Position) (view : CursorView) → file ≡ checked → slice ≡ positions
+    → view ≡ kept_view file w.at w.is_past (take (length slice - w.begin) (drop w.begin slice))
+    → view ≡ kept_view checked w.at w.is_past (take (length positions - w.begin) (drop w.begin positions))
+goes_on_view checked file w positions slice view same_file same_positions shown = shown ∙ rw (same_file, same_positions) refl
 
 -- the last one that waits is taken off
 module _ (checked : Checked) (old new : List Waiting) (w : Waiting) (positions : List Position) (innermost : Option Cursor)

@@ -1,5 +1,5 @@
 -- Moves from entry to entry.
-use Rattle.std.proofs.Common.{◌≡◌, ℕ, ◌+◌, Bool, true, false, List, [], ◌∷◌, ◌++◌, Some, None, Option, refl, ◌∙◌}
+use Rattle.std.proofs.Common.{◌≡◌, ℕ, ◌+◌, ◌<◌, Bool, true, false, List, [], ◌∷◌, ◌++◌, Some, None, Option, length, refl, ap, ◌∙◌, arith}
 use Rattle.std.specs.Option.{option_map}
 use Rattle.std.specs.Prelude.{MatchOption}
 use Rattle.bolt_format.specs.ElementPlaces.{leaf_view}
@@ -9,7 +9,8 @@ use Rattle.bolt_tree.specs.BucketViews.{BucketView}
 use Rattle.bolt_tree.specs.Private.BucketPages.{contents_in}
 use Rattle.bolt_tree.specs.Private.Contents.{Content, Contents, Of_branch, Of_leaf}
 use Rattle.bolt_tree.specs.Private.Entered.{IsEntered, entered_pages}
-use Rattle.bolt_tree.specs.Private.Stacks.{Frame, IsAtRest, IsOn, RestsOn, ahead_of, behind_of, right_of}
+use Rattle.bolt_tree.specs.Private.Stacks.{Frame, IsAtRest, IsOn, RestsOn, ahead_of, behind_of, here_of, right_of, right_under}
+use Rattle.bolt_tree.specs.Private.Tours.{Visit, elements_of}
 use Rattle.bolt_tree.proofs.BackLemmas.{step_back_some}
 use Rattle.bolt_tree.proofs.TrailLemmas.{step_some}
 
@@ -41,7 +42,7 @@ none_opened contents at_end content t i below new None rest h = absurd (leaf_tak
 
 pub next_in_leaf : (old now : BucketView) (whole below new : List Frame) (f : Frame) (found : Option Leaf) → now ≡ old → whole ≡ f ∷ below → RestsOn f.content f.taken
     → IsEntered (contents_in old) false f.content f.taken below new (option_map leaf_view found)
-    → MatchOption found (new ≡ whole) (λ leaf. (ahead_of (contents_in old) whole ≡ leaf_view leaf ∷ ahead_of (contents_in now) new) × IsOn new (leaf_view leaf) × (right_of (contents_in old) whole ≡ right_of (contents_in now) new))
+    → MatchOption found ((here_of whole ≡ []) × (new ≡ whole)) (λ leaf. (ahead_of (contents_in old) whole ≡ leaf_view leaf ∷ ahead_of (contents_in now) new) × IsOn new (leaf_view leaf) × (right_of (contents_in old) whole ≡ right_of (contents_in now) new))
 next_in_leaf old now whole below new f None same frames rest h = absurd (leaf_taken (contents_in old) false f.content f.taken f.taken below new rest h)
 next_in_leaf old now whole below new f (Some leaf) same frames rest h = let r = step_some old now whole below new f (leaf_view leaf) same frames h in (r.0, r.2, r.1)
 
@@ -53,3 +54,16 @@ prev_in_leaf old now whole below new f i (Some leaf) two same frames rest h = st
 
 pub rest_on_top : (whole below : List Frame) (f : Frame) → whole ≡ f ∷ below → IsAtRest whole → RestsOn f.content f.taken
 rest_on_top whole below f e rest = rw e at rest
+
+-- Right of the only page of a stack at rest, which is a leaf, there is none; so where all of that leaf is taken, nothing is ahead.
+leaf_alone : (contents : Contents) (height : ℕ) (address : List ℕ) (content : Content) (taken : ℕ) → RestsOn content taken → right_under contents height address content taken ++ [] ≡ []
+leaf_alone contents height address (Of_leaf elements) taken rest = refl
+leaf_alone contents height address (Of_branch elements) taken rest = absurd rest
+
+pub alone : (contents : Contents) (frames : List Frame) → IsAtRest frames → length frames < 2 → right_of contents frames ≡ []
+alone contents [] rest few = refl
+alone contents (f ∷ []) rest few = leaf_alone contents 0 [] f.content f.taken rest
+alone contents (f ∷ g ∷ below) rest few = absurd (omega (arith, few))
+
+pub nothing_ahead : (contents : Contents) (frames : List Frame) → IsAtRest frames → length frames < 2 → here_of frames ≡ [] → ahead_of contents frames ≡ []
+nothing_ahead contents frames rest few here = ap (λ (vs : List Visit). here_of frames ++ elements_of vs) (alone contents frames rest few) ∙ ap (λ (es : List LeafElement). es ++ []) here

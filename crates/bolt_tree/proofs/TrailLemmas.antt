@@ -79,7 +79,7 @@ entered_some contents (Of_leaf elements) i below new e h =
     (rw (h.1, cut) refl, rw h.1 refl, subst (λ (fs : List Frame). IsOn fs e) (sym h.1) on)
 entered_some contents (Of_branch elements) i below new e h = absurd h
 
-nothing_here : (content : Content) (taken : ℕ) → content_length content ≤ taken → here_under content taken ≡ []
+pub nothing_here : (content : Content) (taken : ℕ) → content_length content ≤ taken → here_under content taken ≡ []
 nothing_here (Of_leaf elements) taken h = drop_all taken elements h
 nothing_here (Of_branch elements) taken h = refl
 

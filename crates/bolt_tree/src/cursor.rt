@@ -13,9 +13,8 @@ ghost use Rattle.bolt_tree.specs.Starts.{HasStart, start_at};
 
 use crate::at::At;
 use crate::pager::Pager;
-use crate::position::{Position, Stack, stack_of};
+use crate::position::{Position, Stack};
 use crate::trail::Trail;
-use bolt_check::Checked;
 use bolt_format::Leaf;
 
 /// A cursor over the entries of a bucket, in byte order of their keys. It stands before the first
@@ -56,26 +55,19 @@ impl<'a> Cursor<'a> {
         }
     }
 
-    /// A cursor where one stood that had these positions; its counts begin anew.
+    /// Goes on where a cursor of the same file stood that had these positions.
     #[tactic(auto, unfolding(crate::specs::Cursors::cursor_checked, crate::specs::Cursors::cursor_place, crate::specs::Cursors::cursor_start))]
-    pub(crate) fn resume(
-        checked: Checked<'a>,
-        at: At<'a>,
-        is_past: bool,
-        positions: &[Position<'a>],
-    ) -> Cursor<'a>
-        requires { ∥ IsKept checked at is_past positions.now ∥₁ }
-        ensures { cursor_view result ≡ kept_view checked.entry at.entry is_past positions.now }
+    pub(crate) fn resume(&mut self, at: At<'a>, is_past: bool, positions: &[Position<'a>])
+        requires { ∥ IsKept (cursor_checked self.old) at is_past positions.now ∥₁ }
+        ensures { cursor_view self.new ≡ kept_view (cursor_checked self.old) at.entry is_past positions.now }
     {
-        let trail = Trail {
-            pager: Pager::new(checked),
-            at,
-            stack: stack_of(positions),
-        };
-        Cursor {
-            trail,
-            is_past,
-            compared: 0,
+        self.trail.stack.clear();
+        match self.trail.stack.try_extend_from_slice(positions) {
+            Ok(()) => {
+                self.trail.at = at;
+                self.is_past = is_past;
+            }
+            Err(_) => unreachable!(),
         }
     }
 

@@ -8,7 +8,7 @@ ghost use Rattle.bolt_tree.specs.CursorBounds.{OpensSeek, SeeksInBounds};
 ghost use Rattle.bolt_tree.specs.Private.Entered.{opened_to};
 ghost use Rattle.bolt_tree.specs.Pagers.{counted, pager_opened};
 ghost use Rattle.bolt_tree.specs.Places.{least_from};
-ghost use Rattle.bolt_tree.specs.Private.Stacks.{IsAtRest, IsOn};
+ghost use Rattle.bolt_tree.specs.Private.Stacks.{IsAtRest, IsOn, here_of};
 
 use crate::position::copy_of;
 use crate::trail::Trail;
@@ -67,6 +67,7 @@ impl<'a> Trail<'a> {
     {
         match self.next_here() {
             Some(leaf) => Some(leaf),
+            None if self.stack.len() < 2 => None,
             None => self.next_further(),
         }
     }
@@ -114,7 +115,7 @@ impl<'a> Trail<'a> {
         requires rest { IsAtRest (trail_frames self.old) }
         ensures same { IsSameBucket self.old self.new }
         ensures stack { HasTrail self.new }
-        ensures found { MatchOption result (trail_frames self.new ≡ trail_frames self.old)
+        ensures found { MatchOption result ((here_of (trail_frames self.old) ≡ []) × (trail_frames self.new ≡ trail_frames self.old))
             (λ leaf. (ahead self.old ≡ leaf_view leaf ∷ ahead self.new) × IsOn (trail_frames self.new) (leaf_view leaf) × (right self.old ≡ right self.new)) }
         ensures bucket { IfSome result (λ leaf. IsTrue leaf.is_bucket → IsBucketValue leaf.value.now) }
         ensures opened { pager_opened self.new.pager ≡ pager_opened self.old.pager }

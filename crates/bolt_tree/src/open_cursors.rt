@@ -104,9 +104,10 @@ impl<'a> OpenCursors<'a> {
             self.innermost = None;
             return;
         };
-        let positions = &self.positions[outer.begin..];
-        let cursor = Cursor::resume(self.checked, outer.at, outer.is_past, positions);
+        let Some(cursor) = &mut self.innermost else {
+            unreachable!();
+        };
+        cursor.resume(outer.at, outer.is_past, &self.positions[outer.begin..]);
         self.positions.truncate(outer.begin);
-        self.innermost = Some(cursor);
     }
 }

@@ -1,32 +1,39 @@
 use Rattle.std.proofs.Common.{◌∙◌, ◌-◌, Some, List, [], ◌∷◌, ◌++◌, drop, length, take, sym, ap, subst, reverse}
+use Rattle.bolt_check.specs.declared.checked_file.Checked.{Checked}
+use Rattle.bolt_tree.specs.Cursors.{cursor_checked}
 use Rattle.bolt_tree.specs.Private.CursorViews.{AreOfFile, cursor_view}
-use Rattle.bolt_tree.specs.Private.Kept.{IsKept, kept_view, kept_views}
+use Rattle.bolt_tree.specs.Private.Kept.{IsKept, kept_views}
 use Rattle.bolt_tree.specs.declared.position.Position.{Position}
-use Rattle.bolt_tree.proofs.KeptLemmas.{goes_on, others, views_left}
+use Rattle.bolt_tree.proofs.KeptLemmas.{goes_on, goes_on_view, innermost_file, none_waits, others, views_left}
 use Rattle.bolt_tree.proofs.open_cursors.OpenCursors.pop.Goals as goal
 
-pub resume-cursor-requires : goal.resume-cursor-requires
-resume-cursor-requires c =
+pub unreachable-requires : goal.unreachable-requires
+unreachable-requires c =
+    none_waits c.args.self.now.checked c.args.self.now.waiting.items c.pop.new.self.items c.in-Some.outer c.args.self.now.positions.items c.args.self.now.innermost c.args.self.now.kept
+    c.in-Some.ensures.items c.in_default-innermost.is
+
+pub resume-requires : goal.resume-requires
+resume-requires c =
     let w = c.in-Some.outer in
-    subst (λ (ps : List Position). ∥ IsKept c.args.self.now.checked w.at w.is_past (take (length ps - w.begin) (drop w.begin ps)) ∥₁) (sym c.deref.ensures.value)
-    (goes_on c.args.self.now.checked c.args.self.now.waiting.items c.pop.new.self.items w c.args.self.now.positions.items c.args.self.now.innermost c.args.self.now.kept c.in-Some.ensures.items)
+    let file = innermost_file c.args.self.now.checked c.args.self.now.waiting.items c.args.self.now.positions.items c.args.self.now.innermost c.in-Some-innermost.cursor c.args.self.now.kept c.in-Some-innermost.is in
+    subst (λ (checked : Checked). ∥ IsKept checked w.at w.is_past (take (length c.deref.result.now - w.begin) (drop w.begin c.deref.result.now)) ∥₁) (sym file)
+    (subst (λ (ps : List Position). ∥ IsKept c.args.self.now.checked w.at w.is_past (take (length ps - w.begin) (drop w.begin ps)) ∥₁) (sym c.deref.ensures.value)
+    (goes_on c.args.self.now.checked c.args.self.now.waiting.items c.pop.new.self.items w c.args.self.now.positions.items c.args.self.now.innermost c.args.self.now.kept c.in-Some.ensures.items))
 
 pub invariant_of-self-2 : goal.invariant_of-self-2
 invariant_of-self-2 c =
-    let w = c.in-Some.outer in
-    let view = c.resume-cursor.ensures
-    ∙ ap (λ (ps : List Position). kept_view c.args.self.now.checked w.at w.is_past (take (length ps - w.begin) (drop w.begin ps))) c.deref.ensures.value in
+    let file = innermost_file c.args.self.now.checked c.args.self.now.waiting.items c.args.self.now.positions.items c.args.self.now.innermost c.in-Some-innermost.cursor c.args.self.now.kept c.in-Some-innermost.is in
+    let view = goes_on_view c.args.self.now.checked (cursor_checked c.in-Some-innermost.cursor) c.in-Some.outer c.args.self.now.positions.items c.deref.result.now (cursor_view c.resume.new.self) file c.deref.ensures.value c.resume.ensures in
     record {
-      kept = subst (λ (ps : List Position). ∥ AreOfFile c.args.self.now.checked c.pop.new.self.items ps (Some c.resume-cursor.result) ∥₁) (sym c.truncate.ensures.items)
-          (others c.args.self.now.checked c.args.self.now.waiting.items c.pop.new.self.items w c.args.self.now.positions.items c.args.self.now.innermost c.args.self.now.kept c.in-Some.ensures.items
-          c.resume-cursor.result view);
+      kept = subst (λ (ps : List Position). ∥ AreOfFile c.args.self.now.checked c.pop.new.self.items ps (Some c.resume.new.self) ∥₁) (sym c.truncate.ensures.items)
+          (others c.args.self.now.checked c.args.self.now.waiting.items c.pop.new.self.items c.in-Some.outer c.args.self.now.positions.items c.args.self.now.innermost c.args.self.now.kept c.in-Some.ensures.items
+          c.resume.new.self view);
     }
 
 pub returns-clause-cursors : goal.returns-clause-cursors
 returns-clause-cursors c outer last all =
-    let w = c.in-Some.outer in
-    let view = c.resume-cursor.ensures
-    ∙ ap (λ (ps : List Position). kept_view c.args.self.now.checked w.at w.is_past (take (length ps - w.begin) (drop w.begin ps))) c.deref.ensures.value in
-    ap (λ (ps : List Position). kept_views c.args.self.now.checked (reverse c.pop.new.self.items) ps ++ cursor_view c.resume-cursor.result ∷ []) c.truncate.ensures.items
-    ∙ views_left c.args.self.now.checked c.args.self.now.waiting.items c.pop.new.self.items w c.args.self.now.positions.items c.args.self.now.innermost c.args.self.now.kept c.in-Some.ensures.items
-    c.resume-cursor.result outer last view all
+    let file = innermost_file c.args.self.now.checked c.args.self.now.waiting.items c.args.self.now.positions.items c.args.self.now.innermost c.in-Some-innermost.cursor c.args.self.now.kept c.in-Some-innermost.is in
+    let view = goes_on_view c.args.self.now.checked (cursor_checked c.in-Some-innermost.cursor) c.in-Some.outer c.args.self.now.positions.items c.deref.result.now (cursor_view c.resume.new.self) file c.deref.ensures.value c.resume.ensures in
+    ap (λ (ps : List Position). kept_views c.args.self.now.checked (reverse c.pop.new.self.items) ps ++ cursor_view c.resume.new.self ∷ []) c.truncate.ensures.items
+    ∙ views_left c.args.self.now.checked c.args.self.now.waiting.items c.pop.new.self.items c.in-Some.outer c.args.self.now.positions.items c.args.self.now.innermost c.args.self.now.kept c.in-Some.ensures.items
+    c.resume.new.self outer last view all
