@@ -88,7 +88,7 @@ file_of checked cursor file = file
 
 -- the innermost cursor waits, and another one is put behind it
 module _ (checked : Checked) (waiting : List Waiting) (positions : List Position) (innermost : Option Cursor) (outer cursor : Cursor) (begin : ℕ)
-    (known : ∥ AreOfFile checked waiting positions innermost ∥₁) (is : innermost ≡ Some outer) (begins : begin ≡ length positions) (file : ∥ cursor_checked cursor ≡ checked ∥₁) where
+    (known : ∥ AreOfFile checked waiting positions innermost ∥₁) (is : innermost ≡ Some outer) (begins : begin ≡ length positions) (file : cursor_checked cursor ≡ checked) where
   abbrev put : Waiting
   put = record { at = outer.trail.at; is_past = outer.is_past; begin = begin }
 
@@ -97,11 +97,11 @@ module _ (checked : Checked) (waiting : List Waiting) (positions : List Position
 
   pub waits : ∥ AreOfFile checked (waiting ++ put ∷ []) (positions ++ outer.trail.stack.items) (Some cursor) ∥₁
   waits =
-      ∥∥₁_elim known (hlevel props) (λ k. ∥∥₁_elim outer.held (hlevel props) (λ h. ∥∥₁_map file (λ f. (
+      ∥∥₁_elim known (hlevel props) (λ k. ∥∥₁_map outer.held (λ h. (
         one_more checked waiting put positions outer.trail.stack.items begins k.0
             (held_kept outer.trail outer.is_past checked (file_of checked outer (of_file k)) h),
-        f,
-      ))))
+        file,
+      )))
 
   pub waits_view : kept_views checked (reverse (waiting ++ put ∷ [])) (positions ++ outer.trail.stack.items) ≡ kept_views checked (reverse waiting) positions ++ innermost_views innermost
   waits_view =
@@ -121,8 +121,8 @@ none_open checked waiting positions innermost known is =
 
 -- the first one
 pub first_one : (checked : Checked) (waiting : List Waiting) (positions : List Position) (innermost : Option Cursor) (cursor : Cursor) → ∥ AreOfFile checked waiting positions innermost ∥₁ → innermost ≡ None
-    → ∥ cursor_checked cursor ≡ checked ∥₁ → ∥ AreOfFile checked waiting positions (Some cursor) ∥₁
-first_one checked waiting positions innermost cursor known is file = ∥∥₁_elim known (hlevel props) (λ k. ∥∥₁_map file (λ f. (k.0, f)))
+    → cursor_checked cursor ≡ checked → ∥ AreOfFile checked waiting positions (Some cursor) ∥₁
+first_one checked waiting positions innermost cursor known is file = ∥∥₁_map known (λ k. (k.0, file))
 
 -- the innermost cursor is one of the file, and there is one where another waits
 pub innermost_file : (checked : Checked) (waiting : List Waiting) (positions : List Position) (innermost : Option Cursor) (cursor : Cursor) → ∥ AreOfFile checked waiting positions innermost ∥₁
@@ -186,3 +186,10 @@ same_views checked waiting others positions more same_waiting same_positions = r
 pub put_last : (waiting others put : List Waiting) (at place : At) (is_past was : Bool) (begin : ℕ) → put ≡ others ++ record { at = at; is_past = is_past; begin = begin } ∷ [] → others ≡ waiting
     → at ≡ place → is_past ≡ was → put ≡ waiting ++ record { at = place; is_past = was; begin = begin } ∷ []
 put_last waiting others put at place is_past was begin e same same_at same_past = e ∙ rw (same, same_at, same_past) refl
+
+-- what is shown where a fresh cursor is put behind the others
+pub opens_fresh : (before after : List CursorView) (view fresh : CursorView) → after ≡ before → view.checked ≡ fresh.checked → view.start ≡ fresh.start → view.place ≡ fresh.place
+    → after ++ view ∷ [] ≡ before ++ fresh ∷ []
+opens_fresh before after view fresh same file start place =
+    let all : view ≡ fresh = rw (file, start, place) refl in
+    rw (same, all) refl

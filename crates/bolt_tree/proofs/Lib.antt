@@ -10,6 +10,7 @@ mod Entering
 mod EntryOrder
 pub mod Existing
 mod Filters
+pub mod FirstMoves
 pub mod FurtherLemmas
 pub mod GapLemmas
 mod Giving

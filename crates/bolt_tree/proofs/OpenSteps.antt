@@ -29,6 +29,10 @@ snoc_front (a ∷ xs) (b ∷ ys) x y e =
     let same = snoc_front xs ys x y rest in
     let first : a ≡ b = cc in cc
 
+pub snoc_last : {A : Type 0} (xs : List A) (x y : A) → xs ++ x ∷ [] ≡ xs ++ y ∷ [] → x ≡ y
+snoc_last [] x y e = cc
+snoc_last (a ∷ xs) x y e = snoc_last xs x y (cc)
+
 pub no_snoc : {A : Type 0} (xs : List A) (x : A) → [] ≡ xs ++ x ∷ [] → ⊥
 no_snoc [] x e = cc
 no_snoc (a ∷ xs) x e = cc
@@ -36,6 +40,10 @@ no_snoc (a ∷ xs) x e = cc
 pub path_push : (xs : List (Bor (List ℕ))) (x : Bor (List ℕ)) → path_of (xs ++ x ∷ []) ≡ path_of xs ++ x.now ∷ []
 path_push [] x = refl
 path_push (y ∷ xs) x = ap (λ (ks : Path). y.now ∷ ks) (path_push xs x)
+
+-- one that has the same keys, and one more
+pub path_put : (xs ys zs : List (Bor (List ℕ))) (x : Bor (List ℕ)) → ys ≡ xs → zs ≡ ys ++ x ∷ [] → path_of zs ≡ path_of xs ++ x.now ∷ []
+path_put xs ys zs x same put = ap path_of (put ∙ ap (λ (ks : List (Bor (List ℕ))). ks ++ x ∷ []) same) ∙ path_push xs x
 
 -- what stands open below the last cursor, and what is known of that
 pub record Top (checked : Checked) (before : Path) (cursors : List CursorView) (cursor : CursorView) (keys : Path) : Type 0 where

@@ -55,6 +55,19 @@ impl<'a> Cursor<'a> {
         }
     }
 
+    /// Begins anew in a bucket of the same file: it stands before the first call.
+    #[tactic(auto, unfolding(crate::specs::Cursors::cursor_checked, crate::specs::Cursors::cursor_place, crate::specs::Cursors::cursor_start))]
+    pub(crate) fn begin(&mut self, at: At<'a>)
+        requires { HasStart (cursor_checked self.old) (start_at at) }
+        ensures checked { cursor_checked self.new ≡ cursor_checked self.old }
+        ensures start { cursor_start self.new ≡ start_at at.entry }
+        ensures place { cursor_place self.new ≡ Fresh }
+    {
+        self.trail.at = at;
+        self.trail.stack.clear();
+        self.is_past = false;
+    }
+
     /// Goes on where a cursor of the same file stood that had these positions.
     #[tactic(auto, unfolding(crate::specs::Cursors::cursor_checked, crate::specs::Cursors::cursor_place, crate::specs::Cursors::cursor_start))]
     pub(crate) fn resume(&mut self, at: At<'a>, is_past: bool, positions: &[Position<'a>])

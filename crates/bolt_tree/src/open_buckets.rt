@@ -1,7 +1,7 @@
 //! The open buckets of a walk, and the path that it has come to. What is left of a listing is told
 //! by that path alone; the cursors say where to go on.
 ghost use Rattle.std.specs.Option.{IfNone};
-ghost use Rattle.std.specs.Prelude.{◌≡◌, ◌++◌, ◌∷◌, [], IfSome, IfOk, MatchOption, MatchResult, OnOk, OnErr, IsTrue};
+ghost use Rattle.std.specs.Prelude.{◌≡◌, ◌∷◌, [], IfSome, IfOk, MatchOption, MatchResult, OnOk, OnErr, IsTrue};
 ghost use Rattle.bolt_format.specs.Elements.{IsBucketValue};
 ghost use Rattle.bolt_format.specs.ElementPlaces.{leaf_view};
 ghost use Rattle.bolt_tree.specs.Buckets.{bucket_checked, bucket_start};
@@ -10,12 +10,9 @@ ghost use Rattle.bolt_tree.specs.Listing.{rest_from};
 ghost use Rattle.bolt_tree.specs.Private.Behind.{behind, beyond};
 ghost use Rattle.bolt_tree.specs.FileListings.{ForListing};
 ghost use Rattle.bolt_tree.specs.Paths.{path_of};
-ghost use Rattle.bolt_tree.specs.Cursors.{cursor_checked};
-ghost use Rattle.bolt_tree.specs.Private.CursorViews.{cursor_view};
 ghost use Rattle.bolt_tree.specs.Private.OpenCursors.{cursors_of};
 
 use crate::bucket::Bucket;
-use crate::cursor::Cursor;
 use crate::open_cursors::OpenCursors;
 use bolt_check::{Checked, NoMemory};
 use bolt_format::Leaf;
@@ -64,20 +61,6 @@ impl<'a> OpenBuckets<'a> {
         }
     }
 
-    /// Adds an open bucket. Where memory runs out, nothing has changed.
-    fn push(&mut self, cursor: Cursor<'a>, key: &'a [u8]) -> Result<(), NoMemory>
-        requires { ∥ cursor_checked cursor ≡ self.old.cursors.checked ∥₁ }
-        ensures checked { self.new.cursors.checked ≡ self.old.cursors.checked }
-        ensures cursors { OnOk result (cursors_of self.new.cursors ≡ cursors_of self.old.cursors ++ cursor_view cursor.entry ∷ []) }
-        ensures path { OnOk result (open_path self.new ≡ open_path self.old ++ key.now ∷ []) }
-        ensures same { OnErr result ((cursors_of self.new.cursors ≡ cursors_of self.old.cursors) × (self.new.path.items ≡ self.old.path.items)) }
-    {
-        self.path.reserve(1)?;
-        self.cursors.push(cursor)?;
-        self.path.push_reserved(key);
-        Ok(())
-    }
-
     /// Opens the bucket that the path names, and comes to its first entry. Where it has none, or
     /// memory runs out, nothing has changed.
     fn enter(&mut self, bucket: Bucket<'a>) -> Result<Option<Leaf<'a>>, NoMemory>
@@ -91,11 +74,11 @@ impl<'a> OpenBuckets<'a> {
         ensures left { IfOk result (λ found. ForListing self.old.cursors.checked (λ listing. MatchOption found (behind (open_path self.old) listing ≡ beyond (open_path self.old) listing)
             (λ leaf. behind (open_path self.old) listing ≡ (open_path self.new, item_of (leaf_view leaf)) ∷ behind (open_path self.new) listing))) }
     {
-        let mut cursor = bucket.cursor();
-        let Some(leaf) = cursor.first_element() else {
+        self.path.reserve(1)?;
+        let Some(leaf) = self.cursors.enter(bucket)? else {
             return Ok(None);
         };
-        self.push(cursor, leaf.key)?;
+        self.path.push_reserved(leaf.key);
         Ok(Some(leaf))
     }
 
@@ -164,11 +147,11 @@ impl<'a> OpenBuckets<'a> {
         ensures placed { OnOk result (IsInPlace self.new) }
         ensures sought { IfOk result (IsSought self.old self.new part.now is_last) }
     {
-        let mut cursor = bucket.cursor();
-        let Some(leaf) = cursor.seek_element(part) else {
+        self.path.reserve(1)?;
+        let Some(leaf) = self.cursors.seek(bucket, part)? else {
             return Ok(Sought::Here(self.come()));
         };
-        self.push(cursor, leaf.key)?;
+        self.path.push_reserved(leaf.key);
         if part.cmp(leaf.key).is_lt() {
             return Ok(Sought::Here(Ahead::Give(leaf)));
         }

@@ -1,13 +1,15 @@
 //! The cursors of the open buckets of a walk.
-ghost use Rattle.std.specs.Prelude.{◌≡◌, ◌++◌, ◌∷◌, [], List, IfSome, IsTrue, OnErr, OnOk};
+ghost use Rattle.std.specs.Prelude.{◌≡◌, ◌++◌, ◌∷◌, [], List, IfOk, IfSome, IsTrue, OnErr, OnOk};
 ghost use Rattle.std.specs.Option.{option_map};
 ghost use Rattle.bolt_format.specs.ElementPlaces.{leaf_view};
 ghost use Rattle.bolt_format.specs.Elements.{IsBucketValue};
-ghost use Rattle.bolt_tree.specs.Cursors.{cursor_checked};
-ghost use Rattle.bolt_tree.specs.Private.CursorViews.{AreOfFile, MovesLast, cursor_view};
+ghost use Rattle.bolt_tree.specs.Buckets.{bucket_checked};
+ghost use Rattle.bolt_tree.specs.Places.{first_move, next_move, seek_move};
+ghost use Rattle.bolt_tree.specs.Private.CursorViews.{AreOfFile, MovesLast, Opens, fresh_view};
 ghost use Rattle.bolt_tree.specs.Private.Kept.{CursorView};
 
 use crate::at::At;
+use crate::bucket::Bucket;
 use crate::cursor::Cursor;
 use crate::position::Position;
 use bolt_check::{Checked, NoMemory};
@@ -58,35 +60,86 @@ impl<'a> OpenCursors<'a> {
         self.innermost.is_none()
     }
 
-    /// Adds the cursor of a bucket inside the innermost one. Where memory runs out, nothing has
-    /// changed.
-    pub fn push(&mut self, cursor: Cursor<'a>) -> Result<(), NoMemory>
-        requires { ∥ cursor_checked cursor ≡ self.old.checked ∥₁ }
+    /// Opens a bucket inside the innermost one. Its cursor stands before the first call. Where memory
+    /// runs out, nothing has changed.
+    fn open(&mut self, bucket: Bucket<'a>) -> Result<(), NoMemory>
+        requires { bucket_checked bucket ≡ self.old.checked }
         ensures checked { self.new.checked ≡ self.old.checked }
-        ensures cursors { OnOk result (cursors_of self.new ≡ cursors_of self.old ++ cursor_view cursor.entry ∷ []) }
+        ensures cursors { OnOk result (cursors_of self.new ≡ cursors_of self.old ++ fresh_view bucket.entry ∷ []) }
         ensures same { OnErr result (cursors_of self.new ≡ cursors_of self.old) }
     {
-        let Some(outer) = &self.innermost else {
-            self.innermost = Some(cursor);
+        let Some(cursor) = &mut self.innermost else {
+            self.innermost = Some(bucket.cursor());
             return Ok(());
         };
         self.waiting.reserve(1)?;
         let begin = self.positions.len();
-        self.positions.extend_from_slice(outer.positions())?;
+        self.positions.extend_from_slice(cursor.positions())?;
         self.waiting.push_reserved(Waiting {
-            at: outer.at(),
-            is_past: outer.is_past(),
+            at: cursor.at(),
+            is_past: cursor.is_past(),
             begin,
         });
-        self.innermost = Some(cursor);
+        cursor.begin(bucket.at());
         Ok(())
+    }
+
+    /// Moves the innermost cursor to the first entry whose key is not below `key`.
+    fn seek_element(&mut self, key: &[u8]) -> Option<Leaf<'a>>
+        requires { cursors_of self.old ≡ [] → ⊥ }
+        ensures checked { self.new.checked ≡ self.old.checked }
+        ensures moves { MovesLast (λ entries place. seek_move key.now entries) (cursors_of self.old) (cursors_of self.new) (option_map leaf_view result) }
+        ensures bucket { IfSome result (λ leaf. IsTrue leaf.is_bucket → IsBucketValue leaf.value.now) }
+    {
+        match &mut self.innermost {
+            Some(cursor) => cursor.seek_element(key),
+            None => unreachable!(),
+        }
+    }
+
+    /// Opens a bucket inside the innermost one, on its first entry. Where it has none, or memory runs
+    /// out, nothing has changed.
+    pub fn enter(&mut self, bucket: Bucket<'a>) -> Result<Option<Leaf<'a>>, NoMemory>
+        requires { bucket_checked bucket ≡ self.old.checked }
+        ensures checked { self.new.checked ≡ self.old.checked }
+        ensures opens { IfOk result (λ found. Opens bucket.entry (λ entries place. first_move entries) (cursors_of self.old) (cursors_of self.new) (option_map leaf_view found)) }
+        ensures bucket { IfOk result (λ found. IfSome found (λ leaf. IsTrue leaf.is_bucket → IsBucketValue leaf.value.now)) }
+        ensures same { OnErr result (cursors_of self.new ≡ cursors_of self.old) }
+    {
+        self.open(bucket)?;
+        match self.next_element() {
+            Some(leaf) => Ok(Some(leaf)),
+            None => {
+                self.pop();
+                Ok(None)
+            }
+        }
+    }
+
+    /// Opens a bucket inside the innermost one, on its first entry whose key is not below `key`.
+    /// Where it has none, or memory runs out, nothing has changed.
+    pub fn seek(&mut self, bucket: Bucket<'a>, key: &[u8]) -> Result<Option<Leaf<'a>>, NoMemory>
+        requires { bucket_checked bucket ≡ self.old.checked }
+        ensures checked { self.new.checked ≡ self.old.checked }
+        ensures opens { IfOk result (λ found. Opens bucket.entry (λ entries place. seek_move key.now entries) (cursors_of self.old) (cursors_of self.new) (option_map leaf_view found)) }
+        ensures bucket { IfOk result (λ found. IfSome found (λ leaf. IsTrue leaf.is_bucket → IsBucketValue leaf.value.now)) }
+        ensures same { OnErr result (cursors_of self.new ≡ cursors_of self.old) }
+    {
+        self.open(bucket)?;
+        match self.seek_element(key) {
+            Some(leaf) => Ok(Some(leaf)),
+            None => {
+                self.pop();
+                Ok(None)
+            }
+        }
     }
 
     /// Moves the innermost cursor to its next entry. It stays where it is if there is none.
     pub fn next_element(&mut self) -> Option<Leaf<'a>>
         requires { cursors_of self.old ≡ [] → ⊥ }
         ensures checked { self.new.checked ≡ self.old.checked }
-        ensures moves { MovesLast (cursors_of self.old) (cursors_of self.new) (option_map leaf_view result) }
+        ensures moves { MovesLast next_move (cursors_of self.old) (cursors_of self.new) (option_map leaf_view result) }
         ensures bucket { IfSome result (λ leaf. IsTrue leaf.is_bucket → IsBucketValue leaf.value.now) }
     {
         match &mut self.innermost {

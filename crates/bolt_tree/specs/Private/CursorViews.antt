@@ -1,11 +1,13 @@
 -- What the cursors of open buckets show: the innermost one is whole, of the others their positions are kept.
-use Rattle.std.specs.Prelude.{◌≡◌, List, [], ◌∷◌, ◌++◌, Option, Some, None, reverse}
+use Rattle.std.specs.Prelude.{◌≡◌, List, [], ◌∷◌, ◌++◌, MatchOption, Option, Some, None, reverse}
 use Rattle.bolt_format.specs.Elements.{LeafElement}
 use Rattle.bolt_check.specs.declared.checked_file.Checked.{Checked}
 use Rattle.bolt_tree.specs.BucketViews.{entries_of}
+use Rattle.bolt_tree.specs.Buckets.{bucket_checked, bucket_start}
 use Rattle.bolt_tree.specs.Cursors.{cursor_checked, cursor_place, cursor_start}
-use Rattle.bolt_tree.specs.Places.{Moves, next_move}
+use Rattle.bolt_tree.specs.Places.{Fresh, Move, Moves, Place}
 use Rattle.bolt_tree.specs.Private.Kept.{AreKept, CursorView}
+use Rattle.bolt_tree.specs.declared.bucket.Bucket.{Bucket}
 use Rattle.bolt_tree.specs.declared.cursor.Cursor.{Cursor}
 use Rattle.bolt_tree.specs.declared.open_cursors.Waiting.{Waiting}
 use Rattle.bolt_tree.specs.declared.position.Position.{Position}
@@ -26,8 +28,8 @@ innermost_views (Some cursor) = cursor_view cursor ∷ []
 abbrev pub AreOfFile : Checked → List Waiting → List Position → Option Cursor → Type 0
 AreOfFile checked waiting positions innermost = AreKept checked (reverse waiting) positions × IsInnermost checked waiting innermost
 
--- the last cursor moves on, and gives this answer
-pub record MovesLast (old new : List CursorView) (answer : Option LeafElement) : Type 0 where
+-- the last cursor moves in this way, and gives this answer
+pub record MovesLast (move : List LeafElement → Place → Move) (old new : List CursorView) (answer : Option LeafElement) : Type 0 where
   pub outer : List CursorView
   pub cursor : CursorView
   pub moved : CursorView
@@ -35,4 +37,16 @@ pub record MovesLast (old new : List CursorView) (answer : Option LeafElement) :
   pub is : new ≡ outer ++ moved ∷ []
   pub file : moved.checked ≡ cursor.checked
   pub start : moved.start ≡ cursor.start
-  pub moves : Moves (entries_of cursor.checked) cursor.start next_move cursor.place moved.place answer
+  pub moves : Moves (entries_of cursor.checked) cursor.start move cursor.place moved.place answer
+
+-- a cursor of the bucket before the first call
+abbrev pub fresh_view : Bucket → CursorView
+fresh_view bucket = record { checked = bucket_checked bucket; start = bucket_start bucket; place = Fresh }
+
+-- The bucket is opened behind the others, and its cursor makes its first move in this way. Where that gives no entry, it is closed again.
+pub record Opens (bucket : Bucket) (move : List LeafElement → Place → Move) (old new : List CursorView) (answer : Option LeafElement) : Type 0 where
+  pub moved : CursorView
+  pub file : moved.checked ≡ bucket_checked bucket
+  pub start : moved.start ≡ bucket_start bucket
+  pub moves : Moves (entries_of (bucket_checked bucket)) (bucket_start bucket) move Fresh moved.place answer
+  pub is : MatchOption answer (new ≡ old) (λ e. new ≡ old ++ moved ∷ [])

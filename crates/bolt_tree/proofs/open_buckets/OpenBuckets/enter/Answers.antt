@@ -1,46 +1,70 @@
-use Rattle.std.proofs.Math.Logic.{∥∥₁_map}
-use Rattle.bolt_tree.specs.Private.CursorViews.{cursor_view}
-use Rattle.bolt_tree.specs.Private.OpenCursors.{cursors_of}
-use Rattle.bolt_tree.specs.Paths.{path_of}
+use Rattle.std.proofs.Common.{ap, refl}
+use Rattle.std.proofs.Math.Logic.{∥∥₁_elim}
+use Rattle.std.proofs.Props.{props}
 use Rattle.bolt_format.specs.ElementPlaces.{leaf_view}
+use Rattle.bolt_tree.specs.Paths.{path_of}
+use Rattle.bolt_tree.specs.Private.CursorViews.{fresh_view}
+use Rattle.bolt_tree.specs.Private.OpenCursors.{cursors_of}
 use Rattle.bolt_tree.proofs.Entering.{first_gives, first_leads, first_none, first_opens, leads_in, made, placed_in}
+use Rattle.bolt_tree.proofs.OpenSteps.{path_put}
 use Rattle.bolt_tree.proofs.open_buckets.OpenBuckets.enter.Goals as goal
-use Rattle.std.proofs.Common.{◌∙◌, ap, refl}
 
-pub push-requires : goal.push-requires
-push-requires c = ∥∥₁_map c.requires.named (λ n. c.in-Some.ensures.checked ∙ (c.cursor-cursor.ensures.checked ∙ n.0))
+pub returns-in_err-reserve-clause-placed : goal.returns-in_err-reserve-clause-placed
+returns-in_err-reserve-clause-placed c =
+    let old = c.args.self.now in
+    placed_in old.cursors.checked old.cursors.checked (cursors_of old.cursors) (cursors_of old.cursors) (path_of old.path.items) (path_of c.reserve.new.self.items) refl refl (ap path_of c.reserve.ensures.items) c.requires.placed
+
+pub enter-requires : goal.enter-requires
+enter-requires c = ∥∥₁_elim c.requires.named (hlevel props) (λ n. n.0)
+
+pub returns-in_err-leaf-clause-placed : goal.returns-in_err-leaf-clause-placed
+returns-in_err-leaf-clause-placed c =
+    let old = c.args.self.now in
+    placed_in old.cursors.checked c.enter.new.self.checked (cursors_of old.cursors) (cursors_of c.enter.new.self) (path_of old.path.items) (path_of c.reserve.new.self.items) c.in_err-leaf.ensures.checked c.in_err-leaf.ensures.same
+    (ap path_of c.reserve.ensures.items) c.requires.placed
+
+pub returns-in_default-clause-placed : goal.returns-in_default-clause-placed
+returns-in_default-clause-placed c =
+    let old = c.args.self.now in
+    let opens = rw c.in_default.is at c.in_ok-leaf.ensures.opens in
+    placed_in old.cursors.checked c.enter.new.self.checked (cursors_of old.cursors) (cursors_of c.enter.new.self) (path_of old.path.items) (path_of c.reserve.new.self.items) c.in_ok-leaf.ensures.checked opens.is
+    (ap path_of c.reserve.ensures.items) c.requires.placed
 
 pub returns-in_default-clause-left : goal.returns-in_default-clause-left
 returns-in_default-clause-left c = λ listing lists.
-    first_none c.args.self.now.cursors.checked (cursors_of c.args.self.now.cursors) (path_of c.args.self.now.path.items) (cursor_view c.cursor-cursor.result) (cursor_view c.first_element.new.self)
-    (made c.args.self.now.cursors.checked (cursors_of c.args.self.now.cursors) (path_of c.args.self.now.path.items) c.args.bucket (cursor_view c.cursor-cursor.result) c.requires.placed c.requires.named c.cursor-cursor.ensures.checked c.cursor-cursor.ensures.start)
-    c.in_default.ensures.moves listing lists
+    let old = c.args.self.now in
+    let opens = rw c.in_default.is at c.in_ok-leaf.ensures.opens in
+    let known = made old.cursors.checked (cursors_of old.cursors) (path_of old.path.items) c.args.bucket (fresh_view c.args.bucket) c.requires.placed c.requires.named refl refl in
+    first_none old.cursors.checked (cursors_of old.cursors) (path_of old.path.items) (fresh_view c.args.bucket) opens.moved known opens.moves listing lists
 
 pub returns-clause-placed : goal.returns-clause-placed
 returns-clause-placed c =
-    let known = made c.args.self.now.cursors.checked (cursors_of c.args.self.now.cursors) (path_of c.args.self.now.path.items) c.args.bucket (cursor_view c.cursor-cursor.result) c.requires.placed c.requires.named c.cursor-cursor.ensures.checked c.cursor-cursor.ensures.start in
-    placed_in c.args.self.now.cursors.checked c.push.new.self.cursors.checked (cursors_of c.push.new.self.cursors) (cursors_of c.push.new.self.cursors) (path_of c.push.new.self.path.items) (path_of c.push.new.self.path.items)
-    c.in_ok-push.ensures.checked refl refl
-    (first_opens c.args.self.now.cursors.checked (cursors_of c.args.self.now.cursors) (path_of c.args.self.now.path.items) (cursor_view c.cursor-cursor.result) (cursor_view c.first_element.new.self) known
-    (leaf_view c.in-Some.leaf) (cursors_of c.push.new.self.cursors) (path_of c.push.new.self.path.items) c.in-Some.ensures.checked c.in-Some.ensures.start c.in-Some.ensures.moves
-    c.in_ok-push.ensures.cursors c.in_ok-push.ensures.path)
+    let old = c.args.self.now in
+    let opens = rw c.in-Some.is at c.in_ok-leaf.ensures.opens in
+    let known = made old.cursors.checked (cursors_of old.cursors) (path_of old.path.items) c.args.bucket (fresh_view c.args.bucket) c.requires.placed c.requires.named refl refl in
+    let path = path_put old.path.items c.reserve.new.self.items c.push_reserved.new.self.items c.in-Some.leaf.key c.reserve.ensures.items c.push_reserved.ensures.items in
+    placed_in old.cursors.checked c.enter.new.self.checked (cursors_of c.enter.new.self) (cursors_of c.enter.new.self) (path_of c.push_reserved.new.self.items) (path_of c.push_reserved.new.self.items)
+    c.in_ok-leaf.ensures.checked refl refl
+    (first_opens old.cursors.checked (cursors_of old.cursors) (path_of old.path.items) (fresh_view c.args.bucket) opens.moved known
+    (leaf_view c.in-Some.leaf) (cursors_of c.enter.new.self) (path_of c.push_reserved.new.self.items) opens.file opens.start opens.moves opens.is path)
 
 pub returns-clause-on : goal.returns-clause-on
 returns-clause-on c =
-    let known = made c.args.self.now.cursors.checked (cursors_of c.args.self.now.cursors) (path_of c.args.self.now.path.items) c.args.bucket (cursor_view c.cursor-cursor.result) c.requires.placed c.requires.named c.cursor-cursor.ensures.checked c.cursor-cursor.ensures.start in (
-      c.in-Some.ensures.bucket,
-      leads_in c.args.self.now.cursors.checked c.push.new.self.cursors.checked (path_of c.push.new.self.path.items) (leaf_view c.in-Some.leaf) c.in_ok-push.ensures.checked
-          (first_leads c.args.self.now.cursors.checked (cursors_of c.args.self.now.cursors) (path_of c.args.self.now.path.items) (cursor_view c.cursor-cursor.result) (cursor_view c.first_element.new.self) known
-          (leaf_view c.in-Some.leaf) (path_of c.push.new.self.path.items) c.in-Some.ensures.moves c.in_ok-push.ensures.path),
+    let old = c.args.self.now in
+    let opens = rw c.in-Some.is at c.in_ok-leaf.ensures.opens in
+    let known = made old.cursors.checked (cursors_of old.cursors) (path_of old.path.items) c.args.bucket (fresh_view c.args.bucket) c.requires.placed c.requires.named refl refl in
+    let path = path_put old.path.items c.reserve.new.self.items c.push_reserved.new.self.items c.in-Some.leaf.key c.reserve.ensures.items c.push_reserved.ensures.items in (
+      rw c.in-Some.is at c.in_ok-leaf.ensures.bucket,
+      leads_in old.cursors.checked c.enter.new.self.checked (path_of c.push_reserved.new.self.items) (leaf_view c.in-Some.leaf) c.in_ok-leaf.ensures.checked
+          (first_leads old.cursors.checked (cursors_of old.cursors) (path_of old.path.items) (fresh_view c.args.bucket) opens.moved known
+          (leaf_view c.in-Some.leaf) (path_of c.push_reserved.new.self.items) opens.moves path),
     )
 
 pub returns-clause-left : goal.returns-clause-left
 returns-clause-left c = λ listing lists.
-    let known = made c.args.self.now.cursors.checked (cursors_of c.args.self.now.cursors) (path_of c.args.self.now.path.items) c.args.bucket (cursor_view c.cursor-cursor.result) c.requires.placed c.requires.named c.cursor-cursor.ensures.checked c.cursor-cursor.ensures.start in
-    first_gives c.args.self.now.cursors.checked (cursors_of c.args.self.now.cursors) (path_of c.args.self.now.path.items) (cursor_view c.cursor-cursor.result) (cursor_view c.first_element.new.self) known
-    (leaf_view c.in-Some.leaf) (path_of c.push.new.self.path.items) c.in-Some.ensures.moves c.in_ok-push.ensures.path listing lists
-
-pub returns-in_err-push-clause-placed : goal.returns-in_err-push-clause-placed
-returns-in_err-push-clause-placed c =
-    placed_in c.args.self.now.cursors.checked c.push.new.self.cursors.checked (cursors_of c.args.self.now.cursors) (cursors_of c.push.new.self.cursors) (path_of c.args.self.now.path.items) (path_of c.push.new.self.path.items)
-    c.in_err-push.ensures.checked c.in_err-push.ensures.same.0 (ap path_of c.in_err-push.ensures.same.1) c.requires.placed
+    let old = c.args.self.now in
+    let opens = rw c.in-Some.is at c.in_ok-leaf.ensures.opens in
+    let known = made old.cursors.checked (cursors_of old.cursors) (path_of old.path.items) c.args.bucket (fresh_view c.args.bucket) c.requires.placed c.requires.named refl refl in
+    let path = path_put old.path.items c.reserve.new.self.items c.push_reserved.new.self.items c.in-Some.leaf.key c.reserve.ensures.items c.push_reserved.ensures.items in
+    first_gives old.cursors.checked (cursors_of old.cursors) (path_of old.path.items) (fresh_view c.args.bucket) opens.moved known
+    (leaf_view c.in-Some.leaf) (path_of c.push_reserved.new.self.items) opens.moves path listing lists
