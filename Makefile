@@ -109,8 +109,9 @@ VERY_DEEP = out/very_deep.db
 # Times the reading of a file (info), the checker and what prints of a file: on a database of 256 MB
 # with a million small entries, on one with 200,000 buckets in its root bucket, and on one of 256 MB
 # with values of 100 KB. Then it times compact copies, of the first and the last of these, of one of
-# 256 MB most of which is free pages, and of one with 50,000 buckets one within another. With BBOLT,
-# the path of bbolt's program, in the environment, bbolt copies the same files.
+# 256 MB most of which is free pages, and of one with 50,000 buckets one within another. All have pages
+# of 4,096 bytes, as bbolt makes them. With BBOLT, the path of bbolt's program, in the environment,
+# bbolt copies the same files.
 bench: $(PROGRAM) $(LARGE) $(WIDE) $(LONG) $(SPARSE) $(VERY_DEEP)
 	python3 tools/bench/time_commands.py $(PROGRAM) $(LARGE) info check buckets pages stats list \
 		"keys bucket-0" "get bucket-0 entry-000000000000100000"
@@ -136,7 +137,7 @@ $(SPARSE): tools/bench/make_sparse.py
 
 $(VERY_DEEP): tools/bench/make_deep.py
 	mkdir -p $(@D)
-	python3 -B tools/bench/make_deep.py $@ 50000
+	python3 -B tools/bench/make_deep.py $@ 50000 4096
 
 DEEP = out/deep.db
 NESTED = out/nested.db

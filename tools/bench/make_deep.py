@@ -1,11 +1,11 @@
 #!/usr/bin/env python3
-"""Makes a sound database file of nested buckets, for `make memory`.
+"""Makes a sound database file of nested buckets, for `make memory` and `make bench`.
 
-    make_deep.py FILE [BUCKETS]
+    make_deep.py FILE [BUCKETS [PAGE_SIZE]]
 
-The format is that of docs/FORMAT.md, at page size 1,024. Each bucket is `b` in the one before, a
-leaf of its own; the last is empty and inline, on page 3, and the root page is the last of the
-file. Without BUCKETS there are 20,000.
+The format is that of docs/FORMAT.md. Each bucket is `b` in the one before, a leaf of its own; the
+last is empty and inline, on page 3, and the root page is the last of the file. Without BUCKETS
+there are 20,000, and without PAGE_SIZE pages of 1,024 bytes.
 """
 
 import struct
@@ -14,18 +14,17 @@ import sys
 from make_large import BUCKET_FLAGS, FREELIST, FREELIST_PAGE, HEADER, LEAF, LEAF_ELEMENT, META
 from make_large import MAGIC, META_RECORD, VERSION, checksum
 
-PAGE_SIZE = 1024
 FIRST_PAGE = 3
 
 
 def page(number, flags, count, body=b""):
-    return (HEADER.pack(number, flags, count, 0) + body).ljust(PAGE_SIZE, b"\0")
+    return HEADER.pack(number, flags, count, 0) + body
 
 
-def meta(number, root):
+def meta(number, root, page_size):
     """A meta page; its number is its transaction too."""
     record = META_RECORD.pack(
-        MAGIC, VERSION, PAGE_SIZE, 0, root, 0, FREELIST_PAGE, root + 1, number
+        MAGIC, VERSION, page_size, 0, root, 0, FREELIST_PAGE, root + 1, number
     )
     return page(number, META, 0, record + struct.pack("<Q", checksum(record)))
 
@@ -36,15 +35,23 @@ def leaf(number, value):
     return page(number, LEAF, 1, element + b"b" + value)
 
 
+def pages(root, page_size):
+    """All pages in order, without the zeros at their ends."""
+    yield meta(0, root, page_size)
+    yield meta(1, root, page_size)
+    yield page(FREELIST_PAGE, FREELIST, 0)
+    yield leaf(FIRST_PAGE, bytes(16) + HEADER.pack(0, LEAF, 0, 0))
+    for number in range(FIRST_PAGE + 1, root + 1):
+        yield leaf(number, struct.pack("<QQ", number - 1, 0))
+
+
 def main():
     path = sys.argv[1]
     buckets = int(sys.argv[2]) if len(sys.argv) > 2 else 20_000
-    root = FIRST_PAGE + buckets - 1
+    page_size = int(sys.argv[3]) if len(sys.argv) > 3 else 1024
     with open(path, "wb") as out:
-        out.write(meta(0, root) + meta(1, root) + page(FREELIST_PAGE, FREELIST, 0))
-        out.write(leaf(FIRST_PAGE, bytes(16) + HEADER.pack(0, LEAF, 0, 0)))
-        for number in range(FIRST_PAGE + 1, root + 1):
-            out.write(leaf(number, struct.pack("<QQ", number - 1, 0)))
+        for filled in pages(FIRST_PAGE + buckets - 1, page_size):
+            out.write(filled.ljust(page_size, b"\0"))
 
 
 if __name__ == "__main__":
