@@ -60,10 +60,57 @@ def set_bytes(path, place, data):
         file.write(data)
 
 
-@alters("list")
-def drop_last(words, answer):
-    """list drops its last line"""
-    answer.out = b"".join(answer.out.splitlines(keepends=True)[:-1])
+# A command, with what status it ends, what it does wrong, what of its answer is replaced, and by what.
+REPLACED = [
+    ("list", 0, "shows another sequence", rb"bucket \d+", b"bucket 5"),
+    ("pages", 0, "calls a leaf a branch", b"leaf  ", b"branch"),
+    ("pages", 0, "calls a free page a leaf", b"free", b"leaf"),
+    ("pages", 0, "counts other items", rb"leaf       \d", b"leaf       7"),
+    ("page", 0, "shows another value", b"= [0-9a-f]{2}", b"= 00"),
+    ("page", 0, "calls a leaf a branch", b"type leaf", b"type branch"),
+    ("page", 1, "tells another fault", rb"(page \d+): .*", rb"\1: cut off"),
+    ("info", 0, "shows a higher mark", b"high water ", b"high water 1"),
+    ("check", 1, "counts other findings", rb"\d+ errors found", b"9 errors found"),
+]
+FIGURES = [b"buckets", b"inline buckets", b"keys", b"branch pages", b"leaf allocated"]
+
+
+def alters_text(command, status, told, pattern, other):
+    def replace(words, answer):
+        answer.out = re.sub(pattern, other, answer.out)
+        answer.err = re.sub(pattern, other, answer.err)
+
+    replace.__doc__ = f"{command} {told}"
+    alters(command, status=status)(replace)
+
+
+def alters_figure(name):
+    def add_one(words, answer):
+        answer.out = re.sub(
+            rb"^%b (\d+)$" % name,
+            lambda found: b"%b %d" % (name, int(found[1]) + 1),
+            answer.out,
+            flags=re.MULTILINE,
+        )
+
+    add_one.__doc__ = f"stats adds one to its {name.decode()}"
+    alters("stats")(add_one)
+
+
+def drops_last_line(command):
+    def drop(words, answer):
+        answer.out = b"".join(answer.out.splitlines(keepends=True)[:-1])
+
+    drop.__doc__ = f"{command} drops its last line"
+    alters(command)(drop)
+
+
+for row in REPLACED:
+    alters_text(*row)
+for figure in FIGURES:
+    alters_figure(figure)
+for command in ("list", "keys", "pages"):
+    drops_last_line(command)
 
 
 @alters("list")
@@ -85,12 +132,6 @@ def change_value(words, answer):
     answer.out = re.sub(rb"= [0-9a-f]{2}", b"= 00", answer.out, count=1)
 
 
-@alters("list")
-def change_sequence(words, answer):
-    """list shows another sequence"""
-    answer.out = re.sub(rb"bucket \d+", b"bucket 5", answer.out)
-
-
 @alters("list", "--from")
 def drop_first(words, answer):
     """list --from drops its first line"""
@@ -101,12 +142,6 @@ def drop_first(words, answer):
 def list_nothing(words, answer):
     """list --meta lists nothing"""
     answer.out = b""
-
-
-@alters("keys")
-def drop_key(words, answer):
-    """keys drops its last line"""
-    answer.out = b"".join(answer.out.splitlines(keepends=True)[:-1])
 
 
 @alters("buckets")
@@ -133,59 +168,6 @@ def show_nothing(words, answer):
     answer.status, answer.err = 0, b""
 
 
-def alters_figure(name):
-    def add_one(words, answer):
-        answer.out = re.sub(
-            rb"^%b (\d+)$" % name,
-            lambda found: b"%b %d" % (name, int(found[1]) + 1),
-            answer.out,
-            flags=re.MULTILINE,
-        )
-
-    add_one.__doc__ = f"stats adds one to its {name.decode()}"
-    alters("stats")(add_one)
-
-
-for figure in (b"buckets", b"inline buckets", b"keys", b"branch pages", b"leaf allocated"):
-    alters_figure(figure)
-
-
-@alters("pages")
-def drop_row(words, answer):
-    """pages drops its last row"""
-    answer.out = b"".join(answer.out.splitlines(keepends=True)[:-1])
-
-
-@alters("pages")
-def change_kind(words, answer):
-    """pages calls a leaf a branch"""
-    answer.out = answer.out.replace(b"leaf  ", b"branch")
-
-
-@alters("pages")
-def call_free(words, answer):
-    """pages calls a free page a leaf"""
-    answer.out = answer.out.replace(b"free", b"leaf")
-
-
-@alters("pages")
-def count_items(words, answer):
-    """pages counts other items"""
-    answer.out = re.sub(rb"leaf       \d", b"leaf       7", answer.out)
-
-
-@alters("page")
-def change_shown(words, answer):
-    """page shows another value"""
-    answer.out = re.sub(rb"= [0-9a-f]{2}", b"= 00", answer.out)
-
-
-@alters("page")
-def change_type(words, answer):
-    """page calls a leaf a branch"""
-    answer.out = answer.out.replace(b"type leaf", b"type branch")
-
-
 @alters("page")
 def show_all(words, answer):
     """page shows an id more of a freelist"""
@@ -198,18 +180,6 @@ def accept_page(words, answer):
     """page accepts every page"""
     text = f"page {words[2]}\ntype leaf\nitems 0\noverflow 0\n"
     answer.status, answer.out, answer.err = 0, text.encode(), b""
-
-
-@alters("page", status=1)
-def change_page_fault(words, answer):
-    """page tells another fault"""
-    answer.err = re.sub(rb"(page \d+): .*", rb"\1: cut off", answer.err)
-
-
-@alters("info")
-def raise_mark(words, answer):
-    """info shows a higher mark"""
-    answer.out = re.sub(rb"high water ", b"high water 1", answer.out)
 
 
 @alters("info")
@@ -228,12 +198,6 @@ def accept_all(words, answer):
 def refuse_all(words, answer):
     """check refuses every file"""
     answer.status, answer.out = 1, b"page 2: cut off\n1 errors found\n"
-
-
-@alters("check", status=1)
-def miscount(words, answer):
-    """check counts other findings"""
-    answer.out = re.sub(rb"\d+ errors found", b"9 errors found", answer.out)
 
 
 @alters("check", status=1)
