@@ -2,12 +2,12 @@
 use Rattle.std.proofs.Common.{◌≡◌, ◌∙◌, ℕ, ◌+◌, ◌<◌, true, false, List, [], ◌∷◌, ◌++◌, length, map, reverse, Option, Some, None, Result, Ok, Err, Bor, Vec, Global, refl, sym, ap, subst, arith, append_assoc}
 use Rattle.std.specs.Prelude.{⊤, IfErr, IfOk, OnOk}
 use Rattle.std.specs.List.{AllByRecursion}
-use Rattle.std.proofs.KnownBytes.{Appends-nil, Appends-trans}
+use Rattle.std.proofs.KnownBytes.{Appends-nil}
 use Rattle.std.proofs.lemmas.List.{append-nil, length-map, map-append, reverse-append}
 use Rattle.bolt_format.specs.ElementPlaces.{leaf_view}
 use Rattle.bolt_format.specs.Elements.{LeafElement}
 use Rattle.bolt_format.specs.declared.element.Leaf.{Leaf}
-use Rattle.bolt_format.proofs.SinkLemmas.{AppendsBeginning-none, AppendsBeginning-second, AppendsBeginning-whole}
+use Rattle.bolt_format.proofs.SinkLemmas.{AppendsBeginning-none, AppendsBeginning-whole}
 use Rattle.bolt_tree.specs.Tree.{Tree, end, with_bucket, with_value}
 use Rattle.bolt_bulk.specs.Items.{items_of, leaf_item, root_of}
 use Rattle.bolt_bulk.specs.Laid.{Laid, Placed}
@@ -36,6 +36,7 @@ use Rattle.bolt_bulk.proofs.HeldRuns.{length-inline_value}
 use Rattle.bolt_bulk.proofs.Ontos.{IsValue, onto_items, onto_push, value_items}
 use Rattle.bolt_bulk.proofs.PassSteps.{IsOn, inline_item, on_before, on_enters, on_leaves, on_numbers, on_takes, open_values, pass_takes_all, root_item, values_put, values_rows}
 use Rattle.bolt_bulk.proofs.PutBefore.{bytes-append}
+use Rattle.bolt_bulk.proofs.PutsLemmas.{puts_then}
 
 -- ---- results
 
@@ -82,23 +83,6 @@ module _ {S : Type 0} (tree : Tree) (taken : S → Option (List ℕ)) (failed : 
   abbrev StepsBy : {A : Type 0} (old new : S) (put : List Placed) (At : List Placed → Type 0) (result : Result A BulkFault) → Type 0
   StepsBy old new put At result = Steps tree taken failed old new bounds put At result
 
-  puts_then : {A B : Type 0} (old mid new : S) (first second : List ℕ) (x : A) (result : Result B BulkFault) → Puts taken failed old mid first (Ok x) → Puts taken failed mid new second result
-      → Puts taken failed old new (first ++ second) result
-  puts_then old mid new first second x (Ok y) a b = record {
-    all = Appends-trans (taken old) (taken mid) (taken new) first second a.all b.all;
-    sound = b.sound ∙ a.sound;
-    beginning = tt;
-    failure = tt;
-    other = tt;
-  }
-  puts_then old mid new first second x (Err e) a b = record {
-    all = tt;
-    sound = tt;
-    beginning = AppendsBeginning-second (taken old) (taken mid) (taken new) first second a.all b.beginning;
-    failure = b.failure;
-    other = λ f. b.other f ∙ a.sound;
-  }
-
   pub steps_then : {A B : Type 0} (old mid new : S) (put : List Placed) (Mid At : List Placed → Type 0) (x : A) (result : Result B BulkFault)
       → StepsBy old mid put Mid (Ok x) → ((all : List Placed) → Mid all → StepsBy mid new all At result) → StepsBy old new put At result
   steps_then old mid new put Mid At x result one two =
@@ -106,7 +90,7 @@ module _ {S : Type 0} (tree : Tree) (taken : S → Option (List ℕ)) (failed : 
       let same : (put ++ one.more) ++ then.more ≡ put ++ (one.more ++ then.more) = append_assoc put one.more then.more in
       record {
         more = one.more ++ then.more;
-        puts = subst (λ (bs : List ℕ). Puts taken failed old new bs result) (sym (bytes-append bounds.page_size one.more then.more)) (puts_then old mid new _ _ x result one.puts then.puts);
+        puts = subst (λ (bs : List ℕ). Puts taken failed old new bs result) (sym (bytes-append bounds.page_size one.more then.more)) (puts_then {taken = taken} {failed = failed} old mid new _ _ x result one.puts then.puts);
         at = subst (λ (ps : List Placed). OnOk result (At ps)) same then.at;
         before = subst (λ (ps : List Placed). StandsBefore ps (layout_pages bounds.page_size tree)) same then.before;
         large = then.large;
