@@ -44,6 +44,7 @@ mod Single
 pub mod SortedLemmas
 pub mod SoughtLemmas
 pub mod StackLemmas
+pub mod TopLemmas
 pub mod TourLemmas
 pub mod TrailLemmas
 mod TreeListing

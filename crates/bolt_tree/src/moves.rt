@@ -120,15 +120,16 @@ impl<'a> Trail<'a> {
         ensures bucket { IfSome result (λ leaf. IsTrue leaf.is_bucket → IsBucketValue leaf.value.now) }
         ensures opened { pager_opened self.new.pager ≡ pager_opened self.old.pager }
     {
-        let top = match self.stack.pop() {
-            Some(top) => top,
-            None => return None,
+        let Some(last) = self.stack.len().checked_sub(1) else {
+            return None;
         };
-        if top.taken < u32::from(top.page.count()) {
-            return self.enter(top.page, top.taken as u16, false);
+        let top = &self.stack[last];
+        if top.taken >= u32::from(top.page.count()) {
+            return None;
         }
-        self.push(top.page, top.taken);
-        None
+        let leaf = top.page.entry(top.taken as u16);
+        self.stack[last].taken += 1;
+        Some(leaf)
     }
 
     /// Moves back to the entry before where it is in the same leaf. Otherwise it stays.

@@ -1,5 +1,5 @@
 //! A page that a cursor has opened.
-ghost use Rattle.std.specs.Prelude.{◌≡◌, ◌<◌, IsTrue, Some, length, slice_get};
+ghost use Rattle.std.specs.Prelude.{◌≡◌, ◌+◌, ◌<◌, IsTrue, Some, length, slice_get};
 ghost use Rattle.std.proofs.Props.{props};
 ghost use Rattle.bolt_format.specs.ElementPlaces.{branch_view, leaf_view};
 ghost use Rattle.bolt_format.specs.Elements.{IsBucketValue};
@@ -57,6 +57,7 @@ impl<'a> LeafPage<'a> {
 impl<'a> Opened<'a> {
     ghost use Rattle.bolt_tree.specs.Private.Contents.{content_keys, content_length, content_of, is_tree_kind};
     ghost use Rattle.bolt_tree.specs.Private.ShownPages.{opened_content};
+    ghost use Rattle.bolt_tree.specs.Private.Stacks.{IsLeafContent, StandsOn};
 
     /// A page that is a branch or a leaf.
     pub fn of_page(page: Page<'a>) -> Opened<'a>
@@ -79,6 +80,20 @@ impl<'a> Opened<'a> {
             Opened::Branch(page) => page.page.count(),
             Opened::Leaf(page) => page.page.count(),
             Opened::Inline(page) => page.count(),
+        }
+    }
+
+    /// Entry `i` of a leaf.
+    pub fn entry(&self, i: u16) -> Leaf<'a>
+        requires leaf { IsLeafContent (opened_content self.now) }
+        requires below { i < content_length (opened_content self.now) }
+        ensures entry { StandsOn (opened_content self.now) (i + 1) (leaf_view result) }
+        ensures bucket { IsTrue result.is_bucket → IsBucketValue result.value.now }
+    {
+        match self {
+            Opened::Leaf(page) => page.element(i),
+            Opened::Inline(page) => page.leaf(i),
+            Opened::Nothing | Opened::Branch(_) => unreachable!(),
         }
     }
 

@@ -1,36 +1,46 @@
 -- It rests on a leaf, so what is taken is an element of that leaf.
-use Rattle.std.proofs.Common.{◌∙◌, false, ap, arith}
-use Rattle.std.specs.Option.{option_map}
+use Rattle.std.proofs.Common.{◌∙◌, ◌+◌, List, Some, take, refl, sym, ap, subst, arith}
 use Rattle.bolt_format.specs.ElementPlaces.{leaf_view}
 use Rattle.bolt_tree.specs.Private.BucketPages.{contents_in}
-use Rattle.bolt_tree.specs.Pagers.{counted, pager_opened}
 use Rattle.bolt_tree.specs.Private.ShownPages.{opened_content}
+use Rattle.bolt_tree.specs.Private.Stacks.{Frame, HasStack, here_of}
 use Rattle.bolt_tree.specs.Private.Trails.{frame_of, frames_of, trail_bucket, trail_frames}
-use Rattle.bolt_tree.proofs.MoveLemmas.{next_in_leaf, none_opened, rest_on_top}
-use Rattle.bolt_tree.proofs.PagerLemmas.{counted_zero}
+use Rattle.bolt_tree.proofs.MoveLemmas.{next_in_leaf, rest_on_top}
 use Rattle.bolt_tree.proofs.StackLemmas.{retaken}
-use Rattle.bolt_tree.proofs.TrailLemmas.{frames_pop, popped_none, popped_stack, same_bucket}
+use Rattle.bolt_tree.proofs.TopLemmas.{is, taken_entry, was}
+use Rattle.bolt_tree.proofs.TrailLemmas.{nothing_here}
 use Rattle.bolt_tree.proofs.trail.Trail.next_here.Goals as goal
-
-pub returns-in-None-clause-stack : goal.returns-in-None-clause-stack
-returns-in-None-clause-stack c = popped_none c.args.self.now c.pop.new.self.items c.in-None.ensures.items c.requires.stack
-
-pub enter-requires-clause-stack : goal.enter-requires-clause-stack
-enter-requires-clause-stack c = retaken (trail_bucket c.args.self.now) (opened_content c.in-Some.top.page) c.in-Some.top.taken 0 (frames_of c.pop.new.self.items)
-    (popped_stack c.args.self.now c.pop.new.self.items c.in-Some.top c.in-Some.ensures.items c.requires.stack) (omega arith) (omega arith)
 
 pub returns-then-top-from-clause-found : goal.returns-then-top-from-clause-found
 returns-then-top-from-clause-found c =
-    let frames = frames_pop c.args.self.now.stack.items c.pop.new.self.items c.in-Some.top c.in-Some.ensures.items in
-    next_in_leaf (trail_bucket c.args.self.now) (trail_bucket c.enter.new.self) (trail_frames c.args.self.now) (frames_of c.pop.new.self.items) (trail_frames c.enter.new.self) (frame_of c.in-Some.top) c.enter.result
-    (same_bucket _ c.enter.new.self c.enter.ensures.same) frames (rest_on_top _ _ (frame_of c.in-Some.top) frames c.requires.rest) c.enter.ensures.entered
+    let items = c.args.self.now.stack.items in
+    let top = c.index-deref-last.result in
+    let frames = was items c.deref.result.now items c.len.result c.in-Some.last top top top c.len.ensures.value c.in-Some.ensures.0 c.in-Some.ensures.1 c.index-deref-last.is c.deref.ensures.0 refl in
+    (ap here_of frames ∙ nothing_here (opened_content top.page) top.taken (omega (arith, c.if-top-from.true, c.from.ensures, c.count.ensures)), refl)
 
-pub returns-then-top-from-clause-opened : goal.returns-then-top-from-clause-opened
-returns-then-top-from-clause-opened c =
-    let frames = frames_pop c.args.self.now.stack.items c.pop.new.self.items c.in-Some.top c.in-Some.ensures.items in
-    let none = none_opened (contents_in (trail_bucket c.args.self.now)) false (opened_content c.in-Some.top.page) c.in-Some.top.taken c.in-Some.top.taken (frames_of c.pop.new.self.items)
-    (trail_frames c.enter.new.self) (option_map leaf_view c.enter.result) (rest_on_top _ _ (frame_of c.in-Some.top) frames c.requires.rest) c.enter.ensures.entered in
-    c.enter.ensures.opened ∙ (ap (counted (pager_opened c.args.self.now.pager)) none ∙ counted_zero c.args.self.now.pager)
+pub returns-clause-stack : goal.returns-clause-stack
+returns-clause-stack c =
+    let old = c.args.self.now in
+    let items = old.stack.items in
+    let top = c.index-deref-last.result in
+    let before = was items c.deref.result.now c.deref_mut.result.now c.len.result c.in-Some.last top c.index-deref_mut-last.result c.index-deref_mut-last-2.result
+    c.len.ensures.value c.in-Some.ensures.0 c.in-Some.ensures.1 c.index-deref-last.is c.deref.ensures.0 c.deref_mut.ensures.value in
+    let after = is items c.deref.result.now c.deref_mut.result.now c.len.result c.in-Some.last top c.index-deref_mut-last.result c.index-deref_mut-last-2.result
+    c.len.ensures.value c.in-Some.ensures.0 c.in-Some.ensures.1 c.index-deref-last.is c.deref.ensures.0 c.deref_mut.ensures.value in
+    subst (λ (fs : List Frame). HasStack (trail_bucket old) fs) (sym after)
+    (retaken (trail_bucket old) (opened_content top.page) top.taken (top.taken + 1) (frames_of (take c.in-Some.last items))
+    (subst (λ (fs : List Frame). HasStack (trail_bucket old) fs) before c.requires.stack)
+    (omega (arith, c.if-top-from.false, c.from.ensures, c.count.ensures)) (omega (arith, c.if-top-from.false, c.from.ensures, c.count.type_inv)))
 
-pub push-requires : goal.push-requires
-push-requires c = popped_stack c.args.self.now c.pop.new.self.items c.in-Some.top c.in-Some.ensures.items c.requires.stack
+pub returns-clause-found : goal.returns-clause-found
+returns-clause-found c =
+    let old = c.args.self.now in
+    let items = old.stack.items in
+    let top = c.index-deref-last.result in
+    let before = was items c.deref.result.now c.deref_mut.result.now c.len.result c.in-Some.last top c.index-deref_mut-last.result c.index-deref_mut-last-2.result
+    c.len.ensures.value c.in-Some.ensures.0 c.in-Some.ensures.1 c.index-deref-last.is c.deref.ensures.0 c.deref_mut.ensures.value in
+    let after = is items c.deref.result.now c.deref_mut.result.now c.len.result c.in-Some.last top c.index-deref_mut-last.result c.index-deref_mut-last-2.result
+    c.len.ensures.value c.in-Some.ensures.0 c.in-Some.ensures.1 c.index-deref-last.is c.deref.ensures.0 c.deref_mut.ensures.value in
+    next_in_leaf (trail_bucket old) (trail_bucket old) (trail_frames old) (frames_of (take c.in-Some.last items)) _ (frame_of top) (Some c.entry-leaf.result) refl before
+    (rest_on_top _ _ (frame_of top) before c.requires.rest)
+    (taken_entry (contents_in (trail_bucket old)) (opened_content top.page) top.taken (frames_of (take c.in-Some.last items)) _ (leaf_view c.entry-leaf.result) c.entry-leaf.ensures.entry after)
