@@ -110,8 +110,8 @@ VERY_DEEP = out/very_deep.db
 # with a million small entries, on one with 200,000 buckets in its root bucket, and on one of 256 MB
 # with values of 100 KB. Then it times compact copies, of the first and the last of these, of one of
 # 256 MB most of which is free pages, and of one with 50,000 buckets one within another. All have pages
-# of 4,096 bytes, as bbolt makes them. With BBOLT, the path of bbolt's program, in the environment,
-# bbolt copies the same files.
+# of 4,096 bytes, as bbolt makes them on most machines. With BBOLT, the path of bbolt's program, in the
+# environment, bbolt copies the same files.
 bench: $(PROGRAM) $(LARGE) $(WIDE) $(LONG) $(SPARSE) $(VERY_DEEP)
 	python3 tools/bench/time_commands.py $(PROGRAM) $(LARGE) info check buckets pages stats list \
 		"keys bucket-0" "get bucket-0 entry-000000000000100000"
