@@ -50,9 +50,9 @@ pub record NextBranch (x : Branch) (pos : ℕ) : Type 0 where
   pub low : 16 ≤ pos
   pub fits : pos + length x.key.now < 4294967296
 
-pub next_branch : {S : Type 0} {taken : S → Option (List ℕ)} {failed : S → ℕ} (old new : S) (xs : List Branch) (i pos : ℕ) → i < length xs
-    → HeadsPut head_of key_of taken failed old new xs i pos → 16 * length xs + length (branch_data (map branch_view xs)) < 4294967296 → NextBranch (get_or xs i no_branch) pos
-next_branch old new xs i pos h put small =
-    let next = heads_next old new xs i pos no_branch (get_or xs i no_branch) h refl put in
+pub next_branch : {S : Type 0} {taken : S → Option (List ℕ)} {failed : S → ℕ} (old new : S) (row : List ℕ) (xs : List Branch) (i pos : ℕ) → i < length xs
+    → HeadsPut head_of key_of taken failed old new row xs i pos → 16 * length xs + length (branch_data (map branch_view xs)) < 4294967296 → NextBranch (get_or xs i no_branch) pos
+next_branch old new row xs i pos h put small =
+    let next = heads_next old new row xs i pos no_branch (get_or xs i no_branch) h refl put in
     let same = ap (λ (t : List ℕ). length t) (branch_datum xs) in
     let fits = next.fits in record { low = next.low; fits = omega arith }

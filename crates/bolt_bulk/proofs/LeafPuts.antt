@@ -67,12 +67,12 @@ pub record NextLeaf (e : LeafElement) (pos : ℕ) : Type 0 where
   pub low : 16 ≤ pos
   pub fits : pos + (length e.key + length e.value) < 4294967296
 
-pub next_leaf : {S X : Type 0} {taken : S → Option (List ℕ)} {failed : S → ℕ} (view : X → LeafElement) (old new : S) (xs : List X) (i pos : ℕ) (none : X) → i < length xs
-    → HeadsPut (head_of view) (datum_of view) taken failed old new xs i pos → 16 * length xs + length (leaf_data (map view xs)) < 4294967296
+pub next_leaf : {S X : Type 0} {taken : S → Option (List ℕ)} {failed : S → ℕ} (view : X → LeafElement) (old new : S) (row : List ℕ) (xs : List X) (i pos : ℕ) (none : X) → i < length xs
+    → HeadsPut (head_of view) (datum_of view) taken failed old new row xs i pos → 16 * length xs + length (leaf_data (map view xs)) < 4294967296
     → NextLeaf (view (get_or xs i none)) pos
-next_leaf {X} view old new xs i pos none h put small =
+next_leaf {X} view old new row xs i pos none h put small =
     let x : X = get_or xs i none in
-    let next = heads_next old new xs i pos none x h refl put in
+    let next = heads_next old new row xs i pos none x h refl put in
     let same = ap (λ (t : List ℕ). length t) (leaf_datum view xs) in
     let d = length-append (view x).key (view x).value in
     let fits = next.fits in record { low = next.low; fits = omega arith }

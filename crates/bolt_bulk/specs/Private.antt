@@ -4,6 +4,7 @@ pub mod Coming
 pub mod Endings
 pub mod FirstPages
 pub mod Heights
+pub mod Gathering
 pub mod HeldCounts
 pub mod HeldItems
 pub mod Levels

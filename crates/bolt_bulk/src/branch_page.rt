@@ -1,25 +1,24 @@
 //! A branch page, as it is put.
-ghost use Rattle.std.specs.Prelude.{◌≡◌, ◌+◌, ◌*◌, ◌<◌, ◌≤◌, length, map};
+ghost use Rattle.std.specs.Prelude.{◌≡◌, ◌+◌, ◌*◌, ◌<◌, ◌≤◌, ◌++◌, length, map};
 ghost use Rattle.bolt_format.specs.ElementPlaces.{branch_view};
 ghost use Rattle.bolt_bulk.specs.Levels.{branch_view as branch_page_view};
 ghost use Rattle.bolt_bulk.specs.PageBytes.{branch_data, branch_header, branch_headers, page_bytes};
 ghost use Rattle.bolt_bulk.specs.Puts.{PutsWhole};
 
-use crate::pieces::{put, put_zeros};
-use crate::row::{BRANCH_FLAGS, ELEMENT_LEN, Row, header, push_u32, push_u64};
+use crate::pieces::{put, put_full, put_zeros};
+use crate::row::{BRANCH_FLAGS, ELEMENT_LEN, ROW_LEN, Row, header, push_u32, push_u64};
 use bolt_format::{Branch, Sink, SinkFault};
 
-/// The header of an element.
+/// Adds the header of an element.
 #[tactic(auto, unfolding(crate::specs::PageBytes::branch_header))]
-fn element_header(pos: u32, branch: &Branch<'_>) -> Row
-    requires { length branch.now.key.now < 4294967296 }
-    ensures { result.items ≡ branch_header pos (branch_view branch.now) }
+fn push_header(row: &mut Row, pos: u32, branch: &Branch<'_>)
+    requires room { length row.old.items + ELEMENT_LEN ≤ ROW_LEN }
+    requires key { length branch.now.key.now < 4294967296 }
+    ensures { row.new.items ≡ row.old.items ++ branch_header pos (branch_view branch.now) }
 {
-    let mut row = Row::new();
-    push_u32(&mut row, pos);
-    push_u32(&mut row, branch.key.len() as u32);
-    push_u64(&mut row, branch.child);
-    row
+    push_u32(row, pos);
+    push_u32(row, branch.key.len() as u32);
+    push_u64(row, branch.child);
 }
 
 /// Puts the headers of elements. The keys of all of them are packed behind the last header.
@@ -28,13 +27,14 @@ fn put_headers<S: Sink>(branches: &[Branch<'_>], sink: &mut S) -> Result<(), Sin
     ensures { PutsWhole S.taken S.failed sink.old sink.new (branch_headers 0 (map branch_view branches.now)) result }
 {
     let mut pos = ELEMENT_LEN * branches.len();
+    let mut row = Row::new();
     for i in 0..branches.len() {
+        put_full(&mut row, sink)?;
         let branch = &branches[i];
-        let row = element_header(pos as u32, branch);
-        put(row.as_slice(), sink)?;
+        push_header(&mut row, pos as u32, branch);
         pos = pos - ELEMENT_LEN + branch.key.len();
     }
-    Ok(())
+    put(row.as_slice(), sink)
 }
 
 /// Puts the keys of elements.

@@ -4,8 +4,8 @@ ghost use Rattle.bolt_format.specs.ElementPlaces.{leaf_view};
 ghost use Rattle.bolt_bulk.specs.PageBytes.{inline_value, leaf_data, leaf_headers, root_value};
 ghost use Rattle.bolt_bulk.specs.Puts.{PutsWhole};
 
-use crate::pieces::put;
-use crate::row::{ELEMENT_LEN, LEAF_FLAGS, Row, header, leaf_element_header, push_u64};
+use crate::pieces::{put, put_full};
+use crate::row::{ELEMENT_LEN, LEAF_FLAGS, Row, header, push_leaf_header, push_u64};
 use bolt_format::{Leaf, Sink, SinkFault};
 
 /// The bytes of the value of a bucket with a root page.
@@ -28,15 +28,22 @@ fn put_headers<S: Sink>(entries: &[Leaf<'_>], sink: &mut S) -> Result<(), SinkFa
     ensures { PutsWhole S.taken S.failed sink.old sink.new (leaf_headers 0 (map leaf_view entries.now)) result }
 {
     let mut pos = ELEMENT_LEN * entries.len();
+    let mut row = Row::new();
     for i in 0..entries.len() {
+        put_full(&mut row, sink)?;
         let entry = &entries[i];
         let key = entry.key.len();
         let value = entry.value.len();
-        let row = leaf_element_header(pos as u32, entry.is_bucket, key as u32, value as u32);
-        put(row.as_slice(), sink)?;
+        push_leaf_header(
+            &mut row,
+            pos as u32,
+            entry.is_bucket,
+            key as u32,
+            value as u32,
+        );
         pos = pos - ELEMENT_LEN + key + value;
     }
-    Ok(())
+    put(row.as_slice(), sink)
 }
 
 /// Puts the key and the value of an entry.

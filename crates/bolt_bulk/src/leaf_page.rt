@@ -6,8 +6,8 @@ ghost use Rattle.bolt_bulk.specs.Private.HeldItems.{AreHeld, IsHeld, held_views,
 ghost use Rattle.bolt_bulk.specs.Puts.{PutsWhole};
 
 use crate::held::Held;
-use crate::pieces::{put, put_zeros};
-use crate::row::{ELEMENT_LEN, LEAF_FLAGS, header, leaf_element_header};
+use crate::pieces::{put, put_full, put_zeros};
+use crate::row::{ELEMENT_LEN, LEAF_FLAGS, Row, header, push_leaf_header};
 use bolt_format::{Leaf, Sink, SinkFault};
 
 /// Puts the headers of items. The data of all of them is packed behind the last header.
@@ -21,16 +21,17 @@ fn put_headers<S: Sink>(
     ensures { PutsWhole S.taken S.failed sink.old sink.new (leaf_headers 0 (held_views inlined.now items.now)) result }
 {
     let mut pos = ELEMENT_LEN * items.len();
+    let mut row = Row::new();
     for i in 0..items.len() {
+        put_full(&mut row, sink)?;
         let held = &items[i];
         let key = held.key.len();
         let value = held.stored.len();
         let is_bucket = held.stored.is_bucket();
-        let row = leaf_element_header(pos as u32, is_bucket, key as u32, value as u32);
-        put(row.as_slice(), sink)?;
+        push_leaf_header(&mut row, pos as u32, is_bucket, key as u32, value as u32);
         pos = pos - ELEMENT_LEN + key + value;
     }
-    Ok(())
+    put(row.as_slice(), sink)
 }
 
 /// Puts the key and the value of an item.

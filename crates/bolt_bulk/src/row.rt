@@ -5,7 +5,7 @@ ghost use Rattle.bolt_bulk.specs.PageBytes.{header_bytes, leaf_header, number_by
 
 use arrayvec::ArrayVec;
 
-/// How many bytes a row may have: those of the longest, a meta's.
+/// How many bytes a row may have: those of a meta, or of the headers of five elements.
 pub(crate) const ROW_LEN: usize = 80;
 
 /// The bytes of an element's header.
@@ -74,17 +74,16 @@ pub(crate) fn header(number: u64, flags: u16, count: u16, overflow: u32) -> Row
     row
 }
 
-/// The header of a leaf's element with a key and a value of these lengths.
+/// Adds the header of a leaf's element with a key and a value of these lengths.
 #[tactic(auto, unfolding(crate::specs::PageBytes::leaf_header))]
-pub(crate) fn leaf_element_header(pos: u32, is_bucket: bool, key: u32, value: u32) -> Row
+pub(crate) fn push_leaf_header(row: &mut Row, pos: u32, is_bucket: bool, key: u32, value: u32)
+    requires { length row.old.items + ELEMENT_LEN ≤ ROW_LEN }
     ensures { (e : LeafElement) → e.is_bucket ≡ is_bucket → length e.key ≡ key → length e.value ≡ value
-        → result.items ≡ leaf_header pos e }
+        → row.new.items ≡ row.old.items ++ leaf_header pos e }
 {
     let flags = if is_bucket { BUCKET_FLAGS } else { 0 };
-    let mut row = Row::new();
-    push_u32(&mut row, flags);
-    push_u32(&mut row, pos);
-    push_u32(&mut row, key);
-    push_u32(&mut row, value);
-    row
+    push_u32(row, flags);
+    push_u32(row, pos);
+    push_u32(row, key);
+    push_u32(row, value);
 }

@@ -67,6 +67,10 @@ pub found_none : (found : Option Leaf) → is_some found ≡ false → found ≡
 found_none (Some leaf) e = absurd (cc)
 found_none None e = refl
 
+pub found_some : (found : Option Leaf) → is_some found ≡ true → (leaf : Leaf) × (found ≡ Some leaf)
+found_some None some = absurd (cc)
+found_some (Some leaf) some = (leaf, refl)
+
 -- The moves of a trail within one bucket, which is still the same after them, as moves of a cursor over the bucket's entries.
 module _ (bucket other : BucketView) (same : other ≡ bucket) (is : ∥ IsSoundBucket bucket ∥₁) (found : Option Leaf) (new : List Frame) (stack : HasStack other new) where
   abbrev MovesTo : (List LeafElement → Place → Move) → Place → Place → Type 0

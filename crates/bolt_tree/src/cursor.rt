@@ -13,7 +13,7 @@ ghost use Rattle.bolt_tree.specs.Starts.{HasStart, start_at};
 
 use crate::at::At;
 use crate::pager::Pager;
-use crate::position::{Position, Stack};
+use crate::position::{Position, Stack, set_positions};
 use crate::trail::Trail;
 use bolt_format::Leaf;
 
@@ -25,6 +25,8 @@ pub struct Cursor<'a> {
     trail: Trail<'a>,
     is_past: bool,
     compared: u64,
+    /// Room for a copy of the positions.
+    spare: Stack<'a>,
     ghost held: { ∥ IsHeld trail is_past ∥₁ },
 }
 
@@ -52,6 +54,7 @@ impl<'a> Cursor<'a> {
             trail,
             is_past: false,
             compared: 0,
+            spare: Stack::new(),
         }
     }
 
@@ -74,14 +77,9 @@ impl<'a> Cursor<'a> {
         requires { ∥ IsKept (cursor_checked self.old) at is_past positions.now ∥₁ }
         ensures { cursor_view self.new ≡ kept_view (cursor_checked self.old) at.entry is_past positions.now }
     {
-        self.trail.stack.clear();
-        match self.trail.stack.try_extend_from_slice(positions) {
-            Ok(()) => {
-                self.trail.at = at;
-                self.is_past = is_past;
-            }
-            Err(_) => unreachable!(),
-        }
+        set_positions(&mut self.trail.stack, positions);
+        self.trail.at = at;
+        self.is_past = is_past;
     }
 
     /// Where its bucket's tree begins.
@@ -173,7 +171,7 @@ impl<'a> Cursor<'a> {
             self.compared = compared;
             return found;
         }
-        self.trail.next()
+        self.trail.next(&mut self.spare)
     }
 
     /// Moves to the entry before, and answers its element. It stays where it is if there is none.
@@ -196,7 +194,7 @@ impl<'a> Cursor<'a> {
             }
             return found;
         }
-        self.trail.prev()
+        self.trail.prev(&mut self.spare)
     }
 
     /// Moves to the first entry whose key is not below `key`, and answers its element, or moves

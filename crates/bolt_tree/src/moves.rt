@@ -10,7 +10,7 @@ ghost use Rattle.bolt_tree.specs.Pagers.{counted, pager_opened};
 ghost use Rattle.bolt_tree.specs.Places.{least_from};
 ghost use Rattle.bolt_tree.specs.Private.Stacks.{IsAtRest, IsOn, here_of};
 
-use crate::position::copy_of;
+use crate::position::{Stack, set_positions};
 use crate::trail::Trail;
 use bolt_format::Leaf;
 
@@ -53,8 +53,8 @@ impl<'a> Trail<'a> {
         self.retreat()
     }
 
-    /// Moves on to the next entry. Where there is none, it stays.
-    pub fn next(&mut self) -> Option<Leaf<'a>>
+    /// Moves on to the next entry. Where there is none, it stays. What lies on `spare` is lost.
+    pub fn next(&mut self, spare: &mut Stack<'a>) -> Option<Leaf<'a>>
         requires stack { HasTrail self.old }
         requires rest { IsAtRest (trail_frames self.old) }
         ensures same { IsSameBucket self.old self.new }
@@ -65,15 +65,18 @@ impl<'a> Trail<'a> {
         ensures bucket { IfSome result (λ leaf. IsTrue leaf.is_bucket → IsBucketValue leaf.value.now) }
         ensures opened { pager_opened self.new.pager ≡ counted (pager_opened self.old.pager) (length (right self.old) - opened_to (option_map leaf_view result) (right self.new)) }
     {
-        match self.next_here() {
-            Some(leaf) => Some(leaf),
-            None if self.stack.len() < 2 => None,
-            None => self.next_further(),
+        let found = self.next_here();
+        if found.is_some() {
+            return found;
         }
+        if self.stack.len() < 2 {
+            return None;
+        }
+        self.next_further(spare)
     }
 
-    /// Moves back to the entry before. Where there is none, it stays.
-    pub fn prev(&mut self) -> Option<Leaf<'a>>
+    /// Moves back to the entry before. Where there is none, it stays. What lies on `spare` is lost.
+    pub fn prev(&mut self, spare: &mut Stack<'a>) -> Option<Leaf<'a>>
         requires stack { HasTrail self.old }
         requires rest { IsAtRest (trail_frames self.old) }
         ensures same { IsSameBucket self.old self.new }
@@ -85,7 +88,7 @@ impl<'a> Trail<'a> {
     {
         match self.prev_here() {
             Some(leaf) => Some(leaf),
-            None => self.prev_further(),
+            None => self.prev_further(spare),
         }
     }
 
@@ -155,7 +158,7 @@ impl<'a> Trail<'a> {
 
     /// Moves on to the next entry, over the leaf's end. Where there is none, it puts its stack
     /// back as it was.
-    fn next_further(&mut self) -> Option<Leaf<'a>>
+    fn next_further(&mut self, spare: &mut Stack<'a>) -> Option<Leaf<'a>>
         requires stack { HasTrail self.old }
         requires rest { IsAtRest (trail_frames self.old) }
         ensures same { IsSameBucket self.old self.new }
@@ -166,11 +169,11 @@ impl<'a> Trail<'a> {
         ensures bucket { IfSome result (λ leaf. IsTrue leaf.is_bucket → IsBucketValue leaf.value.now) }
         ensures opened { pager_opened self.new.pager ≡ counted (pager_opened self.old.pager) (length (right self.old) - opened_to (option_map leaf_view result) (right self.new)) }
     {
-        let kept = copy_of(&self.stack);
+        set_positions(spare, self.stack.as_slice());
         match self.advance() {
             Some(leaf) => Some(leaf),
             None => {
-                self.stack = kept;
+                set_positions(&mut self.stack, spare.as_slice());
                 None
             }
         }
@@ -178,7 +181,7 @@ impl<'a> Trail<'a> {
 
     /// Moves back to the entry before, over the leaf's beginning. Where there is none, it puts its
     /// stack back as it was.
-    fn prev_further(&mut self) -> Option<Leaf<'a>>
+    fn prev_further(&mut self, spare: &mut Stack<'a>) -> Option<Leaf<'a>>
         requires stack { HasTrail self.old }
         requires rest { IsAtRest (trail_frames self.old) }
         ensures same { IsSameBucket self.old self.new }
@@ -188,11 +191,11 @@ impl<'a> Trail<'a> {
             (λ leaf. (behind self.old ≡ behind self.new ++ leaf_view leaf ∷ []) × IsOn (trail_frames self.new) (leaf_view leaf)) }
         ensures bucket { IfSome result (λ leaf. IsTrue leaf.is_bucket → IsBucketValue leaf.value.now) }
     {
-        let kept = copy_of(&self.stack);
+        set_positions(spare, self.stack.as_slice());
         match self.retreat() {
             Some(leaf) => Some(leaf),
             None => {
-                self.stack = kept;
+                set_positions(&mut self.stack, spare.as_slice());
                 None
             }
         }
