@@ -67,6 +67,7 @@ impl<'a> LeafRun<'a> {
     }
 
     /// Puts the page over the run, and begins the next run. Gives the page's element.
+    #[inline(never)]
     fn close<S: Sink>(
         &mut self,
         bounds: &Bounds,
@@ -163,6 +164,7 @@ impl<'a> OpenBucket<'a> {
 
     /// Room for the next item, by its key and size: it is there, or the leaf closes before any of
     /// the item's pages is put.
+    #[inline(always)]
     pub(crate) fn make_room<S: Sink>(
         &mut self,
         alloc: Global,

@@ -158,6 +158,7 @@ impl<'a> Pass<'a> {
     }
 
     /// Takes a value of the open bucket.
+    #[inline(always)]
     fn put_value<S: Sink>(
         &mut self,
         key: &'a [u8],
@@ -279,6 +280,7 @@ impl<'a> Pass<'a> {
     }
 
     /// Ends the innermost bucket.
+    #[inline(never)]
     fn leave<S: Sink>(&mut self, sink: &mut S) -> Result<(), BulkFault>
         requires ready { IsReady self.old }
         requires within { 1 < depth_of self.old }

@@ -29,6 +29,7 @@ pub(crate) struct Waiting<'a> {
 }
 
 /// Takes a value into the bucket that is open.
+#[inline(always)]
 pub(crate) fn take_value<'a, S: Sink>(
     alloc: Global,
     bounds: &Bounds,

@@ -152,6 +152,7 @@ impl<'a> Cursor<'a> {
     }
 
     /// Moves to the next entry, and answers its element. It stays where it is if there is none.
+    #[inline(always)]
     #[tactic(auto, unfolding(crate::specs::Cursors::cursor_checked, crate::specs::Cursors::cursor_compared, crate::specs::Cursors::cursor_opened, crate::specs::Cursors::cursor_place, crate::specs::Cursors::cursor_start))]
     pub(crate) fn next_element(&mut self) -> Option<Leaf<'a>>
         ensures checked { cursor_checked self.new ≡ cursor_checked self.old }

@@ -54,6 +54,7 @@ impl<'a> Trail<'a> {
     }
 
     /// Moves on to the next entry. Where there is none, it stays. What lies on `spare` is lost.
+    #[inline(always)]
     pub fn next(&mut self, spare: &mut Stack<'a>) -> Option<Leaf<'a>>
         requires stack { HasTrail self.old }
         requires rest { IsAtRest (trail_frames self.old) }
@@ -158,6 +159,7 @@ impl<'a> Trail<'a> {
 
     /// Moves on to the next entry, over the leaf's end. Where there is none, it puts its stack
     /// back as it was.
+    #[inline(never)]
     fn next_further(&mut self, spare: &mut Stack<'a>) -> Option<Leaf<'a>>
         requires stack { HasTrail self.old }
         requires rest { IsAtRest (trail_frames self.old) }

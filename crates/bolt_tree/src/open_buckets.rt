@@ -63,6 +63,7 @@ impl<'a> OpenBuckets<'a> {
 
     /// Opens the bucket that the path names, and comes to its first entry. Where it has none, or
     /// memory runs out, nothing has changed.
+    #[inline(never)]
     fn enter(&mut self, bucket: Bucket<'a>) -> Result<Option<Leaf<'a>>, NoMemory>
         requires placed { IsInPlace self.old }
         requires named { IsNamed self.old bucket }
@@ -187,6 +188,7 @@ impl<'a> OpenBuckets<'a> {
 
     /// Comes to the next entry behind all that the path begins, and closes the buckets that have
     /// none.
+    #[inline(always)]
     pub fn climb(&mut self) -> Option<Leaf<'a>>
         requires { IsInPlace self.old }
         ensures checked { self.new.cursors.checked ≡ self.old.cursors.checked }

@@ -136,6 +136,7 @@ impl<'a> OpenCursors<'a> {
     }
 
     /// Moves the innermost cursor to its next entry. It stays where it is if there is none.
+    #[inline(always)]
     pub fn next_element(&mut self) -> Option<Leaf<'a>>
         requires { cursors_of self.old ≡ [] → ⊥ }
         ensures checked { self.new.checked ≡ self.old.checked }
@@ -149,6 +150,7 @@ impl<'a> OpenCursors<'a> {
     }
 
     /// Drops the innermost cursor. The one around it stands where it stood.
+    #[inline(never)]
     pub fn pop(&mut self)
         ensures checked { self.new.checked ≡ self.old.checked }
         ensures cursors { (outer : List CursorView) (last : CursorView) → cursors_of self.old ≡ outer ++ last ∷ [] → cursors_of self.new ≡ outer }
