@@ -89,16 +89,20 @@ fn refused_words(rt: HostRuntime) -> Result<(), Fail> {
     Ok(())
 }
 
-/// The words ask for a job on this file.
+/// The words, with this file for FILE, ask for a job on it.
 fn check_file(
     rt: &impl Abort,
     alloc: Global,
     words: &[&str],
     file: &str,
 ) -> Result<(), AllocError> {
-    match read_words(alloc, words_of(alloc, words)?) {
-        Ok(job) => assert!(rt; job.file() == file, "the file of {words:?}"),
-        Err(_) => assert!(rt; false, "{words:?} are refused"),
+    let mut said = Vec::new(alloc);
+    for word in words {
+        said.push(if *word == "FILE" { file } else { *word })?;
+    }
+    match read_words(alloc, words_of(alloc, said.as_slice())?) {
+        Ok(job) => assert!(rt; job.file() == file, "the file {file:?} of {words:?}"),
+        Err(_) => assert!(rt; false, "{words:?} are refused for the file {file:?}"),
     }
     Ok(())
 }
@@ -142,6 +146,28 @@ fn target_words(rt: HostRuntime) -> Result<(), Fail> {
     Ok(())
 }
 
+/// Lines of each command, on any file.
+static FILE_LINES: [&'static [&'static str]; 11] = [
+    &["info", "FILE"],
+    &["page", "FILE", "3"],
+    &["pages", "FILE"],
+    &["check", "FILE"],
+    &["buckets", "--form", "hex", "FILE"],
+    &["keys", "FILE", "--parts", "hex", "00", ""],
+    &["get", "FILE", "", "-"],
+    &["list", "--from", "00/fF", "FILE"],
+    &["list", "--meta=1", "FILE"],
+    &["stats", "FILE", "--meta", "0"],
+    &["compact", "-o", "out.db", "FILE"],
+];
+
+/// Lines with two hyphens, behind which a word is an operand, whatever it begins with.
+static OPERAND_LINES: [&'static [&'static str]; 3] = [
+    &["buckets", "--", "FILE"],
+    &["buckets", "--form", "hex", "--", "FILE"],
+    &["keys", "--", "FILE", "--parts"],
+];
+
 #[test]
 fn file_words(rt: HostRuntime) -> Result<(), Fail> {
     let alloc = rt.alloc();
@@ -151,28 +177,14 @@ fn file_words(rt: HostRuntime) -> Result<(), Fail> {
     }
     assert_eq!(rt; long.len(), 4096);
     for file in ["", "-", "buckets", "\u{663}", long.as_str()] {
-        check_file(&rt, alloc, &["info", file], file)?;
-        check_file(&rt, alloc, &["page", file, "3"], file)?;
-        check_file(&rt, alloc, &["pages", file], file)?;
-        check_file(&rt, alloc, &["check", file], file)?;
-        check_file(&rt, alloc, &["buckets", "--form", "hex", file], file)?;
-        check_file(
-            &rt,
-            alloc,
-            &["keys", file, "--parts", "hex", "00", ""],
-            file,
-        )?;
-        check_file(&rt, alloc, &["get", file, "", "-"], file)?;
-        check_file(&rt, alloc, &["list", "--from", "00/fF", file], file)?;
-        check_file(&rt, alloc, &["list", "--meta=1", file], file)?;
-        check_file(&rt, alloc, &["stats", file, "--meta", "0"], file)?;
-        check_file(&rt, alloc, &["compact", "-o", "out.db", file], file)?;
+        for words in &FILE_LINES {
+            check_file(&rt, alloc, words, file)?;
+        }
     }
-    // Behind two hyphens a word is an operand, whatever it begins with.
     for file in ["--form", "--form=hex", "--help", "--"] {
-        check_file(&rt, alloc, &["buckets", "--", file], file)?;
-        check_file(&rt, alloc, &["buckets", "--form", "hex", "--", file], file)?;
-        check_file(&rt, alloc, &["keys", "--", file, "--parts"], file)?;
+        for words in &OPERAND_LINES {
+            check_file(&rt, alloc, words, file)?;
+        }
     }
     Ok(())
 }
