@@ -1,12 +1,12 @@
 //! Rows of the command `buckets` on sound files.
 
-use crate::commands::{BUCKETS, FileRow, Outcome, Row, check_files, check_row, check_rows};
-use crate::samples::{self, WITHOUT_FIRST_META};
 use Content::{Branch, Leaf};
 use Element::{Bucket, Value};
 use Outcome::{Prints, PrintsBytes};
-use format_rows::maker::{Element, FRESH, MetaFields, NO_FREELIST, flip, meta_page, patch};
-use format_rows::samples::{
+use command_runs::commands::{BUCKETS, FileRow, Outcome, Row, check_files, check_row, check_rows};
+use sample_files::command_samples::{self, WITHOUT_FIRST_META};
+use sample_files::maker::{Element, FRESH, MetaFields, NO_FREELIST, flip, meta_page, patch};
+use sample_files::samples::{
     BRANCH_ROOT, Content, EMPTY_BUCKET, FRESH_FILE, INLINE_BUCKET, Sample, empty_leaf, make,
     two_buckets,
 };
@@ -87,9 +87,9 @@ fn printed_names(rt: HostRuntime) -> Result<(), Fail> {
     let alloc = rt.alloc();
     let file = two_buckets(alloc)?;
     check(&rt, alloc, "two buckets", file, "a\naa\n")?;
-    let file = samples::names(alloc)?;
+    let file = command_samples::names(alloc)?;
     check(&rt, alloc, "a name of a zero byte", file, "00\na\n")?;
-    let file = samples::empty_buckets(alloc, &NAMES)?;
+    let file = command_samples::empty_buckets(alloc, &NAMES)?;
     check(&rt, alloc, "printable and other names", file, NAME_LINES)?;
     let lines = long_lines(alloc)?;
     check(&rt, alloc, "long names", long_names(alloc)?, lines.as_str())?;
@@ -123,9 +123,9 @@ static FORM_ROWS: [Row<'static>; 7] = [
 #[test]
 fn forms(rt: HostRuntime) -> Result<(), Fail> {
     let alloc = rt.alloc();
-    let file = samples::names(alloc)?;
+    let file = command_samples::names(alloc)?;
     check_rows(&rt, alloc, "two names", file.as_slice(), &FORM_ROWS)?;
-    let file = samples::empty_buckets(alloc, &NAMES)?;
+    let file = command_samples::empty_buckets(alloc, &NAMES)?;
     let rows: [Row<'_>; 2] = [
         (&["buckets", "FILE", "--form", "hex"], Prints(NAMES_IN_HEX)),
         (
@@ -139,7 +139,7 @@ fn forms(rt: HostRuntime) -> Result<(), Fail> {
 
 /// Names of 300 bytes each, one printable and one not.
 fn long_names(alloc: Global) -> Result<Vec<u8>, AllocError> {
-    samples::empty_buckets(alloc, &[&[b'n'; 300], &[0xAB; 300]])
+    command_samples::empty_buckets(alloc, &[&[b'n'; 300], &[0xAB; 300]])
 }
 
 fn long_lines(alloc: Global) -> Result<String, AllocError> {
@@ -166,9 +166,15 @@ static PAIRS: [(&'static str, [u64; 2], &'static str); 3] = [
 fn two_states(rt: HostRuntime) -> Result<(), Fail> {
     let alloc = rt.alloc();
     for (name, txids, text) in &PAIRS {
-        check(&rt, alloc, name, samples::pair(alloc, *txids)?, text)?;
+        check(
+            &rt,
+            alloc,
+            name,
+            command_samples::pair(alloc, *txids)?,
+            text,
+        )?;
     }
-    let mut file = samples::pair(alloc, [2, 1])?;
+    let mut file = command_samples::pair(alloc, [2, 1])?;
     flip(&mut file, 72);
     check(&rt, alloc, "a bit of the first checksum", file, "z\n")?;
     Ok(())

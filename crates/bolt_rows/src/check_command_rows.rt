@@ -1,18 +1,18 @@
-//! Rows of the command `check`, and of the call below it.
+//! Rows of the command `check`.
 
-use crate::commands::{CHECK, FileRow, Outcome, check_files, check_job, check_refused, check_row};
-use crate::samples::{
-    self, BRANCH_TO_ITSELF, GREATEST_OVERFLOW, OTHER_CHECKSUM, WITHOUT_FIRST_META, WITHOUT_FREELIST,
-};
 use Content::{Branch, Freelist, Inline, Leaf};
 use Element::Value;
 use Outcome::Prints;
-use bolt_check::{CheckFault, Checked, Finding, check};
 use bolt_cli::Job;
-use bolt_format::{Meta, MetaFault, PageFault};
-use format_rows::free_files;
-use format_rows::maker::{Element, FRESH, MetaFields};
-use format_rows::samples::{
+use command_runs::commands::{
+    CHECK, FileRow, Outcome, check_files, check_job, check_refused, check_row,
+};
+use sample_files::command_samples::{
+    BRANCH_TO_ITSELF, GREATEST_OVERFLOW, OTHER_CHECKSUM, WITHOUT_FIRST_META, WITHOUT_FREELIST,
+};
+use sample_files::free_files;
+use sample_files::maker::{Element, FRESH, MetaFields};
+use sample_files::samples::{
     BRANCH_ROOT, Content, FRESH_FILE, INLINE_BUCKET, Sample, chain, forty_values, make,
     nested_buckets,
 };
@@ -392,73 +392,5 @@ fn many_free_pages(rt: HostRuntime) -> Result<(), Fail> {
     let file = free_files::many_free_pages(alloc, ids.as_slice())?;
     let text = "page 132: freed twice\npage 133: unreachable unfreed\n2 errors found\n";
     check_refused(&rt, alloc, "the first of them twice", file.as_slice(), text)?;
-    Ok(())
-}
-
-/// Files that the call refuses for their metas, their trees and their freelist.
-static UNOPENED: Sample<'static> = Sample {
-    fields: MetaFields {
-        version: 1,
-        ..FRESH
-    },
-    ..FRESH_FILE
-};
-
-static UNSOUND: Sample<'static> = GREATEST_OVERFLOW;
-
-static UNACCOUNTED: Sample<'static> = FIVE_PAGES;
-
-static TOLD: [Finding; 1] = [Finding {
-    number: Finding::UNREACHABLE,
-    page: 4,
-    last: 4,
-}];
-
-fn fault_of(alloc: Global, sample: &Sample<'_>) -> Result<Option<CheckFault>, AllocError> {
-    let file = make(alloc, sample)?;
-    Ok(check(alloc, file.as_slice()).err())
-}
-
-#[test]
-fn faults_of_the_call(rt: HostRuntime) -> Result<(), Fail> {
-    match fault_of(rt.alloc(), &UNOPENED)? {
-        Some(CheckFault::Open(fault)) => assert_eq!(rt; fault, MetaFault::Version),
-        _ => assert!(rt; false, "no meta is valid"),
-    }
-    match fault_of(rt.alloc(), &UNSOUND)? {
-        Some(CheckFault::Structure(finding)) => {
-            assert_eq!(rt; finding, Finding::of_page(PageFault::RANGE, 3));
-        }
-        _ => assert!(rt; false, "the trees are not sound"),
-    }
-    match fault_of(rt.alloc(), &UNACCOUNTED)? {
-        Some(CheckFault::Accounts(told)) => assert_eq!(rt; told.as_slice(), TOLD.as_slice()),
-        _ => assert!(rt; false, "the accounts are wrong"),
-    }
-    Ok(())
-}
-
-/// What the call shows of the fresh file.
-fn check_shown(rt: &impl Abort, checked: Checked<'_>, file: &[u8]) {
-    let meta = Meta {
-        page_size: 4096,
-        root: 3,
-        root_sequence: 0,
-        freelist: 2,
-        high_water: 4,
-        txid: 1,
-    };
-    assert!(rt; checked.meta() == meta, "the meta in force");
-    assert!(rt; checked.bytes() == file, "the bytes of the file");
-    assert!(rt; checked.accounts(), "the accounts are left out");
-}
-
-#[test]
-fn checked_file(rt: HostRuntime) -> Result<(), Fail> {
-    let file = samples::fresh(rt.alloc(), 4096)?;
-    match check(rt.alloc(), file.as_slice()) {
-        Ok(checked) => check_shown(&rt, checked, file.as_slice()),
-        Err(_) => assert!(rt; false, "the fresh file is sound"),
-    }
     Ok(())
 }

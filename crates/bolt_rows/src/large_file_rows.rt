@@ -1,12 +1,12 @@
 //! Rows of `check` on files of 64 MB, and on one with two thousand findings.
 
-use crate::commands::{CHECK, Outcome, check_refused, check_row};
 use Outcome::Prints;
-use format_rows::free_files::numbers;
-use format_rows::maker::{
+use command_runs::commands::{CHECK, Outcome, check_refused, check_row};
+use sample_files::free_files::numbers;
+use sample_files::maker::{
     MetaFields, NO_FREELIST, database, freelist, leaf, long_freelist, meta_page, patch,
 };
-use format_rows::samples::{FRESH_FILE, Sample, make};
+use sample_files::samples::{FRESH_FILE, Sample, make};
 use std::alloc::{AllocError, Global};
 use std::test::Fail;
 

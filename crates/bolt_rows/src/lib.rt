@@ -1,5 +1,5 @@
-//! Tests of commands: worked rows of what command lines answer. The crate has nothing beside its
-//! tests.
+//! Tests of commands: worked rows of what command lines answer, but for those of copies. The crate
+//! has nothing beside its tests.
 #![tactic(auto)]
 
 #[cfg(test)]
@@ -7,23 +7,15 @@ mod bucket_command_rows;
 #[cfg(test)]
 mod check_command_rows;
 #[cfg(test)]
-mod commands;
-#[cfg(test)]
-mod compact_command_rows;
-#[cfg(test)]
 mod large_file_rows;
 #[cfg(test)]
-mod large_page_rows;
+mod line_rows;
 #[cfg(test)]
 mod meta_option_rows;
 #[cfg(test)]
 mod page_command_rows;
 #[cfg(test)]
-mod page_size_rows;
-#[cfg(test)]
 mod refused_rows;
-#[cfg(test)]
-mod samples;
 #[cfg(test)]
 mod tree_command_rows;
 #[cfg(test)]

@@ -1,10 +1,10 @@
 //! Rows of the option `--meta`, by which a file is read under the meta of a slot.
 
-use crate::commands::{Outcome, Row, check_row, check_rows};
-use crate::samples::{OTHER_CHECKSUM, WITHOUT_FIRST_META, pair};
 use Outcome::{Fails, Prints, Refused};
-use format_rows::maker::{FRESH, MetaFields, patch};
-use format_rows::samples::{FRESH_FILE, INLINE_BUCKET, Sample, make};
+use command_runs::commands::{Outcome, Row, check_row, check_rows};
+use sample_files::command_samples::{OTHER_CHECKSUM, WITHOUT_FIRST_META, pair};
+use sample_files::maker::{FRESH, MetaFields, patch};
+use sample_files::samples::{FRESH_FILE, INLINE_BUCKET, Sample, make};
 use std::test::Fail;
 
 const LIST_ZERO: &[&str] = &["list", "FILE", "--meta", "0"];

@@ -1,19 +1,19 @@
 //! Rows of the commands `info` and `page`.
 
-use crate::commands::{
-    FileRow, INFO, Outcome, PAGE_THREE, Row, check_files, check_row, check_rows,
-};
-use crate::samples::{
-    self, BRANCH_TO_ITSELF, GREATEST_OVERFLOW, OTHER_CHECKSUM, WITHOUT_FIRST_META, WITHOUT_FREELIST,
-};
 use Element::{Bucket, Value};
 use Outcome::{Fails, Prints};
-use format_rows::free_files;
-use format_rows::maker::{
+use command_runs::commands::{
+    FileRow, INFO, Outcome, PAGE_THREE, Row, check_files, check_row, check_rows,
+};
+use sample_files::command_samples::{
+    self, BRANCH_TO_ITSELF, GREATEST_OVERFLOW, OTHER_CHECKSUM, WITHOUT_FIRST_META, WITHOUT_FREELIST,
+};
+use sample_files::free_files;
+use sample_files::maker::{
     BRANCH_FLAGS, Element, FRESH, LEAF_FLAGS, MetaFields, PageHeader, branch_with, database,
     database_of, freelist, leaf, leaf_with, reference,
 };
-use format_rows::samples::{BRANCH_ROOT, FRESH_FILE, INLINE_BUCKET, Sample, with_root};
+use sample_files::samples::{BRANCH_ROOT, FRESH_FILE, INLINE_BUCKET, Sample, with_root};
 use std::alloc::{AllocError, Global};
 use std::test::Fail;
 
@@ -141,7 +141,7 @@ static THIRD_PAGES: [FileRow<'static>; 4] = [
 #[test]
 fn pages(rt: HostRuntime) -> Result<(), Fail> {
     let alloc = rt.alloc();
-    let file = samples::fresh(alloc, 4096)?;
+    let file = command_samples::fresh(alloc, 4096)?;
     let rows = &FRESH_PAGES;
     check_rows(&rt, alloc, "the fresh file", file.as_slice(), rows)?;
     check_files(&rt, alloc, &["page", "FILE", "0"], &FIRST_PAGES)?;
@@ -238,7 +238,7 @@ fn freelist_texts(rt: HostRuntime) -> Result<(), Fail> {
         ("125 ids in the long form", 125, true, true),
     ];
     for (name, count, is_long, fits) in rows {
-        let file = samples::free_pages(alloc, count, is_long)?;
+        let file = command_samples::free_pages(alloc, count, is_long)?;
         let text = freelist_text(alloc, 4, count, 0)?;
         let want = if fits {
             Prints(text.as_str())

@@ -1,13 +1,13 @@
 //! Rows of files that no command reads, for their metas, and of files whose root page, page 3, is
 //! refused.
 
-use crate::commands::{BUCKETS, CHECK, INFO, Outcome, PAGE_THREE, check_refused, check_row};
-use crate::samples::{self, GREATEST_OVERFLOW};
 use Content::{Inline, Leaf};
 use Element::{Bucket, Value};
 use Outcome::Fails;
-use format_rows::maker::{Element, FRESH, MetaFields, flip};
-use format_rows::samples::{
+use command_runs::commands::{BUCKETS, CHECK, INFO, Outcome, PAGE_THREE, check_refused, check_row};
+use sample_files::command_samples::{self, GREATEST_OVERFLOW};
+use sample_files::maker::{Element, FRESH, MetaFields, flip};
+use sample_files::samples::{
     Content, FRESH_FILE, INLINE_BUCKET, Sample, forty_values, make, with_root,
 };
 use std::alloc::{AllocError, Global};
@@ -59,7 +59,7 @@ fn refused_metas(rt: HostRuntime) -> Result<(), Fail> {
         check_metas(&rt, alloc, "a cut file", file.as_slice(), "file too short")?;
     }
     check_metas(&rt, alloc, "zeros", &[0; 80], "invalid database")?;
-    let mut file = samples::fresh(alloc, 1024)?;
+    let mut file = command_samples::fresh(alloc, 1024)?;
     flip(&mut file, 72);
     flip(&mut file, 1024 + 72);
     check_metas(
@@ -74,7 +74,7 @@ fn refused_metas(rt: HostRuntime) -> Result<(), Fail> {
         check_metas(&rt, alloc, name, file.as_slice(), line)?;
     }
     for page_size in &PAGE_SIZES {
-        let file = samples::told_page_size(alloc, *page_size)?;
+        let file = command_samples::told_page_size(alloc, *page_size)?;
         let line = "page size refused";
         check_metas(&rt, alloc, "a page size", file.as_slice(), line)?;
     }

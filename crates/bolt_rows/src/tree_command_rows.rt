@@ -1,11 +1,11 @@
 //! Rows of the commands `keys`, `get`, `list`, `pages` and `stats`.
 
-use crate::commands::{FileRow, Outcome, Row, check_files, check_row, check_rows};
-use crate::samples::{GREATEST_OVERFLOW, WITHOUT_FREELIST};
 use Element::{Bucket, Value};
 use Outcome::{Fails, Prints, PrintsBytes};
-use format_rows::maker::{Element, FRESH, MetaFields, NO_FREELIST, inline};
-use format_rows::samples::{
+use command_runs::commands::{FileRow, Outcome, Row, check_files, check_row, check_rows};
+use sample_files::command_samples::{GREATEST_OVERFLOW, WITHOUT_FREELIST};
+use sample_files::maker::{Element, FRESH, MetaFields, NO_FREELIST, inline};
+use sample_files::samples::{
     BRANCH_ROOT, FRESH_FILE, INLINE_BUCKET, Sample, forty_values, make, two_buckets, with_root,
 };
 use std::test::Fail;

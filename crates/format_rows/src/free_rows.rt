@@ -1,8 +1,10 @@
 //! Rows of freelists.
 
-use crate::free_files::{many_free_pages, numbers};
-use crate::maker::{MetaFields, NO_FREELIST, database, freelist, leaf, long_freelist, patch};
 use bolt_format::{PageFault, choose, free_ids};
+use sample_files::free_files::{many_free_pages, numbers};
+use sample_files::maker::{
+    MetaFields, NO_FREELIST, database, freelist, leaf, long_freelist, patch,
+};
 use std::alloc::{AllocError, Global};
 use std::process::Abort;
 use std::test::Fail;
@@ -13,10 +15,11 @@ fn check_ids(rt: &impl Abort, name: &str, file: &[u8], want: Result<&[u64], Page
     match free_ids(file, &meta) {
         Ok(Some(found)) => {
             let ids = want.expect(rt, "a fault");
-            assert_eq!(rt; found.len(), ids.len(), "the number of ids, {name}");
-            assert_eq!(rt; found.is_empty(), ids.is_empty(), "{name}");
+            let is_long = found.len() == ids.len() && found.is_empty() == ids.is_empty();
+            assert!(rt; is_long, "the number of ids, {name}");
             for i in 0..found.len() {
-                assert_eq!(rt; Some(found.get(i)), ids.get(i).copied(), "id {i}, {name}");
+                let is_wanted = Some(found.get(i)) == ids.get(i).copied();
+                assert!(rt; is_wanted, "id {i}, {name}");
             }
         }
         Ok(None) => assert!(rt; false, "no freelist, {name}"),

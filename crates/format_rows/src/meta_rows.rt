@@ -1,8 +1,10 @@
 //! Rows of the checksum, of the accepted page sizes, of the meta records and of the choice between
 //! them.
 
-use crate::maker::{FRESH, MetaFields, NO_FREELIST, database, database_of, flip, meta_page, patch};
 use bolt_format::{Meta, MetaFault, Slot, choose, fnv1a, meta_at, page_size_ok};
+use sample_files::maker::{
+    FRESH, MetaFields, NO_FREELIST, database, database_of, flip, meta_page, patch,
+};
 use std::alloc::{AllocError, Global};
 use std::process::Abort;
 use std::test::Fail;
@@ -87,23 +89,13 @@ fn fresh_meta(rt: HostRuntime) -> Result<(), Fail> {
         high_water: 4,
         txid: 1,
     };
-    assert_eq!(rt; meta_at(page.as_slice(), 0), Ok(want), "at byte 0");
-    assert_eq!(rt;
-        choose(page.as_slice()),
-        Ok((Slot::Zero, want)),
-        "alone at byte 0"
-    );
+    let page = page.as_slice();
+    let is_told = meta_at(page, 0) == Ok(want) && choose(page) == Ok((Slot::Zero, want));
+    assert!(rt; is_told, "alone at byte 0");
     let bytes = database(alloc, 4, &MetaFields::fresh(4096), &[])?;
-    assert_eq!(rt;
-        meta_at(bytes.as_slice(), 4096),
-        Ok(want),
-        "at the second page"
-    );
-    assert_eq!(rt;
-        choose(bytes.as_slice()),
-        Ok((Slot::One, want)),
-        "of the two"
-    );
+    let bytes = bytes.as_slice();
+    let is_told = meta_at(bytes, 4096) == Ok(want) && choose(bytes) == Ok((Slot::One, want));
+    assert!(rt; is_told, "at the second page, and of the two");
     Ok(())
 }
 
@@ -383,12 +375,12 @@ fn cut_metas(rt: HostRuntime) -> Result<(), Fail> {
     let want = Ok((Slot::Zero, told(&fields)));
     let mut bytes = database(rt.alloc(), 4, &fields, &[])?;
     for at in [1, 1008, 4016] {
-        let fault = Err(MetaFault::Magic);
-        assert_eq!(rt; meta_at(bytes.as_slice(), at), fault, "at byte {at}");
+        let fault = meta_at(bytes.as_slice(), at).err();
+        assert!(rt; fault == Some(MetaFault::Magic), "at byte {at}");
     }
     for at in [4017, 4096, 4097, usize::MAX - 79, usize::MAX] {
-        let fault = Err(MetaFault::Cut);
-        assert_eq!(rt; meta_at(bytes.as_slice(), at), fault, "at byte {at}");
+        let fault = meta_at(bytes.as_slice(), at).err();
+        assert!(rt; fault == Some(MetaFault::Cut), "at byte {at}");
     }
     // One byte too few for the second meta, and then fewer.
     for length in [1103, 1102, 80] {
@@ -397,8 +389,8 @@ fn cut_metas(rt: HostRuntime) -> Result<(), Fail> {
     }
     for length in [79, 16, 1, 0] {
         bytes.truncate(length);
-        let fault = Err(MetaFault::Cut);
-        assert_eq!(rt; choose(bytes.as_slice()), fault, "{length} bytes");
+        let fault = choose(bytes.as_slice()).err();
+        assert!(rt; fault == Some(MetaFault::Cut), "{length} bytes");
     }
     Ok(())
 }

@@ -1,12 +1,12 @@
 //! Rows of good pages: what is read back of them is what the maker placed.
 
-use crate::maker::{
-    BRANCH_FLAGS, Element, LEAF_FLAGS, MetaFields, PageHeader, branch, branch_with, database,
-    freelist, inline, leaf, leaf_with, patch, reference,
-};
 use Element::{Bucket, Value};
 use bolt_format::{
     Head, Inline, Kind, Leaf, Meta, Page, choose, head, inline as inline_of, known, page,
+};
+use sample_files::maker::{
+    BRANCH_FLAGS, Element, LEAF_FLAGS, MetaFields, PageHeader, branch, branch_with, database,
+    freelist, inline, leaf, leaf_with, patch, reference,
 };
 use std::alloc::{AllocError, Global};
 use std::process::Abort;
@@ -27,9 +27,11 @@ enum Shown<'a> {
 use Shown::{Held, Plain};
 
 fn check_value(rt: &impl Abort, found: Leaf<'_>, key: &[u8], value: &[u8]) {
-    assert_eq!(rt; found.key, key, "a key");
-    assert_eq!(rt; found.value, value, "a value");
-    assert!(rt; !found.is_bucket, "the kind of a value");
+    let is_wanted = found.key == key && found.value == value && !found.is_bucket;
+    assert!(rt;
+        is_wanted,
+        "{found:?} is found, and not {key:?} with {value:?}"
+    );
 }
 
 fn check_inline(rt: &impl Abort, found: Inline<'_>, want: Values<'_>) {
@@ -71,12 +73,8 @@ fn check_element(rt: &impl Abort, found: Page<'_>, i: u16, want: Shown<'_>) {
 }
 
 fn check_leaves(rt: &impl Abort, found: Page<'_>, overflow: u32, want: &[Shown<'_>]) {
-    assert_eq!(rt;
-        usize::from(found.count()),
-        want.len(),
-        "the count of a leaf page"
-    );
-    assert_eq!(rt; found.overflow(), overflow, "the overflow of a leaf page");
+    let is_wanted = usize::from(found.count()) == want.len() && found.overflow() == overflow;
+    assert!(rt; is_wanted, "the count or the overflow of a leaf page");
     for i in 0..found.count() {
         if let Some(shown) = want.get(usize::from(i)) {
             check_element(rt, found, i, *shown);
@@ -86,18 +84,17 @@ fn check_leaves(rt: &impl Abort, found: Page<'_>, overflow: u32, want: &[Shown<'
 
 fn check_branches(rt: &impl Abort, found: Page<'_>, overflow: u32, want: &[(&[u8], u64)]) {
     assert_eq!(rt; found.kind(), Kind::Branch, "the kind of a branch page");
-    assert_eq!(rt;
-        usize::from(found.count()),
-        want.len(),
-        "the count of a branch page"
-    );
-    assert_eq!(rt; found.overflow(), overflow, "the overflow of a branch page");
+    let is_wanted = usize::from(found.count()) == want.len() && found.overflow() == overflow;
+    assert!(rt; is_wanted, "the count or the overflow of a branch page");
     for i in 0..found.count() {
         assert!(rt; found.kind() == Kind::Branch);
         let branch = found.branch(i);
         if let Some((key, child)) = want.get(usize::from(i)) {
-            assert_eq!(rt; branch.key, *key, "the key of branch element {i}");
-            assert_eq!(rt; branch.child, *child, "the child of {key:?}");
+            let is_wanted = branch.key == *key && branch.child == *child;
+            assert!(rt;
+                is_wanted,
+                "{branch:?} is found, and not {key:?} to {child}"
+            );
         }
     }
 }

@@ -1,7 +1,7 @@
 //! Rows of sinks: one over a writer that fails, one over a healthy writer, and one in memory.
 
-use crate::halting::{Halting, Refusal};
 use bolt_format::{MemSink, Sink, SinkFault, WriteSink};
+use sample_files::halting::{Halting, Refusal};
 use std::alloc::{AllocError, Global};
 use std::io::{self, ErrorKind};
 use std::process::Abort;
@@ -39,24 +39,16 @@ const WHOLE: &[u8] = b"firsttwenty bytes of textseven771thirty bytes in one long
 fn put_pieces<S: Sink>(rt: &impl Abort, sink: &mut S, failing: usize) {
     for (i, piece) in PIECES.iter().enumerate() {
         let answer = sink.put(piece);
-        if i < failing {
-            assert_eq!(rt; answer, Ok(()), "piece {i} before the failure at {failing}");
-            assert_eq!(rt;
-                sink.failures(),
-                0,
-                "piece {i} before the failure at {failing}"
-            );
+        let is_failed = sink.failures() > 0;
+        let is_wanted = if i < failing {
+            answer == Ok(()) && !is_failed
         } else {
-            assert_eq!(rt;
-                answer,
-                Err(SinkFault),
-                "piece {i} from the failure at {failing} on"
-            );
-            assert!(rt;
-                sink.failures() > 0,
-                "piece {i} from the failure at {failing} on"
-            );
-        }
+            answer == Err(SinkFault) && is_failed
+        };
+        assert!(rt;
+            is_wanted,
+            "piece {i}, with a failure at {failing}: {answer:?}"
+        );
     }
 }
 
@@ -74,16 +66,11 @@ fn refused_calls(rt: HostRuntime) -> Result<(), Fail> {
             let refused = i + 1;
             let mut sink = WriteSink::new(Halting::new(rt.alloc(), refused, refusal));
             put_pieces(&rt, &mut sink, *failing);
-            assert!(rt;
-                sink.put(b"more").is_err(),
-                "after call {refused}, {refusal:?}"
-            );
+            let is_over = sink.put(b"more").is_err();
             let writer = sink.into_inner();
-            assert_eq!(rt; writer.calls, refused, "{refusal:?}");
-            let want = WHOLE.get(..*taken);
-            assert_eq!(rt;
-                Some(writer.taken.as_slice()),
-                want,
+            let is_beginning = Some(writer.taken.as_slice()) == WHOLE.get(..*taken);
+            assert!(rt;
+                is_over && writer.calls == refused && is_beginning,
                 "call {refused}, {refusal:?}"
             );
         }

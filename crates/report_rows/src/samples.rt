@@ -1,7 +1,7 @@
 //! Files that the rows speak of.
 
 use Element::{Bucket, Value};
-use format_rows::maker::{
+use sample_files::maker::{
     Element, FRESH, LEAF_FLAGS, MetaFields, PageHeader, branch, database, leaf, leaf_with, patch,
     reference,
 };

@@ -5,7 +5,7 @@ use Element::{Bucket as InBucket, Value};
 use bolt_check::check;
 use bolt_report::{Stats, add, stats};
 use bolt_tree::{Bucket, Item};
-use format_rows::maker::{Element, FRESH, MetaFields, database, inline, leaf, reference};
+use sample_files::maker::{Element, FRESH, MetaFields, database, inline, leaf, reference};
 use std::alloc::{AllocError, Global};
 use std::process::Abort;
 use std::test::Fail;

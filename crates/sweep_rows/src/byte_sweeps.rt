@@ -1,10 +1,10 @@
 //! A file of four pages with each byte changed to each other one, under each command but `keys` and
 //! `get`: 1,044,480 files.
 
-use crate::ran::{Ran, job_of};
+use crate::ran::{Ran, check_run, job_of};
 use bolt_cli::{Job, Refusal};
-use format_rows::maker::{FRESH, MetaFields};
-use format_rows::samples::{INLINE_BUCKET, Sample, make};
+use sample_files::maker::{FRESH, MetaFields};
+use sample_files::samples::{INLINE_BUCKET, Sample, make};
 use std::alloc::{AllocError, Global};
 use std::process::Abort;
 use std::test::Fail;
@@ -140,13 +140,13 @@ fn check_tour(rt: &impl Abort, alloc: Global, jobs: &Jobs, changed: Changed<'_>)
     } = changed;
     let is_second = at < SECOND_RECORD || SECOND_RECORD_END <= at;
     let text = if is_second { SECOND_META } else { FIRST_META };
-    Ran::on(alloc, &jobs.info, file).check(rt, "info", at, (0, text, b""));
+    check_run(rt, alloc, &jobs.info, file, ("info", at), (0, text, b""));
     let past = (
         1,
         b"".as_slice(),
         b"error: page 4: out of range\n".as_slice(),
     );
-    Ran::on(alloc, &jobs.past, file).check(rt, "page 4", at, past);
+    check_run(rt, alloc, &jobs.past, file, ("page 4", at), past);
     let texts = PAGES.iter().zip(&REFUSED_PAGES);
     for (id, (job, (text, refusal))) in jobs.pages.iter().zip(texts).enumerate() {
         let ran = Ran::on(alloc, job, file);
@@ -188,9 +188,9 @@ fn check_refused(
     let line = format!(in alloc; "error: file refused: {first}\n")?;
     let want = (1, b"".as_slice(), line.as_bytes());
     for job in &jobs.readers {
-        Ran::on(alloc, job, file).check(rt, "a command", at, want);
+        check_run(rt, alloc, job, file, ("a command", at), want);
     }
-    Ran::on(alloc, &jobs.list, file).check(rt, "list", at, want);
+    check_run(rt, alloc, &jobs.list, file, ("list", at), want);
     let copy = Ran::on(alloc, &jobs.compact, file);
     copy.check(rt, "compact", at, want);
     assert!(rt; copy.target.bytes().is_empty(), "the copy at {at}");
@@ -218,10 +218,24 @@ fn check_sound(
     let length = copied.len();
     let line = format!(in alloc; "4096 -> {length} bytes\n")?;
     copy.check(rt, "compact", at, (0, line.as_bytes(), b""));
-    Ran::on(alloc, &jobs.check, copied).check(rt, "check of the copy", at, (0, b"OK\n", b""));
+    check_run(
+        rt,
+        alloc,
+        &jobs.check,
+        copied,
+        ("check of the copy", at),
+        (0, b"OK\n", b""),
+    );
     let listed = (0, list.out.bytes(), b"".as_slice());
     list.check(rt, "list", at, listed);
-    Ran::on(alloc, &jobs.list, copied).check(rt, "list of the copy", at, listed);
+    check_run(
+        rt,
+        alloc,
+        &jobs.list,
+        copied,
+        ("list of the copy", at),
+        listed,
+    );
     if !is_read(at) {
         list.check(rt, "list", at, (0, LISTING, b""));
         assert!(rt; copied == before, "the copy at {at}");

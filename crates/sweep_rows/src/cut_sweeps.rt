@@ -1,9 +1,9 @@
 //! A file cut to each length, under each command.
 
-use crate::ran::{Ran, Wanted, job_of};
+use crate::ran::{Ran, Wanted, check_run, job_of};
 use bolt_cli::Job;
-use format_rows::maker::{FRESH, MetaFields};
-use format_rows::samples::{BRANCH_ROOT, Sample, make};
+use sample_files::maker::{FRESH, MetaFields};
+use sample_files::samples::{BRANCH_ROOT, Sample, make};
 use std::alloc::Global;
 use std::ops::Range;
 use std::process::Abort;
@@ -83,7 +83,14 @@ fn check_of_cut_files(rt: HostRuntime) -> Result<(), Fail> {
         let want = (1, found, told);
         check_cuts(&rt, alloc, (line, &job), file.as_slice(), lengths, want);
     }
-    Ran::on(alloc, &job, file.as_slice()).check(&rt, line, LENGTH, (0, b"OK\n", b""));
+    check_run(
+        &rt,
+        alloc,
+        &job,
+        file.as_slice(),
+        (line, LENGTH),
+        (0, b"OK\n", b""),
+    );
     Ok(())
 }
 
@@ -147,7 +154,7 @@ fn readers_of_cut_files(rt: HostRuntime) -> Result<(), Fail> {
             let want: Wanted<'_> = (1, b"", told);
             check_cuts(&rt, alloc, (line, &job), file.as_slice(), lengths, want);
         }
-        Ran::on(alloc, &job, file.as_slice()).check(&rt, line, LENGTH, *whole);
+        check_run(&rt, alloc, &job, file.as_slice(), (line, LENGTH), *whole);
     }
     Ok(())
 }

@@ -3,8 +3,8 @@
 use crate::ran::{Ran, Wanted, job_of};
 use Content::{Branch, Leaf};
 use Element::Bucket;
-use format_rows::maker::{Element, FRESH, MetaFields};
-use format_rows::samples::{Content, FRESH_FILE, Sample, chain, make, nested_buckets};
+use sample_files::maker::{Element, FRESH, MetaFields};
+use sample_files::samples::{Content, FRESH_FILE, Sample, chain, make, nested_buckets};
 use std::alloc::Global;
 use std::process::Abort;
 use std::test::Fail;

@@ -1,7 +1,7 @@
 //! Figures of a worked layout: branches that overflow, and one with one child.
 
 use crate::layouts::long_keys_under_branches;
-use crate::ran::{Ran, job_of};
+use crate::ran::{check_run, job_of};
 use std::test::Fail;
 
 const FIGURES: &[u8] = b"buckets 1\ninline buckets 0\ninline used 0\nkeys 3\ndepth 3\n\
@@ -13,6 +13,13 @@ fn figures_of_long_keys(rt: HostRuntime) -> Result<(), Fail> {
     let alloc = rt.alloc();
     let file = long_keys_under_branches(alloc)?;
     let job = job_of(alloc, "luntsegi stats FILE")?;
-    Ran::on(alloc, &job, file.as_slice()).check(&rt, "stats", file.len(), (0, FIGURES, b""));
+    check_run(
+        &rt,
+        alloc,
+        &job,
+        file.as_slice(),
+        ("stats", file.len()),
+        (0, FIGURES, b""),
+    );
     Ok(())
 }

@@ -1,7 +1,7 @@
 //! Files whose compact copies at other page sizes are known.
 
 use Element::{Bucket, Value};
-use format_rows::maker::{
+use sample_files::maker::{
     BRANCH_FLAGS, Element, MetaFields, PageHeader, branch, branch_with, database, leaf, reference,
 };
 use std::alloc::{AllocError, Global};

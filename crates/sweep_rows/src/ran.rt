@@ -62,6 +62,18 @@ impl Ran {
     }
 }
 
+/// The job comes on the file to this, but for the copy. A failed test tells the name and the place.
+pub fn check_run(
+    rt: &impl Abort,
+    alloc: Global,
+    job: &Job,
+    file: &[u8],
+    told: (&str, usize),
+    want: Wanted<'_>,
+) {
+    Ran::on(alloc, job, file).check(rt, told.0, told.1, want);
+}
+
 /// The beginning of what was taken, as a failed test shows it.
 fn shown(sink: &MemSink) -> &str {
     beginning(sink.bytes())

@@ -1,14 +1,14 @@
 //! Sinks that fail at each of their bytes, or at each call of their writer.
 
 use crate::layouts::{forty_on_one_leaf, long_keys_on_one_leaf, long_keys_under_branches};
-use crate::ran::{Ran, job_of};
+use crate::ran::{Ran, check_run, job_of};
 use bolt_bulk::{BulkFault, Done, compact};
 use bolt_check::{CheckFault, Checked, Finding, check};
 use bolt_cli::{Job, PageSize};
 use bolt_format::{MemSink, MetaFault, PageFault, Sink, WriteSink};
-use format_rows::halting::{Halting, Refusal};
-use format_rows::maker::{FRESH, MetaFields};
-use format_rows::samples::{FRESH_FILE, Sample, forty_values, make};
+use sample_files::halting::{Halting, Refusal};
+use sample_files::maker::{FRESH, MetaFields};
+use sample_files::samples::{FRESH_FILE, Sample, forty_values, make};
 use std::alloc::Global;
 use std::io::{self, ErrorKind, Write};
 use std::process::Abort;
@@ -51,11 +51,11 @@ fn check_fuse(
 ) {
     let mut sink = MemSink::with_fuse(alloc, fuse);
     let answer = compact(alloc, checked, size.bytes, &mut sink);
-    assert_eq!(rt; answer, Err(BulkFault::Sink), "a limit of {fuse} bytes");
-    assert!(rt; sink.failures() > 0, "a limit of {fuse} bytes");
+    let is_told = answer == Err(BulkFault::Sink) && sink.failures() > 0;
+    let is_taken = Some(sink.bytes()) == copying.whole.get(..fuse);
     assert!(rt;
-        Some(sink.bytes()) == copying.whole.get(..fuse),
-        "what is taken under a limit of {fuse} bytes"
+        is_told && is_taken,
+        "a limit of {fuse} bytes comes to {answer:?}"
     );
     check_beginning(rt, alloc, sink.bytes(), copying.root);
 }
@@ -71,14 +71,10 @@ fn check_room(
     let length = copying.whole.len();
     let mut sink = MemSink::with_fuse(alloc, length);
     let answer = compact(alloc, checked, size.bytes, &mut sink);
-    assert_eq!(rt;
-        answer.map(|done| done.bytes),
-        Ok(length as u64),
-        "with room for all"
-    );
-    assert_eq!(rt; sink.failures(), 0, "with room for all");
-    assert!(rt; sink.bytes() == copying.whole, "the whole copy");
-    assert!(rt; check(alloc, sink.bytes()).is_ok(), "the whole copy");
+    let is_told = answer.map(|done| done.bytes) == Ok(length as u64) && sink.failures() == 0;
+    assert!(rt; is_told, "with room for all");
+    let is_whole = sink.bytes() == copying.whole && check(alloc, sink.bytes()).is_ok();
+    assert!(rt; is_whole, "the whole copy");
 }
 
 /// The copy under each limit, from none at all to all of it.
@@ -216,16 +212,12 @@ fn refuse_calls(
     for i in 0..all.calls {
         let refused = i.saturating_add(1);
         let (writer, is_made) = copy_by_sevens(rt, alloc, checked, size, refused, refusal);
-        assert!(rt; !is_made, "call {refused} refused");
-        assert_eq!(rt; writer.calls, refused, "calls of the writer");
         let taken = writer.taken.as_slice();
+        let is_beginning = whole.starts_with(taken) && taken.len() < whole.len();
+        let is_more = i == 0 || taken.len() > before;
         assert!(rt;
-            whole.starts_with(taken) && taken.len() < whole.len(),
-            "call {refused}"
-        );
-        assert!(rt;
-            i == 0 || taken.len() > before,
-            "each call before {refused} takes something"
+            !is_made && writer.calls == refused && is_beginning && is_more,
+            "call {refused} refused"
         );
         before = taken.len();
     }
@@ -317,7 +309,14 @@ fn failing_findings(rt: HostRuntime) -> Result<(), Fail> {
     let file = make(alloc, &LOST_PAGES)?;
     let job = job_of(alloc, "luntsegi check FILE")?;
     let text = b"pages 4 to 5: unreachable unfreed\n1 errors found\n";
-    Ran::on(alloc, &job, file.as_slice()).check(&rt, "check", 0, (1, text, b""));
+    check_run(
+        &rt,
+        alloc,
+        &job,
+        file.as_slice(),
+        ("check", 0),
+        (1, text, b""),
+    );
     fail_output(&rt, alloc, "check", &job, file.as_slice())
 }
 

@@ -58,13 +58,11 @@ pub fn check_openings(rt: &impl Abort, name: &str, bucket: &Bucket<'_>, steps: &
     let mut cursor = bucket.cursor();
     for (i, (call, key, count)) in steps.iter().enumerate() {
         let got = answered(&mut cursor, *call);
+        let (opened, compared) = (cursor.opened(), cursor.compared());
         assert!(rt;
-            got == *key,
-            "{name}: call {i} answers {got:?} and not {key:?}"
+            got == *key && opened == *count && compared <= 1024,
+            "{name}: call {i} answers {got:?} and not {key:?}, with {opened} pages opened and not \
+            {count}, and {compared} keys compared"
         );
-        let opened = cursor.opened();
-        assert_eq!(rt; opened, *count, "{name}: opened after call {i}");
-        let compared = cursor.compared();
-        assert!(rt; compared <= 1024, "{name}: compared after call {i}");
     }
 }

@@ -2,8 +2,8 @@
 
 use Content::{Branch, Leaf};
 use Element::Value;
-use format_rows::maker::{Element, FRESH, MetaFields};
-use format_rows::samples::{BRANCH_ROOT, Content, FRESH_FILE, Sample};
+use sample_files::maker::{Element, FRESH, MetaFields};
+use sample_files::samples::{BRANCH_ROOT, Content, FRESH_FILE, Sample};
 
 /// A leaf without entries at its end.
 pub const EMPTY_TAIL: Sample<'static> = Sample {

@@ -2,11 +2,10 @@
 //! empty ones.
 
 use crate::cursor_calls::{Call, NONE, Opening, Step, check_openings, check_steps};
-use crate::nested_sample::nested_file;
 use Call::{First, Last, Next, Prev, Seek};
 use bolt_check::check;
 use bolt_tree::{Bucket, Entry, Item};
-use format_rows::samples::{INLINE_BUCKET, forty_values, make};
+use sample_files::samples::{INLINE_BUCKET, forty_values, make, nested_file};
 use std::process::Abort;
 use std::test::Fail;
 

@@ -1,5 +1,5 @@
-//! Tests of what a file holds: worked rows of cursors, of look-ups and of walks, and of the texts
-//! that are made of them. The crate has nothing beside its tests.
+//! Tests of what a file holds: worked rows of cursors, of look-ups and of walks. The crate has
+//! nothing beside its tests.
 #![tactic(auto)]
 
 #[cfg(test)]
@@ -11,22 +11,12 @@ mod cursor_samples;
 #[cfg(test)]
 mod inner_bucket_rows;
 #[cfg(test)]
-mod large_text_rows;
-#[cfg(test)]
 mod lookup_rows;
 #[cfg(test)]
 mod memory_rows;
 #[cfg(test)]
 mod move_rows;
 #[cfg(test)]
-mod nested_sample;
-#[cfg(test)]
 mod opening_rows;
-#[cfg(test)]
-mod slot_rows;
-#[cfg(test)]
-mod text_rows;
-#[cfg(test)]
-mod texts;
 #[cfg(test)]
 mod walk_rows;

@@ -1,9 +1,9 @@
 //! Rows of what a bucket has under a key.
 
 use crate::bucket_at::bucket_at;
-use crate::nested_sample::nested_file;
 use bolt_check::{Checked, check};
 use bolt_tree::Bucket;
+use sample_files::samples::nested_file;
 use std::process::Abort;
 use std::test::Fail;
 
@@ -12,9 +12,12 @@ type UnderKey<'a> = (&'a [u8], Option<&'a [u8]>, Option<u64>);
 
 fn check_keys(rt: &impl Abort, outer: &Bucket<'_>, want: &[UnderKey<'_>]) {
     for (key, value, sequence) in want {
-        assert_eq!(rt; outer.get(key), *value, "the value under {key:?}");
+        let found = outer.get(key);
         let inner = outer.bucket(key).map(|bucket| bucket.sequence());
-        assert_eq!(rt; inner, *sequence, "the bucket under {key:?}");
+        assert!(rt;
+            found == *value && inner == *sequence,
+            "under {key:?} stands the value {found:?}, or the bucket {inner:?}"
+        );
     }
 }
 

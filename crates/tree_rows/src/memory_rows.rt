@@ -3,10 +3,9 @@
 //! then ends. Where no request is refused, as in the gate, each of them passes.
 
 use crate::bucket_at::bucket_at;
-use crate::nested_sample::nested_file;
 use bolt_check::{Checked, check};
 use bolt_tree::{Bucket, Item, NoMemory, Walk};
-use format_rows::samples::{forty_values, nested_buckets};
+use sample_files::samples::{forty_values, nested_buckets, nested_file};
 use std::alloc::{AllocError, Global};
 use std::process::Abort;
 use std::test::Fail;

@@ -6,7 +6,7 @@ use crate::cursor_samples::{EMPTY_HEAD, EMPTY_MIDDLE, EMPTY_TAIL, NO_ENTRY, ONE_
 use Call::{First, Last, Next, Prev, Seek};
 use bolt_check::check;
 use bolt_tree::{Bucket, Entry, Item};
-use format_rows::samples::{BRANCH_ROOT, FRESH_FILE, Sample, make};
+use sample_files::samples::{BRANCH_ROOT, FRESH_FILE, Sample, make};
 use std::alloc::Global;
 use std::process::Abort;
 use std::test::Fail;

@@ -6,7 +6,7 @@ use crate::cursor_samples::{EMPTY_HEAD, EMPTY_MIDDLE, EMPTY_TAIL, NO_ENTRY, ONE_
 use Call::{First, Next, Seek};
 use bolt_check::check;
 use bolt_tree::Bucket;
-use format_rows::samples::{BRANCH_ROOT, FRESH_FILE, Sample, chain, make};
+use sample_files::samples::{BRANCH_ROOT, FRESH_FILE, Sample, chain, make};
 use std::test::Fail;
 
 /// The name of a file, the file, and scripts on its root bucket.

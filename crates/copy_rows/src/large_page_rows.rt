@@ -1,10 +1,10 @@
 //! Rows of the greatest pages: as large as a page may be, and with as many elements as it may have.
 
-use crate::commands::{CHECK, INFO, Outcome, check_refused, check_row};
 use crate::page_size_rows::check_copy;
 use Element::Bucket;
 use Outcome::Prints;
-use format_rows::maker::{
+use command_runs::commands::{CHECK, INFO, Outcome, check_refused, check_row};
+use sample_files::maker::{
     Element, MetaFields, branch, database, file, inline, leaf, meta_page, reference,
 };
 use std::alloc::{AllocError, Global};

@@ -1,17 +1,17 @@
 //! Rows of the command `compact`: what it tells, and the copy that it writes.
 
-use crate::commands::{
-    FileRow, Outcome, check_files, check_refused, check_row, check_written, words_of,
-};
-use crate::samples::BRANCH_TO_ITSELF;
 use Content::{Freelist, Leaf};
 use Element::{Bucket, Value};
 use Outcome::{Fails, Prints};
 use bolt_cli::{read_words, run};
 use bolt_format::{MemSink, Sink, WriteSink};
-use format_rows::halting::{Halting, Refusal};
-use format_rows::maker::{Element, FRESH, MetaFields, database, inline, leaf, reference};
-use format_rows::samples::{
+use command_runs::commands::{
+    FileRow, Outcome, check_files, check_refused, check_row, check_written, words_of,
+};
+use sample_files::command_samples::BRANCH_TO_ITSELF;
+use sample_files::halting::{Halting, Refusal};
+use sample_files::maker::{Element, FRESH, MetaFields, database, inline, leaf, reference};
+use sample_files::samples::{
     Content, FRESH_FILE, INLINE_BUCKET, Sample, forty_values, make, with_root,
 };
 use std::alloc::{AllocError, Global};

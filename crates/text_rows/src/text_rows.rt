@@ -1,6 +1,5 @@
 //! Rows of texts of what small files hold, on sinks in memory and on sinks that fail.
 
-use crate::nested_sample::nested_file;
 use crate::texts::{Row, Text, check_halted, check_text};
 use Content::Leaf;
 use Element::{Bucket, Value as Stored};
@@ -8,10 +7,11 @@ use Form::{Bytes, Hex, Printable};
 use Text::{Buckets, Keys, List, Value};
 use bolt_check::check;
 use bolt_report::Form;
-use format_rows::halting::Refusal;
-use format_rows::maker::Element;
-use format_rows::samples::{
-    BRANCH_ROOT, Content, EMPTY_BUCKET, FRESH_FILE, INLINE_BUCKET, Sample, make, two_buckets,
+use sample_files::halting::Refusal;
+use sample_files::maker::Element;
+use sample_files::samples::{
+    BRANCH_ROOT, Content, EMPTY_BUCKET, FRESH_FILE, INLINE_BUCKET, Sample, make, nested_file,
+    two_buckets,
 };
 use std::io::ErrorKind;
 use std::test::Fail;

@@ -7,10 +7,10 @@ use Text::{Buckets, Keys, List, Value};
 use bolt_check::check;
 use bolt_report::Form;
 use bolt_tree::Bucket;
-use format_rows::maker::{
+use sample_files::maker::{
     Element, LEAF_FLAGS, MetaFields, PageHeader, branch, database, leaf, leaf_with, patch,
 };
-use format_rows::samples::forty_values;
+use sample_files::samples::forty_values;
 use std::alloc::{AllocError, Global};
 use std::test::Fail;
 

@@ -1,14 +1,14 @@
 //! Files that rows of several commands speak of.
 
-use Content::Branch;
-use Element::Bucket;
-use format_rows::free_files::numbers;
-use format_rows::maker::{
+use crate::free_files::numbers;
+use crate::maker::{
     Element, FRESH, MetaFields, NO_FREELIST, database, database_of, freelist, inline, leaf,
     long_freelist,
 };
-pub use format_rows::samples::pair;
-use format_rows::samples::{Content, FRESH_FILE, Sample, with_root};
+pub use crate::samples::pair;
+use crate::samples::{Content, FRESH_FILE, Sample, with_root};
+use Content::Branch;
+use Element::Bucket;
 use std::alloc::{AllocError, Global};
 
 /// The fresh file with a bit of the second checksum changed, whose first byte is 0x0f.

@@ -1,11 +1,11 @@
 //! Texts of what a file holds, and what sinks take of them.
 
-use crate::bucket_at::bucket_at;
 use Text::{Buckets, Keys, List, Value};
 use bolt_check::Checked;
 use bolt_format::{MemSink, Sink, WriteSink};
 use bolt_report::{Form, ReportFault, buckets, keys, list, value};
-use format_rows::halting::{Halting, Refusal};
+use bolt_tree::Bucket;
+use sample_files::halting::{Halting, Refusal};
 use std::alloc::Global;
 use std::process::Abort;
 
@@ -24,6 +24,15 @@ pub enum Text<'a> {
 
 /// A text that is asked for, and its bytes.
 pub type Row<'a> = (Text<'a>, &'a [u8]);
+
+/// The bucket that a path names, from the root bucket down.
+fn bucket_at<'a>(checked: Checked<'a>, path: &[&[u8]]) -> Option<Bucket<'a>> {
+    let mut bucket = Bucket::root(checked);
+    for key in path {
+        bucket = bucket.bucket(key)?;
+    }
+    Some(bucket)
+}
 
 /// Puts a text of the file; `None` where its path names no bucket.
 fn put_text<S: Sink>(
@@ -55,9 +64,8 @@ pub fn check_text(rt: &impl Abort, alloc: Global, checked: Checked<'_>, row: Row
     let told = told(text);
     let mut sink = MemSink::new(alloc);
     let answer = put_text(alloc, checked, text, &mut sink);
-    assert_eq!(rt; answer, Some(Ok(())), "{told:?}");
-    assert!(rt; sink.bytes() == want, "{told:?} gives other bytes");
-    assert_eq!(rt; sink.failures(), 0, "{told:?}");
+    let is_wanted = answer == Some(Ok(())) && sink.bytes() == want && sink.failures() == 0;
+    assert!(rt; is_wanted, "{told:?} gives other bytes, or {answer:?}");
 }
 
 /// Whichever of its calls a writer refuses, the answer is that the sink failed, the writer took a
@@ -78,22 +86,16 @@ pub fn check_halted(
         let writer = sink.into_inner();
         let taken = writer.taken.as_slice();
         if writer.calls < refused {
-            assert_eq!(rt; answer, Some(Ok(())), "{told:?}");
-            assert_eq!(rt; failures, 0, "{told:?}");
-            assert!(rt; taken == want, "{told:?} gives other bytes");
+            let is_wanted = answer == Some(Ok(())) && failures == 0 && taken == want;
+            assert!(rt; is_wanted, "{told:?} gives other bytes, or {answer:?}");
             return;
         }
-        assert_eq!(rt;
-            answer,
-            Some(Err(ReportFault::Sink)),
-            "{told:?}, call {refused}"
-        );
-        assert!(rt; failures > 0, "{told:?}, call {refused}");
-        assert_eq!(rt; writer.calls, refused, "calls for {told:?}");
+        let is_told = answer == Some(Err(ReportFault::Sink)) && failures > 0;
+        assert!(rt; is_told, "{told:?} comes to {answer:?} at call {refused}");
         let is_beginning = taken.len() < want.len() && want.starts_with(taken);
         assert!(rt;
-            is_beginning,
-            "{told:?} gives no beginning at call {refused}"
+            writer.calls == refused && is_beginning,
+            "{told:?} gives no beginning, or calls again, at call {refused}"
         );
     }
     assert!(rt; false, "{told:?} wants a call for more than each byte");

@@ -1,11 +1,11 @@
 //! Rows of copies at another page size than that of their file.
 
-use crate::commands::{Outcome, check_row};
 use crate::compact_command_rows::{LEAKED_PAGE, copy_of};
 use Element::{Bucket, Value};
 use Outcome::Prints;
-use format_rows::maker::{Element, FRESH, MetaFields, branch, database, inline, leaf, reference};
-use format_rows::samples::{make, with_root};
+use command_runs::commands::{Outcome, check_row};
+use sample_files::maker::{Element, FRESH, MetaFields, branch, database, inline, leaf, reference};
+use sample_files::samples::{make, with_root};
 use std::alloc::{AllocError, Global};
 use std::process::Abort;
 use std::test::Fail;

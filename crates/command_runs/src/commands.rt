@@ -2,7 +2,7 @@
 
 use bolt_cli::{Job, Refusal, read_words, run};
 use bolt_format::MemSink;
-use format_rows::samples::{Sample, make};
+use sample_files::samples::{Sample, make};
 use std::alloc::{AllocError, Global};
 use std::process::Abort;
 
@@ -87,17 +87,14 @@ pub fn words_of(alloc: Global, words: &[&str]) -> Result<Vec<String>, AllocError
 
 /// The answer to words that ask for no job.
 fn check_refusal(rt: &impl Abort, refusal: &Refusal, words: &[&str], want: Outcome<'_>) {
-    match (refusal, want) {
+    let is_wanted = match (refusal, want) {
         (Refusal::Help(text), Helps(wanted))
         | (Refusal::Version(text), TellsVersion(wanted))
-        | (Refusal::Usage(text), Refused(wanted)) => {
-            assert_eq!(rt; text.as_str(), wanted, "the text at {words:?}");
-        }
-        (Refusal::Word(line), RefusedWord(wanted)) => {
-            assert_eq!(rt; *line, wanted, "the line at {words:?}");
-        }
-        _ => assert!(rt; false, "{words:?} are refused as {refusal:?}"),
-    }
+        | (Refusal::Usage(text), Refused(wanted)) => text.as_str() == wanted,
+        (Refusal::Word(line), RefusedWord(wanted)) => *line == wanted,
+        _ => false,
+    };
+    assert!(rt; is_wanted, "{words:?} are refused as {refusal:?}");
 }
 
 /// The words on the file come to what the row says.
@@ -117,6 +114,17 @@ pub fn check_row(
     }
 }
 
+/// What a run writes that comes to this, if any does; the line is of standard error.
+fn wanted_of<'a>(want: Outcome<'a>, line: &'a str) -> Option<Written<'a>> {
+    match want {
+        Prints(text) => Some((text.as_bytes(), b"", 0)),
+        PrintsBytes(bytes) => Some((bytes, b"", 0)),
+        Finds(text) => Some((text.as_bytes(), b"", 1)),
+        Fails(_) => Some((b"", line.as_bytes(), 1)),
+        Refused(_) | RefusedWord(_) | Helps(_) | TellsVersion(_) => None,
+    }
+}
+
 /// The job that the words ask for comes on the file to what the row says.
 pub fn check_job(
     rt: &impl Abort,
@@ -132,17 +140,13 @@ pub fn check_job(
     let mut target = MemSink::new(alloc);
     let status = run(alloc, job, file, &mut out, &mut err, &mut target);
     let got = (out.bytes(), err.bytes(), status.code);
-    match want {
-        Prints(text) => check_written(rt, name, words, got, (text.as_bytes(), b"", 0)),
-        PrintsBytes(bytes) => check_written(rt, name, words, got, (bytes, b"", 0)),
-        Finds(text) => check_written(rt, name, words, got, (text.as_bytes(), b"", 1)),
-        Fails(text) => {
-            let line = error_line(alloc, text)?;
-            check_written(rt, name, words, got, (b"", line.as_bytes(), 1));
-        }
-        Refused(_) | RefusedWord(_) | Helps(_) | TellsVersion(_) => {
-            assert!(rt; false, "{words:?} on {name} are accepted");
-        }
+    let line = match want {
+        Fails(text) => error_line(alloc, text)?,
+        _ => String::new(alloc),
+    };
+    match wanted_of(want, line.as_str()) {
+        Some(wanted) => check_written(rt, name, words, got, wanted),
+        None => assert!(rt; false, "{words:?} on {name} are accepted"),
     }
     assert!(rt;
         target.bytes().is_empty(),

@@ -114,6 +114,47 @@ pub fn two_buckets(alloc: Global) -> Result<Vec<u8>, AllocError> {
     with_root(alloc, &MetaFields::fresh(4096), &elements)
 }
 
+/// A root bucket that holds: `a` with the sequence 3, which holds the value `b`, the inline
+/// bucket `c` with the sequence 5 and one value `k`, and the empty value `d`; `aa`, which is empty
+/// and inline; the value `m`; and `r`, which is empty and has a page of its own.
+pub fn nested_file(alloc: Global) -> Result<Vec<u8>, AllocError> {
+    let held = inline(alloc, 5, &[Value(b"k", b"v")])?;
+    let inside = leaf(
+        alloc,
+        4,
+        &[
+            Value(b"b", b"1"),
+            Bucket(b"c", held.as_slice()),
+            Value(b"d", b""),
+        ],
+    )?;
+    let outer = reference(alloc, 4, 3)?;
+    let none = inline(alloc, 0, &[])?;
+    let empty = leaf(alloc, 5, &[])?;
+    let paged = reference(alloc, 5, 9)?;
+    let root = leaf(
+        alloc,
+        3,
+        &[
+            Bucket(b"a", outer.as_slice()),
+            Bucket(b"aa", none.as_slice()),
+            Value(b"m", b"x"),
+            Bucket(b"r", paged.as_slice()),
+        ],
+    )?;
+    let fields = MetaFields { mark: 6, ..FRESH };
+    database(
+        alloc,
+        6,
+        &fields,
+        &[
+            (3, root.as_slice()),
+            (4, inside.as_slice()),
+            (5, empty.as_slice()),
+        ],
+    )
+}
+
 /// Two states of a database in five pages of 1,024 bytes: root 3 with the bucket `a` in the first
 /// meta, root 4 with the bucket `z` in the second.
 pub fn pair(alloc: Global, txids: [u64; 2]) -> Result<Vec<u8>, AllocError> {

@@ -1,0 +1,9 @@
+//! What tests of several crates need: a maker of bbolt files, files, and a writer that halts. It
+//! stands on no other crate, and has no tests.
+#![tactic(auto)]
+
+pub mod command_samples;
+pub mod free_files;
+pub mod halting;
+pub mod maker;
+pub mod samples;

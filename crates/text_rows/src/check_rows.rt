@@ -1,0 +1,82 @@
+//! Rows of the call `check`: its faults, and what it shows of a sound file.
+
+use bolt_check::{CheckFault, Checked, Finding, check};
+use bolt_format::{Meta, MetaFault, PageFault};
+use sample_files::command_samples::GREATEST_OVERFLOW;
+use sample_files::maker::{FRESH, MetaFields};
+use sample_files::samples::{FRESH_FILE, Sample, make};
+use std::alloc::{AllocError, Global};
+use std::process::Abort;
+use std::test::Fail;
+
+/// Files that the call refuses for their metas, their trees and their freelist.
+static UNOPENED: Sample<'static> = Sample {
+    fields: MetaFields {
+        version: 1,
+        ..FRESH
+    },
+    ..FRESH_FILE
+};
+
+static UNSOUND: Sample<'static> = GREATEST_OVERFLOW;
+
+static UNACCOUNTED: Sample<'static> = Sample {
+    fields: MetaFields { mark: 5, ..FRESH },
+    pages_held: 5,
+    ..FRESH_FILE
+};
+
+static TOLD: [Finding; 1] = [Finding {
+    number: Finding::UNREACHABLE,
+    page: 4,
+    last: 4,
+}];
+
+fn fault_of(alloc: Global, sample: &Sample<'_>) -> Result<Option<CheckFault>, AllocError> {
+    let file = make(alloc, sample)?;
+    Ok(check(alloc, file.as_slice()).err())
+}
+
+#[test]
+fn faults_of_the_call(rt: HostRuntime) -> Result<(), Fail> {
+    match fault_of(rt.alloc(), &UNOPENED)? {
+        Some(CheckFault::Open(fault)) => assert_eq!(rt; fault, MetaFault::Version),
+        _ => assert!(rt; false, "no meta is valid"),
+    }
+    match fault_of(rt.alloc(), &UNSOUND)? {
+        Some(CheckFault::Structure(finding)) => {
+            assert_eq!(rt; finding, Finding::of_page(PageFault::RANGE, 3));
+        }
+        _ => assert!(rt; false, "the trees are not sound"),
+    }
+    match fault_of(rt.alloc(), &UNACCOUNTED)? {
+        Some(CheckFault::Accounts(told)) => assert_eq!(rt; told.as_slice(), TOLD.as_slice()),
+        _ => assert!(rt; false, "the accounts are wrong"),
+    }
+    Ok(())
+}
+
+/// What the call shows of the fresh file.
+fn check_shown(rt: &impl Abort, checked: Checked<'_>, file: &[u8]) {
+    let meta = Meta {
+        page_size: 4096,
+        root: 3,
+        root_sequence: 0,
+        freelist: 2,
+        high_water: 4,
+        txid: 1,
+    };
+    assert!(rt; checked.meta() == meta, "the meta in force");
+    assert!(rt; checked.bytes() == file, "the bytes of the file");
+    assert!(rt; checked.accounts(), "the accounts are left out");
+}
+
+#[test]
+fn checked_file(rt: HostRuntime) -> Result<(), Fail> {
+    let file = make(rt.alloc(), &FRESH_FILE)?;
+    match check(rt.alloc(), file.as_slice()) {
+        Ok(checked) => check_shown(&rt, checked, file.as_slice()),
+        Err(_) => assert!(rt; false, "the fresh file is sound"),
+    }
+    Ok(())
+}
