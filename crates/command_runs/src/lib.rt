@@ -2,3 +2,4 @@
 #![tactic(auto)]
 
 pub mod commands;
+pub mod ran;

@@ -5,5 +5,6 @@
 pub mod command_samples;
 pub mod free_files;
 pub mod halting;
+pub mod layouts;
 pub mod maker;
 pub mod samples;

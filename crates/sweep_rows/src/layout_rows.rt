@@ -1,7 +1,7 @@
 //! Figures of a worked layout: branches that overflow, and one with one child.
 
-use crate::layouts::long_keys_under_branches;
-use crate::ran::{check_run, job_of};
+use command_runs::ran::{check_run, job_of};
+use sample_files::layouts::long_keys_under_branches;
 use std::test::Fail;
 
 const FIGURES: &[u8] = b"buckets 1\ninline buckets 0\ninline used 0\nkeys 3\ndepth 3\n\

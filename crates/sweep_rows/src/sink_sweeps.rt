@@ -1,12 +1,12 @@
 //! Sinks that fail at each of their bytes, or at each call of their writer.
 
-use crate::layouts::{forty_on_one_leaf, long_keys_on_one_leaf, long_keys_under_branches};
-use crate::ran::{Ran, check_run, job_of};
 use bolt_bulk::{BulkFault, Done, compact};
 use bolt_check::{CheckFault, Checked, Finding, check};
 use bolt_cli::{Job, PageSize};
 use bolt_format::{MemSink, MetaFault, PageFault, Sink, WriteSink};
+use command_runs::ran::{Ran, check_run, job_of};
 use sample_files::halting::{Halting, Refusal};
+use sample_files::layouts::{forty_on_one_leaf, long_keys_on_one_leaf, long_keys_under_branches};
 use sample_files::maker::{FRESH, MetaFields};
 use sample_files::samples::{FRESH_FILE, Sample, forty_values, make};
 use std::alloc::Global;

@@ -1,8 +1,8 @@
 //! Files that are made to mislead, under each command.
 
-use crate::ran::{Ran, Wanted, job_of};
 use Content::{Branch, Leaf};
 use Element::Bucket;
+use command_runs::ran::{Ran, Wanted, job_of};
 use sample_files::maker::{Element, FRESH, MetaFields};
 use sample_files::samples::{Content, FRESH_FILE, Sample, chain, make, nested_buckets};
 use std::alloc::Global;

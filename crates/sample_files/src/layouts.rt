@@ -1,9 +1,9 @@
 //! Files whose compact copies at other page sizes are known.
 
-use Element::{Bucket, Value};
-use sample_files::maker::{
+use crate::maker::{
     BRANCH_FLAGS, Element, MetaFields, PageHeader, branch, branch_with, database, leaf, reference,
 };
+use Element::{Bucket, Value};
 use std::alloc::{AllocError, Global};
 
 /// Bucket `b` with these elements on one leaf of 4,096 bytes, page 3, below the root page 4.

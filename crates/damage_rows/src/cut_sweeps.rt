@@ -1,7 +1,7 @@
 //! A file cut to each length, under each command.
 
-use crate::ran::{Ran, Wanted, check_run, job_of};
 use bolt_cli::Job;
+use command_runs::ran::{Ran, Wanted, check_run, job_of};
 use sample_files::maker::{FRESH, MetaFields};
 use sample_files::samples::{BRANCH_ROOT, Sample, make};
 use std::alloc::Global;

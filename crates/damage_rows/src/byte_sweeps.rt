@@ -1,8 +1,8 @@
 //! A file of four pages with each byte changed to each other one, under each command but `keys` and
 //! `get`: 1,044,480 files.
 
-use crate::ran::{Ran, check_run, job_of};
 use bolt_cli::{Job, Refusal};
+use command_runs::ran::{Ran, check_run, job_of};
 use sample_files::maker::{FRESH, MetaFields};
 use sample_files::samples::{INLINE_BUCKET, Sample, make};
 use std::alloc::{AllocError, Global};
