@@ -11,17 +11,10 @@ use sample_files::samples::{
     two_buckets,
 };
 use std::alloc::{AllocError, Global};
-use std::process::Abort;
 use std::test::Fail;
 
-fn check(
-    rt: &impl Abort,
-    alloc: Global,
-    name: &str,
-    file: Vec<u8>,
-    text: &str,
-) -> Result<(), AllocError> {
-    check_row(rt, alloc, name, file.as_slice(), (BUCKETS, Prints(text)))
+fn check(alloc: Global, name: &str, file: Vec<u8>, text: &str) -> Result<(), Fail> {
+    check_row(alloc, name, file.as_slice(), (BUCKETS, Prints(text)))
 }
 
 static FILES: [FileRow<'static>; 6] = [
@@ -63,7 +56,7 @@ static FILES: [FileRow<'static>; 6] = [
 
 #[test]
 fn files(rt: HostRuntime) -> Result<(), Fail> {
-    check_files(&rt, rt.alloc(), BUCKETS, &FILES)?;
+    check_files(rt.alloc(), BUCKETS, &FILES)?;
     Ok(())
 }
 
@@ -86,13 +79,13 @@ static NAME_LINES: &'static str = "00\n1f\n \n610a62\na b\na~\n617f\nc3a9\nff\n"
 fn printed_names(rt: HostRuntime) -> Result<(), Fail> {
     let alloc = rt.alloc();
     let file = two_buckets(alloc)?;
-    check(&rt, alloc, "two buckets", file, "a\naa\n")?;
+    check(alloc, "two buckets", file, "a\naa\n")?;
     let file = command_samples::names(alloc)?;
-    check(&rt, alloc, "a name of a zero byte", file, "00\na\n")?;
+    check(alloc, "a name of a zero byte", file, "00\na\n")?;
     let file = command_samples::empty_buckets(alloc, &NAMES)?;
-    check(&rt, alloc, "printable and other names", file, NAME_LINES)?;
+    check(alloc, "printable and other names", file, NAME_LINES)?;
     let lines = long_lines(alloc)?;
-    check(&rt, alloc, "long names", long_names(alloc)?, lines.as_str())?;
+    check(alloc, "long names", long_names(alloc)?, lines.as_str())?;
     Ok(())
 }
 
@@ -124,7 +117,7 @@ static FORM_ROWS: [Row<'static>; 7] = [
 fn forms(rt: HostRuntime) -> Result<(), Fail> {
     let alloc = rt.alloc();
     let file = command_samples::names(alloc)?;
-    check_rows(&rt, alloc, "two names", file.as_slice(), &FORM_ROWS)?;
+    check_rows(alloc, "two names", file.as_slice(), &FORM_ROWS)?;
     let file = command_samples::empty_buckets(alloc, &NAMES)?;
     let rows: [Row<'_>; 2] = [
         (&["buckets", "FILE", "--form", "hex"], Prints(NAMES_IN_HEX)),
@@ -133,7 +126,7 @@ fn forms(rt: HostRuntime) -> Result<(), Fail> {
             PrintsBytes(NAMES_AS_BYTES),
         ),
     ];
-    check_rows(&rt, alloc, "nine names", file.as_slice(), &rows)?;
+    check_rows(alloc, "nine names", file.as_slice(), &rows)?;
     Ok(())
 }
 
@@ -166,17 +159,11 @@ static PAIRS: [(&'static str, [u64; 2], &'static str); 3] = [
 fn two_states(rt: HostRuntime) -> Result<(), Fail> {
     let alloc = rt.alloc();
     for (name, txids, text) in &PAIRS {
-        check(
-            &rt,
-            alloc,
-            name,
-            command_samples::pair(alloc, *txids)?,
-            text,
-        )?;
+        check(alloc, name, command_samples::pair(alloc, *txids)?, text)?;
     }
     let mut file = command_samples::pair(alloc, [2, 1])?;
     flip(&mut file, 72);
-    check(&rt, alloc, "a bit of the first checksum", file, "z\n")?;
+    check(alloc, "a bit of the first checksum", file, "z\n")?;
     Ok(())
 }
 
@@ -197,6 +184,6 @@ fn second_metas_alone(rt: HostRuntime) -> Result<(), Fail> {
     patch(&mut file, 0, &[0; 4096])?;
     patch(&mut file, 2048, meta.as_slice())?;
     patch(&mut file, 6144, root.as_slice())?;
-    check(&rt, alloc, "at 2048 and at 4096", file, "z\n")?;
+    check(alloc, "at 2048 and at 4096", file, "z\n")?;
     Ok(())
 }

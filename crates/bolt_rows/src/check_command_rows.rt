@@ -16,8 +16,6 @@ use sample_files::samples::{
     BRANCH_ROOT, Content, FRESH_FILE, INLINE_BUCKET, Sample, chain, forty_values, make,
     nested_buckets,
 };
-use std::alloc::{AllocError, Global};
-use std::process::Abort;
 use std::test::Fail;
 
 const SOUND: Outcome<'static> = Prints("OK\n");
@@ -63,7 +61,7 @@ static SOUND_FILES: [FileRow<'static>; 8] = [
 
 #[test]
 fn sound_files(rt: HostRuntime) -> Result<(), Fail> {
-    check_files(&rt, rt.alloc(), CHECK, &SOUND_FILES)?;
+    check_files(rt.alloc(), CHECK, &SOUND_FILES)?;
     Ok(())
 }
 
@@ -333,7 +331,7 @@ fn refused_files(rt: HostRuntime) -> Result<(), Fail> {
     for rows in tables {
         for (name, sample, text) in rows {
             let file = make(rt.alloc(), sample)?;
-            check_refused(&rt, rt.alloc(), name, file.as_slice(), text)?;
+            check_refused(rt.alloc(), name, file.as_slice(), text)?;
         }
     }
     Ok(())
@@ -344,11 +342,11 @@ fn cut_files(rt: HostRuntime) -> Result<(), Fail> {
     let alloc = rt.alloc();
     let mut file = forty_values(alloc)?;
     let row = (CHECK, SOUND);
-    check_row(&rt, alloc, "forty values", file.as_slice(), row)?;
+    check_row(alloc, "forty values", file.as_slice(), row)?;
     for length in [9215, 80] {
         file.truncate(length);
         let text = "page 8: cut off\n1 errors found\n";
-        check_refused(&rt, alloc, "a cut file", file.as_slice(), text)?;
+        check_refused(alloc, "a cut file", file.as_slice(), text)?;
     }
     Ok(())
 }
@@ -358,10 +356,10 @@ fn deep_trees(rt: HostRuntime) -> Result<(), Fail> {
     let alloc = rt.alloc();
     let file = chain(alloc, 65)?;
     let row = (CHECK, SOUND);
-    check_row(&rt, alloc, "64 pages to a leaf", file.as_slice(), row)?;
+    check_row(alloc, "64 pages to a leaf", file.as_slice(), row)?;
     let file = chain(alloc, 66)?;
     let text = "page 67: tree too deep\n1 errors found\n";
-    check_refused(&rt, alloc, "65 pages to a leaf", file.as_slice(), text)?;
+    check_refused(alloc, "65 pages to a leaf", file.as_slice(), text)?;
     Ok(())
 }
 
@@ -375,7 +373,7 @@ fn deep_buckets(rt: HostRuntime) -> Result<(), Fail> {
         file: String::from_str(alloc, "FILE")?,
     };
     let row = (CHECK, SOUND);
-    check_job(&rt, alloc, "20,000 buckets", file.as_slice(), &job, row)?;
+    check_job(alloc, "20,000 buckets", file.as_slice(), &job, row)?;
     Ok(())
 }
 
@@ -385,12 +383,12 @@ fn many_free_pages(rt: HostRuntime) -> Result<(), Fail> {
     let mut ids = free_files::numbers(alloc, 132, 65_535)?;
     let file = free_files::many_free_pages(alloc, ids.as_slice())?;
     let row = (CHECK, SOUND);
-    check_row(&rt, alloc, "65,535 free pages", file.as_slice(), row)?;
+    check_row(alloc, "65,535 free pages", file.as_slice(), row)?;
     if let Some(second) = ids.get_mut(1) {
         *second = 132;
     }
     let file = free_files::many_free_pages(alloc, ids.as_slice())?;
     let text = "page 132: freed twice\npage 133: unreachable unfreed\n2 errors found\n";
-    check_refused(&rt, alloc, "the first of them twice", file.as_slice(), text)?;
+    check_refused(alloc, "the first of them twice", file.as_slice(), text)?;
     Ok(())
 }

@@ -45,22 +45,22 @@ fn large_files(rt: HostRuntime) -> Result<(), Fail> {
     let mut file = make(alloc, &sample)?;
     assert_eq!(rt; file.len(), 67_108_864);
     let row = (CHECK, Prints("OK\n"));
-    check_row(&rt, alloc, "64 MB past the mark", file.as_slice(), row)?;
+    check_row(alloc, "64 MB past the mark", file.as_slice(), row)?;
     patch(&mut file, 35 * PAGE_SIZE, root.as_slice())?;
     let unlisted = MetaFields {
         freelist: NO_FREELIST,
         ..fields
     };
     put_metas(alloc, &mut file, unlisted)?;
-    check_row(&rt, alloc, "64 MB, no freelist", file.as_slice(), row)?;
+    check_row(alloc, "64 MB, no freelist", file.as_slice(), row)?;
     put_metas(alloc, &mut file, fields)?;
     let mut ids = numbers(alloc, 36, 16_348)?;
     put_free_pages(alloc, &mut file, ids.as_slice())?;
-    check_row(&rt, alloc, "64 MB of free pages", file.as_slice(), row)?;
+    check_row(alloc, "64 MB of free pages", file.as_slice(), row)?;
     assert_eq!(rt; ids.pop(), Some(16_383));
     put_free_pages(alloc, &mut file, ids.as_slice())?;
     let text = "page 16383: unreachable unfreed\n1 errors found\n";
-    check_refused(&rt, alloc, "the last page lost", file.as_slice(), text)?;
+    check_refused(alloc, "the last page lost", file.as_slice(), text)?;
     Ok(())
 }
 
@@ -90,6 +90,6 @@ fn many_findings(rt: HostRuntime) -> Result<(), Fail> {
     let pages = [(2, free.as_slice()), (3, root.as_slice())];
     let file = database(alloc, 4, &fields, &pages)?;
     let name = "a thousand pages freed twice";
-    check_refused(&rt, alloc, name, file.as_slice(), text.as_str())?;
+    check_refused(alloc, name, file.as_slice(), text.as_str())?;
     Ok(())
 }

@@ -497,9 +497,9 @@ const FORM_TWICE: &str = "error: the argument '--form <F>' cannot be used multip
 
 #[test]
 fn refused_lines(rt: HostRuntime) -> Result<(), Fail> {
-    check_rows(&rt, rt.alloc(), "no file", &[], &HELP)?;
-    check_rows(&rt, rt.alloc(), "no file", &[], &COMMANDS)?;
-    check_rows(&rt, rt.alloc(), "no file", &[], &OPERANDS)?;
-    check_rows(&rt, rt.alloc(), "no file", &[], &OPTIONS)?;
+    check_rows(rt.alloc(), "no file", &[], &HELP)?;
+    check_rows(rt.alloc(), "no file", &[], &COMMANDS)?;
+    check_rows(rt.alloc(), "no file", &[], &OPERANDS)?;
+    check_rows(rt.alloc(), "no file", &[], &OPTIONS)?;
     Ok(())
 }

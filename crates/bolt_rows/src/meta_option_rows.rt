@@ -32,9 +32,9 @@ static DAMAGED: [Row<'static>; 3] = [
 #[test]
 fn two_states(rt: HostRuntime) -> Result<(), Fail> {
     let mut file = pair(rt.alloc(), [2, 1])?;
-    check_rows(&rt, rt.alloc(), "two states", file.as_slice(), &PAIR)?;
+    check_rows(rt.alloc(), "two states", file.as_slice(), &PAIR)?;
     patch(&mut file, 4 * 1024, &[9])?;
-    check_rows(&rt, rt.alloc(), "a damaged one", file.as_slice(), &DAMAGED)?;
+    check_rows(rt.alloc(), "a damaged one", file.as_slice(), &DAMAGED)?;
     Ok(())
 }
 
@@ -102,7 +102,7 @@ static FILES: [MetaRow<'static>; 9] = [
 fn named_metas(rt: HostRuntime) -> Result<(), Fail> {
     for (name, sample, words, want) in &FILES {
         let file = make(rt.alloc(), sample)?;
-        check_row(&rt, rt.alloc(), name, file.as_slice(), (*words, *want))?;
+        check_row(rt.alloc(), name, file.as_slice(), (*words, *want))?;
     }
     Ok(())
 }

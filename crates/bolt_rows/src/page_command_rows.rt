@@ -47,7 +47,7 @@ static INFOS: [FileRow<'static>; 6] = [
 
 #[test]
 fn infos(rt: HostRuntime) -> Result<(), Fail> {
-    check_files(&rt, rt.alloc(), INFO, &INFOS)?;
+    check_files(rt.alloc(), INFO, &INFOS)?;
     Ok(())
 }
 
@@ -66,7 +66,7 @@ fn great_info(rt: HostRuntime) -> Result<(), Fail> {
         sequence 10000000000000000000\nfreelist 18446744073709551614\n\
         high water 9999999999999999999\n";
     let row = (INFO, Prints(text));
-    check_row(&rt, rt.alloc(), "great numbers", file.as_slice(), row)?;
+    check_row(rt.alloc(), "great numbers", file.as_slice(), row)?;
     Ok(())
 }
 
@@ -143,9 +143,9 @@ fn pages(rt: HostRuntime) -> Result<(), Fail> {
     let alloc = rt.alloc();
     let file = command_samples::fresh(alloc, 4096)?;
     let rows = &FRESH_PAGES;
-    check_rows(&rt, alloc, "the fresh file", file.as_slice(), rows)?;
-    check_files(&rt, alloc, &["page", "FILE", "0"], &FIRST_PAGES)?;
-    check_files(&rt, alloc, PAGE_THREE, &THIRD_PAGES)?;
+    check_rows(alloc, "the fresh file", file.as_slice(), rows)?;
+    check_files(alloc, &["page", "FILE", "0"], &FIRST_PAGES)?;
+    check_files(alloc, PAGE_THREE, &THIRD_PAGES)?;
     Ok(())
 }
 
@@ -158,13 +158,7 @@ fn leaf_texts(rt: HostRuntime) -> Result<(), Fail> {
     let want = Prints("page 3\ntype leaf\nitems 2\noverflow 0\n61 = 31\n62 = 32\n");
     for page in [&packed, &gap] {
         let file = database(alloc, 4, &MetaFields::fresh(1024), &[(3, page.as_slice())])?;
-        check_row(
-            &rt,
-            alloc,
-            "two values",
-            file.as_slice(),
-            (PAGE_THREE, want),
-        )?;
+        check_row(alloc, "two values", file.as_slice(), (PAGE_THREE, want))?;
     }
     let rooted = reference(alloc, 4, 2)?;
     let far = reference(alloc, u64::MAX, u64::MAX)?;
@@ -178,13 +172,7 @@ fn leaf_texts(rt: HostRuntime) -> Result<(), Fail> {
         "page 3\ntype leaf\nitems 3\noverflow 0\n61 bucket 4 2\n62 = \n\
         00ff bucket 18446744073709551615 18446744073709551615\n",
     );
-    check_row(
-        &rt,
-        alloc,
-        "root pages",
-        file.as_slice(),
-        (PAGE_THREE, want),
-    )?;
+    check_row(alloc, "root pages", file.as_slice(), (PAGE_THREE, want))?;
     Ok(())
 }
 
@@ -202,13 +190,7 @@ fn branch_of_two_pages(rt: HostRuntime) -> Result<(), Fail> {
     };
     let file = database(alloc, 5, &fields, &[(3, page.as_slice())])?;
     let want = Prints("page 3\ntype branch\nitems 1\noverflow 1\nff -> 18446744073709551615\n");
-    check_row(
-        &rt,
-        alloc,
-        "a great child",
-        file.as_slice(),
-        (PAGE_THREE, want),
-    )?;
+    check_row(alloc, "a great child", file.as_slice(), (PAGE_THREE, want))?;
     Ok(())
 }
 
@@ -245,7 +227,7 @@ fn freelist_texts(rt: HostRuntime) -> Result<(), Fail> {
         } else {
             Fails("page 2: element past the page")
         };
-        check_row(&rt, alloc, name, file.as_slice(), (PAGE_TWO, want))?;
+        check_row(alloc, name, file.as_slice(), (PAGE_TWO, want))?;
     }
     Ok(())
 }
@@ -257,7 +239,6 @@ fn other_freelists(rt: HostRuntime) -> Result<(), Fail> {
     let file = free_files::many_free_pages(alloc, ids.as_slice())?;
     let text = freelist_text(alloc, 132, 65_535, 128)?;
     check_row(
-        &rt,
         alloc,
         "65,535 ids",
         file.as_slice(),
@@ -280,7 +261,6 @@ fn other_freelists(rt: HostRuntime) -> Result<(), Fail> {
         Prints("page 4\ntype freelist\nitems 2\noverflow 0\n9\n2\n"),
     )];
     check_rows(
-        &rt,
         alloc,
         "a freelist that the meta doesn't name",
         file.as_slice(),

@@ -10,20 +10,13 @@ use sample_files::maker::{Element, FRESH, MetaFields, flip};
 use sample_files::samples::{
     Content, FRESH_FILE, INLINE_BUCKET, Sample, forty_values, make, with_root,
 };
-use std::alloc::{AllocError, Global};
-use std::process::Abort;
+use std::alloc::Global;
 use std::test::Fail;
 
 /// Each command that reads the file says this of its metas.
-fn check_metas(
-    rt: &impl Abort,
-    alloc: Global,
-    name: &str,
-    file: &[u8],
-    line: &str,
-) -> Result<(), AllocError> {
+fn check_metas(alloc: Global, name: &str, file: &[u8], line: &str) -> Result<(), Fail> {
     for words in [INFO, PAGE_THREE, CHECK, BUCKETS] {
-        check_row(rt, alloc, name, file, (words, Fails(line)))?;
+        check_row(alloc, name, file, (words, Fails(line)))?;
     }
     Ok(())
 }
@@ -56,27 +49,21 @@ fn refused_metas(rt: HostRuntime) -> Result<(), Fail> {
     let mut file = forty_values(alloc)?;
     for length in [79, 0] {
         file.truncate(length);
-        check_metas(&rt, alloc, "a cut file", file.as_slice(), "file too short")?;
+        check_metas(alloc, "a cut file", file.as_slice(), "file too short")?;
     }
-    check_metas(&rt, alloc, "zeros", &[0; 80], "invalid database")?;
+    check_metas(alloc, "zeros", &[0; 80], "invalid database")?;
     let mut file = command_samples::fresh(alloc, 1024)?;
     flip(&mut file, 72);
     flip(&mut file, 1024 + 72);
-    check_metas(
-        &rt,
-        alloc,
-        "both checksums",
-        file.as_slice(),
-        "checksum error",
-    )?;
+    check_metas(alloc, "both checksums", file.as_slice(), "checksum error")?;
     for (name, fields, line) in &FIELDS {
         let file = with_root(alloc, fields, &[])?;
-        check_metas(&rt, alloc, name, file.as_slice(), line)?;
+        check_metas(alloc, name, file.as_slice(), line)?;
     }
     for page_size in &PAGE_SIZES {
         let file = command_samples::told_page_size(alloc, *page_size)?;
         let line = "page size refused";
-        check_metas(&rt, alloc, "a page size", file.as_slice(), line)?;
+        check_metas(alloc, "a page size", file.as_slice(), line)?;
     }
     Ok(())
 }
@@ -179,9 +166,9 @@ fn refused_pages(rt: HostRuntime) -> Result<(), Fail> {
     for (sample, line) in &PAGES {
         let file = make(alloc, sample)?;
         let row = (PAGE_THREE, Fails(line));
-        check_row(&rt, alloc, line, file.as_slice(), row)?;
+        check_row(alloc, line, file.as_slice(), row)?;
         let text = format!(in alloc; "{line}\n1 errors found\n")?;
-        check_refused(&rt, alloc, line, file.as_slice(), text.as_str())?;
+        check_refused(alloc, line, file.as_slice(), text.as_str())?;
     }
     Ok(())
 }

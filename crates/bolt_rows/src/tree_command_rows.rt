@@ -59,7 +59,6 @@ static INLINE_ROWS: [Row<'static>; 21] = [
 fn inline_bucket(rt: HostRuntime) -> Result<(), Fail> {
     let file = make(rt.alloc(), &INLINE_BUCKET)?;
     check_rows(
-        &rt,
         rt.alloc(),
         "an inline bucket",
         file.as_slice(),
@@ -98,13 +97,7 @@ static TWO_BUCKETS: [Row<'static>; 8] = [
 #[test]
 fn two_inline_buckets(rt: HostRuntime) -> Result<(), Fail> {
     let file = two_buckets(rt.alloc())?;
-    check_rows(
-        &rt,
-        rt.alloc(),
-        "two buckets",
-        file.as_slice(),
-        &TWO_BUCKETS,
-    )?;
+    check_rows(rt.alloc(), "two buckets", file.as_slice(), &TWO_BUCKETS)?;
     Ok(())
 }
 
@@ -127,7 +120,7 @@ static UNSOUND: [Row<'static>; 3] = [
 #[test]
 fn unsound_file(rt: HostRuntime) -> Result<(), Fail> {
     let file = make(rt.alloc(), &GREATEST_OVERFLOW)?;
-    check_rows(&rt, rt.alloc(), "an overflow", file.as_slice(), &UNSOUND)?;
+    check_rows(rt.alloc(), "an overflow", file.as_slice(), &UNSOUND)?;
     Ok(())
 }
 
@@ -160,7 +153,7 @@ fn bytes_and_sequences(rt: HostRuntime) -> Result<(), Fail> {
         Bucket(b"s", held.as_slice()),
     ];
     let file = with_root(alloc, &MetaFields::fresh(1024), &elements)?;
-    check_rows(&rt, alloc, "bytes", file.as_slice(), &BYTES)?;
+    check_rows(alloc, "bytes", file.as_slice(), &BYTES)?;
     Ok(())
 }
 
@@ -221,7 +214,7 @@ static TABLES: [FileRow<'static>; 4] = [
 
 #[test]
 fn tables(rt: HostRuntime) -> Result<(), Fail> {
-    check_files(&rt, rt.alloc(), &["pages", "FILE"], &TABLES)?;
+    check_files(rt.alloc(), &["pages", "FILE"], &TABLES)?;
     Ok(())
 }
 
@@ -266,19 +259,18 @@ const STATS: &[&str] = &["stats", "FILE"];
 #[test]
 fn figures(rt: HostRuntime) -> Result<(), Fail> {
     let alloc = rt.alloc();
-    check_files(&rt, alloc, STATS, &FIGURES)?;
+    check_files(alloc, STATS, &FIGURES)?;
     let two = two_buckets(alloc)?;
     let inline_text = "buckets 2\ninline buckets 2\ninline used 50\nkeys 1\ndepth 1\n\
         branch pages 0\nbranch overflow 0\nbranch allocated 0\nbranch used 0\n\
         leaf pages 0\nleaf overflow 0\nleaf allocated 0\nleaf used 0\n";
     let row = (STATS, Prints(inline_text));
-    check_row(&rt, alloc, "two buckets", two.as_slice(), row)?;
+    check_row(alloc, "two buckets", two.as_slice(), row)?;
     let forty = forty_values(alloc)?;
     let text = "buckets 1\ninline buckets 0\ninline used 0\nkeys 40\ndepth 2\n\
         branch pages 1\nbranch overflow 0\nbranch allocated 1024\nbranch used 88\n\
         leaf pages 4\nleaf overflow 0\nleaf allocated 4096\nleaf used 4064\n";
     check_row(
-        &rt,
         alloc,
         "four leaves",
         forty.as_slice(),
@@ -319,8 +311,8 @@ fn several_leaves(rt: HostRuntime) -> Result<(), Fail> {
     assert_eq!(rt; all.len(), 7012);
     assert_eq!(rt; rest.len(), 4375);
     let whole = (LIST, Prints(all.as_str()));
-    check_row(&rt, alloc, "four leaves", file.as_slice(), whole)?;
+    check_row(alloc, "four leaves", file.as_slice(), whole)?;
     let later = (LIST_LATER, Prints(rest.as_str()));
-    check_row(&rt, alloc, "four leaves", file.as_slice(), later)?;
+    check_row(alloc, "four leaves", file.as_slice(), later)?;
     Ok(())
 }

@@ -54,37 +54,37 @@ fn refused_words(rt: HostRuntime) -> Result<(), Fail> {
     for number in &NUMBERS {
         let words = ["page", "FILE", *number];
         let row = (words.as_slice(), RefusedWord("bad page id"));
-        check_row(&rt, rt.alloc(), "no file", &[], row)?;
+        check_row(rt.alloc(), "no file", &[], row)?;
     }
     for form in &FORMS {
         let words = ["buckets", "FILE", "--form", *form];
         let row = (words.as_slice(), RefusedWord("bad form"));
-        check_row(&rt, rt.alloc(), "no file", &[], row)?;
+        check_row(rt.alloc(), "no file", &[], row)?;
     }
     for parts in &FORMS {
         let words = ["keys", "FILE", "--parts", *parts, "61"];
         let row = (words.as_slice(), RefusedWord("bad parts"));
-        check_row(&rt, rt.alloc(), "no file", &[], row)?;
+        check_row(rt.alloc(), "no file", &[], row)?;
     }
     for slot in &SLOTS {
         let words = ["list", "FILE", "--meta", *slot];
         let row = (words.as_slice(), RefusedWord("bad meta"));
-        check_row(&rt, rt.alloc(), "no file", &[], row)?;
+        check_row(rt.alloc(), "no file", &[], row)?;
     }
     for size in &PAGE_SIZES {
         let words = ["compact", "-o", "OUT", "FILE", "--page-size", *size];
         let row = (words.as_slice(), RefusedWord("bad page size"));
-        check_row(&rt, rt.alloc(), "no file", &[], row)?;
+        check_row(rt.alloc(), "no file", &[], row)?;
     }
     for hex in &HEXES {
         let words = ["get", "FILE", "--parts", "hex", "61", *hex];
         let row = (words.as_slice(), RefusedWord("bad hex"));
-        check_row(&rt, rt.alloc(), "no file", &[], row)?;
+        check_row(rt.alloc(), "no file", &[], row)?;
     }
     for path in &PATHS {
         let words = ["list", "FILE", "--from", *path];
         let row = (words.as_slice(), RefusedWord("bad hex"));
-        check_row(&rt, rt.alloc(), "no file", &[], row)?;
+        check_row(rt.alloc(), "no file", &[], row)?;
     }
     Ok(())
 }

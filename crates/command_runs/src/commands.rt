@@ -4,7 +4,7 @@ use bolt_cli::{Job, Refusal, read_words, run};
 use bolt_format::MemSink;
 use sample_files::samples::{Sample, make};
 use std::alloc::{AllocError, Global};
-use std::process::Abort;
+use std::test::Fail;
 
 /// What a command line comes to. Each text is the whole of what is written.
 #[derive(Clone, Copy)]
@@ -54,20 +54,20 @@ fn beginning(bytes: &[u8]) -> &str {
 
 /// The run wrote what is wanted.
 pub fn check_written(
-    rt: &impl Abort,
     name: &str,
     words: &[&str],
     got: Written<'_>,
     want: Written<'_>,
-) {
-    let is_same = got.0 == want.0 && got.1 == want.1 && got.2 == want.2;
+) -> Result<(), Fail> {
+    if got.0 == want.0 && got.1 == want.1 && got.2 == want.2 {
+        return Ok(());
+    }
     let (out, err, status) = (beginning(got.0), beginning(got.1), got.2);
     let (wanted_out, wanted_err, wanted_status) = (beginning(want.0), beginning(want.1), want.2);
-    assert!(rt;
-        is_same,
+    Err(Fail::new(format_args!(
         "{words:?} on {name} come to status {status}, output {out:?}, error {err:?}, \
         and not to status {wanted_status}, output {wanted_out:?}, error {wanted_err:?}"
-    );
+    )))
 }
 
 /// A line of standard error.
@@ -86,7 +86,7 @@ pub fn words_of(alloc: Global, words: &[&str]) -> Result<Vec<String>, AllocError
 }
 
 /// The answer to words that ask for no job.
-fn check_refusal(rt: &impl Abort, refusal: &Refusal, words: &[&str], want: Outcome<'_>) {
+fn check_refusal(refusal: &Refusal, words: &[&str], want: Outcome<'_>) -> Result<(), Fail> {
     let is_wanted = match (refusal, want) {
         (Refusal::Help(text), Helps(wanted))
         | (Refusal::Version(text), TellsVersion(wanted))
@@ -94,23 +94,17 @@ fn check_refusal(rt: &impl Abort, refusal: &Refusal, words: &[&str], want: Outco
         (Refusal::Word(line), RefusedWord(wanted)) => *line == wanted,
         _ => false,
     };
-    assert!(rt; is_wanted, "{words:?} are refused as {refusal:?}");
+    if is_wanted {
+        return Ok(());
+    }
+    Err(Fail::new(format_args!("{words:?} are refused as {refusal:?}")))
 }
 
 /// The words on the file come to what the row says.
-pub fn check_row(
-    rt: &impl Abort,
-    alloc: Global,
-    name: &str,
-    file: &[u8],
-    row: Row<'_>,
-) -> Result<(), AllocError> {
+pub fn check_row(alloc: Global, name: &str, file: &[u8], row: Row<'_>) -> Result<(), Fail> {
     match read_words(alloc, words_of(alloc, row.0)?) {
-        Ok(job) => check_job(rt, alloc, name, file, &job, row),
-        Err(refusal) => {
-            check_refusal(rt, &refusal, row.0, row.1);
-            Ok(())
-        }
+        Ok(job) => check_job(alloc, name, file, &job, row),
+        Err(refusal) => check_refusal(&refusal, row.0, row.1),
     }
 }
 
@@ -127,13 +121,12 @@ fn wanted_of<'a>(want: Outcome<'a>, line: &'a str) -> Option<Written<'a>> {
 
 /// The job that the words ask for comes on the file to what the row says.
 pub fn check_job(
-    rt: &impl Abort,
     alloc: Global,
     name: &str,
     file: &[u8],
     job: &Job,
     row: Row<'_>,
-) -> Result<(), AllocError> {
+) -> Result<(), Fail> {
     let (words, want) = row;
     let mut out = MemSink::new(alloc);
     let mut err = MemSink::new(alloc);
@@ -144,55 +137,37 @@ pub fn check_job(
         Fails(text) => error_line(alloc, text)?,
         _ => String::new(alloc),
     };
-    match wanted_of(want, line.as_str()) {
-        Some(wanted) => check_written(rt, name, words, got, wanted),
-        None => assert!(rt; false, "{words:?} on {name} are accepted"),
+    let Some(wanted) = wanted_of(want, line.as_str()) else {
+        return Err(Fail::new(format_args!("{words:?} on {name} are accepted")));
+    };
+    check_written(name, words, got, wanted)?;
+    if target.bytes().is_empty() {
+        return Ok(());
     }
-    assert!(rt;
-        target.bytes().is_empty(),
-        "{words:?} on {name} touch the target"
-    );
-    Ok(())
+    Err(Fail::new(format_args!("{words:?} on {name} touch the target")))
 }
 
 /// Each row holds on the file.
-pub fn check_rows(
-    rt: &impl Abort,
-    alloc: Global,
-    name: &str,
-    file: &[u8],
-    rows: &[Row<'_>],
-) -> Result<(), AllocError> {
+pub fn check_rows(alloc: Global, name: &str, file: &[u8], rows: &[Row<'_>]) -> Result<(), Fail> {
     for row in rows {
-        check_row(rt, alloc, name, file, *row)?;
+        check_row(alloc, name, file, *row)?;
     }
     Ok(())
 }
 
 /// The words on the file of each row come to what the row says.
-pub fn check_files(
-    rt: &impl Abort,
-    alloc: Global,
-    words: &[&str],
-    rows: &[FileRow<'_>],
-) -> Result<(), AllocError> {
+pub fn check_files(alloc: Global, words: &[&str], rows: &[FileRow<'_>]) -> Result<(), Fail> {
     for (name, sample, want) in rows {
         let file = make(alloc, sample)?;
-        check_row(rt, alloc, name, file.as_slice(), (words, *want))?;
+        check_row(alloc, name, file.as_slice(), (words, *want))?;
     }
     Ok(())
 }
 
 /// The file is refused: `check` prints this text, and `buckets` tells its first line.
-pub fn check_refused(
-    rt: &impl Abort,
-    alloc: Global,
-    name: &str,
-    file: &[u8],
-    text: &str,
-) -> Result<(), AllocError> {
+pub fn check_refused(alloc: Global, name: &str, file: &[u8], text: &str) -> Result<(), Fail> {
     let first = text.lines().next().unwrap_or("no finding");
     let line = format!(in alloc; "file refused: {first}")?;
-    check_row(rt, alloc, name, file, (CHECK, Finds(text)))?;
-    check_row(rt, alloc, name, file, (BUCKETS, Fails(line.as_str())))
+    check_row(alloc, name, file, (CHECK, Finds(text)))?;
+    check_row(alloc, name, file, (BUCKETS, Fails(line.as_str())))
 }

@@ -3,7 +3,7 @@
 use bolt_cli::{Job, Refusal, read_words, run};
 use bolt_format::{MemSink, Sink};
 use std::alloc::Global;
-use std::process::Abort;
+use std::test::Fail;
 
 /// The job that a command line asks for, its words with a space between.
 pub fn job_of(alloc: Global, line: &str) -> Result<Job, Refusal> {
@@ -51,27 +51,28 @@ impl Ran {
     }
 
     /// The run came to this, but for the copy.
-    pub fn check(&self, rt: &impl Abort, name: &str, at: usize, want: Wanted<'_>) {
+    pub fn check(&self, name: &str, at: usize, want: Wanted<'_>) -> Result<(), Fail> {
+        if self.is(want) {
+            return Ok(());
+        }
         let (code, out, err) = (self.code, shown(&self.out), shown(&self.err));
         let (wanted, wanted_out, wanted_err) = (want.0, beginning(want.1), beginning(want.2));
-        assert!(rt;
-            self.is(want),
+        Err(Fail::new(format_args!(
             "{name} at {at}: status {code}, output {out:?}, error {err:?}, \
             and not status {wanted}, output {wanted_out:?}, error {wanted_err:?}"
-        );
+        )))
     }
 }
 
 /// The job comes on the file to this, but for the copy. A failed test tells the name and the place.
 pub fn check_run(
-    rt: &impl Abort,
     alloc: Global,
     job: &Job,
     file: &[u8],
     told: (&str, usize),
     want: Wanted<'_>,
-) {
-    Ran::on(alloc, job, file).check(rt, told.0, told.1, want);
+) -> Result<(), Fail> {
+    Ran::on(alloc, job, file).check(told.0, told.1, want)
 }
 
 /// The beginning of what was taken, as a failed test shows it.

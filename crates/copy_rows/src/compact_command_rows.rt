@@ -15,46 +15,40 @@ use sample_files::samples::{
     Content, FRESH_FILE, INLINE_BUCKET, Sample, forty_values, make, with_root,
 };
 use std::alloc::{AllocError, Global};
-use std::process::Abort;
 use std::test::Fail;
 
 const COPY: &[&str] = &["compact", "-o", "OUT", "FILE"];
 
 /// The words ask for a job, which is done over these sinks; its status is the answer.
 fn run_words<O: Sink, T: Sink>(
-    rt: &impl Abort,
     alloc: Global,
     file: &[u8],
     words: &[&str],
     out: &mut O,
     err: &mut MemSink,
     target: &mut T,
-) -> Result<u8, AllocError> {
+) -> Result<u8, Fail> {
     match read_words(alloc, words_of(alloc, words)?) {
         Ok(job) => Ok(run(alloc, &job, file, out, err, target).code),
-        Err(_) => {
-            assert!(rt; false, "{words:?} are refused");
-            Ok(2)
-        }
+        Err(_) => Err(Fail::new(format_args!("{words:?} are refused"))),
     }
 }
 
 /// The copy that the words make of the file, of which this line is told.
 pub fn copy_of(
-    rt: &impl Abort,
     alloc: Global,
     name: &str,
     file: &[u8],
     words: &[&str],
     line: &str,
-) -> Result<Vec<u8>, AllocError> {
+) -> Result<Vec<u8>, Fail> {
     let mut out = MemSink::new(alloc);
     let mut err = MemSink::new(alloc);
     let mut target = MemSink::new(alloc);
-    let code = run_words(rt, alloc, file, words, &mut out, &mut err, &mut target)?;
+    let code = run_words(alloc, file, words, &mut out, &mut err, &mut target)?;
     let got = (out.bytes(), err.bytes(), code);
-    check_written(rt, name, words, got, (line.as_bytes(), b"", 0));
-    target.bytes().to_vec(alloc)
+    check_written(name, words, got, (line.as_bytes(), b"", 0))?;
+    Ok(target.bytes().to_vec(alloc)?)
 }
 
 /// A page that is free.
@@ -98,7 +92,7 @@ fn fresh_copies(rt: HostRuntime) -> Result<(), Fail> {
     let fresh = make(alloc, &FRESH_FILE)?;
     for (name, sample, words, line) in &TO_FRESH {
         let file = make(alloc, sample)?;
-        let copy = copy_of(&rt, alloc, name, file.as_slice(), words, line)?;
+        let copy = copy_of(alloc, name, file.as_slice(), words, line)?;
         assert!(rt; copy.as_slice() == fresh.as_slice(), "the copy of {name}");
     }
     Ok(())
@@ -120,7 +114,7 @@ static REFUSED: [FileRow<'static>; 2] = [
 
 #[test]
 fn refused_copies(rt: HostRuntime) -> Result<(), Fail> {
-    check_files(&rt, rt.alloc(), COPY, &REFUSED)?;
+    check_files(rt.alloc(), COPY, &REFUSED)?;
     Ok(())
 }
 
@@ -132,9 +126,9 @@ fn sequences_stay(rt: HostRuntime) -> Result<(), Fail> {
     let file = with_root(alloc, &MetaFields::fresh(4096), &elements)?;
     let name = "an empty bucket";
     let line = "16384 -> 16384 bytes\n";
-    let copy = copy_of(&rt, alloc, name, file.as_slice(), COPY, line)?;
+    let copy = copy_of(alloc, name, file.as_slice(), COPY, line)?;
     let row = (["list", "FILE"].as_slice(), Prints("62 bucket 7\n"));
-    check_row(&rt, alloc, name, copy.as_slice(), row)?;
+    check_row(alloc, name, copy.as_slice(), row)?;
     Ok(())
 }
 
@@ -193,10 +187,10 @@ fn values_of_a_bucket(rt: HostRuntime) -> Result<(), Fail> {
     let alloc = rt.alloc();
     for (length, line, rows) in &VALUES {
         let file = one_value(alloc, *length)?;
-        let copy = copy_of(&rt, alloc, "one value", file.as_slice(), TO_4096, line)?;
+        let copy = copy_of(alloc, "one value", file.as_slice(), TO_4096, line)?;
         let pages = format!(in alloc; "{PAGE_HEAD}{rows}")?;
         let row = (["pages", "FILE"].as_slice(), Prints(pages.as_str()));
-        check_row(&rt, alloc, "one value", copy.as_slice(), row)?;
+        check_row(alloc, "one value", copy.as_slice(), row)?;
     }
     Ok(())
 }
@@ -208,23 +202,16 @@ fn page_sizes(rt: HostRuntime) -> Result<(), Fail> {
     let alloc = rt.alloc();
     let file = make(alloc, &INLINE_BUCKET)?;
     let line = "16384 -> 4096 bytes\n";
-    copy_of(
-        &rt,
-        alloc,
-        "an inline bucket",
-        file.as_slice(),
-        TO_1024,
-        line,
-    )?;
+    copy_of(alloc, "an inline bucket", file.as_slice(), TO_1024, line)?;
     let file = forty_values(alloc)?;
     let name = "forty values";
     let line = "9216 -> 9216 bytes\n";
-    let copy = copy_of(&rt, alloc, name, file.as_slice(), COPY, line)?;
+    let copy = copy_of(alloc, name, file.as_slice(), COPY, line)?;
     assert!(rt; copy.as_slice() == file.as_slice(), "the copy of {name}");
     let line = "9216 -> 20480 bytes\n";
-    let wide = copy_of(&rt, alloc, name, copy.as_slice(), TO_4096, line)?;
+    let wide = copy_of(alloc, name, copy.as_slice(), TO_4096, line)?;
     let line = "20480 -> 9216 bytes\n";
-    let back = copy_of(&rt, alloc, name, wide.as_slice(), TO_1024, line)?;
+    let back = copy_of(alloc, name, wide.as_slice(), TO_1024, line)?;
     assert!(rt;
         back.as_slice() == file.as_slice(),
         "the copy of a copy of {name}"
@@ -237,11 +224,11 @@ fn cut_copies(rt: HostRuntime) -> Result<(), Fail> {
     let alloc = rt.alloc();
     let file = forty_values(alloc)?;
     let line = "9216 -> 9216 bytes\n";
-    let mut copy = copy_of(&rt, alloc, "forty values", file.as_slice(), COPY, line)?;
+    let mut copy = copy_of(alloc, "forty values", file.as_slice(), COPY, line)?;
     for length in [9215, 80] {
         copy.truncate(length);
         let text = "page 8: cut off\n1 errors found\n";
-        check_refused(&rt, alloc, "a cut copy", copy.as_slice(), text)?;
+        check_refused(alloc, "a cut copy", copy.as_slice(), text)?;
     }
     Ok(())
 }
@@ -254,7 +241,6 @@ fn failing_target(rt: HostRuntime) -> Result<(), Fail> {
     let mut err = MemSink::new(alloc);
     let mut target = WriteSink::new(Halting::new(alloc, 4, Refusal::Nothing));
     let code = run_words(
-        &rt,
         alloc,
         file.as_slice(),
         COPY,
@@ -264,7 +250,7 @@ fn failing_target(rt: HostRuntime) -> Result<(), Fail> {
     )?;
     let got = (out.bytes(), err.bytes(), code);
     let want = (b"".as_slice(), b"error: write failed\n".as_slice(), 1);
-    check_written(&rt, "a fresh file", COPY, got, want);
+    check_written("a fresh file", COPY, got, want)?;
     let taken = target.into_inner().taken;
     assert!(rt;
         taken.len() < 22 && file.starts_with(taken.as_slice()),
@@ -281,7 +267,6 @@ fn failing_output(rt: HostRuntime) -> Result<(), Fail> {
     let mut err = MemSink::new(alloc);
     let mut target = MemSink::new(alloc);
     let code = run_words(
-        &rt,
         alloc,
         file.as_slice(),
         COPY,
@@ -291,6 +276,6 @@ fn failing_output(rt: HostRuntime) -> Result<(), Fail> {
     )?;
     let got = (target.bytes(), err.bytes(), code);
     let want = (file.as_slice(), b"error: write failed\n".as_slice(), 1);
-    check_written(&rt, "a fresh file", COPY, got, want);
+    check_written("a fresh file", COPY, got, want)?;
     Ok(())
 }

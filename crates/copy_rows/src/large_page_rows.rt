@@ -25,7 +25,7 @@ fn greatest_page_size(rt: HostRuntime) -> Result<(), Fail> {
     assert_eq!(rt; bytes.len(), 33_554_512);
     let text = "page size 33554432\nmeta 1\ntxid 1\nroot 3\nsequence 0\nfreelist 2\nhigh water 4\n";
     let row = (INFO, Prints(text));
-    check_row(&rt, alloc, "a meta alone", bytes.as_slice(), row)?;
+    check_row(alloc, "a meta alone", bytes.as_slice(), row)?;
     Ok(())
 }
 
@@ -101,13 +101,13 @@ fn greatest_leaf(rt: HostRuntime) -> Result<(), Fail> {
     assert_eq!(rt; keys.len(), 65_535);
     let bytes = with_keys(alloc, keys.as_slice())?;
     let row = (CHECK, Prints("OK\n"));
-    check_row(&rt, alloc, "65,535 elements", bytes.as_slice(), row)?;
+    check_row(alloc, "65,535 elements", bytes.as_slice(), row)?;
     if let Some(last) = keys.last_mut() {
         *last = [0xFF, 0xFD];
     }
     let bytes = with_keys(alloc, keys.as_slice())?;
     let text = "page 3: keys not rising\n1 errors found\n";
-    check_refused(&rt, alloc, "the last of them twice", bytes.as_slice(), text)?;
+    check_refused(alloc, "the last of them twice", bytes.as_slice(), text)?;
     Ok(())
 }
 
@@ -122,14 +122,14 @@ fn greatest_buckets(rt: HostRuntime) -> Result<(), Fail> {
     let row = (CHECK, Prints("OK\n"));
     let bytes = with_bucket(alloc, 2_097_152, first, rest)?;
     assert_eq!(rt; bytes.len(), 14_680_064);
-    check_row(&rt, alloc, "65,536 keys", bytes.as_slice(), row)?;
+    check_row(alloc, "65,536 keys", bytes.as_slice(), row)?;
     let bytes = with_bucket(alloc, 8_388_608, first, one)?;
     assert_eq!(rt; bytes.len(), 58_720_256);
-    check_row(&rt, alloc, "65,535 keys", bytes.as_slice(), row)?;
+    check_row(alloc, "65,535 keys", bytes.as_slice(), row)?;
     let stored = inline(alloc, 0, first)?;
     let bytes = with_leaf(alloc, 8_388_608, &[Bucket(b"b", stored.as_slice())])?;
     assert_eq!(rt; bytes.len(), 33_554_432);
-    check_row(&rt, alloc, "65,534 keys inline", bytes.as_slice(), row)?;
+    check_row(alloc, "65,534 keys inline", bytes.as_slice(), row)?;
     Ok(())
 }
 

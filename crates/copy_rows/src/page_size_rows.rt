@@ -17,11 +17,11 @@ pub fn check_copy(
     file: &[u8],
     page_size: &str,
     want: &[u8],
-) -> Result<(), AllocError> {
+) -> Result<(), Fail> {
     let (length, copied) = (file.len(), want.len());
     let line = format!(in alloc; "{length} -> {copied} bytes\n")?;
     let words = ["compact", "FILE", "-o", "OUT", "--page-size", page_size];
-    let copy = copy_of(rt, alloc, "a file", file, &words, line.as_str())?;
+    let copy = copy_of(alloc, "a file", file, &words, line.as_str())?;
     assert!(rt;
         copy.as_slice() == want,
         "the copy of {length} bytes at {page_size}"
@@ -38,7 +38,7 @@ fn check_pair(
     alloc: Global,
     one: Compact<'_>,
     other: Compact<'_>,
-) -> Result<(), AllocError> {
+) -> Result<(), Fail> {
     check_copy(rt, alloc, one.0, other.1, other.0)?;
     check_copy(rt, alloc, other.0, one.1, one.0)
 }
@@ -149,7 +149,7 @@ fn nested_buckets(rt: HostRuntime) -> Result<(), Fail> {
         (large.as_slice(), "4096"),
     )?;
     let row = (["stats", "FILE"].as_slice(), Prints(NESTED_FIGURES));
-    check_row(&rt, alloc, "nested buckets", large.as_slice(), row)?;
+    check_row(alloc, "nested buckets", large.as_slice(), row)?;
     Ok(())
 }
 
@@ -234,7 +234,7 @@ fn meta_and_page_size(rt: HostRuntime) -> Result<(), Fail> {
     let file = make(alloc, &LEAKED_PAGE)?;
     let words = ["compact", "--meta=0", "--page-size=1024", "-oOUT", "FILE"];
     let line = "20480 -> 4096 bytes\n";
-    let copy = copy_of(&rt, alloc, "a leaked page", file.as_slice(), &words, line)?;
+    let copy = copy_of(alloc, "a leaked page", file.as_slice(), &words, line)?;
     let fresh = with_root(alloc, &MetaFields::fresh(1024), &[])?;
     assert!(rt;
         copy.as_slice() == fresh.as_slice(),

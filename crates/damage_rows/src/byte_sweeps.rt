@@ -5,7 +5,7 @@ use bolt_cli::{Job, Refusal};
 use command_runs::ran::{Ran, check_run, job_of};
 use sample_files::maker::{FRESH, MetaFields};
 use sample_files::samples::{INLINE_BUCKET, Sample, make};
-use std::alloc::{AllocError, Global};
+use std::alloc::Global;
 use std::process::Abort;
 use std::test::Fail;
 
@@ -132,7 +132,12 @@ struct Changed<'a> {
 }
 
 /// The metas and the pages tell what stands in them.
-fn check_tour(rt: &impl Abort, alloc: Global, jobs: &Jobs, changed: Changed<'_>) {
+fn check_tour(
+    rt: &impl Abort,
+    alloc: Global,
+    jobs: &Jobs,
+    changed: Changed<'_>,
+) -> Result<(), Fail> {
     let Changed {
         file,
         at,
@@ -140,13 +145,13 @@ fn check_tour(rt: &impl Abort, alloc: Global, jobs: &Jobs, changed: Changed<'_>)
     } = changed;
     let is_second = at < SECOND_RECORD || SECOND_RECORD_END <= at;
     let text = if is_second { SECOND_META } else { FIRST_META };
-    check_run(rt, alloc, &jobs.info, file, ("info", at), (0, text, b""));
+    check_run(alloc, &jobs.info, file, ("info", at), (0, text, b""))?;
     let past = (
         1,
         b"".as_slice(),
         b"error: page 4: out of range\n".as_slice(),
     );
-    check_run(rt, alloc, &jobs.past, file, ("page 4", at), past);
+    check_run(alloc, &jobs.past, file, ("page 4", at), past)?;
     let texts = PAGES.iter().zip(&REFUSED_PAGES);
     for (id, (job, (text, refusal))) in jobs.pages.iter().zip(texts).enumerate() {
         let ran = Ran::on(alloc, job, file);
@@ -160,9 +165,10 @@ fn check_tour(rt: &impl Abort, alloc: Global, jobs: &Jobs, changed: Changed<'_>)
             };
             assert!(rt; is_one, "page {id} at {at}");
         } else {
-            ran.check(rt, "page", at, (0, text, b""));
+            ran.check("page", at, (0, text, b""))?;
         }
     }
+    Ok(())
 }
 
 /// Each command refuses the file for the first finding of `check`.
@@ -172,7 +178,7 @@ fn check_refused(
     jobs: &Jobs,
     changed: Changed<'_>,
     found: &Ran,
-) -> Result<(), AllocError> {
+) -> Result<(), Fail> {
     let Changed {
         file,
         at,
@@ -188,11 +194,11 @@ fn check_refused(
     let line = format!(in alloc; "error: file refused: {first}\n")?;
     let want = (1, b"".as_slice(), line.as_bytes());
     for job in &jobs.readers {
-        check_run(rt, alloc, job, file, ("a command", at), want);
+        check_run(alloc, job, file, ("a command", at), want)?;
     }
-    check_run(rt, alloc, &jobs.list, file, ("list", at), want);
+    check_run(alloc, &jobs.list, file, ("list", at), want)?;
     let copy = Ran::on(alloc, &jobs.compact, file);
-    copy.check(rt, "compact", at, want);
+    copy.check("compact", at, want)?;
     assert!(rt; copy.target.bytes().is_empty(), "the copy at {at}");
     Ok(())
 }
@@ -203,7 +209,7 @@ fn check_sound(
     alloc: Global,
     jobs: &Jobs,
     changed: Changed<'_>,
-) -> Result<(), AllocError> {
+) -> Result<(), Fail> {
     let Changed { file, at, before } = changed;
     for job in &jobs.readers {
         let ran = Ran::on(alloc, job, file);
@@ -217,27 +223,19 @@ fn check_sound(
     let copied = copy.target.bytes();
     let length = copied.len();
     let line = format!(in alloc; "4096 -> {length} bytes\n")?;
-    copy.check(rt, "compact", at, (0, line.as_bytes(), b""));
+    copy.check("compact", at, (0, line.as_bytes(), b""))?;
     check_run(
-        rt,
         alloc,
         &jobs.check,
         copied,
         ("check of the copy", at),
         (0, b"OK\n", b""),
-    );
+    )?;
     let listed = (0, list.out.bytes(), b"".as_slice());
-    list.check(rt, "list", at, listed);
-    check_run(
-        rt,
-        alloc,
-        &jobs.list,
-        copied,
-        ("list of the copy", at),
-        listed,
-    );
+    list.check("list", at, listed)?;
+    check_run(alloc, &jobs.list, copied, ("list of the copy", at), listed)?;
     if !is_read(at) {
-        list.check(rt, "list", at, (0, LISTING, b""));
+        list.check("list", at, (0, LISTING, b""))?;
         assert!(rt; copied == before, "the copy at {at}");
     }
     Ok(())
@@ -248,8 +246,8 @@ fn check_changed(
     alloc: Global,
     jobs: &Jobs,
     changed: Changed<'_>,
-) -> Result<(), AllocError> {
-    check_tour(rt, alloc, jobs, changed);
+) -> Result<(), Fail> {
+    check_tour(rt, alloc, jobs, changed)?;
     let found = Ran::on(alloc, &jobs.check, changed.file);
     if found.is((0, b"OK\n", b"")) {
         check_sound(rt, alloc, jobs, changed)
@@ -277,7 +275,7 @@ fn sweep_byte(
     jobs: &Jobs,
     file: &[u8],
     at: usize,
-) -> Result<(), AllocError> {
+) -> Result<(), Fail> {
     let mut other = file.to_vec(alloc)?;
     for bits in 1..=u8::MAX {
         toggle(&mut other, at, bits);

@@ -32,15 +32,16 @@ fn check_cuts(
     file: &[u8],
     lengths: Range<usize>,
     want: Wanted<'_>,
-) {
+) -> Result<(), Fail> {
     for length in lengths {
         let ran = Ran::on(alloc, job, file.get(..length).unwrap_or(file));
-        ran.check(rt, line, length, want);
+        ran.check(line, length, want)?;
         assert!(rt;
             ran.target.bytes().is_empty(),
             "{line} at {length} makes a copy"
         );
     }
+    Ok(())
 }
 
 const TOO_SHORT: &[u8] = b"error: file too short\n";
@@ -81,17 +82,15 @@ fn check_of_cut_files(rt: HostRuntime) -> Result<(), Fail> {
     for (lengths, found, _) in cuts(80) {
         let told = if found.is_empty() { TOO_SHORT } else { b"" };
         let want = (1, found, told);
-        check_cuts(&rt, alloc, (line, &job), file.as_slice(), lengths, want);
+        check_cuts(&rt, alloc, (line, &job), file.as_slice(), lengths, want)?;
     }
     check_run(
-        &rt,
         alloc,
         &job,
         file.as_slice(),
         (line, LENGTH),
         (0, b"OK\n", b""),
-    );
-    Ok(())
+    )
 }
 
 /// A command line, how much of the file isn't enough to read its meta, and what it comes to on the
@@ -152,9 +151,9 @@ fn readers_of_cut_files(rt: HostRuntime) -> Result<(), Fail> {
         let job = job_of(alloc, line)?;
         for (lengths, _, told) in cuts(*unread) {
             let want: Wanted<'_> = (1, b"", told);
-            check_cuts(&rt, alloc, (line, &job), file.as_slice(), lengths, want);
+            check_cuts(&rt, alloc, (line, &job), file.as_slice(), lengths, want)?;
         }
-        check_run(&rt, alloc, &job, file.as_slice(), (line, LENGTH), *whole);
+        check_run(alloc, &job, file.as_slice(), (line, LENGTH), *whole)?;
     }
     Ok(())
 }
@@ -177,7 +176,7 @@ fn metas_of_cut_files(rt: HostRuntime) -> Result<(), Fail> {
         (METAS_END..LENGTH + 1, (0, SECOND_META, b"")),
     ];
     for (lengths, want) in cuts {
-        check_cuts(&rt, alloc, (line, &job), file.as_slice(), lengths, want);
+        check_cuts(&rt, alloc, (line, &job), file.as_slice(), lengths, want)?;
     }
     Ok(())
 }
@@ -236,7 +235,7 @@ fn pages_of_cut_files(rt: HostRuntime) -> Result<(), Fail> {
             (*end..LENGTH + 1, (0, text, b"")),
         ];
         for (lengths, want) in cuts {
-            check_cuts(&rt, alloc, (line, &job), file.as_slice(), lengths, want);
+            check_cuts(&rt, alloc, (line, &job), file.as_slice(), lengths, want)?;
         }
     }
     Ok(())

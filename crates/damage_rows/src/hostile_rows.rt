@@ -32,7 +32,7 @@ fn check_line(
 ) -> Result<(), Fail> {
     let job = job_of(alloc, line)?;
     let ran = Ran::on(alloc, &job, file);
-    ran.check(rt, line, file.len(), want);
+    ran.check(line, file.len(), want)?;
     assert!(rt; ran.target.bytes().is_empty(), "{line} makes a copy");
     Ok(())
 }
@@ -211,7 +211,7 @@ fn check_copy(
 ) -> Result<(), Fail> {
     let job = job_of(alloc, "luntsegi compact -o OUT FILE")?;
     let ran = Ran::on(alloc, &job, file);
-    ran.check(rt, "compact", file.len(), (0, line.as_bytes(), b""));
+    ran.check("compact", file.len(), (0, line.as_bytes(), b""))?;
     assert!(rt; ran.target.bytes() == want, "the copy");
     Ok(())
 }

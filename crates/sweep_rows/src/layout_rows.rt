@@ -14,12 +14,10 @@ fn figures_of_long_keys(rt: HostRuntime) -> Result<(), Fail> {
     let file = long_keys_under_branches(alloc)?;
     let job = job_of(alloc, "luntsegi stats FILE")?;
     check_run(
-        &rt,
         alloc,
         &job,
         file.as_slice(),
         ("stats", file.len()),
         (0, FIGURES, b""),
-    );
-    Ok(())
+    )
 }

@@ -276,7 +276,7 @@ fn fail_output(
         let out = MemSink::with_fuse(alloc, fuse);
         let ran = Ran::over(alloc, job, file, out, MemSink::new(alloc));
         let (taken, _) = text.split_at(fuse);
-        ran.check(rt, line, fuse, (1, taken, WRITE_FAILED));
+        ran.check(line, fuse, (1, taken, WRITE_FAILED))?;
         assert!(rt;
             ran.target.bytes() == whole.target.bytes(),
             "the copy of {line}"
@@ -309,14 +309,7 @@ fn failing_findings(rt: HostRuntime) -> Result<(), Fail> {
     let file = make(alloc, &LOST_PAGES)?;
     let job = job_of(alloc, "luntsegi check FILE")?;
     let text = b"pages 4 to 5: unreachable unfreed\n1 errors found\n";
-    check_run(
-        &rt,
-        alloc,
-        &job,
-        file.as_slice(),
-        ("check", 0),
-        (1, text, b""),
-    );
+    check_run(alloc, &job, file.as_slice(), ("check", 0), (1, text, b""))?;
     fail_output(&rt, alloc, "check", &job, file.as_slice())
 }
 
@@ -349,7 +342,7 @@ fn failing_errors(rt: HostRuntime) -> Result<(), Fail> {
             let err = MemSink::with_fuse(alloc, fuse);
             let ran = Ran::over(alloc, &job, file.as_slice(), MemSink::new(alloc), err);
             let taken = text.get(..fuse).unwrap_or(b"");
-            ran.check(&rt, line, fuse, (1, b"", taken));
+            ran.check(line, fuse, (1, b"", taken))?;
             assert!(rt; ran.target.bytes().is_empty(), "the copy of {line}");
         }
     }
