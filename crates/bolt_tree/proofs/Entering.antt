@@ -1,5 +1,5 @@
 -- A bucket is entered, in what is known of open buckets: only that it is so.
-use Rattle.std.proofs.Common.{◌≡◌, ◌∙◌, IsTrue, true, false, List, [], ◌∷◌, ◌++◌, Option, Some, None, refl, sym, subst}
+use Rattle.std.proofs.Common.{◌≡◌, ◌∙◌, IsTrue, false, List, [], ◌∷◌, ◌++◌, Option, Some, None, refl, sym, subst}
 use Rattle.std.proofs.Math.Logic.{∥∥₁_elim, ∥∥₁_map, ∥∥₁_prop}
 use Rattle.std.proofs.Props.{props}
 use Rattle.bolt_format.specs.Elements.{LeafElement}
@@ -9,13 +9,13 @@ use Rattle.bolt_tree.specs.BucketViews.{entries_of}
 use Rattle.bolt_tree.specs.FileListings.{root_of}
 use Rattle.bolt_tree.specs.Starts.{HasStart}
 use Rattle.bolt_check.specs.CheckedFiles.{bytes_of, meta_of}
-use Rattle.bolt_tree.proofs.BucketWays.{root_starts, starts_below, starts_named}
+use Rattle.bolt_tree.proofs.BucketWays.{root_starts, starts_named}
 use Rattle.bolt_tree.specs.Entries.{AreEntries, Start, item_of, start_of}
 use Rattle.bolt_tree.specs.Listing.{Lists, Member, rest_from}
 use Rattle.bolt_tree.specs.Paths.{HasEntries, Names, Path}
 use Rattle.bolt_tree.specs.Places.{Moves, first_move}
 use Rattle.bolt_tree.specs.Private.Kept.{CursorView}
-use Rattle.bolt_tree.specs.Private.OpenBuckets.{AreOpen, StandsOn}
+use Rattle.bolt_tree.specs.Private.OpenBuckets.{AreOpen, IsInside, StandsOn}
 use Rattle.bolt_tree.specs.Private.Behind.{behind, beyond}
 use Rattle.bolt_tree.specs.declared.bucket.Bucket.{Bucket}
 use Rattle.bolt_tree.proofs.CursorMoves.{comes_first}
@@ -93,16 +93,6 @@ module _ (checked : Checked) (cursors : List CursorView) (keys : Path) (fresh mo
 -- the path leads to an element
 module _ (checked : Checked) (cursors : List CursorView) (keys : Path) (e : LeafElement) (buckets : ∥ HasEntries (entries_of checked) (root_of checked) × AreOpen checked [] cursors keys ∥₁)
     (on : ∥ ((front : Path) × (bucket : Start) × (keys ≡ front ++ e.key ∷ []) × Names (entries_of checked) (root_of checked) front bucket × entries_of checked bucket e) ∥₁) where
-  pub named_by : (bucket : Bucket) → IsTrue e.is_bucket → bucket_checked bucket ≡ checked → bucket_start bucket ≡ start_of e.value
-      → ∥ (bucket_checked bucket ≡ checked) × Names (entries_of checked) (root_of checked) keys (bucket_start bucket) ∥₁
-  named_by bucket b file start =
-      ∥∥₁_map on (λ (front, outer, at, names, is). (
-        file,
-        subst (λ (s : Start). Names (entries_of checked) (root_of checked) keys s) (sym start)
-            (subst (λ (ks : Path). Names (entries_of checked) (root_of checked) ks (start_of e.value)) (sym at)
-            (names_push (entries_of checked) (root_of checked) front outer e names is b)),
-      ))
-
   pub past_value : e.is_bucket ≡ false → (listing : List Member) → Lists (entries_of checked) (root_of checked) listing → beyond keys listing ≡ behind keys listing
   past_value value listing lists =
       ∥∥₁_elim buckets (hlevel props) (λ t. ∥∥₁_elim on (hlevel props) (λ (front, bucket, at, names, is).
@@ -128,11 +118,26 @@ pub leads_in : (a b : Checked) (keys : Path) (e : LeafElement) → b ≡ a
 leads_in a b keys e file on =
     subst (λ (c : Checked). ∥ ((front : Path) × (bucket : Start) × (keys ≡ front ++ e.key ∷ []) × Names (entries_of c) (root_of c) front bucket × entries_of c bucket e) ∥₁) (sym file) on
 
--- a bucket that the path leads to is one of the tree
-pub lies_in : (checked : Checked) (keys : Path) (e : LeafElement)
+-- a bucket that the path leads to is one that it names
+pub leads_inside : (checked : Checked) (keys : Path) (e : LeafElement)
     → ∥ ((front : Path) × (bucket : Start) × (keys ≡ front ++ e.key ∷ []) × Names (entries_of checked) (root_of checked) front bucket × entries_of checked bucket e) ∥₁
-    → e.is_bucket ≡ true → HasStart checked (start_of e.value)
-lies_in checked keys e on b =
+    → IsTrue e.is_bucket → IsInside checked keys (start_of e.value)
+leads_inside checked keys e on b =
     ∥∥₁_map on (λ (front, outer, at, names, is).
-    starts_below (bytes_of checked) (meta_of checked) outer e
-    (starts_named (bytes_of checked) (meta_of checked) (root_of checked) front outer (root_starts (bytes_of checked) (meta_of checked)) names) is b)
+    subst (λ (ks : Path). Names (entries_of checked) (root_of checked) ks (start_of e.value)) (sym at)
+    (names_push (entries_of checked) (root_of checked) front outer e names is b))
+
+-- the empty path names the root bucket
+pub root_inside : (checked : Checked) (path : Path) → path ≡ [] → IsInside checked path (root_of checked)
+root_inside checked path none = ∣ subst (λ (keys : Path). Names (entries_of checked) (root_of checked) keys (root_of checked)) (sym none) refl ∣₁
+
+-- the bucket that a path names, as a bucket of the code
+pub named_by : (checked : Checked) (keys : Path) (start : Start) (bucket : Bucket) → IsInside checked keys start → bucket_checked bucket ≡ checked → bucket_start bucket ≡ start
+    → ∥ (bucket_checked bucket ≡ checked) × Names (entries_of checked) (root_of checked) keys (bucket_start bucket) ∥₁
+named_by checked keys start bucket inside file begins =
+    ∥∥₁_map inside (λ names. (file, subst (λ (s : Start). Names (entries_of checked) (root_of checked) keys s) (sym begins) names))
+
+-- it is one of the tree
+pub lies_in : (checked : Checked) (keys : Path) (start : Start) → IsInside checked keys start → HasStart checked start
+lies_in checked keys start inside =
+    ∥∥₁_map inside (λ names. starts_named (bytes_of checked) (meta_of checked) (root_of checked) keys start (root_starts (bytes_of checked) (meta_of checked)) names)

@@ -1,39 +1,38 @@
 -- What is known of a walk's buckets and of what it does next.
 use Rattle.std.proofs.Common.{◌≡◌, ◌∙◌, List, [], ◌∷◌, ◌++◌, sym, ap, subst}
-use Rattle.std.proofs.Math.Logic.{∥∥₁_elim, ∥∥₁_map, ∥∥₁_prop}
+use Rattle.std.proofs.Math.Logic.{∥∥₁_elim, ∥∥₁_map}
 use Rattle.std.proofs.Props.{props}
 use Rattle.bolt_format.specs.ElementPlaces.{leaf_view}
 use Rattle.bolt_check.specs.declared.checked_file.Checked.{Checked}
-use Rattle.bolt_tree.specs.Buckets.{bucket_checked, bucket_start}
 use Rattle.bolt_tree.specs.BucketViews.{entries_of}
 use Rattle.bolt_tree.specs.FileListings.{root_of}
-use Rattle.bolt_tree.specs.Entries.{Start}
+use Rattle.bolt_tree.specs.Entries.{Start, start_of}
 use Rattle.bolt_tree.specs.Listing.{Lists, Member}
 use Rattle.bolt_tree.specs.Paths.{HasEntries, Names, Path, path_of}
 use Rattle.bolt_tree.specs.Private.Kept.{CursorView}
 use Rattle.bolt_tree.specs.Private.OpenCursors.{cursors_of}
-use Rattle.bolt_tree.specs.Private.OpenBuckets.{AreOpen, IsAhead, IsInPlace, open_path}
+use Rattle.bolt_tree.specs.Private.OpenBuckets.{AreOpen, IsAhead, IsInPlace, IsInside, open_path}
 use Rattle.bolt_tree.specs.Private.Behind.{behind}
-use Rattle.bolt_tree.specs.declared.bucket.Bucket.{Bucket}
 use Rattle.bolt_tree.specs.declared.open_buckets.Ahead.{Ahead}
-use Rattle.bolt_tree.specs.declared.open_buckets.Ahead.TheVariants.{Enter, Give, Leave}
+use Rattle.bolt_tree.specs.declared.open_buckets.Ahead.TheVariants.{Begin, Enter, Give, Leave}
 use Rattle.bolt_tree.specs.declared.open_buckets.OpenBuckets.{OpenBuckets}
 use Rattle.bolt_tree.proofs.AllEntries.{checked_entries}
 use Rattle.bolt_tree.proofs.Seeking.{behind_all}
 
 pub ahead_prop : (buckets : OpenBuckets) (ahead : Ahead) → IsProp (IsAhead buckets ahead)
-ahead_prop buckets (Enter bucket) = ∥∥₁_prop
+ahead_prop buckets Begin = hlevel props
+ahead_prop buckets (Enter value) = hlevel props
 ahead_prop buckets (Give leaf) = hlevel props
 ahead_prop buckets Leave = hlevel props
 
 -- where only the room for more has changed
 pub ahead_in : (old new : OpenBuckets) (ahead : Ahead) → new.cursors.checked ≡ old.cursors.checked → open_path new ≡ open_path old → IsAhead old ahead → IsAhead new ahead
-ahead_in old new (Enter bucket) file same h =
-    ∥∥₁_map h (λ n. (
-      n.0 ∙ sym file,
-      subst (λ (c : Checked). Names (entries_of c) (root_of c) (open_path new) (bucket_start bucket)) (sym file)
-          (subst (λ (ks : Path). Names (entries_of old.cursors.checked) (root_of old.cursors.checked) ks (bucket_start bucket)) (sym same) n.1),
-    ))
+ahead_in old new Begin file same h = same ∙ h
+ahead_in old new (Enter value) file same h = (
+  h.0,
+  subst (λ (c : Checked). IsInside c (open_path new) (start_of value.now)) (sym file)
+      (subst (λ (ks : Path). IsInside old.cursors.checked ks (start_of value.now)) (sym same) h.1),
+)
 ahead_in old new (Give leaf) file same h = (
   h.0,
   subst (λ (c : Checked). ∥ ((path : Path) × (bucket : Start) × (open_path new ≡ path ++ leaf.key.now ∷ []) × Names (entries_of c) (root_of c) path bucket × entries_of c bucket (leaf_view leaf)) ∥₁)
@@ -42,15 +41,13 @@ ahead_in old new (Give leaf) file same h = (
 ahead_in old new Leave file same h = h
 
 -- a walk begins at the root
-pub begins : (checked : Checked) (buckets : OpenBuckets) (bucket : Bucket) → buckets.cursors.checked ≡ checked → cursors_of buckets.cursors ≡ [] → buckets.path.items ≡ []
-    → bucket_checked bucket ≡ checked → bucket_start bucket ≡ root_of checked → ∥ IsInPlace buckets × IsAhead buckets (Enter bucket) ∥₁
-begins checked buckets bucket file none at bfile start =
+pub begins : (checked : Checked) (buckets : OpenBuckets) → buckets.cursors.checked ≡ checked → cursors_of buckets.cursors ≡ [] → buckets.path.items ≡ []
+    → ∥ IsInPlace buckets × IsAhead buckets Begin ∥₁
+begins checked buckets file none at =
     let path : open_path buckets ≡ [] = ap path_of at in
     let are : AreOpen buckets.cursors.checked [] (cursors_of buckets.cursors) (open_path buckets) =
     subst (λ (cs : List CursorView). AreOpen buckets.cursors.checked [] cs (open_path buckets)) (sym none) (subst (λ (ks : Path). AreOpen buckets.cursors.checked [] [] ks) (sym path) tt) in
-    let names : Names (entries_of buckets.cursors.checked) (root_of buckets.cursors.checked) (open_path buckets) (bucket_start bucket) =
-    subst (λ (ks : Path). Names (entries_of buckets.cursors.checked) (root_of buckets.cursors.checked) ks (bucket_start bucket)) (sym path) (ap root_of file ∙ sym start) in
-    ∥∥₁_map (checked_entries checked) (λ h. (∣ (subst (λ (c : Checked). HasEntries (entries_of c) (root_of c)) (sym file) h, are) ∣₁, ∣ (bfile ∙ sym file, names) ∣₁))
+    ∥∥₁_map (checked_entries checked) (λ h. (∣ (subst (λ (c : Checked). HasEntries (entries_of c) (root_of c)) (sym file) h, are) ∣₁, path))
 
 pub all_ahead : (checked : Checked) (keys : Path) → keys ≡ [] → (listing : List Member) → Lists (entries_of checked) (root_of checked) listing
     → behind keys listing ≡ listing

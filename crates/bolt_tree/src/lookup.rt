@@ -28,19 +28,19 @@ fn at_of(value: &[u8]) -> At<'_>
 }
 
 impl<'a> Bucket<'a> {
-    /// The bucket that a leaf element is.
+    /// The bucket that a leaf element with this value is.
     #[tactic(auto, unfolding(crate::specs::Buckets::bucket_checked, crate::specs::Buckets::bucket_start, crate::specs::Buckets::bucket_sequence))]
-    pub(crate) fn of(checked: Checked<'a>, leaf: &Leaf<'a>) -> Bucket<'a>
-        requires value { IsBucketValue leaf.now.value.now }
-        requires begins { HasStart checked (start_of leaf.now.value.now) }
+    pub(crate) fn of(checked: Checked<'a>, value: &'a [u8]) -> Bucket<'a>
+        requires value { IsBucketValue value.now }
+        requires begins { HasStart checked (start_of value.now) }
         ensures checked { bucket_checked result ≡ checked.entry }
-        ensures start { bucket_start result ≡ start_of leaf.now.value.now }
-        ensures sequence { bucket_sequence result ≡ head_sequence leaf.now.value.now }
+        ensures start { bucket_start result ≡ start_of value.now }
+        ensures sequence { bucket_sequence result ≡ head_sequence value.now }
     {
-        let head = head(leaf.value);
+        let head = head(value);
         Bucket {
             checked,
-            at: at_of(leaf.value),
+            at: at_of(value),
             sequence: head.sequence,
         }
     }
@@ -86,6 +86,6 @@ impl<'a> Bucket<'a> {
         if !leaf.is_bucket {
             return None;
         }
-        Some(Bucket::of(self.checked, &leaf))
+        Some(Bucket::of(self.checked, leaf.value))
     }
 }

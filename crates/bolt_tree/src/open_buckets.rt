@@ -21,8 +21,10 @@ use std::alloc::Global;
 /// What a walk does next.
 #[derive(Clone, Copy)]
 pub(crate) enum Ahead<'a> {
-    /// It enters the bucket that its path names.
-    Enter(Bucket<'a>),
+    /// It enters the root bucket.
+    Begin,
+    /// It enters the bucket that its path names, which has this value.
+    Enter(&'a [u8]),
     /// It gives the element that its path leads to.
     Give(Leaf<'a>),
     /// It leaves what its path begins.
@@ -95,13 +97,15 @@ impl<'a> OpenBuckets<'a> {
         ensures left { IfOk result (λ found. ForListing self.old.cursors.checked (λ listing. MatchOption found (left_by ahead.entry (open_path self.old) listing ≡ [])
             (λ leaf. left_by ahead.entry (open_path self.old) listing ≡ (open_path self.new, item_of (leaf_view leaf)) ∷ behind (open_path self.new) listing))) }
     {
-        match ahead {
-            Ahead::Give(leaf) => Ok(Some(leaf)),
-            Ahead::Enter(bucket) => match self.enter(bucket)? {
-                Some(leaf) => Ok(Some(leaf)),
-                None => Ok(self.climb()),
-            },
-            Ahead::Leave => Ok(self.climb()),
+        let bucket = match ahead {
+            Ahead::Begin => Bucket::root(self.cursors.checked),
+            Ahead::Enter(value) => Bucket::of(self.cursors.checked, value),
+            Ahead::Give(leaf) => return Ok(Some(leaf)),
+            Ahead::Leave => return Ok(self.climb()),
+        };
+        match self.enter(bucket)? {
+            Some(leaf) => Ok(Some(leaf)),
+            None => Ok(self.climb()),
         }
     }
 
@@ -114,7 +118,7 @@ impl<'a> OpenBuckets<'a> {
         ensures told { told_path result (open_path self.now) ≡ open_path self.now }
     {
         if leaf.is_bucket {
-            Ahead::Enter(Bucket::of(self.cursors.checked, leaf))
+            Ahead::Enter(leaf.value)
         } else {
             Ahead::Leave
         }
@@ -160,15 +164,14 @@ impl<'a> OpenBuckets<'a> {
             return Ok(Sought::Here(Ahead::Give(leaf)));
         }
         if leaf.is_bucket {
-            return Ok(Sought::Inside(Bucket::of(self.cursors.checked, &leaf)));
+            return Ok(Sought::Inside(Bucket::of(self.cursors.checked, leaf.value)));
         }
         Ok(Sought::Here(self.come()))
     }
 
     /// Seeks a path from the root bucket on.
-    pub fn seek(&mut self, root: Bucket<'a>, path: &[&[u8]]) -> Result<Ahead<'a>, NoMemory>
+    pub fn seek(&mut self, path: &[&[u8]]) -> Result<Ahead<'a>, NoMemory>
         requires placed { IsInPlace self.old }
-        requires named { IsNamed self.old root }
         requires empty { open_path self.old ≡ [] }
         ensures checked { OnOk result (self.new.cursors.checked ≡ self.old.cursors.checked) }
         ensures placed { OnOk result (IsInPlace self.new) }
@@ -176,14 +179,14 @@ impl<'a> OpenBuckets<'a> {
         ensures untold { IfOk result (λ ahead. told_path ahead (open_path self.new) ≡ []) }
         ensures left { IfOk result (λ ahead. ForListing self.old.cursors.checked (λ listing. left_by ahead (open_path self.new) listing ≡ rest_from (path_of path.now) listing)) }
     {
-        let mut bucket = root;
+        let mut bucket = Bucket::root(self.cursors.checked);
         for (i, part) in path.iter().enumerate() {
             match self.seek_part(bucket, part, i + 1 == path.len())? {
                 Sought::Inside(inside) => bucket = inside,
                 Sought::Here(ahead) => return Ok(ahead),
             }
         }
-        Ok(Ahead::Enter(bucket))
+        Ok(Ahead::Begin)
     }
 
     /// Comes to the next entry behind all that the path begins, and closes the buckets that have

@@ -5,7 +5,6 @@ ghost use Rattle.bolt_tree.specs.ShownEntries.{item_view};
 ghost use Rattle.bolt_tree.specs.Listing.{rest_from};
 ghost use Rattle.bolt_tree.specs.Private.OpenBuckets.{IsAhead, IsInPlace};
 
-use crate::bucket::Bucket;
 use crate::entry::Item;
 use crate::open_buckets::{Ahead, OpenBuckets};
 use bolt_check::{Checked, NoMemory};
@@ -35,7 +34,7 @@ impl<'a> Walk<'a> {
     {
         Walk {
             buckets: OpenBuckets::new(alloc, checked),
-            ahead: Ahead::Enter(Bucket::root(checked)),
+            ahead: Ahead::Begin,
         }
     }
 
@@ -52,7 +51,7 @@ impl<'a> Walk<'a> {
         ensures path { IfOk result (λ walk. walk_path walk ≡ []) }
     {
         let mut buckets = OpenBuckets::new(alloc, checked);
-        let ahead = buckets.seek(Bucket::root(checked), path)?;
+        let ahead = buckets.seek(path)?;
         Ok(Walk { buckets, ahead })
     }
 
@@ -89,7 +88,7 @@ impl<'a> Walk<'a> {
     {
         match self.ahead {
             Ahead::Give(_) => &[],
-            Ahead::Enter(_) | Ahead::Leave => self.buckets.path.as_slice(),
+            Ahead::Begin | Ahead::Enter(_) | Ahead::Leave => self.buckets.path.as_slice(),
         }
     }
 }

@@ -9,7 +9,7 @@ use Rattle.bolt_check.specs.declared.checked_file.Checked.{Checked}
 use Rattle.bolt_tree.specs.Buckets.{bucket_checked, bucket_start}
 use Rattle.bolt_tree.specs.BucketViews.{entries_of}
 use Rattle.bolt_tree.specs.FileListings.{ForListing, root_of}
-use Rattle.bolt_tree.specs.Entries.{AreEntries, Start}
+use Rattle.bolt_tree.specs.Entries.{AreEntries, Start, start_of}
 use Rattle.bolt_tree.specs.Listing.{Member, rest_from}
 use Rattle.bolt_tree.specs.Paths.{HasEntries, Names, Path, path_of}
 use Rattle.bolt_tree.specs.Places.{On}
@@ -18,7 +18,7 @@ use Rattle.bolt_tree.specs.Private.Kept.{CursorView}
 use Rattle.bolt_tree.specs.Private.OpenCursors.{cursors_of}
 use Rattle.bolt_tree.specs.declared.bucket.Bucket.{Bucket}
 use Rattle.bolt_tree.specs.declared.open_buckets.Ahead.{Ahead}
-use Rattle.bolt_tree.specs.declared.open_buckets.Ahead.TheVariants.{Enter, Give, Leave}
+use Rattle.bolt_tree.specs.declared.open_buckets.Ahead.TheVariants.{Begin, Enter, Give, Leave}
 use Rattle.bolt_tree.specs.declared.open_buckets.Sought.{Sought}
 use Rattle.bolt_tree.specs.declared.open_buckets.Sought.TheVariants.{Here, Inside}
 use Rattle.bolt_tree.specs.declared.open_buckets.OpenBuckets.{OpenBuckets}
@@ -50,25 +50,32 @@ IsAt buckets leaf =
     × ∥ ((path : Path) × (bucket : Start) × (open_path buckets ≡ path ++ leaf.key.now ∷ []) × Names (entries_of buckets.cursors.checked) (root_of buckets.cursors.checked) path bucket
     × entries_of buckets.cursors.checked bucket (leaf_view leaf)) ∥₁
 
+-- the path names the bucket of a file that begins there
+abbrev pub IsInside : Checked → Path → Start → Type 0
+IsInside checked path start = ∥ Names (entries_of checked) (root_of checked) path start ∥₁
+
 -- the bucket is one of the same file, and the path names it
 abbrev pub IsNamed : OpenBuckets → Bucket → Type 0
 IsNamed buckets bucket = ∥ (bucket_checked bucket ≡ buckets.cursors.checked) × Names (entries_of buckets.cursors.checked) (root_of buckets.cursors.checked) (open_path buckets) (bucket_start bucket) ∥₁
 
 -- open buckets from which this may be done next
 abbrev pub IsAhead : OpenBuckets → Ahead → Type 0
-IsAhead buckets (Enter bucket) = IsNamed buckets bucket
+IsAhead buckets Begin = open_path buckets ≡ []
+IsAhead buckets (Enter value) = IsBucketValue value.now × IsInside buckets.cursors.checked (open_path buckets) (start_of value.now)
 IsAhead buckets (Give leaf) = IsAt buckets leaf
 IsAhead buckets Leave = Unit {0}
 
 -- what is left of a listing: where a bucket is entered, all behind the path; where an element is given, all from there; else all beyond
 abbrev pub left_by : Ahead → Path → List Member → List Member
-left_by (Enter bucket) path listing = behind path listing
+left_by Begin path listing = behind path listing
+left_by (Enter value) path listing = behind path listing
 left_by (Give leaf) path listing = rest_from path listing
 left_by Leave path listing = beyond path listing
 
 -- the path of what was given last
 abbrev pub told_path : Ahead → Path → Path
-told_path (Enter bucket) path = path
+told_path Begin path = path
+told_path (Enter value) path = path
 told_path (Give leaf) path = []
 told_path Leave path = path
 

@@ -1,18 +1,16 @@
 use Rattle.bolt_tree.specs.Private.OpenCursors.{cursors_of}
 use Rattle.bolt_tree.specs.Paths.{path_of}
 use Rattle.bolt_format.specs.ElementPlaces.{leaf_view}
-use Rattle.bolt_tree.proofs.Entering.{lies_in, named_by, past_value}
+use Rattle.bolt_tree.proofs.Entering.{leads_inside, past_value}
 use Rattle.bolt_tree.proofs.open_buckets.OpenBuckets.after.Goals as goal
 
 pub returns-then-leaf-clause-ahead : goal.returns-then-leaf-clause-ahead
-returns-then-leaf-clause-ahead c =
-    named_by c.args.self.now.cursors.checked (cursors_of c.args.self.now.cursors) (path_of c.args.self.now.path.items) (leaf_view c.args.leaf.now) c.requires.placed c.requires.on.1
-    c.of.result c.if-leaf.true c.of.ensures.checked c.of.ensures.start
+returns-then-leaf-clause-ahead c = (
+  c.requires.on.0 c.if-leaf.true,
+  leads_inside c.args.self.now.cursors.checked (path_of c.args.self.now.path.items) (leaf_view c.args.leaf.now) c.requires.on.1 c.if-leaf.true,
+)
 
 pub returns-else-leaf-clause-left : goal.returns-else-leaf-clause-left
 returns-else-leaf-clause-left c = λ listing lists.
     past_value c.args.self.now.cursors.checked (cursors_of c.args.self.now.cursors) (path_of c.args.self.now.path.items) (leaf_view c.args.leaf.now) c.requires.placed c.requires.on.1
     c.if-leaf.false listing lists
-
-pub of-requires-clause-begins : goal.of-requires-clause-begins
-of-requires-clause-begins c = lies_in c.args.self.now.cursors.checked (path_of c.args.self.now.path.items) (leaf_view c.args.leaf.now) c.requires.on.1 c.if-leaf.true

@@ -7,9 +7,10 @@ use Rattle.std.proofs.Common.{◌∙◌, ◌++◌, ◌∷◌, [], refl, sym, ap}
 use Rattle.std.specs.Ordering.{is_lt}
 use Rattle.bolt_format.specs.ElementPlaces.{leaf_view}
 use Rattle.bolt_check.specs.Keys.{Key}
+use Rattle.bolt_tree.specs.Entries.{start_of}
 use Rattle.bolt_tree.proofs.Climbing.{listed_in}
 use Rattle.bolt_tree.proofs.Coming.{ends_here, from_greater, from_leads, from_none, from_opens, from_same, from_value}
-use Rattle.bolt_tree.proofs.Entering.{leads_in, lies_in, made, named_by, placed_in}
+use Rattle.bolt_tree.proofs.Entering.{leads_in, leads_inside, lies_in, made, named_by, placed_in}
 use Rattle.bolt_tree.proofs.OpenSteps.{path_put}
 use Rattle.bolt_tree.specs.Private.Behind.{beyond}
 use Rattle.bolt_tree.specs.Paths.{Path}
@@ -117,10 +118,12 @@ returns-then-leaf-clause-sought c =
     let known = made old.cursors.checked (cursors_of old.cursors) (path_of old.path.items) c.args.bucket fresh c.requires.placed c.requires.named refl refl in
     let same = from_same old.cursors.checked (cursors_of old.cursors) (path_of old.path.items) fresh opens.moved c.args.part.now known (leaf_view c.in-Some.leaf) opens.moves (ap is_lt (sym c.cmp.ensures) ∙ (sym c.is_lt.ensures ∙ c.if-is_lt.false)) in (
       path ∙ ap (λ (k : Key). path_of old.path.items ++ k ∷ []) (sym same),
-      named_by c.seek.new.self.checked (cursors_of c.seek.new.self) (path_of c.push_reserved.new.self.items) (leaf_view c.in-Some.leaf) (returns-then-leaf-clause-placed c)
+      named_by c.seek.new.self.checked (path_of c.push_reserved.new.self.items) (start_of c.in-Some.leaf.value.now) c.of.result
+          (leads_inside c.seek.new.self.checked (path_of c.push_reserved.new.self.items) (leaf_view c.in-Some.leaf)
           (leads_in old.cursors.checked c.seek.new.self.checked (path_of c.push_reserved.new.self.items) (leaf_view c.in-Some.leaf) c.in_ok-leaf.ensures.checked
           (from_leads old.cursors.checked (cursors_of old.cursors) (path_of old.path.items) fresh opens.moved c.args.part.now known (leaf_view c.in-Some.leaf) (path_of c.push_reserved.new.self.items) opens.moves path))
-          c.of.result c.if-leaf.true c.of.ensures.checked c.of.ensures.start,
+          c.if-leaf.true)
+          c.of.ensures.checked c.of.ensures.start,
       c.if-is_last.false,
     )
 
@@ -157,6 +160,7 @@ of-requires-clause-begins c =
     let opens = rw c.in-Some.is at c.in_ok-leaf.ensures.opens in
     let path = path_put old.path.items c.reserve.new.self.items c.push_reserved.new.self.items c.in-Some.leaf.key c.reserve.ensures.items c.push_reserved.ensures.items in
     let known = made old.cursors.checked (cursors_of old.cursors) (path_of old.path.items) c.args.bucket fresh c.requires.placed c.requires.named refl refl in
-    lies_in c.seek.new.self.checked (path_of c.push_reserved.new.self.items) (leaf_view c.in-Some.leaf)
+    lies_in c.seek.new.self.checked (path_of c.push_reserved.new.self.items) (start_of c.in-Some.leaf.value.now)
+    (leads_inside c.seek.new.self.checked (path_of c.push_reserved.new.self.items) (leaf_view c.in-Some.leaf)
     (leads_in old.cursors.checked c.seek.new.self.checked (path_of c.push_reserved.new.self.items) (leaf_view c.in-Some.leaf) c.in_ok-leaf.ensures.checked
-    (from_leads old.cursors.checked (cursors_of old.cursors) (path_of old.path.items) fresh opens.moved c.args.part.now known (leaf_view c.in-Some.leaf) (path_of c.push_reserved.new.self.items) opens.moves path)) c.if-leaf.true
+    (from_leads old.cursors.checked (cursors_of old.cursors) (path_of old.path.items) fresh opens.moved c.args.part.now known (leaf_view c.in-Some.leaf) (path_of c.push_reserved.new.self.items) opens.moves path)) c.if-leaf.true)

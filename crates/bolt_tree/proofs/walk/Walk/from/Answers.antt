@@ -6,7 +6,7 @@ use Rattle.bolt_tree.proofs.walk.Walk.from.Goals as goal
 
 pub seek-requires-clause-placed : goal.seek-requires-clause-placed
 seek-requires-clause-placed c =
-    ∥∥₁_elim (begins c.args.checked c.new-buckets.result c.root.result c.new-buckets.ensures.checked c.new-buckets.ensures.cursors c.new-buckets.ensures.path c.root.ensures.checked c.root.ensures.start)
+    ∥∥₁_elim (begins c.args.checked c.new-buckets.result c.new-buckets.ensures.checked c.new-buckets.ensures.cursors c.new-buckets.ensures.path)
     ∥∥₁_prop (λ p. p.0)
 
 pub returns-clause-rest : goal.returns-clause-rest

@@ -6,7 +6,7 @@ use Rattle.bolt_tree.proofs.walk.Walk.new.Goals as goal
 
 pub invariant_of-result : goal.invariant_of-result
 invariant_of-result c = record {
-  placed = begins c.args.checked c.new.result c.root.result c.new.ensures.checked c.new.ensures.cursors c.new.ensures.path c.root.ensures.checked c.root.ensures.start;
+  placed = begins c.args.checked c.new.result c.new.ensures.checked c.new.ensures.cursors c.new.ensures.path;
 }
 
 pub returns-clause-all : goal.returns-clause-all
