@@ -86,6 +86,7 @@ impl<'a> OpenBuckets<'a> {
     }
 
     /// Comes to the next entry to be given. Where memory runs out, nothing has changed.
+    #[inline(always)]
     pub fn advance(&mut self, ahead: Ahead<'a>) -> Result<Option<Leaf<'a>>, NoMemory>
         requires placed { IsInPlace self.old }
         requires ahead { IsAhead self.old ahead }

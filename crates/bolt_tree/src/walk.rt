@@ -62,6 +62,7 @@ impl<'a> Walk<'a> {
     /// `NoMemory` where there is no room for one more open bucket. The walk then has the same before
     /// it and tells the same path, and may be asked again.
     #[tactic(auto, unfolding(crate::specs::Walks::left_of, crate::specs::Walks::walk_checked, crate::specs::Walks::walk_path))]
+    #[inline(always)]
     pub fn next(&mut self) -> Result<Option<Item<'a>>, NoMemory>
         ensures checked { walk_checked self.new ≡ walk_checked self.old }
         ensures given { IfOk result (λ given. ForListing (walk_checked self.old) (λ listing. GivesNext (left_of self.old listing) (left_of self.new listing) (walk_path self.new) (option_map item_view given))) }
