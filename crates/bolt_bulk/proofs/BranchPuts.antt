@@ -4,10 +4,10 @@ use Rattle.std.proofs.lemmas.List.{length-map}
 use Rattle.bolt_format.specs.Elements.{BranchElement}
 use Rattle.bolt_format.specs.ElementPlaces.{branch_view}
 use Rattle.bolt_format.specs.declared.element.Branch.{Branch}
-use Rattle.bolt_bulk.specs.Levels.{branch_view as branch_page_view}
-use Rattle.bolt_bulk.specs.PageBytes.{branch_bytes, branch_data, branch_header, branch_headers, header_bytes, page_bytes}
-use Rattle.bolt_bulk.proofs.BranchLemmas.{length-branch_headers}
-use Rattle.bolt_bulk.proofs.PageLemmas.{length-header_bytes}
+use Rattle.bolt_layout.specs.Levels.{branch_view as branch_page_view}
+use Rattle.bolt_layout.specs.PageBytes.{branch_bytes, branch_data, branch_header, branch_headers, header_bytes, page_bytes}
+use Rattle.bolt_layout.proofs.BranchLemmas.{length-branch_headers}
+use Rattle.bolt_layout.proofs.PageLemmas.{length-header_bytes}
 use Rattle.bolt_bulk.proofs.PutParts.{filled_pieces, zeros}
 use Rattle.bolt_bulk.proofs.ElementPuts.{HeadsPut, data_of, headers_of, heads_next}
 

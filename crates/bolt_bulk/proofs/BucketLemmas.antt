@@ -5,11 +5,11 @@ use Rattle.std.proofs.lemmas.List.{length-map}
 use Rattle.bolt_format.specs.Elements.{BranchElement, LeafElement}
 use Rattle.bolt_format.specs.Sinks.{AppendsProperBeginning}
 use Rattle.bolt_format.specs.declared.element.Leaf.{Leaf}
-use Rattle.bolt_bulk.specs.Cut.{max_items}
-use Rattle.bolt_bulk.specs.Laid.{Placed}
-use Rattle.bolt_bulk.specs.Layout.{placed_bytes}
-use Rattle.bolt_bulk.specs.Levels.{overflow_of}
-use Rattle.bolt_bulk.specs.PageBytes.{page_bytes}
+use Rattle.bolt_layout.specs.Cut.{max_items}
+use Rattle.bolt_layout.specs.Laid.{Placed}
+use Rattle.bolt_layout.specs.Layout.{placed_bytes}
+use Rattle.bolt_layout.specs.Levels.{overflow_of}
+use Rattle.bolt_layout.specs.PageBytes.{page_bytes}
 use Rattle.bolt_bulk.specs.Private.HeldItems.{AreHeld, held_view, held_views}
 use Rattle.bolt_bulk.specs.Private.OpenBuckets.{HasRoomFor, IsLeafRun, bucket_end_next, leaf_closed, leaves_of}
 use Rattle.bolt_bulk.specs.Private.Rows.{OpenRows, leaf_key, leaf_page, leaves_have_room, rows_close_put, rows_end_put, rows_next, rows_push, rows_put, rows_room, rows_room_put}

@@ -8,11 +8,11 @@ use Rattle.std.proofs.Math.ListN.{get_or-map}
 use Rattle.bolt_format.specs.ElementPlaces.{branch_view}
 use Rattle.bolt_format.specs.Elements.{BranchElement}
 use Rattle.bolt_format.specs.declared.element.Branch.{Branch}
-use Rattle.bolt_bulk.specs.PageBytes.{branch_data}
+use Rattle.bolt_layout.specs.PageBytes.{branch_data}
 use Rattle.bolt_bulk.specs.declared.branch_runs.BranchRun.{BranchRun}
-use Rattle.bolt_bulk.specs.Laid.{Placed}
-use Rattle.bolt_bulk.specs.Levels.{overflow_of}
-use Rattle.bolt_bulk.specs.Layout.{placed_bytes}
+use Rattle.bolt_layout.specs.Laid.{Placed}
+use Rattle.bolt_layout.specs.Levels.{overflow_of}
+use Rattle.bolt_layout.specs.Layout.{placed_bytes}
 use Rattle.bolt_bulk.specs.Private.BranchRuns.{IsStanding, element_up, row_of, taking_next, taking_puts, taking_up}
 use Rattle.bolt_bulk.specs.Puts.{Puts}
 use Rattle.bolt_bulk.specs.Private.Rows.{BranchRow, no_row, row_has_room, row_key, row_push, rows_climb, rows_next, rows_put}

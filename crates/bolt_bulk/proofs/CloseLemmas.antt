@@ -3,8 +3,8 @@ use Rattle.std.proofs.Common.{◌≡◌, ◌∙◌, ℕ, ◌+◌, ◌<◌, ◌�
 use Rattle.std.proofs.lemmas.List.{drop_all, drop_more, drop-set-lt}
 use Rattle.bolt_format.specs.Elements.{BranchElement}
 use Rattle.bolt_format.specs.Sinks.{AppendsProperBeginning}
-use Rattle.bolt_bulk.specs.Levels.{overflow_of}
-use Rattle.bolt_bulk.specs.Layout.{placed_bytes}
+use Rattle.bolt_layout.specs.Levels.{overflow_of}
+use Rattle.bolt_layout.specs.Layout.{placed_bytes}
 use Rattle.bolt_bulk.specs.Private.BranchRuns.{element_up, rows_end_next}
 use Rattle.bolt_bulk.specs.Puts.{Puts}
 use Rattle.bolt_bulk.specs.Private.Rows.{BranchRow, row_page, row_push, rows_close_put, rows_root}

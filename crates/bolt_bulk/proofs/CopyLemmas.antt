@@ -5,8 +5,8 @@ use Rattle.std.specs.Io.KnownBytes.{Appends}
 use Rattle.bolt_format.specs.Sinks.{AppendsProperBeginning}
 use Rattle.bolt_tree.specs.Tree.{Tree}
 use Rattle.bolt_bulk.specs.Compacting.{Copies, too_many}
-use Rattle.bolt_bulk.specs.Layout.{layout_mark, layout_of, layout_pages, layout_root, placed_bytes}
-use Rattle.bolt_bulk.specs.PageBytes.{freelist_page, meta_page}
+use Rattle.bolt_layout.specs.Layout.{layout_mark, layout_of, layout_pages, layout_root, placed_bytes}
+use Rattle.bolt_layout.specs.PageBytes.{freelist_page, meta_page}
 use Rattle.bolt_bulk.specs.Private.FirstPages.{first_pages}
 use Rattle.bolt_bulk.specs.Puts.{Puts, PutsWhole}
 use Rattle.bolt_bulk.specs.declared.fault.BulkFault.{BulkFault}

@@ -15,15 +15,19 @@ use Rattle.bolt_tree.specs.FileListings.{ForListing}
 use Rattle.bolt_tree.specs.Listing.{IsListing, Member}
 use Rattle.bolt_tree.specs.Tree.{Tree, listing_of, tree_of}
 use Rattle.bolt_bulk.specs.Compacting.{layout_for, too_many}
-use Rattle.bolt_bulk.specs.Copies.{IsAsked, IsOfOneTree, IsSoundCopy, RefusesBeginnings, layout_of_listing}
-use Rattle.bolt_bulk.specs.Layout.{layout_mark, layout_of, layout_root}
+use Rattle.bolt_layout.specs.Copies.{IsAsked, IsOfOneTree, IsSoundCopy, RefusesBeginnings, layout_of_listing}
+use Rattle.bolt_layout.specs.Layout.{layout_held, layout_mark, layout_of, layout_root}
 use Rattle.bolt_bulk.specs.Private.Endings.{IsFitMember}
-use Rattle.bolt_bulk.specs.Storable.{IsStorable}
-use Rattle.bolt_bulk.proofs.MetaLemmas.{size_bounds}
+use Rattle.bolt_layout.specs.Storable.{IsStorable}
+use Rattle.bolt_layout.proofs.MetaLemmas.{size_bounds}
 use Rattle.bolt_bulk.proofs.PassEnds.{members_fit}
 
 abbrev pub FilesAreOfOneTree : Type 0
 FilesAreOfOneTree = (file : List ℕ) (meta : Meta) (listing : List Member) → IsBytes file → HasSoundTrees file meta → IsListing file meta listing → IsOfOneTree listing
+
+abbrev pub LayoutsHoldFew : Type 0
+LayoutsHoldFew = (page_size : ℕ) (tree : Tree) (sequence : ℕ) → IsPageSize page_size → IsStorable tree → length (layout_of page_size tree sequence) < 2 ^ 63
+    → layout_held page_size tree ≤ length (layout_of page_size tree sequence)
 
 abbrev pub LayoutsHaveLength : Type 0
 LayoutsHaveLength = (page_size : ℕ) (tree : Tree) (sequence : ℕ) → IsPageSize page_size → IsStorable tree
@@ -51,6 +55,11 @@ module _ (checked : Checked) (bytes : IsBytes (bytes_of checked)) where
       → ForListing checked (λ listing. length (layout_for checked page_size listing) < too_many → ∥ IsSoundCopy page_size (tree_of listing) (meta_of checked).root_sequence listing ∥₁)
   accepted law page_size size fits listing lists short =
       ∥∥₁_map (checked_trees checked) (λ trees. law (bytes_of checked) (meta_of checked) listing page_size bytes trees lists size fits short)
+
+  pub holds_few : FilesAreOfOneTree → LayoutsHoldFew → (page_size : ℕ) → IsPageSize page_size
+      → ForListing checked (λ listing. length (layout_for checked page_size listing) < too_many → layout_held page_size (tree_of listing) ≤ length (layout_for checked page_size listing))
+  holds_few law few page_size size listing lists short = ∥∥₁_elim (one_tree law listing lists) (Prim.hlevel props)
+      (λ one. few page_size (tree_of listing) (meta_of checked).root_sequence size one.storable short)
 
   pub refused : FilesAreOfOneTree → BeginningsAreRefused → (page_size : ℕ) → IsPageSize page_size → (meta_of checked).root_sequence < 2 ^ 64
       → ForListing checked (λ listing. length (layout_for checked page_size listing) < too_many

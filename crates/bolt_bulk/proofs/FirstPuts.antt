@@ -1,6 +1,6 @@
 -- The pages before those of the buckets, put one after another.
 use Rattle.std.proofs.Common.{◌≡◌, ℕ, List, ◌++◌, refl}
-use Rattle.bolt_bulk.specs.PageBytes.{filled, freelist_page, header_bytes, meta_bytes, meta_page}
+use Rattle.bolt_layout.specs.PageBytes.{filled, freelist_page, header_bytes, meta_bytes, meta_page}
 use Rattle.bolt_bulk.specs.Private.FirstPages.{first_pages}
 use Rattle.bolt_bulk.specs.declared.first_pages.Facts.{Facts}
 

@@ -3,10 +3,10 @@ use Rattle.std.proofs.Common.{◌≡◌, ◌∙◌, ℕ, List, [], ◌∷◌, �
 use Rattle.std.proofs.lemmas.List.{append-nil}
 use Rattle.bolt_format.specs.Elements.{BranchElement, LeafElement}
 use Rattle.bolt_tree.specs.Tree.{Tree}
-use Rattle.bolt_bulk.specs.Items.{bucket_item, items_of, root_of}
-use Rattle.bolt_bulk.specs.Laid.{Laid, Placed}
-use Rattle.bolt_bulk.specs.Levels.{root_over}
-use Rattle.bolt_bulk.specs.Layout.{first_page, layout_pages}
+use Rattle.bolt_layout.specs.Items.{bucket_item, items_of, root_of}
+use Rattle.bolt_layout.specs.Laid.{Laid, Placed}
+use Rattle.bolt_layout.specs.Levels.{root_over}
+use Rattle.bolt_layout.specs.Layout.{first_page, layout_pages}
 use Rattle.bolt_bulk.specs.Private.OpenRuns.{Frame, Open, all_put, base_in, end_of, end_puts, frames_put, making_room, next_number, nothing_open, pages_put, pushing, room_puts, taking}
 use Rattle.bolt_bulk.specs.Private.Coming.{IsPass, IsStack, held_item}
 use Rattle.bolt_bulk.proofs.OpenRunLemmas.{ends, ends_put, opens, pushed_put, room_put, takes, takes_begun}

@@ -6,10 +6,10 @@ use Rattle.std.proofs.lemmas.List.{length-replicate}
 use Rattle.std.proofs.lemmas.List.Sums.{sum_by-cons}
 use Rattle.bolt_format.specs.Elements.{LeafElement}
 use Rattle.bolt_tree.specs.Tree.{Tree}
-use Rattle.bolt_bulk.specs.Cut.{cut_of, run_size}
-use Rattle.bolt_bulk.specs.Items.{holds_bucket, is_inline}
-use Rattle.bolt_bulk.specs.Laid.{Laid, size_of}
-use Rattle.bolt_bulk.proofs.OneCut.{IsRunOf, cut_is_one, more_cut, one_cut, single_run}
+use Rattle.bolt_layout.specs.Cut.{cut_of, run_size}
+use Rattle.bolt_layout.specs.Items.{holds_bucket, is_inline}
+use Rattle.bolt_layout.specs.Laid.{Laid, size_of}
+use Rattle.bolt_layout.proofs.OneCut.{IsRunOf, cut_is_one, more_cut, one_cut, single_run}
 
 abbrev itself : ℕ → ℕ
 itself x = x

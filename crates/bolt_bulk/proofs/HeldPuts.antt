@@ -8,7 +8,7 @@ use Rattle.bolt_bulk.specs.declared.held.Stored.{Stored}
 use Rattle.bolt_bulk.specs.declared.held.Stored.TheVariants as stored
 use Rattle.bolt_bulk.specs.Private.HeldItems.{AreHeld, IsHeld, IsInlined, IsStored, stored_value}
 use Rattle.bolt_bulk.proofs.LeafPuts.{length-inline_value}
-use Rattle.bolt_bulk.proofs.PageLemmas.{length-root_value}
+use Rattle.bolt_layout.proofs.PageLemmas.{length-root_value}
 
 -- what stands for an entry or an item past the end
 abbrev pub no_entry : Leaf

@@ -6,7 +6,7 @@ use Rattle.std.proofs.lemmas.List.{drop-append-le, length-append, length-drop, l
 use Rattle.bolt_format.specs.ElementPlaces.{leaf_view}
 use Rattle.bolt_format.specs.Elements.{LeafElement}
 use Rattle.bolt_format.specs.declared.element.Leaf.{Leaf}
-use Rattle.bolt_bulk.specs.PageBytes.{header_bytes, inline_value, leaf_bytes, leaf_data, root_value}
+use Rattle.bolt_layout.specs.PageBytes.{header_bytes, inline_value, leaf_bytes, leaf_data, root_value}
 use Rattle.bolt_bulk.specs.Private.HeldItems.{AreHeld, IsHeld, IsInlined, IsStored, entries_in, held_view, held_views, inlined_by, inlined_in, is_stored_bucket, page_size_of, stored_value, value_item}
 use Rattle.bolt_bulk.specs.Private.OpenBuckets.{IsLeafRun}
 use Rattle.bolt_bulk.specs.Private.TakenItems.{entries_size, inline_element, inline_size}
@@ -14,9 +14,9 @@ use Rattle.bolt_bulk.specs.declared.held.Held.{Held}
 use Rattle.bolt_bulk.specs.declared.held.Stored.{Stored}
 use Rattle.bolt_bulk.specs.declared.held.Stored.TheVariants as stored
 use Rattle.bolt_bulk.specs.declared.open_bucket.LeafRun.{LeafRun}
-use Rattle.bolt_bulk.proofs.ListLemmas.{all_append}
-use Rattle.bolt_bulk.proofs.PageLemmas.{length-header_bytes, length-root_value}
-use Rattle.bolt_bulk.proofs.SpanLemmas.{length-leaf_bytes}
+use Rattle.bolt_layout.proofs.ListLemmas.{all_append}
+use Rattle.bolt_layout.proofs.PageLemmas.{length-header_bytes, length-root_value}
+use Rattle.bolt_layout.proofs.SpanLemmas.{length-leaf_bytes}
 
 -- what is known of a run of items
 pub record IsRun (inlined : List Leaf) (items : List Held) (size : ℕ) : Type 0 where

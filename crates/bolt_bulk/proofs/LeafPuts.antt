@@ -2,10 +2,10 @@
 use Rattle.std.proofs.Common.{◌≡◌, ◌∙◌, ℕ, suc, ◌+◌, ◌-◌, ◌*◌, ◌<◌, ◌≤◌, List, [], ◌∷◌, ◌++◌, length, map, get_or, Option, refl, sym, ap, arith, append_assoc}
 use Rattle.std.proofs.lemmas.List.{length-append, length-map}
 use Rattle.bolt_format.specs.Elements.{LeafElement}
-use Rattle.bolt_bulk.specs.Levels.{leaf_view as leaf_page_view}
-use Rattle.bolt_bulk.specs.PageBytes.{header_bytes, inline_value, leaf_bytes, leaf_data, leaf_header, leaf_headers, page_bytes, root_value}
-use Rattle.bolt_bulk.proofs.LeafLemmas.{length-leaf_headers}
-use Rattle.bolt_bulk.proofs.PageLemmas.{length-header_bytes, length-root_value}
+use Rattle.bolt_layout.specs.Levels.{leaf_view as leaf_page_view}
+use Rattle.bolt_layout.specs.PageBytes.{header_bytes, inline_value, leaf_bytes, leaf_data, leaf_header, leaf_headers, page_bytes, root_value}
+use Rattle.bolt_layout.proofs.LeafLemmas.{length-leaf_headers}
+use Rattle.bolt_layout.proofs.PageLemmas.{length-header_bytes, length-root_value}
 use Rattle.bolt_bulk.proofs.PutParts.{filled_pieces, zeros}
 use Rattle.bolt_bulk.proofs.ElementPuts.{HeadsPut, data_of, headers_of, heads_next}
 

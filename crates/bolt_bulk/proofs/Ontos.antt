@@ -6,10 +6,10 @@ use Rattle.std.proofs.lemmas.List.{length-append}
 use Rattle.std.proofs.lemmas.List.Sums.{sum_by-cons}
 use Rattle.bolt_format.specs.Elements.{LeafElement}
 use Rattle.bolt_tree.specs.Tree.{Tree, end, with_bucket, with_value}
-use Rattle.bolt_bulk.specs.Cut.{max_items, run_size}
-use Rattle.bolt_bulk.specs.Items.{holds_bucket, is_inline, items_of, leaf_item}
-use Rattle.bolt_bulk.specs.Laid.{Laid, elements_of, numbers_of, pages_of, size_of}
-use Rattle.bolt_bulk.specs.PageBytes.{leaf_data}
+use Rattle.bolt_layout.specs.Cut.{max_items, run_size}
+use Rattle.bolt_layout.specs.Items.{holds_bucket, is_inline, items_of, leaf_item}
+use Rattle.bolt_layout.specs.Laid.{Laid, elements_of, held_in, numbers_of, pages_of, size_of}
+use Rattle.bolt_layout.specs.PageBytes.{leaf_data}
 use Rattle.bolt_bulk.specs.Private.OpenRows.{IsKeyedItem}
 use Rattle.bolt_bulk.specs.Private.Passes.{onto}
 use Rattle.bolt_bulk.specs.Private.TakenItems.{entries_size}
@@ -21,6 +21,11 @@ IsValue e = e.is_bucket ≡ false
 abbrev pub value_items : List LeafElement → List (Laid LeafElement)
 value_items [] = []
 value_items (e ∷ entries) = leaf_item e.key e.value false ∷ value_items entries
+
+-- they have no pages below them, so no more are held than they are
+pub values_held : (entries : List LeafElement) → held_in (value_items entries) ≤ length (value_items entries)
+values_held [] = omega arith
+values_held (e ∷ entries) = let ih = values_held entries in omega arith
 
 pub onto_items : (page_size : ℕ) (entries : List LeafElement) (tree : Tree) → items_of page_size (onto entries tree) ≡ value_items entries ++ items_of page_size tree
 onto_items page_size [] tree = refl

@@ -4,14 +4,14 @@ use Rattle.std.specs.List.{AllByRecursion}
 use Rattle.std.proofs.lemmas.Bool.{cases_Bool}
 use Rattle.std.proofs.lemmas.List.Sums.{sum_by_push}
 use Rattle.bolt_format.specs.Elements.{BranchElement, LeafElement}
-use Rattle.bolt_bulk.specs.Cut.{run_size}
-use Rattle.bolt_bulk.specs.Laid.{Laid, Placed, elements_of, first_key, numbers_of, size_of}
-use Rattle.bolt_bulk.specs.Levels.{branch_view, leaf_view, overflow_of, page_over, run_overflow}
+use Rattle.bolt_layout.specs.Cut.{run_size}
+use Rattle.bolt_layout.specs.Laid.{Laid, Placed, elements_of, first_key, numbers_of, size_of}
+use Rattle.bolt_layout.specs.Levels.{branch_view, leaf_view, overflow_of, page_over, run_overflow}
 use Rattle.bolt_bulk.specs.Private.OpenRuns.{Open, climb, close, close_puts, end_of, end_puts, has_room, key_size, making_room, nothing_open, numbers_in, own_page, pushing, put_in, room_puts}
 use Rattle.bolt_bulk.specs.Private.Rows.{BranchRow, OpenRows, leaf_key, leaf_page, leaves_have_room, no_leaves, row_has_room, row_key, row_push, rows_climb, rows_close_put, rows_end, rows_end_put, rows_next, rows_root, rows_push, rows_put, rows_room, rows_room_put}
 use Rattle.bolt_bulk.specs.Private.OpenRows.{AreRows, IsKeyed, IsKeyedItem, IsOpenRows}
-use Rattle.bolt_bulk.proofs.ListLemmas.{all_append}
-use Rattle.bolt_bulk.proofs.OverRows.{numbers-append}
+use Rattle.bolt_layout.proofs.ListLemmas.{all_append}
+use Rattle.bolt_layout.proofs.OverRows.{numbers-append}
 use Rattle.bolt_bulk.proofs.RowLemmas.{placed_same, elements-append, key_same, length-elements, room_same, row_pushed, rows_climbed, same_element}
 
 -- the next number after a climb

@@ -4,12 +4,12 @@ use Rattle.std.proofs.lemmas.Bool.{cases_Bool}
 use Rattle.std.proofs.lemmas.List.{append-nil}
 use Rattle.std.proofs.lemmas.List.Sums.{sum_by_push}
 use Rattle.bolt_format.specs.Elements.{BranchElement, LeafElement}
-use Rattle.bolt_bulk.specs.Cut.{cut_from, joins, max_items, run_size}
-use Rattle.bolt_bulk.specs.Laid.{Laid, Placed, first_key, numbers_of, pages_of, size_of}
-use Rattle.bolt_bulk.specs.Levels.{branch_view, leaf_view, page_over, root_over}
+use Rattle.bolt_layout.specs.Cut.{cut_from, joins, max_items, run_size}
+use Rattle.bolt_layout.specs.Laid.{Laid, Placed, first_key, numbers_of, pages_of, size_of}
+use Rattle.bolt_layout.specs.Levels.{branch_view, leaf_view, page_over, root_over}
 use Rattle.bolt_bulk.specs.Private.OpenRuns.{Open, climb, climb_puts, close, close_puts, coming_key, end_of, end_puts, has_room, key_size, next_number, nothing_open, numbers_in, own_page, making_room, pages_put, pushing, put_in, room_puts, taking}
 use Rattle.bolt_bulk.specs.Private.Coming.{Eager, HasBegun, IsOpen, IsSized, bucket, finish}
-use Rattle.bolt_bulk.proofs.Tops.{top_above}
+use Rattle.bolt_layout.proofs.Tops.{top_above}
 
 -- The code's test of room is that of the cut.
 pub room_joins : {E : Type 0} (page_size least : ℕ) (run : List (Laid E)) (next : Laid E) (size : ℕ) → next.size ≡ size → has_room page_size least run size ≡ joins page_size least size_of run next

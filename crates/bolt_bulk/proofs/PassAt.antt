@@ -1,5 +1,5 @@
 -- The steps of a pass, over what code keeps of it.
-use Rattle.std.proofs.Common.{◌≡◌, ◌∙◌, ℕ, ◌+◌, ◌<◌, true, false, List, [], ◌∷◌, ◌++◌, length, map, reverse, Option, Some, None, Result, Ok, Err, Bor, Vec, Global, refl, sym, ap, subst, arith, append_assoc}
+use Rattle.std.proofs.Common.{◌≡◌, ◌∙◌, ℕ, ◌+◌, ◌<◌, true, false, List, [], ◌∷◌, ◌++◌, length, map, max, reverse, Option, Some, None, Result, Ok, Err, Bor, Vec, Global, refl, sym, ap, subst, arith, append_assoc}
 use Rattle.std.specs.Prelude.{⊤, IfErr, IfOk, OnOk}
 use Rattle.std.specs.List.{AllByRecursion}
 use Rattle.std.proofs.KnownBytes.{Appends-nil}
@@ -9,13 +9,15 @@ use Rattle.bolt_format.specs.Elements.{LeafElement}
 use Rattle.bolt_format.specs.declared.element.Leaf.{Leaf}
 use Rattle.bolt_format.proofs.SinkLemmas.{AppendsBeginning-none, AppendsBeginning-whole}
 use Rattle.bolt_tree.specs.Tree.{Tree, end, with_bucket, with_value}
-use Rattle.bolt_bulk.specs.Items.{items_of, leaf_item, root_of}
-use Rattle.bolt_bulk.specs.Laid.{Laid, Placed}
-use Rattle.bolt_bulk.specs.Layout.{layout_pages, placed_bytes}
-use Rattle.bolt_bulk.specs.Levels.{root_over}
+use Rattle.bolt_layout.specs.Items.{items_of, leaf_item, root_of}
+use Rattle.bolt_layout.specs.Laid.{Laid, Placed}
+use Rattle.bolt_layout.specs.Layout.{layout_pages, placed_bytes}
+use Rattle.bolt_layout.specs.Levels.{root_over}
 use Rattle.bolt_bulk.specs.Private.Levels.{Level}
-use Rattle.bolt_bulk.specs.PageBytes.{inline_value}
+use Rattle.bolt_layout.specs.PageBytes.{inline_value}
 use Rattle.bolt_bulk.specs.Private.Coming.{IsPass, held_item}
+use Rattle.bolt_bulk.specs.Private.HeldCounts.{Counts, capped, items_around, items_in}
+use Rattle.bolt_bulk.specs.Private.HeldSoFar.{held_so_far, length_frames, length_open}
 use Rattle.bolt_bulk.specs.Private.OpenBuckets.{bucket_end_next, rows_of}
 use Rattle.bolt_bulk.specs.Private.OpenRows.{IsOpenRows}
 use Rattle.bolt_bulk.specs.Private.OpenRuns.{Frame, Open, base_in, end_of, making_room, next_number, pushing, taking}
@@ -31,9 +33,9 @@ use Rattle.bolt_bulk.specs.declared.pass.Pass.{Pass}
 use Rattle.bolt_bulk.specs.declared.pass.Pending.{Pending}
 use Rattle.bolt_bulk.specs.declared.steps.Waiting.{Waiting}
 use Rattle.bolt_bulk.proofs.Frames.{waiting}
-use Rattle.bolt_bulk.proofs.Heights.{enters_bounded}
-use Rattle.bolt_bulk.proofs.HeldRuns.{length-inline_value}
-use Rattle.bolt_bulk.proofs.Ontos.{IsValue, onto_items, onto_push, value_items}
+use Rattle.bolt_bulk.proofs.HeldPasses.{around_reverse}
+use Rattle.bolt_bulk.proofs.HeldSteps.{around_length, enters_held, items_length, leaves_held, takes_held}
+use Rattle.bolt_bulk.proofs.Ontos.{IsValue, onto_items, onto_push, value_items, values_held}
 use Rattle.bolt_bulk.proofs.PassSteps.{IsOn, inline_item, on_before, on_enters, on_leaves, on_numbers, on_takes, open_values, pass_takes_all, root_item, values_put, values_rows}
 use Rattle.bolt_bulk.proofs.PutBefore.{bytes-append}
 use Rattle.bolt_bulk.proofs.PutsLemmas.{puts_then}
@@ -43,6 +45,10 @@ use Rattle.bolt_bulk.proofs.PutsLemmas.{puts_then}
 pub on_ok_map : {A E : Type 0} {P Q : Type 0} (result : Result A E) → OnOk result P → (P → Q) → OnOk result Q
 on_ok_map (Ok x) p f = f p
 on_ok_map (Err e) p f = tt
+
+pub on_ok_both : {A E : Type 0} {P Q R : Type 0} (result : Result A E) → OnOk result P → OnOk result Q → (P → Q → R) → OnOk result R
+on_ok_both (Ok x) p q f = f p q
+on_ok_both (Err e) p q f = tt
 
 pub if_err_map : {A E : Type 0} {P Q : E → Type 0} (result : Result A E) → IfErr result P → ((e : E) → P e → Q e) → IfErr result Q
 if_err_map (Ok x) p f = tt
@@ -118,7 +124,7 @@ pub on_of : (tree : Tree) (pass : Pass) (levels : List Level) (left : Tree) (put
 on_of tree pass levels left put is none =
     let (same, rest) = subst (λ (p : Option Pending). IsPending p pass.entries.items (map level_of is.frames) is.rest levels left) none is.pends in
     let under = subst (λ (t : Tree). IsPass pass.bounds.page_size is.frames is.state (items_of pass.bounds.page_size t) (root_of pass.bounds.page_size tree)) rest is.under in
-    (same, record { under = under; rows_are = is.rows; put_is = is.put_is; bounded = is.bounded })
+    (same, record { under = under; rows_are = is.rows; put_is = is.put_is })
 
 -- with a bucket that may be inline
 abbrev pub HasPending : (tree : Tree) (pass : Pass) (levels : List Level) (left : Tree) (put : List Placed) (is : IsAt tree pass levels left put) → Pending → Type 0
@@ -130,12 +136,12 @@ pending_of : (tree : Tree) (pass : Pass) (levels : List Level) (left : Tree) (pu
 pending_of tree pass levels left put p is some =
     let (after, same, rest) = subst (λ (q : Option Pending). IsPending q pass.entries.items (map level_of is.frames) is.rest levels left) some is.pends in
     let under = subst (λ (t : Tree). IsPass pass.bounds.page_size is.frames is.state (items_of pass.bounds.page_size t) (root_of pass.bounds.page_size tree)) rest is.under in
-    (after, same, record { under = under; rows_are = is.rows; put_is = is.put_is; bounded = is.bounded })
+    (after, same, record { under = under; rows_are = is.rows; put_is = is.put_is })
 
 -- what was put stands before the rest, at any time
 pub at_before : (tree : Tree) (pass : Pass) (levels : List Level) (left : Tree) (put : List Placed) → IsAt tree pass levels left put → StandsBefore put (layout_pages pass.bounds.page_size tree)
 at_before tree pass levels left put is =
-    on_before pass.bounds.page_size tree is.frames is.state (items_of pass.bounds.page_size is.rest) (rows_of pass.bucket pass.next) put (record { under = is.under; rows_are = is.rows; put_is = is.put_is; bounded = is.bounded })
+    on_before pass.bounds.page_size tree is.frames is.state (items_of pass.bounds.page_size is.rest) (rows_of pass.bucket pass.next) put (record { under = is.under; rows_are = is.rows; put_is = is.put_is })
 
 -- a step that puts nothing
 pub steps_none : {S A : Type 0} {taken : S → Option (List ℕ)} {failed : S → ℕ} (tree : Tree) (pass : Pass) (levels : List Level) (left : Tree) (put : List Placed) (old : S) (At : List Placed → Type 0) (result : Result A BulkFault)
@@ -169,6 +175,14 @@ shown_values : (entries : List Leaf) → AllByRecursion (λ (entry : Leaf). entr
 shown_values [] all = tt
 shown_values (e ∷ entries) all = (all.0, shown_values entries all.1)
 
+-- what code counts is what stands in the open runs
+counted_items : (frames : List Frame) (state : Open) (waits : List Waiting) (bucket : OpenBucket) (next : ℕ) → AreWaiting (reverse waits) frames → IsOpenRows (rows_of bucket next) state (base_in frames)
+    → items_around waits + items_in bucket ≡ length_frames frames + length_open state
+counted_items frames state waits bucket next are rows =
+    let a = around_length (reverse waits) frames are in
+    let b = around_reverse waits in
+    let c = items_length bucket next (base_in frames) state rows in omega arith
+
 module _ {S : Type 0} (taken : S → Option (List ℕ)) (failed : S → ℕ) (tree : Tree) (pass : Pass) (put : List Placed) where
   abbrev P : ℕ
   P = pass.bounds.page_size
@@ -177,45 +191,48 @@ module _ {S : Type 0} (taken : S → Option (List ℕ)) (failed : S → ℕ) (tr
   rows_now = rows_of pass.bucket pass.next
 
   -- ---- a value of the open bucket
-  pub value_steps : {A : Type 0} (levels : List Level) (key value : List ℕ) (after : Tree) (old new : S) (bucket : OpenBucket) (next : ℕ) (result : Result A BulkFault)
+  pub value_steps : {A : Type 0} (levels : List Level) (key value : List ℕ) (after : Tree) (old new : S) (bucket : OpenBucket) (next : ℕ) (counted : Pass) (result : Result A BulkFault)
       → IsAt tree pass levels (with_value key value after) put → pass.pending ≡ None
       → Puts taken failed old new (placed_bytes P (rows_room_put P rows_now key (16 + (length key + length value)))) result
       → OnOk result (rows_of bucket next ≡ rows_taking P rows_now (value_element key value) (16 + (length key + length value)))
       → IfErr result (λ e. e ≡ fault.TooLarge → pass.bounds.limit < (rows_room P rows_now key (16 + (length key + length value))).next)
-      → Steps tree taken failed old new pass.bounds put
-      (IsAt tree (record { alloc = pass.alloc; bounds = pass.bounds; waiting = pass.waiting; bucket = bucket; pending = pass.pending; entries = pass.entries; next = next; around = pass.around; most = pass.most }) levels after) result
-  value_steps levels key value after old new bucket next result is none puts rows large =
+      → OnOk result (Counts (record { alloc = pass.alloc; bounds = pass.bounds; waiting = pass.waiting; bucket = bucket; pending = pass.pending; entries = pass.entries; next = next; around = pass.around; most = pass.most }) counted)
+      → Steps tree taken failed old new pass.bounds put (IsAt tree counted levels after) result
+  value_steps levels key value after old new bucket next counted result is none puts rows large counts =
       let (same, on) = on_of tree pass levels (with_value key value after) put is none in
       let made : Open = taking P is.state (leaf_item key value false) in
-      let then = on_takes P tree is.frames is.state key value false (items_of P after) rows_now put on (λ n e. absurd cc) in
+      let then = on_takes P tree is.frames is.state key value false (items_of P after) rows_now put on in
       let few = on_numbers P tree is.frames made _ _ _ then in
       record {
         more = rows_room_put P rows_now key (16 + (length key + length value));
         puts = puts;
-        at = on_ok_map result rows (λ e. record {
-          frames = is.frames;
-          state = made;
-          rest = after;
-          under = then.under;
-          rows = subst (λ (r : OpenRows). IsOpenRows r made (base_in is.frames)) (sym e) then.rows_are;
-          waits = is.waits;
-          put_is = then.put_is;
-          bounded = then.bounded;
-          pends = subst (λ (p : Option Pending). IsPending p pass.entries.items (map level_of is.frames) after levels after) (sym none) (same, refl);
-        });
+        at = on_ok_both result rows counts (λ e k.
+            let here : IsOpenRows (rows_of bucket next) made (base_in is.frames) = subst (λ (r : OpenRows). IsOpenRows r made (base_in is.frames)) (sym e) then.rows_are in
+            let count = counted_items is.frames made pass.waiting.items bucket next is.waits here in
+            subst (λ (p : Pass). IsAt tree p levels after (put ++ rows_room_put P rows_now key (16 + (length key + length value)))) (sym k.rest) (record {
+              frames = is.frames;
+              state = made;
+              rest = after;
+              under = then.under;
+              rows = here;
+              waits = is.waits;
+              put_is = then.put_is;
+              held = takes_held P is.frames is.state (leaf_item key value false) pass.most counted.most refl is.held (k.most ∙ ap (λ (n : ℕ). max pass.most (capped n)) count);
+              pends = subst (λ (p : Option Pending). IsPending p pass.entries.items (map level_of is.frames) after levels after) (sym none) (same, refl);
+            }));
         before = on_before P tree is.frames made _ _ _ then;
         large = if_err_map result large (λ e l h. let m = l h in omega (arith, m, few));
       }
 
   -- ---- the end of a bucket that is inline
-  pub inline_steps : {A : Type 0} (level : Level) (levels : List Level) (p : Pending) (size : ℕ) (old new : S) (bucket : OpenBucket) (entries : Vec Leaf Global) (next : ℕ) (result : Result A BulkFault)
+  pub inline_steps : {A : Type 0} (level : Level) (levels : List Level) (p : Pending) (size : ℕ) (old new : S) (bucket : OpenBucket) (entries : Vec Leaf Global) (next : ℕ) (counted : Pass) (result : Result A BulkFault)
       → IsAt tree pass (level ∷ levels) end put → pass.pending ≡ Some p → IsSmall P p pass.entries.items → size ≡ length (inline_value p.sequence (map leaf_view pass.entries.items))
       → Puts taken failed old new (placed_bytes P (rows_room_put P rows_now p.key.now (16 + (length p.key.now + size)))) result
       → OnOk result (rows_of bucket next ≡ rows_taking P rows_now (inline_element p.key.now p.sequence (map leaf_view pass.entries.items)) (16 + (length p.key.now + size)))
       → IfErr result (λ e. e ≡ fault.TooLarge → pass.bounds.limit < (rows_room P rows_now p.key.now (16 + (length p.key.now + size))).next)
-      → Steps tree taken failed old new pass.bounds put
-      (IsAt tree (record { alloc = pass.alloc; bounds = pass.bounds; waiting = pass.waiting; bucket = bucket; pending = None; entries = entries; next = next; around = pass.around; most = pass.most }) levels level.after) result
-  inline_steps level levels p size old new bucket entries next result is some small sized puts rows large =
+      → OnOk result (Counts (record { alloc = pass.alloc; bounds = pass.bounds; waiting = pass.waiting; bucket = bucket; pending = None; entries = entries; next = next; around = pass.around; most = pass.most }) counted)
+      → Steps tree taken failed old new pass.bounds put (IsAt tree counted levels level.after) result
+  inline_steps level levels p size old new bucket entries next counted result is some small sized puts rows large counts =
       let (after, same, on) = pending_of tree pass (level ∷ levels) end put p is some in
       let shown : List LeafElement = map leaf_view pass.entries.items in
       let value : List ℕ = inline_value p.sequence shown in
@@ -226,8 +243,7 @@ module _ {S : Type 0} (taken : S → Option (List ℕ)) (failed : S → ℕ) (tr
       let fits = small.small in
       let item = inline_item P p.key.now p.sequence shown values (omega arith) (omega arith) in
       let on2 = subst (λ (i : Laid LeafElement). IsOn P tree is.frames is.state (i ∷ items_of P after) rows_now put) item on in
-      let long = length-inline_value p.sequence shown in
-      let then0 = on_takes P tree is.frames is.state p.key.now value true (items_of P after) rows_now put on2 (λ n e. omega arith) in
+      let then0 = on_takes P tree is.frames is.state p.key.now value true (items_of P after) rows_now put on2 in
       let made : Open = taking P is.state (leaf_item p.key.now value true) in
       let Then : ℕ → Type 0 = λ n. IsOn P tree is.frames made (items_of P after) (rows_taking P rows_now (inline_element p.key.now p.sequence shown) (16 + (length p.key.now + n))) (put ++ rows_room_put P rows_now p.key.now (16 + (length p.key.now + n))) in
       let then : Then size = subst Then (sym sized) then0 in
@@ -238,17 +254,20 @@ module _ {S : Type 0} (taken : S → Option (List ℕ)) (failed : S → ℕ) (tr
       record {
         more = rows_room_put P rows_now p.key.now (16 + (length p.key.now + size));
         puts = puts;
-        at = on_ok_map result rows (λ e. record {
-          frames = is.frames;
-          state = made;
-          rest = after;
-          under = then.under;
-          rows = subst (λ (r : OpenRows). IsOpenRows r made (base_in is.frames)) (sym e) then.rows_are;
-          waits = is.waits;
-          put_is = then.put_is;
-          bounded = then.bounded;
-          pends = (others, behind);
-        });
+        at = on_ok_both result rows counts (λ e k.
+            let here : IsOpenRows (rows_of bucket next) made (base_in is.frames) = subst (λ (r : OpenRows). IsOpenRows r made (base_in is.frames)) (sym e) then.rows_are in
+            let count = counted_items is.frames made pass.waiting.items bucket next is.waits here in
+            subst (λ (q : Pass). IsAt tree q levels level.after (put ++ rows_room_put P rows_now p.key.now (16 + (length p.key.now + size)))) (sym k.rest) (record {
+              frames = is.frames;
+              state = made;
+              rest = after;
+              under = then.under;
+              rows = here;
+              waits = is.waits;
+              put_is = then.put_is;
+              held = takes_held P is.frames is.state (leaf_item p.key.now value true) pass.most counted.most refl is.held (k.most ∙ ap (λ (n : ℕ). max pass.most (capped n)) count);
+              pends = (others, behind);
+            }));
         before = on_before P tree is.frames made _ _ _ then;
         large = if_err_map result large (λ e l h. let m = l h in omega (arith, m, numbers));
       }
@@ -299,7 +318,7 @@ module _ {S : Type 0} (taken : S → Option (List ℕ)) (failed : S → ℕ) (tr
         outer = made;
         base = base;
         values = values;
-        on = record { under = under; rows_are = values_rows shown p.size (base_in frames) (room_for p).next values sizes base; put_is = placed ∙ values_put frames shown; bounded = enters_bounded P is.frames is.state p.key.now p.sequence (root_over P inner) after shown on2.bounded (omega arith) };
+        on = record { under = under; rows_are = values_rows shown p.size (base_in frames) (room_for p).next values sizes base; put_is = placed ∙ values_put frames shown };
       }
 
   -- a fault on the way
@@ -320,54 +339,59 @@ module _ {S : Type 0} (taken : S → Option (List ℕ)) (failed : S → ℕ) (tr
       }
 
   -- all went well
-  pub open_steps : (levels : List Level) (left : Tree) (p : Pending) (old new : S) (bucket : OpenBucket) (w : Waiting) (around : Vec Waiting Global) (entries : Vec Leaf Global) (next held : ℕ)
+  pub open_steps : (levels : List Level) (left : Tree) (p : Pending) (old new : S) (bucket : OpenBucket) (w : Waiting) (around : Vec Waiting Global) (entries : Vec Leaf Global) (next held : ℕ) (counted : Pass)
       → IsAt tree pass levels left put → pass.pending ≡ Some p → IsSmall P p pass.entries.items → HasRoot P (onto (map leaf_view pass.entries.items) left)
       → Puts {A = ⊤} taken failed old new (placed_bytes P (rows_room_put P rows_now p.key.now (32 + length p.key.now))) (Ok tt)
       → around.items ≡ pass.waiting.items ++ w ∷ [] → rows_of w.bucket next ≡ room_for p → w.key.now ≡ p.key.now → w.sequence ≡ p.sequence → rows_of bucket next ≡ opened_rows p next
-      → Steps {A = ⊤} tree taken failed old new pass.bounds put
-      (IsAt tree (record { alloc = pass.alloc; bounds = pass.bounds; waiting = around; bucket = bucket; pending = None; entries = entries; next = next; around = held; most = pass.most }) levels left) (Ok tt)
-  open_steps levels left p old new bucket w around entries next held is some small rooted puts items rows key sequence values_are =
+      → Counts (record { alloc = pass.alloc; bounds = pass.bounds; waiting = around; bucket = bucket; pending = None; entries = entries; next = next; around = held; most = pass.most }) counted
+      → Steps {A = ⊤} tree taken failed old new pass.bounds put (IsAt tree counted levels left) (Ok tt)
+  open_steps levels left p old new bucket w around entries next held counted is some small rooted puts items rows key sequence values_are k =
       let then = has_opened levels left p is some small rooted in
       let frame : Frame = frame_of p left then.after is.state in
       let frames : List Frame = frame ∷ is.frames in
       let state : Open = open_values (value_items (map leaf_view pass.entries.items)) in
       let next_is : next ≡ (room_for p).next = ap (λ (r : OpenRows). r.next) rows in
       let room_is : 32 + length p.key.now ≡ 16 + (length p.key.now + 16) = omega arith in
+      let values : List (Laid LeafElement) = value_items (map leaf_view pass.entries.items) in
+      let here : IsOpenRows (rows_of bucket next) state (base_in frames) = subst (λ (r : OpenRows). IsOpenRows r state (base_in frames)) (sym values_are)
+      (values_rows (map leaf_view pass.entries.items) p.size (base_in frames) next then.values small.sized (next_is ∙ then.base)) in
+      let waits : AreWaiting (reverse around.items) frames = subst (λ (ws : List Waiting). AreWaiting ws frames) (sym (ap reverse items ∙ reverse-append pass.waiting.items (w ∷ []))) (
+        subst (λ (n : ℕ). IsOpenRows (rows_of w.bucket n) frame.state (base_in is.frames)) (next_is ∙ then.base)
+            (subst (λ (n : ℕ). IsOpenRows (rows_of w.bucket next) (making_room P is.state p.key.now n) (base_in is.frames)) room_is
+            (subst (λ (r : OpenRows). IsOpenRows r (making_room P is.state p.key.now (32 + length p.key.now)) (base_in is.frames)) (sym rows) then.outer)),
+        key,
+        sequence,
+        is.waits,
+      ) in
+      let count = counted_items frames state around.items bucket next waits here in
       record {
         more = rows_room_put P rows_now p.key.now (32 + length p.key.now);
         puts = puts;
-        at = record {
+        at = subst (λ (q : Pass). IsAt tree q levels left (put ++ rows_room_put P rows_now p.key.now (32 + length p.key.now))) (sym k.rest) (record {
           frames = frames;
           state = state;
           rest = left;
           under = then.on.under;
-          rows = subst (λ (r : OpenRows). IsOpenRows r state (base_in frames)) (sym values_are)
-              (values_rows (map leaf_view pass.entries.items) p.size (base_in frames) next then.values small.sized (next_is ∙ then.base));
-          waits = subst (λ (ws : List Waiting). AreWaiting ws frames) (sym (ap reverse items ∙ reverse-append pass.waiting.items (w ∷ []))) (
-            subst (λ (n : ℕ). IsOpenRows (rows_of w.bucket n) frame.state (base_in is.frames)) (next_is ∙ then.base)
-                (subst (λ (n : ℕ). IsOpenRows (rows_of w.bucket next) (making_room P is.state p.key.now n) (base_in is.frames)) room_is
-                (subst (λ (r : OpenRows). IsOpenRows r (making_room P is.state p.key.now (32 + length p.key.now)) (base_in is.frames)) (sym rows) then.outer)),
-            key,
-            sequence,
-            is.waits,
-          );
+          rows = here;
+          waits = waits;
           put_is = then.on.put_is;
-          bounded = then.on.bounded;
+          held = enters_held P frame is.frames is.state p.key.now (16 + (length p.key.now + 16)) values pass.most counted.most refl (values_held (map leaf_view pass.entries.items)) is.held
+              (k.most ∙ ap (λ (n : ℕ). max pass.most (capped n)) count);
           pends = (then.same, refl);
-        };
+        });
         before = on_before P tree _ _ _ _ _ then.on;
         large = tt;
       }
 
   -- ---- the open bucket ends, and the one around it goes on
-  pub leave_steps : {A : Type 0} (level : Level) (levels : List Level) (w : Waiting) (old new : S) (bucket : OpenBucket) (around : Vec Waiting Global) (next held : ℕ) (result : Result A BulkFault)
+  pub leave_steps : {A : Type 0} (level : Level) (levels : List Level) (w : Waiting) (old new : S) (bucket : OpenBucket) (around : Vec Waiting Global) (next held : ℕ) (counted : Pass) (result : Result A BulkFault)
       → IsAt tree pass (level ∷ levels) end put → pass.pending ≡ None → pass.waiting.items ≡ around.items ++ w ∷ []
       → Puts taken failed old new (placed_bytes P (rows_end_put P rows_now)) result
       → OnOk result ((before : ℕ) → rows_of bucket next ≡ rows_push (rows_of w.bucket before) (root_element w.key.now (rows_end P rows_now) w.sequence) (32 + length w.key.now) (bucket_end_next P rows_now))
       → IfErr result (λ e. e ≡ fault.TooLarge → pass.bounds.limit < bucket_end_next P rows_now)
-      → Steps tree taken failed old new pass.bounds put
-      (IsAt tree (record { alloc = pass.alloc; bounds = pass.bounds; waiting = around; bucket = bucket; pending = pass.pending; entries = pass.entries; next = next; around = held; most = pass.most }) levels level.after) result
-  leave_steps level levels w old new bucket around next held result is none popped puts rows large =
+      → OnOk result (Counts (record { alloc = pass.alloc; bounds = pass.bounds; waiting = around; bucket = bucket; pending = pass.pending; entries = pass.entries; next = next; around = held; most = pass.most }) counted)
+      → Steps tree taken failed old new pass.bounds put (IsAt tree counted levels level.after) result
+  leave_steps level levels w old new bucket around next held counted result is none popped puts rows large counts =
       let (same, on) = on_of tree pass (level ∷ levels) end put is none in
       let (frame, frames, more_frames, top) = first_frame level levels is.frames same in
       let ws : reverse pass.waiting.items ≡ w ∷ reverse around.items = ap reverse popped ∙ reverse-append around.items (w ∷ []) in
@@ -385,17 +409,21 @@ module _ {S : Type 0} (taken : S → Option (List ℕ)) (failed : S → ℕ) (tr
       record {
         more = rows_end_put P rows_now;
         puts = puts;
-        at = on_ok_map result rows (λ e. record {
-          frames = frames;
-          state = made;
-          rest = frame.after;
-          under = then.under;
-          rows = subst (λ (r : OpenRows). IsOpenRows r made (base_in frames)) (sym (e base ∙ row_is)) then.rows_are;
-          waits = others;
-          put_is = then.put_is;
-          bounded = then.bounded;
-          pends = subst (λ (p : Option Pending). IsPending p pass.entries.items (map level_of frames) frame.after levels level.after) (sym none) top;
-        });
+        at = on_ok_both result rows counts (λ e k.
+            let here : IsOpenRows (rows_of bucket next) made (base_in frames) = subst (λ (r : OpenRows). IsOpenRows r made (base_in frames)) (sym (e base ∙ row_is)) then.rows_are in
+            let count = counted_items frames made around.items bucket next others here in
+            let so_far : pass.most ≡ capped (held_so_far (frame ∷ frames) is.state) = is.held ∙ ap (λ (fs : List Frame). capped (held_so_far fs is.state)) more_frames in
+            subst (λ (q : Pass). IsAt tree q levels level.after (put ++ rows_end_put P rows_now)) (sym k.rest) (record {
+              frames = frames;
+              state = made;
+              rest = frame.after;
+              under = then.under;
+              rows = here;
+              waits = others;
+              put_is = then.put_is;
+              held = leaves_held P frame frames is.state pass.most counted.most is.under.begun.whole so_far (k.most ∙ ap (λ (n : ℕ). max pass.most (capped n)) count);
+              pends = subst (λ (p : Option Pending). IsPending p pass.entries.items (map level_of frames) frame.after levels level.after) (sym none) top;
+            }));
         before = on_before P tree frames made _ _ _ then;
         large = if_err_map result large (λ e l h. let m = l h in omega (arith, m, numbers));
       }
@@ -422,7 +450,7 @@ module _ (tree : Tree) (pass : Pass) (levels : List Level) (put : List Placed) w
         rows = is.rows;
         waits = is.waits;
         put_is = is.put_is;
-        bounded = is.bounded;
+        held = is.held;
         pends = (behind, same, rest ∙ ap (λ (t : Tree). with_bucket p.key.now p.sequence t behind) (sym onto_is));
       }
 
@@ -440,7 +468,7 @@ module _ (tree : Tree) (pass : Pass) (levels : List Level) (put : List Placed) w
         rows = is.rows;
         waits = is.waits;
         put_is = is.put_is;
-        bounded = is.bounded;
+        held = is.held;
         pends = (
           after,
           ap (λ (ls : List Level). record { key = key.now; after = after } ∷ ls) same,

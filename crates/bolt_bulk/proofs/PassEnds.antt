@@ -9,12 +9,14 @@ use Rattle.bolt_tree.specs.Entries.{Bucket, Value}
 use Rattle.bolt_tree.specs.Listing.{Member}
 use Rattle.bolt_tree.specs.Paths.{Path}
 use Rattle.bolt_tree.specs.Tree.{Tree, end, listing_below, listing_of, with_bucket, with_value}
-use Rattle.bolt_bulk.specs.Items.{root_of}
-use Rattle.bolt_bulk.specs.Laid.{Laid, Placed}
-use Rattle.bolt_bulk.specs.Layout.{first_page, layout_mark, layout_pages, layout_root, placed_bytes}
-use Rattle.bolt_bulk.specs.Storable.{HasLengths}
+use Rattle.bolt_layout.specs.Items.{root_of}
+use Rattle.bolt_layout.specs.Laid.{Laid, Placed}
+use Rattle.bolt_layout.specs.Layout.{first_page, layout_held, layout_mark, layout_pages, layout_root, placed_bytes}
+use Rattle.bolt_layout.specs.Storable.{HasLengths}
 use Rattle.bolt_bulk.specs.Private.Endings.{Ends, IsFitMember, last_part}
 use Rattle.bolt_bulk.specs.Private.Levels.{Level, left_in, path_in}
+use Rattle.bolt_bulk.specs.Private.HeldCounts.{capped}
+use Rattle.bolt_bulk.specs.Private.HeldSoFar.{held_so_far}
 use Rattle.bolt_bulk.specs.Private.OpenBuckets.{bucket_end_next, rows_of}
 use Rattle.bolt_bulk.specs.Private.OpenRows.{IsOpenRows}
 use Rattle.bolt_bulk.specs.Private.OpenRuns.{Frame, Open, all_put, end_of, nothing_open}
@@ -27,7 +29,7 @@ use Rattle.bolt_bulk.specs.declared.pass.Ended.{Ended}
 use Rattle.bolt_bulk.specs.declared.pass.Pass.{Pass}
 use Rattle.bolt_bulk.specs.declared.pass.Pending.{Pending}
 use Rattle.bolt_bulk.proofs.Frames.{pass_begins, pass_ends}
-use Rattle.bolt_bulk.proofs.Heights.{begins_bounded}
+use Rattle.bolt_bulk.proofs.HeldSteps.{end_held}
 use Rattle.bolt_bulk.proofs.Members.{all_left, next_bucket, next_short, next_value, none_at_all}
 use Rattle.bolt_bulk.proofs.OpenRowLemmas.{nothing_rows, rows_ended}
 use Rattle.bolt_bulk.proofs.OpenRunLemmas.{ends}
@@ -107,8 +109,8 @@ members_fit path (with_bucket key sequence inside after) (key_fits, sequence_fit
 
 -- ---- the beginning
 
-pub has_begun : (tree : Tree) (pass : Pass) → pass.waiting.items ≡ [] → pass.pending ≡ None → rows_of pass.bucket pass.next ≡ record { leaves = no_leaves; uppers = []; next = first_page } → HasLeft tree pass (listing_of tree) []
-has_begun tree pass none nothing rows = record {
+pub has_begun : (tree : Tree) (pass : Pass) → pass.waiting.items ≡ [] → pass.pending ≡ None → rows_of pass.bucket pass.next ≡ record { leaves = no_leaves; uppers = []; next = first_page } → pass.most ≡ 0 → HasLeft tree pass (listing_of tree) []
+has_begun tree pass none nothing rows fresh = record {
   levels = [];
   left = tree;
   at = record {
@@ -119,7 +121,7 @@ has_begun tree pass none nothing rows = record {
     rows = subst (λ (r : OpenRows). IsOpenRows r nothing_open first_page) (sym rows) (nothing_rows first_page);
     waits = rw none tt;
     put_is = refl;
-    bounded = begins_bounded pass.bounds.page_size;
+    held = omega arith;
     pends = rw nothing (refl, refl);
   };
   members_are = all_left tree;
@@ -146,15 +148,18 @@ pub record HasEnd (tree : Tree) (pass : Pass) (put : List Placed) : Type 0 where
   pub pages : layout_pages pass.bounds.page_size tree ≡ put ++ rows_end_put pass.bounds.page_size (rows_of pass.bucket pass.next)
   pub root : rows_end pass.bounds.page_size (rows_of pass.bucket pass.next) ≡ layout_root pass.bounds.page_size tree
   pub mark : bucket_end_next pass.bounds.page_size (rows_of pass.bucket pass.next) ≡ layout_mark pass.bounds.page_size tree
+  pub held : pass.most ≡ capped (layout_held pass.bounds.page_size tree)
 
 root_ended : (page_size : ℕ) (tree : Tree) (state : Open) (rows : OpenRows) (put : List Placed) → IsOn page_size tree [] state [] rows put
     → (layout_pages page_size tree ≡ put ++ rows_end_put page_size rows) × (rows_end page_size rows ≡ layout_root page_size tree) × (bucket_end_next page_size rows ≡ layout_mark page_size tree)
+    × (held_so_far [] state ≡ layout_held page_size tree)
 root_ended page_size tree state rows put on =
     let ended = rows_ended page_size rows state first_page on.rows_are in
     let whole : end_of page_size state ≡ root_of page_size tree = ends page_size state on.under.root on.under.current ∙ on.under.stack in (
       sym (pass_ends page_size tree state on.under) ∙ (ap (λ (ps : List Placed). all_put [] state ++ ps) (sym ended.0) ∙ ap (λ (ps : List Placed). ps ++ rows_end_put page_size rows) (sym on.put_is)),
       ended.1 ∙ ap (λ (r : Laid BranchElement). (r.element first_page).child) whole,
       end_numbered page_size rows state first_page on.rows_are ∙ ap (λ (r : Laid BranchElement). first_page + r.numbers) whole,
+      sym (end_held page_size state on.under.begun.whole) ∙ ap (λ (r : Laid BranchElement). r.held) whole,
     )
 
 pub has_end : (tree : Tree) (pass : Pass) (put : List Placed) → HasLeft tree pass [] put → depth_of pass ≤ 1 → HasEnd tree pass put
@@ -166,8 +171,8 @@ has_end tree pass put has shallow =
     let (same, on) = on_of tree pass [] end put at (no_pending pass shallow) in
     let frames = no_frames at.frames same in
     let on2 = subst (λ (fs : List Frame). IsOn pass.bounds.page_size tree fs at.state [] (rows_of pass.bucket pass.next) put) frames on in
-    let (pages, root, mark) = root_ended pass.bounds.page_size tree at.state (rows_of pass.bucket pass.next) put on2 in
-    record { pages = pages; root = root; mark = mark }
+    let (pages, root, mark, held) = root_ended pass.bounds.page_size tree at.state (rows_of pass.bucket pass.next) put on2 in
+    record { pages = pages; root = root; mark = mark; held = at.held ∙ ap capped (ap (λ (fs : List Frame). held_so_far fs at.state) frames ∙ held) }
 
 -- A beginning of a text isn't the whole of a longer one.
 some_more : (xs ys : List ℕ) → ys ≢ [] → (xs ++ ys) ≢ []
@@ -203,6 +208,7 @@ module _ {S : Type 0} (tree : Tree) (taken : S → Option (List ℕ)) (failed : 
         root = tt;
         mark = tt;
         within = tt;
+        held = tt;
         large = steps.large;
       }
 
@@ -223,5 +229,6 @@ module _ {S : Type 0} (tree : Tree) (taken : S → Option (List ℕ)) (failed : 
         root = then.root;
         mark = then.mark;
         within = then.within;
+        held = then.held;
         large = then.large;
       }

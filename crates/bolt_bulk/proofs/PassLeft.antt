@@ -5,7 +5,7 @@ use Rattle.std.proofs.lemmas.List.{length-map, length-reverse}
 use Rattle.bolt_format.specs.declared.element.Leaf.{Leaf}
 use Rattle.bolt_tree.specs.Listing.{Member}
 use Rattle.bolt_tree.specs.Tree.{Tree, end}
-use Rattle.bolt_bulk.specs.Laid.{Placed}
+use Rattle.bolt_layout.specs.Laid.{Placed}
 use Rattle.bolt_bulk.specs.Private.Levels.{Level, left_in}
 use Rattle.bolt_bulk.specs.Private.OpenRuns.{Frame}
 use Rattle.bolt_bulk.specs.Private.Passes.{AreWaiting, HasLeft, IsAt, IsNoDeeper, IsPending, Steps, depth_of, level_of, pending_depth}

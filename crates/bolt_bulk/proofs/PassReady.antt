@@ -5,12 +5,12 @@ use Rattle.std.proofs.lemmas.List.{length-append, length-map, map-append}
 use Rattle.bolt_format.specs.ElementPlaces.{leaf_view}
 use Rattle.bolt_format.specs.Elements.{LeafElement}
 use Rattle.bolt_format.specs.declared.element.Leaf.{Leaf}
-use Rattle.bolt_bulk.specs.PageBytes.{inline_value, leaf_data}
+use Rattle.bolt_layout.specs.PageBytes.{inline_value, leaf_data}
 use Rattle.bolt_bulk.specs.Private.Passes.{IsPendingSmall, IsSmall}
 use Rattle.bolt_bulk.specs.Private.TakenItems.{entries_size, inline_size}
 use Rattle.bolt_bulk.specs.declared.pass.Pending.{Pending}
 use Rattle.bolt_bulk.proofs.LeafPuts.{length-inline_value}
-use Rattle.bolt_bulk.proofs.ListLemmas.{all_append}
+use Rattle.bolt_layout.proofs.ListLemmas.{all_append}
 
 data_push : (es : List LeafElement) (e : LeafElement) → length (leaf_data (es ++ e ∷ [])) ≡ length (leaf_data es) + (length e.key + length e.value)
 data_push [] e =

@@ -1,17 +1,17 @@
 -- The steps of the code's pass are those of the pass over items.
 use Rattle.std.proofs.Common.{◌≡◌, ◌∙◌, ℕ, ◌+◌, Bool, true, List, [], ◌∷◌, ◌++◌, length, refl, sym, ap, subst, arith}
 use Rattle.bolt_bulk.specs.Private.OpenBuckets.{bucket_end_next, leaf_closed}
-use Rattle.bolt_bulk.specs.Items.{leaf_item}
-use Rattle.bolt_bulk.specs.Laid.{Laid, numbers_of}
-use Rattle.bolt_bulk.specs.Levels.{branch_view, leaf_view, overflow_of, page_over, run_overflow}
-use Rattle.bolt_bulk.specs.PageBytes.{root_value}
+use Rattle.bolt_layout.specs.Items.{leaf_item}
+use Rattle.bolt_layout.specs.Laid.{Laid, numbers_of}
+use Rattle.bolt_layout.specs.Levels.{branch_view, leaf_view, overflow_of, page_over, run_overflow}
+use Rattle.bolt_layout.specs.PageBytes.{root_value}
 use Rattle.bolt_bulk.specs.Private.BranchRuns.{element_up, rows_end_next}
 use Rattle.bolt_format.specs.Elements.{BranchElement}
 use Rattle.bolt_bulk.specs.Private.Rows.{BranchRow, OpenRows, leaf_key, row_key, row_push, rows_end, rows_push, rows_room, rows_room_put}
 use Rattle.bolt_bulk.specs.Private.OpenRuns.{Frame, Open, base_in, close, end_of, making_room, numbers_in, pushing, put_in, room_puts, taking}
 use Rattle.bolt_bulk.specs.Private.Coming.{held_item}
 use Rattle.bolt_bulk.specs.Private.OpenRows.{AreRows, IsKeyed, IsOpenRows}
-use Rattle.bolt_bulk.proofs.OverRows.{numbers-append}
+use Rattle.bolt_layout.proofs.OverRows.{numbers-append}
 use Rattle.bolt_bulk.proofs.RowLemmas.{key_same, row_pushed, same_element}
 use Rattle.bolt_bulk.proofs.OpenRowLemmas.{leaf_key_same, rows_ended, rows_have_room, rows_pushed}
 

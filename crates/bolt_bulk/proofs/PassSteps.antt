@@ -6,14 +6,13 @@ use Rattle.std.proofs.lemmas.List.{append-nil, length-append}
 use Rattle.std.proofs.lemmas.List.Sums.{sum_by_push}
 use Rattle.bolt_format.specs.Elements.{BranchElement, LeafElement}
 use Rattle.bolt_tree.specs.Tree.{Tree, end}
-use Rattle.bolt_bulk.specs.Cut.{max_items, run_size}
-use Rattle.bolt_bulk.specs.Items.{bucket_item, items_of, leaf_item, root_of, stored_bucket}
-use Rattle.bolt_bulk.specs.Laid.{Laid, Placed, elements_of, size_of}
-use Rattle.bolt_bulk.specs.Layout.{layout_mark, layout_pages}
-use Rattle.bolt_bulk.specs.Levels.{root_over}
-use Rattle.bolt_bulk.specs.PageBytes.{inline_value, leaf_data}
+use Rattle.bolt_layout.specs.Cut.{max_items, run_size}
+use Rattle.bolt_layout.specs.Items.{bucket_item, items_of, leaf_item, root_of, stored_bucket}
+use Rattle.bolt_layout.specs.Laid.{Laid, Placed, elements_of, size_of}
+use Rattle.bolt_layout.specs.Layout.{layout_mark, layout_pages}
+use Rattle.bolt_layout.specs.Levels.{root_over}
+use Rattle.bolt_layout.specs.PageBytes.{inline_value, leaf_data}
 use Rattle.bolt_bulk.specs.Private.Coming.{IsPass, held_item}
-use Rattle.bolt_bulk.specs.Private.Heights.{AllBounded, HasShortBucket}
 use Rattle.bolt_bulk.specs.Private.OpenBuckets.{bucket_end_next}
 use Rattle.bolt_bulk.specs.Private.OpenRows.{IsOpenRows}
 use Rattle.bolt_bulk.specs.Private.OpenRuns.{Frame, Open, all_put, base_in, end_of, frames_put, has_room, making_room, nothing_open, pushing, room_puts, taking}
@@ -21,7 +20,6 @@ use Rattle.bolt_bulk.specs.Private.Passes.{HasRoot, StandsBefore, onto}
 use Rattle.bolt_bulk.specs.Private.Rows.{OpenRows, rows_end, rows_end_put, rows_push, rows_room, rows_room_put}
 use Rattle.bolt_bulk.specs.Private.TakenItems.{entries_size, root_element, rows_taking}
 use Rattle.bolt_bulk.proofs.Frames.{pass_enters, pass_leaves, pass_takes, put_enters, put_leaves, put_takes, waiting}
-use Rattle.bolt_bulk.proofs.Heights.{leaves_bounded, takes_bounded}
 use Rattle.bolt_bulk.proofs.Ontos.{IsValue, ends_inline, onto_items, value_items, values_elements, values_keyed, values_numbers, values_pages, values_size}
 use Rattle.bolt_bulk.proofs.OpenRowLemmas.{rows_ended}
 use Rattle.bolt_bulk.proofs.PassRows.{enter_is, leave_is, take_is}
@@ -32,7 +30,6 @@ pub record IsOn (page_size : ℕ) (tree : Tree) (frames : List Frame) (state : O
   pub under : IsPass page_size frames state items (root_of page_size tree)
   pub rows_are : IsOpenRows rows state (base_in frames)
   pub put_is : put ≡ all_put frames state
-  pub bounded : AllBounded page_size frames state
 
 module _ (page_size : ℕ) (tree : Tree) where
   -- what was put stands before the root page, and its numbers are below the high-water mark
@@ -50,10 +47,10 @@ module _ (page_size : ℕ) (tree : Tree) where
 
   -- an item without pages below it is taken
   pub on_takes : (frames : List Frame) (state : Open) (key value : List ℕ) (flag : Bool) (items : List (Laid LeafElement)) (rows : OpenRows) (put : List Placed)
-      → IsOn page_size tree frames state (leaf_item key value flag ∷ items) rows put → HasShortBucket page_size (leaf_item key value flag)
+      → IsOn page_size tree frames state (leaf_item key value flag ∷ items) rows put
       → IsOn page_size tree frames (taking page_size state (leaf_item key value flag)) items (rows_taking page_size rows (record { key = key; value = value; is_bucket = flag }) (16 + (length key + length value)))
       (put ++ rows_room_put page_size rows key (16 + (length key + length value)))
-  on_takes frames state key value flag items rows put on short =
+  on_takes frames state key value flag items rows put on =
       let item : Laid LeafElement = leaf_item key value flag in
       let made = take_is page_size rows state (base_in frames) key value flag on.rows_are in
       record {
@@ -61,7 +58,6 @@ module _ (page_size : ℕ) (tree : Tree) where
         rows_are = made.0;
         put_is = ap (λ (ps : List Placed). ps ++ rows_room_put page_size rows key item.size) on.put_is
             ∙ (ap (λ (ps : List Placed). all_put frames state ++ ps) made.1 ∙ sym (put_takes page_size frames state item (λ n. refl)));
-        bounded = takes_bounded page_size frames state item on.bounded short;
       }
 
   -- a bucket with a root page is entered
@@ -94,7 +90,6 @@ module _ (page_size : ℕ) (tree : Tree) where
         rows_are = leave_is page_size inner outer state frame frames on.rows_are waits base;
         put_is = ap (λ (ps : List Placed). ps ++ rows_end_put page_size inner) on.put_is
             ∙ (ap (λ (ps : List Placed). all_put (frame ∷ frames) state ++ ps) ended.0 ∙ sym (put_leaves page_size frame frames state));
-        bounded = leaves_bounded page_size frame frames state (end_of page_size state) on.bounded;
       }
 
 -- Values are taken as long as their page has room.

@@ -4,14 +4,14 @@ use Rattle.std.proofs.Common.{◌≡◌, ◌∙◌, ◌≤◌, ℕ, zero, suc, �
 use Rattle.std.proofs.lemmas.List.{append-nil, length-append}
 use Rattle.bolt_format.specs.Elements.{BranchElement, LeafElement}
 use Rattle.bolt_format.specs.Pages.{PageView}
-use Rattle.bolt_bulk.specs.Cut.{cut_from, joins}
-use Rattle.bolt_bulk.specs.Items.{items_of}
-use Rattle.bolt_bulk.specs.Laid.{Laid, Placed, first_key, numbers_of, pages_of, size_of}
-use Rattle.bolt_bulk.specs.Levels.{branch_view, leaf_view, next_level, page_over, top_in, top_of}
-use Rattle.bolt_bulk.specs.Layout.{first_page, placed_bytes}
-use Rattle.bolt_bulk.specs.PageBytes.{page_bytes}
+use Rattle.bolt_layout.specs.Cut.{cut_from, joins}
+use Rattle.bolt_layout.specs.Items.{items_of}
+use Rattle.bolt_layout.specs.Laid.{Laid, Placed, first_key, numbers_of, pages_of, size_of}
+use Rattle.bolt_layout.specs.Levels.{branch_view, leaf_view, next_level, page_over, top_in, top_of}
+use Rattle.bolt_layout.specs.Layout.{first_page, placed_bytes}
+use Rattle.bolt_layout.specs.PageBytes.{page_bytes}
 use Rattle.bolt_bulk.specs.Private.OpenRuns.{Frame, Open, all_put, base_in, coming_key, frames_put, key_size, next_number, numbers_in, own_page, pages_put, pushing, put_in}
-use Rattle.bolt_bulk.proofs.OverRows.{numbers-append}
+use Rattle.bolt_layout.proofs.OverRows.{numbers-append}
 use Rattle.bolt_bulk.specs.Private.Coming.{Eager, HasBegun, IsOpen, IsPass, IsSized, IsStack, bucket, finish, held_item}
 use Rattle.bolt_bulk.proofs.OpenRunLemmas.{cut_joined, cut_step, pages-append, pages_push, pushed_put, room_joins}
 

@@ -3,7 +3,7 @@ use Rattle.std.proofs.Common.{◌≡◌, ◌∙◌, ℕ, ◌+◌, ◌-◌, ◌�
 use Rattle.std.specs.Prelude.{⊤, IsErr}
 use Rattle.std.proofs.lemmas.List.{length-append, replicate-append-replicate, take-replicate}
 use Rattle.bolt_format.specs.declared.sink.SinkFault.{SinkFault}
-use Rattle.bolt_bulk.specs.PageBytes.{filled}
+use Rattle.bolt_layout.specs.PageBytes.{filled}
 use Rattle.bolt_bulk.specs.Puts.{PutsWhole}
 use Rattle.bolt_bulk.proofs.WholePuts.{whole_as, whole_none, whole_same, whole_stop, whole_then}
 

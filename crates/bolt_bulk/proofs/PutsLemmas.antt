@@ -9,13 +9,13 @@ use Rattle.bolt_format.specs.Pages.{PageView}
 use Rattle.bolt_format.specs.Sinks.{AppendsProperBeginning}
 use Rattle.bolt_format.specs.declared.kind.Kind.{Kind}
 use Rattle.bolt_format.specs.declared.kind.Kind.TheVariants as kind
-use Rattle.bolt_bulk.specs.Laid.{Placed}
-use Rattle.bolt_bulk.specs.Layout.{placed_bytes}
-use Rattle.bolt_bulk.specs.PageBytes.{branch_bytes, content_bytes, header_bytes, leaf_bytes, page_bytes}
+use Rattle.bolt_layout.specs.Laid.{Placed}
+use Rattle.bolt_layout.specs.Layout.{placed_bytes}
+use Rattle.bolt_layout.specs.PageBytes.{branch_bytes, content_bytes, header_bytes, leaf_bytes, page_bytes}
 use Rattle.bolt_bulk.specs.Puts.{Puts, PutsWhole}
 use Rattle.bolt_bulk.specs.declared.fault.BulkFault.{BulkFault}
 use Rattle.bolt_bulk.specs.declared.fault.BulkFault.TheVariants as fault
-use Rattle.bolt_bulk.proofs.PageLemmas.{length-header_bytes}
+use Rattle.bolt_layout.proofs.PageLemmas.{length-header_bytes}
 
 -- Nothing is a proper beginning of a text that has any bytes.
 pub proper_none : (old : Option (List ℕ)) (text : List ℕ) → text ≢ [] → AppendsProperBeginning old old text

@@ -4,14 +4,14 @@ use Rattle.std.specs.List.{AllByRecursion}
 use Rattle.std.proofs.lemmas.Bool.{cases_Bool}
 use Rattle.std.proofs.lemmas.List.Sums.{sum_by_push}
 use Rattle.bolt_format.specs.Elements.{BranchElement}
-use Rattle.bolt_bulk.specs.Cut.{run_size}
-use Rattle.bolt_bulk.specs.Laid.{Laid, Placed, elements_of, first_key, numbers_of, size_of}
-use Rattle.bolt_bulk.specs.Levels.{branch_view, overflow_of, page_over, run_overflow}
+use Rattle.bolt_layout.specs.Cut.{run_size}
+use Rattle.bolt_layout.specs.Laid.{Laid, Placed, elements_of, first_key, numbers_of, size_of}
+use Rattle.bolt_layout.specs.Levels.{branch_view, overflow_of, page_over, run_overflow}
 use Rattle.bolt_bulk.specs.Private.OpenRuns.{climb, climb_puts, has_room, key_size, numbers_in, own_page, put_in}
 use Rattle.bolt_bulk.specs.Private.Rows.{BranchRow, no_row, row_has_room, row_key, row_page, row_push, rows_climb, rows_put}
 use Rattle.bolt_bulk.specs.Private.OpenRows.{AreRows, IsKeyed, IsRow}
-use Rattle.bolt_bulk.proofs.ListLemmas.{all_append}
-use Rattle.bolt_bulk.proofs.OverRows.{numbers-append}
+use Rattle.bolt_layout.proofs.ListLemmas.{all_append}
+use Rattle.bolt_layout.proofs.OverRows.{numbers-append}
 
 pub elements-append : {E : Type 0} (xs ys : List (Laid E)) (n : ℕ) → elements_of (xs ++ ys) n ≡ elements_of xs n ++ elements_of ys (n + numbers_of xs)
 elements-append [] ys n = ap (λ (m : ℕ). elements_of ys m) (let e : n ≡ n + 0 = omega arith in e)

@@ -3,12 +3,12 @@ use Rattle.std.proofs.Common.{div-add-mod', add-mul, ◌≡◌, ◌∙◌, ◌�
 use Rattle.std.proofs.lemmas.Bool.{leb-true, ltb-true}
 use Rattle.std.proofs.lemmas.List.{length-append, append-nil}
 use Rattle.bolt_format.specs.Elements.{BranchElement}
-use Rattle.bolt_bulk.specs.Cut.{max_items}
-use Rattle.bolt_bulk.specs.Levels.{overflow_of}
-use Rattle.bolt_bulk.specs.PageBytes.{branch_data}
+use Rattle.bolt_layout.specs.Cut.{max_items}
+use Rattle.bolt_layout.specs.Levels.{overflow_of}
+use Rattle.bolt_layout.specs.PageBytes.{branch_data}
 use Rattle.bolt_bulk.specs.Private.BranchRuns.{IsPushed, IsSizedRow, IsStanding}
 use Rattle.bolt_bulk.specs.Private.Rows.{BranchRow, no_row, row_has_room, row_push}
-use Rattle.bolt_bulk.proofs.PageRows.{overflow_room, overflow_small}
+use Rattle.bolt_layout.proofs.PageRows.{overflow_room, overflow_small}
 
 pub record OverflowFits (page_size size : ℕ) : Type 0 where
   pub small : overflow_of page_size size ≤ size

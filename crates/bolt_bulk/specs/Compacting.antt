@@ -1,14 +1,14 @@
 -- What `plan` and `compact` answer: docs/LAYOUT.md, "The calls".
 -- The layout is that of the listing of the file, at the page size asked for, with the sequence of the file's root bucket.
-use Rattle.std.specs.Prelude.{◌≡◌, ◌<◌, ◌≤◌, ◌+◌, ◌*◌, ◌^◌, ℕ, max, List, [], ◌∷◌, length, Option, Result, IfErr, IfOk, IsErr, OnErr, OnOk}
+use Rattle.std.specs.Prelude.{◌≡◌, ◌<◌, ◌≤◌, ◌^◌, ℕ, List, length, Option, Result, IfErr, IfOk, IsErr, OnErr, OnOk}
 use Rattle.std.specs.Io.KnownBytes.{Appends, Keeps}
 use Rattle.bolt_format.specs.Sinks.{AppendsProperBeginning}
 use Rattle.bolt_check.specs.CheckedFiles.{meta_of}
 use Rattle.bolt_check.specs.declared.checked_file.Checked.{Checked}
 use Rattle.bolt_tree.specs.Listing.{Member}
 use Rattle.bolt_tree.specs.Tree.{tree_of}
-use Rattle.bolt_bulk.specs.Copies.{layout_of_listing}
-use Rattle.bolt_bulk.specs.Layout.{layout_mark, layout_root}
+use Rattle.bolt_layout.specs.Copies.{layout_of_listing}
+use Rattle.bolt_layout.specs.Layout.{layout_mark, layout_root}
 use Rattle.bolt_bulk.specs.declared.fault.BulkFault.{BulkFault}
 use Rattle.bolt_bulk.specs.declared.fault.BulkFault.TheVariants as bulk
 use Rattle.bolt_bulk.specs.declared.fault.PlanFault.{PlanFault}
@@ -44,12 +44,3 @@ pub record Copies {S : Type 0} (taken : S → Option (List ℕ)) (failed : S →
   pub large : IfErr result (λ fault. fault ≡ bulk.TooLarge → too_many ≤ length layout)
   pub refuses : too_many ≤ length layout → IsErr result × Keeps (taken old) (taken new) × (failed new ≡ failed old)
   pub untouched : too_many ≤ length layout → IfErr result (λ fault. fault ≡ bulk.Sink → ⊥)
-
--- the parts of the longest path of a listing
-abbrev pub longest : List Member → ℕ
-longest [] = 0
-longest (member ∷ listing) = max (length member.0) (longest listing)
-
--- the most items that may stand in open runs at one time, however many entries there are
-abbrev pub most_held : (page_size : ℕ) → List Member → ℕ
-most_held page_size listing = 4 * page_size * (1 + longest listing)

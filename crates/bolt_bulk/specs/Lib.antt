@@ -1,12 +1,3 @@
 pub mod Compacting
-pub mod Copies
-pub mod Cut
-pub mod Divisions
-pub mod Items
-pub mod Laid
-pub mod Layout
-pub mod Levels
-pub mod PageBytes
 pub mod Private
 pub mod Puts
-pub mod Storable

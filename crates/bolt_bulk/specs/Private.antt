@@ -3,10 +3,10 @@ pub mod BranchRuns
 pub mod Coming
 pub mod Endings
 pub mod FirstPages
-pub mod Heights
 pub mod Gathering
 pub mod HeldCounts
 pub mod HeldItems
+pub mod HeldSoFar
 pub mod Levels
 pub mod OpenBuckets
 pub mod OpenRows

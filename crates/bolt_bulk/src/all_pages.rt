@@ -1,9 +1,8 @@
 //! The pages of a copy, put in one pass over the file.
-ghost use Rattle.std.specs.Prelude.{◌≡◌, ◌*◌, ◌<◌, ◌≤◌, [], IfOk};
+ghost use Rattle.std.specs.Prelude.{◌≡◌, ◌≤◌, []};
 ghost use Rattle.std.specs.List.{AllByRecursion};
 ghost use Rattle.bolt_tree.specs.FileListings.{ForListing};
 ghost use Rattle.bolt_tree.specs.Tree.{listing_of, tree_of};
-ghost use Rattle.bolt_bulk.specs.Compacting.{most_held};
 ghost use Rattle.bolt_bulk.specs.Private.Endings.{Ends, IsFitMember};
 
 use crate::bounds::Bounds;
@@ -22,11 +21,9 @@ pub(crate) fn put_pages<S: Sink>(
     sink: &mut S,
 ) -> Result<Ended, BulkFault>
     requires room { 3 ≤ bounds.limit }
-    requires limit { bounds.limit * bounds.page_size < 9223372036854775808 }
     requires fit { ForListing checked (λ listing. ∥ AllByRecursion IsFitMember listing ∥₁) }
     requires lists { ForListing checked (λ listing. listing_of (tree_of listing) ≡ listing) }
-    ensures held { IfOk result (λ ended. ForListing checked.entry (λ listing. ended.held ≤ most_held bounds.page_size listing)) }
-    ensures ends { ForListing checked.entry (λ listing. Ends (tree_of listing) S.taken S.failed sink.old sink.new bounds [] result) }
+    ensures { ForListing checked.entry (λ listing. Ends (tree_of listing) S.taken S.failed sink.old sink.new bounds [] result) }
 {
     let mut walk = Walk::new(alloc, checked);
     let mut pass = Pass::new(alloc, bounds);
@@ -35,7 +32,7 @@ pub(crate) fn put_pages<S: Sink>(
             Err(_) => return Err(BulkFault::Memory),
             Ok(None) => return pass.end(sink),
             Ok(Some(item)) => {
-                if let Err(fault) = pass.take_counted(walk.path(), item, sink) {
+                if let Err(fault) = pass.take(walk.path(), item, sink) {
                     return Err(fault);
                 }
             }

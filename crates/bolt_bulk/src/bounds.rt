@@ -1,6 +1,6 @@
 //! How large pages are, and how many of them there may be.
 ghost use Rattle.std.specs.Prelude.{◌≡◌, ◌+◌, ◌<◌, ◌≤◌, IfErr, IfOk};
-ghost use Rattle.bolt_bulk.specs.Levels.{overflow_of};
+ghost use Rattle.bolt_layout.specs.Levels.{overflow_of};
 ghost use Rattle.bolt_bulk.specs.declared.fault.BulkFault.TheVariants as fault;
 
 use crate::fault::BulkFault;
@@ -18,7 +18,7 @@ pub(crate) struct Bounds {
 }
 
 /// How many further pages a page of this size takes.
-#[tactic(auto, unfolding(crate::specs::Levels::overflow_of))]
+#[tactic(auto, unfolding(bolt_layout::specs::Levels::overflow_of))]
 pub(crate) fn overflow(page_size: usize, size: usize) -> usize
     requires page { 0 < page_size }
     requires size { 0 < size }

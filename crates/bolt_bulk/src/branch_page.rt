@@ -1,8 +1,8 @@
 //! A branch page, as it is put.
 ghost use Rattle.std.specs.Prelude.{◌≡◌, ◌+◌, ◌*◌, ◌<◌, ◌≤◌, ◌++◌, length, map};
 ghost use Rattle.bolt_format.specs.ElementPlaces.{branch_view};
-ghost use Rattle.bolt_bulk.specs.Levels.{branch_view as branch_page_view};
-ghost use Rattle.bolt_bulk.specs.PageBytes.{branch_data, branch_header, branch_headers, page_bytes};
+ghost use Rattle.bolt_layout.specs.Levels.{branch_view as branch_page_view};
+ghost use Rattle.bolt_layout.specs.PageBytes.{branch_data, branch_header, branch_headers, page_bytes};
 ghost use Rattle.bolt_bulk.specs.Puts.{PutsWhole};
 
 use crate::pieces::{put, put_full, put_zeros};
@@ -10,7 +10,7 @@ use crate::row::{BRANCH_FLAGS, ELEMENT_LEN, ROW_LEN, Row, header, push_u32, push
 use bolt_format::{Branch, Sink, SinkFault};
 
 /// Adds the header of an element.
-#[tactic(auto, unfolding(crate::specs::PageBytes::branch_header))]
+#[tactic(auto, unfolding(bolt_layout::specs::PageBytes::branch_header))]
 fn push_header(row: &mut Row, pos: u32, branch: &Branch<'_>)
     requires room { length row.old.items + ELEMENT_LEN ≤ ROW_LEN }
     requires key { length branch.now.key.now < 4294967296 }

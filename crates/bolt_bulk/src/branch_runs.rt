@@ -3,8 +3,8 @@ ghost use Rattle.std.specs.Prelude.{◌≡◌, ◌+◌, ◌<◌, ◌≤◌, [], 
 ghost use Rattle.std.specs.List.{AllByRecursion};
 ghost use Rattle.bolt_format.specs.ElementPlaces.{branch_view};
 ghost use Rattle.bolt_format.specs.Sinks.{AppendsProperBeginning};
-ghost use Rattle.bolt_bulk.specs.Layout.{placed_bytes};
-ghost use Rattle.bolt_bulk.specs.Levels.{overflow_of};
+ghost use Rattle.bolt_layout.specs.Layout.{placed_bytes};
+ghost use Rattle.bolt_layout.specs.Levels.{overflow_of};
 ghost use Rattle.bolt_bulk.specs.Private.BranchRuns.{IsPushed, IsSizedRow, IsStanding, element_up, own_element, row_of, rows_above, rows_end_next, row_taking, taking_next, taking_puts, taking_up};
 ghost use Rattle.bolt_bulk.specs.Private.OpenRuns.{key_size};
 ghost use Rattle.bolt_bulk.specs.Private.Rows.{no_row, row_has_room, row_page, row_push, rows_climb, rows_close_put, rows_next, rows_put, rows_root};

@@ -1,7 +1,7 @@
 //! The value of a bucket, as it is put.
 ghost use Rattle.std.specs.Prelude.{◌≡◌, ◌+◌, ◌*◌, ◌<◌, ◌++◌, length, map};
 ghost use Rattle.bolt_format.specs.ElementPlaces.{leaf_view};
-ghost use Rattle.bolt_bulk.specs.PageBytes.{inline_value, leaf_data, leaf_headers, root_value};
+ghost use Rattle.bolt_layout.specs.PageBytes.{inline_value, leaf_data, leaf_headers, root_value};
 ghost use Rattle.bolt_bulk.specs.Puts.{PutsWhole};
 
 use crate::pieces::{put, put_full};
@@ -12,7 +12,7 @@ use bolt_format::{Leaf, Sink, SinkFault};
 pub(crate) const ROOT_VALUE_LEN: usize = 16;
 
 /// The value of a bucket with a root page, or the first bytes of one that is inline.
-#[tactic(auto, unfolding(crate::specs::PageBytes::root_value))]
+#[tactic(auto, unfolding(bolt_layout::specs::PageBytes::root_value))]
 pub(crate) fn root_row(page: u64, sequence: u64) -> Row
     ensures { result.items ≡ root_value page sequence }
 {

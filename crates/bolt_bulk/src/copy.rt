@@ -1,12 +1,12 @@
-//! The compact copy of a checked file, written in one forward pass.
+//! The compact copy of a checked file, written from its first byte to its last.
 ghost use Rattle.std.specs.Prelude.{◌≡◌, ◌*◌, ◌≤◌, ◌<◌, ◌/◌, IfOk, OnOk, length};
 ghost use Rattle.bolt_check.specs.CheckedFiles.{meta_of};
 ghost use Rattle.bolt_format.specs.Metas.{IsPageSize};
 ghost use Rattle.bolt_tree.specs.FileListings.{ForListing};
 ghost use Rattle.bolt_tree.specs.Tree.{tree_of};
-ghost use Rattle.bolt_bulk.specs.Compacting.{Copies, Plans, layout_for, most_held, too_many};
-ghost use Rattle.bolt_bulk.specs.Copies.{IsSoundCopy, RefusesBeginnings};
-ghost use Rattle.bolt_bulk.specs.Layout.{layout_root};
+ghost use Rattle.bolt_bulk.specs.Compacting.{Copies, Plans, layout_for, too_many};
+ghost use Rattle.bolt_layout.specs.Copies.{IsSoundCopy, RefusesBeginnings};
+ghost use Rattle.bolt_layout.specs.Layout.{layout_held, layout_root};
 
 use crate::all_pages::put_pages;
 use crate::bounds::Bounds;
@@ -59,10 +59,10 @@ pub fn plan(alloc: Global, checked: Checked<'_>, page_size: u64) -> Result<Plan,
     }
 }
 
-/// Puts the compact copy of a file at this page size: the one layout of what the file holds
-/// (docs/LAYOUT.md), in one forward pass over the file, without freeing a page in between. Where
-/// the answer isn't `Ok`, the sink took a beginning of it that isn't the whole, which `check`
-/// refuses.
+/// Writes the compact copy of a file at this page size: the one layout of what the file holds
+/// (docs/LAYOUT.md), from its first byte to its last. The file is walked twice, for the plan and for
+/// the pages. If the result isn't `Ok`, the sink took a prefix of the layout that isn't the whole,
+/// which `check` refuses.
 ///
 /// # Errors
 ///
@@ -77,7 +77,7 @@ pub fn compact<S: Sink>(
     requires { IsPageSize page_size }
     ensures copied { ForListing checked.entry (λ listing. Copies S.taken S.failed sink.old sink.new (layout_for checked.entry page_size listing) result) }
     ensures accepted { OnOk result (ForListing checked.entry (λ listing. ∥ IsSoundCopy page_size (tree_of listing) (meta_of checked.entry).root_sequence listing ∥₁)) }
-    ensures held { IfOk result (λ done. ForListing checked.entry (λ listing. done.held ≤ most_held page_size listing)) }
+    ensures held { IfOk result (λ done. ForListing checked.entry (λ listing. done.held ≡ layout_held page_size (tree_of listing))) }
     ensures beginnings { ForListing checked.entry (λ listing. length (layout_for checked.entry page_size listing) < too_many → ∥ RefusesBeginnings (layout_for checked.entry page_size listing) (layout_root page_size (tree_of listing)) ∥₁) }
 {
     file_has_one_layout(&checked, page_size);

@@ -6,14 +6,14 @@ ghost use Rattle.bolt_format.specs.Metas.{IsPageSize};
 ghost use Rattle.bolt_tree.specs.FileListings.{ForListing};
 ghost use Rattle.bolt_tree.specs.Tree.{listing_of, tree_of};
 ghost use Rattle.bolt_bulk.specs.Compacting.{layout_for, too_many};
-ghost use Rattle.bolt_bulk.specs.Copies.{IsOfOneTree, IsSoundCopy, RefusesBeginnings};
-ghost use Rattle.bolt_bulk.specs.Layout.{layout_mark, layout_root};
+ghost use Rattle.bolt_layout.specs.Copies.{IsOfOneTree, IsSoundCopy, RefusesBeginnings};
+ghost use Rattle.bolt_layout.specs.Layout.{layout_held, layout_mark, layout_root};
 
-use crate::laws::{
-    a_copy_lists_the_same, a_files_listing_is_of_one_tree, beginnings_are_refused,
+use bolt_check::Checked;
+use bolt_layout::laws::{
+    a_copy_lists_the_same, a_files_listing_is_of_one_tree, beginnings_are_refused, held_is_small,
     layout_has_length,
 };
-use bolt_check::Checked;
 
 /// A slice of bytes has none above 255.
 fn are_bytes(bytes: &[u8])
@@ -29,14 +29,17 @@ fn fits(n: u64)
     let _ = n;
 }
 
-/// The listing of a file is that of one tree, the layout has as many bytes as its pages, and where
-/// these are fewer than 2^63 it is a sound copy, whose beginnings are refused.
+/// The listing of a file is that of one tree, and the layout has as many bytes as its pages. If
+/// these are fewer than 2^63, it is a sound copy, its beginnings are refused, and no more items are
+/// held at one time than it has bytes.
 pub(crate) fn file_has_one_layout(checked: &Checked<'_>, page_size: u64)
     requires { IsPageSize page_size }
     ensures tree { ForListing checked.now (λ listing. ∥ IsOfOneTree listing ∥₁) }
     ensures length { ForListing checked.now (λ listing. length (layout_for checked.now page_size listing) ≡ layout_mark page_size (tree_of listing) * page_size) }
     ensures accepted { ForListing checked.now (λ listing. length (layout_for checked.now page_size listing) < too_many
         → ∥ IsSoundCopy page_size (tree_of listing) (meta_of checked.now).root_sequence listing ∥₁) }
+    ensures held { ForListing checked.now (λ listing. length (layout_for checked.now page_size listing) < too_many
+        → layout_held page_size (tree_of listing) ≤ length (layout_for checked.now page_size listing)) }
     ensures beginnings { ForListing checked.now (λ listing. length (layout_for checked.now page_size listing) < too_many
         → ∥ RefusesBeginnings (layout_for checked.now page_size listing) (layout_root page_size (tree_of listing)) ∥₁) }
 {
@@ -46,4 +49,5 @@ pub(crate) fn file_has_one_layout(checked: &Checked<'_>, page_size: u64)
     layout_has_length();
     a_copy_lists_the_same();
     beginnings_are_refused();
+    held_is_small();
 }

@@ -1,6 +1,6 @@
 //! The pages before those of the buckets, as they are put.
 ghost use Rattle.std.specs.Prelude.{◌≡◌, ◌≤◌, length};
-ghost use Rattle.bolt_bulk.specs.PageBytes.{filled, meta_bytes, meta_record};
+ghost use Rattle.bolt_layout.specs.PageBytes.{filled, meta_bytes, meta_record};
 ghost use Rattle.bolt_bulk.specs.Private.FirstPages.{first_pages};
 ghost use Rattle.bolt_bulk.specs.Puts.{PutsWhole};
 
@@ -32,7 +32,7 @@ pub(crate) struct Facts {
 }
 
 /// A meta, up to its checksum.
-#[tactic(auto, unfolding(crate::specs::PageBytes::meta_record))]
+#[tactic(auto, unfolding(bolt_layout::specs::PageBytes::meta_record))]
 fn meta_record(facts: &Facts, txid: u64) -> Row
     ensures record { result.items ≡ meta_record facts.now.page_size facts.now.root facts.now.sequence facts.now.mark txid }
     ensures length { length result.items ≡ 56 }
@@ -51,7 +51,7 @@ fn meta_record(facts: &Facts, txid: u64) -> Row
 }
 
 /// What stands on a meta page before its zeros.
-#[tactic(auto, unfolding(crate::specs::PageBytes::meta_bytes))]
+#[tactic(auto, unfolding(bolt_layout::specs::PageBytes::meta_bytes))]
 fn meta_row(facts: &Facts, txid: u64) -> Row
     ensures { result.items ≡ meta_bytes facts.now.page_size facts.now.root facts.now.sequence facts.now.mark txid }
 {

@@ -1,7 +1,7 @@
 //! A leaf page, as it is put.
 ghost use Rattle.std.specs.Prelude.{◌≡◌, ◌+◌, ◌*◌, ◌<◌, ◌≤◌, ◌++◌, length};
-ghost use Rattle.bolt_bulk.specs.Levels.{leaf_view as leaf_page_view};
-ghost use Rattle.bolt_bulk.specs.PageBytes.{leaf_data, leaf_headers, page_bytes};
+ghost use Rattle.bolt_layout.specs.Levels.{leaf_view as leaf_page_view};
+ghost use Rattle.bolt_layout.specs.PageBytes.{leaf_data, leaf_headers, page_bytes};
 ghost use Rattle.bolt_bulk.specs.Private.HeldItems.{AreHeld, IsHeld, held_views, page_size_of, stored_value};
 ghost use Rattle.bolt_bulk.specs.Puts.{PutsWhole};
 

@@ -1,5 +1,5 @@
-//! The compact copy of a sound file: what the layout of a tree is, what holds of it, and the calls
-//! that plan and write it in one forward pass.
+//! The compact copy of a sound file: the calls that plan it and write it, page after page. The
+//! layout that it has is defined in `bolt_layout`.
 #![tactic(auto)]
 
 mod all_pages;
@@ -13,7 +13,6 @@ mod file_laws;
 mod first_pages;
 mod held;
 mod held_count;
-pub mod laws;
 mod leaf_page;
 mod no_sink;
 mod open_bucket;

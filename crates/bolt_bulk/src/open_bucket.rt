@@ -5,10 +5,10 @@ ghost use Rattle.std.specs.List.{AllByRecursion};
 ghost use Rattle.bolt_format.specs.ElementPlaces.{branch_view, leaf_view};
 ghost use Rattle.bolt_format.specs.Sinks.{AppendsProperBeginning};
 ghost use Rattle.bolt_format.specs.declared.element.Leaf.{Leaf};
-ghost use Rattle.bolt_bulk.specs.Layout.{placed_bytes};
-ghost use Rattle.bolt_bulk.specs.Levels.{overflow_of};
-ghost use Rattle.bolt_bulk.specs.PageBytes.{leaf_data, page_bytes};
-ghost use Rattle.bolt_bulk.specs.Private.HeldCounts.{held_in};
+ghost use Rattle.bolt_layout.specs.Layout.{placed_bytes};
+ghost use Rattle.bolt_layout.specs.Levels.{overflow_of};
+ghost use Rattle.bolt_layout.specs.PageBytes.{leaf_data, page_bytes};
+ghost use Rattle.bolt_bulk.specs.Private.HeldCounts.{items_in};
 ghost use Rattle.bolt_bulk.specs.Private.HeldItems.{IsHeld, held_view, inlined_by, stored_value, value_item};
 ghost use Rattle.bolt_bulk.specs.Private.OpenBuckets.{HasRoomFor, IsLeafRun, IsOpenBucket, bucket_end_next, leaf_closed, leaves_of, rows_of};
 ghost use Rattle.bolt_bulk.specs.Private.Rows.{leaf_page, leaves_have_room, no_leaves, rows_end, rows_end_put, rows_push, rows_room, rows_room_put};
@@ -300,10 +300,9 @@ impl<'a> OpenBucket<'a> {
 
     /// How many items stand in its runs; 2^64 - 1 where there are more.
     pub(crate) fn held(&self) -> u64
-        ensures { result ≡ min (held_in self.now) 18446744073709551615 }
+        ensures { result ≡ min (items_in self.now) 18446744073709551615 }
     {
-        let items = self.leaves.items.len() as u64;
-        let mut held = items.saturating_add(self.leaves.inlined.len() as u64);
+        let mut held = self.leaves.items.len() as u64;
         for i in 0..self.uppers.len() {
             held = held.saturating_add(self.uppers[i].elements.len() as u64);
         }

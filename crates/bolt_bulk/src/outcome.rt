@@ -14,6 +14,7 @@ pub struct Plan {
 pub struct Done {
     /// How many bytes it has.
     pub bytes: u64,
-    /// The greatest number of items that stood in memory at one time.
+    /// The greatest number of items that stood in open runs at one time (docs/LAYOUT.md, "Held
+    /// items").
     pub held: u64,
 }

@@ -45,15 +45,15 @@ pub(crate) struct Pass<'a> {
     pub entries: Vec<Leaf<'a>>,
     /// The number of the next page.
     pub next: u64,
-    /// How many items the buckets hold that wait; 2^64 - 1 where there are more.
+    /// How many items stand in open runs of the buckets that wait; 2^64 - 1 if there are more.
     pub around: u64,
-    /// The most items that stood in open runs at one time, of the times that were counted.
+    /// The most items that stood in open runs at one time so far; 2^64 - 1 if there were more.
     pub most: u64,
 }
 
 impl<'a> Pass<'a> {
     ghost use Rattle.bolt_tree.specs.Tree.{Tree, end, listing_of, with_bucket, with_value};
-    ghost use Rattle.bolt_bulk.specs.Laid.{Placed};
+    ghost use Rattle.bolt_layout.specs.Laid.{Placed};
     ghost use Rattle.bolt_bulk.specs.Private.Levels.{Level};
     ghost use Rattle.bolt_format.specs.ElementPlaces.{leaf_view};
     ghost use Rattle.bolt_bulk.specs.Private.Passes.{HasLeft, HasRoot, IsAt, IsNoDeeper, IsReady, Steps, depth_of, onto};
@@ -66,7 +66,6 @@ impl<'a> Pass<'a> {
     pub(crate) fn new(alloc: Global, bounds: Bounds) -> Pass<'a>
         requires { 3 ≤ bounds.limit }
         ensures bounds { result.bounds ≡ bounds }
-        ensures most { result.most ≡ 0 }
         ensures ready { IsReady result }
         ensures at { (tree : Tree) → HasLeft tree result (listing_of tree) [] }
     {
@@ -104,7 +103,6 @@ impl<'a> Pass<'a> {
         requires key { length key.now ≤ 1073741824 }
         requires value { length value.now < 2147483647 }
         ensures bounds { OnOk result (self.new.bounds ≡ self.old.bounds) }
-        ensures most { OnOk result (self.new.most ≡ self.old.most) }
         ensures ready { OnOk result (IsReady self.new) }
         ensures depth { OnOk result (depth_of self.new ≡ depth_of self.old) }
         ensures steps { (tree after : Tree) (levels : List Level) (put : List Placed) → IsAt tree self.old levels (with_value key.now value.now after) put
@@ -138,7 +136,6 @@ impl<'a> Pass<'a> {
         requires small { size ≤ self.old.bounds.page_size / 4 }
         requires few { length self.old.entries.items < 65534 }
         ensures bounds { OnOk result (self.new.bounds ≡ self.old.bounds) }
-        ensures most { OnOk result (self.new.most ≡ self.old.most) }
         ensures ready { OnOk result (IsReady self.new) }
         ensures depth { OnOk result (depth_of self.new ≡ depth_of self.old) }
         ensures at { (tree after : Tree) (levels : List Level) (put : List Placed) → IsAt tree self.old levels (with_value key.now value.now after) put
@@ -170,13 +167,12 @@ impl<'a> Pass<'a> {
         requires key { length key.now ≤ 1073741824 }
         requires value { length value.now < 2147483647 }
         ensures bounds { OnOk result (self.new.bounds ≡ self.old.bounds) }
-        ensures most { OnOk result (self.new.most ≡ self.old.most) }
         ensures ready { OnOk result (IsReady self.new) }
         ensures depth { OnOk result (depth_of self.new ≡ depth_of self.old) }
         ensures steps { (tree after : Tree) (levels : List Level) (put : List Placed) → IsAt tree self.old levels (with_value key.now value.now after) put
             → Steps tree S.taken S.failed sink.old sink.new self.old.bounds put (IsAt tree self.new levels after) result }
     {
-        take_value(
+        let taken = take_value(
             self.alloc,
             &self.bounds,
             &mut self.bucket,
@@ -184,7 +180,12 @@ impl<'a> Pass<'a> {
             value,
             &mut self.next,
             sink,
-        )
+        );
+        if let Err(fault) = taken {
+            return Err(fault);
+        }
+        self.count();
+        Ok(())
     }
 
     /// Enters a bucket of the innermost one.
@@ -197,7 +198,6 @@ impl<'a> Pass<'a> {
         requires ready { IsReady self.old }
         requires key { length key.now ≤ 1073741824 }
         ensures bounds { OnOk result (self.new.bounds ≡ self.old.bounds) }
-        ensures most { OnOk result (self.new.most ≡ self.old.most) }
         ensures ready { OnOk result (IsReady self.new) }
         ensures depth { OnOk result (depth_of self.new ≡ depth_of self.old + 1) }
         ensures steps { (tree inside after : Tree) (levels : List Level) (put : List Placed) → IsAt tree self.old levels (with_bucket key.now sequence inside after) put
@@ -222,7 +222,6 @@ impl<'a> Pass<'a> {
         requires pending { self.old.pending ≡ None }
         requires key { length key.now ≤ 1073741824 }
         ensures bounds { self.new.bounds ≡ self.old.bounds }
-        ensures most { self.new.most ≡ self.old.most }
         ensures ready { IsReady self.new }
         ensures depth { depth_of self.new ≡ depth_of self.old + 1 }
         ensures at { (tree inside after : Tree) (levels : List Level) (put : List Placed) → IsAt tree self.old levels (with_bucket key.now sequence inside after) put
@@ -241,7 +240,6 @@ impl<'a> Pass<'a> {
         requires ready { IsReady self.old }
         requires pending { self.old.pending ≡ Some pending }
         ensures bounds { OnOk result (self.new.bounds ≡ self.old.bounds) }
-        ensures most { OnOk result (self.new.most ≡ self.old.most) }
         ensures ready { OnOk result (IsReady self.new) }
         ensures depth { OnOk result (depth_of self.new ≡ depth_of self.old) }
         ensures pending { OnOk result (self.new.pending ≡ None) }
@@ -276,6 +274,7 @@ impl<'a> Pass<'a> {
         self.around = around;
         self.entries.clear();
         self.pending = None;
+        self.count();
         Ok(())
     }
 
@@ -285,7 +284,6 @@ impl<'a> Pass<'a> {
         requires ready { IsReady self.old }
         requires within { 1 < depth_of self.old }
         ensures bounds { OnOk result (self.new.bounds ≡ self.old.bounds) }
-        ensures most { OnOk result (self.new.most ≡ self.old.most) }
         ensures ready { OnOk result (IsReady self.new) }
         ensures depth { OnOk result (depth_of self.new + 1 ≡ depth_of self.old) }
         ensures steps { (tree : Tree) (level : Level) (levels : List Level) (put : List Placed) → IsAt tree self.old (level ∷ levels) end put
@@ -302,7 +300,6 @@ impl<'a> Pass<'a> {
         requires ready { IsReady self.old }
         requires pending { self.old.pending ≡ Some pending }
         ensures bounds { OnOk result (self.new.bounds ≡ self.old.bounds) }
-        ensures most { OnOk result (self.new.most ≡ self.old.most) }
         ensures ready { OnOk result (IsReady self.new) }
         ensures depth { OnOk result (depth_of self.new + 1 ≡ depth_of self.old) }
         ensures steps { (tree : Tree) (level : Level) (levels : List Level) (put : List Placed) → IsAt tree self.old (level ∷ levels) end put
@@ -324,6 +321,7 @@ impl<'a> Pass<'a> {
         }
         self.entries.clear();
         self.pending = None;
+        self.count();
         Ok(())
     }
 
@@ -333,7 +331,6 @@ impl<'a> Pass<'a> {
         requires pending { self.old.pending ≡ None }
         requires waiting { 0 < length self.old.waiting.items }
         ensures bounds { OnOk result (self.new.bounds ≡ self.old.bounds) }
-        ensures most { OnOk result (self.new.most ≡ self.old.most) }
         ensures ready { OnOk result (IsReady self.new) }
         ensures depth { OnOk result (depth_of self.new + 1 ≡ depth_of self.old) }
         ensures steps { (tree : Tree) (level : Level) (levels : List Level) (put : List Placed) → IsAt tree self.old (level ∷ levels) end put
@@ -349,6 +346,7 @@ impl<'a> Pass<'a> {
             Ok(outer) => {
                 self.bucket = outer;
                 self.around = around;
+                self.count();
                 Ok(())
             }
         }
@@ -359,7 +357,6 @@ impl<'a> Pass<'a> {
         requires ready { IsReady self.old }
         requires some { 1 ≤ depth }
         ensures bounds { OnOk result (self.new.bounds ≡ self.old.bounds) }
-        ensures most { OnOk result (self.new.most ≡ self.old.most) }
         ensures ready { OnOk result (IsReady self.new) }
         ensures depth { OnOk result (depth_of self.new ≤ depth) }
         ensures steps { (tree : Tree) (members : List Member) (put : List Placed) → HasLeft tree self.old members put → IsNoDeeper depth members
@@ -383,7 +380,6 @@ impl<'a> Pass<'a> {
         requires ready { IsReady self.old }
         requires fit { IsFitMember (path_of path.now, item_view item) }
         ensures bounds { OnOk result (self.new.bounds ≡ self.old.bounds) }
-        ensures most { OnOk result (self.new.most ≡ self.old.most) }
         ensures ready { OnOk result (IsReady self.new) }
         ensures depth { OnOk result (depth_of self.new ≤ 1 + length path.now) }
         ensures steps { (tree : Tree) (members : List Member) (put : List Placed) → HasLeft tree self.old ((path_of path.now, item_view item.entry) ∷ members) put
@@ -404,8 +400,7 @@ impl<'a> Pass<'a> {
     /// Ends all that is open, up to the root page of the root bucket.
     pub(crate) fn end<S: Sink>(&mut self, sink: &mut S) -> Result<Ended, BulkFault>
         requires { IsReady self.old }
-        ensures held { IfOk result (λ ended. ended.held ≡ self.old.most) }
-        ensures ends { (tree : Tree) (put : List Placed) → HasLeft tree self.old [] put → Ends tree S.taken S.failed sink.old sink.new self.old.bounds put result }
+        ensures { (tree : Tree) (put : List Placed) → HasLeft tree self.old [] put → Ends tree S.taken S.failed sink.old sink.new self.old.bounds put result }
     {
         if let Err(fault) = self.leave_to(1, sink) {
             return Err(fault);

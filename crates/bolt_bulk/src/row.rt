@@ -1,7 +1,7 @@
 //! Short rows of bytes, gathered before they are put in one piece.
 ghost use Rattle.std.specs.Prelude.{◌≡◌, ◌+◌, ◌≤◌, ◌++◌, length};
 ghost use Rattle.bolt_format.specs.Elements.{LeafElement};
-ghost use Rattle.bolt_bulk.specs.PageBytes.{header_bytes, leaf_header, number_bytes};
+ghost use Rattle.bolt_layout.specs.PageBytes.{header_bytes, leaf_header, number_bytes};
 
 use arrayvec::ArrayVec;
 
@@ -32,7 +32,7 @@ pub(crate) fn push_bytes(row: &mut Row, bytes: &[u8])
 }
 
 /// Adds a number of 64 bits.
-#[tactic(auto, unfolding(crate::specs::PageBytes::number_bytes))]
+#[tactic(auto, unfolding(bolt_layout::specs::PageBytes::number_bytes))]
 pub(crate) fn push_u64(row: &mut Row, n: u64)
     requires { length row.old.items + 8 ≤ ROW_LEN }
     ensures number { row.new.items ≡ row.old.items ++ number_bytes 8 n }
@@ -42,7 +42,7 @@ pub(crate) fn push_u64(row: &mut Row, n: u64)
 }
 
 /// Adds a number of 32 bits.
-#[tactic(auto, unfolding(crate::specs::PageBytes::number_bytes))]
+#[tactic(auto, unfolding(bolt_layout::specs::PageBytes::number_bytes))]
 pub(crate) fn push_u32(row: &mut Row, n: u32)
     requires { length row.old.items + 4 ≤ ROW_LEN }
     ensures number { row.new.items ≡ row.old.items ++ number_bytes 4 n }
@@ -52,7 +52,7 @@ pub(crate) fn push_u32(row: &mut Row, n: u32)
 }
 
 /// Adds a number of 16 bits.
-#[tactic(auto, unfolding(crate::specs::PageBytes::number_bytes))]
+#[tactic(auto, unfolding(bolt_layout::specs::PageBytes::number_bytes))]
 pub(crate) fn push_u16(row: &mut Row, n: u16)
     requires { length row.old.items + 2 ≤ ROW_LEN }
     ensures number { row.new.items ≡ row.old.items ++ number_bytes 2 n }
@@ -62,7 +62,7 @@ pub(crate) fn push_u16(row: &mut Row, n: u16)
 }
 
 /// The header of a page.
-#[tactic(auto, unfolding(crate::specs::PageBytes::header_bytes))]
+#[tactic(auto, unfolding(bolt_layout::specs::PageBytes::header_bytes))]
 pub(crate) fn header(number: u64, flags: u16, count: u16, overflow: u32) -> Row
     ensures { result.items ≡ header_bytes number flags count overflow }
 {
@@ -75,7 +75,7 @@ pub(crate) fn header(number: u64, flags: u16, count: u16, overflow: u32) -> Row
 }
 
 /// Adds the header of a leaf's element with a key and a value of these lengths.
-#[tactic(auto, unfolding(crate::specs::PageBytes::leaf_header))]
+#[tactic(auto, unfolding(bolt_layout::specs::PageBytes::leaf_header))]
 pub(crate) fn push_leaf_header(row: &mut Row, pos: u32, is_bucket: bool, key: u32, value: u32)
     requires { length row.old.items + ELEMENT_LEN ≤ ROW_LEN }
     ensures { (e : LeafElement) → e.is_bucket ≡ is_bucket → length e.key ≡ key → length e.value ≡ value

@@ -3,7 +3,7 @@
 ghost use Rattle.std.specs.Prelude.{◌≡◌, ◌+◌, ◌<◌, ◌≤◌, ℕ, IfErr, IfOk, OnErr, OnOk, length, map};
 ghost use Rattle.bolt_format.specs.ElementPlaces.{leaf_view};
 ghost use Rattle.bolt_format.specs.Sinks.{AppendsProperBeginning};
-ghost use Rattle.bolt_bulk.specs.Layout.{placed_bytes};
+ghost use Rattle.bolt_layout.specs.Layout.{placed_bytes};
 ghost use Rattle.bolt_bulk.specs.Private.OpenBuckets.{IsOpenBucket, bucket_end_next, rows_of};
 ghost use Rattle.bolt_bulk.specs.Private.Rows.{rows_end, rows_end_put, rows_push, rows_room, rows_room_put};
 ghost use Rattle.bolt_bulk.specs.Private.TakenItems.{inline_element, inline_size, root_element, rows_taking, value_element};

@@ -2,7 +2,7 @@
 use Rattle.std.specs.Prelude.{◌≡◌, ◌<◌, ◌≤◌, ◌-◌, ◌⊎◌, ℕ, List, [], ◌∷◌, ◌++◌, Bool, true, false, codes, decimal, length, take, Option, Some, None, Result, Ok, Err}
 use Rattle.std.specs.Io.KnownBytes.{Appends, Keeps}
 use Rattle.bolt_bulk.specs.Compacting.{too_many}
-use Rattle.bolt_bulk.specs.Copies.{layout_of_listing}
+use Rattle.bolt_layout.specs.Copies.{layout_of_listing}
 use Rattle.bolt_check.specs.Roles.{AreRoles}
 use Rattle.bolt_check.specs.Sound.{HasSoundTrees, IsRefused, IsSlotRefused, IsSound}
 use Rattle.bolt_check.specs.declared.fault.CheckFault.{CheckFault}
@@ -218,6 +218,10 @@ pub record StopsShort {T : Type 0} (taken : T → Option (List ℕ)) (failed : T
   pub why : StopsCopy failed old new layout failure
   pub large : too_many ≤ length layout → Keeps (taken old) (taken new)
 
+-- `check` accepts a file that holds these bytes, and its listing is this one
+abbrev pub AcceptsListing : List ℕ → List Member → Type 0
+AcceptsListing file listing = (slot : Slot) × (meta : Meta) × IsChosen file slot meta × IsSound file meta true × IsListing file meta listing
+
 -- ---- all commands
 
 -- standard output and the target, each from its state `old` to `new`
@@ -227,19 +231,21 @@ module _ {O T : Type 0} (out_taken : O → Option (List ℕ)) (out_failed : O �
   abbrev pub Prints : (Answer → Type 0) → Ending → Type 0
   Prints IsWanted ending = (answer : Answer) × IsWanted answer × Does out_taken out_failed out_old out_new answer ending × (target_new ≡ target_old)
 
-  -- The target took the whole layout with no failure, which has fewer than 2^63 bytes, and then standard output is to take the line; or the
-  -- target stopped short, standard output isn't touched, and the job ends with the failure.
-  abbrev pub WritesCopy : (layout line : List ℕ) → Ending → Type 0
-  WritesCopy layout line ending =
-      ((length layout < too_many) × Appends (target_taken target_old) (target_taken target_new) layout × (target_failed target_new ≡ target_failed target_old)
+  -- The target took the whole layout with no failure, which has fewer than 2^63 bytes, is sound and has this listing; and then standard
+  -- output is to take the line. Or the target stopped short, standard output isn't touched, and the job ends with the failure.
+  abbrev pub WritesCopy : (listing : List Member) → (layout line : List ℕ) → Ending → Type 0
+  WritesCopy listing layout line ending =
+      ((length layout < too_many) × ∥ AcceptsListing layout listing ∥₁
+      × Appends (target_taken target_old) (target_taken target_new) layout × (target_failed target_new ≡ target_failed target_old)
       × Does out_taken out_failed out_old out_new (done line) ending)
       ⊎ ((failure : Failure) × StopsShort target_taken target_failed target_old target_new layout failure × (out_new ≡ out_old) × (ending ≡ Err failure))
 
-  -- the layout of the file's listing, at the copy's page size; or the file is refused, and neither is touched
+  -- The target takes the layout of the file's listing at the copy's page size, which is sound and has the same listing; or the file is
+  -- refused, and neither is touched.
   abbrev pub Compacts : List ℕ → Option Slot → Option PageSize → Ending → Type 0
   Compacts file slot size ending =
       ((meta : Meta) × (listing : List Member) × IsReadUnder file slot meta × IsListing file meta listing
-      × (let layout = layout_of_listing (copy_page_size size meta) listing meta.root_sequence in WritesCopy layout (lengths_line (length file) (length layout)) ending))
+      × (let layout = layout_of_listing (copy_page_size size meta) listing meta.root_sequence in WritesCopy listing layout (lengths_line (length file) (length layout)) ending))
       ⊎ ((fault : CheckFault) × (failure : Failure) × IsRefusedUnder file slot fault × IsToldAs fault failure
       × (out_new ≡ out_old) × (target_new ≡ target_old) × (ending ≡ Err failure))
 

@@ -5,6 +5,8 @@
 #[cfg(test)]
 mod compact_command_rows;
 #[cfg(test)]
+mod held_rows;
+#[cfg(test)]
 mod large_page_rows;
 #[cfg(test)]
 mod page_size_rows;

@@ -2,9 +2,9 @@
 use Rattle.std.specs.Prelude.{◌≡◌, ◌≤◌, ◌<◌, ℕ, ◌+◌, ◌*◌, List, [], ◌∷◌, map, length, Option, Some, None, if◌then◌else◌}
 use Rattle.bolt_format.specs.ElementPlaces.{branch_view}
 use Rattle.bolt_format.specs.Elements.{BranchElement}
-use Rattle.bolt_bulk.specs.Laid.{Placed}
-use Rattle.bolt_bulk.specs.Levels.{overflow_of}
-use Rattle.bolt_bulk.specs.PageBytes.{branch_data}
+use Rattle.bolt_layout.specs.Laid.{Placed}
+use Rattle.bolt_layout.specs.Levels.{overflow_of}
+use Rattle.bolt_layout.specs.PageBytes.{branch_data}
 use Rattle.bolt_bulk.specs.Private.OpenRuns.{key_size}
 use Rattle.bolt_bulk.specs.Private.Rows.{BranchRow, no_row, row_has_room, row_key, row_page, row_push}
 use Rattle.bolt_bulk.specs.declared.branch_runs.BranchRun.{BranchRun}

@@ -1,10 +1,10 @@
 -- What comes of the open runs of a bucket and of the items that are still to come; and so of all buckets that a pass has open.
 use Rattle.std.specs.Prelude.{◌≡◌, ℕ, true, List, [], ◌∷◌, map}
 use Rattle.bolt_format.specs.Elements.{BranchElement, LeafElement}
-use Rattle.bolt_bulk.specs.Cut.{cut_from}
-use Rattle.bolt_bulk.specs.Items.{bucket_item, items_of}
-use Rattle.bolt_bulk.specs.Laid.{Laid, first_key, size_of}
-use Rattle.bolt_bulk.specs.Levels.{branch_view, leaf_view, page_over, top_of}
+use Rattle.bolt_layout.specs.Cut.{cut_from}
+use Rattle.bolt_layout.specs.Items.{bucket_item, items_of}
+use Rattle.bolt_layout.specs.Laid.{Laid, first_key, size_of}
+use Rattle.bolt_layout.specs.Levels.{branch_view, leaf_view, page_over, top_of}
 use Rattle.bolt_bulk.specs.Private.OpenRuns.{Frame, Open, coming_key, has_room, key_size, pushing}
 
 -- What comes of open upper runs and the pages that are still to come from below.

@@ -1,23 +1,23 @@
--- How many items stand in open runs. In those of a bucket: the items of its leaf, the entries of its inline buckets, and the pages of the
--- runs above. In a pass: those of each bucket that waits, of the open one, and the entries of the one within it that may be inline.
-use Rattle.std.specs.Prelude.{◌≡◌, ℕ, ◌+◌, List, [], ◌∷◌, length, min, sum_by}
+-- How many items stand in open runs, as code counts them. In those of a bucket: the items of its leaf, and the pages in the runs above. In
+-- a pass: those of each bucket that waits, and of the open one.
+use Rattle.std.specs.Prelude.{◌≡◌, ℕ, ◌+◌, List, [], ◌∷◌, length, max, min, sum_by}
 use Rattle.bolt_bulk.specs.declared.branch_runs.BranchRun.{BranchRun}
 use Rattle.bolt_bulk.specs.declared.open_bucket.OpenBucket.{OpenBucket}
 use Rattle.bolt_bulk.specs.declared.pass.Pass.{Pass}
 use Rattle.bolt_bulk.specs.declared.steps.Waiting.{Waiting}
 
-abbrev pub held_above : List BranchRun → ℕ
-held_above uppers = sum_by (λ run. length run.elements.items) uppers
+abbrev pub items_above : List BranchRun → ℕ
+items_above uppers = sum_by (λ run. length run.elements.items) uppers
 
-abbrev pub held_in : OpenBucket → ℕ
-held_in bucket = length bucket.leaves.items.items + length bucket.leaves.inlined.items + held_above bucket.uppers.items
+abbrev pub items_in : OpenBucket → ℕ
+items_in bucket = length bucket.leaves.items.items + items_above bucket.uppers.items
 
-abbrev pub held_around : List Waiting → ℕ
-held_around [] = 0
-held_around (waiting ∷ others) = held_in waiting.bucket + held_around others
+abbrev pub items_around : List Waiting → ℕ
+items_around [] = 0
+items_around (waiting ∷ others) = items_in waiting.bucket + items_around others
 
-abbrev pub held_by : Pass → ℕ
-held_by pass = held_around pass.waiting.items + (held_in pass.bucket + length pass.entries.items)
+abbrev pub items_by : Pass → ℕ
+items_by pass = items_around pass.waiting.items + items_in pass.bucket
 
 -- what code counts up to
 abbrev pub capped : ℕ → ℕ
@@ -26,4 +26,9 @@ capped n = min n 18446744073709551615
 -- of each bucket that waits it is known how many items the buckets around it hold; the outermost stands first, with so many around it
 abbrev pub AreCounted : ℕ → List Waiting → Type 0
 AreCounted before [] = Unit {0}
-AreCounted before (waiting ∷ others) = (waiting.around ≡ capped before) × AreCounted (before + held_in waiting.bucket) others
+AreCounted before (waiting ∷ others) = (waiting.around ≡ capped before) × AreCounted (before + items_in waiting.bucket) others
+
+-- what a pass holds now counts, and nothing else of it changes
+pub record Counts (old new : Pass) : Type 0 where
+  pub most : new.most ≡ max old.most (capped (items_by old))
+  pub rest : new ≡ record old { most = new.most }

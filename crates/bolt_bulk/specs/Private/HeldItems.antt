@@ -4,7 +4,7 @@ use Rattle.std.specs.List.{AllByRecursion}
 use Rattle.bolt_format.specs.ElementPlaces.{leaf_view}
 use Rattle.bolt_format.specs.Elements.{LeafElement}
 use Rattle.bolt_format.specs.declared.element.Leaf.{Leaf}
-use Rattle.bolt_bulk.specs.PageBytes.{inline_value, leaf_data, root_value}
+use Rattle.bolt_layout.specs.PageBytes.{inline_value, leaf_data, root_value}
 use Rattle.bolt_bulk.specs.declared.held.Held.{Held}
 use Rattle.bolt_bulk.specs.declared.held.Stored.{Stored}
 use Rattle.bolt_bulk.specs.declared.held.Stored.TheVariants as stored

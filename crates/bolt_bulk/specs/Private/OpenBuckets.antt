@@ -2,7 +2,7 @@
 use Rattle.std.specs.Prelude.{◌≡◌, ◌<◌, ℕ, ◌+◌, length}
 use Rattle.std.specs.List.{AllByRecursion}
 use Rattle.bolt_format.specs.Elements.{BranchElement}
-use Rattle.bolt_bulk.specs.Levels.{overflow_of}
+use Rattle.bolt_layout.specs.Levels.{overflow_of}
 use Rattle.bolt_bulk.specs.Private.BranchRuns.{IsStanding, rows_above, rows_end_next}
 use Rattle.bolt_bulk.specs.Private.HeldItems.{AreHeld, held_views, inlined_in, page_size_of}
 use Rattle.bolt_bulk.specs.Private.Rows.{LeafRow, OpenRows, leaf_key}

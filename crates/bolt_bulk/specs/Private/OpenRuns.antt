@@ -4,11 +4,11 @@
 use Rattle.std.specs.Prelude.{ℕ, ◌+◌, Bool, ◌||◌, ◌&&◌, nat_lt, nat_le, List, [], ◌∷◌, ◌++◌, length, if◌then◌else◌}
 use Rattle.bolt_format.specs.Elements.{BranchElement, LeafElement}
 use Rattle.bolt_format.specs.Pages.{PageView}
-use Rattle.bolt_bulk.specs.Layout.{first_page}
+use Rattle.bolt_layout.specs.Layout.{first_page}
 use Rattle.bolt_tree.specs.Tree.{Tree}
-use Rattle.bolt_bulk.specs.Cut.{max_items, run_size}
-use Rattle.bolt_bulk.specs.Laid.{Laid, Placed, elements_of, numbers_of, pages_of, size_of}
-use Rattle.bolt_bulk.specs.Levels.{branch_view, leaf_view, page_over, run_overflow}
+use Rattle.bolt_layout.specs.Cut.{max_items, run_size}
+use Rattle.bolt_layout.specs.Laid.{Laid, Placed, elements_of, numbers_of, pages_of, size_of}
+use Rattle.bolt_layout.specs.Levels.{branch_view, leaf_view, page_over, run_overflow}
 
 -- an item of this size joins the run
 abbrev pub has_room : {E : Type 0} → ℕ → ℕ → List (Laid E) → ℕ → Bool

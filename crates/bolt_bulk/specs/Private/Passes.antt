@@ -6,12 +6,12 @@ use Rattle.bolt_format.specs.Elements.{LeafElement}
 use Rattle.bolt_format.specs.declared.element.Leaf.{Leaf}
 use Rattle.bolt_tree.specs.Listing.{Member}
 use Rattle.bolt_tree.specs.Tree.{Tree, with_bucket, with_value}
-use Rattle.bolt_bulk.specs.Items.{is_inline, items_of, root_of}
-use Rattle.bolt_bulk.specs.Laid.{Placed}
-use Rattle.bolt_bulk.specs.Layout.{layout_mark, layout_pages, placed_bytes}
+use Rattle.bolt_layout.specs.Items.{is_inline, items_of, root_of}
+use Rattle.bolt_layout.specs.Laid.{Placed}
+use Rattle.bolt_layout.specs.Layout.{layout_mark, layout_pages, placed_bytes}
 use Rattle.bolt_bulk.specs.Private.Coming.{IsPass}
-use Rattle.bolt_bulk.specs.Private.Heights.{AllBounded}
-use Rattle.bolt_bulk.specs.Private.HeldCounts.{AreCounted, capped, held_around}
+use Rattle.bolt_bulk.specs.Private.HeldCounts.{AreCounted, capped, items_around}
+use Rattle.bolt_bulk.specs.Private.HeldSoFar.{held_so_far}
 use Rattle.bolt_bulk.specs.Private.Levels.{Level, left_in}
 use Rattle.bolt_bulk.specs.Private.OpenBuckets.{IsOpenBucket, rows_of}
 use Rattle.bolt_bulk.specs.Private.OpenRows.{IsOpenRows}
@@ -60,7 +60,7 @@ pub record IsAt (tree : Tree) (pass : Pass) (levels : List Level) (left : Tree) 
   pub waits : AreWaiting (reverse pass.waiting.items) frames
   pub put_is : put ≡ all_put frames state
   pub pends : IsPending pass.pending pass.entries.items (map level_of frames) rest levels left
-  pub bounded : AllBounded pass.bounds.page_size frames state
+  pub held : pass.most ≡ capped (held_so_far frames state)
 
 -- What is known of it without the tree. A bucket that may be inline has values alone, which take at most a quarter of a page.
 pub record IsSmall (page_size : ℕ) (pending : Pending) (entries : List Leaf) : Type 0 where
@@ -81,7 +81,7 @@ pub record IsReady (pass : Pass) : Type 0 where
   pub waiting : AllByRecursion (IsWaiting pass.bounds.page_size) pass.waiting.items
   pub pending : IsPendingSmall pass.bounds.page_size pass.pending pass.entries.items
   pub counted : AreCounted 0 pass.waiting.items
-  pub around : pass.around ≡ capped (held_around pass.waiting.items)
+  pub around : pass.around ≡ capped (items_around pass.waiting.items)
 
 -- how many buckets are around what is left
 abbrev pub pending_depth : Option Pending → ℕ

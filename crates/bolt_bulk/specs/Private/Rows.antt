@@ -1,9 +1,9 @@
 -- The open runs of a bucket as the code keeps them: the elements of each run with the numbers that their pages have, and the run's size.
 use Rattle.std.specs.Prelude.{ℕ, ◌+◌, Bool, ◌||◌, ◌&&◌, nat_lt, nat_le, List, [], ◌∷◌, ◌++◌, length, if◌then◌else◌}
 use Rattle.bolt_format.specs.Elements.{BranchElement, LeafElement}
-use Rattle.bolt_bulk.specs.Cut.{max_items}
-use Rattle.bolt_bulk.specs.Laid.{Placed}
-use Rattle.bolt_bulk.specs.Levels.{branch_view, leaf_view, overflow_of}
+use Rattle.bolt_layout.specs.Cut.{max_items}
+use Rattle.bolt_layout.specs.Laid.{Placed}
+use Rattle.bolt_layout.specs.Levels.{branch_view, leaf_view, overflow_of}
 use Rattle.bolt_bulk.specs.Private.OpenRuns.{key_size}
 
 pub record BranchRow : Type 0 where

@@ -1,7 +1,7 @@
 -- The items that a bucket takes, as elements of its leaf, and what is open of it then.
 use Rattle.std.specs.Prelude.{ℕ, ◌+◌, ◌*◌, true, false, List, length}
 use Rattle.bolt_format.specs.Elements.{LeafElement}
-use Rattle.bolt_bulk.specs.PageBytes.{inline_value, leaf_data, root_value}
+use Rattle.bolt_layout.specs.PageBytes.{inline_value, leaf_data, root_value}
 use Rattle.bolt_bulk.specs.Private.Rows.{OpenRows, rows_push, rows_room}
 
 abbrev pub value_element : (key value : List ℕ) → LeafElement

@@ -5,7 +5,6 @@ use Rattle.bolt_tree.specs.FileListings.{ForListing}
 use Rattle.bolt_tree.specs.Tree.{tree_of}
 use Rattle.bolt_tree.specs.Walks.{left_of, walk_checked}
 use Rattle.bolt_tree.proofs.Measured.{left_number}
-use Rattle.bolt_bulk.specs.Compacting.{longest, most_held}
 use Rattle.bolt_bulk.specs.Private.Endings.{IsFitMember}
 use Rattle.bolt_bulk.specs.Private.Passes.{HasLeft, IsReady, Steps}
 use Rattle.bolt_bulk.proofs.all_pages.put_pages.Given as goal
@@ -16,8 +15,6 @@ invariant-members g l = record {
   checked : walk_checked l.walk ≡ l.checked;
   bounds : l.pass.bounds ≡ l.initial.pass.bounds;
   ready : IsReady l.pass;
-  shorter : ForListing l.checked (λ listing. longest (left_of l.walk listing) ≤ longest listing);
-  held : ForListing l.checked (λ listing. l.pass.most ≤ most_held l.initial.pass.bounds.page_size listing);
   fit : ForListing l.checked (λ listing. ∥ AllByRecursion IsFitMember (left_of l.walk listing) ∥₁);
   steps : ForListing l.checked (λ listing. Steps {A = ⊤} (tree_of listing) g.S.Sink.taken g.S.Sink.failed l.initial.sink l.sink l.initial.pass.bounds []
       (HasLeft (tree_of listing) l.pass (left_of l.walk listing)) (Ok tt));

@@ -1,7 +1,7 @@
 -- A branch page is its header, the headers of its elements, their keys, and zeros.
 use Rattle.std.proofs.Common.{◌∙◌, ◌+◌, ◌*◌, ◌-◌, ◌++◌, length, map, ℕ, List}
 use Rattle.bolt_format.specs.ElementPlaces.{branch_view}
-use Rattle.bolt_bulk.specs.PageBytes.{header_bytes, branch_data, branch_headers}
+use Rattle.bolt_layout.specs.PageBytes.{header_bytes, branch_data, branch_headers}
 use Rattle.bolt_bulk.proofs.BranchPuts.{branch_page_pieces}
 use Rattle.bolt_bulk.proofs.PutParts.{zeros}
 use Rattle.bolt_bulk.proofs.WholePuts.{whole_same, whole_stop, whole_then}

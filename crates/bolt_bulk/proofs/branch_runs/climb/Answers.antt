@@ -4,7 +4,7 @@ use Rattle.std.specs.List.{AllByRecursion}
 use Rattle.std.proofs.lemmas.List.{map-set, length-set}
 use Rattle.bolt_format.specs.ElementPlaces.{branch_view}
 use Rattle.bolt_format.specs.Elements.{BranchElement}
-use Rattle.bolt_bulk.specs.Levels.{overflow_of}
+use Rattle.bolt_layout.specs.Levels.{overflow_of}
 use Rattle.bolt_bulk.specs.Private.BranchRuns.{IsStanding, element_up, row_of}
 use Rattle.bolt_bulk.specs.Private.Rows.{BranchRow, no_row, row_push}
 use Rattle.bolt_bulk.proofs.ClimbLemmas.{Climbing, climb_begins, climb_closes, climb_large, climb_stays, climb_stops, no_room_by, room_by, row_at, standing_at, standing_set, up_key, within_rows}

@@ -1,7 +1,7 @@
 -- An inline value is that of root page 0, the header of its page, the headers of its entries, and their data.
 use Rattle.std.proofs.Common.{◌∙◌, ◌++◌, length, map}
 use Rattle.bolt_format.specs.ElementPlaces.{leaf_view}
-use Rattle.bolt_bulk.specs.PageBytes.{header_bytes, leaf_data, leaf_headers, root_value}
+use Rattle.bolt_layout.specs.PageBytes.{header_bytes, leaf_data, leaf_headers, root_value}
 use Rattle.bolt_bulk.proofs.LeafPuts.{inline_pieces}
 use Rattle.bolt_bulk.proofs.WholePuts.{whole_same, whole_stop, whole_then}
 use Rattle.bolt_bulk.proofs.bucket_value.put_inline_value.Goals as goal

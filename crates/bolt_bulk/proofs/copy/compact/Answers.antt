@@ -7,12 +7,12 @@ use Rattle.bolt_check.specs.CheckedFiles.{meta_of}
 use Rattle.bolt_tree.specs.Tree.{tree_of}
 use Rattle.bolt_tree.proofs.Measured.{the_listing}
 use Rattle.bolt_bulk.specs.Compacting.{layout_for}
-use Rattle.bolt_bulk.specs.Layout.{layout_mark, layout_pages, placed_bytes}
+use Rattle.bolt_layout.specs.Layout.{layout_held, layout_mark, layout_pages, placed_bytes}
 use Rattle.bolt_bulk.specs.Private.FirstPages.{first_pages}
 use Rattle.bolt_bulk.specs.declared.first_pages.Facts.{Facts}
 use Rattle.bolt_bulk.proofs.CopyLemmas.{copied, layout_parts, stops_first, stops_later}
 use Rattle.bolt_bulk.proofs.FileLayouts.{listing_fits, listing_is_back, some_bytes, too_large, within_limit}
-use Rattle.bolt_bulk.proofs.MetaLemmas.{size_bounds}
+use Rattle.bolt_layout.proofs.MetaLemmas.{size_bounds}
 use Rattle.bolt_bulk.proofs.PutsLemmas.{proper_none}
 use Rattle.bolt_bulk.proofs.copy.compact.Goals as goal
 
@@ -47,7 +47,7 @@ put_pages-requires-clause-lists g c = λ listing lists. listing_is_back listing 
 
 pub overflow_mul-result : goal.overflow_mul-result
 overflow_mul-result g c = ∥∥₁_elim (the_listing c.args.checked).1 (Prim.hlevel props) (λ lists.
-    let ends = c.in-Ok-put_pages.ensures.ends (the_listing c.args.checked).0 lists in
+    let ends = c.in-Ok-put_pages.ensures (the_listing c.args.checked).0 lists in
     let few = within_limit c.args.page_size c.bounds_of.result.limit c.in-Ok-put_pages.ended.high_water (c.in-Ok-put_pages.ended.high_water * c.args.page_size) c.bounds_of.ensures.limit ends.within refl in omega arith)
 
 pub returns-in-Err-put_pages-clause-copied : goal.returns-in-Err-put_pages-clause-copied
@@ -55,7 +55,7 @@ returns-in-Err-put_pages-clause-copied g c = λ listing lists.
     let planned = c.in-Ok.ensures listing lists in
     let tree = tree_of listing in
     let P : ℕ = c.bounds_of.result.page_size in
-    let ends = c.in-Err-put_pages.ensures.ends listing lists in
+    let ends = c.in-Err-put_pages.ensures listing lists in
     let facts : Facts = record { page_size = c.args.page_size; root = c.in-Ok.plan.root; sequence = c.meta.result.root_sequence; mark = c.in-Ok.plan.high_water } in
     let parts : layout_for c.args.checked c.args.page_size listing ≡ first_pages facts ++ placed_bytes c.args.page_size (layout_pages c.args.page_size tree) =
     rw (sym c.meta.ensures) (layout_parts c.args.page_size tree c.meta.result.root_sequence c.in-Ok.plan.root c.in-Ok.plan.high_water planned.root planned.high_water) in
@@ -73,7 +73,7 @@ returns-in-Ok-put_pages-clause-copied g c = λ listing lists.
     let planned = c.in-Ok.ensures listing lists in
     let tree = tree_of listing in
     let P : ℕ = c.bounds_of.result.page_size in
-    let ends = c.in-Ok-put_pages.ensures.ends listing lists in
+    let ends = c.in-Ok-put_pages.ensures listing lists in
     let facts : Facts = record { page_size = c.args.page_size; root = c.in-Ok.plan.root; sequence = c.meta.result.root_sequence; mark = c.in-Ok.plan.high_water } in
     let parts : layout_for c.args.checked c.args.page_size listing ≡ first_pages facts ++ placed_bytes c.args.page_size (layout_pages c.args.page_size tree) =
     rw (sym c.meta.ensures) (layout_parts c.args.page_size tree c.meta.result.root_sequence c.in-Ok.plan.root c.in-Ok.plan.high_water planned.root planned.high_water) in
@@ -85,4 +85,10 @@ returns-in-Ok-put_pages-clause-copied g c = λ listing lists.
     c.in_default.ensures ends.puts (ap (λ (n : ℕ). n * c.args.page_size) mark ∙ sym (c.file_has_one_layout.ensures.length listing lists))
 
 pub returns-in-Ok-put_pages-clause-held : goal.returns-in-Ok-put_pages-clause-held
-returns-in-Ok-put_pages-clause-held g c = λ listing lists. rw (sym c.bounds_of.ensures.page_size) (c.in-Ok-put_pages.ensures.held listing lists)
+returns-in-Ok-put_pages-clause-held g c = λ listing lists.
+    let ends = c.in-Ok-put_pages.ensures listing lists in
+    let planned = c.in-Ok.ensures listing lists in
+    let small = c.file_has_one_layout.ensures.held listing lists planned.fits in
+    let fits = planned.fits in
+    let size = ap (λ (n : ℕ). layout_held n (tree_of listing)) c.bounds_of.ensures.page_size in
+    let held = ends.held in omega (arith, small, fits, size, held)

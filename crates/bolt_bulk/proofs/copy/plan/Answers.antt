@@ -14,5 +14,5 @@ put_pages-requires-clause-lists c = λ listing lists. listing_is_back listing (c
 
 pub unreachable-requires : goal.unreachable-requires
 unreachable-requires c = ∥∥₁_elim (the_listing c.args.checked).1 (Prim.hlevel props) (λ lists.
-    let ends = c.in-Err-Sink.ensures.ends (the_listing c.args.checked).0 lists in
+    let ends = c.in-Err-Sink.ensures (the_listing c.args.checked).0 lists in
     let none : 0 < 0 = ends.puts.failure c.in-Err-Sink.field-0-is in omega arith)

@@ -1,4 +1,4 @@
-use Rattle.bolt_bulk.proofs.FileLayouts.{accepted, has_length, one_tree, refused}
+use Rattle.bolt_bulk.proofs.FileLayouts.{accepted, has_length, holds_few, one_tree, refused}
 use Rattle.bolt_bulk.proofs.file_laws.file_has_one_layout.Goals as goal
 
 pub returns-clause-tree : goal.returns-clause-tree
@@ -15,3 +15,7 @@ returns-clause-accepted c =
 pub returns-clause-beginnings : goal.returns-clause-beginnings
 returns-clause-beginnings c =
     refused c.args.checked.now (rw c.bytes.ensures at c.are_bytes.ensures) c.a_files_listing_is_of_one_tree.ensures c.beginnings_are_refused.ensures c.args.page_size c.requires (rw c.meta.ensures at c.fits.ensures)
+
+pub returns-clause-held : goal.returns-clause-held
+returns-clause-held c =
+    holds_few c.args.checked.now (rw c.bytes.ensures at c.are_bytes.ensures) c.a_files_listing_is_of_one_tree.ensures c.held_is_small.ensures c.args.page_size c.requires

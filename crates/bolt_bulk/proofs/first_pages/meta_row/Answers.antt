@@ -1,7 +1,7 @@
 -- The row has room: a header has 16 bytes, the record behind it 56, and the checksum 8.
 use Rattle.std.proofs.Common.{◌∙◌, arith, ap, ℕ, List, length}
 use Rattle.std.proofs.lemmas.List.{length-append}
-use Rattle.bolt_bulk.proofs.PageLemmas.{length-header_bytes}
+use Rattle.bolt_layout.proofs.PageLemmas.{length-header_bytes}
 use Rattle.bolt_bulk.proofs.first_pages.meta_row.Goals as goal
 
 pub push_bytes-requires : goal.push_bytes-requires

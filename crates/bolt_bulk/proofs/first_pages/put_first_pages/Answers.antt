@@ -1,6 +1,6 @@
 -- The first meta, the second, and then the freelist.
 use Rattle.std.proofs.Common.{◌++◌, ap, ℕ, List}
-use Rattle.bolt_bulk.specs.PageBytes.{filled}
+use Rattle.bolt_layout.specs.PageBytes.{filled}
 use Rattle.bolt_bulk.proofs.FirstPuts.{first_pieces, freelist_filled, meta_filled}
 use Rattle.bolt_bulk.proofs.WholePuts.{whole_same, whole_stop, whole_then}
 use Rattle.bolt_bulk.proofs.first_pages.put_first_pages.Goals as goal

@@ -1,6 +1,6 @@
 -- A leaf page is its header, the headers of its elements, their data, and zeros.
 use Rattle.std.proofs.Common.{◌∙◌, ◌+◌, ◌*◌, ◌-◌, ◌++◌, length, ℕ, List}
-use Rattle.bolt_bulk.specs.PageBytes.{header_bytes, leaf_data, leaf_headers}
+use Rattle.bolt_layout.specs.PageBytes.{header_bytes, leaf_data, leaf_headers}
 use Rattle.bolt_bulk.specs.Private.HeldItems.{held_view, held_views}
 use Rattle.bolt_bulk.proofs.LeafPuts.{leaf_page_pieces}
 use Rattle.bolt_bulk.proofs.PutParts.{zeros}

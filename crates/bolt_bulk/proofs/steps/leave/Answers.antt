@@ -5,7 +5,7 @@ use Rattle.bolt_bulk.specs.Private.Rows.{OpenRows, leaves_have_room, rows_end, r
 use Rattle.bolt_bulk.specs.Private.TakenItems.{root_element}
 use Rattle.bolt_bulk.specs.declared.fault.BulkFault.TheVariants as fault
 use Rattle.bolt_bulk.proofs.BucketLemmas.{end_some, room_fits}
-use Rattle.bolt_bulk.proofs.PageLemmas.{length-root_value}
+use Rattle.bolt_layout.proofs.PageLemmas.{length-root_value}
 use Rattle.bolt_bulk.proofs.PutsLemmas.{after_error, proper_none, puts_none}
 use Rattle.bolt_bulk.proofs.steps.leave.Goals as goal
 

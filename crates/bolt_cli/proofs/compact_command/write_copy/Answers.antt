@@ -12,11 +12,11 @@ pub returns-in_err-put_lengths : goal.returns-in_err-put_lengths
 returns-in_err-put_lengths g c =
     copy_untold c.args.file.now c.args.slot c.args.page_size c.in_ok-checked.checked c.in_ok-checked.ensures.bytes c.in_ok-checked.ensures.sound
     g.T.Sink.taken g.T.Sink.failed c.args.target.now c.compact.new.sink _ c.size_of_copy-size.ensures.size
-    g.O.Sink.taken g.O.Sink.failed c.args.out.now c.in_ok-copy.copy c.put_lengths.new.out _ _ c.in_ok-copy.ensures.copied c.in_err-put_lengths.ensures
+    g.O.Sink.taken g.O.Sink.failed c.args.out.now c.in_ok-copy.copy c.put_lengths.new.out _ _ c.in_ok-copy.ensures.copied c.in_ok-copy.ensures.accepted c.in_err-put_lengths.ensures
     c.from_residual-in_err-put_lengths.ensures.1
 
 pub returns : goal.returns
 returns g c =
     copy_whole c.args.file.now c.args.slot c.args.page_size c.in_ok-checked.checked c.in_ok-checked.ensures.bytes c.in_ok-checked.ensures.sound
     g.T.Sink.taken g.T.Sink.failed c.args.target.now c.compact.new.sink _ c.size_of_copy-size.ensures.size
-    g.O.Sink.taken g.O.Sink.failed c.args.out.now c.in_ok-copy.copy c.put_lengths.new.out _ c.in_ok-copy.ensures.copied c.in_ok-put_lengths.ensures
+    g.O.Sink.taken g.O.Sink.failed c.args.out.now c.in_ok-copy.copy c.put_lengths.new.out _ c.in_ok-copy.ensures.copied c.in_ok-copy.ensures.accepted c.in_ok-put_lengths.ensures

@@ -40,3 +40,7 @@ returns-in-List g c =
       does,
       refl,
     )
+
+pub returns-in-Compact : goal.returns-in-Compact
+returns-in-Compact g c =
+    subst (λ (job : Job). DoesJob g.O.Sink.taken g.O.Sink.failed c.args.out.now c.write_copy.new.out g.T.Sink.taken g.T.Sink.failed c.args.target.now c.write_copy.new.target c.args.file.now job c.write_copy.result) (sym c.in-Compact.is) c.write_copy.ensures

@@ -2,8 +2,8 @@
 use Rattle.std.proofs.Common.{◌≡◌, ◌+◌, ◌*◌, ◌<◌, ◌≤◌, arith, ap, ℕ, subst, sym, ◌∙◌, List, map}
 use Rattle.bolt_bulk.proofs.RunLemmas.{overflow_fits, one_page}
 use Rattle.bolt_bulk.proofs.PutsLemmas.{whole_same}
-use Rattle.bolt_bulk.specs.PageBytes.{page_bytes}
-use Rattle.bolt_bulk.specs.Levels.{branch_view as branch_page_view}
+use Rattle.bolt_layout.specs.PageBytes.{page_bytes}
+use Rattle.bolt_layout.specs.Levels.{branch_view as branch_page_view}
 use Rattle.bolt_format.specs.ElementPlaces.{branch_view}
 use Rattle.bolt_format.specs.declared.element.Branch.{Branch}
 use Rattle.bolt_bulk.proofs.branch_runs.BranchRun.put.Goals as goal

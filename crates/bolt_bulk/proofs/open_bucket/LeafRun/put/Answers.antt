@@ -2,8 +2,8 @@
 use Rattle.std.proofs.Common.{◌≡◌, ◌+◌, ◌*◌, ◌<◌, ◌≤◌, arith, ap, ℕ, subst, sym, ◌∙◌, List}
 use Rattle.bolt_bulk.proofs.RunLemmas.{overflow_fits}
 use Rattle.bolt_bulk.proofs.PutsLemmas.{whole_same}
-use Rattle.bolt_bulk.specs.PageBytes.{page_bytes}
-use Rattle.bolt_bulk.specs.Levels.{leaf_view as leaf_page_view}
+use Rattle.bolt_layout.specs.PageBytes.{page_bytes}
+use Rattle.bolt_layout.specs.Levels.{leaf_view as leaf_page_view}
 use Rattle.bolt_bulk.specs.Private.HeldItems.{held_views}
 use Rattle.bolt_format.specs.declared.element.Leaf.{Leaf}
 use Rattle.bolt_bulk.specs.declared.held.Held.{Held}

@@ -1,10 +1,10 @@
 -- With the pages of the runs from here on it is the whole.
 use Rattle.std.proofs.Common.{◌≡◌, ◌≤◌, ◌+◌, drop, min}
-use Rattle.bolt_bulk.specs.Private.HeldCounts.{held_above, held_in}
+use Rattle.bolt_bulk.specs.Private.HeldCounts.{items_above, items_in}
 use Rattle.bolt_bulk.proofs.open_bucket.OpenBucket.held.Given as goal
 
 abbrev pub invariant-loop-i : goal.invariant-loop-i
 invariant-loop-i l = record {
   fits : l.held ≤ 18446744073709551615;
-  whole : min (l.held + held_above (drop l.i l.self.uppers.items)) 18446744073709551615 ≡ min (held_in l.self) 18446744073709551615;
+  whole : min (l.held + items_above (drop l.i l.self.uppers.items)) 18446744073709551615 ≡ min (items_in l.self) 18446744073709551615;
 }

@@ -11,12 +11,12 @@ use Rattle.bolt_bulk.proofs.PassAt.{puts_fault}
 use Rattle.bolt_bulk.proofs.PassEnds.{ends_after, ends_early, has_end}
 use Rattle.bolt_bulk.proofs.pass.Pass.end.Goals as goal
 
-pub returns-in-Err-clause-ends : goal.returns-in-Err-clause-ends
-returns-in-Err-clause-ends g c = λ tree put has.
+pub returns-in-Err : goal.returns-in-Err
+returns-in-Err g c = λ tree put has.
     ends_early tree g.S.Sink.taken g.S.Sink.failed c.args.self.now.bounds c.args.sink.now c.leave_to.new.sink put (HasLeft tree c.leave_to.new.self []) c.in-Err.fault (c.in-Err.ensures.steps tree [] put has tt)
 
-pub returns-in-Err-end-clause-ends : goal.returns-in-Err-end-clause-ends
-returns-in-Err-end-clause-ends g c = λ tree put has.
+pub returns-in-Err-end : goal.returns-in-Err-end
+returns-in-Err-end g c = λ tree put has.
     let stop : Result Ended BulkFault = Err c.in-Err-end.fault in
     ends_after tree g.S.Sink.taken g.S.Sink.failed c.args.self.now.bounds c.args.sink.now c.leave_to.new.sink c.end.new.sink put (HasLeft tree c.leave_to.new.self []) tt stop (c.in_default.ensures.steps tree [] put has tt)
     (λ all mid. let end = has_end tree c.leave_to.new.self all mid c.in_default.ensures.depth in
@@ -29,11 +29,12 @@ returns-in-Err-end-clause-ends g c = λ tree put has.
       root = tt;
       mark = tt;
       within = tt;
+      held = tt;
       large = λ h. let m = c.in-Err-end.ensures.large h in let n = end.mark in omega (arith, m, n);
     }))
 
-pub returns-in-Ok-clause-ends : goal.returns-in-Ok-clause-ends
-returns-in-Ok-clause-ends g c = λ tree put has.
+pub returns-in-Ok : goal.returns-in-Ok
+returns-in-Ok g c = λ tree put has.
     let well : Result Ended BulkFault = Ok (record { root = c.in-Ok.root; high_water = c.end.new.next; held = c.leave_to.new.self.most }) in
     ends_after tree g.S.Sink.taken g.S.Sink.failed c.args.self.now.bounds c.args.sink.now c.leave_to.new.sink c.end.new.sink put (HasLeft tree c.leave_to.new.self []) tt well (c.in_default.ensures.steps tree [] put has tt)
     (λ all mid. let end = has_end tree c.leave_to.new.self all mid c.in_default.ensures.depth in
@@ -46,5 +47,6 @@ returns-in-Ok-clause-ends g c = λ tree put has.
       root = c.in-Ok.ensures.root ∙ end.root;
       mark = c.in-Ok.ensures.next ∙ end.mark;
       within = c.in-Ok.ensures.within;
+      held = end.held;
       large = tt;
     }))

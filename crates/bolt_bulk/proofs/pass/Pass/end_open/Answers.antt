@@ -16,16 +16,16 @@ leave-requires-clause-waits g c =
 pub returns-in-Err-clause-steps : goal.returns-in-Err-clause-steps
 returns-in-Err-clause-steps g c = λ tree level levels put is.
     steps_stop tree g.S.Sink.taken g.S.Sink.failed c.args.self.now.bounds c.args.sink.now c.leave.new.sink put _ _ c.in-Err.fault
-    (leave_steps g.S.Sink.taken g.S.Sink.failed tree c.args.self.now put level levels c.in-Some.waiting c.args.sink.now c.leave.new.sink c.args.self.now.bucket c.pop.new.self c.leave.new.next 0 _ is c.requires.pending
-    c.in-Some.ensures.items (rw c.replace-inner.ensures.value at c.in-Err.ensures.pages) tt (rw c.replace-inner.ensures.value at c.in-Err.ensures.large))
+    (leave_steps g.S.Sink.taken g.S.Sink.failed tree c.args.self.now put level levels c.in-Some.waiting c.args.sink.now c.leave.new.sink c.args.self.now.bucket c.pop.new.self c.leave.new.next 0 c.args.self.now _ is c.requires.pending
+    c.in-Some.ensures.items (rw c.replace-inner.ensures.value at c.in-Err.ensures.pages) tt (rw c.replace-inner.ensures.value at c.in-Err.ensures.large) tt)
 
 pub returns-in-Ok-clause-steps : goal.returns-in-Ok-clause-steps
 returns-in-Ok-clause-steps g c = λ tree level levels put is.
-    leave_steps g.S.Sink.taken g.S.Sink.failed tree c.args.self.now put level levels c.in-Some.waiting c.args.sink.now c.leave.new.sink c.in-Ok.outer c.pop.new.self c.leave.new.next _ _ is c.requires.pending
-    c.in-Some.ensures.items (puts_well _ _ _ c.in-Ok.outer (rw c.replace-inner.ensures.value at c.in-Ok.ensures.pages)) (rw c.replace-inner.ensures.value at c.in-Ok.ensures.rows) tt
+    leave_steps g.S.Sink.taken g.S.Sink.failed tree c.args.self.now put level levels c.in-Some.waiting c.args.sink.now c.leave.new.sink c.in-Ok.outer c.pop.new.self c.leave.new.next _ c.count.new.self _ is c.requires.pending
+    c.in-Some.ensures.items (puts_well _ _ _ c.in-Ok.outer (rw c.replace-inner.ensures.value at c.in-Ok.ensures.pages)) (rw c.replace-inner.ensures.value at c.in-Ok.ensures.rows) tt c.count.ensures.counts
 
-pub returns-in-Ok-clause-ready : goal.returns-in-Ok-clause-ready
-returns-in-Ok-clause-ready g c =
+pub count-requires : goal.count-requires
+count-requires g c =
     let ready = c.requires.ready in
     let counted = waits_less c.pop.new.self.items c.args.self.now.waiting.items c.in-Some.waiting ready.counted c.in-Some.ensures.items in
     record {

@@ -1,7 +1,7 @@
 -- One bucket more has ended, and so on until as many are open as there should be.
 use Rattle.std.proofs.Common.{◌∙◌, List, Result, Ok, Err, refl, subst, arith}
 use Rattle.std.specs.Prelude.{⊤}
-use Rattle.bolt_bulk.specs.Laid.{Placed}
+use Rattle.bolt_layout.specs.Laid.{Placed}
 use Rattle.bolt_bulk.specs.Private.Passes.{HasLeft, IsAt, Steps}
 use Rattle.bolt_bulk.specs.declared.bounds.Bounds.{Bounds}
 use Rattle.bolt_bulk.specs.declared.fault.BulkFault.{BulkFault}
@@ -12,7 +12,6 @@ use Rattle.bolt_bulk.proofs.pass.Pass.leave_to.Goals as goal
 pub levels-init : goal.levels-init
 levels-init g c = record {
   bounds = refl;
-  most = refl;
   ready = c.requires.ready;
   steps = λ tree members put has shallow. steps_begun tree c.args.self.now members put c.args.sink.now has;
 }
@@ -37,7 +36,6 @@ levels-smaller g c = let fewer = c.in_default.ensures.depth in omega arith
 pub levels-preserved : goal.levels-preserved
 levels-preserved g c = record {
   bounds = c.in_default.ensures.bounds ∙ c.levels.invariant.bounds;
-  most = c.in_default.ensures.most ∙ c.levels.invariant.most;
   ready = c.in_default.ensures.ready;
   steps = λ tree members put has shallow.
       let well : Result ⊤ BulkFault = Ok tt in
@@ -59,6 +57,3 @@ returns-clause-ready g c = c.levels.invariant.ready
 
 pub returns-clause-steps : goal.returns-clause-steps
 returns-clause-steps g c = λ tree members put has shallow. c.levels.invariant.steps tree members put has shallow
-
-pub returns-clause-most : goal.returns-clause-most
-returns-clause-most g c = c.levels.invariant.most

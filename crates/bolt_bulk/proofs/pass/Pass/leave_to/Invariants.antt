@@ -2,7 +2,7 @@ use Rattle.std.proofs.Common.{◌≡◌, List, Ok}
 use Rattle.std.specs.Prelude.{⊤}
 use Rattle.bolt_tree.specs.Listing.{Member}
 use Rattle.bolt_tree.specs.Tree.{Tree}
-use Rattle.bolt_bulk.specs.Laid.{Placed}
+use Rattle.bolt_layout.specs.Laid.{Placed}
 use Rattle.bolt_bulk.specs.Private.Passes.{HasLeft, IsNoDeeper, IsReady, Steps, depth_of}
 use Rattle.bolt_bulk.proofs.pass.Pass.leave_to.Given as goal
 
@@ -10,7 +10,6 @@ use Rattle.bolt_bulk.proofs.pass.Pass.leave_to.Given as goal
 abbrev pub invariant-levels : goal.invariant-levels
 invariant-levels g l = record {
   bounds : l.self.bounds ≡ l.initial.self.bounds;
-  most : l.self.most ≡ l.initial.self.most;
   ready : IsReady l.self;
   steps : (tree : Tree) (members : List Member) (put : List Placed) → HasLeft tree l.initial.self members put → IsNoDeeper l.depth members
       → Steps {A = ⊤} tree g.S.Sink.taken g.S.Sink.failed l.initial.sink l.sink l.initial.self.bounds put (HasLeft tree l.self members) (Ok tt);

@@ -7,7 +7,7 @@ use Rattle.bolt_bulk.specs.Private.Waiting.{IsWaiting}
 use Rattle.bolt_bulk.specs.declared.open_bucket.OpenBucket.{OpenBucket}
 use Rattle.bolt_bulk.specs.declared.steps.Waiting.{Waiting}
 use Rattle.bolt_bulk.proofs.HeldPasses.{more_around, waits_more}
-use Rattle.bolt_bulk.proofs.ListLemmas.{all_append}
+use Rattle.bolt_layout.proofs.ListLemmas.{all_append}
 use Rattle.bolt_bulk.proofs.PassAt.{open_steps, open_stops, puts_failed, puts_fault, puts_well, steps_none}
 use Rattle.bolt_bulk.proofs.PassReady.{small_of}
 use Rattle.bolt_bulk.proofs.pass.Pass.open_pending.Goals as goal
@@ -34,11 +34,11 @@ returns-clause-steps g c = λ tree left levels put is rooted.
     let items : c.push.new.self.items ≡ c.args.self.now.waiting.items ++ c.in-Ok-waiting.waiting ∷ [] = search rules in
     let values = rw (c.as_slice.ensures.value, sym c.replace-outer.ensures.after) at (c.in-Ok.ensures.rows c.enter-waiting.new.next) in
     open_steps g.S.Sink.taken g.S.Sink.failed tree c.args.self.now put levels left c.args.pending c.args.sink.now c.enter-waiting.new.sink c.replace-outer.new.dest c.in-Ok-waiting.waiting c.push.new.self c.clear.new.self
-    c.enter-waiting.new.next _ is c.requires.pending small rooted (puts_well _ _ _ c.in-Ok-waiting.waiting (rw c.replace-outer.ensures.value at c.in-Ok-waiting.ensures.pages))
-    items (rw c.replace-outer.ensures.value at c.in-Ok-waiting.ensures.rows) c.in-Ok-waiting.ensures.key c.in-Ok-waiting.ensures.sequence values
+    c.enter-waiting.new.next _ c.count.new.self is c.requires.pending small rooted (puts_well _ _ _ c.in-Ok-waiting.waiting (rw c.replace-outer.ensures.value at c.in-Ok-waiting.ensures.pages))
+    items (rw c.replace-outer.ensures.value at c.in-Ok-waiting.ensures.rows) c.in-Ok-waiting.ensures.key c.in-Ok-waiting.ensures.sequence values c.count.ensures.counts
 
-pub returns-clause-ready : goal.returns-clause-ready
-returns-clause-ready g c =
+pub count-requires : goal.count-requires
+count-requires g c =
     let waiting : List Waiting = c.args.self.now.waiting.items in
     let w : Waiting = c.in-Ok-waiting.waiting in
     let ready = c.requires.ready in

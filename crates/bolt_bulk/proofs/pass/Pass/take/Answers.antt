@@ -5,7 +5,7 @@ use Rattle.bolt_tree.specs.Entries as entries
 use Rattle.bolt_tree.specs.Listing.{Member}
 use Rattle.bolt_tree.specs.Paths.{Path, path_of}
 use Rattle.bolt_tree.specs.ShownEntries.{item_view}
-use Rattle.bolt_bulk.specs.Laid.{Placed}
+use Rattle.bolt_layout.specs.Laid.{Placed}
 use Rattle.bolt_bulk.specs.Private.Endings.{last_part}
 use Rattle.bolt_bulk.specs.Private.Levels.{Level}
 use Rattle.bolt_bulk.specs.Private.Passes.{HasLeft, IsAt, Steps}

@@ -3,7 +3,7 @@ use Rattle.std.proofs.Common.{◌∷◌, List, Result, Ok, map, subst}
 use Rattle.std.specs.Prelude.{⊤}
 use Rattle.bolt_format.specs.ElementPlaces.{leaf_view}
 use Rattle.bolt_tree.specs.Tree.{Tree, with_bucket}
-use Rattle.bolt_bulk.specs.Laid.{Placed}
+use Rattle.bolt_layout.specs.Laid.{Placed}
 use Rattle.bolt_bulk.specs.Private.Levels.{Level}
 use Rattle.bolt_bulk.specs.Private.Passes.{IsAt, Steps}
 use Rattle.bolt_bulk.specs.declared.bounds.Bounds.{Bounds}

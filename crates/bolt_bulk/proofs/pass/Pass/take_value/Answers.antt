@@ -4,7 +4,7 @@ use Rattle.std.proofs.lemmas.List.{length-map}
 use Rattle.bolt_format.specs.ElementPlaces.{leaf_view}
 use Rattle.bolt_format.specs.Elements.{LeafElement}
 use Rattle.bolt_tree.specs.Tree.{Tree, with_value}
-use Rattle.bolt_bulk.specs.Laid.{Placed}
+use Rattle.bolt_layout.specs.Laid.{Placed}
 use Rattle.bolt_bulk.specs.Private.Passes.{IsAt, Steps}
 use Rattle.bolt_bulk.specs.Private.TakenItems.{entries_size}
 use Rattle.bolt_bulk.specs.declared.bounds.Bounds.{Bounds}

@@ -1,0 +1,197 @@
+-- What a pass held so far, at the most, changes only where an item joins a leaf: then the items that are held now count.
+use Rattle.std.proofs.Common.{◌≡◌, ◌∙◌, ℕ, ◌+◌, ◌<◌, ◌≤◌, ◌||◌, ◌&&◌, nat_le, nat_lt, Bool, true, false, List, [], ◌∷◌, ◌++◌, length, map, max, refl, sym, ap, subst, arith}
+use Rattle.std.proofs.lemmas.Bool.Decides.{nat_tests}
+use Rattle.std.proofs.lemmas.List.{length-append, length-map}
+use Rattle.std.proofs.lemmas.List.Sums.{sum_by-cons}
+use Rattle.bolt_format.specs.ElementPlaces.{branch_view}
+use Rattle.bolt_format.specs.Elements.{BranchElement, LeafElement}
+use Rattle.bolt_layout.specs.Laid.{Laid, elements_of, held_in}
+use Rattle.bolt_layout.specs.Levels as levels
+use Rattle.bolt_bulk.specs.Private.BranchRuns.{row_of, rows_above}
+use Rattle.bolt_bulk.specs.Private.Coming.{held_item}
+use Rattle.bolt_bulk.specs.Private.HeldCounts.{capped, items_above, items_around, items_in}
+use Rattle.bolt_bulk.specs.Private.HeldItems.{held_view}
+use Rattle.bolt_bulk.specs.Private.HeldSoFar.{held_frames, held_on, held_open, held_over, held_so_far, length_frames, length_open, length_over}
+use Rattle.bolt_bulk.specs.Private.OpenBuckets.{rows_of}
+use Rattle.bolt_bulk.specs.Private.OpenRows.{AreRows, IsOpenRows}
+use Rattle.bolt_bulk.specs.Private.OpenRuns.{Frame, Open, climb, close, end_of, has_room, key_size, making_room, numbers_in, pushing, taking}
+use Rattle.bolt_bulk.specs.Private.Passes.{AreWaiting}
+use Rattle.bolt_bulk.specs.declared.branch_runs.BranchRun.{BranchRun}
+use Rattle.bolt_bulk.specs.declared.open_bucket.OpenBucket.{OpenBucket}
+use Rattle.bolt_bulk.specs.declared.steps.Waiting.{Waiting}
+use Rattle.bolt_bulk.proofs.RowLemmas.{length-elements}
+
+-- ---- runs
+
+-- what is held is what was held before, or what stands now with what is held further in
+on_max : {E : Type 0} (run : List (Laid E)) (inner : ℕ) → held_on run inner ≡ max (held_on run 0) (length run + inner)
+on_max [] inner = omega arith
+on_max (item ∷ run) inner = let ih = on_max run inner in omega arith
+
+on_push : {E : Type 0} (run : List (Laid E)) (item : Laid E) (inner : ℕ) → held_on (run ++ item ∷ []) inner ≡ held_on run (max item.held (1 + inner))
+on_push [] item inner = refl
+on_push (first ∷ run) item inner = ap (λ (n : ℕ). max first.held (1 + n)) (on_push run item inner)
+
+on_page : {E : Type 0} (run : List (Laid E)) → held_in run ≡ held_on run 0
+on_page [] = refl
+on_page (item ∷ run) = ap (λ (n : ℕ). max item.held (1 + n)) (on_page run)
+
+over_max : (uppers : List (List (Laid BranchElement))) (inner : ℕ) → held_over uppers inner ≡ max (held_over uppers 0) (length_over uppers + inner)
+over_max [] inner = omega arith
+over_max (run ∷ uppers) inner =
+    let a = over_max uppers (held_on run inner) in
+    let b = over_max uppers (held_on run 0) in
+    let c = on_max run inner in omega arith
+
+open_max : (state : Open) (inner : ℕ) → held_open state inner ≡ max (held_open state 0) (length_open state + inner)
+open_max state inner =
+    let a = over_max state.uppers (held_on state.run inner) in
+    let b = over_max state.uppers (held_on state.run 0) in
+    let c = on_max state.run inner in omega arith
+
+frames_max : (frames : List Frame) (inner : ℕ) → held_frames frames inner ≡ max (held_frames frames 0) (length_frames frames + inner)
+frames_max [] inner = omega arith
+frames_max (frame ∷ frames) inner =
+    let a = frames_max frames (held_open frame.state inner) in
+    let b = frames_max frames (held_open frame.state 0) in
+    let c = open_max frame.state inner in omega arith
+
+-- ---- pages that close
+
+-- a page that closes holds its items no longer, and stands as one item of the run above, which is no more
+joined : (run : List (Laid BranchElement)) (q : Laid BranchElement) → 1 ≤ q.held → held_on (run ++ q ∷ []) 0 ≡ held_on run q.held
+joined run q some = on_push run q 0 ∙ ap (λ (n : ℕ). held_on run n) (let e : max q.held (1 + 0) ≡ q.held = omega arith in e)
+
+climbs : (page_size : ℕ) (key : List ℕ) (q : Laid BranchElement) (run : List (Laid BranchElement)) (uppers : List (List (Laid BranchElement))) → 1 ≤ q.held
+    → ((up : Laid BranchElement) → 1 ≤ up.held → held_over (climb page_size key up uppers) 0 ≡ held_over uppers up.held)
+    → (b : Bool) → has_room page_size 2 (run ++ q ∷ []) (key_size key) ≡ b → held_over (climb page_size key q (run ∷ uppers)) 0 ≡ held_over (run ∷ uppers) q.held
+climbs page_size key q run uppers some above true room = rw room (ap (λ (n : ℕ). held_over uppers n) (joined run q some))
+climbs page_size key q run uppers some above false room =
+    let up : Laid BranchElement = levels.page_over levels.branch_view page_size (run ++ q ∷ []) in
+    let same : up.held ≡ held_on run q.held = on_page (run ++ q ∷ []) ∙ joined run q some in
+    let m = on_max run q.held in
+    rw room (above up (omega arith) ∙ ap (λ (n : ℕ). held_over uppers n) same)
+
+climbed : (page_size : ℕ) (key : List ℕ) (q : Laid BranchElement) (uppers : List (List (Laid BranchElement))) → 1 ≤ q.held → held_over (climb page_size key q uppers) 0 ≡ held_over uppers q.held
+climbed page_size key q [] some = omega arith
+climbed page_size key q (run ∷ uppers) some =
+    climbs page_size key q run uppers some (λ up high. climbed page_size key up uppers high) (has_room page_size 2 (run ++ q ∷ []) (key_size key)) refl
+
+-- room for an item is made by closing pages
+room_first : {E : Type 0} (page_size : ℕ) (run : List (Laid E)) (size : ℕ) → has_room page_size 1 run size ≡ false → 1 ≤ held_on run 0
+room_first page_size [] size none = absurd (cc)
+room_first page_size (item ∷ run) size none = omega arith
+
+made : (page_size : ℕ) (state : Open) (key : List ℕ) (size : ℕ) (b : Bool) → has_room page_size 1 state.run size ≡ b → held_open (making_room page_size state key size) 0 ≡ held_open state 0
+made page_size state key size true room = rw room refl
+made page_size state key size false room =
+    let q : Laid BranchElement = levels.page_over levels.leaf_view page_size state.run in
+    let same : q.held ≡ held_on state.run 0 = on_page state.run in
+    let some = room_first page_size state.run size room in
+    rw room (climbed page_size key q state.uppers (omega arith) ∙ ap (λ (n : ℕ). held_over state.uppers n) same)
+
+-- and so does the end of a bucket
+closed : (page_size : ℕ) (q : Laid BranchElement) (uppers : List (List (Laid BranchElement))) → 1 ≤ q.held → (close page_size q uppers).held ≡ held_over uppers q.held
+closed page_size q [] some = refl
+closed page_size q (run ∷ uppers) some =
+    let up : Laid BranchElement = levels.page_over levels.branch_view page_size (run ++ q ∷ []) in
+    let same : up.held ≡ held_on run q.held = on_page (run ++ q ∷ []) ∙ joined run q some in
+    let m = on_max run q.held in
+    closed page_size up uppers (omega arith) ∙ ap (λ (n : ℕ). held_over uppers n) same
+
+ended_over : (page_size : ℕ) (run : List (Laid LeafElement)) (uppers : List (List (Laid BranchElement))) → (run ≡ [] → uppers ≡ [])
+    → (close page_size (levels.page_over levels.leaf_view page_size run) uppers).held ≡ held_over uppers (held_on run 0)
+ended_over page_size [] uppers begun =
+    let none = begun refl in
+    let P : List (List (Laid BranchElement)) → Type 0 = λ us. (close page_size (levels.page_over levels.leaf_view page_size []) us).held ≡ held_over us (held_on {E = LeafElement} [] 0) in
+    subst P (sym none) refl
+ended_over page_size (item ∷ run) uppers begun =
+    let q : Laid BranchElement = levels.page_over levels.leaf_view page_size (item ∷ run) in
+    let same : q.held ≡ held_on (item ∷ run) 0 = on_page (item ∷ run) in
+    closed page_size q uppers (omega arith) ∙ ap (λ (n : ℕ). held_over uppers n) same
+
+pub end_held : (page_size : ℕ) (state : Open) → (state.run ≡ [] → state.uppers ≡ []) → (end_of page_size state).held ≡ held_open state 0
+end_held page_size state begun = ended_over page_size state.run state.uppers begun
+
+-- ---- steps
+
+-- an item joins
+pushed : (frames : List Frame) (state : Open) (item : Laid LeafElement)
+    → held_so_far frames (pushing state item) ≡ max (held_frames frames (held_open state item.held)) (length_frames frames + length_open (pushing state item))
+pushed frames state item =
+    let join : held_open (pushing state item) 0 ≡ held_open state (max item.held (1 + 0)) = ap (λ (n : ℕ). held_over state.uppers n) (on_push state.run item 0) in
+    let same = ap (λ (n : ℕ). held_frames frames n) join in
+    let a = open_max state (max item.held (1 + 0)) in
+    let b = open_max state item.held in
+    let c = frames_max frames (held_open state (max item.held (1 + 0))) in
+    let d = frames_max frames (held_open state item.held) in
+    let l = length-append state.run (item ∷ []) in omega arith
+
+pub takes_held : (page_size : ℕ) (frames : List Frame) (state : Open) (item : Laid LeafElement) (before after : ℕ) → item.held ≡ 0 → before ≡ capped (held_so_far frames state)
+    → after ≡ max before (capped (length_frames frames + length_open (taking page_size state item))) → after ≡ capped (held_so_far frames (taking page_size state item))
+takes_held page_size frames state item before after flat old counted =
+    let room : Open = making_room page_size state item.key item.size in
+    let same = made page_size state item.key item.size (has_room page_size 1 state.run item.size) refl in
+    let join = pushed frames room item in
+    let zero = ap (λ (n : ℕ). held_frames frames (held_open room n)) flat in
+    let still = ap (λ (n : ℕ). held_frames frames n) same in omega arith
+
+-- a bucket that ended joins
+pub leaves_held : (page_size : ℕ) (frame : Frame) (frames : List Frame) (state : Open) (before after : ℕ) → (state.run ≡ [] → state.uppers ≡ []) → before ≡ capped (held_so_far (frame ∷ frames) state)
+    → after ≡ max before (capped (length_frames frames + length_open (pushing frame.state (held_item frame (end_of page_size state)))))
+    → after ≡ capped (held_so_far frames (pushing frame.state (held_item frame (end_of page_size state))))
+leaves_held page_size frame frames state before after begun old counted =
+    let item : Laid LeafElement = held_item frame (end_of page_size state) in
+    let root : item.held ≡ held_open state 0 = end_held page_size state begun in
+    let join = pushed frames frame.state item in
+    let same = ap (λ (n : ℕ). held_frames frames (held_open frame.state n)) root in omega arith
+
+-- a bucket is opened with items that have no pages below them, and the one around it waits with room for it
+flat_run : {E : Type 0} (run : List (Laid E)) → held_in run ≤ length run → held_on run 0 ≡ length run
+flat_run run flat = let e = on_page run in let m = on_max run 0 in omega arith
+
+pub enters_held : (page_size : ℕ) (frame : Frame) (frames : List Frame) (state : Open) (key : List ℕ) (size : ℕ) (run : List (Laid LeafElement)) (before after : ℕ) → frame.state ≡ making_room page_size state key size
+    → held_in run ≤ length run → before ≡ capped (held_so_far frames state)
+    → after ≡ max before (capped (length_frames (frame ∷ frames) + length_open (record { uppers = []; run = run }))) → after ≡ capped (held_so_far (frame ∷ frames) (record { uppers = []; run = run }))
+enters_held page_size frame frames state key size run before after room flat old counted =
+    let same = ap (λ (s : Open). held_open s 0) room ∙ made page_size state key size (has_room page_size 1 state.run size) refl in
+    let values = flat_run run flat in
+    let inner = ap (λ (n : ℕ). held_frames frames (held_open frame.state n)) values in
+    let a = open_max frame.state (length run) in
+    let b = frames_max frames (held_open frame.state (length run)) in
+    let c = frames_max frames (held_open state 0) in
+    let d = frames_max frames (held_open frame.state 0) in
+    let still = ap (λ (n : ℕ). held_frames frames n) same in omega arith
+
+-- ---- what code counts
+
+run_length : (run : BranchRun) (pages : List (Laid BranchElement)) (n : ℕ) → (row_of run).elements ≡ elements_of pages n → length run.elements.items ≡ length pages
+run_length run pages n same =
+    let l = length-map run.elements.items branch_view in
+    let e = ap (λ (es : List BranchElement). length es) same in
+    let k = length-elements pages n in omega arith
+
+above_length : (runs : List BranchRun) (uppers : List (List (Laid BranchElement))) (b : ℕ) → AreRows (rows_above runs) uppers b → items_above runs ≡ length_over uppers
+above_length [] [] b are = refl
+above_length [] (pages ∷ uppers) b are = absurd are
+above_length (run ∷ runs) [] b are = absurd are
+above_length (run ∷ runs) (pages ∷ uppers) b are =
+    let ih = above_length runs uppers b are.1 in
+    let one = run_length run pages _ are.0.same in
+    let s = sum_by-cons (λ (r : BranchRun). length r.elements.items) run runs in omega arith
+
+pub items_length : (bucket : OpenBucket) (next b : ℕ) (state : Open) → IsOpenRows (rows_of bucket next) state b → items_in bucket ≡ length_open state
+items_length bucket next b state rows =
+    let above = above_length bucket.uppers.items state.uppers b rows.above in
+    let l = length-map bucket.leaves.items.items (held_view bucket.leaves.inlined.items) in
+    let e = ap (λ (es : List LeafElement). length es) rows.same in
+    let k = length-elements state.run (b + numbers_in state.uppers) in omega arith
+
+pub around_length : (ws : List Waiting) (frames : List Frame) → AreWaiting ws frames → items_around ws ≡ length_frames frames
+around_length [] [] waits = refl
+around_length [] (frame ∷ frames) waits = absurd waits
+around_length (w ∷ ws) [] waits = absurd waits
+around_length (w ∷ ws) (frame ∷ frames) waits =
+    let (rows, key, sequence, others) = waits in
+    let one = items_length w.bucket _ _ frame.state rows in
+    let ih = around_length ws frames others in omega arith

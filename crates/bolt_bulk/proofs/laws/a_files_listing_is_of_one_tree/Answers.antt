@@ -1,5 +1,0 @@
-use Rattle.bolt_bulk.proofs.FileTrees.{one_tree}
-use Rattle.bolt_bulk.proofs.laws.a_files_listing_is_of_one_tree.Goals as goal
-
-pub returns : goal.returns
-returns c = one_tree c.listing_is_of_a_tree.ensures c.a_tree_is_of_its_listing.ensures

@@ -1,7 +1,0 @@
-use Rattle.bolt_format.specs.Elements.{BranchElement, LeafElement}
-use Rattle.bolt_bulk.specs.Laid.{Laid}
-use Rattle.bolt_bulk.proofs.OneCut.{cut_is_one}
-use Rattle.bolt_bulk.proofs.laws.cut_is_one.Goals as goal
-
-pub returns : goal.returns
-returns c = record { leaves = cut_is_one (Laid LeafElement); branches = cut_is_one (Laid BranchElement) }

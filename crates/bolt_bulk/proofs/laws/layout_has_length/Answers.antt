@@ -1,5 +1,0 @@
-use Rattle.bolt_bulk.proofs.Soundness.{layout_length}
-use Rattle.bolt_bulk.proofs.laws.layout_has_length.Goals as goal
-
-pub returns : goal.returns
-returns c = layout_length

@@ -1,5 +1,0 @@
-use Rattle.bolt_bulk.proofs.Tops.{overflow_is}
-use Rattle.bolt_bulk.proofs.laws.overflow_is_least.Goals as goal
-
-pub returns : goal.returns
-returns c = overflow_is

@@ -1,5 +1,0 @@
-use Rattle.bolt_bulk.proofs.Tops.{top_above}
-use Rattle.bolt_bulk.proofs.laws.top_is_above.Goals as goal
-
-pub returns : goal.returns
-returns c = top_above

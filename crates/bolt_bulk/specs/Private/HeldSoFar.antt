@@ -1,0 +1,39 @@
+-- How many items a pass held at one time so far, at the most, by what is open of the layout: the items of the open runs count as they do on
+-- the pages that these become (bolt_layout's `held_in`), of which so many stand on the page under way further in.
+use Rattle.std.specs.Prelude.{ℕ, ◌+◌, max, List, [], ◌∷◌, length}
+use Rattle.bolt_format.specs.Elements.{BranchElement}
+use Rattle.bolt_layout.specs.Laid.{Laid}
+use Rattle.bolt_bulk.specs.Private.OpenRuns.{Frame, Open}
+
+-- the items of a run are held while `inner` items at the most are held further in
+abbrev pub held_on : {E : Type 0} → List (Laid E) → (inner : ℕ) → ℕ
+held_on [] inner = inner
+held_on (item ∷ run) inner = max item.held (1 + held_on run inner)
+
+-- the runs above a bucket's leaf, the lowest first
+abbrev pub held_over : List (List (Laid BranchElement)) → (inner : ℕ) → ℕ
+held_over [] inner = inner
+held_over (run ∷ uppers) inner = held_over uppers (held_on run inner)
+
+abbrev pub held_open : Open → (inner : ℕ) → ℕ
+held_open state inner = held_over state.uppers (held_on state.run inner)
+
+-- the buckets that wait, the innermost first
+abbrev pub held_frames : List Frame → (inner : ℕ) → ℕ
+held_frames [] inner = inner
+held_frames (frame ∷ frames) inner = held_frames frames (held_open frame.state inner)
+
+abbrev pub held_so_far : List Frame → Open → ℕ
+held_so_far frames state = held_frames frames (held_open state 0)
+
+-- and how many are held now
+abbrev pub length_over : List (List (Laid BranchElement)) → ℕ
+length_over [] = 0
+length_over (run ∷ uppers) = length_over uppers + length run
+
+abbrev pub length_open : Open → ℕ
+length_open state = length_over state.uppers + length state.run
+
+abbrev pub length_frames : List Frame → ℕ
+length_frames [] = 0
+length_frames (frame ∷ frames) = length_frames frames + length_open frame.state

@@ -1,0 +1,192 @@
+-- A layout that is cut short is refused.
+use Rattle.std.proofs.Common.{◌≡◌, ◌∙◌, ℕ, ◌+◌, ◌-◌, ◌*◌, ◌^◌, ◌<◌, ◌≤◌, ◌==◌, is_some, nat_lt, nat_le, true, false, List, [], ◌∷◌, ◌++◌, length, drop, take, Option, Some, Err, refl, sym, ap, subst, inl, inr, arith}
+use Rattle.std.specs.List.{AllByRecursion}
+use Rattle.std.proofs.Math.Seq.{take-append-add}
+use Rattle.std.proofs.lemmas.Bool.{cases_lt, eq-eqb, le-ltb, lt-leb, lt-ltb}
+use Rattle.std.proofs.lemmas.List.{drop-take, length-take}
+use Rattle.bolt_format.specs.Headers.{flags_field, id_field, kind_of}
+use Rattle.bolt_format.specs.Metas.{IsChosen, IsInOne, IsInSlot, IsMeta, IsPageSize}
+use Rattle.bolt_format.specs.Pages.{from_page, page_at, page_fault, page_overflow, span_fault}
+use Rattle.bolt_format.specs.declared.fault.TheConstants.PageFault.{CUT}
+use Rattle.bolt_format.specs.declared.kind.Kind.{Kind}
+use Rattle.bolt_format.specs.declared.meta.Meta.{Meta}
+use Rattle.bolt_format.specs.declared.meta.Slot.{Slot}
+use Rattle.bolt_format.specs.declared.meta.Slot.TheVariants.{Zero, One}
+use Rattle.bolt_check.specs.Findings.{PageTests, finding}
+use Rattle.bolt_check.specs.Nodes.{node_at}
+use Rattle.bolt_check.specs.Sound.{IsFirstFinding, IsRefused}
+use Rattle.bolt_check.specs.declared.fault.CheckFault.TheVariants.{Structure}
+use Rattle.bolt_check.specs.Ways.{At_page, start_of}
+use Rattle.bolt_layout.specs.PageBytes.{header_bytes, meta_bytes}
+use Rattle.bolt_layout.specs.Layout.{layout_mark, layout_of, layout_root, placed_bytes}
+use Rattle.bolt_layout.specs.Copies.{IsAsked, RefusesBeginnings}
+use Rattle.bolt_layout.proofs.PageLemmas.{IsHeaderFit, header_written, length-header_bytes}
+use Rattle.bolt_layout.proofs.MetaLemmas.{chosen_of, length-meta_bytes, meta_of, meta_written, size_bounds}
+use Rattle.bolt_layout.proofs.PageRows.{IsInARow, IsPageFit, last_written, page_headed, row_last}
+use Rattle.bolt_layout.proofs.Soundness.{IsLaidOut, laid_out}
+use Rattle.bolt_layout.specs.Laid.{Placed}
+use Rattle.bolt_tree.specs.Tree.{Tree}
+
+-- a part before the cut is there
+cut_front : (file part rest : List ℕ) (at n : ℕ) → drop at file ≡ part ++ rest → at + length part ≤ n → drop at (take n file) ≡ part ++ take (n - (at + length part)) rest
+cut_front file part rest at n h within =
+    let k : ℕ = n - (at + length part) in
+    let total : n ≡ at + (length part + k) = omega arith in
+    ap (λ (m : ℕ). drop at (take m file)) total ∙ (drop-take at (length part + k) file ∙ (ap (λ (xs : List ℕ). take (length part + k) xs) h ∙ take-append-add part rest k))
+
+-- The tests of a page whose span passes the file's end.
+cut_short : (file : List ℕ) (meta : Meta) (id : ℕ) → id < meta.high_water → length file < id * meta.page_size + 16 → span_fault file meta id ≡ Some CUT
+unfolding span_fault
+cut_short file meta id below short =
+    let t1 : nat_le meta.high_water id ≡ false = lt-leb meta.high_water id below in
+    let t2 : nat_lt (length file) (id * meta.page_size + 16) ≡ true = lt-ltb (length file) (id * meta.page_size + 16) short in
+    rw (t1, t2) refl
+
+cut_late : (file : List ℕ) (meta : Meta) (id flag n more : ℕ) (is : Kind) (behind : List ℕ) → drop (id * meta.page_size) file ≡ header_bytes id flag n more ++ behind
+    → IsHeaderFit id flag n more → kind_of flag ≡ Some is → id + more < meta.high_water → id * meta.page_size + 16 ≤ length file
+    → length file < (id + 1 + more) * meta.page_size → span_fault file meta id ≡ Some CUT
+unfolding span_fault
+cut_late file meta id flag n more is behind h fit known below header short =
+    let size : ℕ = meta.page_size in
+    let read = (header_written (from_page file meta id) behind id flag n more h fit).0 in
+    let same : page_overflow file meta id ≡ more = read.overflow in
+    let end : (id + 1 + page_overflow file meta id) * size ≡ (id + 1 + more) * size = ap (λ (m : ℕ). (id + 1 + m) * size) same in
+    let t1 : nat_le meta.high_water id ≡ false = lt-leb meta.high_water id (omega arith) in
+    let t2 : nat_lt (length file) (id * size + 16) ≡ false = le-ltb (length file) (id * size + 16) header in
+    let t3 : (id_field (from_page file meta id) == id) ≡ true = eq-eqb (id_field (from_page file meta id)) id read.id in
+    let t4 : is_some (kind_of (flags_field (from_page file meta id))) ≡ true = ap (λ (o : Option Kind). is_some o) (ap kind_of read.flags ∙ known) in
+    let t5 : nat_le meta.high_water (id + page_overflow file meta id) ≡ false = lt-leb meta.high_water (id + page_overflow file meta id) (omega arith) in
+    let t6 : nat_lt (length file) ((id + 1 + page_overflow file meta id) * size) ≡ true = lt-ltb (length file) ((id + 1 + page_overflow file meta id) * size) (omega arith) in
+    rw (t1, t2, t3, t4, t5, t6) refl
+
+-- So it is no node,
+cut_node : (file : List ℕ) (meta : Meta) (id : ℕ) → span_fault file meta id ≡ Some CUT → node_at file meta id ≡ Err CUT
+unfolding node_at page_at page_fault
+cut_node file meta id h = rw h refl
+
+-- and where it is the root page it is the first finding.
+cut_first : (file : List ℕ) (meta : Meta) → node_at file meta meta.root ≡ Err CUT → IsFirstFinding file meta (finding CUT meta.root)
+cut_first file meta h = record {
+  way = [];
+  spot = At_page (start_of meta.root);
+  leads = refl;
+  told = PageTests.early (rw h refl);
+  none_before = λ v s y less. absurd less;
+}
+
+-- Before the first meta ends there is none.
+no_meta : (file : List ℕ) (at : ℕ) (meta : Meta) → length file < 80 → IsMeta file at meta → ⊥
+no_meta file at meta short valid = let w = valid.whole in omega arith
+
+no_slot : (file : List ℕ) → length file < 80 → (slot : Slot) (meta : Meta) → IsInSlot file slot meta → ⊥
+no_slot file short Zero meta valid = no_meta file 0 meta short valid
+no_slot file short One meta (inl (other, first, second)) = no_meta file 0 other short first
+no_slot file short One meta (inr (none, lone)) = no_meta file lone.at meta short lone.valid
+
+-- Which meta is in force in a layout that is cut short.
+not_second : (file : List ℕ) (page_size root sequence mark : ℕ) (other : Meta) → IsMeta file 0 (meta_of page_size root sequence mark 0) → length file < page_size + 80
+    → IsInOne file other → ⊥
+not_second file page_size root sequence mark other first short (inl (before, zeroth, second)) =
+    let same : before ≡ meta_of page_size root sequence mark 0 = zeroth.fields ∙ sym first.fields in
+    let at : before.page_size ≡ page_size = ap (λ (m : Meta). m.page_size) same in
+    let w = second.whole in omega arith
+not_second file page_size root sequence mark other first short (inr (none, lone)) = none (meta_of page_size root sequence mark 0) first
+
+only_first : (file : List ℕ) (page_size root sequence mark : ℕ) → IsMeta file 0 (meta_of page_size root sequence mark 0) → length file < page_size + 80
+    → IsChosen file Zero (meta_of page_size root sequence mark 0)
+only_first file page_size root sequence mark first short = record {
+  valid = first;
+  newest = λ other valid. absurd (not_second file page_size root sequence mark other first short valid);
+}
+
+-- the root page of a layout that is cut short
+root_cut : (page_size : ℕ) (tree : Tree) (sequence n txid : ℕ) → IsPageSize page_size → IsLaidOut page_size tree sequence → n < length (layout_of page_size tree sequence)
+    → node_at (take n (layout_of page_size tree sequence)) (meta_of page_size (layout_root page_size tree) sequence (layout_mark page_size tree) txid) (layout_root page_size tree) ≡ Err CUT
+root_cut page_size tree sequence n txid size laid less =
+    let bounds = size_bounds page_size size in
+    let file : List ℕ = layout_of page_size tree sequence in
+    let torn : List ℕ = take n file in
+    let root : ℕ = layout_root page_size tree in
+    let mark : ℕ = layout_mark page_size tree in
+    let meta : Meta = meta_of page_size root sequence mark txid in
+    let long = laid.long in
+    let room = laid.room in
+    let cut : length torn ≡ n = length-take n file ∙ omega arith in
+    let (front, own, same, number) = laid.last in
+    let row : IsInARow 3 (front ++ own ∷ []) mark = subst (λ (ps : List Placed). IsInARow 3 ps mark) same laid.row in
+    let fits = subst (AllByRecursion (IsPageFit page_size)) same laid.pages in
+    let placed = subst (λ (ps : List Placed). drop (3 * page_size) file ≡ placed_bytes page_size ps ++ []) same laid.file.placed in
+    let ends = row_last 3 mark front own row in
+    let (fit, here) = last_written file page_size 3 mark front own [] row fits placed in
+    let head = page_headed page_size own [] fit in
+    let begins = here ∙ head.begins in
+    let below = laid.below in
+    let place : own.number * page_size ≡ root * page_size = ap (λ (m : ℕ). m * page_size) number in
+    let at : drop (root * page_size) file ≡ header_bytes root head.flag head.n own.view.overflow ++ head.behind =
+    subst (λ (m : ℕ). drop (m * page_size) file ≡ header_bytes m head.flag head.n own.view.overflow ++ head.behind) number begins in
+    let end : (root + 1 + own.view.overflow) * page_size ≡ mark * page_size = (let e : root + 1 + own.view.overflow ≡ mark = omega arith in ap (λ (m : ℕ). m * page_size) e) in
+    let l = length-header_bytes root head.flag head.n own.view.overflow in
+    cut_node torn meta root (elim (cases_lt n (root * page_size + 16)) [
+      | inl short ↦ cut_short torn meta root below (omega arith)
+      | inr enough ↦
+          let torn_at = cut_front file (header_bytes root head.flag head.n own.view.overflow) head.behind (root * page_size) n at (omega arith) in
+          let fits2 : IsHeaderFit root head.flag head.n own.view.overflow = record { id = omega arith; flags = head.small_flag; count = head.few; overflow = head.narrow } in
+          cut_late torn meta root head.flag head.n own.view.overflow head.is _ torn_at fits2 head.known (omega arith) (omega arith) (omega arith)
+    ])
+
+first_there : (page_size : ℕ) (tree : Tree) (sequence n : ℕ) → IsLaidOut page_size tree sequence → n < length (layout_of page_size tree sequence) → 80 ≤ n
+    → IsMeta (take n (layout_of page_size tree sequence)) 0 (meta_of page_size (layout_root page_size tree) sequence (layout_mark page_size tree) 0)
+first_there page_size tree sequence n laid less whole =
+    let file : List ℕ = layout_of page_size tree sequence in
+    let root : ℕ = layout_root page_size tree in
+    let mark : ℕ = layout_mark page_size tree in
+    let l = length-meta_bytes page_size root sequence mark 0 in
+    let fit = laid.fits in
+    meta_written (take n file) _ 0 page_size root sequence mark 0 (cut_front file (meta_bytes page_size root sequence mark 0) laid.file.behind_first 0 n laid.file.first_bytes (omega arith))
+    (record { size = fit.size; root_fits = fit.root_fits; sequence_fits = fit.sequence_fits; mark_fits = fit.mark_fits; txid_fits = omega arith }) (inl refl) (omega arith)
+
+second_there : (page_size : ℕ) (tree : Tree) (sequence n : ℕ) → IsLaidOut page_size tree sequence → n < length (layout_of page_size tree sequence) → page_size + 80 ≤ n
+    → IsMeta (take n (layout_of page_size tree sequence)) page_size (meta_of page_size (layout_root page_size tree) sequence (layout_mark page_size tree) 1)
+second_there page_size tree sequence n laid less whole =
+    let file : List ℕ = layout_of page_size tree sequence in
+    let root : ℕ = layout_root page_size tree in
+    let mark : ℕ = layout_mark page_size tree in
+    let l = length-meta_bytes page_size root sequence mark 1 in
+    let cut : length (take n file) ≡ n = length-take n file ∙ omega arith in
+    meta_written (take n file) _ page_size page_size root sequence mark 1 (cut_front file (meta_bytes page_size root sequence mark 1) laid.file.behind_second page_size n laid.file.second_bytes (omega arith))
+    laid.fits (inr refl) (omega arith)
+
+torn_root : (page_size : ℕ) (tree : Tree) (sequence n : ℕ) → IsPageSize page_size → IsLaidOut page_size tree sequence → n < length (layout_of page_size tree sequence) → 80 ≤ n
+    → IsRefused (take n (layout_of page_size tree sequence)) (Structure (finding CUT (layout_root page_size tree)))
+torn_root page_size tree sequence n size laid less whole =
+    let file : List ℕ = layout_of page_size tree sequence in
+    let torn : List ℕ = take n file in
+    let root : ℕ = layout_root page_size tree in
+    let mark : ℕ = layout_mark page_size tree in
+    let cut : length torn ≡ n = length-take n file ∙ omega arith in
+    let first = first_there page_size tree sequence n laid less whole in
+    elim (cases_lt n (page_size + 80)) [
+      | inl short ↦ (
+        Zero,
+        meta_of page_size root sequence mark 0,
+        only_first torn page_size root sequence mark first (omega arith),
+        cut_first torn (meta_of page_size root sequence mark 0) (root_cut page_size tree sequence n 0 size laid less),
+      )
+      | inr enough ↦ (
+        One,
+        meta_of page_size root sequence mark 1,
+        chosen_of torn page_size (meta_of page_size root sequence mark 0) (meta_of page_size root sequence mark 1) first (second_there page_size tree sequence n laid less enough) refl (omega arith),
+        cut_first torn (meta_of page_size root sequence mark 1) (root_cut page_size tree sequence n 1 size laid less),
+      )
+    ]
+
+pub beginnings_refused : (page_size : ℕ) (tree : Tree) (sequence : ℕ) → IsAsked page_size tree sequence → length (layout_of page_size tree sequence) < 2 ^ 63
+    → RefusesBeginnings (layout_of page_size tree sequence) (layout_root page_size tree)
+beginnings_refused page_size tree sequence asked short =
+    let laid = laid_out page_size tree sequence asked.size asked.storable asked.sequence_fits short in
+    let file : List ℕ = layout_of page_size tree sequence in
+    record {
+      before_metas = λ n less few. let cut : length (take n file) ≡ n = length-take n file ∙ omega arith in
+          (λ whole. omega arith, no_slot (take n file) (omega arith));
+      at_root = λ n less enough. torn_root page_size tree sequence n asked.size laid less enough;
+    }

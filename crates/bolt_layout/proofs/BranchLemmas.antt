@@ -1,0 +1,126 @@
+-- The elements of a branch page that was written are read back, and pass their tests.
+use Rattle.std.proofs.Common.{◌≡◌, ◌∙◌, ℕ, suc, ◌+◌, ◌-◌, ◌*◌, ◌^◌, ◌<◌, ◌≤◌, nat_lt, false, List, [], ◌∷◌, ◌++◌, length, map, drop, take, None, refl, sym, ap, arith, append_assoc, add-one}
+use Rattle.std.specs.List.{AllByRecursion, range_with_len, slice_range}
+use Rattle.std.proofs.lemmas.Bool.{le-ltb}
+use Rattle.std.proofs.lemmas.List.{length-append}
+use Rattle.bolt_format.specs.Elements.{BranchElement, branch_child, branch_element, branch_elements, branch_end, branch_fault, branch_key_length, branch_key_start, branches_fault, element_at, faults_from, key_length_fault, table_fault}
+use Rattle.bolt_layout.specs.PageBytes.{number_bytes, branch_bytes, branch_header, branch_headers, branch_data, key_pos}
+use Rattle.bolt_layout.proofs.NumberLemmas.{length-number_bytes, number_read, number_next, part_next, part_read, part_within}
+use Rattle.bolt_format.proofs.FaultLemmas.{first_of-both}
+use Rattle.bolt_layout.proofs.LeafLemmas.{data_passes, key_passes}
+
+pub record IsBranchFit (e : BranchElement) : Type 0 where
+  pub some : 1 ≤ length e.key
+  pub key : length e.key ≤ 0x40000000
+  pub child : e.child < 256 ^ 8
+
+-- the numbers of element i
+record IsBranchHead (bytes : List ℕ) (i pos : ℕ) (e : BranchElement) : Type 0 where
+  pub start : branch_key_start bytes i ≡ element_at i + pos
+  pub key : branch_key_length bytes i ≡ length e.key
+  pub child : branch_child bytes i ≡ e.child
+
+branch_head : (bytes rest : List ℕ) (i pos : ℕ) (e : BranchElement) → drop (element_at i) bytes ≡ branch_header pos e ++ rest
+    → pos < 0x100000000 → IsBranchFit e → IsBranchHead bytes i pos e × (drop (element_at (suc i)) bytes ≡ rest)
+unfolding branch_header branch_key_start branch_key_length branch_child
+branch_head bytes rest i pos e h small fit =
+    let d0 : drop (element_at i) bytes ≡ number_bytes 4 pos ++ (number_bytes 4 (length e.key) ++ (number_bytes 8 e.child ++ rest)) = h ∙ simp append_assoc in
+    let d1 = number_next bytes _ (element_at i) 4 pos (element_at i + 4) d0 refl in
+    let d2 = number_next bytes _ (element_at i + 4) 4 (length e.key) (element_at i + 8) d1 (omega arith) in
+    let d3 = number_next bytes rest (element_at i + 8) 8 e.child (element_at (suc i)) d2 (omega arith) in
+    let key = fit.key in (
+      record {
+        start = ap (λ (n : ℕ). element_at i + n) (number_read bytes _ (element_at i) 4 pos d0 (omega arith));
+        key = number_read bytes _ (element_at i + 4) 4 (length e.key) d1 (omega arith);
+        child = number_read bytes rest (element_at i + 8) 8 e.child d2 fit.child;
+      },
+      d3,
+    )
+
+record IsBranchRead (bytes : List ℕ) (i end : ℕ) (e : BranchElement) : Type 0 where
+  pub element : branch_element bytes i ≡ e
+  pub ends : branch_end bytes i ≡ end
+  pub passes : (free : ℕ) → free ≤ branch_key_start bytes i → branch_fault bytes free i ≡ None
+
+same_branch : (a b : BranchElement) → a.key ≡ b.key → a.child ≡ b.child → a ≡ b
+same_branch a b p q =
+    let f : List ℕ → ℕ → BranchElement = λ x y. record { key = x; child = y } in
+    ap (λ (x : List ℕ). f x a.child) p ∙ ap (f b.key) q
+
+branch_read : (bytes rest : List ℕ) (i pos : ℕ) (e : BranchElement) → IsBranchHead bytes i pos e → IsBranchFit e
+    → drop (element_at i + pos) bytes ≡ e.key ++ rest → element_at i + pos ≤ length bytes
+    → IsBranchRead bytes i (element_at i + pos + length e.key) e
+unfolding branch_fault
+branch_read bytes rest i pos e head fit text within =
+    let start = head.start in
+    let end : branch_end bytes i ≡ element_at i + pos + length e.key = ap (λ (n : ℕ). n + branch_key_length bytes i) head.start ∙ ap (λ (n : ℕ). element_at i + pos + n) head.key in
+    let key_within = part_within bytes e.key rest (element_at i + pos) text within in
+    let key : slice_range bytes (branch_key_start bytes i) (branch_end bytes i) ≡ e.key =
+    ap (λ (n : ℕ). take (branch_end bytes i - branch_key_start bytes i) (drop n bytes)) start ∙ part_read bytes e.key rest (element_at i + pos) (branch_end bytes i - branch_key_start bytes i) text (let k = head.key in omega arith) in
+    record {
+      element = same_branch (branch_element bytes i) e key head.child;
+      ends = end;
+      passes = λ free before.
+          first_of-both (key_length_fault (branch_key_length bytes i)) _ (ap key_length_fault head.key ∙ key_passes (length e.key) fit.some fit.key)
+          (data_passes bytes free (branch_key_start bytes i) (branch_end bytes i) before (omega arith));
+    }
+
+length-branch_header : (pos : ℕ) (e : BranchElement) → length (branch_header pos e) ≡ 16
+unfolding branch_header
+length-branch_header pos e =
+    let a = length-number_bytes 4 pos in
+    let b = length-number_bytes 4 (length e.key) in
+    let c = length-number_bytes 8 e.child in
+    simp length-append (omega (arith, a, b, c))
+
+pub length-branch_headers : (before : ℕ) (es : List BranchElement) → length (branch_headers before es) ≡ 16 * length es
+length-branch_headers before [] = refl
+length-branch_headers before (e ∷ es) =
+    let h = length-branch_header (key_pos (e ∷ es) before) e in
+    let r = length-branch_headers (before + length e.key) es in
+    length-append (branch_header (key_pos (e ∷ es) before) e) (branch_headers (before + length e.key) es) ∙ omega arith
+
+branch_run : (bytes : List ℕ) (es : List BranchElement) (i before free : ℕ) (tail rest : List ℕ)
+    → drop (element_at i) bytes ≡ branch_headers before es ++ tail
+    → drop (element_at (i + length es) + before) bytes ≡ branch_data es ++ rest
+    → AllByRecursion IsBranchFit es
+    → 16 * length es + (before + length (branch_data es)) < 0x100000000
+    → element_at (i + length es) + before ≤ length bytes
+    → free ≤ element_at (i + length es) + before
+    → (map (branch_element bytes) (range_with_len i (length es)) ≡ es) × (faults_from (branch_fault bytes) (branch_end bytes) free i (length es) ≡ None)
+branch_run bytes [] i before free tail rest heads text fits small within first = (refl, refl)
+branch_run bytes (e ∷ es) i before free tail rest heads text fits small within first =
+    let pos : ℕ = key_pos (e ∷ es) before in
+    let fit : IsBranchFit e = fits.0 in
+    let regrouped : drop (element_at i) bytes ≡ branch_header pos e ++ (branch_headers (before + length e.key) es ++ tail) = heads ∙ append_assoc (branch_header pos e) _ tail in
+    let data_length : length (branch_data (e ∷ es)) ≡ length e.key + length (branch_data es) = length-append e.key (branch_data es) in
+    let head = branch_head bytes _ i pos e regrouped (omega arith) fit in
+    let place : element_at (i + length (e ∷ es)) + before ≡ element_at i + pos = omega arith in
+    let here : drop (element_at i + pos) bytes ≡ e.key ++ (branch_data es ++ rest) =
+    ap (λ (n : ℕ). drop n bytes) (sym place) ∙ (text ∙ append_assoc e.key (branch_data es) rest) in
+    let one = branch_read bytes (branch_data es ++ rest) i pos e head.0 fit here (omega arith) in
+    let within_key = part_within bytes e.key (branch_data es ++ rest) (element_at i + pos) here (omega arith) in
+    let behind : drop (element_at (suc i + length es) + (before + length e.key)) bytes ≡ branch_data es ++ rest =
+    part_next bytes e.key (branch_data es ++ rest) (element_at i + pos) _ here (omega arith) in
+    let ends = one.ends in
+    let more = branch_run bytes es (suc i) (before + length e.key) (branch_end bytes i) tail rest head.1 behind fits.1 (omega arith) (omega arith) (omega arith) in
+    let start = head.0.start in
+    let elements : map (branch_element bytes) (range_with_len (i + 1) (length es)) ≡ es = ap (λ (k : ℕ). map (branch_element bytes) (range_with_len k (length es))) (add-one i) ∙ more.0 in (
+      ap (λ (x : BranchElement). x ∷ map (branch_element bytes) (range_with_len (i + 1) (length es))) one.element ∙ ap (λ (xs : List BranchElement). e ∷ xs) elements,
+      first_of-both (branch_fault bytes free i) _ (one.passes free (omega arith)) more.1,
+    )
+
+-- the elements of a branch page behind a header
+pub branches_written : (bytes : List ℕ) (es : List BranchElement) (rest : List ℕ)
+    → drop 16 bytes ≡ branch_bytes es ++ rest → 16 ≤ length bytes → AllByRecursion IsBranchFit es
+    → 16 * length es + length (branch_data es) < 0x100000000
+    → (branch_elements bytes (length es) ≡ es) × (branches_fault bytes (length es) ≡ None)
+unfolding branch_bytes branch_elements branches_fault
+branches_written bytes es rest h within fits small =
+    let heads : drop (element_at 0) bytes ≡ branch_headers 0 es ++ (branch_data es ++ rest) = h ∙ append_assoc (branch_headers 0 es) (branch_data es) rest in
+    let long = length-branch_headers 0 es in
+    let table = part_within bytes (branch_headers 0 es) (branch_data es ++ rest) 16 heads within in
+    let text : drop (element_at (0 + length es) + 0) bytes ≡ branch_data es ++ rest = part_next bytes (branch_headers 0 es) (branch_data es ++ rest) 16 _ heads (omega arith) in
+    let run = branch_run bytes es 0 0 (element_at (length es)) (branch_data es ++ rest) rest heads text fits (omega arith) (omega arith) (omega arith) in
+    let room : nat_lt (length bytes) (element_at (length es)) ≡ false = le-ltb (length bytes) (element_at (length es)) (omega arith) in
+    (run.0, first_of-both (table_fault bytes (length es)) _ (rw room refl) run.1)

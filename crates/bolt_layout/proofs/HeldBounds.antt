@@ -1,0 +1,235 @@
+-- How many items are held at one time, at the most: four page sizes for each bucket of a path, and never more than the pages have bytes.
+use Rattle.std.proofs.Common.{◌≡◌, ◌∙◌, ℕ, zero, suc, ◌+◌, ◌*◌, ◌/◌, ◌^◌, ◌<◌, ◌≤◌, Bool, true, false, List, [], ◌∷◌, ◌++◌, length, map, flat_map, max, refl, sym, ap, subst, inl, inr, arith, sum_by}
+use Rattle.std.specs.List.{AllByRecursion}
+use Rattle.std.proofs.Math.Nat.{add-mul, mul-le-mul_left, mul-le-mul_right, pow-suc, suc-mul}
+use Rattle.std.proofs.lemmas.Bool.{cases_lt}
+use Rattle.std.proofs.lemmas.List.{length-append, length-map}
+use Rattle.std.proofs.lemmas.List.Sums.{sum_by-cons}
+use Rattle.bolt_format.specs.Elements.{BranchElement, LeafElement}
+use Rattle.bolt_format.specs.Pages.{PageView}
+use Rattle.bolt_format.specs.Metas.{IsPageSize}
+use Rattle.bolt_tree.specs.Listing.{Member}
+use Rattle.bolt_tree.specs.Paths.{Path}
+use Rattle.bolt_tree.specs.Tree.{Tree, end, listing_below, listing_of, with_bucket, with_value}
+use Rattle.bolt_layout.specs.Cut.{cut_of}
+use Rattle.bolt_layout.specs.Divisions.{IsDivided, IsPageRun}
+use Rattle.bolt_layout.specs.Held.{longest, most_held}
+use Rattle.bolt_layout.specs.Items.{bucket_item, is_inline, items_of, leaf_item, root_of, stored_bucket}
+use Rattle.bolt_layout.specs.Laid.{Laid, held_in, numbers_of, size_of}
+use Rattle.bolt_layout.specs.Layout.{layout_held, layout_mark, layout_of}
+use Rattle.bolt_layout.specs.Levels.{branch_view, leaf_level, leaf_view, next_level, page_over, root_over, run_overflow, top_in}
+use Rattle.bolt_layout.specs.Storable.{IsStorable}
+use Rattle.bolt_layout.proofs.Cutting.{cut_divides, cut_halves}
+use Rattle.bolt_layout.proofs.ListLemmas.{all_split}
+use Rattle.bolt_layout.proofs.OverRows.{pages_count, runs_numbers, runs_some}
+use Rattle.bolt_layout.proofs.MetaLemmas.{size_bounds}
+use Rattle.bolt_layout.proofs.Soundness.{layout_length}
+
+-- An item takes 16 bytes at least. While the pages below it are written, `most` items are held, and no more than these pages have bytes.
+record IsHeldBelow {E : Type 0} (page_size most : ℕ) (item : Laid E) : Type 0 where
+  sized : 16 ≤ item.size
+  few : item.held ≤ most
+  small : item.held ≤ item.numbers * page_size
+
+-- ---- a run
+
+run_few : {E : Type 0} (page_size most : ℕ) (run : List (Laid E)) → AllByRecursion (IsHeldBelow page_size most) run → held_in run ≤ length run + most
+run_few page_size most [] all = omega arith
+run_few page_size most (item ∷ run) all = let ih = run_few page_size most run all.1 in let one = all.0.few in omega arith
+
+run_small : {E : Type 0} (page_size most : ℕ) (run : List (Laid E)) → AllByRecursion (IsHeldBelow page_size most) run → held_in run ≤ numbers_of run * page_size + length run
+run_small page_size most [] all = omega arith
+run_small page_size most (item ∷ run) all =
+    let ih = run_small page_size most run all.1 in
+    let one = all.0.small in
+    let sum = add-mul item.numbers (numbers_of run) page_size in omega arith
+
+run_sized : {E : Type 0} (page_size most : ℕ) (run : List (Laid E)) → AllByRecursion (IsHeldBelow page_size most) run → 16 * length run ≤ sum_by size_of run
+run_sized page_size most [] all = omega arith
+run_sized {E = E} page_size most (item ∷ run) all =
+    let ih = run_sized page_size most run all.1 in
+    let one = all.0.sized in
+    let e = sum_by-cons (size_of {E = E}) item run in omega arith
+
+-- a page has few items
+thin : {E : Type 0} (page_size wide most : ℕ) (run : List (Laid E)) → 16 * wide ≤ page_size → IsPageRun page_size wide size_of run → AllByRecursion (IsHeldBelow page_size most) run
+    → 16 * length run ≤ page_size
+thin page_size wide most run room is all =
+    let sized = run_sized page_size most run all in
+    elim (cases_lt wide (length run)) [
+      | inl many ↦ (let fits = is.fits many in omega arith)
+      | inr few ↦ omega arith
+    ]
+
+-- so the page over a run adds a sixteenth of the page size
+over_held : {E : Type 0} (view : ℕ → List E → PageView) (page_size most : ℕ) (run : List (Laid E)) → 16 * length run ≤ page_size → AllByRecursion (IsHeldBelow page_size most) run
+    → IsHeldBelow page_size (most + page_size / 16) (page_over view page_size run)
+over_held view page_size most run room all =
+    let few = run_few page_size most run all in
+    let small = run_small page_size most run all in
+    let further : ℕ = run_overflow page_size run in
+    let own = add-mul 1 further page_size in
+    let sum = add-mul (numbers_of run) (1 + further) page_size in
+    record { sized = omega arith; few = omega arith; small = omega arith }
+
+-- ---- a level
+
+level_held : {E : Type 0} (view : ℕ → List E → PageView) (page_size wide most : ℕ) (runs : List (List (Laid E))) (items : List (Laid E)) → 16 * wide ≤ page_size
+    → flat_map (λ run. run) runs ≡ items → AllByRecursion (IsPageRun page_size wide size_of) runs → AllByRecursion (IsHeldBelow page_size most) items
+    → AllByRecursion (IsHeldBelow page_size (most + page_size / 16)) (map (page_over view page_size) runs)
+level_held view page_size wide most [] items room whole each all = tt
+level_held view page_size wide most (run ∷ runs) items room whole each all =
+    let both = all_split (IsHeldBelow page_size most) run (flat_map (λ run. run) runs) (subst (AllByRecursion (IsHeldBelow page_size most)) (sym whole) all) in
+    let few = thin page_size wide most run room each.0 both.0 in
+    (over_held view page_size most run few both.0, level_held view page_size wide most runs (flat_map (λ run. run) runs) room refl each.1 both.1)
+
+weaker : {E : Type 0} (page_size most more : ℕ) (item : Laid E) → most ≤ more → IsHeldBelow page_size most item → IsHeldBelow page_size more item
+weaker page_size most more item h is = let few = is.few in record { sized = is.sized; few = omega arith; small = is.small }
+
+-- half the pages, one level more
+top_held : (page_size steps k most : ℕ) (level : List (Laid BranchElement)) → 64 ≤ page_size → AllByRecursion (IsHeldBelow page_size most) level → 1 ≤ length level → length level ≤ suc steps → length level ≤ 2 ^ k
+    → IsHeldBelow page_size (most + k * (page_size / 16)) (top_in steps page_size level)
+top_held page_size steps k most [] low all some fuel few = absurd (omega arith)
+top_held page_size steps k most (page ∷ []) low all some fuel few = weaker page_size most _ page (omega arith) all.0
+top_held page_size zero k most (page ∷ other ∷ level) low all some fuel few = absurd (omega arith)
+top_held page_size (suc steps) zero most (page ∷ other ∷ level) low all some fuel few = absurd (omega arith)
+top_held page_size (suc steps) (suc k) most (page ∷ other ∷ level) low all some fuel few =
+    let pages : List (Laid BranchElement) = page ∷ other ∷ level in
+    let runs : List (List (Laid BranchElement)) = cut_of page_size 2 size_of pages in
+    let divided : IsDivided page_size 3 size_of pages runs = cut_divides page_size 2 3 size_of pages (omega arith) (omega arith) (omega arith) in
+    let half : 2 * length runs ≤ suc (length pages) = cut_halves page_size size_of pages in
+    let up = level_held branch_view page_size 3 most runs pages (omega arith) divided.whole divided.each all in
+    let any = runs_some runs pages divided.whole (omega arith) in
+    let same = length-map runs (page_over branch_view page_size) in
+    let double : 2 ^ suc k ≡ 2 * 2 ^ k = pow-suc 2 k ∙ omega arith in
+    let ih = top_held page_size steps k (most + page_size / 16) (next_level page_size pages) low up (omega arith) (omega arith) (omega arith) in
+    let more = suc-mul k (page_size / 16) in
+    weaker page_size _ _ (top_in (suc steps) page_size pages) (omega arith) ih
+
+top_numbers : (page_size steps : ℕ) (level : List (Laid BranchElement)) → length level ≤ suc steps → numbers_of level ≤ (top_in steps page_size level).numbers
+top_numbers page_size steps [] fuel = omega arith
+top_numbers page_size steps (page ∷ []) fuel = omega arith
+top_numbers page_size zero (page ∷ other ∷ level) fuel = absurd (omega arith)
+top_numbers page_size (suc steps) (page ∷ other ∷ level) fuel =
+    let pages : List (Laid BranchElement) = page ∷ other ∷ level in
+    let runs : List (List (Laid BranchElement)) = cut_of page_size 2 size_of pages in
+    let divided : IsDivided page_size 3 size_of pages runs = cut_divides page_size 2 3 size_of pages (omega arith) (omega arith) (omega arith) in
+    let half : 2 * length runs ≤ suc (length pages) = cut_halves page_size size_of pages in
+    let same = length-map runs (page_over branch_view page_size) in
+    let ih = top_numbers page_size steps (next_level page_size pages) (omega arith) in
+    let numbers = runs_numbers branch_view page_size runs in
+    let all = ap (λ (r : List (Laid BranchElement)). numbers_of r) divided.whole in omega arith
+
+-- ---- a bucket
+
+level_numbers : (page_size : ℕ) (items : List (Laid LeafElement)) → numbers_of (leaf_level page_size items) ≤ (root_over page_size items).numbers
+unfolding root_over
+level_numbers page_size [] = omega arith
+level_numbers page_size (item ∷ items) =
+    let level : List (Laid BranchElement) = leaf_level page_size (item ∷ items) in
+    top_numbers page_size (length level) level (omega arith)
+
+items_numbers : (page_size : ℕ) (items : List (Laid LeafElement)) → numbers_of items ≤ (root_over page_size items).numbers
+items_numbers page_size items =
+    let runs : List (List (Laid LeafElement)) = cut_of page_size 1 size_of items in
+    let divided : IsDivided page_size 1 size_of items runs = cut_divides page_size 1 1 size_of items (omega arith) (omega arith) (omega arith) in
+    let numbers = runs_numbers leaf_view page_size runs in
+    let all = ap (λ (r : List (Laid LeafElement)). numbers_of r) divided.whole in
+    let level = level_numbers page_size items in omega arith
+
+-- at most 64 levels, each with a sixteenth of the page size
+root_held : (page_size most : ℕ) (items : List (Laid LeafElement)) → 64 ≤ page_size → AllByRecursion (IsHeldBelow page_size most) items → (root_over page_size items).numbers ≤ 2 ^ 63
+    → IsHeldBelow page_size (most + 4 * page_size) (root_over page_size items)
+unfolding root_over
+root_held page_size most [] low all room = weaker page_size (most + page_size / 16) _ (root_over page_size []) (omega arith) (over_held leaf_view page_size most [] (omega arith) tt)
+root_held page_size most (item ∷ items) low all room =
+    let runs : List (List (Laid LeafElement)) = cut_of page_size 1 size_of (item ∷ items) in
+    let level : List (Laid BranchElement) = leaf_level page_size (item ∷ items) in
+    let divided : IsDivided page_size 1 size_of (item ∷ items) runs = cut_divides page_size 1 1 size_of (item ∷ items) (omega arith) (omega arith) (omega arith) in
+    let leaves = level_held leaf_view page_size 1 most runs (item ∷ items) (omega arith) divided.whole divided.each all in
+    let any = runs_some runs (item ∷ items) divided.whole (omega arith) in
+    let same = length-map runs (page_over leaf_view page_size) in
+    let count = pages_count leaf_view page_size runs in
+    let numbers = level_numbers page_size (item ∷ items) in
+    let top = top_held page_size (length level) 63 (most + page_size / 16) level low leaves (omega arith) (omega arith) (omega arith) in
+    weaker page_size _ _ (root_over page_size (item ∷ items)) (omega arith) top
+
+-- ---- a tree
+
+longest-append : (a b : List Member) → longest (a ++ b) ≡ max (longest a) (longest b)
+longest-append [] b = omega arith
+longest-append (member ∷ a) b = let ih = longest-append a b in omega arith
+
+inline_held : (page_size most : ℕ) (key value : List ℕ) (is_bucket : Bool) → IsHeldBelow page_size most (leaf_item key value is_bucket)
+inline_held page_size most key value is_bucket = record { sized = omega arith; few = omega arith; small = omega arith }
+
+bucket_held : (page_size most : ℕ) (key : List ℕ) (sequence : ℕ) (root : Laid BranchElement) → IsHeldBelow page_size most root → IsHeldBelow page_size most (bucket_item key sequence root)
+bucket_held page_size most key sequence root is = record { sized = omega arith; few = is.few; small = is.small }
+
+stored_held : (page_size most : ℕ) (key : List ℕ) (sequence : ℕ) (inside : Tree) (items : List (Laid LeafElement)) (after : List (Laid LeafElement)) (b : Bool) → is_inline page_size inside items ≡ b
+    → numbers_of (stored_bucket page_size key sequence inside items ∷ after) ≤ 2 ^ 63
+    → ((root_over page_size items).numbers ≤ 2 ^ 63 → IsHeldBelow page_size most (root_over page_size items))
+    → IsHeldBelow page_size most (stored_bucket page_size key sequence inside items) × (numbers_of after ≤ 2 ^ 63)
+stored_held page_size most key sequence inside items after true e room root = rw e (inline_held page_size most key _ true, omega arith)
+stored_held page_size most key sequence inside items after false e room root =
+    let within : (root_over page_size items).numbers + numbers_of after ≤ 2 ^ 63 = rw e at room in
+    rw e (bucket_held page_size most key sequence (root_over page_size items) (root (omega arith)), omega arith)
+
+-- each item, where no path below is longer than so many parts more
+tree_held : (page_size deep : ℕ) (path : Path) (tree : Tree) → 64 ≤ page_size → numbers_of (items_of page_size tree) ≤ 2 ^ 63 → longest (listing_below path tree) ≤ length path + deep
+    → AllByRecursion (IsHeldBelow page_size (4 * page_size * deep)) (items_of page_size tree)
+tree_held page_size deep path end low room short = tt
+tree_held page_size deep path (with_value key value after) low room short =
+    (inline_held page_size _ key value false, tree_held page_size deep path after low (omega arith) (omega arith))
+tree_held page_size zero path (with_bucket key sequence inside after) low room short =
+    let l = length-append path (key ∷ []) in absurd (omega arith)
+tree_held page_size (suc deep) path (with_bucket key sequence inside after) low room short =
+    let l = length-append path (key ∷ []) in
+    let both = longest-append (listing_below (path ++ key ∷ []) inside) (listing_below path after) in
+    let items : List (Laid LeafElement) = items_of page_size inside in
+    let more : 4 * page_size * suc deep ≡ 4 * page_size * deep + 4 * page_size = omega arith in
+    let root : (root_over page_size items).numbers ≤ 2 ^ 63 → IsHeldBelow page_size (4 * page_size * suc deep) (root_over page_size items) =
+    λ within. (
+    let numbers = items_numbers page_size items in
+    let below = tree_held page_size deep (path ++ key ∷ []) inside low (omega arith) (omega arith) in
+    weaker page_size _ _ (root_over page_size items) (omega arith) (root_held page_size (4 * page_size * deep) items low below within)
+    ) in
+    let (one, rest) = stored_held page_size (4 * page_size * suc deep) key sequence inside items (items_of page_size after) (is_inline page_size inside items) refl room root in
+    (one, tree_held page_size (suc deep) path after low rest (omega arith))
+
+whole_held : (page_size : ℕ) (tree : Tree) → 64 ≤ page_size → (root_of page_size tree).numbers ≤ 2 ^ 63 → IsHeldBelow page_size (most_held page_size (listing_of tree)) (root_of page_size tree)
+unfolding root_of
+whole_held page_size tree low room =
+    let items : List (Laid LeafElement) = items_of page_size tree in
+    let numbers = items_numbers page_size items in
+    let deep : ℕ = longest (listing_of tree) in
+    let below = tree_held page_size deep [] tree low (omega arith) (omega arith) in
+    let more : 4 * page_size * (1 + deep) ≡ 4 * page_size * deep + 4 * page_size = omega arith in
+    weaker page_size _ _ (root_over page_size items) (omega arith) (root_held page_size (4 * page_size * deep) items low below room)
+
+held_bounded : (page_size : ℕ) (tree : Tree) → 64 ≤ page_size → (root_of page_size tree).numbers ≤ 2 ^ 63 → (root_of page_size tree).held ≤ most_held page_size (listing_of tree)
+held_bounded page_size tree low room = (whole_held page_size tree low room).few
+
+held_small : (page_size : ℕ) (tree : Tree) → 64 ≤ page_size → (root_of page_size tree).numbers ≤ 2 ^ 63 → (root_of page_size tree).held ≤ (root_of page_size tree).numbers * page_size
+held_small page_size tree low room = (whole_held page_size tree low room).small
+
+-- of a layout of fewer than 2^63 bytes
+layout_small : (page_size : ℕ) (tree : Tree) (sequence : ℕ) → IsPageSize page_size → IsStorable tree → length (layout_of page_size tree sequence) < 2 ^ 63
+    → (64 ≤ page_size) × ((root_of page_size tree).numbers ≤ 2 ^ 63) × ((root_of page_size tree).numbers * page_size ≤ length (layout_of page_size tree sequence))
+layout_small page_size tree sequence size storable short =
+    let exact = layout_length page_size tree sequence size storable in
+    let bounds = size_bounds page_size size in
+    let wide : layout_mark page_size tree * 1 ≤ layout_mark page_size tree * page_size = mul-le-mul_left (layout_mark page_size tree) (omega arith) in
+    let below : (root_of page_size tree).numbers * page_size ≤ layout_mark page_size tree * page_size = mul-le-mul_right page_size (omega arith) in
+    (omega arith, omega arith, omega arith)
+
+pub layout_bounded : (page_size : ℕ) (tree : Tree) (sequence : ℕ) → IsPageSize page_size → IsStorable tree → length (layout_of page_size tree sequence) < 2 ^ 63
+    → layout_held page_size tree ≤ most_held page_size (listing_of tree)
+layout_bounded page_size tree sequence size storable short =
+    let (low, room, bytes) = layout_small page_size tree sequence size storable short in held_bounded page_size tree low room
+
+pub layout_fewer : (page_size : ℕ) (tree : Tree) (sequence : ℕ) → IsPageSize page_size → IsStorable tree → length (layout_of page_size tree sequence) < 2 ^ 63
+    → layout_held page_size tree ≤ length (layout_of page_size tree sequence)
+layout_fewer page_size tree sequence size storable short =
+    let (low, room, bytes) = layout_small page_size tree sequence size storable short in
+    let small = held_small page_size tree low room in omega arith

@@ -1,0 +1,46 @@
+-- What an order of keys says of a row of items.
+use Rattle.std.proofs.Common.{◌≡◌, inl, inr, true, false, List, [], ◌∷◌, ◌++◌, Option, None, Some, refl}
+use Rattle.std.specs.List.{AllByRecursion}
+use Rattle.std.proofs.lemmas.Bool.{cases_Bool}
+use Rattle.bolt_format.specs.Elements.{LeafElement}
+use Rattle.bolt_check.specs.Keys.{Key, is_above, is_below, is_from, key_lt, keys_order_fault}
+use Rattle.bolt_check.proofs.KeyLaws.{lt_strict}
+use Rattle.bolt_layout.proofs.ListLemmas.{all_split}
+use Rattle.bolt_layout.specs.Laid.{Laid}
+
+-- a key that is below another is not above it
+pub lt_not : (a b : Key) → key_lt a b ≡ true → key_lt b a ≡ false
+lt_not a b h = elim (cases_Bool (key_lt b a)) [ inl t ↦ absurd (lt_strict a b h t) | inr f ↦ f ]
+
+pub lt_irreflexive : (a : Key) → key_lt a a ≡ false
+lt_irreflexive a = elim (cases_Bool (key_lt a a)) [ inl t ↦ absurd (lt_strict a a t t) | inr f ↦ f ]
+
+-- items whose keys rise
+abbrev pub IsBelowItem : Laid LeafElement → Laid LeafElement → Type 0
+IsBelowItem x y = key_lt x.key y.key ≡ true
+
+abbrev pub Rise : List (Laid LeafElement) → Type 0
+Rise [] = Unit {0}
+Rise (x ∷ xs) = AllByRecursion (IsBelowItem x) xs × Rise xs
+
+abbrev pub AreBelow : List (Laid LeafElement) → List (Laid LeafElement) → Type 0
+AreBelow xs ys = AllByRecursion (λ x. AllByRecursion (IsBelowItem x) ys) xs
+
+pub rise_split : (xs ys : List (Laid LeafElement)) → Rise (xs ++ ys) → Rise xs × Rise ys × AreBelow xs ys
+rise_split [] ys h = (tt, h, tt)
+rise_split (x ∷ xs) ys h =
+    let first = all_split (IsBelowItem x) xs ys h.0 in
+    let rest = rise_split xs ys h.1 in
+    ((first.0, rest.0), rest.1, (first.1, rest.2))
+
+-- items whose keys are within bounds, and above one
+abbrev pub IsWithin : Option Key → Option Key → Laid LeafElement → Type 0
+IsWithin lower upper x = (is_from lower x.key ≡ true) × (is_below upper x.key ≡ true)
+
+abbrev pub IsAbove : Option Key → Laid LeafElement → Type 0
+IsAbove before x = is_above before x.key ≡ true
+
+-- one key that passes
+pub key_step : (before lower upper : Option Key) (key : Key) (keys : List Key) → is_above before key ≡ true → is_from lower key ≡ true → is_below upper key ≡ true
+    → keys_order_fault (Some key) lower upper keys ≡ None → keys_order_fault before lower upper (key ∷ keys) ≡ None
+key_step before lower upper key keys a b c rest = rw (a, b, c, rest) refl

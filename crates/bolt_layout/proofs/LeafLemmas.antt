@@ -1,0 +1,178 @@
+-- The elements of a leaf page that was written are read back, and pass their tests.
+use Rattle.std.proofs.Common.{◌≡◌, ◌∙◌, ℕ, suc, ◌+◌, ◌-◌, ◌*◌, ◌^◌, ◌<◌, ◌≤◌, ◌==◌, nat_lt, Bool, true, false, cond, List, [], ◌∷◌, ◌++◌, length, map, drop, take, Option, None, refl, sym, ap, arith, append_assoc, add-one}
+use Rattle.std.specs.List.{AllByRecursion, range_with_len, slice_range}
+use Rattle.std.proofs.lemmas.Bool.{le-ltb, ne_eqb}
+use Rattle.std.proofs.lemmas.List.{length-append}
+use Rattle.bolt_format.specs.Elements.{LeafElement, leaf_elements, leaves_fault, table_fault, data_fault, element_at, faults_from, is_bucket_at, key_length_fault, leaf_element, leaf_end, leaf_fault, leaf_flags, leaf_flags_fault, leaf_key_length, leaf_key_start, leaf_value, leaf_value_length, leaf_value_start, plain_leaf_fault, value_length_fault}
+use Rattle.bolt_format.proofs.FaultLemmas.{first_of-both}
+use Rattle.bolt_layout.specs.PageBytes.{number_bytes, leaf_bytes, leaf_flag, leaf_header, leaf_headers, leaf_data, key_pos}
+use Rattle.bolt_layout.proofs.NumberLemmas.{length-number_bytes, number_read, number_next, part_next, part_read, part_within}
+
+-- an element whose numbers pass the tests
+pub record IsLeafFit (bucket_fault : List ℕ → Option ℕ) (e : LeafElement) : Type 0 where
+  pub some : 1 ≤ length e.key
+  pub key : length e.key ≤ 0x40000000
+  pub value : length e.value ≤ 0x7FFFFFFE
+  pub bucket : e.is_bucket ≡ true → bucket_fault e.value ≡ None
+
+-- the numbers of element i
+record IsLeafHead (bytes : List ℕ) (i pos : ℕ) (e : LeafElement) : Type 0 where
+  pub flags : leaf_flags bytes i ≡ leaf_flag e.is_bucket
+  pub start : leaf_key_start bytes i ≡ element_at i + pos
+  pub key : leaf_key_length bytes i ≡ length e.key
+  pub value : leaf_value_length bytes i ≡ length e.value
+
+flag_small : (b : Bool) → leaf_flag b < 256 ^ 4
+flag_small true = omega arith
+flag_small false = omega arith
+
+-- the header's four numbers
+leaf_head : (bytes rest : List ℕ) (i pos : ℕ) (e : LeafElement) → drop (element_at i) bytes ≡ leaf_header pos e ++ rest
+    → pos < 0x100000000 → length e.key ≤ 0x40000000 → length e.value ≤ 0x7FFFFFFE
+    → IsLeafHead bytes i pos e × (drop (element_at (suc i)) bytes ≡ rest)
+unfolding leaf_header leaf_flags leaf_key_start leaf_key_length leaf_value_length
+leaf_head bytes rest i pos e h small key value =
+    let d0 : drop (element_at i) bytes ≡ number_bytes 4 (leaf_flag e.is_bucket) ++ (number_bytes 4 pos ++ (number_bytes 4 (length e.key) ++ (number_bytes 4 (length e.value) ++ rest))) = h ∙ simp append_assoc in
+    let d1 = number_next bytes _ (element_at i) 4 (leaf_flag e.is_bucket) (element_at i + 4) d0 refl in
+    let d2 = number_next bytes _ (element_at i + 4) 4 pos (element_at i + 8) d1 (omega arith) in
+    let d3 = number_next bytes _ (element_at i + 8) 4 (length e.key) (element_at i + 12) d2 (omega arith) in
+    let d4 = number_next bytes rest (element_at i + 12) 4 (length e.value) (element_at (suc i)) d3 (omega arith) in (
+      record {
+        flags = number_read bytes _ (element_at i) 4 (leaf_flag e.is_bucket) d0 (flag_small e.is_bucket);
+        start = ap (λ (n : ℕ). element_at i + n) (number_read bytes _ (element_at i + 4) 4 pos d1 (omega arith));
+        key = number_read bytes _ (element_at i + 8) 4 (length e.key) d2 (omega arith);
+        value = number_read bytes _ (element_at i + 12) 4 (length e.value) d3 (omega arith);
+      },
+      d4,
+    )
+
+-- its tests
+flags_pass : (b : Bool) → leaf_flags_fault (leaf_flag b) ≡ None
+flags_pass true = refl
+flags_pass false = refl
+
+flag_bucket : (b : Bool) → (leaf_flag b == 1) ≡ b
+flag_bucket true = refl
+flag_bucket false = refl
+
+pub key_passes : (n : ℕ) → 1 ≤ n → n ≤ 0x40000000 → key_length_fault n ≡ None
+key_passes n some most =
+    let a : (n == 0) ≡ false = ne_eqb n 0 (λ e. omega arith) in
+    let b : nat_lt 0x40000000 n ≡ false = le-ltb 0x40000000 n most in
+    rw (a, b) refl
+
+value_passes : (n : ℕ) → n ≤ 0x7FFFFFFE → value_length_fault n ≡ None
+value_passes n most = let b : nat_lt 0x7FFFFFFE n ≡ false = le-ltb 0x7FFFFFFE n most in rw b refl
+
+pub data_passes : (bytes : List ℕ) (free start end : ℕ) → free ≤ start → end ≤ length bytes → data_fault bytes free start end ≡ None
+data_passes bytes free start end first last =
+    let a : nat_lt start free ≡ false = le-ltb start free first in
+    let b : nat_lt (length bytes) end ≡ false = le-ltb (length bytes) end last in
+    rw (a, b) refl
+
+chosen_none : (b : Bool) (fault : Option ℕ) → (b ≡ true → fault ≡ None) → cond b fault None ≡ None
+chosen_none true fault h = h refl
+chosen_none false fault h = refl
+
+-- What is known of element i: it is e, its data ends there, and behind `free` it passes.
+record IsLeafRead (bucket_fault : List ℕ → Option ℕ) (bytes : List ℕ) (i end : ℕ) (e : LeafElement) : Type 0 where
+  pub element : leaf_element bytes i ≡ e
+  pub ends : leaf_end bytes i ≡ end
+  pub passes : (free : ℕ) → free ≤ leaf_key_start bytes i → leaf_fault bucket_fault bytes free i ≡ None
+
+same_leaf : (a b : LeafElement) → a.key ≡ b.key → a.value ≡ b.value → a.is_bucket ≡ b.is_bucket → a ≡ b
+same_leaf a b p q r =
+    let f : List ℕ → List ℕ → Bool → LeafElement = λ x y z. record { key = x; value = y; is_bucket = z } in
+    ap (λ (x : List ℕ). f x a.value a.is_bucket) p ∙ (ap (λ (y : List ℕ). f b.key y a.is_bucket) q ∙ ap (f b.key b.value) r)
+
+leaf_read : (bucket_fault : List ℕ → Option ℕ) (bytes rest : List ℕ) (i pos : ℕ) (e : LeafElement) → IsLeafHead bytes i pos e → IsLeafFit bucket_fault e
+    → drop (element_at i + pos) bytes ≡ e.key ++ (e.value ++ rest) → element_at i + pos ≤ length bytes
+    → IsLeafRead bucket_fault bytes i (element_at i + pos + (length e.key + length e.value)) e
+unfolding plain_leaf_fault
+leaf_read bucket_fault bytes rest i pos e head fit text within =
+    let start = head.start in
+    let middle : leaf_value_start bytes i ≡ element_at i + pos + length e.key = ap (λ (n : ℕ). n + leaf_key_length bytes i) head.start ∙ ap (λ (n : ℕ). element_at i + pos + n) head.key in
+    let end : leaf_end bytes i ≡ element_at i + pos + (length e.key + length e.value) = let a = middle in let b = head.value in omega arith in
+    let behind : drop (element_at i + pos + length e.key) bytes ≡ e.value ++ rest = part_next bytes e.key (e.value ++ rest) (element_at i + pos) _ text refl in
+    let key_within = part_within bytes e.key (e.value ++ rest) (element_at i + pos) text within in
+    let value_within = part_within bytes e.value rest (element_at i + pos + length e.key) behind key_within in
+    let key : slice_range bytes (leaf_key_start bytes i) (leaf_value_start bytes i) ≡ e.key =
+    ap (λ (n : ℕ). take (leaf_value_start bytes i - leaf_key_start bytes i) (drop n bytes)) start ∙ part_read bytes e.key (e.value ++ rest) (element_at i + pos) (leaf_value_start bytes i - leaf_key_start bytes i) text (let k = head.key in omega arith) in
+    let value : leaf_value bytes i ≡ e.value =
+    ap (λ (n : ℕ). take (leaf_end bytes i - leaf_value_start bytes i) (drop n bytes)) middle ∙ part_read bytes e.value rest (element_at i + pos + length e.key) (leaf_end bytes i - leaf_value_start bytes i) behind (let k = head.value in omega arith) in
+    let bucket : is_bucket_at bytes i ≡ e.is_bucket = ap (λ (n : ℕ). n == 1) head.flags ∙ flag_bucket e.is_bucket in
+    record {
+      element = same_leaf (leaf_element bytes i) e key value bucket;
+      ends = end;
+      passes = λ free before.
+          first_of-both (plain_leaf_fault bytes free i) _
+          (first_of-both (leaf_flags_fault (leaf_flags bytes i)) _ (ap leaf_flags_fault head.flags ∙ flags_pass e.is_bucket)
+          (first_of-both (key_length_fault (leaf_key_length bytes i)) _ (ap key_length_fault head.key ∙ key_passes (length e.key) fit.some fit.key)
+          (first_of-both (value_length_fault (leaf_value_length bytes i)) _ (ap value_length_fault head.value ∙ value_passes (length e.value) fit.value)
+          (data_passes bytes free (leaf_key_start bytes i) (leaf_end bytes i) before (omega arith)))))
+          (chosen_none (is_bucket_at bytes i) (bucket_fault (leaf_value bytes i)) (λ h. ap bucket_fault value ∙ fit.bucket (sym bucket ∙ h)));
+    }
+
+pub length-leaf_header : (pos : ℕ) (e : LeafElement) → length (leaf_header pos e) ≡ 16
+unfolding leaf_header
+length-leaf_header pos e =
+    let a = length-number_bytes 4 (leaf_flag e.is_bucket) in
+    let b = length-number_bytes 4 pos in
+    let c = length-number_bytes 4 (length e.key) in
+    let d = length-number_bytes 4 (length e.value) in
+    simp length-append (omega (arith, a, b, c, d))
+
+pub length-leaf_headers : (before : ℕ) (es : List LeafElement) → length (leaf_headers before es) ≡ 16 * length es
+length-leaf_headers before [] = refl
+length-leaf_headers before (e ∷ es) =
+    let h = length-leaf_header (key_pos (e ∷ es) before) e in
+    let r = length-leaf_headers (before + (length e.key + length e.value)) es in
+    length-append (leaf_header (key_pos (e ∷ es) before) e) (leaf_headers (before + (length e.key + length e.value)) es) ∙ omega arith
+
+-- Elements es from number i on, where those before them have this much data: they are read, and pass.
+leaf_run : (bucket_fault : List ℕ → Option ℕ) (bytes : List ℕ) (es : List LeafElement) (i before free : ℕ) (tail rest : List ℕ)
+    → drop (element_at i) bytes ≡ leaf_headers before es ++ tail
+    → drop (element_at (i + length es) + before) bytes ≡ leaf_data es ++ rest
+    → AllByRecursion (IsLeafFit bucket_fault) es
+    → 16 * length es + (before + length (leaf_data es)) < 0x100000000
+    → element_at (i + length es) + before ≤ length bytes
+    → free ≤ element_at (i + length es) + before
+    → (map (leaf_element bytes) (range_with_len i (length es)) ≡ es) × (faults_from (leaf_fault bucket_fault bytes) (leaf_end bytes) free i (length es) ≡ None)
+leaf_run bucket_fault bytes [] i before free tail rest heads text fits small within first = (refl, refl)
+leaf_run bucket_fault bytes (e ∷ es) i before free tail rest heads text fits small within first =
+    let pos : ℕ = key_pos (e ∷ es) before in
+    let fit : IsLeafFit bucket_fault e = fits.0 in
+    let regrouped : drop (element_at i) bytes ≡ leaf_header pos e ++ (leaf_headers (before + (length e.key + length e.value)) es ++ tail) = heads ∙ append_assoc (leaf_header pos e) _ tail in
+    let data_length : length (leaf_data (e ∷ es)) ≡ length e.key + (length e.value + length (leaf_data es)) = length-append e.key (e.value ++ leaf_data es) ∙ ap (λ (n : ℕ). length e.key + n) (length-append e.value (leaf_data es)) in
+    let head = leaf_head bytes _ i pos e regrouped (omega arith) fit.key fit.value in
+    let place : element_at (i + length (e ∷ es)) + before ≡ element_at i + pos = omega arith in
+    let here : drop (element_at i + pos) bytes ≡ e.key ++ (e.value ++ (leaf_data es ++ rest)) =
+    ap (λ (n : ℕ). drop n bytes) (sym place) ∙ (text ∙ (append_assoc e.key (e.value ++ leaf_data es) rest ∙ ap (λ (xs : List ℕ). e.key ++ xs) (append_assoc e.value (leaf_data es) rest))) in
+    let one = leaf_read bucket_fault bytes (leaf_data es ++ rest) i pos e head.0 fit here (omega arith) in
+    let behind_key = part_next bytes e.key (e.value ++ (leaf_data es ++ rest)) (element_at i + pos) (element_at i + pos + length e.key) here refl in
+    let within_key = part_within bytes e.key (e.value ++ (leaf_data es ++ rest)) (element_at i + pos) here (omega arith) in
+    let within_value = part_within bytes e.value (leaf_data es ++ rest) (element_at i + pos + length e.key) behind_key within_key in
+    let behind : drop (element_at (suc i + length es) + (before + (length e.key + length e.value))) bytes ≡ leaf_data es ++ rest =
+    part_next bytes e.value (leaf_data es ++ rest) (element_at i + pos + length e.key) _ behind_key (omega arith) in
+    let ends = one.ends in
+    let more = leaf_run bucket_fault bytes es (suc i) (before + (length e.key + length e.value)) (leaf_end bytes i) tail rest head.1 behind fits.1 (omega arith) (omega arith) (omega arith) in
+    let start = head.0.start in
+    let elements : map (leaf_element bytes) (range_with_len (i + 1) (length es)) ≡ es = ap (λ (k : ℕ). map (leaf_element bytes) (range_with_len k (length es))) (add-one i) ∙ more.0 in (
+      ap (λ (x : LeafElement). x ∷ map (leaf_element bytes) (range_with_len (i + 1) (length es))) one.element ∙ ap (λ (xs : List LeafElement). e ∷ xs) elements,
+      first_of-both (leaf_fault bucket_fault bytes free i) _ (one.passes free (omega arith)) more.1,
+    )
+
+-- the elements of a leaf page behind a header
+pub leaves_written : (bucket_fault : List ℕ → Option ℕ) (bytes : List ℕ) (es : List LeafElement) (rest : List ℕ)
+    → drop 16 bytes ≡ leaf_bytes es ++ rest → 16 ≤ length bytes → AllByRecursion (IsLeafFit bucket_fault) es
+    → 16 * length es + length (leaf_data es) < 0x100000000
+    → (leaf_elements bytes (length es) ≡ es) × (leaves_fault bucket_fault bytes (length es) ≡ None)
+unfolding leaf_bytes leaf_elements leaves_fault
+leaves_written bucket_fault bytes es rest h within fits small =
+    let heads : drop (element_at 0) bytes ≡ leaf_headers 0 es ++ (leaf_data es ++ rest) = h ∙ append_assoc (leaf_headers 0 es) (leaf_data es) rest in
+    let long = length-leaf_headers 0 es in
+    let table = part_within bytes (leaf_headers 0 es) (leaf_data es ++ rest) 16 heads within in
+    let text : drop (element_at (0 + length es) + 0) bytes ≡ leaf_data es ++ rest = part_next bytes (leaf_headers 0 es) (leaf_data es ++ rest) 16 _ heads (omega arith) in
+    let run = leaf_run bucket_fault bytes es 0 0 (element_at (length es)) (leaf_data es ++ rest) rest heads text fits (omega arith) (omega arith) (omega arith) in
+    let room : nat_lt (length bytes) (element_at (length es)) ≡ false = le-ltb (length bytes) (element_at (length es)) (omega arith) in
+    (run.0, first_of-both (table_fault bytes (length es)) _ (rw room refl) run.1)

@@ -1,0 +1,28 @@
+mod Beginnings
+mod BranchPages
+mod FileTrees
+mod Holding
+mod KeyLaws
+mod LaidItems
+mod LaidPages
+mod LeafPages
+mod Parts
+mod Showing
+mod SoundCopies
+mod Soundness
+mod TreeItems
+mod WorkedBytes
+mod WorkedLayouts
+pub mod BranchLemmas
+pub mod Cutting
+pub mod LeafLemmas
+pub mod ListLemmas
+pub mod MetaLemmas
+pub mod NumberLemmas
+pub mod OneCut
+pub mod OverRows
+pub mod PageLemmas
+pub mod PageRows
+pub mod SpanLemmas
+pub mod Tops
+mod HeldBounds

@@ -1,0 +1,223 @@
+-- The root page over a row of leaf items: a leaf page, or a branch page over pages that stand over pieces of the row.
+use Rattle.std.proofs.Common.{◌≡◌, ◌∙◌, ℕ, zero, suc, ◌+◌, ◌*◌, ◌^◌, ◌<◌, ◌≤◌, List, [], ◌∷◌, ◌++◌, length, map, flat_map, refl, sym, ap, subst, inl, inr, arith, append_assoc, sum_by}
+use Rattle.std.specs.List.{AllByRecursion}
+use Rattle.std.proofs.Math.Nat.{mul-le-mul_right, pow-suc, suc-mul}
+use Rattle.std.proofs.lemmas.Bool.{cases_lt}
+use Rattle.std.proofs.lemmas.List.{append-nil, length-map}
+use Rattle.std.proofs.lemmas.List.Sums.{sum_by-cons}
+use Rattle.bolt_format.specs.Elements.{BranchElement, LeafElement}
+use Rattle.bolt_format.specs.Pages.{PageView}
+use Rattle.bolt_layout.specs.Cut.{cut_of, max_items, run_size}
+use Rattle.bolt_layout.specs.Divisions.{IsDivided, IsPageRun}
+use Rattle.bolt_layout.proofs.Cutting.{cut_divides, cut_halves}
+use Rattle.bolt_layout.proofs.ListLemmas.{all_split}
+use Rattle.bolt_layout.specs.Laid.{Laid, numbers_of, size_of}
+use Rattle.bolt_layout.specs.Levels.{branch_view, leaf_level, leaf_view, next_level, page_over, root_over, top_in}
+
+abbrev pub Over : Type 1
+Over = Laid BranchElement → List (Laid LeafElement) → Type 0
+
+-- pages over one piece of the row after another, none of them empty
+abbrev pub Pieces : Over → List (Laid BranchElement) → List (Laid LeafElement) → Type 0
+Pieces over [] leaves = leaves ≡ []
+Pieces over (page ∷ pages) leaves = (first : Laid LeafElement) × (front back : List (Laid LeafElement)) × (leaves ≡ first ∷ (front ++ back))
+    × over page (first ∷ front) × Pieces over pages back
+
+-- a run that has room on a page
+pub record IsRun {E : Type 0} (run : List (Laid E)) : Type 0 where
+  pub few : length run ≤ max_items
+  pub small : run_size size_of run < 0x100000000
+
+abbrev pub IsOver : (page_size height : ℕ) → Over
+IsOver page_size zero page leaves = (page ≡ page_over leaf_view page_size leaves) × IsRun leaves
+IsOver page_size (suc height) page leaves = (first : Laid BranchElement) × (kids : List (Laid BranchElement)) × (page ≡ page_over branch_view page_size (first ∷ kids))
+    × IsRun (first ∷ kids) × Pieces (IsOver page_size height) (first ∷ kids) leaves
+
+-- Pieces of a list, and the first of them.
+pub pieces_split : (over : Over) (xs ys : List (Laid BranchElement)) (leaves : List (Laid LeafElement)) → Pieces over (xs ++ ys) leaves
+    → (front back : List (Laid LeafElement)) × (leaves ≡ front ++ back) × Pieces over xs front × Pieces over ys back
+pieces_split over [] ys leaves h = ([], leaves, refl, refl, h)
+pieces_split over (x ∷ xs) ys leaves h =
+    let (first, one, rest, e, o, more) = h in
+    let (front, back, e2, a, b) = pieces_split over xs ys rest more in
+    (first ∷ (one ++ front), back, e ∙ ap (λ (r : List (Laid LeafElement)). first ∷ r) (ap (λ (r : List (Laid LeafElement)). one ++ r) e2 ∙ sym (append_assoc one front back)), (first, one, front, refl, o, a), b)
+
+pub over_key : (page_size height : ℕ) (page : Laid BranchElement) (x : Laid LeafElement) (leaves : List (Laid LeafElement)) → IsOver page_size height page (x ∷ leaves) → page.key ≡ x.key
+over_key page_size zero page x leaves (e, run) = ap (λ (p : Laid BranchElement). p.key) e
+over_key page_size (suc height) page x leaves h =
+    let (kid, kids, e, run, pieces) = h in
+    let (first, front, back, e2, o, more) = pieces in
+    let same : x ≡ first = cc in
+    ap (λ (p : Laid BranchElement). p.key) e ∙ (over_key page_size height kid first front o ∙ ap (λ (i : Laid LeafElement). i.key) (sym same))
+
+pub over_size : (page_size height : ℕ) (page : Laid BranchElement) (leaves : List (Laid LeafElement)) → IsOver page_size height page leaves → page.size ≡ 16 + length page.key
+over_size page_size zero page leaves (e, run) =
+    ap (λ (p : Laid BranchElement). p.size) e ∙ ap (λ (p : Laid BranchElement). 16 + length p.key) (sym e)
+over_size page_size (suc height) page leaves h =
+    let (kid, kids, e, run, pieces) = h in
+    ap (λ (p : Laid BranchElement). p.size) e ∙ ap (λ (p : Laid BranchElement). 16 + length p.key) (sym e)
+
+-- keys that the format allows
+abbrev pub HasShortKey : Laid LeafElement → Type 0
+HasShortKey item = length item.key ≤ 0x40000000
+
+abbrev pub IsAtMost : {E : Type 0} → ℕ → Laid E → Type 0
+IsAtMost bound item = item.size ≤ bound
+
+pieces_small : (page_size height : ℕ) (pages : List (Laid BranchElement)) (leaves : List (Laid LeafElement)) → Pieces (IsOver page_size height) pages leaves
+    → AllByRecursion HasShortKey leaves → AllByRecursion (IsAtMost 0x40000010) pages
+pieces_small page_size height [] leaves h keys = tt
+pieces_small page_size height (page ∷ pages) leaves h keys =
+    let (first, front, back, e, o, more) = h in
+    let keys2 : AllByRecursion HasShortKey (first ∷ (front ++ back)) = subst (AllByRecursion HasShortKey) e keys in
+    let rest = (all_split HasShortKey front back keys2.1).1 in
+    let short : length first.key ≤ 0x40000000 = keys2.0 in
+    let same : length page.key ≡ length first.key = ap (λ (k : List ℕ). length k) (over_key page_size height page first front o) in
+    let size = over_size page_size height page (first ∷ front) o in
+    (omega arith, pieces_small page_size height pages back more rest)
+
+sum_at_most : {E : Type 0} (bound : ℕ) (run : List (Laid E)) → AllByRecursion (IsAtMost bound) run → sum_by size_of run ≤ length run * bound
+sum_at_most bound [] h = omega arith
+sum_at_most {E = E} bound (x ∷ run) h =
+    let more = sum_at_most bound run h.1 in
+    let one : x.size ≤ bound = h.0 in
+    let e = sum_by-cons (size_of {E = E}) x run in
+    let f : suc (length run) * bound ≡ bound + length run * bound = suc-mul (length run) bound ∙ omega arith in omega arith
+
+-- A run that a page can hold, of items that are not too large, has room on its page.
+run_of : {E : Type 0} (page_size wide bound : ℕ) (run : List (Laid E)) → page_size < 0x100000000 → 16 + wide * bound < 0x100000000
+    → IsPageRun page_size wide size_of run → AllByRecursion (IsAtMost bound) run → IsRun run
+run_of page_size wide bound run small room is sizes = record {
+  few = is.capped;
+  small = elim (cases_lt wide (length run)) [
+    | inl many ↦ (let fits = is.fits many in omega arith)
+    | inr few ↦
+        (let a = sum_at_most bound run sizes in
+        let b : length run * bound ≤ wide * bound = mul-le-mul_right bound few in omega arith)
+  ];
+}
+
+-- The leaf pages over a row of items that is divided.
+pub leaves_over : (page_size : ℕ) (runs : List (List (Laid LeafElement))) (leaves : List (Laid LeafElement)) → page_size < 0x100000000
+    → flat_map (λ run. run) runs ≡ leaves → AllByRecursion (IsPageRun page_size 1 size_of) runs → AllByRecursion (IsAtMost 0xFFFFFFEF) leaves
+    → Pieces (IsOver page_size 0) (map (page_over leaf_view page_size) runs) leaves
+leaves_over page_size [] leaves small whole each sizes = sym whole
+leaves_over page_size ([] ∷ runs) leaves small whole each sizes = absurd (let is : IsPageRun page_size 1 size_of [] = each.0 in let some = is.some in omega arith)
+leaves_over page_size ((first ∷ front) ∷ runs) leaves small whole each sizes =
+    let back : List (Laid LeafElement) = flat_map (λ run. run) runs in
+    let both = all_split (IsAtMost 0xFFFFFFEF) (first ∷ front) back (subst (AllByRecursion (IsAtMost 0xFFFFFFEF)) (sym whole) sizes) in
+    let fits = run_of page_size 1 0xFFFFFFEF (first ∷ front) small (omega arith) each.0 both.0 in
+    (first, front, back, sym whole, (refl, fits), leaves_over page_size runs back small refl each.1 both.1)
+
+pub pieces_first : (over : Over) (page : Laid BranchElement) (pages : List (Laid BranchElement)) (leaves : List (Laid LeafElement)) → Pieces over (page ∷ pages) leaves
+    → (first : Laid LeafElement) × (rest : List (Laid LeafElement)) × (leaves ≡ first ∷ rest)
+pieces_first over page pages leaves h = let (first, front, back, e, o, more) = h in (first, front ++ back, e)
+
+-- a branch page over pages
+branch_over : (page_size height : ℕ) (first : Laid BranchElement) (run : List (Laid BranchElement)) (leaves : List (Laid LeafElement)) (x : Laid LeafElement) (rest : List (Laid LeafElement))
+    → IsRun (first ∷ run) → Pieces (IsOver page_size height) (first ∷ run) leaves → leaves ≡ x ∷ rest
+    → IsOver page_size (suc height) (page_over branch_view page_size (first ∷ run)) (x ∷ rest)
+branch_over page_size height first run leaves x rest fits pieces e =
+    (first, run, refl, fits, subst (Pieces (IsOver page_size height) (first ∷ run)) e pieces)
+
+-- The branch pages over a row of pages that is divided.
+pub branches_over : (page_size height : ℕ) (runs : List (List (Laid BranchElement))) (kids : List (Laid BranchElement)) (leaves : List (Laid LeafElement))
+    → page_size < 0x100000000 → flat_map (λ run. run) runs ≡ kids → AllByRecursion (IsPageRun page_size 3 size_of) runs
+    → AllByRecursion (IsAtMost 0x40000010) kids → Pieces (IsOver page_size height) kids leaves
+    → Pieces (IsOver page_size (suc height)) (map (page_over branch_view page_size) runs) leaves
+branches_over page_size height [] kids leaves small whole each sizes pieces = subst (λ (r : List (Laid BranchElement)). Pieces (IsOver page_size height) r leaves) (sym whole) pieces
+branches_over page_size height ([] ∷ runs) kids leaves small whole each sizes pieces =
+    absurd (let is : IsPageRun page_size 3 size_of [] = each.0 in let some = is.some in omega arith)
+branches_over page_size height ((first ∷ run) ∷ runs) kids leaves small whole each sizes pieces =
+    let others : List (Laid BranchElement) = flat_map (λ run. run) runs in
+    let pieces2 = subst (λ (r : List (Laid BranchElement)). Pieces (IsOver page_size height) r leaves) (sym whole) pieces in
+    let both = all_split (IsAtMost 0x40000010) (first ∷ run) others (subst (AllByRecursion (IsAtMost 0x40000010)) (sym whole) sizes) in
+    let (front, back, e, a, b) = pieces_split (IsOver page_size height) (first ∷ run) others leaves pieces2 in
+    let (x, rest, e2) = pieces_first (IsOver page_size height) first run front a in
+    let fits = run_of page_size 3 0x40000010 (first ∷ run) small (omega arith) each.0 both.0 in
+    let more = branches_over page_size height runs others back small refl each.1 both.1 b in
+    (x, rest, back, e ∙ ap (λ (r : List (Laid LeafElement)). r ++ back) e2, branch_over page_size height first run front x rest fits a e2, more)
+
+-- No page number is lost from level to level, and each page has one.
+pub numbers-append : {E : Type 0} (xs ys : List (Laid E)) → numbers_of (xs ++ ys) ≡ numbers_of xs + numbers_of ys
+numbers-append [] ys = omega arith
+numbers-append (x ∷ xs) ys = let ih = numbers-append xs ys in omega arith
+
+pub pages_count : {E : Type 0} (view : ℕ → List E → PageView) (page_size : ℕ) (runs : List (List (Laid E)))
+    → length runs ≤ numbers_of (map (page_over view page_size) runs)
+pages_count view page_size [] = omega arith
+pages_count view page_size (run ∷ runs) = let ih = pages_count view page_size runs in omega arith
+
+-- a row that has items is divided into runs
+pub runs_some : {E : Type 0} (runs : List (List (Laid E))) (items : List (Laid E)) → flat_map (λ run. run) runs ≡ items → 1 ≤ length items → 1 ≤ length runs
+runs_some {E = E} [] items whole some = let e = ap (λ (xs : List (Laid E)). length xs) whole in omega arith
+runs_some (run ∷ runs) items whole some = omega arith
+
+pub runs_numbers : {E : Type 0} (view : ℕ → List E → PageView) (page_size : ℕ) (runs : List (List (Laid E)))
+    → numbers_of (flat_map (λ run. run) runs) ≤ numbers_of (map (page_over view page_size) runs)
+runs_numbers view page_size [] = omega arith
+runs_numbers view page_size (run ∷ runs) =
+    let ih = runs_numbers view page_size runs in
+    let l = numbers-append run (flat_map (λ run. run) runs) in omega arith
+
+-- The page at the top, which stands over the whole row.
+record IsTopOver (page_size height wide numbers : ℕ) (top : Laid BranchElement) (leaves : List (Laid LeafElement)) : Type 0 where
+  levels : ℕ
+  few : (k : ℕ) → wide ≤ 2 ^ k → levels ≤ height + k
+  over : IsOver page_size levels top leaves
+  more : numbers ≤ top.numbers
+
+over_whole : (page_size height : ℕ) (page : Laid BranchElement) (leaves : List (Laid LeafElement)) → Pieces (IsOver page_size height) (page ∷ []) leaves → IsOver page_size height page leaves
+over_whole page_size height page leaves h =
+    let (first, front, back, e, o, none) = h in
+    let nil : back ≡ [] = none in
+    let same : leaves ≡ first ∷ front = e ∙ ap (λ (r : List (Laid LeafElement)). first ∷ r) (ap (λ (r : List (Laid LeafElement)). front ++ r) nil ∙ append-nil front) in
+    subst (IsOver page_size height page) (sym same) o
+
+-- half the pages, one level more
+fewer : (others next height levels : ℕ) → 2 * next ≤ suc (suc (suc others)) → ((k : ℕ) → next ≤ 2 ^ k → levels ≤ suc height + k)
+    → (k : ℕ) → suc (suc others) ≤ 2 ^ k → levels ≤ height + k
+fewer others next height levels half few zero most = absurd (omega arith)
+fewer others next height levels half few (suc k) most =
+    let double : 2 ^ suc k ≡ 2 * 2 ^ k = pow-suc 2 k ∙ omega arith in
+    let less = few k (omega arith) in omega arith
+
+top_fits : (page_size steps height : ℕ) (level : List (Laid BranchElement)) (leaves : List (Laid LeafElement)) → page_size < 0x100000000
+    → AllByRecursion HasShortKey leaves → Pieces (IsOver page_size height) level leaves
+    → 1 ≤ length level → length level ≤ suc steps → IsTopOver page_size height (length level) (numbers_of level) (top_in steps page_size level) leaves
+top_fits page_size steps height [] leaves small keys pieces some fuel = absurd (omega arith)
+top_fits page_size steps height (page ∷ []) leaves small keys pieces some fuel =
+    record { levels = height; few = λ k most. omega arith; over = over_whole page_size height page leaves pieces; more = omega arith }
+top_fits page_size zero height (page ∷ other ∷ level) leaves small keys pieces some fuel = absurd (omega arith)
+top_fits page_size (suc steps) height (page ∷ other ∷ level) leaves small keys pieces some fuel =
+    let pages : List (Laid BranchElement) = page ∷ other ∷ level in
+    let runs : List (List (Laid BranchElement)) = cut_of page_size 2 size_of pages in
+    let divided : IsDivided page_size 3 size_of pages runs = cut_divides page_size 2 3 size_of pages (omega arith) (omega arith) (omega arith) in
+    let half : 2 * length runs ≤ suc (length pages) = cut_halves page_size size_of pages in
+    let up = branches_over page_size height runs pages leaves small divided.whole divided.each (pieces_small page_size height pages leaves pieces keys) pieces in
+    let any = runs_some runs pages divided.whole (omega arith) in
+    let same = length-map runs (page_over branch_view page_size) in
+    let ih = top_fits page_size steps (suc height) (next_level page_size pages) leaves small keys up (omega arith) (omega arith) in
+    let numbers = runs_numbers branch_view page_size runs in
+    let all = ap (λ (r : List (Laid BranchElement)). numbers_of r) divided.whole in
+    let more = ih.more in
+    record { levels = ih.levels; few = fewer (length level) (length runs) height ih.levels half (λ k most. ih.few k (omega arith)); over = ih.over; more = omega arith }
+
+-- The root page of a bucket's items stands over them, and where it takes no more than 2^63 page numbers, at most 64 pages from its leaves.
+pub root_is_over : (page_size : ℕ) (items : List (Laid LeafElement)) → page_size < 0x100000000 → AllByRecursion HasShortKey items
+    → AllByRecursion (IsAtMost 0xFFFFFFEF) items
+    → (height : ℕ) × ((root_over page_size items).numbers ≤ 2 ^ 63 → height ≤ 63) × IsOver page_size height (root_over page_size items) items
+unfolding root_over
+root_is_over page_size [] small keys sizes = (0, λ room. omega arith, (refl, record { few = omega arith; small = omega arith }))
+root_is_over page_size (item ∷ items) small keys sizes =
+    let all : List (Laid LeafElement) = item ∷ items in
+    let runs : List (List (Laid LeafElement)) = cut_of page_size 1 size_of all in
+    let level : List (Laid BranchElement) = leaf_level page_size all in
+    let divided : IsDivided page_size 1 size_of all runs = cut_divides page_size 1 1 size_of all (omega arith) (omega arith) (omega arith) in
+    let pieces = leaves_over page_size runs all small divided.whole divided.each sizes in
+    let any = runs_some runs all divided.whole (omega arith) in
+    let same = length-map runs (page_over leaf_view page_size) in
+    let count = pages_count leaf_view page_size runs in
+    let top = top_fits page_size (length level) 0 level all small keys pieces (omega arith) (omega arith) in
+    let more = top.more in
+    (top.levels, λ room. top.few 63 (omega arith), top.over)

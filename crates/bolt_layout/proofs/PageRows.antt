@@ -1,0 +1,221 @@
+-- Pages in a row: each begins where the span of the one before it ends. In the file each shows what was written.
+use Rattle.std.proofs.Common.{◌≡◌, ◌∙◌, ◌⊎◌, ℕ, ◌+◌, ◌-◌, ◌*◌, ◌^◌, ◌/◌, ◌<◌, ◌≤◌, List, [], ◌∷◌, ◌++◌, length, drop, replicate, Some, refl, sym, ap, subst, inl, inr, arith, append_assoc}
+use Rattle.std.specs.List.{AllByRecursion}
+use Rattle.std.proofs.Math.Nat.{add-mul, div-add-mod', div-le_self, mod-lt}
+use Rattle.bolt_format.specs.Elements.{BranchElement, LeafElement, value_fault}
+use Rattle.bolt_format.specs.Pages.{PageView}
+use Rattle.bolt_format.specs.Headers.{kind_of}
+use Rattle.bolt_format.specs.declared.kind.Kind.{Kind}
+use Rattle.bolt_format.specs.declared.kind.Kind.TheVariants as kind
+use Rattle.bolt_format.specs.declared.meta.Meta.{Meta}
+use Rattle.bolt_layout.specs.PageBytes.{branch_data, branch_bytes, content_bytes, header_bytes, leaf_bytes, leaf_data, page_bytes}
+use Rattle.bolt_layout.specs.Layout.{placed_bytes}
+use Rattle.bolt_layout.proofs.NumberLemmas.{part_next, part_within}
+use Rattle.bolt_layout.proofs.LeafLemmas.{IsLeafFit}
+use Rattle.bolt_layout.proofs.BranchLemmas.{IsBranchFit}
+use Rattle.bolt_layout.proofs.PageLemmas.{length-header_bytes}
+use Rattle.bolt_layout.proofs.SpanLemmas.{IsShown, branch_shown, leaf_shown, length-branch_bytes, length-filled, length-leaf_bytes}
+use Rattle.std.proofs.lemmas.List.{length-append}
+use Rattle.bolt_layout.specs.Laid.{Placed}
+use Rattle.bolt_layout.specs.Levels.{branch_view, leaf_view, overflow_of}
+
+-- Room on a page: the least overflow.
+pub overflow_room : (page_size size : ℕ) → 0 < page_size → 0 < size → size ≤ (1 + overflow_of page_size size) * page_size
+unfolding overflow_of
+overflow_room page_size size some any =
+    let q : ℕ = (size - 1) / page_size in
+    let split = div-add-mod' (size - 1) page_size in
+    let rest = mod-lt (size - 1) some in
+    let e = add-mul 1 q page_size in omega arith
+
+pub overflow_small : (page_size size : ℕ) → overflow_of page_size size ≤ size
+unfolding overflow_of
+overflow_small page_size size = let d = div-le_self (size - 1) page_size in omega arith
+
+-- What a page needs to be read back, apart from its place.
+pub record IsLeafPage (page_size : ℕ) (view : PageView) : Type 0 where
+  pub es : List LeafElement
+  pub further : ℕ
+  pub is : view ≡ leaf_view further es
+  pub few : length es < 256 ^ 2
+  pub room : 16 + (16 * length es + length (leaf_data es)) ≤ (1 + further) * page_size
+  pub small : 16 * length es + length (leaf_data es) < 0x100000000
+  pub narrow : further < 256 ^ 4
+  pub fits : AllByRecursion (IsLeafFit value_fault) es
+
+pub record IsBranchPage (page_size : ℕ) (view : PageView) : Type 0 where
+  pub es : List BranchElement
+  pub further : ℕ
+  pub is : view ≡ branch_view further es
+  pub few : length es < 256 ^ 2
+  pub room : 16 + (16 * length es + length (branch_data es)) ≤ (1 + further) * page_size
+  pub small : 16 * length es + length (branch_data es) < 0x100000000
+  pub narrow : further < 256 ^ 4
+  pub fits : AllByRecursion IsBranchFit es
+
+abbrev pub IsPageFit : ℕ → Placed → Type 0
+IsPageFit page_size page = IsLeafPage page_size page.view ⊎ IsBranchPage page_size page.view
+
+-- A page has room for what stands on it,
+abbrev pub HasRoom : ℕ → Placed → Type 0
+HasRoom page_size page = length (content_bytes page.view.kind page.number page.view) ≤ (1 + page.view.overflow) * page_size
+
+pub leaf_room : (page_size number further : ℕ) (es : List LeafElement) → 16 + (16 * length es + length (leaf_data es)) ≤ (1 + further) * page_size
+    → HasRoom page_size (record { number = number; view = leaf_view further es })
+leaf_room page_size number further es room =
+    let a = length-header_bytes number 2 (length es) further in
+    let b = length-leaf_bytes es in
+    let c = length-append (header_bytes number 2 (length es) further) (leaf_bytes es) in omega arith
+
+pub branch_room : (page_size number further : ℕ) (es : List BranchElement) → 16 + (16 * length es + length (branch_data es)) ≤ (1 + further) * page_size
+    → HasRoom page_size (record { number = number; view = branch_view further es })
+branch_room page_size number further es room =
+    let a = length-header_bytes number 1 (length es) further in
+    let b = length-branch_bytes es in
+    let c = length-append (header_bytes number 1 (length es) further) (branch_bytes es) in omega arith
+
+fit_room : (page_size : ℕ) (page : Placed) → IsPageFit page_size page → HasRoom page_size page
+fit_room page_size page (inl leaf) =
+    let P : PageView → Type 0 = λ view. HasRoom page_size (record { number = page.number; view = view }) in
+    subst P (sym leaf.is) (leaf_room page_size page.number leaf.further leaf.es leaf.room)
+fit_room page_size page (inr branch) =
+    let P : PageView → Type 0 = λ view. HasRoom page_size (record { number = page.number; view = view }) in
+    subst P (sym branch.is) (branch_room page_size page.number branch.further branch.es branch.room)
+
+-- and so it takes as many bytes as its span.
+length-page : (page_size : ℕ) (page : Placed) → HasRoom page_size page → length (page_bytes page_size page.number page.view) ≡ (1 + page.view.overflow) * page_size
+unfolding page_bytes
+length-page page_size page room = length-filled ((1 + page.view.overflow) * page_size) (content_bytes page.view.kind page.number page.view) room
+
+page_shown : (file : List ℕ) (meta : Meta) (page : Placed) (rest : List ℕ) → IsPageFit meta.page_size page
+    → drop (page.number * meta.page_size) file ≡ page_bytes meta.page_size page.number page.view ++ rest
+    → page.number < 256 ^ 8 → page.number + page.view.overflow < meta.high_water → page.number * meta.page_size ≤ length file → IsShown file meta page.number page.view
+page_shown file meta page rest (inl leaf) h number below within =
+    let more : page.view.overflow ≡ leaf.further = ap (λ (v : PageView). v.overflow) leaf.is in
+    let h2 = h ∙ ap (λ (v : PageView). page_bytes meta.page_size page.number v ++ rest) leaf.is in
+    let narrow = leaf.narrow in
+    subst (IsShown file meta page.number) (sym leaf.is)
+    (leaf_shown file meta page.number leaf.further leaf.es rest h2 (record { number = number; further = narrow; below = omega arith; within = within }) leaf.few leaf.room leaf.small leaf.fits)
+page_shown file meta page rest (inr branch) h number below within =
+    let more : page.view.overflow ≡ branch.further = ap (λ (v : PageView). v.overflow) branch.is in
+    let h2 = h ∙ ap (λ (v : PageView). page_bytes meta.page_size page.number v ++ rest) branch.is in
+    let narrow = branch.narrow in
+    subst (IsShown file meta page.number) (sym branch.is)
+    (branch_shown file meta page.number branch.further branch.es rest h2 (record { number = number; further = narrow; below = omega arith; within = within }) branch.few branch.room branch.small branch.fits)
+
+abbrev pub IsInARow : ℕ → List Placed → ℕ → Type 0
+IsInARow from [] to = from ≡ to
+IsInARow from (page ∷ pages) to = (page.number ≡ from) × IsInARow (from + (1 + page.view.overflow)) pages to
+
+pub row_append : (from mid to : ℕ) (xs ys : List Placed) → IsInARow from xs mid → IsInARow mid ys to → IsInARow from (xs ++ ys) to
+row_append from mid to [] ys h k = subst (λ (n : ℕ). IsInARow n ys to) (sym h) k
+row_append from mid to (x ∷ xs) ys h k = (h.0, row_append (from + (1 + x.view.overflow)) mid to xs ys h.1 k)
+
+row_order : (from to : ℕ) (pages : List Placed) → IsInARow from pages to → from ≤ to
+row_order from to [] h = omega arith
+row_order from to (page ∷ pages) h = let r = row_order (from + (1 + page.view.overflow)) to pages h.1 in omega arith
+
+-- the pages of a row, written one after another, show what was written
+pub row_shown : (file : List ℕ) (meta : Meta) (from to : ℕ) (pages : List Placed) (rest : List ℕ) → IsInARow from pages to → AllByRecursion (IsPageFit meta.page_size) pages
+    → drop (from * meta.page_size) file ≡ placed_bytes meta.page_size pages ++ rest → from * meta.page_size ≤ length file
+    → to ≤ meta.high_water → meta.high_water < 256 ^ 8 → AllByRecursion (λ page. IsShown file meta page.number page.view) pages
+row_shown file meta from to [] rest row fits h within below small = tt
+row_shown file meta from to (page ∷ pages) rest row fits h within below small =
+    let size : ℕ = meta.page_size in
+    let number : page.number ≡ from = row.0 in
+    let place : page.number * size ≡ from * size = ap (λ (n : ℕ). n * size) number in
+    let h2 : drop (from * size) file ≡ page_bytes size page.number page.view ++ (placed_bytes size pages ++ rest) = h ∙ append_assoc (page_bytes size page.number page.view) (placed_bytes size pages) rest in
+    let long = length-page size page (fit_room size page fits.0) in
+    let here : drop (page.number * size) file ≡ page_bytes size page.number page.view ++ (placed_bytes size pages ++ rest) = ap (λ (n : ℕ). drop n file) place ∙ h2 in
+    let end : (from + (1 + page.view.overflow)) * size ≡ from * size + (1 + page.view.overflow) * size = add-mul from (1 + page.view.overflow) size in
+    let w = part_within file (page_bytes size page.number page.view) (placed_bytes size pages ++ rest) (from * size) h2 within in
+    let behind : drop ((from + (1 + page.view.overflow)) * size) file ≡ placed_bytes size pages ++ rest =
+    part_next file (page_bytes size page.number page.view) (placed_bytes size pages ++ rest) (from * size) _ h2 (omega arith) in
+    let order = row_order (from + (1 + page.view.overflow)) to pages row.1 in (
+      page_shown file meta page (placed_bytes size pages ++ rest) fits.0 here (omega arith) (omega arith) (omega arith),
+      row_shown file meta (from + (1 + page.view.overflow)) to pages rest row.1 fits.1 behind (omega arith) below small,
+    )
+
+-- and take as many bytes as their spans
+pub length-placed : (page_size from to : ℕ) (pages : List Placed) → IsInARow from pages to → AllByRecursion (HasRoom page_size) pages
+    → length (placed_bytes page_size pages) + from * page_size ≡ to * page_size
+length-placed page_size from to [] row fits = let e = ap (λ (n : ℕ). n * page_size) row in omega arith
+length-placed page_size from to (page ∷ pages) row fits =
+    let ih = length-placed page_size (from + (1 + page.view.overflow)) to pages row.1 fits.1 in
+    let long = length-page page_size page fits.0 in
+    let end : (from + (1 + page.view.overflow)) * page_size ≡ from * page_size + (1 + page.view.overflow) * page_size = add-mul from (1 + page.view.overflow) page_size in
+    let l = length-append (page_bytes page_size page.number page.view) (placed_bytes page_size pages) in omega arith
+
+-- The last page of a row ends where the row does,
+pub row_last : (from to : ℕ) (front : List Placed) (own : Placed) → IsInARow from (front ++ own ∷ []) to → own.number + (1 + own.view.overflow) ≡ to
+row_last from to [] own row = let a = row.0 in let b = row.1 in omega arith
+row_last from to (page ∷ front) own row = row_last (from + (1 + page.view.overflow)) to front own row.1
+
+-- and is the last that is written.
+pub last_written : (file : List ℕ) (page_size from to : ℕ) (front : List Placed) (own : Placed) (rest : List ℕ) → IsInARow from (front ++ own ∷ []) to
+    → AllByRecursion (IsPageFit page_size) (front ++ own ∷ []) → drop (from * page_size) file ≡ placed_bytes page_size (front ++ own ∷ []) ++ rest
+    → IsPageFit page_size own × (drop (own.number * page_size) file ≡ page_bytes page_size own.number own.view ++ rest)
+last_written file page_size from to [] own rest row fits h =
+    (fits.0, ap (λ (n : ℕ). drop (n * page_size) file) row.0 ∙ (h ∙ (append_assoc (page_bytes page_size own.number own.view) [] rest)))
+last_written file page_size from to (page ∷ front) own rest row fits h =
+    let long = length-page page_size page (fit_room page_size page fits.0) in
+    let h2 = h ∙ append_assoc (page_bytes page_size page.number page.view) (placed_bytes page_size (front ++ own ∷ [])) rest in
+    let end : (from + (1 + page.view.overflow)) * page_size ≡ from * page_size + (1 + page.view.overflow) * page_size = add-mul from (1 + page.view.overflow) page_size in
+    let behind = part_next file (page_bytes page_size page.number page.view) (placed_bytes page_size (front ++ own ∷ []) ++ rest) (from * page_size) ((from + (1 + page.view.overflow)) * page_size) h2 (omega arith) in
+    last_written file page_size (from + (1 + page.view.overflow)) to front own rest row.1 fits.1 behind
+
+-- A page begins with its header.
+pub record IsHeaded (bytes : List ℕ) (page : Placed) : Type 0 where
+  pub flag : ℕ
+  pub n : ℕ
+  pub is : Kind
+  pub behind : List ℕ
+  pub begins : bytes ≡ header_bytes page.number flag n page.view.overflow ++ behind
+  pub known : kind_of flag ≡ Some is
+  pub small_flag : flag < 256 ^ 2
+  pub few : n < 256 ^ 2
+  pub narrow : page.view.overflow < 256 ^ 4
+
+leaf_headed : (page_size number further : ℕ) (es : List LeafElement) (rest : List ℕ) → length es < 256 ^ 2 → further < 256 ^ 4
+    → IsHeaded (page_bytes page_size number (leaf_view further es) ++ rest) (record { number = number; view = leaf_view further es })
+unfolding page_bytes
+leaf_headed page_size number further es rest few narrow =
+    let content : List ℕ = header_bytes number 2 (length es) further ++ leaf_bytes es in
+    let zeros : List ℕ = replicate ((1 + further) * page_size - length content) 0 in
+    record {
+      flag = 2;
+      n = length es;
+      is = kind.Leaf;
+      behind = leaf_bytes es ++ (zeros ++ rest);
+      begins = append_assoc content zeros rest ∙ append_assoc (header_bytes number 2 (length es) further) (leaf_bytes es) (zeros ++ rest);
+      known = refl;
+      small_flag = omega arith;
+      few = few;
+      narrow = narrow;
+    }
+
+branch_headed : (page_size number further : ℕ) (es : List BranchElement) (rest : List ℕ) → length es < 256 ^ 2 → further < 256 ^ 4
+    → IsHeaded (page_bytes page_size number (branch_view further es) ++ rest) (record { number = number; view = branch_view further es })
+unfolding page_bytes
+branch_headed page_size number further es rest few narrow =
+    let content : List ℕ = header_bytes number 1 (length es) further ++ branch_bytes es in
+    let zeros : List ℕ = replicate ((1 + further) * page_size - length content) 0 in
+    record {
+      flag = 1;
+      n = length es;
+      is = kind.Branch;
+      behind = branch_bytes es ++ (zeros ++ rest);
+      begins = append_assoc content zeros rest ∙ append_assoc (header_bytes number 1 (length es) further) (branch_bytes es) (zeros ++ rest);
+      known = refl;
+      small_flag = omega arith;
+      few = few;
+      narrow = narrow;
+    }
+
+pub page_headed : (page_size : ℕ) (page : Placed) (rest : List ℕ) → IsPageFit page_size page → IsHeaded (page_bytes page_size page.number page.view ++ rest) page
+page_headed page_size page rest (inl leaf) =
+    let P : PageView → Type 0 = λ view. IsHeaded (page_bytes page_size page.number view ++ rest) (record { number = page.number; view = view }) in
+    subst P (sym leaf.is) (leaf_headed page_size page.number leaf.further leaf.es rest leaf.few leaf.narrow)
+page_headed page_size page rest (inr branch) =
+    let P : PageView → Type 0 = λ view. IsHeaded (page_bytes page_size page.number view ++ rest) (record { number = page.number; view = view }) in
+    subst P (sym branch.is) (branch_headed page_size page.number branch.further branch.es rest branch.few branch.narrow)

@@ -1,0 +1,246 @@
+-- The layout of a tree is a sound file.
+use Rattle.std.proofs.Common.{◌≡◌, ◌≢◌, ◌∙◌, ℕ, ◌+◌, ◌-◌, ◌*◌, ◌^◌, ◌<◌, ◌≤◌, List, [], ◌∷◌, ◌++◌, length, drop, replicate, Option, Some, None, refl, sym, ap, subst, inl, inr, arith, append_assoc}
+use Rattle.std.specs.List.{AllByRecursion}
+use Rattle.std.proofs.Math.Nat.{mul-le-mul_left}
+use Rattle.std.proofs.lemmas.Bool.{cases_lt}
+use Rattle.std.proofs.lemmas.List.{append-nil, length-append}
+use Rattle.bolt_format.specs.Freelists.{free_ids_of, freelist_fault_of}
+use Rattle.bolt_format.specs.Metas.{IsChosen, IsMeta, IsPageSize}
+use Rattle.bolt_format.specs.Pages.{PageView, page_fault, page_overflow}
+use Rattle.bolt_format.specs.declared.meta.Meta.{Meta}
+use Rattle.bolt_format.specs.declared.meta.TheConstants.{NO_FREELIST}
+use Rattle.bolt_format.specs.declared.meta.Slot.TheVariants.{One}
+use Rattle.bolt_check.specs.Accounts.{IsInUse, ListsFree, times_in}
+use Rattle.bolt_check.specs.Nodes.{node_at, node_of, node_seen}
+use Rattle.bolt_check.specs.Sound.{HasRightAccounts, HasSoundTrees, IsUsed, PassesTests}
+use Rattle.bolt_check.specs.Ways.{At_page, start_of}
+use Rattle.bolt_layout.specs.PageBytes.{freelist_page, header_bytes, meta_bytes, meta_page}
+use Rattle.bolt_layout.specs.Layout.{file_bytes, layout_mark, layout_meta, layout_of, layout_pages, layout_root, placed_bytes}
+use Rattle.bolt_layout.proofs.NumberLemmas.{part_next}
+use Rattle.bolt_layout.proofs.PageLemmas.{length-header_bytes}
+use Rattle.bolt_layout.proofs.SpanLemmas.{IsEmptyFreelist, IsShown, freelist_shown, length-filled}
+use Rattle.bolt_layout.proofs.MetaLemmas.{IsMetaFit, chosen_of, length-meta_bytes, meta_of, meta_written, size_bounds}
+use Rattle.bolt_layout.proofs.Parts.{IsPart, part_clean}
+use Rattle.bolt_layout.proofs.PageRows.{IsInARow, IsPageFit, length-placed, row_shown}
+use Rattle.bolt_layout.proofs.LeafPages.{IsPage}
+use Rattle.bolt_layout.proofs.LaidPages.{AreNodes, limit}
+use Rattle.bolt_layout.proofs.TreeItems.{root_page, tree_items, tree_rise, within_none}
+use Rattle.bolt_layout.specs.Items.{items_of, root_of}
+use Rattle.bolt_layout.specs.Laid.{Placed}
+use Rattle.bolt_layout.specs.Levels.{root_over}
+use Rattle.bolt_layout.specs.Storable.{IsStorable}
+use Rattle.bolt_tree.specs.Tree.{Tree}
+
+-- How long the pieces are.
+length-meta_page : (page_size root sequence mark txid : ℕ) → 80 ≤ page_size → length (meta_page page_size root sequence mark txid) ≡ page_size
+unfolding meta_page
+length-meta_page page_size root sequence mark txid room =
+    let a = length-meta_bytes page_size root sequence mark txid in
+    length-filled page_size (meta_bytes page_size root sequence mark txid) (omega arith)
+
+-- a meta page begins with its record
+meta_begins : (page_size root sequence mark txid : ℕ) (rest : List ℕ) → (behind : List ℕ) × (meta_page page_size root sequence mark txid ++ rest ≡ meta_bytes page_size root sequence mark txid ++ behind)
+unfolding meta_page
+meta_begins page_size root sequence mark txid rest =
+    let bytes : List ℕ = meta_bytes page_size root sequence mark txid in
+    (replicate (page_size - length bytes) 0 ++ rest, append_assoc bytes (replicate (page_size - length bytes) 0) rest)
+
+length-freelist_page : (page_size number : ℕ) → 16 ≤ page_size → length (freelist_page page_size number) ≡ page_size
+unfolding freelist_page
+length-freelist_page page_size number room = let a = length-header_bytes number 16 0 0 in length-filled page_size (header_bytes number 16 0 0) (omega arith)
+
+-- Where the pieces stand in a file.
+pub record IsFile (page_size root sequence mark : ℕ) (pages : List Placed) (file : List ℕ) : Type 0 where
+  pub behind_first : List ℕ
+  pub first_bytes : drop 0 file ≡ meta_bytes page_size root sequence mark 0 ++ behind_first
+  pub behind_second : List ℕ
+  pub second_bytes : drop page_size file ≡ meta_bytes page_size root sequence mark 1 ++ behind_second
+  pub first : IsMeta file 0 (meta_of page_size root sequence mark 0)
+  pub second : IsMeta file page_size (meta_of page_size root sequence mark 1)
+  pub free : drop (2 * page_size) file ≡ freelist_page page_size 2 ++ placed_bytes page_size pages
+  pub placed : drop (3 * page_size) file ≡ placed_bytes page_size pages ++ []
+  pub long : length file ≡ 3 * page_size + length (placed_bytes page_size pages)
+
+pub pieces_stand : (page_size root sequence mark : ℕ) (pages : List Placed) → IsPageSize page_size → root < 256 ^ 8 → sequence < 256 ^ 8 → mark < 256 ^ 8
+    → IsFile page_size root sequence mark pages (file_bytes page_size root sequence mark pages)
+pieces_stand page_size root sequence mark pages size r s m =
+    let file : List ℕ = file_bytes page_size root sequence mark pages in
+    let bounds = size_bounds page_size size in
+    let m0 : List ℕ = meta_page page_size root sequence mark 0 in
+    let m1 : List ℕ = meta_page page_size root sequence mark 1 in
+    let fl : List ℕ = freelist_page page_size 2 in
+    let rest : List ℕ = placed_bytes page_size pages in
+    let l0 = length-meta_page page_size root sequence mark 0 (omega arith) in
+    let l1 = length-meta_page page_size root sequence mark 1 (omega arith) in
+    let l2 = length-freelist_page page_size 2 (omega arith) in
+    let a = length-append m0 (m1 ++ (fl ++ rest)) in
+    let b = length-append m1 (fl ++ rest) in
+    let c = length-append fl rest in
+    let d0 : drop 0 file ≡ m0 ++ (m1 ++ (fl ++ rest)) = refl in
+    let d1 : drop page_size file ≡ m1 ++ (fl ++ rest) = part_next file m0 (m1 ++ (fl ++ rest)) 0 page_size d0 (omega arith) in
+    let d2 : drop (2 * page_size) file ≡ fl ++ rest = part_next file m1 (fl ++ rest) page_size (2 * page_size) d1 (omega arith) in
+    let d3 : drop (3 * page_size) file ≡ rest = part_next file fl rest (2 * page_size) (3 * page_size) d2 (omega arith) in
+    let (b0, e0) = meta_begins page_size root sequence mark 0 (m1 ++ (fl ++ rest)) in
+    let (b1, e1) = meta_begins page_size root sequence mark 1 (fl ++ rest) in
+    record {
+      behind_first = b0;
+      first_bytes = d0 ∙ e0;
+      behind_second = b1;
+      second_bytes = d1 ∙ e1;
+      first = meta_written file b0 0 page_size root sequence mark 0 (d0 ∙ e0) (record { size = size; root_fits = r; sequence_fits = s; mark_fits = m; txid_fits = omega arith }) (inl refl) (omega arith);
+      second = meta_written file b1 page_size page_size root sequence mark 1 (d1 ∙ e1) (record { size = size; root_fits = r; sequence_fits = s; mark_fits = m; txid_fits = omega arith }) (inr refl) (omega arith);
+      free = d2;
+      placed = d3 ∙ sym (append-nil rest);
+      long = omega arith;
+    }
+
+-- what shows a page is a node
+node_shown : (file : List ℕ) (meta : Meta) (n : ℕ) (view : PageView) → IsShown file meta n view → node_at file meta n ≡ node_of view.kind view
+unfolding node_at
+node_shown file meta n view shown = ap (λ (o : Option PageView). node_seen o (page_fault file meta n)) shown.shows
+
+nodes_shown : (file : List ℕ) (meta : Meta) (pages : List Placed) → AllByRecursion (λ page. IsShown file meta page.number page.view) pages → AreNodes (node_at file meta) pages
+nodes_shown file meta [] h = tt
+nodes_shown file meta (page ∷ pages) h = (node_shown file meta page.number page.view h.0, nodes_shown file meta pages h.1)
+
+-- The accounts: page 2 alone is the freelist's, and the trees fill the rest.
+some_same : {X : Type 0} (a b : X) → ◌≡◌ {A = Option X} (Some a) (Some b) → a ≡ b
+some_same a b e = cc
+
+accounts_of : (file : List ℕ) (page_size root sequence mark txid : ℕ) → IsEmptyFreelist file (meta_of page_size root sequence mark txid) 2
+    → IsPart (node_at file (meta_of page_size root sequence mark txid)) (At_page (start_of root)) 3 mark → HasRightAccounts file (meta_of page_size root sequence mark txid)
+accounts_of file page_size root sequence mark txid free part =
+    let meta : Meta = meta_of page_size root sequence mark txid in
+    let good : freelist_fault_of file meta ≡ None = free.good in
+    let alone : page_overflow file meta 2 ≡ 0 = free.alone in
+    let listed : free_ids_of file meta ≡ Some [] = ap (λ (ids : List ℕ). Some ids) free.empty in
+    let written : 2 ≢ NO_FREELIST = λ e. omega arith in
+    record {
+      good = good;
+      apart = λ n in_free used. elim used [
+        | inl low ↦ (let a = in_free.from in omega arith)
+        | inr high ↦ (let (way, h) = high in let i = part.inside way n h in let a = in_free.last in omega arith)
+      ];
+      lists = λ ids e.
+          let none : [] ≡ ids = some_same [] ids (sym listed ∙ e) in
+          subst (λ (xs : List ℕ). ListsFree meta.high_water (IsInUse file meta (IsUsed file meta)) (times_in xs)) none (record {
+            free = λ n h. absurd (omega arith);
+            once = λ n. omega arith;
+            listed = λ n is_free. absurd (is_free.unused (elim (cases_lt n 3) [
+              | inl low ↦ inr (let a = is_free.above_metas in record { written = written; good = good; from = omega arith; last = omega arith })
+              | inr high ↦ inl (inr (part.whole n high is_free.below))
+            ]));
+          });
+    }
+
+-- what the tests of trees are for
+abbrev pub PassingIsSound : Type 0
+PassingIsSound = (file : List ℕ) (meta : Meta) → PassesTests file meta → HasSoundTrees file meta
+
+-- what is known of the file before anything is read
+pub record IsLaidOut (page_size : ℕ) (tree : Tree) (sequence : ℕ) : Type 0 where
+  pub room : layout_mark page_size tree ≤ limit
+  pub fits : IsMetaFit page_size (layout_root page_size tree) sequence (layout_mark page_size tree) 1
+  pub above : 3 ≤ layout_root page_size tree
+  pub below : layout_root page_size tree < layout_mark page_size tree
+  pub row : IsInARow 3 (layout_pages page_size tree) (layout_mark page_size tree)
+  pub pages : AllByRecursion (IsPageFit page_size) (layout_pages page_size tree)
+  pub file : IsFile page_size (layout_root page_size tree) sequence (layout_mark page_size tree) (layout_pages page_size tree) (layout_of page_size tree sequence)
+  pub long : length (layout_of page_size tree sequence) ≡ layout_mark page_size tree * page_size
+  pub last : (front : List Placed) × (own : Placed) × (layout_pages page_size tree ≡ front ++ own ∷ []) × (own.number ≡ layout_root page_size tree)
+  pub height : ℕ
+  pub low : height ≤ 63
+  pub page : IsPage page_size height (root_over page_size (items_of page_size tree)) (items_of page_size tree)
+
+-- it has as many bytes as its pages
+pub layout_length : (page_size : ℕ) (tree : Tree) (sequence : ℕ) → IsPageSize page_size → IsStorable tree
+    → length (layout_of page_size tree sequence) ≡ layout_mark page_size tree * page_size
+unfolding layout_of root_of
+layout_length page_size tree sequence size storable =
+    let bounds = size_bounds page_size size in
+    let items = items_of page_size tree in
+    let all = tree_items page_size (omega arith) (omega arith) tree storable.lengths storable.rising_inside in
+    let rise = tree_rise page_size tree storable.rising in
+    let (height, low, page) = root_page page_size items (omega arith) (omega arith) all rise in
+    let pages : List Placed = layout_pages page_size tree in
+    let root : ℕ = layout_root page_size tree in
+    let mark : ℕ = layout_mark page_size tree in
+    let exact = length-placed page_size 3 mark pages (page.pages.row 3) (page.pages.room 3) in
+    let m0 : List ℕ = meta_page page_size root sequence mark 0 in
+    let m1 : List ℕ = meta_page page_size root sequence mark 1 in
+    let fl : List ℕ = freelist_page page_size 2 in
+    let rest : List ℕ = placed_bytes page_size pages in
+    let l0 = length-meta_page page_size root sequence mark 0 (omega arith) in
+    let l1 = length-meta_page page_size root sequence mark 1 (omega arith) in
+    let l2 = length-freelist_page page_size 2 (omega arith) in
+    let a = length-append m0 (m1 ++ (fl ++ rest)) in
+    let b = length-append m1 (fl ++ rest) in
+    let c = length-append fl rest in omega arith
+
+pub laid_out : (page_size : ℕ) (tree : Tree) (sequence : ℕ) → IsPageSize page_size → IsStorable tree → sequence < 2 ^ 64
+    → length (layout_of page_size tree sequence) < 2 ^ 63 → IsLaidOut page_size tree sequence
+unfolding layout_of root_of
+laid_out page_size tree sequence size storable sized short =
+    let exact = layout_length page_size tree sequence size storable in
+    let bounds = size_bounds page_size size in
+    let items = items_of page_size tree in
+    let all = tree_items page_size (omega arith) (omega arith) tree storable.lengths storable.rising_inside in
+    let rise = tree_rise page_size tree storable.rising in
+    let (height, low, page) = root_page page_size items (omega arith) (omega arith) all rise in
+    let pages : List Placed = layout_pages page_size tree in
+    let root : ℕ = layout_root page_size tree in
+    let mark : ℕ = layout_mark page_size tree in
+    let row : IsInARow 3 pages mark = page.pages.row 3 in
+    let child = page.child 3 in
+    let wide : mark * 1024 ≤ mark * page_size = mul-le-mul_left mark (omega arith) in
+    let stand = pieces_stand page_size root sequence mark pages size (omega arith) (omega arith) (omega arith) in
+    let long = stand.long in
+    let fits = page.pages.fits 3 (omega arith) (omega arith) in
+    record {
+      room = omega arith;
+      fits = record { size = size; root_fits = omega arith; sequence_fits = omega arith; mark_fits = omega arith; txid_fits = omega arith };
+      above = omega arith;
+      below = omega arith;
+      row = row;
+      pages = fits;
+      file = stand;
+      long = exact;
+      last = page.last 3;
+      height = height;
+      low = low (omega arith);
+      page = page;
+    }
+
+pub record IsSoundLayout (page_size : ℕ) (tree : Tree) (sequence : ℕ) : Type 0 where
+  pub chosen : IsChosen (layout_of page_size tree sequence) One (layout_meta page_size tree sequence 1)
+  pub trees : HasSoundTrees (layout_of page_size tree sequence) (layout_meta page_size tree sequence 1)
+  pub accounts : HasRightAccounts (layout_of page_size tree sequence) (layout_meta page_size tree sequence 1)
+  pub room : layout_mark page_size tree ≤ limit
+  pub shown : AllByRecursion (λ page. IsShown (layout_of page_size tree sequence) (layout_meta page_size tree sequence 1) page.number page.view) (layout_pages page_size tree)
+
+pub layout_sound : PassingIsSound → (page_size : ℕ) (tree : Tree) (sequence : ℕ) → IsPageSize page_size → IsLaidOut page_size tree sequence → IsSoundLayout page_size tree sequence
+unfolding layout_of root_of
+layout_sound law page_size tree sequence size laid =
+    let bounds = size_bounds page_size size in
+    let items = items_of page_size tree in
+    let pages : List Placed = layout_pages page_size tree in
+    let root : ℕ = layout_root page_size tree in
+    let mark : ℕ = layout_mark page_size tree in
+    let meta : Meta = layout_meta page_size tree sequence 1 in
+    let file : List ℕ = file_bytes page_size root sequence mark pages in
+    let stand = laid.file in
+    let long = stand.long in
+    let room = laid.room in
+    let above = laid.above in
+    let below = laid.below in
+    let shown = row_shown file meta 3 mark pages [] laid.row laid.pages stand.placed (omega arith) (omega arith) (omega arith) in
+    let nodes = nodes_shown file meta pages shown in
+    let part = laid.page.part (node_at file meta) 3 (start_of root) refl (omega arith) (omega arith) nodes (let deep = laid.low in omega arith) (within_none items) in
+    let free = freelist_shown file meta 2 (placed_bytes page_size pages) stand.free (record { number = omega arith; further = omega arith; below = omega arith; within = omega arith }) (omega arith) in
+    record {
+      chosen = chosen_of file page_size (meta_of page_size root sequence mark 0) (meta_of page_size root sequence mark 1) stand.first stand.second refl (omega arith);
+      trees = law file meta (part_clean (node_at file meta) root 3 mark part (omega arith));
+      accounts = accounts_of file page_size root sequence mark 1 free part;
+      room = room;
+      shown = shown;
+    }

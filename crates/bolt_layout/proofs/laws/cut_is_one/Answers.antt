@@ -1,0 +1,7 @@
+use Rattle.bolt_format.specs.Elements.{BranchElement, LeafElement}
+use Rattle.bolt_layout.specs.Laid.{Laid}
+use Rattle.bolt_layout.proofs.OneCut.{cut_is_one}
+use Rattle.bolt_layout.proofs.laws.cut_is_one.Goals as goal
+
+pub returns : goal.returns
+returns c = record { leaves = cut_is_one (Laid LeafElement); branches = cut_is_one (Laid BranchElement) }

@@ -1,0 +1,39 @@
+-- What a layout promises: docs/LAYOUT.md, "What holds of it".
+use Rattle.std.specs.Prelude.{◌≡◌, ◌≤◌, ◌<◌, ◌^◌, ℕ, true, List, length, take}
+use Rattle.bolt_format.specs.Metas.{IsChosen, IsPageSize}
+use Rattle.bolt_format.specs.declared.fault.TheConstants.PageFault.{CUT}
+use Rattle.bolt_format.specs.declared.meta.MetaFault.TheVariants.{Cut}
+use Rattle.bolt_format.specs.declared.meta.Slot.TheVariants.{One}
+use Rattle.bolt_check.specs.Findings.{finding}
+use Rattle.bolt_check.specs.Sound.{IsRefused, IsSound}
+use Rattle.bolt_check.specs.declared.fault.CheckFault.TheVariants.{Open, Structure}
+use Rattle.bolt_tree.specs.Listing.{IsListing, Member}
+use Rattle.bolt_tree.specs.Tree.{Tree, listing_of, tree_of}
+use Rattle.bolt_layout.specs.Layout.{layout_meta, layout_of}
+use Rattle.bolt_layout.specs.Storable.{IsStorable}
+
+-- the meta of slot one is in force in the layout, which is sound for it, trees and accounts, and has this listing
+pub record IsSoundCopy (page_size : ℕ) (tree : Tree) (sequence : ℕ) (listing : List Member) : Type 0 where
+  pub chosen : IsChosen (layout_of page_size tree sequence) One (layout_meta page_size tree sequence 1)
+  pub sound : IsSound (layout_of page_size tree sequence) (layout_meta page_size tree sequence 1) true
+  pub lists : IsListing (layout_of page_size tree sequence) (layout_meta page_size tree sequence 1) listing
+
+-- A layout is asked for by an accepted page size, a tree that can be stored and a sequence of 64 bits.
+pub record IsAsked (page_size : ℕ) (tree : Tree) (sequence : ℕ) : Type 0 where
+  pub size : IsPageSize page_size
+  pub storable : IsStorable tree
+  pub sequence_fits : sequence < 2 ^ 64
+
+-- A layout that is cut short anywhere is refused: it has no meta, or the first finding is that its root page is cut off.
+pub record RefusesBeginnings (layout : List ℕ) (root : ℕ) : Type 0 where
+  pub before_metas : (n : ℕ) → n < length layout → n < 80 → IsRefused (take n layout) (Open Cut)
+  pub at_root : (n : ℕ) → n < length layout → 80 ≤ n → IsRefused (take n layout) (Structure (finding CUT root))
+
+-- A listing is that of the tree that is read off it, which can be stored, and of no other: so it has one layout at each page size.
+pub record IsOfOneTree (listing : List Member) : Type 0 where
+  pub storable : IsStorable (tree_of listing)
+  pub lists : listing_of (tree_of listing) ≡ listing
+  pub one : (tree : Tree) → listing_of tree ≡ listing → tree ≡ tree_of listing
+
+abbrev pub layout_of_listing : (page_size : ℕ) → List Member → (sequence : ℕ) → List ℕ
+layout_of_listing page_size listing sequence = layout_of page_size (tree_of listing) sequence

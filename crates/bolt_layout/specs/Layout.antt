@@ -1,0 +1,54 @@
+-- The layout of a tree at a page size: its pages, and its bytes: docs/LAYOUT.md, "Numbers" and "Bytes".
+use Rattle.std.specs.Prelude.{ℕ, ◌+◌, List, [], ◌∷◌, ◌++◌}
+use Rattle.bolt_format.specs.declared.meta.Meta.{Meta}
+use Rattle.bolt_tree.specs.Tree.{Tree}
+use Rattle.bolt_layout.specs.Items.{root_of}
+use Rattle.bolt_layout.specs.Laid.{Placed}
+use Rattle.bolt_layout.specs.PageBytes.{freelist_page, meta_page, page_bytes}
+
+-- the first page behind the metas and the freelist
+abbrev pub first_page : ℕ
+first_page = 3
+
+-- the number of the root page, and the high-water mark behind its span
+abbrev pub layout_root : (page_size : ℕ) → Tree → ℕ
+layout_root page_size tree = ((root_of page_size tree).element first_page).child
+
+abbrev pub layout_mark : (page_size : ℕ) → Tree → ℕ
+layout_mark page_size tree = first_page + (root_of page_size tree).numbers
+
+-- how many items are held at one time, at the most, while the pages are written in the order of their numbers
+abbrev pub layout_held : (page_size : ℕ) → Tree → ℕ
+layout_held page_size tree = (root_of page_size tree).held
+
+-- the pages of all buckets, in the order of their numbers
+abbrev pub layout_pages : (page_size : ℕ) → Tree → List Placed
+layout_pages page_size tree = (root_of page_size tree).pages first_page
+
+-- what the meta of this transaction says
+abbrev pub layout_meta : (page_size : ℕ) → Tree → (sequence txid : ℕ) → Meta
+layout_meta page_size tree sequence txid = record {
+  page_size = page_size;
+  root = layout_root page_size tree;
+  root_sequence = sequence;
+  freelist = 2;
+  high_water = layout_mark page_size tree;
+  txid = txid;
+}
+
+-- pages one behind the other
+abbrev pub placed_bytes : (page_size : ℕ) → List Placed → List ℕ
+placed_bytes page_size [] = []
+placed_bytes page_size (page ∷ pages) = page_bytes page_size page.number page.view ++ placed_bytes page_size pages
+
+abbrev pub file_bytes : (page_size root sequence mark : ℕ) → List Placed → List ℕ
+file_bytes page_size root sequence mark pages =
+    meta_page page_size root sequence mark 0
+    ++ (meta_page page_size root sequence mark 1
+    ++ (freelist_page page_size 2
+    ++ placed_bytes page_size pages))
+
+-- the bytes: two metas, a freelist without ids, and the pages
+unfoldable pub layout_of : (page_size : ℕ) → Tree → (sequence : ℕ) → List ℕ
+layout_of page_size tree sequence =
+    file_bytes page_size (layout_root page_size tree) sequence (layout_mark page_size tree) (layout_pages page_size tree)

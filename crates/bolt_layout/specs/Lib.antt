@@ -1,0 +1,10 @@
+pub mod Copies
+pub mod Cut
+pub mod Divisions
+pub mod Held
+pub mod Items
+pub mod Laid
+pub mod Layout
+pub mod Levels
+pub mod PageBytes
+pub mod Storable

@@ -1,0 +1,106 @@
+//! What holds of the layout of a tree: docs/LAYOUT.md, "What holds of it".
+ghost use Rattle.std.specs.Prelude.{◌≡◌, ◌≤◌, ◌<◌, ◌*◌, ◌^◌, ℕ, List, length};
+ghost use Rattle.bolt_format.specs.Elements.{BranchElement, LeafElement};
+ghost use Rattle.bolt_format.specs.Bytes.{IsBytes};
+ghost use Rattle.bolt_format.specs.Metas.{IsPageSize};
+ghost use Rattle.bolt_format.specs.declared.meta.Meta.{Meta};
+ghost use Rattle.bolt_check.specs.Sound.{HasSoundTrees};
+ghost use Rattle.bolt_tree.specs.Entries.{IsEntry, Root_page};
+ghost use Rattle.bolt_tree.specs.Listing.{IsListing, Member};
+ghost use Rattle.bolt_tree.specs.Tree.{IsTreeOf, Tree, listing_of, tree_of};
+ghost use Rattle.bolt_layout.specs.Copies.{IsAsked, IsOfOneTree, IsSoundCopy, RefusesBeginnings, layout_of_listing};
+ghost use Rattle.bolt_layout.specs.Cut.{CutIsOne};
+ghost use Rattle.bolt_layout.specs.Laid.{Laid};
+ghost use Rattle.bolt_layout.specs.Held.{most_held};
+ghost use Rattle.bolt_layout.specs.Layout.{layout_held, layout_mark, layout_of, layout_root};
+ghost use Rattle.bolt_layout.specs.Levels.{IsOverflow, TopIsAbove, overflow_of};
+ghost use Rattle.bolt_layout.specs.Storable.{IsStorable};
+
+use bolt_check::laws::sound_trees_pass_the_tests;
+use bolt_tree::listing_laws::{
+    a_tree_is_of_its_listing, a_tree_lists_its_bucket, listing_is_of_a_tree,
+};
+
+/// The layout of a tree is a sound file, and its listing is that of the tree, where it has fewer
+/// than 2^63 bytes.
+pub fn layout_is_sound()
+    ensures { (page_size : ℕ) (tree : Tree) (sequence : ℕ) → IsAsked page_size tree sequence
+        → length (layout_of page_size tree sequence) < 2 ^ 63
+        → IsSoundCopy page_size tree sequence (listing_of tree) }
+{
+    sound_trees_pass_the_tests();
+    a_tree_lists_its_bucket();
+}
+
+/// It has as many bytes as its pages.
+pub fn layout_has_length()
+    ensures { (page_size : ℕ) (tree : Tree) (sequence : ℕ) → IsPageSize page_size → IsStorable tree
+        → length (layout_of page_size tree sequence) ≡ layout_mark page_size tree * page_size }
+{}
+
+/// While its pages are written, no more items are held at one time than four page sizes for each
+/// bucket of a path, if it has fewer than 2^63 bytes.
+pub fn held_is_bounded()
+    ensures { (page_size : ℕ) (tree : Tree) (sequence : ℕ) → IsPageSize page_size → IsStorable tree
+        → length (layout_of page_size tree sequence) < 2 ^ 63
+        → layout_held page_size tree ≤ most_held page_size (listing_of tree) }
+{}
+
+/// Nor are more items held than it has bytes.
+pub fn held_is_small()
+    ensures { (page_size : ℕ) (tree : Tree) (sequence : ℕ) → IsPageSize page_size → IsStorable tree
+        → length (layout_of page_size tree sequence) < 2 ^ 63
+        → layout_held page_size tree ≤ length (layout_of page_size tree sequence) }
+{}
+
+/// Where it is cut short anywhere, it is refused.
+pub fn beginnings_are_refused()
+    ensures { (page_size : ℕ) (tree : Tree) (sequence : ℕ) → IsAsked page_size tree sequence
+        → length (layout_of page_size tree sequence) < 2 ^ 63
+        → RefusesBeginnings (layout_of page_size tree sequence) (layout_root page_size tree) }
+{}
+
+/// There is one cut of each row of items.
+pub fn cut_is_one()
+    ensures leaves { CutIsOne (Laid LeafElement) }
+    ensures branches { CutIsOne (Laid BranchElement) }
+{}
+
+/// While a level has more than one page, the page at the top is that of the next level.
+pub fn top_is_above()
+    ensures { TopIsAbove }
+{}
+
+/// A page has as many further pages as it needs, and no more.
+pub fn overflow_is_least()
+    ensures { (page_size size : ℕ) → 1 ≤ page_size → 1 ≤ size
+        → IsOverflow page_size size (overflow_of page_size size) }
+{}
+
+/// The tree of a file's root bucket can be stored.
+pub fn a_files_tree_can_be_stored()
+    ensures { (file : List ℕ) (meta : Meta) (tree : Tree) → IsBytes file
+        → IsTreeOf (IsEntry file meta) (Root_page meta.root) tree → IsStorable tree }
+{}
+
+/// The listing of a file with sound trees is that of one tree, which can be stored. So it has one
+/// layout at each page size.
+pub fn a_files_listing_is_of_one_tree()
+    ensures { (file : List ℕ) (meta : Meta) (listing : List Member) → IsBytes file → HasSoundTrees file meta
+        → IsListing file meta listing → IsOfOneTree listing }
+{
+    listing_is_of_a_tree();
+    a_tree_is_of_its_listing();
+}
+
+/// That layout is a sound file, and has the same listing, where it has fewer than 2^63 bytes.
+pub fn a_copy_lists_the_same()
+    ensures { (file : List ℕ) (meta : Meta) (listing : List Member) (page_size : ℕ)
+        → IsBytes file → HasSoundTrees file meta → IsListing file meta listing
+        → IsPageSize page_size → meta.root_sequence < 2 ^ 64
+        → length (layout_of_listing page_size listing meta.root_sequence) < 2 ^ 63
+        → IsSoundCopy page_size (tree_of listing) meta.root_sequence listing }
+{
+    layout_is_sound();
+    a_files_listing_is_of_one_tree();
+}
