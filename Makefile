@@ -88,9 +88,10 @@ fuzz: $(PROGRAM)
 fuzz-wrong: $(PROGRAM)
 	$(FUZZ)/try_wrong.py $(PROGRAM)
 
-# More wrong bodies than the gate has time for.
+# Every wrong body, those that the gate tries among them. It takes an hour or two; CRATES="bolt_tree
+# bolt_cli" tries those of some crates, so that a run that was broken off can go on.
 wrong-bodies:
-	tools/wrong_bodies/try_more.sh
+	tools/wrong_bodies/try_all.sh $(CRATES)
 
 # The merge gate: every proof from nothing, the wrong bodies, the tests and the program, which this
 # builds; and then, of the program, real databases, the manual, failures, refused memory, and random
