@@ -14,9 +14,10 @@ build:
 $(PROGRAM):
 	$(MAKE) build
 
-# All that a real database holds.
-demo: $(PROGRAM)
-	$(PROGRAM) list examples/app.db
+# All that a real database holds, as the program lists it. It is compiled here without its proofs.
+demo:
+	cd crates/luntsegi && rt try --data app.db=$(abspath examples/app.db) -- list app.db
+	@echo "That was the program before any proof: make build proves it and builds it."
 
 COPY = out/copy.db
 # The documents that show commands with what they print.
@@ -56,9 +57,9 @@ SWEEP = python3 -B tools/refuse/sweep.py $(PROGRAM) $(REFUSE)
 EACH_COMMAND = info "page 5" pages check buckets stats list "keys users" "get settings theme" \
 	"get settings none" "info --help" "info more" "list --from x"
 
-# Files that can't be read or made, devices that are full, and streams that are closed. Then each
-# write of each command fails in turn, of seven bytes at most; of the many that a copy makes each 10th
-# fails; and so do each read of FILE and the sync of OUT.
+# Files that can't be read or made, devices that are full, streams that are closed, readers that leave,
+# and who may read a copy. Then each write of each command fails in turn, of seven bytes at most; of the
+# many that a copy makes each 10th fails; and so do each read of FILE and the sync of OUT.
 failures: $(PROGRAM) $(REFUSE) $(LISTED_LONG)
 	sh tools/streams/try_failures.sh $(PROGRAM) examples/app.db $(LEAKED).db $(LISTED_LONG)
 	$(SWEEP) write 1 examples/app.db $(EACH_COMMAND)

@@ -1,5 +1,6 @@
 #!/bin/sh
-# Lets the program's files and streams fail, for `make failures`.
+# Lets the program's files and streams fail, and its readers leave, for `make failures`; and looks at
+# who may read what it makes.
 #
 #   try_failures.sh PROGRAM SOUND REFUSED LONG
 #
@@ -87,17 +88,63 @@ closed_output() {
 	want_whole_copy
 }
 
-# A reader that leaves early gets its line, and the program ends.
-closed_pipe() {
+# The last run told nothing, and ended with status 1.
+want_silence() {
+	[ "$status" -eq 1 ] || fail "wants status 1"
+	[ ! -s "$folder/err" ] || fail "wants no error"
+	[ ! -s "$folder/out" ] || fail "wants no output"
+}
+
+# A reader that leaves early gets its line, and the program ends and tells nothing.
+leaving_reader() {
 	begin list "$long"
 	{
 		timeout 10 "$program" list "$long" 2>"$err"
 		echo $? >"$folder/status"
 	} | head -n 1 >"$folder/first"
 	status=$(cat "$folder/status")
-	want_fault "write failed"
+	want_silence
 	"$program" list "$long" >"$folder/listed"
 	head -n 1 "$folder/listed" | cmp -s - "$folder/first" || fail "wants its first line"
+}
+
+# Runs the program with standard output on a pipe whose only reader has left.
+run_unread() {
+	begin "$@"
+	mkfifo "$folder/pipe"
+	true <"$folder/pipe" &
+	exec 4>"$folder/pipe"
+	wait $!
+	timeout 10 "$program" "$@" >&4 2>"$err"
+	status=$?
+	exec 4>&-
+	rm "$folder/pipe"
+}
+
+# A reader that has left before anything is written isn't told either, whatever the command; OUT is
+# whole then. A fault that has nothing to do with it is told.
+left_reader() {
+	for command in info pages check buckets stats list; do
+		run_unread $command "$sound"
+		want_silence
+	done
+	run_unread list "$long"
+	want_silence
+	run_unread page "$sound" 0
+	want_silence
+	run_unread keys "$sound" settings
+	want_silence
+	run_unread get "$sound" settings theme
+	want_silence
+	run_unread check "$refused"
+	want_silence
+	run_unread --help
+	want_silence
+	run_unread compact -o "$copy" "$sound"
+	want_silence
+	want_whole_copy
+	run_unread get "$sound" settings nothing
+	want_fault "key not found"
 }
 
 # The last run's status and output are those that were kept.
@@ -164,6 +211,25 @@ unmade_target() {
 	[ ! -e "$folder/missing" ] || fail "made what a link leads to"
 }
 
+# OUT has the permission bits of FILE, less those that the umask takes away, be FILE sound or not.
+copied_permissions() {
+	for file in "$sound" "$refused"; do
+		for bits in "077 600 600" "022 600 600" "022 640 640" "022 400 400" "022 644 644" \
+			"022 666 644" "022 755 755" "022 777 755" "000 666 666" "027 644 640"; do
+			set -- $bits
+			cp "$file" "$folder/file.db"
+			chmod "$2" "$folder/file.db"
+			was=$(umask)
+			umask "$1"
+			run compact -o "$copy" "$folder/file.db"
+			umask "$was"
+			made=$(stat -c %a "$copy")
+			[ "$made" = "$3" ] || fail "FILE has mode $2, the umask is $1: wants mode $3, not $made"
+			rm -f "$folder/file.db" "$copy"
+		done
+	done
+}
+
 # FILE that can't be read; OUT isn't made then.
 unread_file() {
 	for file in "$folder/missing" "$folder" "$sound/file" ""; do
@@ -177,9 +243,11 @@ unread_file() {
 
 full_output
 closed_output
-closed_pipe
+leaving_reader
+left_reader
 failing_error
 full_target
 unmade_target
+copied_permissions
 unread_file
 echo "failures: all told"

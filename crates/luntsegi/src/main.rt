@@ -4,9 +4,11 @@
 
 use bolt_cli::{Job, Refusal, read_words, run};
 use bolt_format::{Sink, WriteSink};
+use std::cell::Cell;
 use std::env;
-use std::fs::{self, File};
-use std::io::{self, BufWriter, Stdout, Write};
+use std::fs::{File, OpenOptions};
+use std::io::{self, BufWriter, Read, Stderr, Stdout, Write};
+use std::os::unix::fs::{MetadataExt, OpenOptionsExt};
 use std::process::ExitCode;
 
 /// The status of a command line that is refused.
@@ -17,6 +19,8 @@ const FAILED: u8 = 1;
 const GATHERED: usize = 1 << 16;
 /// How many bytes of a copy are gathered before they are written.
 const COPIED: usize = 1 << 20;
+/// The bits of a file's mode that say who may read, write and run it.
+const PERMISSIONS: u32 = 0o777;
 
 fn main(rt: HostRuntime) -> ExitCode {
     let code = match read_job(&rt) {
@@ -50,33 +54,64 @@ fn tell_refusal(rt: &HostRuntime, refusal: Refusal) -> u8 {
         }
         Refusal::Help(text) | Refusal::Version(text) => match print!(rt; "{text}") {
             Ok(()) => 0,
-            Err(_) => tell(rt, "write failed", FAILED),
+            Err(error) => tell_unwritten(rt, &error),
         },
     }
 }
 
-/// Prints a fault line, whatever becomes of it, and answers the status.
+/// Prints a fault line, whatever becomes of it, and returns the status.
 fn tell(rt: &HostRuntime, text: &str, code: u8) -> u8 {
     let _ = eprintln!(rt; "error: {text}");
     code
 }
 
-/// Reads the job's file whole, and then makes its OUT where it has one, and does the job.
+/// Prints why standard output can't be written, and returns the status. If its reader has left,
+/// nothing is printed: the reader wanted no more.
+fn tell_unwritten(rt: &HostRuntime, error: &io::Error) -> u8 {
+    if error.kind() == io::ErrorKind::BrokenPipe {
+        return FAILED;
+    }
+    tell(rt, "write failed", FAILED)
+}
+
+/// What was read of FILE.
+#[derive(Drop)]
+struct Source {
+    bytes: Vec<u8>,
+    /// The permission bits of FILE.
+    permissions: u32,
+}
+
+/// Reads FILE, and then makes the job's OUT if it has one, and does the job.
 fn run_job(rt: &HostRuntime, job: &Job) -> u8 {
-    let Ok(file) = fs::read(rt, job.file()) else {
+    let Ok(source) = read_source(rt, job) else {
         let name = job.file();
         let _ = eprintln!(rt; "error: cannot read {name}");
         return FAILED;
     };
     match job.target() {
-        Some(name) => run_copy(rt, job, file.as_slice(), name),
-        None => run_over(rt, job, file.as_slice(), io::sink()),
+        Some(name) => run_copy(rt, job, &source, name),
+        None => run_over(rt, job, source.bytes.as_slice(), io::sink()),
     }
 }
 
-/// Makes the file OUT, which must not exist, and does the job over it.
-fn run_copy(rt: &HostRuntime, job: &Job, file: &[u8], name: &str) -> u8 {
-    let made = match File::create_new(rt, name) {
+fn read_source(rt: &HostRuntime, job: &Job) -> io::Result<Source> {
+    let mut file = File::open(rt, job.file())?;
+    let permissions = file.metadata()?.mode() & PERMISSIONS;
+    let mut bytes = Vec::new(rt.alloc());
+    file.read_to_end(&mut bytes)?;
+    Ok(Source { bytes, permissions })
+}
+
+/// Makes the file OUT, which must not exist, with the permission bits of FILE, and does the job over
+/// it. The bits are set as OUT is made, so nobody who can't read FILE can open OUT at any time.
+fn run_copy(rt: &HostRuntime, job: &Job, source: &Source, name: &str) -> u8 {
+    let made = OpenOptions::new()
+        .write(true)
+        .create_new(true)
+        .mode(source.permissions)
+        .open(rt, name);
+    let made = match made {
         Ok(made) => made,
         Err(error) if error.kind() == io::ErrorKind::AlreadyExists => {
             return tell(rt, "output exists", FAILED);
@@ -87,7 +122,7 @@ fn run_copy(rt: &HostRuntime, job: &Job, file: &[u8], name: &str) -> u8 {
         }
     };
     match BufWriter::with_capacity(rt.alloc(), COPIED, made) {
-        Ok(target) => run_over(rt, job, file, target),
+        Ok(target) => run_over(rt, job, source.bytes.as_slice(), target),
         Err(_) => tell(rt, "out of memory", FAILED),
     }
 }
@@ -112,14 +147,66 @@ impl Target for BufWriter<File> {
     }
 }
 
+/// Standard output, which notes when its reader has left.
+#[derive(Drop)]
+struct Output<'a> {
+    stdout: Stdout,
+    reader_left: &'a Cell<bool>,
+}
+
+impl Write for Output<'_> {
+    fn write(&mut self, bytes: &[u8]) -> io::Result<usize> {
+        let written = self.stdout.write(bytes);
+        if let Err(error) = &written {
+            if error.kind() == io::ErrorKind::BrokenPipe {
+                self.reader_left.set(true);
+            }
+        }
+        written
+    }
+
+    fn flush(&mut self) -> io::Result<()> {
+        self.stdout.flush()
+    }
+}
+
+/// Standard error. Once the reader of standard output has left, it drops what it is given, which can
+/// only be the line of the failed write.
+#[derive(Drop)]
+struct ErrorOutput<'a> {
+    stderr: Stderr,
+    reader_left: &'a Cell<bool>,
+}
+
+impl Write for ErrorOutput<'_> {
+    fn write(&mut self, bytes: &[u8]) -> io::Result<usize> {
+        if self.reader_left.get() {
+            return Ok(bytes.len());
+        }
+        self.stderr.write(bytes)
+    }
+
+    fn flush(&mut self) -> io::Result<()> {
+        self.stderr.flush()
+    }
+}
+
 /// Does the job over the streams of the process and the target, with its output gathered. The
-/// output is written only once the target is finished: where that fails, nothing was said.
+/// output is written only once the target is finished: if that fails, nothing was said.
 fn run_over<T: Target + Drop>(rt: &HostRuntime, job: &Job, file: &[u8], target: T) -> u8 {
-    let Ok(gathered) = BufWriter::with_capacity(rt.alloc(), GATHERED, rt.stdout()) else {
+    let reader_left = Cell::new(false);
+    let output = Output {
+        stdout: rt.stdout(),
+        reader_left: &reader_left,
+    };
+    let Ok(gathered) = BufWriter::with_capacity(rt.alloc(), GATHERED, output) else {
         return tell(rt, "out of memory", FAILED);
     };
     let mut out = WriteSink::new(gathered);
-    let mut err = WriteSink::new(rt.stderr());
+    let mut err = WriteSink::new(ErrorOutput {
+        stderr: rt.stderr(),
+        reader_left: &reader_left,
+    });
     let mut target = WriteSink::new(target);
     let status = run(rt.alloc(), job, file, &mut out, &mut err, &mut target);
     match target.into_inner().finish() {
@@ -132,19 +219,21 @@ fn run_over<T: Target + Drop>(rt: &HostRuntime, job: &Job, file: &[u8], target: 
     }
 }
 
-/// Writes what was gathered, and answers the status. A flush that fails is a fault, whatever the
+/// Writes what was gathered, and returns the status. A flush that fails is a fault, whatever the
 /// job found, unless the job told it already; nothing is written then any more.
-fn write_out(rt: &HostRuntime, out: WriteSink<BufWriter<Stdout>>, code: u8) -> u8 {
+fn write_out(rt: &HostRuntime, out: WriteSink<BufWriter<Output<'_>>>, code: u8) -> u8 {
     let is_told = out.failures() > 0;
     let mut gathered = out.into_inner();
-    if gathered.flush().is_ok() {
-        return code;
-    }
-    let _unwritten = gathered.into_parts();
-    if is_told {
-        code
-    } else {
-        tell(rt, "write failed", FAILED)
+    match gathered.flush() {
+        Ok(()) => code,
+        Err(error) => {
+            let _unwritten = gathered.into_parts();
+            if is_told {
+                code
+            } else {
+                tell_unwritten(rt, &error)
+            }
+        }
     }
 }
 
