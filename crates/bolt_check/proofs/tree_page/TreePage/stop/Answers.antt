@@ -1,7 +1,7 @@
 use Rattle.std.proofs.Common.{◌∙◌, arith, sym}
 use Rattle.bolt_format.specs.ElementPlaces.{leaf_view}
 use Rattle.bolt_check.specs.Nodes.{leaf_entry}
-use Rattle.bolt_check.specs.Private.Pending.{page_spot}
+use Rattle.bolt_check.specs.Stops.{page_spot}
 use Rattle.bolt_check.proofs.NodeLemmas.{leaf-entry, length-leaf, step-leaf}
 use Rattle.bolt_check.proofs.tree_page.TreePage.stop.Goals as goal
 
