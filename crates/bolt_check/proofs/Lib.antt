@@ -1,38 +1,38 @@
-mod AccountFindingLemmas
-mod AccountFindingsOnce
-mod AccountLemmas
-mod AccountsAlong
+pub mod AccountFindingLemmas
+pub mod AccountFindingsOnce
+pub mod AccountLemmas
+pub mod AccountsAlong
 pub mod CheckedLemmas
-mod ClaimLemmas
-mod CountLemmas
-mod Forest
-mod FreelistLemmas
-mod Judging
+pub mod ClaimLemmas
+pub mod CountLemmas
+pub mod Forest
+pub mod FreelistLemmas
+pub mod Judging
 pub mod KeyLaws
-mod KeyOrder
-mod Lawful
-mod ListLemmas
-mod ListingLemmas
-mod MarkLemmas
-mod NodeLemmas
-mod PageLemmas
-mod Pendings
-mod RoleExists
+pub mod KeyOrder
+pub mod Lawful
+pub mod ListLemmas
+pub mod ListingLemmas
+pub mod MarkLemmas
+pub mod NodeLemmas
+pub mod PageLemmas
+pub mod Pendings
+pub mod RoleExists
 pub mod RoleFacts
-mod RoleLemmas
-mod RoleOnce
-mod SettledLemmas
-mod Shaping
-mod Single
-mod SoundLemmas
-mod TableLemmas
-mod TourExists
+pub mod RoleLemmas
+pub mod RoleOnce
+pub mod SettledLemmas
+pub mod Shaping
+pub mod Single
+pub mod SoundLemmas
+pub mod TableLemmas
+pub mod TourExists
 pub mod TourLemmas
 pub mod TourSums
 pub mod TreePages
-mod UseLemmas
-mod VisitLemmas
-mod Visited
-mod Visiting
+pub mod UseLemmas
+pub mod VisitLemmas
+pub mod Visited
+pub mod Visiting
 pub mod WayFacts
 pub mod WayOrder

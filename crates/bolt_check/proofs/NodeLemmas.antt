@@ -8,9 +8,9 @@ use Rattle.bolt_format.specs.Shown.{shown}
 use Rattle.bolt_format.proofs.PageLaws.{length-shown_branches, length-shown_leaves}
 use Rattle.bolt_check.specs.Findings.{keys_of}
 use Rattle.bolt_check.specs.Nodes.{Entry, branch_entry, leaf_entry}
-use Rattle.bolt_check.specs.Private.ShownNodes.{entries_of, shown_node}
+use Rattle.bolt_check.specs.ShownNodes.{entries_of, shown_node}
 use Rattle.bolt_check.specs.Keys.{Key}
-use Rattle.bolt_check.specs.Private.TreeKinds.{tree_kind}
+use Rattle.bolt_check.specs.TreeKinds.{tree_kind}
 use Rattle.bolt_check.specs.Ways.{At_page, PageSpot, bucket_spots, child_spot, step_entry, step_on, upper_from}
 use Rattle.bolt_check.specs.declared.tree_page.TreePage.{TreePage}
 

@@ -3,7 +3,7 @@ use Rattle.std.proofs.Common.{◌≡◌, ◌+◌, ◌*◌, ◌<◌, ◌≤◌, �
 use Rattle.bolt_format.specs.Pages.{IsInFile, PageView}
 use Rattle.bolt_format.specs.Shown.{shown}
 use Rattle.bolt_format.specs.declared.meta.Meta.{Meta}
-use Rattle.bolt_check.specs.Private.ShownNodes.{shown_node}
+use Rattle.bolt_check.specs.ShownNodes.{shown_node}
 use Rattle.bolt_check.specs.Private.Tables.{HasRoom}
 use Rattle.bolt_check.specs.Private.Uses.{use_of}
 use Rattle.bolt_check.specs.declared.table.PageUse.{PageUse}

@@ -12,7 +12,8 @@ use Rattle.bolt_check.specs.Nodes.{Nodes, Node, IsInSpan}
 use Rattle.bolt_check.specs.Ways.{Spot, At_page, Reach, reached, start_of}
 use Rattle.bolt_check.specs.Findings.{PagePasses, IsClaimedBefore, IsCovered, IsClean, IsFirst, IsMetaPage}
 use Rattle.bolt_check.specs.Private.SearchFaults.{IsSearchFault}
-use Rattle.bolt_check.specs.Private.Pending.{Claims, forest, kids, spot_at, spots_of}
+use Rattle.bolt_check.specs.Private.Pending.{Claims, forest, kids, spots_of}
+use Rattle.bolt_check.specs.Stops.{spot_at}
 use Rattle.bolt_check.specs.Private.Tables.{IsClaimed, IsUnclaimed, is_used, use_at}
 use Rattle.bolt_check.specs.declared.table.PageUse.{PageUse}
 use Rattle.bolt_check.proofs.Judging.{tests_same, passes_fewer}

@@ -1,6 +1,7 @@
 pub mod AccountFindings
 pub mod Accounts
 pub mod CheckedFiles
+pub mod Claims
 pub mod Findings
 pub mod Keys
 pub mod Nodes
@@ -9,7 +10,10 @@ pub mod Private
 pub mod RoledFiles
 pub mod Roles
 pub mod Shape
+pub mod ShownNodes
 pub mod Sound
+pub mod Stops
 pub mod Subtrees
 pub mod Tours
+pub mod TreeKinds
 pub mod Ways

@@ -4,6 +4,7 @@
 
 mod accounts;
 mod checked_file;
+mod claims;
 mod fault;
 mod finding;
 mod keys;
@@ -23,10 +24,13 @@ mod uses;
 mod visit;
 
 pub use checked_file::Checked;
+pub use claims::Claims;
 pub use fault::CheckFault;
 pub use finding::Finding;
 pub use no_memory::NoMemory;
 pub use role::Role;
 pub use role_table::Roles;
 pub use sound::{check, check_slot};
+pub use stop::{BucketStop, PageStop, Stop};
+pub use tree_page::TreePage;
 pub use uses::roles;

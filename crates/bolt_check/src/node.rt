@@ -1,18 +1,19 @@
 //! A page as a node of the tree: a branch or a leaf, and where its elements lead.
-ghost use Rattle.std.specs.Prelude.{◌≡◌, ◌<◌, MatchResult, IfOk, Ok, Err};
-ghost use Rattle.bolt_format.specs.Pages.{IsInFile};
+ghost use Rattle.std.specs.Prelude.{◌≡◌, ◌<◌, MatchResult, IfOk, Ok, Err, Some};
+ghost use Rattle.bolt_format.specs.Pages.{IsInFile, page_at};
 ghost use Rattle.bolt_format.specs.Shown.{shown};
 ghost use Rattle.bolt_check.specs.Nodes.{node_at};
-ghost use Rattle.bolt_check.specs.Private.ShownNodes.{shown_node};
+ghost use Rattle.bolt_check.specs.ShownNodes.{shown_node};
 
 use crate::tree_page::TreePage;
 use bolt_format::{Kind, Meta, PageFault, page};
 
 /// Opens page `id` as a node. The fault is the page's first one, or that it is neither a branch
 /// nor a leaf.
-#[tactic(auto, unfolding(crate::specs::Nodes::node_at, crate::specs::Private::ShownNodes::shown_node))]
+#[tactic(auto, unfolding(crate::specs::Nodes::node_at, crate::specs::ShownNodes::shown_node))]
 pub(crate) fn open<'a>(file: &'a [u8], meta: &Meta, id: u64) -> Result<TreePage<'a>, u8>
     ensures node { MatchResult result (λ node. node_at file.now meta.now id ≡ Ok (shown_node node)) (λ fault. node_at file.now meta.now id ≡ Err fault) }
+    ensures page { IfOk result (λ node. page_at file.now meta.now id ≡ Some (shown node.page)) }
     ensures within { IfOk result (λ node. IsInFile file.now meta.now id (shown node.page)) }
 {
     let page = match page(file, meta, id) {

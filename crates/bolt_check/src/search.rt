@@ -3,9 +3,10 @@ ghost use Rattle.std.specs.Prelude.{◌≡◌, ℕ, ◌<◌, ◌≤◌, ◌+◌,
 ghost use Rattle.bolt_check.specs.Findings.{IsClean, IsCovered, IsFirst, IsMetaPage};
 ghost use Rattle.bolt_check.specs.Nodes.{node_at};
 ghost use Rattle.bolt_check.specs.Private.Listings.{IsUnlisted};
-ghost use Rattle.bolt_check.specs.Private.Pending.{forest, kids, page_spot, spot_at, spots_of};
+ghost use Rattle.bolt_check.specs.Private.Pending.{forest, kids, spots_of};
+ghost use Rattle.bolt_check.specs.Stops.{page_spot, spot_at};
 ghost use Rattle.bolt_check.specs.Private.SearchFaults.{IsSearchFault};
-ghost use Rattle.bolt_check.specs.Private.ShownNodes.{shown_node};
+ghost use Rattle.bolt_check.specs.ShownNodes.{shown_node};
 ghost use Rattle.bolt_check.specs.Private.Tables.{HasRoom, IsClaimed, table_length, unclaimed};
 ghost use Rattle.bolt_check.specs.Private.Uses.{HasUse, IsMetaUse, IsNoted};
 ghost use Rattle.bolt_check.specs.Ways.{At_page, reached, start_of};
@@ -45,7 +46,7 @@ fn push_kids<'a>(
 
 /// A table in which the two meta pages are claimed, with a place for each whole page that lies in
 /// the file and below the high-water mark, and no other but the two.
-fn new_table(alloc: Global, file: &[u8], meta: &Meta) -> Result<Vec<PageUse>, AllocError>
+pub(crate) fn new_table(alloc: Global, file: &[u8], meta: &Meta) -> Result<Vec<PageUse>, AllocError>
     requires { 0 < meta.now.page_size }
     ensures metas { IfOk result (λ table. (n : ℕ) → IsClaimed table.items n ↔ IsMetaPage n) }
     ensures uses { IfOk result (λ table. (n : ℕ) (u : PageUse) → IsNoted table.items n u → IsMetaUse n u) }

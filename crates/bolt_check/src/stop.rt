@@ -1,11 +1,17 @@
 //! What is still to be visited.
+ghost use Rattle.std.specs.Prelude.{◌≡◌};
+ghost use Rattle.std.specs.Result.{result_err};
+ghost use Rattle.bolt_check.specs.Findings.{inline_finding};
+ghost use Rattle.bolt_check.specs.Stops.{inline_keys};
 
+use crate::finding::Finding;
+use crate::keys::test_inline_keys;
 use bolt_format::Inline;
 
 /// A page to be visited: its number, its place among the pages from its bucket's root page, which
 /// is the first, and the bounds of its keys.
 #[derive(Clone, Copy)]
-pub(crate) struct PageStop<'a> {
+pub struct PageStop<'a> {
     pub number: u64,
     pub depth: u8,
     pub lower: Option<&'a [u8]>,
@@ -14,13 +20,26 @@ pub(crate) struct PageStop<'a> {
 
 /// The page of an inline bucket to be visited, and the number of the page that holds the bucket.
 #[derive(Clone, Copy)]
-pub(crate) struct BucketStop<'a> {
+pub struct BucketStop<'a> {
     pub host: u64,
     pub page: Inline<'a>,
 }
 
+impl<'a> BucketStop<'a> {
+    /// Tests the keys of the inline page. A finding is of the page that holds the bucket.
+    pub fn test(&self) -> Result<(), Finding>
+        ensures { result_err result ≡ inline_finding self.now.host (inline_keys self.now.page) }
+    {
+        match test_inline_keys(&self.page) {
+            Ok(()) => Ok(()),
+            Err(number) => Err(Finding::of_page(number, self.host)),
+        }
+    }
+}
+
+/// What a way leads to: a page, or an inline bucket.
 #[derive(Clone, Copy)]
-pub(crate) enum Stop<'a> {
+pub enum Stop<'a> {
     Page(PageStop<'a>),
     Bucket(BucketStop<'a>),
 }

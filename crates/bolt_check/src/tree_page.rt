@@ -1,14 +1,14 @@
 //! A page that is a branch or a leaf.
-ghost use Rattle.std.specs.Prelude.{◌≡◌, ◌<◌, ◌≤◌, IsTrue, false, suc, Some, length, slice_get};
+ghost use Rattle.std.specs.Prelude.{◌≡◌, ◌<◌, ◌≤◌, IfSome, IsTrue, false, suc, Some, length, slice_get};
 ghost use Rattle.std.specs.Option.{option_map};
 ghost use Rattle.std.proofs.Props.{props};
 ghost use Rattle.bolt_format.specs.ElementPlaces.{leaf_view};
-ghost use Rattle.bolt_format.specs.Elements.{IsBucketValue};
+ghost use Rattle.bolt_format.specs.Elements.{IsBucketValue, LeafElement};
 ghost use Rattle.bolt_format.specs.Shown.{shown};
 ghost use Rattle.bolt_check.specs.Findings.{keys_of};
 ghost use Rattle.bolt_check.specs.Nodes.{leaf_entry};
-ghost use Rattle.bolt_check.specs.Private.Pending.{bound_of, page_spot, spot_at};
-ghost use Rattle.bolt_check.specs.Private.TreeKinds.{tree_kind};
+ghost use Rattle.bolt_check.specs.Stops.{IsInner, bound_of, page_spot, spot_at};
+ghost use Rattle.bolt_check.specs.TreeKinds.{tree_kind};
 ghost use Rattle.bolt_check.specs.Ways.{At_page, bucket_spots, step_on, upper_from};
 
 use crate::stop::{BucketStop, PageStop, Stop};
@@ -16,17 +16,17 @@ use bolt_format::{Leaf, Page, head, inline};
 
 /// A page that is a branch or a leaf.
 #[derive(Clone, Copy)]
-pub(crate) struct TreePage<'a> {
+pub struct TreePage<'a> {
     pub page: Page<'a>,
     pub is_leaf: bool,
-    ghost kind: { (shown page).kind ≡ tree_kind is_leaf } by { Prim.hlevel props },
+    pub ghost kind: { (shown page).kind ≡ tree_kind is_leaf } by { Prim.hlevel props },
 }
 
 impl<'a> TreePage<'a> {
-    ghost use Rattle.bolt_check.specs.Private.ShownNodes.{shown_node};
+    ghost use Rattle.bolt_check.specs.ShownNodes.{shown_node};
 
     /// How many elements it has.
-    #[tactic(auto, unfolding(crate::specs::Private::ShownNodes::shown_node))]
+    #[tactic(auto, unfolding(crate::specs::ShownNodes::shown_node))]
     pub fn count(&self) -> u16
         ensures { result ≡ length (shown_node self.now).entries }
     {
@@ -34,7 +34,7 @@ impl<'a> TreePage<'a> {
     }
 
     /// The key of element `i`.
-    #[tactic(auto, unfolding(crate::specs::Private::ShownNodes::shown_node))]
+    #[tactic(auto, unfolding(crate::specs::ShownNodes::shown_node))]
     pub fn key(&self, i: u16) -> &'a [u8]
         requires { i < length (shown_node self.now).entries }
         ensures { slice_get (keys_of (shown_node self.now).entries) i ≡ Some result.now }
@@ -47,11 +47,12 @@ impl<'a> TreePage<'a> {
     }
 
     /// Where element `i` leads from a stop at this page: a child of a branch, or a bucket of a leaf.
-    #[tactic(auto, unfolding(crate::specs::Private::ShownNodes::shown_node))]
+    #[tactic(auto, unfolding(crate::specs::ShownNodes::shown_node))]
     pub fn stop(&self, i: u16, stop: &PageStop<'a>) -> Option<Stop<'a>>
         requires below { i < length (shown_node self.now).entries }
         requires shallow { stop.now.depth ≤ 64 }
-        ensures { option_map spot_at result ≡ step_on (shown_node self.now) (page_spot stop.now) i }
+        ensures leads { option_map spot_at result ≡ step_on (shown_node self.now) (page_spot stop.now) i }
+        ensures inner { IfSome result (λ stop. (e : LeafElement) → slice_get (shown self.now.page).leaves i ≡ Some e → IsInner e.value stop) }
     {
         if self.is_leaf {
             bucket_stop(self.page.leaf(i), stop)
@@ -93,7 +94,8 @@ impl<'a> TreePage<'a> {
 /// page is the first again, and has no bounds.
 fn bucket_stop<'a>(leaf: Leaf<'a>, stop: &PageStop<'a>) -> Option<Stop<'a>>
     requires { IsTrue leaf.is_bucket → IsBucketValue leaf.value.now }
-    ensures { option_map spot_at result ≡ bucket_spots stop.now.number (leaf_entry (leaf_view leaf.entry)) }
+    ensures leads { option_map spot_at result ≡ bucket_spots stop.now.number (leaf_entry (leaf_view leaf.entry)) }
+    ensures inner { IfSome result (IsInner leaf.entry.value.now) }
 {
     if !leaf.is_bucket {
         return None;

@@ -1,11 +1,14 @@
 //! The visit of one page: its tests, and the claim of its span.
-ghost use Rattle.std.specs.Prelude.{◌≡◌, ◌<◌, ◌≤◌, IfErr, IfOk, Ok, OnOk};
+ghost use Rattle.std.specs.Prelude.{◌≡◌, ◌<◌, ◌≤◌, IfErr, IfOk, Ok, OnErr, OnOk, Some};
 ghost use Rattle.std.specs.Result.{result_err};
+ghost use Rattle.bolt_format.specs.Pages.{page_at};
+ghost use Rattle.bolt_format.specs.Shown.{shown};
 ghost use Rattle.bolt_check.specs.Findings.{PagePasses, PageTests, node_finding};
 ghost use Rattle.bolt_check.specs.Nodes.{node_at};
 ghost use Rattle.bolt_check.specs.Private.Listings.{IsUnlisted};
-ghost use Rattle.bolt_check.specs.Private.Pending.{Claims, page_spot};
-ghost use Rattle.bolt_check.specs.Private.ShownNodes.{shown_node};
+ghost use Rattle.bolt_check.specs.Private.Pending.{Claims};
+ghost use Rattle.bolt_check.specs.Stops.{page_spot};
+ghost use Rattle.bolt_check.specs.ShownNodes.{shown_node};
 ghost use Rattle.bolt_check.specs.Private.Tables.{HasRoom, IsClaimed, unclaimed};
 ghost use Rattle.bolt_check.specs.Private.Uses.{Notes, use_of};
 ghost use Rattle.bolt_check.specs.Ways.{At_page};
@@ -30,6 +33,8 @@ pub(crate) fn visit<'a>(
 ) -> Result<TreePage<'a>, Finding>
     requires { HasRoom file.now meta.now table.old }
     ensures found { IfErr result (PageTests (node_at file.now meta.now) (IsClaimed table.old) (page_spot stop.now)) }
+    ensures same { OnErr result (table.new ≡ table.old) }
+    ensures page { IfOk result (λ node. page_at file.now meta.now stop.now.number ≡ Some (shown node.page)) }
     ensures node { IfOk result (λ node. node_at file.now meta.now stop.now.number ≡ Ok (shown_node node)) }
     ensures passes { OnOk result (PagePasses (node_at file.now meta.now) (IsClaimed table.old) (page_spot stop.now)) }
     ensures claims { OnOk result (Claims (node_at file.now meta.now) (At_page (page_spot stop.now)) table.old table.new) }
@@ -69,7 +74,7 @@ fn first_use(node: &TreePage<'_>) -> PageUse
 }
 
 /// Tests what a page holds: a branch has an element, and then the keys.
-#[tactic(auto, unfolding(crate::specs::Private::ShownNodes::shown_node))]
+#[tactic(auto, unfolding(crate::specs::ShownNodes::shown_node))]
 fn test_node(node: &TreePage<'_>, stop: &PageStop<'_>) -> Result<(), Finding>
     ensures { result_err result ≡ node_finding (shown_node node.now) (page_spot stop.now) }
 {

@@ -24,7 +24,7 @@ impl<'a> Item<'a> {
     ghost use Rattle.bolt_tree.specs.ShownEntries.{item_view};
 
     /// What stands under the key of a leaf element.
-    pub(crate) fn of(leaf: &Leaf<'a>) -> Item<'a>
+    pub fn of(leaf: &Leaf<'a>) -> Item<'a>
         requires { IsTrue leaf.now.is_bucket → IsBucketValue leaf.now.value.now }
         ensures { item_view result ≡ item_of (leaf_view leaf.now) }
     {

@@ -1,32 +1,11 @@
 -- The spots that are still to be visited, as ways: the first number of a way picks the spot.
 use Rattle.std.specs.Prelude.{ℕ, ◌⊎◌, Bool, List, [], ◌∷◌, map, reverse, Option, Some, None, slice_get}
-use Rattle.std.specs.Borrow.{Bor}
-use Rattle.bolt_format.specs.ShownInline.{shown_inline}
-use Rattle.bolt_format.specs.Elements.{LeafElement}
-use Rattle.bolt_format.specs.declared.bucket.Inline.{Inline}
-use Rattle.bolt_check.specs.Keys.{Key}
 use Rattle.bolt_check.specs.Nodes.{Entry, Node, Nodes}
 use Rattle.bolt_check.specs.Ways.{At_inline, At_page, PageSpot, Reach, SpanHas, Spot, follow, spot_of, upper_from}
+use Rattle.bolt_check.specs.Stops.{spot_at}
 use Rattle.bolt_check.specs.Private.Tables.{IsClaimed}
 use Rattle.bolt_check.specs.declared.table.PageUse.{PageUse}
-use Rattle.bolt_check.specs.declared.stop.PageStop.{PageStop}
 use Rattle.bolt_check.specs.declared.stop.Stop.{Stop}
-use Rattle.bolt_check.specs.declared.stop.Stop.TheVariants.{Page, Bucket}
-
--- a stop of the code as a spot
-abbrev pub bound_of : Option (Bor (List ℕ)) → Option (List ℕ)
-bound_of None = None
-bound_of (Some bound) = Some bound.now
-
-abbrev pub page_spot : PageStop → PageSpot
-page_spot stop = record { number = stop.number; depth = stop.depth; lower = bound_of stop.lower; upper = bound_of stop.upper }
-
-abbrev pub inline_keys : Inline → List Key
-inline_keys page = map (λ (e : LeafElement). e.key) (shown_inline page)
-
-abbrev pub spot_at : Stop → Spot
-spot_at (Page stop) = At_page (page_spot stop)
-spot_at (Bucket stop) = At_inline stop.host (inline_keys stop.page)
 
 -- the pending spots, the first to be visited first
 abbrev pub spots_of : List Stop → List Spot

@@ -1,7 +1,8 @@
 use Rattle.std.proofs.Common.{◌∙◌, ◌∷◌, inl, vec_len}
 use Rattle.bolt_check.specs.Findings.{IsMetaPage}
 use Rattle.bolt_check.specs.Nodes.{node_at}
-use Rattle.bolt_check.specs.Private.Pending.{forest, spot_at, spots_of}
+use Rattle.bolt_check.specs.Private.Pending.{forest, spots_of}
+use Rattle.bolt_check.specs.Stops.{spot_at}
 use Rattle.bolt_check.specs.Private.SearchFaults.{IsSearchFault}
 use Rattle.bolt_check.specs.Private.Tables.{IsClaimed}
 use Rattle.bolt_check.specs.Ways.{reached}

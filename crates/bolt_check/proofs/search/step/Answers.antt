@@ -2,8 +2,9 @@ use Rattle.std.proofs.Common.{◌≡◌, length, drop, sym, arith, ap}
 use Rattle.std.proofs.lemmas.Grind.{common_steps}
 use Rattle.bolt_check.specs.Findings.{finding_of}
 use Rattle.bolt_check.specs.Nodes.{node_at}
-use Rattle.bolt_check.specs.Private.Pending.{inline_keys, page_spot, spots_of}
-use Rattle.bolt_check.specs.Private.ShownNodes.{shown_node}
+use Rattle.bolt_check.specs.Private.Pending.{spots_of}
+use Rattle.bolt_check.specs.Stops.{inline_keys, page_spot}
+use Rattle.bolt_check.specs.ShownNodes.{shown_node}
 use Rattle.bolt_check.specs.Private.Tables.{IsClaimed}
 use Rattle.bolt_check.specs.Ways.{At_inline, At_page}
 use Rattle.bolt_check.proofs.Forest.{found_step, clean_inline, first_inline, covered_inline}

@@ -1,8 +1,8 @@
 use Rattle.std.proofs.Common.{◌∙◌, sym, refl, arith}
 use Rattle.bolt_check.specs.Findings.{twice, late}
 use Rattle.bolt_check.specs.Nodes.{node_at}
-use Rattle.bolt_check.specs.Private.Pending.{page_spot}
-use Rattle.bolt_check.specs.Private.ShownNodes.{shown_node}
+use Rattle.bolt_check.specs.Stops.{page_spot}
+use Rattle.bolt_check.specs.ShownNodes.{shown_node}
 use Rattle.bolt_check.proofs.Lawful.{early_passes}
 use Rattle.bolt_check.proofs.Visited.{claims_made, not_both}
 use Rattle.bolt_check.proofs.UseLemmas.{notes_made}

@@ -1,7 +1,7 @@
 use Rattle.std.proofs.Common.{arith}
 use Rattle.bolt_format.specs.ElementPlaces.{branch_view}
 use Rattle.bolt_check.specs.Nodes.{branch_entry}
-use Rattle.bolt_check.specs.Private.Pending.{bound_of, page_spot}
+use Rattle.bolt_check.specs.Stops.{bound_of, page_spot}
 use Rattle.bolt_check.proofs.NodeLemmas.{branch-entry, length-branch, step-branch}
 use Rattle.bolt_check.proofs.tree_page.TreePage.child.Goals as goal
 

@@ -1,0 +1,20 @@
+-- What the pages claimed so far show.
+use Rattle.std.specs.Prelude.{ℕ, Bool, List}
+use Rattle.bolt_format.specs.declared.meta.Meta.{Meta}
+use Rattle.bolt_check.specs.Private.Tables.{is_used, unclaimed, use_at}
+use Rattle.bolt_check.specs.declared.claims.Claims.{Claims}
+
+-- the file whose pages they are, and the meta under which it is read
+unfoldable pub claims_file : Claims → List ℕ
+claims_file claims = claims.file.now
+
+unfoldable pub claims_meta : Claims → Meta
+claims_meta claims = claims.meta
+
+-- whether page n is claimed
+unfoldable pub is_claimed : Claims → ℕ → Bool
+is_claimed claims n = is_used (use_at claims.table.items n)
+
+-- how many pages of the table are not claimed
+unfoldable pub pages_left : Claims → ℕ
+pages_left claims = unclaimed claims.table.items
