@@ -98,6 +98,17 @@ module _ (file : List ℕ) (meta : Meta) where
       step_after (node_at file meta) meta.root i on.way (At_page on.spot) (Some (bucket_spot on.spot.number (leaf_entry e))) on.led
       (step_bucket (node_at file meta) on.spot i (leaf_node view) (leaf_entry e) (spot_node number depth (leaf_node view) on node) refl (leaf_entry_at view.leaves i e g) b)
 
+  -- the root page of a bucket on a leaf
+  pub on_bucket : (number depth i : ℕ) (view : PageView) (e : LeafElement) → IsOnWay file meta number depth → node_at file meta number ≡ Ok (leaf_node view)
+      → slice_get view.leaves i ≡ Some e → e.is_bucket ≡ true → (head_root e.value == 0) ≡ false → IsOnWay file meta (head_root e.value) 1
+  on_bucket number depth i view e on node g b own = record {
+    way = on.way ++ i ∷ [];
+    spot = start_of (head_root e.value);
+    led = after_bucket number depth i view e on node g b ∙ rw own refl;
+    is = refl;
+    deep = refl;
+  }
+
   -- the inline page of a bucket on a leaf
   pub inline_reached : (number depth i : ℕ) (view : PageView) (e : LeafElement) (on : IsOnWay file meta number depth) → node_at file meta number ≡ Ok (leaf_node view)
       → slice_get view.leaves i ≡ Some e → e.is_bucket ≡ true → (head_root e.value == 0) ≡ true

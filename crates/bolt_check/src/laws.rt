@@ -1,8 +1,12 @@
 //! What the definitions of sound files imply.
-ghost use Rattle.std.specs.Prelude.{◌≡◌, ◌↔◌, ◌<◌, ℕ, List, Some};
+ghost use Rattle.std.specs.Prelude.{◌≡◌, ◌≢◌, ◌↔◌, ◌<◌, ◌+◌, ℕ, IsTrue, List, Some, slice_get};
+ghost use Rattle.bolt_format.specs.Elements.{BranchElement, LeafElement, head_root};
+ghost use Rattle.bolt_format.specs.Pages.{PageView, page_at};
+ghost use Rattle.bolt_format.specs.declared.kind.Kind.TheVariants as kind;
 ghost use Rattle.bolt_format.specs.declared.meta.Meta.{Meta};
 ghost use Rattle.bolt_check.specs.AccountFindings.{AreAccountFindings};
 ghost use Rattle.bolt_check.specs.Nodes.{node_at};
+ghost use Rattle.bolt_check.specs.OnWays.{IsOnWay};
 ghost use Rattle.bolt_check.specs.Roles.{AreRoles, HasRole};
 ghost use Rattle.bolt_check.specs.Sound.{HasRightAccounts, HasSoundTrees, IsFirstFinding, IsUsed, PassesTests};
 ghost use Rattle.bolt_check.specs.Tours.{IsTour};
@@ -43,6 +47,18 @@ pub fn role_exists()
 /// In a sound file all pages together have roles.
 pub fn roles_exist()
     ensures { (file : List ℕ) (meta : Meta) → HasSoundTrees file meta → HasRightAccounts file meta → (roles : ℕ → Role) × AreRoles file meta roles }
+{}
+
+/// A way leads to the root page of the root bucket. From a page that a way leads to, a way leads to
+/// each child of a branch, one page deeper, and to the root page of each bucket on a leaf, unless
+/// that is inline.
+pub fn ways_go_on()
+    ensures root { (file : List ℕ) (meta : Meta) → IsOnWay file meta meta.root 1 }
+    ensures child { (file : List ℕ) (meta : Meta) (n depth i : ℕ) (view : PageView) (e : BranchElement) → IsOnWay file meta n depth
+        → page_at file meta n ≡ Some view → view.kind ≡ kind.Branch → slice_get view.branches i ≡ Some e → IsOnWay file meta e.child (depth + 1) }
+    ensures bucket { (file : List ℕ) (meta : Meta) (n depth i : ℕ) (view : PageView) (e : LeafElement) → IsOnWay file meta n depth
+        → page_at file meta n ≡ Some view → view.kind ≡ kind.Leaf → slice_get view.leaves i ≡ Some e → IsTrue e.is_bucket → head_root e.value ≢ 0
+        → IsOnWay file meta (head_root e.value) 1 }
 {}
 
 /// In sound trees each bucket has a tour.

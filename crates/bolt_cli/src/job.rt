@@ -1,7 +1,7 @@
 //! What a command line asks for.
 
 use crate::page_size::PageSize;
-use bolt_format::Slot;
+use bolt_format::{METAS_END, Slot};
 use bolt_report::Form;
 
 /// What the words of a command line ask for (docs/COMMANDS.md). The slot is that of the meta under
@@ -67,6 +67,7 @@ pub enum Job {
 
 impl Job {
     ghost use Rattle.std.specs.Prelude.{◌≡◌, option_map};
+    ghost use Rattle.bolt_cli.specs.Needs.{needed_length};
     ghost use Rattle.bolt_cli.specs.PlainWords.{file_name, target_name};
 
     /// The FILE that the job is done on.
@@ -107,6 +108,17 @@ impl Job {
                 target: _,
                 page_size: _,
             } => file.as_str(),
+        }
+    }
+
+    /// How many of FILE's first bytes the job needs, or `None` if it needs them all. On these bytes it
+    /// does what it does on the whole file (`laws::needed_bytes_are_enough`).
+    pub fn needed_length(&self) -> Option<u64>
+        ensures { result ≡ needed_length self.now }
+    {
+        match self {
+            Job::Info { file: _ } => Some(METAS_END),
+            _ => None,
         }
     }
 

@@ -10,6 +10,7 @@ mod get_command;
 mod info_command;
 mod job;
 mod keys_command;
+pub mod laws;
 mod list_command;
 mod open_bucket;
 mod open_checked;

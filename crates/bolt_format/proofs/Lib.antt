@@ -5,6 +5,7 @@ mod GoodPages
 pub mod ListLemmas
 mod MetaFaultLemmas
 mod MetaLemmas
+mod MetaPrefix
 pub mod PageFacts
 pub mod PageLaws
 pub mod SinkLemmas

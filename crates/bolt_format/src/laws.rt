@@ -1,14 +1,15 @@
 //! What the definitions of metas and of pages imply.
-ghost use Rattle.std.specs.Prelude.{◌≡◌, ℕ, false, IsTrue, List, Some, Contains};
+ghost use Rattle.std.specs.Prelude.{◌≡◌, ◌↔◌, ℕ, false, IsTrue, List, Some, Contains, take};
 ghost use Rattle.bolt_format.specs.Bytes.{IsBytes};
 ghost use Rattle.bolt_format.specs.ElementLengths.{HasFitLengths};
 ghost use Rattle.bolt_format.specs.Elements.{IsBucketValue, LeafElement, head_root, inline_elements};
-ghost use Rattle.bolt_format.specs.Metas.{HasMetaFault, IsInSlot, IsMeta};
+ghost use Rattle.bolt_format.specs.Metas.{HasMetaFault, HasSlotFault, IsChosen, IsInSlot, IsMeta};
 ghost use Rattle.bolt_format.specs.Pages.{PageView, page_at};
 ghost use Rattle.bolt_format.specs.declared.kind.Kind.TheVariants as kind;
 ghost use Rattle.bolt_format.specs.declared.meta.Meta.{Meta};
 ghost use Rattle.bolt_format.specs.declared.meta.MetaFault.{MetaFault};
 ghost use Rattle.bolt_format.specs.declared.meta.Slot.{Slot};
+ghost use Rattle.bolt_format.specs.declared.meta.TheConstants.{METAS_END};
 
 /// The page at a byte has at most one fault, and none where its meta is valid.
 pub fn meta_fault_is_one()
@@ -19,6 +20,15 @@ pub fn meta_fault_is_one()
 /// A slot has at most one valid meta.
 pub fn slot_meta_is_one()
     ensures { (file : List ℕ) (slot : Slot) (a b : Meta) → IsInSlot file slot a → IsInSlot file slot b → a ≡ b }
+{}
+
+/// The metas of a file are those of its first `METAS_END` bytes, and so are the faults of slots
+/// without one.
+pub fn metas_lie_in_a_prefix()
+    ensures chosen { (file : List ℕ) (slot : Slot) (meta : Meta) → IsChosen (take METAS_END file) slot meta ↔ IsChosen file slot meta }
+    ensures slot { (file : List ℕ) (slot : Slot) (meta : Meta) → IsInSlot (take METAS_END file) slot meta ↔ IsInSlot file slot meta }
+    ensures fault { (file : List ℕ) (fault : MetaFault) → HasMetaFault (take METAS_END file) 0 fault ↔ HasMetaFault file 0 fault }
+    ensures slot_fault { (file : List ℕ) (slot : Slot) (fault : MetaFault) → HasSlotFault (take METAS_END file) slot fault ↔ HasSlotFault file slot fault }
 {}
 
 /// The elements of a good leaf, and those of an inline bucket, have lengths that the format allows;

@@ -31,7 +31,8 @@ pub use good_page::Page;
 pub use kind::Kind;
 pub use mem_sink::MemSink;
 pub use meta::{
-    Meta, MetaFault, NO_FREELIST, PAGE_SIZES, Slot, choose, meta_at, page_size_ok, slot_meta,
+    METAS_END, Meta, MetaFault, NO_FREELIST, PAGE_SIZES, Slot, choose, meta_at, page_size_ok,
+    slot_meta,
 };
 pub use open_bucket::{head, inline};
 pub use open_freelist::free_ids;

@@ -11,6 +11,10 @@ pub const PAGE_SIZES: [u64; 16] = [
     2_097_152, 4_194_304, 8_388_608, 16_777_216, 33_554_432,
 ];
 
+/// No meta record has a byte from this one on: the greatest page size, and behind it a header and a
+/// record, which end 80 bytes further.
+pub const METAS_END: u64 = 33_554_512;
+
 /// The freelist field of a meta without a freelist.
 pub const NO_FREELIST: u64 = u64::MAX;
 

@@ -1,11 +1,30 @@
 //! What the definitions of a bucket's entries and of its pages imply.
-ghost use Rattle.std.specs.Prelude.{◌≡◌, ◌≤◌, ◌+◌, ℕ, List};
-ghost use Rattle.bolt_format.specs.Elements.{LeafElement};
+ghost use Rattle.std.specs.Prelude.{◌≡◌, ◌≢◌, ◌≤◌, ◌+◌, ℕ, IsTrue, List, Some, slice_get};
+ghost use Rattle.bolt_format.specs.Elements.{LeafElement, head_root, inline_elements};
+ghost use Rattle.bolt_format.specs.Pages.{PageView, page_at};
+ghost use Rattle.bolt_format.specs.declared.kind.Kind.TheVariants as kind;
 ghost use Rattle.bolt_format.specs.declared.meta.Meta.{Meta};
+ghost use Rattle.bolt_check.specs.OnWays.{IsOnWay};
 ghost use Rattle.bolt_check.specs.Sound.{HasSoundTrees};
-ghost use Rattle.bolt_tree.specs.Entries.{AreEntries, IsEntry, IsStart, Start};
+ghost use Rattle.bolt_tree.specs.Entries.{AreEntries, Inline_page, IsEntry, IsStart, Root_page, Start};
 ghost use Rattle.bolt_tree.specs.Openings.{GapsCoverAll, IsGap, IsSeekCount};
 ghost use Rattle.bolt_tree.specs.Places.{least_from};
+
+use bolt_check::laws::ways_go_on;
+
+/// The root bucket begins at the root page. A bucket on a leaf that a way leads to begins at its own
+/// root page, or in its value if it is inline.
+pub fn buckets_begin_on_ways()
+    ensures root { (file : List ℕ) (meta : Meta) → IsStart file meta (Root_page meta.root) }
+    ensures page { (file : List ℕ) (meta : Meta) (n depth i : ℕ) (view : PageView) (e : LeafElement) → IsOnWay file meta n depth
+        → page_at file meta n ≡ Some view → view.kind ≡ kind.Leaf → slice_get view.leaves i ≡ Some e → IsTrue e.is_bucket → head_root e.value ≢ 0
+        → IsStart file meta (Root_page (head_root e.value)) }
+    ensures inline { (file : List ℕ) (meta : Meta) (n depth i : ℕ) (view : PageView) (e : LeafElement) → IsOnWay file meta n depth
+        → page_at file meta n ≡ Some view → view.kind ≡ kind.Leaf → slice_get view.leaves i ≡ Some e → IsTrue e.is_bucket → head_root e.value ≡ 0
+        → IsStart file meta (Inline_page (inline_elements e.value)) }
+{
+    ways_go_on();
+}
 
 /// Each bucket of a sound tree has its entries in order.
 pub fn sorted_entries_exist()

@@ -95,11 +95,15 @@ fn run_job(rt: &HostRuntime, job: &Job) -> u8 {
     }
 }
 
+/// Reads FILE, or only the first bytes of it if the job needs no more.
 fn read_source(rt: &HostRuntime, job: &Job) -> io::Result<Source> {
     let mut file = File::open(rt, job.file())?;
     let permissions = file.metadata()?.mode() & PERMISSIONS;
     let mut bytes = Vec::new(rt.alloc());
-    file.read_to_end(&mut bytes)?;
+    match job.needed_length() {
+        Some(length) => file.take(length).read_to_end(&mut bytes)?,
+        None => file.read_to_end(&mut bytes)?,
+    };
     Ok(Source { bytes, permissions })
 }
 

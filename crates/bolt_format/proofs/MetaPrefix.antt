@@ -1,0 +1,165 @@
+-- The metas of a file lie in a prefix of it.
+use Rattle.std.proofs.Common.{◌≡◌, ◌∙◌, ◌⊎◌, ◌==◌, ℕ, zero, suc, ◌+◌, ◌-◌, ◌*◌, ◌^◌, ◌<◌, ◌≤◌, min, List, [], ◌∷◌, length, map, take, drop, IsTrue, arith, sym, ap, inl, inr, subst, refl}
+use Rattle.std.specs.List.{AllByRecursion, list_any, range_with_len}
+use Rattle.std.proofs.Math.Nat.{pow-le-pow_right}
+use Rattle.std.proofs.lemmas.Bool.{eqb-true, or_cases}
+use Rattle.std.proofs.lemmas.List.{drop-take, length-take, take-take}
+use Rattle.byteorder.specs.Endian.{little_number}
+use Rattle.byteorder.specs.Numbers.{little_from-take}
+use Rattle.bolt_format.specs.Bytes.{fnv_of, number_at}
+use Rattle.bolt_format.specs.Metas.{HasMetaFault, HasSlotFault, IsChosen, IsInOne, IsInSlot, IsLoneMeta, IsMeta, IsPageSize, IsPlaced, IsWhole, meta_fields, other_slot, page_size_count, page_sizes, size_at}
+use Rattle.bolt_format.specs.declared.meta.Meta.{Meta}
+use Rattle.bolt_format.specs.declared.meta.MetaFault.{MetaFault}
+use Rattle.bolt_format.specs.declared.meta.MetaFault.TheVariants.{Cut, Magic, Version, Sum, PageSize}
+use Rattle.bolt_format.specs.declared.meta.Slot.{Slot}
+use Rattle.bolt_format.specs.declared.meta.Slot.TheVariants.{Zero, One}
+use Rattle.bolt_format.specs.declared.meta.TheConstants.{METAS_END}
+
+-- ---- two files with the same record at a byte
+
+pub record SameRecord (file other : List ℕ) (at : ℕ) : Type 0 where
+  pub whole : IsWhole file at → IsWhole other at
+  pub part : IsWhole other at → IsWhole file at
+  pub numbers : (from n : ℕ) → from + n ≤ 80 → number_at other (at + from) n ≡ number_at file (at + from) n
+  pub hashed : take 56 (drop (at + 16) other) ≡ take 56 (drop (at + 16) file)
+
+same_back : (file other : List ℕ) (at : ℕ) → SameRecord file other at → SameRecord other file at
+same_back file other at s = record {
+  whole = s.part;
+  part = s.whole;
+  numbers = λ from n h. sym (s.numbers from n h);
+  hashed = sym s.hashed;
+}
+
+size_same : (file other : List ℕ) (at : ℕ) → SameRecord file other at → size_at other at ≡ size_at file at
+size_same file other at s = s.numbers 24 4 (omega arith)
+
+fields_same : (file other : List ℕ) (at : ℕ) → SameRecord file other at → meta_fields file at ≡ meta_fields other at
+fields_same file other at s =
+    rw (s.numbers 24 4 (omega arith), s.numbers 32 8 (omega arith), s.numbers 40 8 (omega arith), s.numbers 48 8 (omega arith), s.numbers 56 8 (omega arith), s.numbers 64 8 (omega arith)) refl
+
+placed_same : (file other : List ℕ) (at : ℕ) → SameRecord file other at → IsPlaced file at → IsPlaced other at
+placed_same file other at s (inl first) = inl first
+placed_same file other at s (inr second) = inr (second ∙ sym (size_same file other at s))
+
+sum_same : (file other : List ℕ) (at : ℕ) → SameRecord file other at → number_at file (at + 72) 8 ≡ fnv_of (take 56 (drop (at + 16) file))
+    → number_at other (at + 72) 8 ≡ fnv_of (take 56 (drop (at + 16) other))
+sum_same file other at s e = s.numbers 72 8 (omega arith) ∙ (e ∙ ap fnv_of (sym s.hashed))
+
+meta_same : (file other : List ℕ) (at : ℕ) (meta : Meta) → SameRecord file other at → IsMeta file at meta → IsMeta other at meta
+meta_same file other at meta s valid = record {
+  whole = s.whole valid.whole;
+  magic = s.numbers 16 4 (omega arith) ∙ valid.magic;
+  version = s.numbers 20 4 (omega arith) ∙ valid.version;
+  sum = sum_same file other at s valid.sum;
+  size = subst IsPageSize (sym (size_same file other at s)) valid.size;
+  place = placed_same file other at s valid.place;
+  fields = valid.fields ∙ fields_same file other at s;
+}
+
+fault_same : (file other : List ℕ) (at : ℕ) (fault : MetaFault) → SameRecord file other at → HasMetaFault file at fault → HasMetaFault other at fault
+fault_same file other at Cut s h = λ whole. h (s.part whole)
+fault_same file other at Magic s (whole, bad) = (s.whole whole, λ good. bad (sym (s.numbers 16 4 (omega arith)) ∙ good))
+fault_same file other at Version s (whole, magic, bad) =
+    (s.whole whole, s.numbers 16 4 (omega arith) ∙ magic, λ good. bad (sym (s.numbers 20 4 (omega arith)) ∙ good))
+fault_same file other at Sum s (whole, magic, version, bad) =
+    (s.whole whole, s.numbers 16 4 (omega arith) ∙ magic, s.numbers 20 4 (omega arith) ∙ version, λ good. bad (sum_same other file at (same_back file other at s) good))
+fault_same file other at PageSize s (whole, magic, version, sum, inl bad) =
+    (s.whole whole, s.numbers 16 4 (omega arith) ∙ magic, s.numbers 20 4 (omega arith) ∙ version, sum_same file other at s sum, inl (λ good. bad (subst IsPageSize (size_same file other at s) good)))
+fault_same file other at PageSize s (whole, magic, version, sum, inr bad) =
+    (s.whole whole, s.numbers 16 4 (omega arith) ∙ magic, s.numbers 20 4 (omega arith) ∙ version, sum_same file other at s sum, inr (λ good. bad (placed_same other file at (same_back file other at s) good)))
+
+-- ---- two files with the same record wherever a meta page may begin
+
+abbrev pub SameMetas : List ℕ → List ℕ → Type 0
+SameMetas file other = (at : ℕ) → (at ≡ 0) ⊎ IsPageSize at → SameRecord file other at
+
+metas_back : (file other : List ℕ) → SameMetas file other → SameMetas other file
+metas_back file other s = λ at h. same_back file other at (s at h)
+
+size_of : (file : List ℕ) (at : ℕ) (meta : Meta) → IsMeta file at meta → IsPageSize meta.page_size
+size_of file at meta valid = subst (λ (m : Meta). IsPageSize m.page_size) (sym valid.fields) valid.size
+
+lone_same : (file other : List ℕ) (meta : Meta) → SameMetas file other → IsLoneMeta file meta → IsLoneMeta other meta
+lone_same file other meta s lone = record {
+  at = lone.at;
+  tried = lone.tried;
+  valid = meta_same file other lone.at meta (s lone.at (inr lone.tried)) lone.valid;
+  least = λ before m size less valid. lone.least before m size less (meta_same other file before m (metas_back file other s before (inr size)) valid);
+}
+
+one_same : (file other : List ℕ) (meta : Meta) → SameMetas file other → IsInOne file meta → IsInOne other meta
+one_same file other meta s (inl (first_meta, first, second)) =
+    inl (first_meta, meta_same file other 0 first_meta (s 0 (inl refl)) first, meta_same file other first_meta.page_size meta (s first_meta.page_size (inr (size_of file 0 first_meta first))) second)
+one_same file other meta s (inr (none, lone)) =
+    inr (λ m valid. none m (meta_same other file 0 m (metas_back file other s 0 (inl refl)) valid), lone_same file other meta s lone)
+
+pub slot_same : (file other : List ℕ) (slot : Slot) (meta : Meta) → SameMetas file other → IsInSlot file slot meta → IsInSlot other slot meta
+slot_same file other Zero meta s valid = meta_same file other 0 meta (s 0 (inl refl)) valid
+slot_same file other One meta s valid = one_same file other meta s valid
+
+pub chosen_same : (file other : List ℕ) (slot : Slot) (meta : Meta) → SameMetas file other → IsChosen file slot meta → IsChosen other slot meta
+chosen_same file other slot meta s chosen = record {
+  valid = slot_same file other slot meta s chosen.valid;
+  newest = λ m valid. chosen.newest m (slot_same other file (other_slot slot) m (metas_back file other s) valid);
+}
+
+pub first_fault_same : (file other : List ℕ) (fault : MetaFault) → SameMetas file other → HasMetaFault file 0 fault → HasMetaFault other 0 fault
+first_fault_same file other fault s h = fault_same file other 0 fault (s 0 (inl refl)) h
+
+pub slot_fault_same : (file other : List ℕ) (slot : Slot) (fault : MetaFault) → SameMetas file other → HasSlotFault file slot fault → HasSlotFault other slot fault
+slot_fault_same file other Zero fault s h = first_fault_same file other fault s h
+slot_fault_same file other One fault s (inl (first_meta, first, h)) =
+    inl (first_meta, meta_same file other 0 first_meta (s 0 (inl refl)) first, fault_same file other first_meta.page_size fault (s first_meta.page_size (inr (size_of file 0 first_meta first))) h)
+slot_fault_same file other One fault s (inr (none, h)) =
+    inr (λ m valid. none m (meta_same other file 0 m (metas_back file other s 0 (inl refl)) valid), first_fault_same file other fault s h)
+
+-- ---- a file and its prefix
+
+-- what lies within a prefix
+prefix_number : (file : List ℕ) (end at n : ℕ) → at + n ≤ end → number_at (take end file) at n ≡ number_at file at n
+unfolding number_at
+prefix_number file end at n h =
+    let split : end ≡ at + (end - at) = omega arith in
+    let rest : drop at (take end file) ≡ take (end - at) (drop at file) = ap (λ (k : ℕ). drop at (take k file)) split ∙ drop-take at (end - at) file in
+    ap (little_number n) rest ∙ little_from-take 0 n (end - at) (drop at file) (omega arith)
+
+prefix_hashed : (file : List ℕ) (end at n : ℕ) → at + n ≤ end → take n (drop at (take end file)) ≡ take n (drop at file)
+prefix_hashed file end at n h =
+    let split : end ≡ at + (end - at) = omega arith in
+    let rest : drop at (take end file) ≡ take (end - at) (drop at file) = ap (λ (k : ℕ). drop at (take k file)) split ∙ drop-take at (end - at) file in
+    ap (λ (xs : List ℕ). take n xs) rest ∙ take-take n (end - at) (drop at file) (omega arith)
+
+same_record : (file : List ℕ) (end at : ℕ) → at + 80 ≤ end → SameRecord file (take end file) at
+same_record file end at h =
+    let long = length-take end file in
+    record {
+      whole = λ w. omega (arith, long, w, h);
+      part = λ w. omega (arith, long, w, h);
+      numbers = λ from n k. prefix_number file end (at + from) n (omega (arith, h, k));
+      hashed = prefix_hashed file end (at + 16) 56 (omega (arith, h));
+    }
+
+-- an accepted page size is at most the greatest of the table
+sizes_below : (k n : ℕ) → k + n ≤ page_size_count → AllByRecursion (λ size. size ≤ 33554432) (map (λ k. 1024 * 2 ^ k) (range_with_len k n))
+sizes_below k zero h = tt
+sizes_below k (suc n) h =
+    let high : 2 ^ k ≤ 2 ^ 15 = pow-le-pow_right {n = 2} (omega arith) {i = k} {j = 15} (omega arith) in
+    (omega arith, sizes_below (k + 1) n (omega arith))
+
+one_below : (sizes : List ℕ) (n : ℕ) → AllByRecursion (λ size. size ≤ 33554432) sizes → IsTrue (list_any (λ size. size == n) sizes) → n ≤ 33554432
+one_below [] n all h = absurd (cc)
+one_below (x ∷ sizes) n all h = elim (or_cases (x == n) (list_any (λ size. size == n) sizes) h) [
+  | inl same ↦ (let e = eqb-true x n same in let a = all.0 in omega arith)
+  | inr rest ↦ one_below sizes n all.1 rest
+]
+
+size_below : (n : ℕ) → IsPageSize n → n ≤ 33554432
+size_below n h = one_below page_sizes n (sizes_below 0 page_size_count (omega arith)) h
+
+pub same_metas : (file : List ℕ) → SameMetas file (take METAS_END file)
+same_metas file at (inl first) = same_record file METAS_END at (omega (arith, first))
+same_metas file at (inr size) = same_record file METAS_END at (omega (arith, size_below at size))
+
+pub metas_same : (file : List ℕ) → SameMetas (take METAS_END file) file
+metas_same file = metas_back file (take METAS_END file) (same_metas file)
