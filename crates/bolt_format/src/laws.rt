@@ -22,6 +22,12 @@ pub fn slot_meta_is_one()
     ensures { (file : List ℕ) (slot : Slot) (a b : Meta) → IsInSlot file slot a → IsInSlot file slot b → a ≡ b }
 {}
 
+/// A file has at most one active meta.
+pub fn chosen_meta_is_one()
+    ensures { (file : List ℕ) (slot : Slot) (meta : Meta) → IsChosen file slot meta
+        → (other : Slot) (another : Meta) → IsChosen file other another → (other ≡ slot) × (another ≡ meta) }
+{}
+
 /// The metas of a file are those of its first `METAS_END` bytes, and so are the faults of slots
 /// without one.
 pub fn metas_lie_in_a_prefix()
