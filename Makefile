@@ -5,7 +5,7 @@ SOUND = $(wildcard examples/*.buckets)
 LISTED = $(filter-out $(LEAKED).list,$(wildcard examples/*.list))
 LEAKED = examples/leaked
 
-.PHONY: build demo examples manual failures fuzz fuzz-wrong wrong-bodies test bench memory install dist deb clean
+.PHONY: build demo examples manual failures bbolt fuzz fuzz-wrong wrong-bodies test bench memory install dist deb clean
 
 # Proves the program and the libraries below it, and builds it.
 build:
@@ -81,9 +81,13 @@ SECONDS ?= 60
 SEED ?= $(shell date +%s)
 
 # Compares the program's answers on random files. SEED=N goes through the files of another run again.
-# BBOLT=PATH has bbolt's own command answer too, on the files that both accept.
 fuzz: $(PROGRAM)
-	$(FUZZ)/fuzz.py $(PROGRAM) --seed $(SEED) --seconds $(SECONDS) $(if $(BBOLT),--bbolt $(BBOLT))
+	$(FUZZ)/fuzz.py $(PROGRAM) --seed $(SEED) --seconds $(SECONDS)
+
+# Compares the program with bbolt's own library, and its files after random transactions by bbolt. It
+# needs Go and bbolt's source: on Debian the packages golang-go and golang-github-coreos-bbolt-dev.
+bbolt: $(PROGRAM)
+	tools/bbolt/try.sh $(PROGRAM) 30
 
 # Alters the program's answers in many ways, each of which the comparisons have to find.
 fuzz-wrong: $(PROGRAM)
@@ -95,12 +99,13 @@ wrong-bodies:
 	tools/wrong_bodies/try_all.sh $(CRATES)
 
 # The merge gate: every proof from nothing, the wrong bodies, the tests and the program, which this
-# builds; and then, of the program, real databases, the manual, failures, refused memory, and random
-# files that are the same each time.
+# builds; and then, of the program, real databases, the manual, failures, refused memory, random files
+# that are the same each time, and a few rounds beside bbolt, where that can be built.
 test:
 	rt ci
 	$(MAKE) examples manual failures memory
 	$(FUZZ)/fuzz.py $(PROGRAM) --seed 1 --files 36
+	tools/bbolt/try.sh $(PROGRAM) 3
 
 LARGE = out/large.db
 WIDE = out/wide.db
@@ -112,8 +117,7 @@ VERY_DEEP = out/very_deep.db
 # with a million small entries, on one with 200,000 buckets in its root bucket, and on one of 256 MB
 # with values of 100 KB. Then it times compact copies, of the first and the last of these, of one of
 # 256 MB most of which is free pages, and of one with 50,000 buckets one within another. All have pages
-# of 4,096 bytes, as bbolt makes them on most machines. With BBOLT, the path of bbolt's program, in the
-# environment, bbolt copies the same files.
+# of 4,096 bytes, as bbolt makes them on most machines. After `make bbolt`, bbolt copies the same files.
 bench: $(PROGRAM) $(LARGE) $(WIDE) $(LONG) $(SPARSE) $(VERY_DEEP)
 	python3 tools/bench/time_commands.py $(PROGRAM) $(LARGE) info check buckets pages stats list \
 		"keys bucket-0" "get bucket-0 entry-000000000000100000"

@@ -6,8 +6,8 @@
 Each copy is made into the folder of its file, and timed beside `check` of the file and beside a
 plain copy of as many bytes with a sync, in turn; the figures are medians of five. The status is 1
 where a copy fails, is not sound or takes longer than `check` and 1.5 times the plain copy, or where
-it takes more memory than the file, a byte for each page of it, and 32 MiB. Where the environment has
-BBOLT, the path of bbolt's program, its `check` and `compact` are timed too.
+it takes more memory than the file, a byte for each page of it, and 32 MiB. If `make bbolt` has built
+a program of bbolt's library, its `check` and `compact` are timed too.
 """
 
 import os
@@ -18,6 +18,7 @@ from statistics import median
 
 from time_commands import PAGE_SIZE
 
+BBOLT = "out/bbolt"
 ROUNDS = 5
 ROOM = 32 * 2**20
 
@@ -65,11 +66,11 @@ def time_copy(program, file):
     return copied <= allowed and memory <= most
 
 
-def time_bbolt(bbolt, file):
-    """Tells the same figures of bbolt's program."""
+def time_bbolt(file):
+    """Tells the same figures of bbolt."""
     copy = file + ".copy"
-    checked = median(seconds([bbolt, "check", file])[0] for _ in range(ROUNDS))
-    copied = median(seconds([bbolt, "compact", "-o", fresh(copy), file])[0] for _ in range(ROUNDS))
+    checked = median(seconds([BBOLT, "check", file])[0] for _ in range(ROUNDS))
+    copied = median(seconds([BBOLT, "compact", file, fresh(copy)])[0] for _ in range(ROUNDS))
     print(f"  by bbolt: {copied:.2f} s (check {checked:.2f}), {os.path.getsize(copy)} bytes")
     os.remove(copy)
 
@@ -79,8 +80,8 @@ def main():
     good = True
     for file in files:
         good = time_copy(program, file) and good
-        if "BBOLT" in os.environ:
-            time_bbolt(os.environ["BBOLT"], file)
+        if os.path.exists(BBOLT):
+            time_bbolt(file)
     sys.exit(0 if good else 1)
 
 

@@ -1,12 +1,12 @@
 #!/usr/bin/env python3
 """Compares the program's answers on random files, for `make fuzz`.
 
-    fuzz.py PROGRAM --seed N [--seconds N | --files N] [--first N] [--folder F] [--bbolt PATH]
+    fuzz.py PROGRAM --seed N [--seconds N | --files N] [--first N] [--folder F]
 
 File N of a seed is the same in each run, whatever the others are. Every other file is sound, and
 the program must accept it and list what it was made of; the others are damaged in one to eight
 places. A file on which something doesn't hold is kept in the folder, and what doesn't is printed.
-The status is 1 where there is one. With --bbolt, bbolt's own command is asked too.
+The status is 1 where there is one.
 """
 
 import argparse
@@ -19,7 +19,6 @@ import time
 from collections import Counter
 
 from answers import File
-from bbolt import agrees
 from buckets import listing_text
 from comparisons import compare
 from damage import damage
@@ -41,7 +40,7 @@ def compare_made(file, made, kind, listing):
             want(under == listing_text(tree), "the listing under meta", slot, "isn't what it was made of")
 
 
-def compare_one(program, seed, number, folder, bbolt=None):
+def compare_one(program, seed, number, folder):
     """Makes this file of the seed and compares all answers to it. Answers what it was."""
     draw = random.Random(f"{seed} {number}")
     made = draw_sound(draw)
@@ -55,8 +54,6 @@ def compare_one(program, seed, number, folder, bbolt=None):
     kind, listing = compare(file)
     if not is_damaged:
         compare_made(file, made, kind, listing)
-    if bbolt and kind == "accepted" and agrees(bbolt, file, listing):
-        kind += " by bbolt too"
     return f"{'damaged' if is_damaged else 'sound'}, {kind}"
 
 
@@ -68,7 +65,6 @@ def read_words():
     parser.add_argument("--files", type=int, default=sys.maxsize)
     parser.add_argument("--first", type=int, default=0)
     parser.add_argument("--folder", default="out/fuzz")
-    parser.add_argument("--bbolt", type=os.path.abspath)
     return parser.parse_args()
 
 
@@ -90,7 +86,7 @@ def main():
     with tempfile.TemporaryDirectory() as folder:
         while number < words.first + words.files and time.monotonic() < end:
             try:
-                kinds[compare_one(program, words.seed, number, folder, words.bbolt)] += 1
+                kinds[compare_one(program, words.seed, number, folder)] += 1
             except FAILURES as difference:
                 failed += 1
                 print(f"{keep(words, number, folder)}: {difference!r}", flush=True)

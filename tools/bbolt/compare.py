@@ -1,0 +1,136 @@
+"""Compares the program's answers with those of bbolt's own library.
+
+    compare.py PROGRAM BBOLT FOLDER [--rounds N] FILE ..
+
+BBOLT is the program built from main.go beside this file. The files compared are each FILE and some
+that bbolt makes in FOLDER. Of each: bbolt accepts it where the program does, and both list the same
+and count the same pages; of its compact copy, too. Then bbolt makes random transactions on the files
+that it made, N rounds of them, and both accept the file after each round. Last, bbolt has to stop with
+a panic on a copy that has a branch of one child: without that, nothing would show that these
+transactions can find one.
+"""
+
+import argparse
+import os
+import shutil
+import subprocess
+import sys
+
+KINDS = ["wide", "nested", "inline", "long", "churn"]
+COUNTED = [b"keys", b"branch pages", b"branch overflow", b"leaf pages", b"leaf overflow"]
+PANIC = 3
+STEPS = "60"
+
+
+def want(holds, *what):
+    """Ends the run where something doesn't hold."""
+    if not holds:
+        sys.exit(" ".join(map(str, what)))
+
+
+def ended(*words):
+    """The status and the output of a program."""
+    run = subprocess.run(words, stdout=subprocess.PIPE, stderr=subprocess.DEVNULL, check=False)
+    return run.returncode, run.stdout
+
+
+class Programs:
+    """The program, and bbolt's."""
+
+    def __init__(self, program, bbolt):
+        self.program = program
+        self.bbolt = bbolt
+
+    def both(self, command, file):
+        """What both print for a file, and whether both accept it."""
+        ours, theirs = ended(self.program, command, file), ended(self.bbolt, command, file)
+        want((ours[0] == 0) == (theirs[0] == 0), file, command, "one of both fails:", ours[0], theirs[0])
+        return ours[0] == 0, ours[1], theirs[1]
+
+    def is_sound(self, file):
+        """Whether both accept the file."""
+        return self.both("check", file)[0]
+
+    def compare(self, file):
+        """Compares what the file holds, and how many pages bbolt counts."""
+        _, ours, theirs = self.both("list", file)
+        want(ours == theirs, file, "bbolt lists something else")
+        _, ours, theirs = self.both("stats", file)
+        counted = [line for line in ours.splitlines() if line.rsplit(b" ", 1)[0] in COUNTED]
+        want(counted == theirs.splitlines(), file, "bbolt counts other pages")
+
+    def copy(self, file, out):
+        """A compact copy."""
+        if os.path.exists(out):
+            os.remove(out)
+        want(ended(self.program, "compact", "-o", out, file)[0] == 0, file, "isn't copied")
+        return out
+
+    def lone_children(self, file):
+        """How many branch pages have one child."""
+        rows = [line.split() for line in ended(self.program, "pages", file)[1].splitlines()]
+        return sum(row[1:3] == [b"branch", b"1"] for row in rows)
+
+    def change(self, file, seed):
+        """Random transactions by bbolt: its status."""
+        return ended(self.bbolt, "change", str(seed), STEPS, file)[0]
+
+
+def compare_file(programs, file, folder):
+    """Compares a file and its copy."""
+    if not programs.is_sound(file):
+        return
+    programs.compare(file)
+    copy = programs.copy(file, os.path.join(folder, "copy.db"))
+    want(programs.is_sound(copy), copy, "isn't accepted")
+    programs.compare(copy)
+
+
+def change_file(programs, file, rounds):
+    """Has bbolt write into a file, and compares it after each round."""
+    for seed in range(rounds):
+        want(programs.change(file, seed) == 0, file, "bbolt fails at round", seed)
+        want(programs.is_sound(file), file, "isn't accepted after round", seed)
+        programs.compare(file)
+
+
+def panics(programs, file, folder, seeds):
+    """How often bbolt panics on a copy of the file with a branch of one child, by so many seeds."""
+    copy = programs.copy(file, os.path.join(folder, "copy.db"))
+    want(programs.lone_children(copy) > 0, file, "the copy has no branch of one child")
+    changed = os.path.join(folder, "changed.db")
+    count = 0
+    for seed in range(seeds):
+        shutil.copy(copy, changed)
+        count += programs.change(changed, seed) == PANIC
+    return count
+
+
+def main():
+    """Compares all files."""
+    parser = argparse.ArgumentParser()
+    parser.add_argument("program", type=os.path.abspath)
+    parser.add_argument("bbolt", type=os.path.abspath)
+    parser.add_argument("folder")
+    parser.add_argument("files", nargs="*")
+    parser.add_argument("--rounds", type=int, default=30)
+    words = parser.parse_args()
+    programs = Programs(words.program, words.bbolt)
+    os.makedirs(words.folder, exist_ok=True)
+    made = [os.path.join(words.folder, kind + ".db") for kind in KINDS]
+    for kind, file in zip(KINDS, made):
+        if os.path.exists(file):
+            os.remove(file)
+        want(ended(words.bbolt, "make", kind, file)[0] == 0, "bbolt makes no file", kind)
+    for file in words.files + made:
+        compare_file(programs, file, words.folder)
+    count = panics(programs, made[KINDS.index("long")], words.folder, 12)
+    want(count > 0, "bbolt writes into branches of one child without a panic")
+    for file in made:
+        change_file(programs, file, words.rounds)
+    print(f"{len(words.files) + len(made)} files compared with bbolt, and {len(made)} after each of "
+          f"{words.rounds} rounds of {STEPS} transactions; {count} of 12 runs on a branch of one child panic")
+
+
+if __name__ == "__main__":
+    main()
