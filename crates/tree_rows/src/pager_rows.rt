@@ -64,8 +64,13 @@ fn a_cursor_of_a_bucket_goes_on_with_the_pagers_count(rt: HostRuntime) -> Result
     match root.kind() {
         Kind::Leaf if root.count() > 0 => {
             let bucket = root.leaf(0);
-            assert!(rt; bucket.is_bucket, "an element that is a bucket");
+            if !bucket.is_bucket {
+                panic!(rt; "the element isn't a bucket");
+            }
             let head = head(bucket.value);
+            if head.root == 0 {
+                panic!(rt; "the bucket is inline");
+            }
             assert_eq!(rt; head.root, 7);
             buckets_begin_on_ways();
             let mut cursor = Cursor::new(pager, At::Page(head.root));
@@ -90,8 +95,13 @@ fn a_cursor_goes_over_an_inline_bucket(rt: HostRuntime) -> Result<(), Fail> {
     match root.kind() {
         Kind::Leaf if root.count() > 0 => {
             let bucket = root.leaf(0);
-            assert!(rt; bucket.is_bucket, "an element that is a bucket");
-            assert_eq!(rt; head(bucket.value).root, 0);
+            if !bucket.is_bucket {
+                panic!(rt; "the element isn't a bucket");
+            }
+            let head = head(bucket.value);
+            if head.root != 0 {
+                panic!(rt; "the bucket has a root page of its own");
+            }
             buckets_begin_on_ways();
             let mut cursor = Cursor::new(pager, At::Inline(inline(bucket.value)));
             let key = cursor.first().map(|entry| entry.key);
