@@ -1,7 +1,7 @@
 -- The spots that are still to be visited, as ways: the first number of a way picks the spot.
 use Rattle.std.specs.Prelude.{ℕ, ◌⊎◌, Bool, List, [], ◌∷◌, map, reverse, Option, Some, None, slice_get}
 use Rattle.bolt_check.specs.Nodes.{Entry, Node, Nodes}
-use Rattle.bolt_check.specs.Ways.{At_inline, At_page, PageSpot, Reach, SpanHas, Spot, follow, spot_of, upper_from}
+use Rattle.bolt_check.specs.Ways.{PageSpot, Reach, SpanHas, Spot, follow, spot_of, upper_from}
 use Rattle.bolt_check.specs.Stops.{spot_at}
 use Rattle.bolt_check.specs.Private.Tables.{IsClaimed}
 use Rattle.bolt_check.specs.declared.table.PageUse.{PageUse}

@@ -1,9 +1,8 @@
 -- Each member of the walk is taken, and then the root bucket ends.
-use Rattle.std.proofs.Common.{◌≡◌, ◌∙◌, ◌*◌, ◌≤◌, ◌<◌, ◌∷◌, ◌++◌, [], Bor, ℕ, List, Result, Ok, Err, refl, sym, ap, subst, arith}
+use Rattle.std.proofs.Common.{◌≡◌, ◌∙◌, ◌∷◌, [], List, Result, Ok, Err, refl, sym, ap, subst}
 use Rattle.std.specs.List.{AllByRecursion}
 use Rattle.std.specs.Prelude.{⊤}
 use Rattle.bolt_check.specs.CheckedFiles.{bytes_of, meta_of}
-use Rattle.std.proofs.lemmas.List.{length-map}
 use Rattle.bolt_tree.specs.FileListings.{ForListing}
 use Rattle.bolt_tree.specs.Listing.{IsListing, Member}
 use Rattle.bolt_tree.specs.Paths.{Path, path_of}
@@ -17,7 +16,7 @@ use Rattle.bolt_bulk.specs.Private.Passes.{HasLeft, Steps}
 use Rattle.bolt_bulk.specs.declared.bounds.Bounds.{Bounds}
 use Rattle.bolt_bulk.specs.declared.fault.BulkFault.{BulkFault}
 use Rattle.bolt_bulk.specs.declared.fault.BulkFault.TheVariants as fault
-use Rattle.bolt_bulk.proofs.PassAt.{if_ok_map, steps_failed, steps_then}
+use Rattle.bolt_bulk.proofs.PassAt.{steps_failed, steps_then}
 use Rattle.bolt_bulk.proofs.PassEnds.{ends_after, ends_early}
 use Rattle.bolt_bulk.proofs.PassLeft.{steps_begun}
 use Rattle.bolt_bulk.proofs.WalkLeft.{first_fits, listed_same, others_fit}

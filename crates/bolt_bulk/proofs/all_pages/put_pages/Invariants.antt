@@ -1,4 +1,4 @@
-use Rattle.std.proofs.Common.{◌≡◌, ◌≤◌, [], Ok}
+use Rattle.std.proofs.Common.{◌≡◌, [], Ok}
 use Rattle.std.specs.List.{AllByRecursion}
 use Rattle.std.specs.Prelude.{⊤}
 use Rattle.bolt_tree.specs.FileListings.{ForListing}

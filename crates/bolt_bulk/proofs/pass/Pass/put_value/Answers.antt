@@ -1,5 +1,5 @@
 -- The value is an item of the open bucket.
-use Rattle.bolt_bulk.proofs.PassAt.{puts_well, steps_stop, value_steps}
+use Rattle.bolt_bulk.proofs.PassAt.{steps_stop, value_steps}
 use Rattle.bolt_bulk.proofs.pass.Pass.put_value.Goals as goal
 
 pub returns-in-Err-clause-steps : goal.returns-in-Err-clause-steps
