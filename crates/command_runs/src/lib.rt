@@ -1,5 +1,4 @@
 //! Runs command lines over files in memory, for the crates that test commands. It has no tests.
 #![tactic(auto)]
 
-pub mod commands;
 pub mod ran;

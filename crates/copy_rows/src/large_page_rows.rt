@@ -1,16 +1,52 @@
 //! Rows of the greatest pages: as large as a page may be, and with as many elements as it may have.
 
-use crate::page_size_rows::check_copy;
 use Element::Bucket;
-use Outcome::Prints;
-use command_runs::commands::{CHECK, INFO, Outcome, check_refused, check_row};
+use command_runs::ran::{Ran, Wanted, check_run, job_of};
 use sample_files::maker::{
     Element, MetaFields, branch, database, file, inline, leaf, meta_page, reference,
 };
 use std::alloc::{AllocError, Global};
+use std::process::Abort;
 use std::test::Fail;
 
 const GREATEST_PAGE: u32 = 33_554_432;
+
+const CHECK: &str = "luntsegi check FILE";
+
+const SOUND: Wanted<'static> = (0, b"OK\n", b"");
+
+/// The line on the file comes to this.
+fn check_line(
+    alloc: Global,
+    name: &str,
+    file: &[u8],
+    line: &str,
+    want: Wanted<'_>,
+) -> Result<(), Fail> {
+    let job = job_of(alloc, line)?;
+    check_run(alloc, &job, file, (name, file.len()), want)
+}
+
+/// The copy of the file at this page size is the one that is wanted.
+fn check_copy(
+    rt: &impl Abort,
+    alloc: Global,
+    file: &[u8],
+    page_size: &str,
+    want: &[u8],
+) -> Result<(), Fail> {
+    let line = format!(in alloc; "luntsegi compact FILE -o OUT --page-size {page_size}")?;
+    let job = job_of(alloc, line.as_str())?;
+    let ran = Ran::on(alloc, &job, file);
+    let (length, copied) = (file.len(), want.len());
+    let told = format!(in alloc; "{length} -> {copied} bytes\n")?;
+    ran.check(line.as_str(), length, (0, told.as_bytes(), b""))?;
+    assert!(rt;
+        ran.target.bytes() == want,
+        "the copy of {length} bytes at {page_size}"
+    );
+    Ok(())
+}
 
 /// Zeros up to a meta at the greatest page size, alone.
 #[test]
@@ -24,8 +60,9 @@ fn greatest_page_size(rt: HostRuntime) -> Result<(), Fail> {
     let bytes = file(alloc, GREATEST_PAGE as usize, 0, &[(1, page.as_slice())])?;
     assert_eq!(rt; bytes.len(), 33_554_512);
     let text = "page size 33554432\nmeta 1\ntxid 1\nroot 3\nsequence 0\nfreelist 2\nhigh water 4\n";
-    let row = (INFO, Prints(text));
-    check_row(alloc, "a meta alone", bytes.as_slice(), row)?;
+    let want = (0, text.as_bytes(), b"".as_slice());
+    let line = "luntsegi info FILE";
+    check_line(alloc, "a meta alone", bytes.as_slice(), line, want)?;
     Ok(())
 }
 
@@ -100,14 +137,16 @@ fn greatest_leaf(rt: HostRuntime) -> Result<(), Fail> {
     keys.pop();
     assert_eq!(rt; keys.len(), 65_535);
     let bytes = with_keys(alloc, keys.as_slice())?;
-    let row = (CHECK, Prints("OK\n"));
-    check_row(alloc, "65,535 elements", bytes.as_slice(), row)?;
+    check_line(alloc, "65,535 elements", bytes.as_slice(), CHECK, SOUND)?;
     if let Some(last) = keys.last_mut() {
         *last = [0xFF, 0xFD];
     }
     let bytes = with_keys(alloc, keys.as_slice())?;
-    let text = "page 3: keys not rising\n1 errors found\n";
-    check_refused(alloc, "the last of them twice", bytes.as_slice(), text)?;
+    let (name, file) = ("the last of them twice", bytes.as_slice());
+    let text = b"page 3: keys not rising\n1 errors found\n".as_slice();
+    check_line(alloc, name, file, CHECK, (1, text, b""))?;
+    let told = b"error: file refused: page 3: keys not rising\n".as_slice();
+    check_line(alloc, name, file, "luntsegi buckets FILE", (1, b"", told))?;
     Ok(())
 }
 
@@ -119,17 +158,16 @@ fn greatest_buckets(rt: HostRuntime) -> Result<(), Fail> {
     assert_eq!(rt; elements.len(), 65_536);
     let (first, rest) = elements.split_at(65_534);
     let (one, _) = rest.split_at(1);
-    let row = (CHECK, Prints("OK\n"));
     let bytes = with_bucket(alloc, 2_097_152, first, rest)?;
     assert_eq!(rt; bytes.len(), 14_680_064);
-    check_row(alloc, "65,536 keys", bytes.as_slice(), row)?;
+    check_line(alloc, "65,536 keys", bytes.as_slice(), CHECK, SOUND)?;
     let bytes = with_bucket(alloc, 8_388_608, first, one)?;
     assert_eq!(rt; bytes.len(), 58_720_256);
-    check_row(alloc, "65,535 keys", bytes.as_slice(), row)?;
+    check_line(alloc, "65,535 keys", bytes.as_slice(), CHECK, SOUND)?;
     let stored = inline(alloc, 0, first)?;
     let bytes = with_leaf(alloc, 8_388_608, &[Bucket(b"b", stored.as_slice())])?;
     assert_eq!(rt; bytes.len(), 33_554_432);
-    check_row(alloc, "65,534 keys inline", bytes.as_slice(), row)?;
+    check_line(alloc, "65,534 keys inline", bytes.as_slice(), CHECK, SOUND)?;
     Ok(())
 }
 

@@ -1,12 +1,13 @@
-//! Tests of compact copies: worked rows of what `compact` tells and of the copy that it writes. The
-//! crate has nothing beside its tests.
+//! Tests of compact copies that no file of rows describes: of the greatest pages, of copies whose
+//! target fails or whose output does, of plans, and of held items. The crate has nothing beside its
+//! tests.
 #![tactic(auto)]
 
 #[cfg(test)]
-mod compact_command_rows;
+mod failing_copies;
 #[cfg(test)]
 mod held_rows;
 #[cfg(test)]
 mod large_page_rows;
 #[cfg(test)]
-mod page_size_rows;
+mod plan_rows;

@@ -1,0 +1,77 @@
+//! The files that rows are on, and how many rows hold.
+
+use crate::draft::make;
+use crate::row::Want;
+use crate::runs::{Ran, read_line, run_line};
+use crate::tokens::{Fault, halves, number};
+use std::alloc::Global;
+use std::mem;
+
+/// The file that rows are on, another one that is kept, and how many rows held.
+#[derive(Drop)]
+pub struct Bench {
+    alloc: Global,
+    file: Vec<u8>,
+    kept: Vec<u8>,
+    held: u64,
+}
+
+impl Bench {
+    /// An empty file.
+    pub fn new(alloc: Global) -> Bench {
+        Bench {
+            alloc,
+            file: Vec::new(alloc),
+            kept: Vec::new(alloc),
+            held: 0,
+        }
+    }
+
+    pub fn held(&self) -> u64 {
+        self.held
+    }
+
+    /// Does what a block of lines says: `file` describes the file that the next rows are on, `swap`
+    /// exchanges it for the one that is kept, `cut` ends it at a length, `$` is a command line and what it comes to, and `?` one
+    /// of which the file that it names is asked.
+    pub fn take(&mut self, block: &str) -> Result<(), Fault> {
+        let (head, rest) = halves(block, '\n');
+        let (verb, words) = halves(head, ' ');
+        match verb {
+            "file" => self.file = make(self.alloc, rest)?,
+            "cut" => self.file.truncate(number(words)? as usize),
+            "swap" => mem::swap(&mut self.file, &mut self.kept),
+            "#" => {}
+            "$" => {
+                let ran = run_line(self.alloc, self.file.as_slice(), words)?;
+                self.compare(ran, rest)?;
+            }
+            "?" => {
+                let ran = read_line(self.alloc, words)?;
+                self.compare(ran, rest)?;
+            }
+            _ => return Err(Fault::Unread),
+        }
+        Ok(())
+    }
+
+    fn compare(&mut self, ran: Ran, lines: &str) -> Result<(), Fault> {
+        let want = Want::of(self.alloc, lines)?;
+        let target = ran.target.as_slice();
+        let is_copy = match want.copy {
+            "" => target.is_empty(),
+            "FILE" => target == self.file.as_slice(),
+            "kept" => target == self.kept.as_slice(),
+            "new" => !target.is_empty(),
+            _ => return Err(Fault::Unread),
+        };
+        if !is_copy || !want.is_met(&ran) {
+            return Err(Fault::Differs);
+        }
+        if want.copy == "new" {
+            self.file = ran.target;
+        }
+        self.held = self.held.saturating_add(1);
+        Ok(())
+    }
+}
