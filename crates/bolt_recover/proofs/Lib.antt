@@ -1,0 +1,3 @@
+mod OneRecovered
+mod SoundSurveys
+mod SurveyIsOne

@@ -1,0 +1,4 @@
+pub mod Losses
+pub mod Places
+pub mod Recovered
+pub mod Surveys
