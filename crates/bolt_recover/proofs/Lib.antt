@@ -1,3 +1,4 @@
+mod FirstLoss
 mod OneRecovered
 mod SoundSurveys
 mod SurveyIsOne

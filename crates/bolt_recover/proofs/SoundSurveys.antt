@@ -7,7 +7,7 @@ use Rattle.bolt_check.specs.declared.finding.Finding.{Finding}
 use Rattle.bolt_check.proofs.Judging.{passes_fewer, passes_silent}
 use Rattle.bolt_recover.specs.Surveys.{Gives, Has, IsClaimedIn, Surveys, Visit}
 
-claimed_before : (nodes : Nodes) (reach : Reach) (survey : List Visit) (way : List ℕ) (n : ℕ)
+pub claimed_before : (nodes : Nodes) (reach : Reach) (survey : List Visit) (way : List ℕ) (n : ℕ)
     → IsClaimedIn nodes reach survey way n → IsClaimedBefore nodes reach IsMetaPage way n
 claimed_before nodes reach survey way n (inl h) = inl h
 claimed_before nodes reach survey way n (inr (v, (has, lt, span))) = inr (v, (lt, span))
