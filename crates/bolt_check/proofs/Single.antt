@@ -39,7 +39,7 @@ page_one nodes before s x y (late node e p free c) (late m f q free2 d) =
     let same : node ≡ m = cc in
     let d2 : node_finding node s ≡ Some y = rw same d in cc
 
-tests_one : (nodes : Nodes) (before : ℕ → Type 0) (s : Spot) (x y : Finding) → Tests nodes before s x → Tests nodes before s y → x ≡ y
+pub tests_one : (nodes : Nodes) (before : ℕ → Type 0) (s : Spot) (x y : Finding) → Tests nodes before s x → Tests nodes before s y → x ≡ y
 tests_one nodes before (At_page s) x y h k = page_one nodes before s x y h k
 tests_one nodes before (At_inline host keys) x y h k = one_some x y (inline_finding host keys) h k
 

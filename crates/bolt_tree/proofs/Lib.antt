@@ -40,7 +40,7 @@ pub mod SeekBounds
 pub mod SeekCounts
 pub mod SeekLemmas
 mod Seeking
-mod Single
+pub mod Single
 pub mod SortedLemmas
 pub mod SoughtLemmas
 pub mod StackLemmas

@@ -1,0 +1,4 @@
+mod FirstLoss
+mod OneRecovered
+mod SoundSurveys
+mod SurveyIsOne

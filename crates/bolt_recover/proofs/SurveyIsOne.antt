@@ -1,0 +1,140 @@
+-- There is at most one survey. Where two first differ, the kept ways before are the same, and so is what the tests find.
+use Rattle.std.proofs.Common.{◌≡◌, ◌∙◌, ℕ, ◌⊎◌, inl, inr, List, [], ◌∷◌, ◌++◌, map, Option, Some, None, refl, sym, ap, subst}
+use Rattle.bolt_check.specs.Nodes.{Nodes}
+use Rattle.bolt_check.specs.Tours.{IsBeforeAll, Rises}
+use Rattle.bolt_check.specs.Ways.{Before, Reach, Spot}
+use Rattle.bolt_check.specs.declared.finding.Finding.{Finding}
+use Rattle.bolt_check.proofs.Judging.{passes_fewer, passes_silent, tests_same}
+use Rattle.bolt_check.proofs.Single.{tests_one}
+use Rattle.bolt_check.proofs.WayOrder.{before_irreflexive, before_strict, before_total, before_trans}
+use Rattle.bolt_recover.specs.Surveys.{Gives, Has, IsClaimedIn, IsOpen, Surveys, Visit, kept}
+
+abbrev ways : List Visit → List (List ℕ)
+ways visits = map (λ (v : Visit). v.way) visits
+
+-- a survey from some place on: what stands in front, which may be said of visits of another survey too, and the rest
+record Suffix (survey : List Visit) (InFront : Visit → Type 0) (rest : List Visit) : Type 0 where
+  split : (v : Visit) → Has survey v → InFront v ⊎ Has rest v
+  inside : (v : Visit) → Has rest v → Has survey v
+  front : (v : Visit) → InFront v → Has survey v
+  after : (v w : Visit) → InFront v → Has rest w → Before v.way w.way
+  rises : Rises (ways rest)
+
+before_each : (way : List ℕ) (rest : List Visit) → IsBeforeAll way (ways rest) → (w : Visit) → Has rest w → Before way w.way
+before_each way [] h w has = absurd has
+before_each way (x ∷ rest) h w (inl e) = rw e h.0
+before_each way (x ∷ rest) h w (inr has) = before_each way rest h.1 w has
+
+parent_before : (parent : List ℕ) (i : ℕ) → Before parent (parent ++ i ∷ [])
+parent_before [] i = tt
+parent_before (j ∷ parent) i = inr (refl, parent_before parent i)
+
+-- a visit before the first of the rest stands in front
+earlier : (survey : List Visit) (InFront : Visit → Type 0) (x : Visit) (rest : List Visit) → Suffix survey InFront (x ∷ rest)
+    → (v : Visit) → Has survey v → Before v.way x.way → InFront v
+earlier survey InFront x rest suffix v has lt =
+    elim (suffix.split v has) [
+      | inl f ↦ f
+      | inr h ↦ elim h [
+        | inl e ↦ absurd (before_irreflexive x.way (subst (λ (z : Visit). Before z.way x.way) e lt))
+        | inr k ↦ absurd (before_strict v.way x.way lt (before_each x.way rest suffix.rises.0 v k))
+      ]
+    ]
+
+open_over : (a b : List Visit) (InFront : Visit → Type 0) (x : Visit) (xs ys : List Visit) → Suffix a InFront (x ∷ xs) → Suffix b InFront ys
+    → IsOpen a x.way → IsOpen b x.way
+open_over a b InFront x xs ys at_a at_b (inl e) = inl e
+open_over a b InFront x xs ys at_a at_b (inr (parent, i, e, has)) =
+    inr (parent, i, e, at_b.front (kept parent) (earlier a InFront x xs at_a (kept parent) has (subst (λ (z : List ℕ). Before parent z) (sym e) (parent_before parent i))))
+
+gives_same : (nodes : Nodes) (a b : ℕ → Type 0) (s : Spot) (f : Option Finding) → ((n : ℕ) → a n → b n) → ((n : ℕ) → b n → a n) → Gives nodes a s f → Gives nodes b s f
+gives_same nodes a b s None to from h = passes_fewer nodes a b s from h
+gives_same nodes a b s (Some x) to from h = tests_same nodes a b s x to from h
+
+gives_one : (nodes : Nodes) (a : ℕ → Type 0) (s : Spot) (f g : Option Finding) → Gives nodes a s f → Gives nodes a s g → f ≡ g
+gives_one nodes a s None None h k = refl
+gives_one nodes a s None (Some y) h k = absurd (passes_silent nodes a s y h k)
+gives_one nodes a s (Some x) None h k = absurd (passes_silent nodes a s x k h)
+gives_one nodes a s (Some x) (Some y) h k = ap Some (tests_one nodes a s x y h k)
+
+same_visit : (v w : List ℕ) (f g : Option Finding) → v ≡ w → f ≡ g → (record { way = v; found = f }) ≡ (let z : Visit = record { way = w; found = g } in z)
+same_visit v w f g e h = rw (e, h) refl
+
+module _ (nodes : Nodes) (reach : Reach) where
+  -- the other survey can't pass over the first visit of the rest
+  not_missing : (a b : List Visit) → Surveys nodes reach a → Surveys nodes reach b → (InFront : Visit → Type 0) (x : Visit) (xs ys : List Visit)
+      → Suffix a InFront (x ∷ xs) → Suffix b InFront ys → ((w : Visit) → Has ys w → Before x.way w.way) → ⊥
+  not_missing a b of_a of_b InFront x xs ys at_a at_b later =
+      let only = of_a.only x (at_a.inside x (inl refl)) in
+      let p = of_b.all x.way only.1.0 (open_over a b InFront x xs ys at_a at_b only.0) only.1.1 in
+      let v : Visit = record { way = x.way; found = p.0 } in
+      elim (at_b.split v p.1) [
+        | inl f ↦ before_irreflexive x.way (at_a.after v x f (inl refl))
+        | inr h ↦ before_irreflexive x.way (later v h)
+      ]
+
+  claims_over : (a b : List Visit) (InFront : Visit → Type 0) (x : Visit) (xs ys : List Visit) → Suffix a InFront (x ∷ xs) → Suffix b InFront ys
+      → (n : ℕ) → IsClaimedIn nodes reach a x.way n → IsClaimedIn nodes reach b x.way n
+  claims_over a b InFront x xs ys at_a at_b n (inl h) = inl h
+  claims_over a b InFront x xs ys at_a at_b n (inr (v, (has, lt, span))) = inr (v, (at_b.front (kept v) (earlier a InFront x xs at_a (kept v) has lt), lt, span))
+
+  same_spot : (v w : List ℕ) (s t : Spot) → v ≡ w → reach v ≡ Some s → reach w ≡ Some t → s ≡ t
+  same_spot v w s t e f g = let h : reach w ≡ Some s = subst (λ (z : List ℕ). reach z ≡ Some s) e f in cc
+
+  same_found : (a b : List Visit) → Surveys nodes reach a → Surveys nodes reach b → (InFront : Visit → Type 0) (x y : Visit) (xs ys : List Visit)
+      → Suffix a InFront (x ∷ xs) → Suffix b InFront (y ∷ ys) → x.way ≡ y.way → x.found ≡ y.found
+  same_found a b of_a of_b InFront x y xs ys at_a at_b e =
+      let p = (of_a.only x (at_a.inside x (inl refl))).1 in
+      let q = (of_b.only y (at_b.inside y (inl refl))).1 in
+      let spot = same_spot x.way y.way p.0 q.0 e p.1 q.1 in
+      let here = gives_same nodes (IsClaimedIn nodes reach a x.way) (IsClaimedIn nodes reach b x.way) p.0 x.found
+      (claims_over a b InFront x xs (y ∷ ys) at_a at_b)
+      (λ n h. subst (λ (z : List ℕ). IsClaimedIn nodes reach a z n) (sym e)
+      (claims_over b a InFront y ys (x ∷ xs) at_b at_a n (subst (λ (z : List ℕ). IsClaimedIn nodes reach b z n) e h))) p.2 in
+      let there = subst (λ (z : List ℕ). Gives nodes (IsClaimedIn nodes reach b z) q.0 y.found) (sym e) q.2 in
+      gives_one nodes (IsClaimedIn nodes reach b x.way) q.0 x.found y.found
+      (subst (λ (s : Spot). Gives nodes (IsClaimedIn nodes reach b x.way) s x.found) spot here) there
+
+  next_suffix : (a : List Visit) (InFront : Visit → Type 0) (x z : Visit) (xs : List Visit) → z ≡ x → Suffix a InFront (x ∷ xs)
+      → Suffix a (λ v. InFront v ⊎ (v ≡ z)) xs
+  next_suffix a InFront x z xs same at = record {
+    split = λ v has. elim (at.split v has) [ inl f ↦ inl (inl f) | inr h ↦ elim h [ inl e ↦ inl (inr (e ∙ sym same)) | inr k ↦ inr k ] ];
+    inside = λ v has. at.inside v (inr has);
+    front = λ v f. elim f [ inl g ↦ at.front v g | inr e ↦ at.inside v (inl (e ∙ same)) ];
+    after = λ v w f has. elim f [
+      | inl g ↦ at.after v w g (inr has)
+      | inr e ↦ subst (λ (u : Visit). Before u.way w.way) (sym (e ∙ same)) (before_each x.way xs at.rises.0 w has)
+    ];
+    rises = at.rises.1;
+  }
+
+  same_from : (a b : List Visit) → Surveys nodes reach a → Surveys nodes reach b → (InFront : Visit → Type 0) (xs ys : List Visit)
+      → Suffix a InFront xs → Suffix b InFront ys → xs ≡ ys
+  same_from a b of_a of_b InFront [] [] at_a at_b = refl
+  same_from a b of_a of_b InFront [] (y ∷ ys) at_a at_b = absurd (not_missing b a of_b of_a InFront y ys [] at_b at_a (λ w h. absurd h))
+  same_from a b of_a of_b InFront (x ∷ xs) [] at_a at_b = absurd (not_missing a b of_a of_b InFront x xs [] at_a at_b (λ w h. absurd h))
+  same_from a b of_a of_b InFront (x ∷ xs) (y ∷ ys) at_a at_b =
+      elim (before_total x.way y.way) [
+        | inl e ↦
+            let same : x ≡ y = same_visit x.way y.way x.found y.found e (same_found a b of_a of_b InFront x y xs ys at_a at_b e) in
+            let rest = same_from a b of_a of_b (λ v. InFront v ⊎ (v ≡ x)) xs ys (next_suffix a InFront x x xs refl at_a) (next_suffix b InFront y x ys same at_b) in
+            rw (same, rest) refl
+        | inr d ↦ elim d [
+          | inl lt ↦ absurd (not_missing a b of_a of_b InFront x xs (y ∷ ys) at_a at_b
+              (λ w h. elim h [ inl e ↦ subst (λ (z : Visit). Before x.way z.way) (sym e) lt | inr k ↦ before_trans x.way y.way w.way lt (before_each y.way ys at_b.rises.0 w k) ]))
+          | inr gt ↦ absurd (not_missing b a of_b of_a InFront y ys (x ∷ xs) at_b at_a
+              (λ w h. elim h [ inl e ↦ subst (λ (z : Visit). Before y.way z.way) (sym e) gt | inr k ↦ before_trans y.way x.way w.way gt (before_each x.way xs at_a.rises.0 w k) ]))
+        ]
+      ]
+
+  whole : (a : List Visit) → Surveys nodes reach a → Suffix a (λ v. ⊥) a
+  whole a of_a = record {
+    split = λ v has. inr has;
+    inside = λ v has. has;
+    front = λ v f. absurd f;
+    after = λ v w f has. absurd f;
+    rises = of_a.rises;
+  }
+
+  pub one_survey : (a b : List Visit) → Surveys nodes reach a → Surveys nodes reach b → a ≡ b
+  one_survey a b of_a of_b = same_from a b of_a of_b (λ v. ⊥) a b (whole a of_a) (whole b of_b)

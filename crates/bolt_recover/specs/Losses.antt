@@ -1,0 +1,41 @@
+-- What is told of a lost way: docs/RECOVERY.md, "Losses".
+use Rattle.std.specs.Prelude.{◌≡◌, ℕ, List, [], ◌∷◌, ◌++◌, Option, Some, None}
+use Rattle.bolt_format.specs.declared.meta.Meta.{Meta}
+use Rattle.bolt_check.specs.Keys.{Key}
+use Rattle.bolt_check.specs.Ways.{At_inline, At_page, Spot}
+use Rattle.bolt_check.specs.declared.finding.Finding.{Finding}
+use Rattle.bolt_tree.specs.Paths.{Path}
+use Rattle.bolt_recover.specs.Places.{Place, place_at}
+use Rattle.bolt_recover.specs.Surveys.{IsSurvey, Visit}
+
+-- The finding, the path of the bucket that the way lies in, and the bounds that were handed down to a page below a branch.
+pub record LossView : Type 0 where
+  pub finding : Finding
+  pub bucket : Path
+  pub lower : Option Key
+  pub upper : Option Key
+
+abbrev pub lower_of : Spot → Option Key
+lower_of (At_page s) = s.lower
+lower_of (At_inline host keys) = None
+
+abbrev pub upper_of : Spot → Option Key
+upper_of (At_page s) = s.upper
+upper_of (At_inline host keys) = None
+
+abbrev pub loss_of : Place → Finding → LossView
+loss_of p x = record { finding = x; bucket = p.path; lower = lower_of p.spot; upper = upper_of p.spot }
+
+abbrev pub loss_at : Option Place → Option Finding → List LossView
+loss_at None found = []
+loss_at (Some p) None = []
+loss_at (Some p) (Some x) = loss_of p x ∷ []
+
+-- the losses of a survey, in the order of ways
+abbrev pub losses_of : List ℕ → Meta → List Visit → List LossView
+losses_of file meta [] = []
+losses_of file meta (v ∷ survey) = loss_at (place_at file meta v.way) v.found ++ losses_of file meta survey
+
+-- the losses of a file under a meta
+abbrev pub AreLosses : List ℕ → Meta → List LossView → Type 0
+AreLosses file meta losses = (survey : List Visit) × IsSurvey file meta survey × (losses ≡ losses_of file meta survey)

@@ -1,0 +1,47 @@
+-- What a way leads to, with the path of its bucket and the elements there: docs/RECOVERY.md, "Ways".
+use Rattle.std.specs.Prelude.{ℕ, List, [], ◌∷◌, ◌++◌, Option, Some, None, slice_get}
+use Rattle.bolt_format.specs.Elements.{LeafElement, inline_elements}
+use Rattle.bolt_format.specs.Pages.{PageView, page_at}
+use Rattle.bolt_format.specs.declared.meta.Meta.{Meta}
+use Rattle.bolt_check.specs.Nodes.{node_at}
+use Rattle.bolt_check.specs.Ways.{At_inline, At_page, Spot, start_of, step_from}
+use Rattle.bolt_tree.specs.Paths.{Path}
+
+-- The spot, the path of the bucket that it lies in, and the elements of the leaf page or inline page there; a branch has none.
+pub record Place : Type 0 where
+  pub spot : Spot
+  pub path : Path
+  pub elements : List LeafElement
+
+abbrev pub leaves_of : Option PageView → List LeafElement
+leaves_of None = []
+leaves_of (Some view) = view.leaves
+
+-- the elements at a spot; an inline page has its own in a bucket's value
+abbrev pub elements_at : List ℕ → Meta → Spot → List ℕ → List LeafElement
+elements_at file meta (At_page s) value = leaves_of (page_at file meta s.number)
+elements_at file meta (At_inline host keys) value = inline_elements value
+
+-- an element of a leaf leads into the bucket that it is, and one of a branch stays in the bucket
+abbrev pub place_on : List ℕ → Meta → Path → Option LeafElement → Option Spot → Option Place
+place_on file meta path e None = None
+place_on file meta path (Some e) (Some spot) = Some (record { spot = spot; path = path ++ e.key ∷ []; elements = elements_at file meta spot e.value })
+place_on file meta path None (Some spot) = Some (record { spot = spot; path = path; elements = elements_at file meta spot [] })
+
+abbrev pub step_place : List ℕ → Meta → Place → ℕ → Option Place
+step_place file meta p i = place_on file meta p.path (slice_get p.elements i) (step_from (node_at file meta) p.spot i)
+
+abbrev pub next_place : List ℕ → Meta → Option Place → ℕ → Option Place
+next_place file meta None i = None
+next_place file meta (Some p) i = step_place file meta p i
+
+abbrev pub follow_places : List ℕ → Meta → Option Place → List ℕ → Option Place
+follow_places file meta here [] = here
+follow_places file meta here (i ∷ way) = follow_places file meta (next_place file meta here i) way
+
+abbrev pub root_place : List ℕ → Meta → Place
+root_place file meta = record { spot = At_page (start_of meta.root); path = []; elements = leaves_of (page_at file meta meta.root) }
+
+-- what a way leads to
+abbrev pub place_at : List ℕ → Meta → List ℕ → Option Place
+place_at file meta way = follow_places file meta (Some (root_place file meta)) way

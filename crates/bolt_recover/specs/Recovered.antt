@@ -1,0 +1,32 @@
+-- What a damaged file still holds: docs/RECOVERY.md, "The recovered listing".
+use Rattle.std.specs.Prelude.{◌≡◌, ◌↔◌, ℕ, List, [], ◌∷◌, ◌++◌, Contains, Some}
+use Rattle.bolt_format.specs.Elements.{LeafElement}
+use Rattle.bolt_format.specs.declared.meta.Meta.{Meta}
+use Rattle.bolt_tree.specs.Entries.{Item, item_of}
+use Rattle.bolt_tree.specs.Listing.{Member, member_cmp}
+use Rattle.bolt_tree.specs.Order.{Rises}
+use Rattle.bolt_tree.specs.Paths.{Path}
+use Rattle.bolt_recover.specs.Places.{Place, place_at}
+use Rattle.bolt_recover.specs.Surveys.{Has, IsSurvey, Visit, kept}
+
+-- an element of the leaf page or inline page at a kept way, under the path of its bucket
+pub record IsRecoveredMember (file : List ℕ) (meta : Meta) (survey : List Visit) (path : Path) (item : Item) : Type 0 where
+  pub way : List ℕ
+  pub place : Place
+  pub element : LeafElement
+  pub keeps : Has survey (kept way)
+  pub leads : place_at file meta way ≡ Some place
+  pub has : Contains place.elements element
+  pub named : path ≡ place.path ++ element.key ∷ []
+  pub is : item ≡ item_of element
+
+-- the rising list of exactly these
+pub record IsRecovered (file : List ℕ) (meta : Meta) (listing : List Member) : Type 0 where
+  pub survey : List Visit
+  pub surveys : IsSurvey file meta survey
+  pub rises : Rises member_cmp listing
+  pub exact : (path : Path) (item : Item) → Contains listing (path, item) ↔ IsRecoveredMember file meta survey path item
+
+-- What is promised of the recovered listing is promised for each; there is exactly one (`laws`).
+abbrev pub ForRecovered : List ℕ → Meta → (List Member → Type 0) → Type 0
+ForRecovered file meta P = (listing : List Member) → IsRecovered file meta listing → P listing

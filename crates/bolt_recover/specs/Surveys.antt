@@ -1,0 +1,52 @@
+-- What is kept and what is lost of a damaged file: docs/RECOVERY.md, "Kept and lost".
+use Rattle.std.specs.Prelude.{◌≡◌, ℕ, ◌⊎◌, List, [], ◌∷◌, ◌++◌, Option, Some, None, map}
+use Rattle.bolt_format.specs.declared.meta.Meta.{Meta}
+use Rattle.bolt_check.specs.Findings.{IsMetaPage, Passes, Tests}
+use Rattle.bolt_check.specs.Nodes.{Nodes, node_at}
+use Rattle.bolt_check.specs.Tours.{Rises}
+use Rattle.bolt_check.specs.Ways.{Before, Reach, SpanHas, Spot, reached}
+use Rattle.bolt_check.specs.declared.finding.Finding.{Finding}
+
+-- A way and what the tests find at it: nothing where the way is kept, and a finding where it is lost.
+pub record Visit : Type 0 where
+  pub way : List ℕ
+  pub found : Option Finding
+
+abbrev pub kept : List ℕ → Visit
+kept way = record { way = way; found = None }
+
+abbrev pub lost : List ℕ → Finding → Visit
+lost way x = record { way = way; found = Some x }
+
+-- a survey has this visit
+abbrev pub Has : List Visit → Visit → Type 0
+Has [] v = ⊥
+Has (x ∷ survey) v = (v ≡ x) ⊎ Has survey v
+
+-- the empty way, or one whose parent is kept
+abbrev pub IsOpen : List Visit → List ℕ → Type 0
+IsOpen survey way = (way ≡ []) ⊎ ((parent : List ℕ) × (i : ℕ) × (way ≡ parent ++ i ∷ []) × Has survey (kept parent))
+
+-- page n is a meta page, or lies in the span of a kept way before this one
+abbrev pub IsClaimedIn : Nodes → Reach → List Visit → List ℕ → ℕ → Type 0
+IsClaimedIn nodes reach survey way n = IsMetaPage n ⊎ ((v : List ℕ) × (Has survey (kept v) × Before v way × SpanHas nodes (reach v) n))
+
+-- what the tests of a spot give, where these pages were claimed before
+abbrev pub Gives : Nodes → (ℕ → Type 0) → Spot → Option Finding → Type 0
+Gives nodes before spot None = Passes nodes before spot
+Gives nodes before spot (Some x) = Tests nodes before spot x
+
+-- The ways whose parents are kept, and the empty way, each with what the tests find there; test 18 looks at the kept ways before.
+pub record Surveys (nodes : Nodes) (reach : Reach) (survey : List Visit) : Type 0 where
+  pub rises : Rises (map (λ (v : Visit). v.way) survey)
+  pub only : (v : Visit) → Has survey v
+      → IsOpen survey v.way × ((spot : Spot) × (reach v.way ≡ Some spot) × Gives nodes (IsClaimedIn nodes reach survey v.way) spot v.found)
+  pub all : (way : List ℕ) (spot : Spot) → IsOpen survey way → reach way ≡ Some spot → (found : Option Finding) × Has survey (record { way = way; found = found })
+
+-- the survey of a file under a meta
+abbrev pub IsSurvey : List ℕ → Meta → List Visit → Type 0
+IsSurvey file meta survey = Surveys (node_at file meta) (reached (node_at file meta) meta.root) survey
+
+-- What is promised of the survey of a file is promised for each survey of it; there is exactly one (`laws`).
+abbrev pub ForSurvey : List ℕ → Meta → (List Visit → Type 0) → Type 0
+ForSurvey file meta P = (survey : List Visit) → IsSurvey file meta survey → P survey

@@ -1,0 +1,36 @@
+//! What the definitions of recovery imply.
+ghost use Rattle.std.specs.Prelude.{◌≡◌, ℕ, List, None};
+ghost use Rattle.bolt_format.specs.declared.meta.Meta.{Meta};
+ghost use Rattle.bolt_check.specs.Sound.{HasSoundTrees, IsFirstFinding};
+ghost use Rattle.bolt_check.specs.Ways.{Before};
+ghost use Rattle.bolt_check.specs.declared.finding.Finding.{Finding};
+ghost use Rattle.bolt_tree.specs.Listing.{Member};
+ghost use Rattle.bolt_recover.specs.Losses.{AreLosses, LossView};
+ghost use Rattle.bolt_recover.specs.Recovered.{IsRecovered};
+ghost use Rattle.bolt_recover.specs.Surveys.{Has, IsSurvey, Visit, lost};
+
+/// A file has at most one survey.
+pub fn survey_is_one()
+    ensures { (file : List ℕ) (meta : Meta) (a b : List Visit) → IsSurvey file meta a → IsSurvey file meta b → a ≡ b }
+{}
+
+/// A file has at most one recovered listing.
+pub fn recovered_listing_is_one()
+    ensures { (file : List ℕ) (meta : Meta) (a b : List Member) → IsRecovered file meta a → IsRecovered file meta b → a ≡ b }
+{}
+
+/// A file tells at most one list of losses.
+pub fn losses_are_one()
+    ensures { (file : List ℕ) (meta : Meta) (a b : List LossView) → AreLosses file meta a → AreLosses file meta b → a ≡ b }
+{}
+
+/// Sound trees lose nothing.
+pub fn sound_trees_lose_nothing()
+    ensures { (file : List ℕ) (meta : Meta) (survey : List Visit) (v : Visit) → HasSoundTrees file meta → IsSurvey file meta survey → Has survey v → v.found ≡ None }
+{}
+
+/// What is found at the first lost way is the first finding of the trees.
+pub fn first_loss_is_the_first_finding()
+    ensures { (file : List ℕ) (meta : Meta) (survey : List Visit) (way : List ℕ) (x : Finding) → IsSurvey file meta survey → Has survey (lost way x)
+        → ((v : Visit) → Has survey v → Before v.way way → v.found ≡ None) → IsFirstFinding file meta x }
+{}

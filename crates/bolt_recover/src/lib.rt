@@ -1,0 +1,8 @@
+//! What a damaged file still holds, and what is lost of it (docs/RECOVERY.md): the definitions, the
+//! laws that follow from them, and what is told of a loss.
+#![tactic(auto)]
+
+pub mod laws;
+mod loss;
+
+pub use loss::Loss;

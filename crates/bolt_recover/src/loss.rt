@@ -1,0 +1,52 @@
+//! What is told of a lost page.
+ghost use Rattle.std.specs.Prelude.{◌≡◌, IfOk};
+ghost use Rattle.bolt_check.specs.Stops.{spot_at};
+ghost use Rattle.bolt_tree.specs.Paths.{path_of};
+ghost use Rattle.bolt_recover.specs.Losses.{lower_of, upper_of};
+ghost use Rattle.bolt_recover.specs.ShownLosses.{loss_view};
+
+use bolt_check::{Finding, NoMemory, Stop};
+use std::alloc::Global;
+
+/// A page, or the page of an inline bucket, that is lost with all that stands below it
+/// (docs/RECOVERY.md, "Losses").
+#[derive(Debug, Drop)]
+pub struct Loss<'a> {
+    /// What the tests found there.
+    pub finding: Finding,
+    /// The path of the bucket that it belongs to; empty for the root bucket.
+    pub bucket: Vec<&'a [u8]>,
+    /// Of a page below a branch, the key that leads to it: no lost key is below.
+    pub lower: Option<&'a [u8]>,
+    /// The bound that no lost key reaches, if there is one.
+    pub upper: Option<&'a [u8]>,
+}
+
+impl<'a> Loss<'a> {
+    /// The loss of what a stop leads to, in the bucket with this path.
+    ///
+    /// # Errors
+    ///
+    /// `NoMemory` if there is no room for the path.
+    pub fn new(
+        alloc: Global,
+        finding: Finding,
+        bucket: &[&'a [u8]],
+        stop: &Stop<'a>,
+    ) -> Result<Loss<'a>, NoMemory>
+        ensures { IfOk result (λ loss. loss_view loss ≡ record { finding = finding; bucket = path_of bucket.now; lower = lower_of (spot_at stop.now); upper = upper_of (spot_at stop.now) }) }
+    {
+        let mut path = Vec::new(alloc);
+        path.extend_from_slice(bucket)?;
+        let (lower, upper) = match stop {
+            Stop::Page(page) => (page.lower, page.upper),
+            Stop::Bucket(_) => (None, None),
+        };
+        Ok(Loss {
+            finding,
+            bucket: path,
+            lower,
+            upper,
+        })
+    }
+}
