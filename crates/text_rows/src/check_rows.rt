@@ -1,10 +1,10 @@
-//! Rows of the call `check`: its faults, and what it shows of a sound file.
+//! Rows of the call `check`: its faults, and what it shows of a sound file; and of `roles`.
 
-use bolt_check::{CheckFault, Checked, Finding, check};
+use bolt_check::{CheckFault, Checked, Finding, Role, check, roles};
 use bolt_format::{Meta, MetaFault, PageFault};
 use sample_files::command_samples::GREATEST_OVERFLOW;
-use sample_files::maker::{FRESH, MetaFields};
-use sample_files::samples::{FRESH_FILE, Sample, make};
+use sample_files::maker::{Element, FRESH, MetaFields};
+use sample_files::samples::{Content, FRESH_FILE, Sample, make};
 use std::alloc::{AllocError, Global};
 use std::process::Abort;
 use std::test::Fail;
@@ -77,6 +77,44 @@ fn checked_file(rt: HostRuntime) -> Result<(), Fail> {
     match check(rt.alloc(), file.as_slice()) {
         Ok(checked) => check_shown(&rt, checked, file.as_slice()),
         Err(_) => assert!(rt; false, "the fresh file is sound"),
+    }
+    Ok(())
+}
+
+/// A page for each role: the freelist on page 2, which names page 7; the root, a branch, on page 3;
+/// a leaf on page 4 whose value goes on to page 5; and another leaf on page 6.
+static ALL_ROLES: Sample<'static> = Sample {
+    fields: MetaFields { mark: 8, ..FRESH },
+    pages_held: 8,
+    pages: &[
+        (2, Content::Freelist(&[7])),
+        (3, Content::Branch(&[(b"a", 4), (b"m", 6)])),
+        (4, Content::Leaf(&[Element::Value(b"a", &[b'x'; 4096])])),
+        (6, Content::Leaf(&[Element::Value(b"m", b"")])),
+    ],
+    patches: &[(4 * 4096 + 12, &[1])],
+};
+
+const ROLES: [Role; 8] = [
+    Role::Meta,
+    Role::Meta,
+    Role::Freelist,
+    Role::Branch,
+    Role::Leaf,
+    Role::Inside,
+    Role::Leaf,
+    Role::Free,
+];
+
+#[test]
+fn each_page_has_its_role(rt: HostRuntime) -> Result<(), Fail> {
+    let file = make(rt.alloc(), &ALL_ROLES)?;
+    let checked = check(rt.alloc(), file.as_slice())?;
+    let found = roles(rt.alloc(), checked)?;
+    let mark = found.checked().meta().high_water;
+    assert_eq!(rt; mark, 8);
+    for id in 0..mark {
+        assert_eq!(rt; Some(&found.role(id)), ROLES.get(id as usize), "page {id}");
     }
     Ok(())
 }

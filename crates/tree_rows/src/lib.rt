@@ -19,4 +19,6 @@ mod move_rows;
 #[cfg(test)]
 mod opening_rows;
 #[cfg(test)]
+mod pager_rows;
+#[cfg(test)]
 mod walk_rows;
