@@ -1,4 +1,5 @@
--- What private contracts and proofs cite, and no public one.
+-- What private contracts and proofs cite. No public contract names it, but public words such as `cursor_place`, `left_of` and `walk_path`
+-- are defined by it.
 pub mod Behind
 pub mod BucketPages
 pub mod Contents

@@ -61,7 +61,7 @@ impl<'a> Bucket<'a> {
     }
 
     /// The value under a key: `None` where the bucket has no entry with that key, and where that
-    /// entry is a bucket. It opens as many pages as a cursor's `seek`, and takes no memory.
+    /// entry is a bucket. It goes down once, as a cursor's `seek` does, and takes no memory.
     pub fn get(&self, key: &[u8]) -> Option<&'a [u8]>
         ensures { IsValueAt (entries_of (bucket_checked self.now)) (bucket_start self.now) key.now (option_map (λ value. value.now) result) }
     {
@@ -75,7 +75,7 @@ impl<'a> Bucket<'a> {
     }
 
     /// The bucket under a key: `None` where this bucket has no entry with that key, and where that
-    /// entry is a value. It opens as many pages as a cursor's `seek`, and takes no memory.
+    /// entry is a value. It goes down once, as a cursor's `seek` does, and takes no memory.
     pub fn bucket(&self, key: &[u8]) -> Option<Bucket<'a>>
         ensures checked { IfSome result (λ inner. bucket_checked inner ≡ bucket_checked self.now) }
         ensures bucket { IsBucketAt (entries_of (bucket_checked self.now)) (bucket_start self.now) key.now result }
