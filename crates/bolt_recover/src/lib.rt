@@ -4,5 +4,10 @@
 
 pub mod laws;
 mod loss;
+mod open_page;
+mod recovery;
+mod steps;
 
+pub use bolt_check::{CheckFault, Finding, NoMemory};
 pub use loss::Loss;
+pub use recovery::Recovery;
