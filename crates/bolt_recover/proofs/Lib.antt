@@ -1,4 +1,5 @@
 mod FirstLoss
+mod NoLeaves
 mod OneRecovered
 mod SoundSurveys
 mod SurveyIsOne
