@@ -161,7 +161,7 @@ memory: $(PROGRAM) $(REFUSE) $(NESTED) $(DEEP)
 	$(SWEEP) memory 1 $(LEAKED).db check "list --meta 1" "compact -o OUT --meta 1"
 	$(SWEEP) memory 1 $(DEEP) info check buckets stats
 	$(SWEEP) memory 1500 $(DEEP) "compact -o OUT"
-	-cd crates/tree_rows && rt try --test --fail-alloc 1000 -- memory_rows > $(abspath $(REFUSED_ROWS)) 2>&1
+	-cd crates/test_reading && rt try --test --fail-alloc 1000 -- memory_rows > $(abspath $(REFUSED_ROWS)) 2>&1
 	grep -c "refused at depth ., and gives all" $(REFUSED_ROWS) | grep -x 6
 	grep -c "refused at its beginning, and gives the rest" $(REFUSED_ROWS) | grep -x 3
 	grep -c "refused before the calls" $(REFUSED_ROWS) | grep -x 1
