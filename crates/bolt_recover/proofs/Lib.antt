@@ -1,4 +1,8 @@
 mod FirstLoss
+mod Leading
+mod NoLeaves
 mod OneRecovered
+mod RunSteps
 mod SoundSurveys
+mod StepLemmas
 mod SurveyIsOne

@@ -4,5 +4,7 @@
 
 pub mod laws;
 mod loss;
+mod open_page;
+mod steps;
 
 pub use loss::Loss;
