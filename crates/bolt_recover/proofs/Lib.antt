@@ -2,7 +2,14 @@ mod FirstLoss
 mod Leading
 mod NoLeaves
 mod OneRecovered
+mod PlaceFacts
+mod PlaceKeys
+mod RunExists
+mod RunOrder
+mod RunPaths
+mod RunRecovers
 mod RunSteps
+mod RunSurveys
 mod SoundSurveys
 mod StepLemmas
 mod SurveyIsOne

@@ -14,9 +14,19 @@ pub fn survey_is_one()
     ensures { (file : List ℕ) (meta : Meta) (a b : List Visit) → IsSurvey file meta a → IsSurvey file meta b → a ≡ b }
 {}
 
+/// Each file has a survey.
+pub fn each_file_has_a_survey()
+    ensures { (file : List ℕ) (meta : Meta) → (survey : List Visit) × IsSurvey file meta survey }
+{}
+
 /// A file has at most one recovered listing.
 pub fn recovered_listing_is_one()
     ensures { (file : List ℕ) (meta : Meta) (a b : List Member) → IsRecovered file meta a → IsRecovered file meta b → a ≡ b }
+{}
+
+/// Each file has a recovered listing.
+pub fn each_file_has_a_recovered_listing()
+    ensures { (file : List ℕ) (meta : Meta) → (listing : List Member) × IsRecovered file meta listing }
 {}
 
 /// A file tells at most one list of losses.
