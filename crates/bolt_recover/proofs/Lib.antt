@@ -4,7 +4,9 @@ mod NoLeaves
 mod OneRecovered
 mod PlaceFacts
 mod PlaceKeys
+mod Recovering
 mod RunExists
+mod RunForgets
 mod RunOrder
 mod RunPaths
 mod RunRecovers

@@ -21,7 +21,7 @@ use Rattle.bolt_tree.specs.Listing.{Member}
 use Rattle.bolt_tree.specs.Paths.{Path}
 use Rattle.bolt_recover.specs.Losses.{LossView, loss_of}
 use Rattle.bolt_recover.specs.Places.{Place, leaves_of, step_place}
-use Rattle.bolt_recover.specs.Private.Frames.{AreOpen, ComesTo, Ends, GivesHead, GoesOn, HasOpen, IsContent, IsGoodContent, IsGoodPage, IsShallow, NoWay, State, StaysOn, ahead_level, ahead_tasks, ahead_weight, claims_nodes, content_elements, content_place, content_size, content_spot, lost_state, open_tasks, page_tasks, page_weight, state_tasks, stay, stop_place}
+use Rattle.bolt_recover.specs.Private.Frames.{AreOpen, ComesTo, Ends, GivesHead, GoesOn, HasOpen, IsContent, IsGoodContent, IsGoodPage, IsShallow, NoWay, State, StaysOn, ahead_level, ahead_tasks, ahead_weight, claims_nodes, content_elements, content_place, content_size, content_spot, is_over, lost_state, open_tasks, over_by, page_tasks, page_weight, state_tasks, stay, stop_place}
 use Rattle.bolt_recover.specs.Private.Runs.{Runs, RunsAll, Task, To_visit, Visited, claimed_with, entry_tasks, gives_at, losses_in, meta_pages, place_size, place_tasks, tasks_from, visits_at}
 use Rattle.bolt_recover.specs.declared.open_page.Content.{Content}
 use Rattle.bolt_recover.specs.declared.open_page.Content.TheVariants.{Bucket, Page}
@@ -86,6 +86,19 @@ same_claims : (file : List ℕ) (meta : Meta) (a b : ℕ → Bool) (tasks : List
     → ((n : ℕ) → b n ≡ a n) → Runs file meta stay a tasks visits members → Runs file meta stay b tasks visits members
 same_claims file meta a b tasks visits members same run = subst (λ (f : ℕ → Bool). Runs file meta stay f tasks visits members) (sym (λ i n. same n i)) run
 
+-- while something is ahead or open, it isn't over
+not_ahead : (s : State) (ahead : Ahead) → s.ahead ≡ Some ahead → is_over s ≡ true → ⊥
+not_ahead s ahead is over = let f : false ≡ true = ap (λ (o : Option Ahead). over_by o s.pages) (sym is) ∙ over in cc
+
+more_open : (o : Option Ahead) (front : List OpenPage) (top : OpenPage) → over_by o (front ++ top ∷ []) ≡ false
+more_open None [] top = refl
+more_open None (page ∷ front) top = refl
+more_open (Some ahead) front top = refl
+
+not_open : (s : State) (front : List OpenPage) (top : OpenPage) → s.ahead ≡ None → s.pages ≡ front ++ top ∷ [] → is_over s ≡ true → ⊥
+not_open s front top is pages over =
+    let f : false ≡ true = sym (more_open None front top) ∙ ap (over_by None) (sym pages) ∙ ap (λ (o : Option Ahead). over_by o s.pages) (sym is) ∙ over in cc
+
 -- what was ahead is open
 pub entered_page : (s : State) (ahead : Ahead) (content : Content) (count : ℕ) (claimed : ℕ → Bool) → HasOpen s → s.ahead ≡ Some ahead
     → Passes (node_at s.file s.meta) (λ n. s.claimed n ≡ true) (spot_at ahead.stop) → IsContent s.file s.meta ahead.stop content
@@ -106,6 +119,7 @@ entered_page s ahead content count claimed has is passes content_is claims long 
         };
       };
       path = refl;
+      over = λ over. absurd (not_ahead s ahead is over);
       same = λ members losses comes.
           let first = subst (λ (o : Option Ahead). Runs s.file s.meta stay s.claimed (ahead_tasks s.file s.meta s.path o (open_tasks s.file s.meta s.path s.pages [])) comes.visits members) is comes.run in
           let next = keeps s.file s.meta stay s.claimed tt (stop_place s.file s.meta (take ahead.level s.path) ahead.stop) (open_tasks s.file s.meta s.path s.pages []) comes.visits members passes first in
@@ -130,6 +144,7 @@ entered_lost s ahead x claimed has is tests claims =
     record {
       on = record { file = refl; meta = refl; placed = record { pages = are_open_up s.file s.meta 0 s.pages ahead.level (length s.path) are within; within = omega arith } };
       path = refl;
+      over = λ over. absurd (not_ahead s ahead is over);
       same = λ members losses comes.
           let first = subst (λ (o : Option Ahead). Runs s.file s.meta stay s.claimed (ahead_tasks s.file s.meta s.path o (open_tasks s.file s.meta s.path s.pages [])) comes.visits members) is comes.run in
           let next = loses s.file s.meta stay s.claimed tt place x (open_tasks s.file s.meta s.path s.pages []) comes.visits members tests first in
@@ -146,6 +161,7 @@ pub stayed : (s : State) (claimed : ℕ → Bool) → HasOpen s → ((n : ℕ) �
 stayed s claimed has claims = record {
   on = record { file = refl; meta = refl; placed = record { pages = has.pages; within = has.within } };
   path = refl;
+  over = λ over. over;
   same = λ members losses comes. record { visits = comes.visits; run = same_claims s.file s.meta s.claimed claimed _ comes.visits members claims comes.run; all = comes.all };
 }
 
@@ -187,6 +203,7 @@ took_last s front top has is pages over =
     record {
       on = record { file = refl; meta = refl; placed = record { pages = are_open_up s.file s.meta 0 front top.level (length s.path) inner.below inner.within; within = omega arith } };
       path = refl;
+      over = λ over. absurd (not_open s front top is pages over);
       same = λ members losses comes. record {
         visits = comes.visits;
         run = subst (λ (n : ℕ). Runs s.file s.meta stay s.claimed (tasks_from s.file s.meta stay tt (content_place (take top.level s.path) top.content) top.next n ++ open_tasks s.file s.meta s.path front []) comes.visits members)
@@ -273,6 +290,7 @@ module _ (s : State) (front : List OpenPage) (top : OpenPage) (has : HasOpen s) 
           };
         };
         path = refl;
+        over = λ over. absurd (not_open s front top is pages over);
         same = λ members losses comes. record {
           visits = comes.visits;
           run = subst (λ (ts : List (Task NoWay)). Runs s.file s.meta stay s.claimed ts comes.visits members)
@@ -303,6 +321,7 @@ module _ (s : State) (front : List OpenPage) (top : OpenPage) (has : HasOpen s) 
             within = ahead_within (top.level + 1) r (length path) (omega (arith, long));
           };
         };
+        more = more_open (ahead_of (top.level + 1) r) front moved;
         head = λ members losses comes.
             let first = subst (λ (ts : List (Task NoWay)). Runs s.file s.meta stay s.claimed ts comes.visits members)
             (ap (λ (o : Option LeafElement). (gives_at s.file s.meta stay (take top.level s.path) o ++ visits_at s.file s.meta stay tt (step_place s.file s.meta here top.next)) ++ rest_tasks) some)
@@ -406,16 +425,20 @@ moved_weight file meta path under (Bucket s) level above count next r leads le =
 
 -- one step after another
 pub unmoved : (s : State) → HasOpen s → GoesOn s s
-unmoved s has = record { on = record { file = refl; meta = refl; placed = has }; path = refl; same = λ members losses comes. comes }
+unmoved s has = record { on = record { file = refl; meta = refl; placed = has }; path = refl; over = λ over. over; same = λ members losses comes. comes }
 
 on_from : (a b c : State) → StaysOn a b → StaysOn b c → StaysOn a c
 on_from a b c h k = record { file = k.file ∙ h.file; meta = k.meta ∙ h.meta; placed = k.placed }
 
 pub goes_from : (a b c : State) → GoesOn a b → GoesOn b c → GoesOn a c
-goes_from a b c h k = record { on = on_from a b c h.on k.on; path = k.path ∙ h.path; same = λ members losses comes. k.same members losses (h.same members losses comes) }
+goes_from a b c h k = record { on = on_from a b c h.on k.on; path = k.path ∙ h.path; over = λ over. k.over (h.over over); same = λ members losses comes. k.same members losses (h.same members losses comes) }
 
 pub gives_from : (a b c : State) (e : LeafElement) → GoesOn a b → GivesHead b c e → GivesHead a c e
-gives_from a b c e h k = record { on = on_from a b c h.on k.on; head = λ members losses comes. k.head members losses (h.same members losses comes) }
+gives_from a b c e h k = record { on = on_from a b c h.on k.on; more = k.more; head = λ members losses comes. k.head members losses (h.same members losses comes) }
 
 pub ends_from : (a b c : State) → GoesOn a b → Ends b c → Ends a c
 ends_from a b c h k = record { on = on_from a b c h.on k.on; ended = k.ended; none = λ members losses comes. k.none members losses (h.same members losses comes) }
+
+pub when_err : {X E P : Type 0} (result : Result X E) → P → OnErr result P
+when_err (Ok x) p = tt
+when_err (Err e) p = p

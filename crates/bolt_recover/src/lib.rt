@@ -5,6 +5,8 @@
 pub mod laws;
 mod loss;
 mod open_page;
+mod recovery;
 mod steps;
 
 pub use loss::Loss;
+pub use recovery::Recovery;

@@ -1,5 +1,5 @@
 //! The steps of a recovering walk: one loop over the pages on the way that is open.
-ghost use Rattle.std.specs.Prelude.{◌≡◌, ◌≤◌, ◌<◌, ◌++◌, ◌∷◌, ℕ, List, [], None, IfOk, IfErr, IfSome, IsTrue, OnErr, OnOk, MatchResult, length};
+ghost use Rattle.std.specs.Prelude.{◌≡◌, ◌≤◌, ◌<◌, ℕ, List, [], false, None, IfOk, IfErr, IfSome, IsTrue, OnErr, OnOk, MatchResult, length};
 ghost use Rattle.std.specs.Option.{option_map};
 ghost use Rattle.bolt_check.specs.Claims.{claims_file, claims_meta, is_claimed};
 ghost use Rattle.bolt_check.specs.Stops.{spot_at};
@@ -7,7 +7,7 @@ ghost use Rattle.bolt_format.specs.ElementPlaces.{leaf_view};
 ghost use Rattle.bolt_format.specs.Elements.{IsBucketValue};
 ghost use Rattle.bolt_tree.specs.Listing.{Member};
 ghost use Rattle.bolt_tree.specs.Paths.{path_of};
-ghost use Rattle.bolt_recover.specs.Private.Frames.{Advances, ComesTo, GoesOn, HasOpen, IsRefusedRoot, NoWay, Takes, TakesBucket, lost_state, state_of, stay, steps_weight, taken_weight};
+ghost use Rattle.bolt_recover.specs.Private.Frames.{Advances, ComesTo, GoesOn, HasOpen, IsRefusedRoot, NoWay, Takes, TakesBucket, is_over, lost_state, state_of, stay, steps_weight, taken_weight};
 ghost use Rattle.bolt_recover.specs.Private.Runs.{RunsAll, Visited, losses_in};
 
 use crate::loss::Loss;
@@ -69,6 +69,8 @@ impl<'a> Steps<'a> {
         ensures meta { IfOk result (λ steps. claims_meta steps.claims ≡ meta) }
         ensures path { IfOk result (λ steps. path_of steps.path.items ≡ []) }
         ensures placed { IfOk result (λ steps. HasOpen (state_of steps)) }
+        ensures more { IfOk result (λ steps. is_over (state_of steps) ≡ false) }
+        ensures losses { IfOk result (λ steps. (state_of steps).losses ≡ []) }
         ensures all { IfOk result (λ steps. (visits : List (Visited NoWay)) (members : List Member) → RunsAll file.now meta stay tt visits members → ComesTo (state_of steps) members (losses_in visits)) }
         ensures refused { IfErr result (IsRefusedRoot file.now meta) }
     {

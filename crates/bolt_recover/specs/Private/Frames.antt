@@ -1,5 +1,5 @@
 -- The open pages of the code as what is still to be done.
-use Rattle.std.specs.Prelude.{◌≡◌, ◌≤◌, ◌<◌, IsTrue, ℕ, ◌+◌, ◌-◌, ◌*◌, Bool, List, [], ◌∷◌, ◌++◌, length, map, take, Option, Some, None, Ok, sum_by}
+use Rattle.std.specs.Prelude.{◌≡◌, ◌≤◌, ◌<◌, IsTrue, ℕ, ◌+◌, ◌-◌, ◌*◌, Bool, true, false, List, [], ◌∷◌, ◌++◌, length, map, take, Option, Some, None, Ok, if◌then◌else◌, sum_by}
 use Rattle.bolt_format.specs.ElementPlaces.{leaf_view}
 use Rattle.bolt_format.specs.Elements.{IsBucketValue, LeafElement}
 use Rattle.bolt_format.specs.declared.element.Leaf as element
@@ -22,9 +22,11 @@ use Rattle.bolt_check.specs.declared.stop.Stop.TheVariants as stop
 use Rattle.bolt_tree.specs.Entries.{item_of}
 use Rattle.bolt_tree.specs.Listing.{Member}
 use Rattle.bolt_tree.specs.Paths.{Path, path_of}
-use Rattle.bolt_recover.specs.Losses.{LossView, loss_of}
+use Rattle.bolt_recover.specs.Losses.{AreLosses, LossView, loss_of}
 use Rattle.bolt_recover.specs.Places.{Place, leaves_of}
 use Rattle.bolt_recover.specs.Private.Runs.{Runs, Task, To_visit, Visited, losses_in, tasks_from}
+use Rattle.bolt_recover.specs.Recovered.{IsRecovered}
+use Rattle.bolt_tree.specs.Private.Behind.{behind}
 use Rattle.bolt_recover.specs.ShownLosses.{loss_view}
 use Rattle.bolt_recover.specs.declared.open_page.Content.{Content}
 use Rattle.bolt_recover.specs.declared.open_page.Content.TheVariants.{Bucket, Page}
@@ -153,6 +155,15 @@ pub record ComesTo (s : State) (members : List Member) (losses : List LossView) 
   pub run : Runs s.file s.meta stay s.claimed (state_tasks s) visits members
   pub all : losses ≡ s.losses ++ losses_in visits
 
+-- nothing is left to be done
+abbrev pub over_by : Option Ahead → List OpenPage → Bool
+over_by None [] = true
+over_by None (page ∷ pages) = false
+over_by (Some ahead) pages = false
+
+abbrev pub is_over : State → Bool
+is_over s = over_by s.ahead s.pages
+
 -- the same file, in good order
 pub record StaysOn (old new : State) : Type 0 where
   pub file : new.file ≡ old.file
@@ -163,11 +174,13 @@ pub record StaysOn (old new : State) : Type 0 where
 pub record GoesOn (old new : State) : Type 0 where
   pub on : StaysOn old new
   pub path : new.path ≡ old.path
+  pub over : is_over old ≡ true → is_over new ≡ true
   pub same : (members : List Member) (losses : List LossView) → ComesTo old members losses → ComesTo new members losses
 
 -- this element was given
 pub record GivesHead (old new : State) (e : LeafElement) : Type 0 where
   pub on : StaysOn old new
+  pub more : is_over new ≡ false
   pub head : (members : List Member) (losses : List LossView) → ComesTo old members losses
       → (rest : List Member) × (members ≡ (new.path, item_of e) ∷ rest) × ComesTo new rest losses
 
@@ -186,6 +199,16 @@ abbrev pub Takes : State → State → Taken → Type 0
 Takes old new (Leaf leaf) = GivesHead old new (leaf_view leaf)
 Takes old new Nothing = GoesOn old new
 Takes old new End = Ends old new
+
+-- what of a listing is left: all behind the path of what was given last
+abbrev pub left_by : State → List Member → List Member
+left_by s listing = if is_over s then [] else behind s.path listing
+
+-- good steps over a file under this meta, which come to all that is recovered and lost of it
+pub record IsOn (s : State) (under : Meta) : Type 0 where
+  pub meta : s.meta ≡ under
+  pub placed : HasOpen s
+  pub comes : (listing : List Member) (losses : List LossView) → IsRecovered s.file under listing → AreLosses s.file under losses → ComesTo s (left_by s listing) losses
 
 -- a bucket that is given has a bucket's value
 abbrev pub TakesBucket : Taken → Type 0
