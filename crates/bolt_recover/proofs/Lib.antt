@@ -1,4 +1,6 @@
+mod ElementLists
 mod FirstLoss
+mod HeldMembers
 mod Leading
 mod NoLeaves
 mod OneRecovered
@@ -12,6 +14,7 @@ mod RunPaths
 mod RunRecovers
 mod RunSteps
 mod RunSurveys
+mod SoundListing
 mod SoundSurveys
 mod StepLemmas
 mod SurveyIsOne

@@ -96,7 +96,7 @@ pub tidy_root : (file : List ℕ) (meta : Meta) → IsTidy file meta (root_place
 tidy_root file meta = refl
 
 -- a page that is a node is a leaf with an entry for each element, or a branch, which shows none
-abbrev HasForm : Node → List LeafElement → Type 0
+abbrev pub HasForm : Node → List LeafElement → Type 0
 HasForm node leaves = ((node.is_leaf ≡ true) × (node.entries ≡ map leaf_entry leaves)) ⊎ ((node.is_leaf ≡ false) × (leaves ≡ []))
 
 abbrev node_ok : Node → Result Node ℕ
@@ -116,7 +116,7 @@ form_of None (Some kind.Leaf) count overflow bytes other node is = let same = no
 form_of None (Some kind.Meta) count overflow bytes other node is = absurd (cc)
 form_of None (Some kind.Freelist) count overflow bytes other node is = absurd (cc)
 
-page_form : (file : List ℕ) (meta : Meta) (n : ℕ) (node : Node) → node_at file meta n ≡ Ok node → HasForm node (leaves_of (page_at file meta n))
+pub page_form : (file : List ℕ) (meta : Meta) (n : ℕ) (node : Node) → node_at file meta n ≡ Ok node → HasForm node (leaves_of (page_at file meta n))
 unfolding node_at page_at
 page_form file meta n node is =
     form_of (page_fault file meta n) (kind_of (flags_field (from_page file meta n))) (count_field (from_page file meta n)) (page_overflow file meta n) (span_bytes file meta n) (page_fault file meta n) node is

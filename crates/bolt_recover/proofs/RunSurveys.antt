@@ -20,6 +20,7 @@ use Rattle.bolt_recover.specs.Private.Runs.{Runs, RunsAll, Task, To_give, To_vis
 use Rattle.bolt_recover.specs.Private.Runs.Runs.{done, give, keep, lose}
 use Rattle.bolt_recover.specs.Recovered.{IsRecoveredMember}
 use Rattle.bolt_recover.specs.Surveys.{Gives, Has, IsClaimedIn, IsOpen, IsSurvey, Visit, kept}
+use Rattle.bolt_recover.proofs.ElementLists.{contains_at, slice_of}
 use Rattle.bolt_recover.proofs.PlaceFacts.{elements_is, leads_within, place_further, place_is, size_enough, spot_is, step_spot}
 use Rattle.bolt_recover.proofs.RunOrder.{InTasks, Way, further, in_back, in_front, rises_run, visits_of}
 use Rattle.bolt_recover.proofs.SurveyIsOne.{Suffix, earlier, next_suffix, ways}
@@ -101,11 +102,6 @@ module _ (file : List ℕ) (meta : Meta) (survey : List Visit) where
   AreTasks (To_give path e ∷ tasks) = IsGiven path e × AreTasks tasks
   AreTasks (To_visit w p ∷ tasks) = IsOpen survey w × (place_at file meta w ≡ Some p) × AreTasks tasks
 
-  contains_at : (xs : List LeafElement) (i : ℕ) (e : LeafElement) → slice_get xs i ≡ Some e → Contains xs e
-  contains_at [] i e at = absurd (cc)
-  contains_at (x ∷ xs) zero e at = subst (λ (y : LeafElement). Contains (x ∷ xs) y) (let same : Some x ≡ Some e = at in cc) (contains_head x xs)
-  contains_at (x ∷ xs) (suc i) e at = contains_tail x e xs (contains_at xs i e at)
-
   entry_tasks_are : (w : Way) (p : Place) (i : ℕ) (o : Option LeafElement) (q : Option Place) (rest : List (Task Way)) → Has survey (kept w) → place_at file meta w ≡ Some p
       → slice_get p.elements i ≡ o → place_at file meta (further w i) ≡ q → AreTasks rest → AreTasks ((gives_at file meta further p.path o ++ visits_at file meta further (further w i) q) ++ rest)
   entry_tasks_are w p i None None rest has at get next are = are
@@ -154,14 +150,6 @@ module _ (file : List ℕ) (meta : Meta) (survey : List Visit) where
       let same : i + suc d ≡ suc i + d = omega arith in
       gives_back (p.path ++ e.key ∷ []) e (entry_tasks file meta further w p i) (tasks_from file meta further w p (suc i) k)
       (gives_on w p e (suc i) k d (subst (λ (j : ℕ). slice_get p.elements j ≡ Some e) same is) (omega arith))
-
-  slice_of : (xs : List LeafElement) (e : LeafElement) → Contains xs e → (i : ℕ) × (i < length xs) × (slice_get xs i ≡ Some e)
-  slice_of [] e has = absurd (contains_none e has)
-  slice_of (x ∷ xs) e has =
-      elim (contains_cases x e xs has) [
-        | inl same ↦ (0, omega arith, ap Some same)
-        | inr later ↦ let (i, lt, at) = slice_of xs e later in (suc i, omega (arith, lt), at)
-      ]
 
   -- a kept place is as large as it has elements
   size_of : (w : Way) (p : Place) (claimed : ℕ → Bool) (s : Spot) → place_at file meta w ≡ Some p → p.spot ≡ s → Passes nodes (λ n. claimed n ≡ true) s → length p.elements ≤ place_size nodes p.spot p.elements

@@ -1,6 +1,6 @@
 pub mod AllEntries
 pub mod BackLemmas
-mod BucketWays
+pub mod BucketWays
 mod Climbing
 mod Coming
 pub mod CountLemmas
