@@ -41,14 +41,18 @@ examples: $(PROGRAM)
 	$(PROGRAM) check $(LEAKED).db | cmp - $(LEAKED).findings
 	$(PROGRAM) check $(LEAKED).db 2>&1 > /dev/full | grep -qx "error: write failed"
 	$(PROGRAM) check $(LEAKED).db 2> /dev/null > /dev/full; test $$? -eq 1
+	tools/bbolt/build.sh
 	python3 -B tools/usage/run_examples.py $(PROGRAM) $(SHOWING)
 
-# That the manual page and what bash and zsh complete say what help does; and, where mandoc is
-# installed, that it finds nothing in the page.
+# The manual page and what bash and zsh complete are compared with help, and mandoc finds nothing in
+# the page, if it is installed. What the documents refer to exists; a document of broken links shows
+# that this is found.
 manual: $(PROGRAM)
 	if command -v mandoc > /dev/null; then mandoc -Tlint docs/luntsegi.1; fi
 	python3 -B tools/usage/compare_manual.py $(PROGRAM) docs/luntsegi.1
 	python3 -B tools/usage/compare_completions.py $(PROGRAM)
+	python3 -B tools/usage/check_links.py README.md $(wildcard docs/*.md) docs/luntsegi.1
+	python3 -B tools/usage/check_links.py tools/usage/broken_links.md | cmp - tools/usage/broken_links.found
 
 LISTED_LONG = out/listed_long.db
 

@@ -1,0 +1,91 @@
+#!/usr/bin/env python3
+"""Checks that what documents refer to exists.
+
+    check_links.py DOCUMENT..
+
+In each document these must hold:
+
+- a relative link leads to a file, and its anchor to a heading of that file;
+- a file that is named with its folder (docs/.., crates/.., tools/.., examples/.., completions/..)
+  exists, and so does a module that is named as specs/.., proofs/.. or src/.. of some crate;
+- a section that is quoted behind a document's name, as in docs/SOUND.md, "Ways", is a heading there.
+
+Run it at the top of the sources. Prints what is broken; the status is 1 then, and if a document
+refers to nothing.
+"""
+
+import glob
+import os
+import re
+import sys
+
+LINK = re.compile(r"\[[^\]]*\]\(([^)\s]+)\)")
+NAMED = re.compile(r"(?<![\w/.(-])((?:docs|crates|tools|examples|completions)/[\w./*-]*[\w*])")
+MODULE = re.compile(r"(?<![\w/])((?:specs|proofs)/[A-Z][\w/]*|src/\w+\.rt)")
+QUOTED = re.compile(r"(docs/\w+\.md)\)?,? \(?\"([^\"]+)\"")
+
+
+def text_of(name):
+    with open(name, encoding="utf-8") as file:
+        return file.read()
+
+
+def prose_of(text):
+    """The text without its examples, in which # begins no heading and a bracket no link."""
+    return re.sub(r"(?m)^(?: {4}.*|```[\s\S]*?^```)$", "", text)
+
+
+def headings(name):
+    return re.findall(r"(?m)^#+ (.*)$", prose_of(text_of(name)))
+
+
+def anchor(heading):
+    """The anchor of a heading, as GitHub makes it."""
+    return re.sub(r"[^\w\- ]", "", heading.lower()).replace(" ", "-")
+
+
+def is_link_right(document, link):
+    path, _, place = link.partition("#")
+    file = os.path.join(os.path.dirname(document), path) if path else document
+    if not os.path.exists(file):
+        return False
+    return not place or place in map(anchor, headings(file))
+
+
+def is_module(name):
+    return bool(glob.glob(f"crates/*/{name}") + glob.glob(f"crates/*/{name}.antt"))
+
+
+def is_section(name, heading):
+    return os.path.exists(name) and heading in headings(name)
+
+
+def references(document):
+    """What the document refers to, each with whether it is there."""
+    text = text_of(document)
+    prose = prose_of(text)
+    for link in LINK.findall(prose):
+        if not re.match(r"\w+:", link):
+            yield link, is_link_right(document, link)
+    for name in NAMED.findall(text):
+        yield name, bool(glob.glob(name))
+    for name in MODULE.findall(prose):
+        yield name, is_module(name)
+    for name, heading in QUOTED.findall(prose):
+        yield f'{name}, "{heading}"', is_section(name, heading)
+
+
+def check(document):
+    """Checks one document, and returns whether it refers to something and all of it is there."""
+    found = list(references(document))
+    broken = [what for what, is_there in found if not is_there]
+    for what in broken:
+        print(f"{document}: {what}")
+    return bool(found) and not broken
+
+
+def main():
+    sys.exit(not all([check(document) for document in sys.argv[1:]]))
+
+
+main()
