@@ -1,14 +1,16 @@
 #!/usr/bin/env python3
 """Checks that what documents refer to exists.
 
-    check_links.py DOCUMENT..
+    check_links.py FILE..
 
-In each document these must hold:
+In each document (.md, and the manual page) these must hold:
 
 - a relative link leads to a file, and its anchor to a heading of that file;
 - a file that is named with its folder (docs/.., crates/.., tools/.., examples/.., completions/..)
   exists, and so does a module that is named as specs/.., proofs/.. or src/.. of some crate;
 - a section that is quoted behind a document's name, as in docs/SOUND.md, "Ways", is a heading there.
+
+In other files, sources, each document that is named exists and has the sections that are quoted.
 
 Run it at the top of the sources. Prints what is broken; the status is 1 then, and if a document
 refers to nothing.
@@ -22,7 +24,10 @@ import sys
 LINK = re.compile(r"\[[^\]]*\]\(([^)\s]+)\)")
 NAMED = re.compile(r"(?<![\w/.(-])((?:docs|crates|tools|examples|completions)/[\w./*-]*[\w*])")
 MODULE = re.compile(r"(?<![\w/])((?:specs|proofs)/[A-Z][\w/]*|src/\w+\.rt)")
-QUOTED = re.compile(r"(docs/\w+\.md)\)?,? \(?\"([^\"]+)\"")
+DOCUMENT = re.compile(r"docs/\w+\.(?:md|1)\b")
+QUOTED = re.compile(r"(docs/\w+\.md)\)?,? \(?\"([^\"]+)\"(?: and \"([^\"]+)\")?")
+# The mark of a comment that goes on in the next line.
+MARK = re.compile(r"\n[ \t]*(?:///|//!|//|--|#)?[ \t]*")
 
 
 def text_of(name):
@@ -56,8 +61,22 @@ def is_module(name):
     return bool(glob.glob(f"crates/*/{name}") + glob.glob(f"crates/*/{name}.antt"))
 
 
-def is_section(name, heading):
-    return os.path.exists(name) and heading in headings(name)
+def is_section(name, quoted):
+    """Whether a document has the section; a heading may have more in brackets."""
+    return os.path.exists(name) and any(re.sub(r" \(.*\)$", "", heading) == quoted for heading in headings(name))
+
+
+def sections(text):
+    """The quoted sections, each with whether it is there."""
+    for name, *quoted in QUOTED.findall(MARK.sub(" ", text)):
+        for heading in filter(None, quoted):
+            yield f'{name}, "{heading}"', is_section(name, heading)
+
+
+def references_of_source(text):
+    for name in DOCUMENT.findall(text):
+        yield name, os.path.exists(name)
+    yield from sections(text)
 
 
 def references(document):
@@ -71,21 +90,21 @@ def references(document):
         yield name, bool(glob.glob(name))
     for name in MODULE.findall(prose):
         yield name, is_module(name)
-    for name, heading in QUOTED.findall(prose):
-        yield f'{name}, "{heading}"', is_section(name, heading)
+    yield from sections(prose)
 
 
-def check(document):
-    """Checks one document, and returns whether it refers to something and all of it is there."""
-    found = list(references(document))
+def check(name):
+    """Checks one file: all that it refers to is there, and a document refers to something."""
+    is_document = name.endswith((".md", ".1"))
+    found = list(references(name) if is_document else references_of_source(text_of(name)))
     broken = [what for what, is_there in found if not is_there]
     for what in broken:
-        print(f"{document}: {what}")
-    return bool(found) and not broken
+        print(f"{name}: {what}")
+    return not broken and (bool(found) or not is_document)
 
 
 def main():
-    sys.exit(not all([check(document) for document in sys.argv[1:]]))
+    sys.exit(not all([check(name) for name in sys.argv[1:]]))
 
 
 main()
