@@ -20,6 +20,8 @@ demo:
 	@echo "That was the program before any proof: make build proves it and builds it."
 
 COPY = out/copy.db
+# Sources that refer to sections of documents.
+SOURCES = Makefile $(wildcard crates/*/src/*.rt crates/*/specs/*.antt crates/*/specs/*/*.antt crates/*/proofs/*.antt)
 # The documents that show commands with what they print.
 SHOWING = README.md docs/GUIDE.md docs/COMMANDS.md docs/luntsegi.1
 
@@ -41,14 +43,18 @@ examples: $(PROGRAM)
 	$(PROGRAM) check $(LEAKED).db | cmp - $(LEAKED).findings
 	$(PROGRAM) check $(LEAKED).db 2>&1 > /dev/full | grep -qx "error: write failed"
 	$(PROGRAM) check $(LEAKED).db 2> /dev/null > /dev/full; test $$? -eq 1
+	tools/bbolt/build.sh
 	python3 -B tools/usage/run_examples.py $(PROGRAM) $(SHOWING)
 
-# That the manual page and what bash and zsh complete say what help does; and, where mandoc is
-# installed, that it finds nothing in the page.
+# The manual page and what bash and zsh complete are compared with help, and mandoc finds nothing in
+# the page, if it is installed. What documents and sources refer to exists; a document of broken links
+# shows that this is found.
 manual: $(PROGRAM)
 	if command -v mandoc > /dev/null; then mandoc -Tlint docs/luntsegi.1; fi
 	python3 -B tools/usage/compare_manual.py $(PROGRAM) docs/luntsegi.1
 	python3 -B tools/usage/compare_completions.py $(PROGRAM)
+	python3 -B tools/usage/check_links.py README.md $(wildcard docs/*.md) docs/luntsegi.1 $(SOURCES)
+	python3 -B tools/usage/check_links.py tools/usage/broken_links.md | cmp - tools/usage/broken_links.found
 
 LISTED_LONG = out/listed_long.db
 
