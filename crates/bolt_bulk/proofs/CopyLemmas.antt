@@ -12,17 +12,18 @@ use Rattle.bolt_bulk.specs.Puts.{Puts, PutsWhole}
 use Rattle.bolt_bulk.specs.declared.fault.BulkFault.{BulkFault}
 use Rattle.bolt_bulk.specs.declared.fault.BulkFault.TheVariants as bulk
 use Rattle.bolt_bulk.proofs.PutsLemmas.{proper_first, proper_same, proper_second}
+use Rattle.bolt_layout.specs.declared.layout.Layout.{Layout}
 
-pub layout_parts : (page_size : ℕ) (tree : Tree) (sequence root mark : ℕ) → root ≡ layout_root page_size tree → mark ≡ layout_mark page_size tree
-    → layout_of page_size tree sequence ≡ first_pages (record { page_size = page_size; root = root; sequence = sequence; mark = mark }) ++ placed_bytes page_size (layout_pages page_size tree)
+pub layout_parts : (which : Layout) (page_size : ℕ) (tree : Tree) (sequence root mark : ℕ) → root ≡ layout_root which page_size tree → mark ≡ layout_mark which page_size tree
+    → layout_of which page_size tree sequence ≡ first_pages (record { page_size = page_size; root = root; sequence = sequence; mark = mark }) ++ placed_bytes page_size (layout_pages which page_size tree)
 unfolding layout_of
-layout_parts page_size tree sequence root mark root_is mark_is =
-    let pages : List ℕ = placed_bytes page_size (layout_pages page_size tree) in
+layout_parts which page_size tree sequence root mark root_is mark_is =
+    let pages : List ℕ = placed_bytes page_size (layout_pages which page_size tree) in
     let Whole : ℕ → ℕ → List ℕ = λ r m. meta_page page_size r sequence m 0 ++ (meta_page page_size r sequence m 1 ++ (freelist_page page_size 2 ++ pages)) in
     let regroup : Whole root mark ≡ (meta_page page_size root sequence mark 0 ++ (meta_page page_size root sequence mark 1 ++ freelist_page page_size 2)) ++ pages =
     ap (λ (bs : List ℕ). meta_page page_size root sequence mark 0 ++ bs) (sym (append_assoc (meta_page page_size root sequence mark 1) (freelist_page page_size 2) pages))
     ∙ sym (append_assoc (meta_page page_size root sequence mark 0) (meta_page page_size root sequence mark 1 ++ freelist_page page_size 2) pages) in
-    ap (λ (r : ℕ). Whole r (layout_mark page_size tree)) (sym root_is) ∙ (ap (λ (m : ℕ). Whole root m) (sym mark_is) ∙ regroup)
+    ap (λ (r : ℕ). Whole r (layout_mark which page_size tree)) (sym root_is) ∙ (ap (λ (m : ℕ). Whole root m) (sym mark_is) ∙ regroup)
 
 never : {X : Type 0} (bytes : ℕ) → bytes < too_many → too_many ≤ bytes → X
 never bytes fits large = absurd (omega arith)

@@ -21,51 +21,52 @@ use Rattle.bolt_bulk.specs.Private.Endings.{IsFitMember}
 use Rattle.bolt_layout.specs.Storable.{IsStorable}
 use Rattle.bolt_layout.proofs.MetaLemmas.{size_bounds}
 use Rattle.bolt_bulk.proofs.PassEnds.{members_fit}
+use Rattle.bolt_layout.specs.declared.layout.Layout.{Layout}
 
 abbrev pub FilesAreOfOneTree : Type 0
 FilesAreOfOneTree = (file : List ℕ) (meta : Meta) (listing : List Member) → IsBytes file → HasSoundTrees file meta → IsListing file meta listing → IsOfOneTree listing
 
 abbrev pub LayoutsHoldFew : Type 0
-LayoutsHoldFew = (page_size : ℕ) (tree : Tree) (sequence : ℕ) → IsPageSize page_size → IsStorable tree → length (layout_of page_size tree sequence) < 2 ^ 63
-    → layout_held page_size tree ≤ length (layout_of page_size tree sequence)
+LayoutsHoldFew = (which : Layout) (page_size : ℕ) (tree : Tree) (sequence : ℕ) → IsPageSize page_size → IsStorable tree → length (layout_of which page_size tree sequence) < 2 ^ 63
+    → layout_held which page_size tree ≤ length (layout_of which page_size tree sequence)
 
 abbrev pub LayoutsHaveLength : Type 0
-LayoutsHaveLength = (page_size : ℕ) (tree : Tree) (sequence : ℕ) → IsPageSize page_size → IsStorable tree
-    → length (layout_of page_size tree sequence) ≡ layout_mark page_size tree * page_size
+LayoutsHaveLength = (which : Layout) (page_size : ℕ) (tree : Tree) (sequence : ℕ) → IsPageSize page_size → IsStorable tree
+    → length (layout_of which page_size tree sequence) ≡ layout_mark which page_size tree * page_size
 
 abbrev pub CopiesListTheSame : Type 0
-CopiesListTheSame = (file : List ℕ) (meta : Meta) (listing : List Member) (page_size : ℕ) → IsBytes file → HasSoundTrees file meta → IsListing file meta listing
-    → IsPageSize page_size → meta.root_sequence < 2 ^ 64 → length (layout_of_listing page_size listing meta.root_sequence) < 2 ^ 63
-    → IsSoundCopy page_size (tree_of listing) meta.root_sequence listing
+CopiesListTheSame = (which : Layout) (file : List ℕ) (meta : Meta) (listing : List Member) (page_size : ℕ) → IsBytes file → HasSoundTrees file meta → IsListing file meta listing
+    → IsPageSize page_size → meta.root_sequence < 2 ^ 64 → length (layout_of_listing which page_size listing meta.root_sequence) < 2 ^ 63
+    → IsSoundCopy which page_size (tree_of listing) meta.root_sequence listing
 
 abbrev pub BeginningsAreRefused : Type 0
-BeginningsAreRefused = (page_size : ℕ) (tree : Tree) (sequence : ℕ) → IsAsked page_size tree sequence → length (layout_of page_size tree sequence) < 2 ^ 63
-    → RefusesBeginnings (layout_of page_size tree sequence) (layout_root page_size tree)
+BeginningsAreRefused = (which : Layout) (page_size : ℕ) (tree : Tree) (sequence : ℕ) → IsAsked page_size tree sequence → length (layout_of which page_size tree sequence) < 2 ^ 63
+    → RefusesBeginnings (layout_of which page_size tree sequence) (layout_root which page_size tree)
 
 module _ (checked : Checked) (bytes : IsBytes (bytes_of checked)) where
   pub one_tree : FilesAreOfOneTree → ForListing checked (λ listing. ∥ IsOfOneTree listing ∥₁)
   one_tree law listing lists = ∥∥₁_map (checked_trees checked) (λ trees. law (bytes_of checked) (meta_of checked) listing bytes trees lists)
 
-  pub has_length : FilesAreOfOneTree → LayoutsHaveLength → (page_size : ℕ) → IsPageSize page_size
-      → ForListing checked (λ listing. length (layout_for checked page_size listing) ≡ layout_mark page_size (tree_of listing) * page_size)
-  has_length law long page_size size listing lists = ∥∥₁_elim (one_tree law listing lists) (Prim.hlevel props)
-      (λ one. long page_size (tree_of listing) (meta_of checked).root_sequence size one.storable)
+  pub has_length : FilesAreOfOneTree → LayoutsHaveLength → (which : Layout) (page_size : ℕ) → IsPageSize page_size
+      → ForListing checked (λ listing. length (layout_for which checked page_size listing) ≡ layout_mark which page_size (tree_of listing) * page_size)
+  has_length law long which page_size size listing lists = ∥∥₁_elim (one_tree law listing lists) (Prim.hlevel props)
+      (λ one. long which page_size (tree_of listing) (meta_of checked).root_sequence size one.storable)
 
-  pub accepted : CopiesListTheSame → (page_size : ℕ) → IsPageSize page_size → (meta_of checked).root_sequence < 2 ^ 64
-      → ForListing checked (λ listing. length (layout_for checked page_size listing) < too_many → ∥ IsSoundCopy page_size (tree_of listing) (meta_of checked).root_sequence listing ∥₁)
-  accepted law page_size size fits listing lists short =
-      ∥∥₁_map (checked_trees checked) (λ trees. law (bytes_of checked) (meta_of checked) listing page_size bytes trees lists size fits short)
+  pub accepted : CopiesListTheSame → (which : Layout) (page_size : ℕ) → IsPageSize page_size → (meta_of checked).root_sequence < 2 ^ 64
+      → ForListing checked (λ listing. length (layout_for which checked page_size listing) < too_many → ∥ IsSoundCopy which page_size (tree_of listing) (meta_of checked).root_sequence listing ∥₁)
+  accepted law which page_size size fits listing lists short =
+      ∥∥₁_map (checked_trees checked) (λ trees. law which (bytes_of checked) (meta_of checked) listing page_size bytes trees lists size fits short)
 
-  pub holds_few : FilesAreOfOneTree → LayoutsHoldFew → (page_size : ℕ) → IsPageSize page_size
-      → ForListing checked (λ listing. length (layout_for checked page_size listing) < too_many → layout_held page_size (tree_of listing) ≤ length (layout_for checked page_size listing))
-  holds_few law few page_size size listing lists short = ∥∥₁_elim (one_tree law listing lists) (Prim.hlevel props)
-      (λ one. few page_size (tree_of listing) (meta_of checked).root_sequence size one.storable short)
+  pub holds_few : FilesAreOfOneTree → LayoutsHoldFew → (which : Layout) (page_size : ℕ) → IsPageSize page_size
+      → ForListing checked (λ listing. length (layout_for which checked page_size listing) < too_many → layout_held which page_size (tree_of listing) ≤ length (layout_for which checked page_size listing))
+  holds_few law few which page_size size listing lists short = ∥∥₁_elim (one_tree law listing lists) (Prim.hlevel props)
+      (λ one. few which page_size (tree_of listing) (meta_of checked).root_sequence size one.storable short)
 
-  pub refused : FilesAreOfOneTree → BeginningsAreRefused → (page_size : ℕ) → IsPageSize page_size → (meta_of checked).root_sequence < 2 ^ 64
-      → ForListing checked (λ listing. length (layout_for checked page_size listing) < too_many
-      → ∥ RefusesBeginnings (layout_for checked page_size listing) (layout_root page_size (tree_of listing)) ∥₁)
-  refused one law page_size size fits listing lists short = ∥∥₁_map (one_tree one listing lists)
-      (λ is. law page_size (tree_of listing) (meta_of checked).root_sequence (record { size = size; storable = is.storable; sequence_fits = fits }) short)
+  pub refused : FilesAreOfOneTree → BeginningsAreRefused → (which : Layout) (page_size : ℕ) → IsPageSize page_size → (meta_of checked).root_sequence < 2 ^ 64
+      → ForListing checked (λ listing. length (layout_for which checked page_size listing) < too_many
+      → ∥ RefusesBeginnings (layout_for which checked page_size listing) (layout_root which page_size (tree_of listing)) ∥₁)
+  refused one law which page_size size fits listing lists short = ∥∥₁_map (one_tree one listing lists)
+      (λ is. law which page_size (tree_of listing) (meta_of checked).root_sequence (record { size = size; storable = is.storable; sequence_fits = fits }) short)
 
 -- it has a byte
 pub some_bytes : (bytes : List ℕ) (mark page_size : ℕ) → length bytes ≡ (3 + mark) * page_size → IsPageSize page_size → bytes ≢ []

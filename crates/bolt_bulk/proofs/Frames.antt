@@ -10,13 +10,14 @@ use Rattle.bolt_layout.specs.Layout.{first_page, layout_pages}
 use Rattle.bolt_bulk.specs.Private.OpenRuns.{Frame, Open, all_put, base_in, end_of, end_puts, frames_put, making_room, next_number, nothing_open, pages_put, pushing, room_puts, taking}
 use Rattle.bolt_bulk.specs.Private.Coming.{IsPass, IsStack, held_item}
 use Rattle.bolt_bulk.proofs.OpenRunLemmas.{ends, ends_put, opens, pushed_put, room_put, takes, takes_begun}
+use Rattle.bolt_layout.specs.declared.layout.Layout.TheVariants.{Plain}
 
 -- The beginning: nothing is open, nothing was put.
-pub pass_begins : (page_size : ℕ) (tree : Tree) → IsPass page_size [] nothing_open (items_of page_size tree) (root_of page_size tree)
+pub pass_begins : (page_size : ℕ) (tree : Tree) → IsPass page_size [] nothing_open (items_of Plain page_size tree) (root_of Plain page_size tree)
 unfolding root_of
 pass_begins page_size tree = record {
-  root = root_over page_size (items_of page_size tree);
-  current = opens page_size (items_of page_size tree);
+  root = root_over Plain page_size (items_of Plain page_size tree);
+  current = opens page_size (items_of Plain page_size tree);
   begun = record { whole = λ e. refl };
   stack = refl;
 }
@@ -46,15 +47,15 @@ waiting page_size state key sequence root after =
     record { state = making_room page_size state key (bucket_item key sequence root).size; key = key; sequence = sequence; after = after }
 
 pub pass_enters : (page_size : ℕ) (frames : List Frame) (state : Open) (key : List ℕ) (sequence : ℕ) (inner : List (Laid LeafElement)) (after : Tree) (whole : Laid BranchElement)
-    → IsPass page_size frames state (bucket_item key sequence (root_over page_size inner) ∷ items_of page_size after) whole
-    → IsPass page_size (waiting page_size state key sequence (root_over page_size inner) after ∷ frames) nothing_open inner whole
+    → IsPass page_size frames state (bucket_item key sequence (root_over Plain page_size inner) ∷ items_of Plain page_size after) whole
+    → IsPass page_size (waiting page_size state key sequence (root_over Plain page_size inner) after ∷ frames) nothing_open inner whole
 pass_enters page_size frames state key sequence inner after whole pass =
-    let item : Laid LeafElement = bucket_item key sequence (root_over page_size inner) in
+    let item : Laid LeafElement = bucket_item key sequence (root_over Plain page_size inner) in
     record {
-      root = root_over page_size inner;
+      root = root_over Plain page_size inner;
       current = opens page_size inner;
       begun = record { whole = λ e. refl };
-      stack = (pass.root, takes page_size state item (items_of page_size after) pass.root pass.begun pass.current, takes_begun page_size state item, pass.stack);
+      stack = (pass.root, takes page_size state item (items_of Plain page_size after) pass.root pass.begun pass.current, takes_begun page_size state item, pass.stack);
     }
 
 pub put_enters : (page_size : ℕ) (frames : List Frame) (state : Open) (key : List ℕ) (sequence : ℕ) (root : Laid BranchElement) (after : Tree)
@@ -68,7 +69,7 @@ put_enters page_size frames state key sequence root after =
 
 -- The end of a bucket within: its runs close, and the bucket that waits takes its item.
 pub pass_leaves : (page_size : ℕ) (frame : Frame) (frames : List Frame) (state : Open) (whole : Laid BranchElement) → IsPass page_size (frame ∷ frames) state [] whole
-    → IsPass page_size frames (pushing frame.state (held_item frame (end_of page_size state))) (items_of page_size frame.after) whole
+    → IsPass page_size frames (pushing frame.state (held_item frame (end_of page_size state))) (items_of Plain page_size frame.after) whole
 pass_leaves page_size frame frames state whole pass =
     let same : pass.root ≡ end_of page_size state = sym (ends page_size state pass.root pass.current) in
     let (outer, is, begun, rest) = subst (λ (r : Laid BranchElement). IsStack page_size (frame ∷ frames) r whole) same pass.stack in
@@ -88,8 +89,8 @@ put_leaves page_size frame frames state =
     ∙ (sym (append_assoc xs ys (zs ++ es)) ∙ sym (append_assoc (xs ++ ys) zs es))
 
 -- The end: what was put and what the last runs put are the pages of the layout.
-pub pass_ends : (page_size : ℕ) (tree : Tree) (state : Open) → IsPass page_size [] state [] (root_of page_size tree)
-    → all_put [] state ++ end_puts page_size state first_page ≡ layout_pages page_size tree
+pub pass_ends : (page_size : ℕ) (tree : Tree) (state : Open) → IsPass page_size [] state [] (root_of Plain page_size tree)
+    → all_put [] state ++ end_puts page_size state first_page ≡ layout_pages Plain page_size tree
 pass_ends page_size tree state pass =
-    let same : end_of page_size state ≡ root_of page_size tree = ends page_size state pass.root pass.current ∙ pass.stack in
+    let same : end_of page_size state ≡ root_of Plain page_size tree = ends page_size state pass.root pass.current ∙ pass.stack in
     sym (ends_put page_size state first_page) ∙ ap (λ (r : Laid BranchElement). r.pages first_page) same

@@ -10,6 +10,7 @@ use Rattle.bolt_layout.specs.Levels.{branch_view, leaf_view, page_over, root_ove
 use Rattle.bolt_bulk.specs.Private.OpenRuns.{Open, climb, climb_puts, close, close_puts, coming_key, end_of, end_puts, has_room, key_size, next_number, nothing_open, numbers_in, own_page, making_room, pages_put, pushing, put_in, room_puts, taking}
 use Rattle.bolt_bulk.specs.Private.Coming.{Eager, HasBegun, IsOpen, IsSized, bucket, finish}
 use Rattle.bolt_layout.proofs.Tops.{top_above}
+use Rattle.bolt_layout.specs.declared.layout.Layout.TheVariants.{Plain}
 
 -- The code's test of room is that of the cut.
 pub room_joins : {E : Type 0} (page_size least : ℕ) (run : List (Laid E)) (next : Laid E) (size : ℕ) → next.size ≡ size → has_room page_size least run size ≡ joins page_size least size_of run next
@@ -35,7 +36,7 @@ cut_step page_size least run next items = elim (cases_Bool (joins page_size leas
 ]
 
 -- It begins with nothing open.
-pub bucket_begins : (page_size : ℕ) (items : List (Laid LeafElement)) → bucket page_size [] [] items ≡ root_over page_size items
+pub bucket_begins : (page_size : ℕ) (items : List (Laid LeafElement)) → bucket page_size [] [] items ≡ root_over Plain page_size items
 unfolding root_over
 bucket_begins page_size [] = refl
 bucket_begins page_size (item ∷ items) = refl
@@ -66,7 +67,7 @@ cut_first page_size first run (next ∷ items) =
 pub climb_same : (page_size : ℕ) (key : List ℕ) (q : Laid BranchElement) (uppers : List (List (Laid BranchElement))) → IsSized q → Eager page_size q.key uppers
     → (p : Laid BranchElement) (pages : List (Laid BranchElement)) → p.key ≡ key → IsSized p
     → finish page_size (climb page_size key q uppers) (p ∷ pages) ≡ finish page_size uppers (q ∷ p ∷ pages)
-climb_same page_size key q [] sized eager p pages named size = sym (top_above page_size (q ∷ p ∷ pages) (omega arith))
+climb_same page_size key q [] sized eager p pages named size = sym (top_above Plain page_size (q ∷ p ∷ pages) (omega arith))
 climb_same page_size key q (run ∷ uppers) sized eager p pages named size =
     let F : List (List (Laid BranchElement)) → Laid BranchElement = λ runs. finish page_size uppers (map (page_over branch_view page_size) runs) in
     let takes : joins page_size 2 size_of run q ≡ true = sym (room_joins page_size 2 run q (key_size q.key) sized) ∙ eager.0 in
@@ -163,7 +164,7 @@ close_put page_size q (run ∷ uppers) b =
     close_put page_size q2 uppers b ∙ over_put page_size b run q uppers (close_puts page_size q2 uppers b)
 
 -- One item.
-pub opens : (page_size : ℕ) (items : List (Laid LeafElement)) → IsOpen page_size nothing_open items (root_over page_size items)
+pub opens : (page_size : ℕ) (items : List (Laid LeafElement)) → IsOpen page_size nothing_open items (root_over Plain page_size items)
 opens page_size items = record { comes = bucket_begins page_size items; eager = tt }
 
 leaves_first : (page_size : ℕ) (first : Laid LeafElement) (run items : List (Laid LeafElement))

@@ -39,6 +39,7 @@ use Rattle.bolt_bulk.proofs.Ontos.{IsValue, onto_items, onto_push, value_items, 
 use Rattle.bolt_bulk.proofs.PassSteps.{IsOn, inline_item, on_before, on_enters, on_leaves, on_numbers, on_takes, open_values, pass_takes_all, root_item, values_put, values_rows}
 use Rattle.bolt_bulk.proofs.PutBefore.{bytes-append}
 use Rattle.bolt_bulk.proofs.PutsLemmas.{puts_then}
+use Rattle.bolt_layout.specs.declared.layout.Layout.TheVariants.{Plain}
 
 -- ---- results
 
@@ -98,7 +99,7 @@ module _ {S : Type 0} (tree : Tree) (taken : S → Option (List ℕ)) (failed : 
         more = one.more ++ then.more;
         puts = subst (λ (bs : List ℕ). Puts taken failed old new bs result) (sym (bytes-append bounds.page_size one.more then.more)) (puts_then {taken = taken} {failed = failed} old mid new _ _ x result one.puts then.puts);
         at = subst (λ (ps : List Placed). OnOk result (At ps)) same then.at;
-        before = subst (λ (ps : List Placed). StandsBefore ps (layout_pages bounds.page_size tree)) same then.before;
+        before = subst (λ (ps : List Placed). StandsBefore ps (layout_pages Plain bounds.page_size tree)) same then.before;
         large = then.large;
       }
 
@@ -120,28 +121,28 @@ module _ {S : Type 0} (tree : Tree) (taken : S → Option (List ℕ)) (failed : 
 
 -- with nothing that may be inline
 pub on_of : (tree : Tree) (pass : Pass) (levels : List Level) (left : Tree) (put : List Placed) (is : IsAt tree pass levels left put) → pass.pending ≡ None
-    → (levels ≡ map level_of is.frames) × IsOn pass.bounds.page_size tree is.frames is.state (items_of pass.bounds.page_size left) (rows_of pass.bucket pass.next) put
+    → (levels ≡ map level_of is.frames) × IsOn pass.bounds.page_size tree is.frames is.state (items_of Plain pass.bounds.page_size left) (rows_of pass.bucket pass.next) put
 on_of tree pass levels left put is none =
     let (same, rest) = subst (λ (p : Option Pending). IsPending p pass.entries.items (map level_of is.frames) is.rest levels left) none is.pends in
-    let under = subst (λ (t : Tree). IsPass pass.bounds.page_size is.frames is.state (items_of pass.bounds.page_size t) (root_of pass.bounds.page_size tree)) rest is.under in
+    let under = subst (λ (t : Tree). IsPass pass.bounds.page_size is.frames is.state (items_of Plain pass.bounds.page_size t) (root_of Plain pass.bounds.page_size tree)) rest is.under in
     (same, record { under = under; rows_are = is.rows; put_is = is.put_is })
 
 -- with a bucket that may be inline
 abbrev pub HasPending : (tree : Tree) (pass : Pass) (levels : List Level) (left : Tree) (put : List Placed) (is : IsAt tree pass levels left put) → Pending → Type 0
 HasPending tree pass levels left put is p = (after : Tree)
     × (levels ≡ record { key = p.key.now; after = after } ∷ map level_of is.frames)
-    × IsOn pass.bounds.page_size tree is.frames is.state (items_of pass.bounds.page_size (with_bucket p.key.now p.sequence (onto (map leaf_view pass.entries.items) left) after)) (rows_of pass.bucket pass.next) put
+    × IsOn pass.bounds.page_size tree is.frames is.state (items_of Plain pass.bounds.page_size (with_bucket p.key.now p.sequence (onto (map leaf_view pass.entries.items) left) after)) (rows_of pass.bucket pass.next) put
 
 pending_of : (tree : Tree) (pass : Pass) (levels : List Level) (left : Tree) (put : List Placed) (p : Pending) (is : IsAt tree pass levels left put) → pass.pending ≡ Some p → HasPending tree pass levels left put is p
 pending_of tree pass levels left put p is some =
     let (after, same, rest) = subst (λ (q : Option Pending). IsPending q pass.entries.items (map level_of is.frames) is.rest levels left) some is.pends in
-    let under = subst (λ (t : Tree). IsPass pass.bounds.page_size is.frames is.state (items_of pass.bounds.page_size t) (root_of pass.bounds.page_size tree)) rest is.under in
+    let under = subst (λ (t : Tree). IsPass pass.bounds.page_size is.frames is.state (items_of Plain pass.bounds.page_size t) (root_of Plain pass.bounds.page_size tree)) rest is.under in
     (after, same, record { under = under; rows_are = is.rows; put_is = is.put_is })
 
 -- what was put stands before the rest, at any time
-pub at_before : (tree : Tree) (pass : Pass) (levels : List Level) (left : Tree) (put : List Placed) → IsAt tree pass levels left put → StandsBefore put (layout_pages pass.bounds.page_size tree)
+pub at_before : (tree : Tree) (pass : Pass) (levels : List Level) (left : Tree) (put : List Placed) → IsAt tree pass levels left put → StandsBefore put (layout_pages Plain pass.bounds.page_size tree)
 at_before tree pass levels left put is =
-    on_before pass.bounds.page_size tree is.frames is.state (items_of pass.bounds.page_size is.rest) (rows_of pass.bucket pass.next) put (record { under = is.under; rows_are = is.rows; put_is = is.put_is })
+    on_before pass.bounds.page_size tree is.frames is.state (items_of Plain pass.bounds.page_size is.rest) (rows_of pass.bucket pass.next) put (record { under = is.under; rows_are = is.rows; put_is = is.put_is })
 
 -- a step that puts nothing
 pub steps_none : {S A : Type 0} {taken : S → Option (List ℕ)} {failed : S → ℕ} (tree : Tree) (pass : Pass) (levels : List Level) (left : Tree) (put : List Placed) (old : S) (At : List Placed → Type 0) (result : Result A BulkFault)
@@ -150,14 +151,14 @@ steps_none tree pass levels left put old At (Ok x) is memory at = record {
   more = [];
   puts = puts_none old (Ok x) tt;
   at = subst At (sym (append-nil put)) at;
-  before = subst (λ (ps : List Placed). StandsBefore ps (layout_pages pass.bounds.page_size tree)) (sym (append-nil put)) (at_before tree pass levels left put is);
+  before = subst (λ (ps : List Placed). StandsBefore ps (layout_pages Plain pass.bounds.page_size tree)) (sym (append-nil put)) (at_before tree pass levels left put is);
   large = tt;
 }
 steps_none tree pass levels left put old At (Err e) is memory at = record {
   more = [];
   puts = puts_none old (Err e) (λ s. absurd (let other : fault.Memory ≡ fault.Sink = sym memory ∙ s in cc));
   at = tt;
-  before = subst (λ (ps : List Placed). StandsBefore ps (layout_pages pass.bounds.page_size tree)) (sym (append-nil put)) (at_before tree pass levels left put is);
+  before = subst (λ (ps : List Placed). StandsBefore ps (layout_pages Plain pass.bounds.page_size tree)) (sym (append-nil put)) (at_before tree pass levels left put is);
   large = λ s. absurd (let other : fault.Memory ≡ fault.TooLarge = sym memory ∙ s in cc);
 }
 
@@ -201,7 +202,7 @@ module _ {S : Type 0} (taken : S → Option (List ℕ)) (failed : S → ℕ) (tr
   value_steps levels key value after old new bucket next counted result is none puts rows large counts =
       let (same, on) = on_of tree pass levels (with_value key value after) put is none in
       let made : Open = taking P is.state (leaf_item key value false) in
-      let then = on_takes P tree is.frames is.state key value false (items_of P after) rows_now put on in
+      let then = on_takes P tree is.frames is.state key value false (items_of Plain P after) rows_now put on in
       let few = on_numbers P tree is.frames made _ _ _ then in
       record {
         more = rows_room_put P rows_now key (16 + (length key + length value));
@@ -242,10 +243,10 @@ module _ {S : Type 0} (taken : S → Option (List ℕ)) (failed : S → ℕ) (tr
       let sizes = small.sized in
       let fits = small.small in
       let item = inline_item P p.key.now p.sequence shown values (omega arith) (omega arith) in
-      let on2 = subst (λ (i : Laid LeafElement). IsOn P tree is.frames is.state (i ∷ items_of P after) rows_now put) item on in
-      let then0 = on_takes P tree is.frames is.state p.key.now value true (items_of P after) rows_now put on2 in
+      let on2 = subst (λ (i : Laid LeafElement). IsOn P tree is.frames is.state (i ∷ items_of Plain P after) rows_now put) item on in
+      let then0 = on_takes P tree is.frames is.state p.key.now value true (items_of Plain P after) rows_now put on2 in
       let made : Open = taking P is.state (leaf_item p.key.now value true) in
-      let Then : ℕ → Type 0 = λ n. IsOn P tree is.frames made (items_of P after) (rows_taking P rows_now (inline_element p.key.now p.sequence shown) (16 + (length p.key.now + n))) (put ++ rows_room_put P rows_now p.key.now (16 + (length p.key.now + n))) in
+      let Then : ℕ → Type 0 = λ n. IsOn P tree is.frames made (items_of Plain P after) (rows_taking P rows_now (inline_element p.key.now p.sequence shown) (16 + (length p.key.now + n))) (put ++ rows_room_put P rows_now p.key.now (16 + (length p.key.now + n))) in
       let then : Then size = subst Then (sym sized) then0 in
       let numbers = on_numbers P tree is.frames made _ _ _ then in
       let first : level ≡ record { key = p.key.now; after = after } = cc in
@@ -282,7 +283,7 @@ module _ {S : Type 0} (taken : S → Option (List ℕ)) (failed : S → ℕ) (tr
   room_for p = rows_room P rows_now p.key.now (32 + length p.key.now)
 
   abbrev frame_of : Pending → Tree → Tree → Open → Frame
-  frame_of p left after state = waiting P state p.key.now p.sequence (root_over P (items_of P (onto (map leaf_view pass.entries.items) left))) after
+  frame_of p left after state = waiting P state p.key.now p.sequence (root_over Plain P (items_of Plain P (onto (map leaf_view pass.entries.items) left))) after
 
   record HasOpened (levels : List Level) (left : Tree) (p : Pending) (is : IsAt tree pass levels left put) : Type 0 where
     after : Tree
@@ -290,7 +291,7 @@ module _ {S : Type 0} (taken : S → Option (List ℕ)) (failed : S → ℕ) (tr
     outer : IsOpenRows (room_for p) (making_room P is.state p.key.now (32 + length p.key.now)) (base_in is.frames)
     base : (room_for p).next ≡ base_in (frame_of p left after is.state ∷ is.frames)
     values : AllByRecursion IsValue (map leaf_view pass.entries.items)
-    on : IsOn P tree (frame_of p left after is.state ∷ is.frames) (open_values (value_items (map leaf_view pass.entries.items))) (items_of P left) (opened_rows p (room_for p).next)
+    on : IsOn P tree (frame_of p left after is.state ∷ is.frames) (open_values (value_items (map leaf_view pass.entries.items))) (items_of Plain P left) (opened_rows p (room_for p).next)
         (put ++ rows_room_put P rows_now p.key.now (32 + length p.key.now))
 
   has_opened : (levels : List Level) (left : Tree) (p : Pending) (is : IsAt tree pass levels left put) → pass.pending ≡ Some p → IsSmall P p pass.entries.items → HasRoot P (onto (map leaf_view pass.entries.items) left)
@@ -303,13 +304,13 @@ module _ {S : Type 0} (taken : S → Option (List ℕ)) (failed : S → ℕ) (tr
       let count = length-map pass.entries.items leaf_view in
       let sizes = small.sized in
       let fits = small.small in
-      let inner : List (Laid LeafElement) = items_of P (onto shown left) in
+      let inner : List (Laid LeafElement) = items_of Plain P (onto shown left) in
       let item = root_item P p.key.now p.sequence (onto shown left) rooted in
-      let on2 = subst (λ (i : Laid LeafElement). IsOn P tree is.frames is.state (i ∷ items_of P after) rows_now put) item on in
+      let on2 = subst (λ (i : Laid LeafElement). IsOn P tree is.frames is.state (i ∷ items_of Plain P after) rows_now put) item on in
       let (entered, made, placed) = on_enters P tree is.frames is.state p.key.now p.sequence inner after rows_now put on2 in
       let frames : List Frame = frame_of p left after is.state ∷ is.frames in
-      let begun = subst (λ (items : List (Laid LeafElement)). IsPass P frames (open_values []) items (root_of P tree)) (onto_items P shown left) entered in
-      let under = pass_takes_all P frames [] shown (items_of P left) (root_of P tree) (omega arith) (omega arith) begun in
+      let begun = subst (λ (items : List (Laid LeafElement)). IsPass P frames (open_values []) items (root_of Plain P tree)) (onto_items P shown left) entered in
+      let under = pass_takes_all P frames [] shown (items_of Plain P left) (root_of Plain P tree) (omega arith) (omega arith) begun in
       let room_is : 32 + length p.key.now ≡ 16 + (length p.key.now + 16) = omega arith in
       let base : (room_for p).next ≡ base_in frames = made.next_is ∙ ap (λ (n : ℕ). next_number (making_room P is.state p.key.now n) (base_in is.frames)) room_is in
       record {

@@ -38,6 +38,7 @@ use Rattle.bolt_bulk.proofs.PassLeft.{depth_levels}
 use Rattle.bolt_bulk.proofs.PassRows.{end_numbered}
 use Rattle.bolt_bulk.proofs.PassSteps.{IsOn}
 use Rattle.bolt_bulk.proofs.PutsLemmas.{bytes-append, pages_some, puts_first, puts_then, short_then}
+use Rattle.bolt_layout.specs.declared.layout.Layout.TheVariants.{Plain}
 
 -- ---- the next member
 
@@ -145,17 +146,17 @@ no_pending : (pass : Pass) → depth_of pass ≤ 1 → pass.pending ≡ None
 no_pending pass h = only_none pass.pending (omega arith)
 
 pub record HasEnd (tree : Tree) (pass : Pass) (put : List Placed) : Type 0 where
-  pub pages : layout_pages pass.bounds.page_size tree ≡ put ++ rows_end_put pass.bounds.page_size (rows_of pass.bucket pass.next)
-  pub root : rows_end pass.bounds.page_size (rows_of pass.bucket pass.next) ≡ layout_root pass.bounds.page_size tree
-  pub mark : bucket_end_next pass.bounds.page_size (rows_of pass.bucket pass.next) ≡ layout_mark pass.bounds.page_size tree
-  pub held : pass.most ≡ capped (layout_held pass.bounds.page_size tree)
+  pub pages : layout_pages Plain pass.bounds.page_size tree ≡ put ++ rows_end_put pass.bounds.page_size (rows_of pass.bucket pass.next)
+  pub root : rows_end pass.bounds.page_size (rows_of pass.bucket pass.next) ≡ layout_root Plain pass.bounds.page_size tree
+  pub mark : bucket_end_next pass.bounds.page_size (rows_of pass.bucket pass.next) ≡ layout_mark Plain pass.bounds.page_size tree
+  pub held : pass.most ≡ capped (layout_held Plain pass.bounds.page_size tree)
 
 root_ended : (page_size : ℕ) (tree : Tree) (state : Open) (rows : OpenRows) (put : List Placed) → IsOn page_size tree [] state [] rows put
-    → (layout_pages page_size tree ≡ put ++ rows_end_put page_size rows) × (rows_end page_size rows ≡ layout_root page_size tree) × (bucket_end_next page_size rows ≡ layout_mark page_size tree)
-    × (held_so_far [] state ≡ layout_held page_size tree)
+    → (layout_pages Plain page_size tree ≡ put ++ rows_end_put page_size rows) × (rows_end page_size rows ≡ layout_root Plain page_size tree) × (bucket_end_next page_size rows ≡ layout_mark Plain page_size tree)
+    × (held_so_far [] state ≡ layout_held Plain page_size tree)
 root_ended page_size tree state rows put on =
     let ended = rows_ended page_size rows state first_page on.rows_are in
-    let whole : end_of page_size state ≡ root_of page_size tree = ends page_size state on.under.root on.under.current ∙ on.under.stack in (
+    let whole : end_of page_size state ≡ root_of Plain page_size tree = ends page_size state on.under.root on.under.current ∙ on.under.stack in (
       sym (pass_ends page_size tree state on.under) ∙ (ap (λ (ps : List Placed). all_put [] state ++ ps) (sym ended.0) ∙ ap (λ (ps : List Placed). ps ++ rows_end_put page_size rows) (sym on.put_is)),
       ended.1 ∙ ap (λ (r : Laid BranchElement). (r.element first_page).child) whole,
       end_numbered page_size rows state first_page on.rows_are ∙ ap (λ (r : Laid BranchElement). first_page + r.numbers) whole,

@@ -24,25 +24,26 @@ use Rattle.bolt_bulk.proofs.Ontos.{IsValue, ends_inline, onto_items, value_items
 use Rattle.bolt_bulk.proofs.OpenRowLemmas.{rows_ended}
 use Rattle.bolt_bulk.proofs.PassRows.{enter_is, leave_is, take_is}
 use Rattle.bolt_bulk.proofs.PutBefore.{pass_before}
+use Rattle.bolt_layout.specs.declared.layout.Layout.TheVariants.{Plain}
 
 -- Where the pass stands, apart from how code keeps the buckets that wait.
 pub record IsOn (page_size : ℕ) (tree : Tree) (frames : List Frame) (state : Open) (items : List (Laid LeafElement)) (rows : OpenRows) (put : List Placed) : Type 0 where
-  pub under : IsPass page_size frames state items (root_of page_size tree)
+  pub under : IsPass page_size frames state items (root_of Plain page_size tree)
   pub rows_are : IsOpenRows rows state (base_in frames)
   pub put_is : put ≡ all_put frames state
 
 module _ (page_size : ℕ) (tree : Tree) where
   -- what was put stands before the root page, and its numbers are below the high-water mark
   pub on_before : (frames : List Frame) (state : Open) (items : List (Laid LeafElement)) (rows : OpenRows) (put : List Placed) → IsOn page_size tree frames state items rows put
-      → StandsBefore put (layout_pages page_size tree)
+      → StandsBefore put (layout_pages Plain page_size tree)
   on_before frames state items rows put on =
-      let is = pass_before page_size frames state items (root_of page_size tree) on.under in
+      let is = pass_before page_size frames state items (root_of Plain page_size tree) on.under in
       record { rest = is.rest; parts = is.parts ∙ ap (λ (ps : List Placed). ps ++ is.rest) (sym on.put_is); some = is.some }
 
   pub on_numbers : (frames : List Frame) (state : Open) (items : List (Laid LeafElement)) (rows : OpenRows) (put : List Placed) → IsOn page_size tree frames state items rows put
-      → rows.next ≤ layout_mark page_size tree
+      → rows.next ≤ layout_mark Plain page_size tree
   on_numbers frames state items rows put on =
-      let fewer = (pass_before page_size frames state items (root_of page_size tree) on.under).fewer in
+      let fewer = (pass_before page_size frames state items (root_of Plain page_size tree) on.under).fewer in
       let next = on.rows_are.next_is in omega arith
 
   -- an item without pages below it is taken
@@ -54,7 +55,7 @@ module _ (page_size : ℕ) (tree : Tree) where
       let item : Laid LeafElement = leaf_item key value flag in
       let made = take_is page_size rows state (base_in frames) key value flag on.rows_are in
       record {
-        under = pass_takes page_size frames state item items (root_of page_size tree) on.under;
+        under = pass_takes page_size frames state item items (root_of Plain page_size tree) on.under;
         rows_are = made.0;
         put_is = ap (λ (ps : List Placed). ps ++ rows_room_put page_size rows key item.size) on.put_is
             ∙ (ap (λ (ps : List Placed). all_put frames state ++ ps) made.1 ∙ sym (put_takes page_size frames state item (λ n. refl)));
@@ -62,31 +63,31 @@ module _ (page_size : ℕ) (tree : Tree) where
 
   -- a bucket with a root page is entered
   pub on_enters : (frames : List Frame) (state : Open) (key : List ℕ) (sequence : ℕ) (inner : List (Laid LeafElement)) (after : Tree) (rows : OpenRows) (put : List Placed)
-      → IsOn page_size tree frames state (bucket_item key sequence (root_over page_size inner) ∷ items_of page_size after) rows put
-      → IsPass page_size (waiting page_size state key sequence (root_over page_size inner) after ∷ frames) nothing_open inner (root_of page_size tree)
+      → IsOn page_size tree frames state (bucket_item key sequence (root_over Plain page_size inner) ∷ items_of Plain page_size after) rows put
+      → IsPass page_size (waiting page_size state key sequence (root_over Plain page_size inner) after ∷ frames) nothing_open inner (root_of Plain page_size tree)
       × IsOpenRows (rows_room page_size rows key (32 + length key)) (making_room page_size state key (32 + length key)) (base_in frames)
-      × (put ++ rows_room_put page_size rows key (32 + length key) ≡ all_put (waiting page_size state key sequence (root_over page_size inner) after ∷ frames) nothing_open)
+      × (put ++ rows_room_put page_size rows key (32 + length key) ≡ all_put (waiting page_size state key sequence (root_over Plain page_size inner) after ∷ frames) nothing_open)
   on_enters frames state key sequence inner after rows put on =
       let made = enter_is page_size rows state (base_in frames) key on.rows_are in
       let size : 32 + length key ≡ 16 + (length key + 16) = omega arith in
-      let root : Laid LeafElement = bucket_item key sequence (root_over page_size inner) in (
-        pass_enters page_size frames state key sequence inner after (root_of page_size tree) on.under,
+      let root : Laid LeafElement = bucket_item key sequence (root_over Plain page_size inner) in (
+        pass_enters page_size frames state key sequence inner after (root_of Plain page_size tree) on.under,
         made.0,
         ap (λ (ps : List Placed). ps ++ rows_room_put page_size rows key (32 + length key)) on.put_is
             ∙ (ap (λ (ps : List Placed). all_put frames state ++ ps) (made.1 ∙ ap (λ (n : ℕ). room_puts page_size state key n (base_in frames)) size)
-            ∙ sym (put_enters page_size frames state key sequence (root_over page_size inner) after)),
+            ∙ sym (put_enters page_size frames state key sequence (root_over Plain page_size inner) after)),
       )
 
   -- it ends, and the bucket around it goes on
   pub on_leaves : (frame : Frame) (frames : List Frame) (state : Open) (inner outer : OpenRows) (put : List Placed) → IsOn page_size tree (frame ∷ frames) state [] inner put
       → IsOpenRows outer frame.state (base_in frames) → outer.next ≡ base_in (frame ∷ frames)
-      → IsOn page_size tree frames (pushing frame.state (held_item frame (end_of page_size state))) (items_of page_size frame.after)
+      → IsOn page_size tree frames (pushing frame.state (held_item frame (end_of page_size state))) (items_of Plain page_size frame.after)
       (rows_push outer (root_element frame.key (rows_end page_size inner) frame.sequence) (16 + (length frame.key + 16)) (bucket_end_next page_size inner))
       (put ++ rows_end_put page_size inner)
   on_leaves frame frames state inner outer put on waits base =
       let ended = rows_ended page_size inner state (base_in (frame ∷ frames)) on.rows_are in
       record {
-        under = pass_leaves page_size frame frames state (root_of page_size tree) on.under;
+        under = pass_leaves page_size frame frames state (root_of Plain page_size tree) on.under;
         rows_are = leave_is page_size inner outer state frame frames on.rows_are waits base;
         put_is = ap (λ (ps : List Placed). ps ++ rows_end_put page_size inner) on.put_is
             ∙ (ap (λ (ps : List Placed). all_put (frame ∷ frames) state ++ ps) ended.0 ∙ sym (put_leaves page_size frame frames state));
@@ -142,14 +143,14 @@ values_rows entries size base next values sized at =
 
 -- The item of an inline bucket.
 pub inline_item : (page_size : ℕ) (key : List ℕ) (sequence : ℕ) (entries : List LeafElement) → AllByRecursion IsValue entries → entries_size entries ≤ page_size / 4 → length entries ≤ 65534
-    → stored_bucket page_size key sequence (onto entries end) (items_of page_size (onto entries end)) ≡ leaf_item key (inline_value sequence entries) true
+    → stored_bucket Plain page_size key sequence (onto entries end) (items_of Plain page_size (onto entries end)) ≡ leaf_item key (inline_value sequence entries) true
 inline_item page_size key sequence entries values small few =
     let is = ends_inline page_size entries small few in
-    let items : items_of page_size (onto entries end) ≡ value_items entries = onto_items page_size entries end ∙ append-nil (value_items entries) in
-    let elements : elements_of (items_of page_size (onto entries end)) 0 ≡ entries = ap (λ (l : List (Laid LeafElement)). elements_of l 0) items ∙ values_elements entries 0 values in
+    let items : items_of Plain page_size (onto entries end) ≡ value_items entries = onto_items page_size entries end ∙ append-nil (value_items entries) in
+    let elements : elements_of (items_of Plain page_size (onto entries end)) 0 ≡ entries = ap (λ (l : List (Laid LeafElement)). elements_of l 0) items ∙ values_elements entries 0 values in
     rw is (ap (λ (es : List LeafElement). leaf_item key (inline_value sequence es) true) elements)
 
 -- The item of a bucket with a root page.
 pub root_item : (page_size : ℕ) (key : List ℕ) (sequence : ℕ) (inside : Tree) → HasRoot page_size inside
-    → stored_bucket page_size key sequence inside (items_of page_size inside) ≡ bucket_item key sequence (root_over page_size (items_of page_size inside))
+    → stored_bucket Plain page_size key sequence inside (items_of Plain page_size inside) ≡ bucket_item key sequence (root_over Plain page_size (items_of Plain page_size inside))
 root_item page_size key sequence inside not_inline = rw not_inline refl

@@ -14,6 +14,7 @@ use Rattle.bolt_bulk.specs.Private.OpenRuns.{Frame, Open, all_put, base_in, comi
 use Rattle.bolt_layout.proofs.OverRows.{numbers-append}
 use Rattle.bolt_bulk.specs.Private.Coming.{Eager, HasBegun, IsOpen, IsPass, IsSized, IsStack, bucket, finish, held_item}
 use Rattle.bolt_bulk.proofs.OpenRunLemmas.{cut_joined, cut_step, pages-append, pages_push, pushed_put, room_joins}
+use Rattle.bolt_layout.specs.declared.layout.Layout.TheVariants.{Plain}
 
 -- Pages with so many numbers begin the pages of what is laid out, with these numbers; and strictly, where there is one more page.
 pub record Begins (front : List Placed) (few : ℕ) (whole : List Placed) (many : ℕ) : Type 0 where
@@ -74,20 +75,20 @@ over_before view page_size run more n =
     }
 
 top_begins : (page_size steps : ℕ) (page : Laid BranchElement) (level : List (Laid BranchElement)) (b : ℕ)
-    → Begins (page.pages b) page.numbers ((top_in steps page_size (page ∷ level)).pages b) (top_in steps page_size (page ∷ level)).numbers
+    → Begins (page.pages b) page.numbers ((top_in Plain steps page_size (page ∷ level)).pages b) (top_in Plain steps page_size (page ∷ level)).numbers
 top_begins page_size steps page [] b = record { rest = []; parts = sym (append-nil (page.pages b)); fewer = omega arith }
 top_begins page_size zero page (other ∷ level) b = record { rest = []; parts = sym (append-nil (page.pages b)); fewer = omega arith }
 top_begins page_size (suc steps) page (other ∷ level) b =
     let (more, rest, e) = cut_begins page_size 2 (page ∷ []) (other ∷ level) in
     let up : Laid BranchElement = page_over branch_view page_size (page ∷ more) in
     let level2 : List (Laid BranchElement) = map (page_over branch_view page_size) rest in
-    let same : next_level page_size (page ∷ other ∷ level) ≡ up ∷ level2 = ap (λ (runs : List (List (Laid BranchElement))). map (page_over branch_view page_size) runs) e in
+    let same : next_level Plain page_size (page ∷ other ∷ level) ≡ up ∷ level2 = ap (λ (runs : List (List (Laid BranchElement))). map (page_over branch_view page_size) runs) e in
     let one = over_before branch_view page_size (page ∷ []) more b in
     let fewer = one.fewer in
     let two = top_begins page_size steps up level2 b in
     let first : Begins (page.pages b) page.numbers (up.pages b) up.numbers =
     record { rest = one.rest; parts = one.parts ∙ ap (λ (ps : List Placed). ps ++ one.rest) (append-nil (page.pages b)); fewer = omega arith } in
-    subst (λ (l : List (Laid BranchElement)). Begins (page.pages b) page.numbers ((top_in steps page_size l).pages b) (top_in steps page_size l).numbers) (sym same)
+    subst (λ (l : List (Laid BranchElement)). Begins (page.pages b) page.numbers ((top_in Plain steps page_size l).pages b) (top_in Plain steps page_size l).numbers) (sym same)
     (begins_by (page.pages b) page.numbers (up.pages b) up.numbers _ _ first two)
 
 key_over : (run : List (Laid BranchElement)) (p : Laid BranchElement) (more : List (Laid BranchElement)) → first_key ((run ++ p ∷ []) ++ more) ≡ coming_key run p.key
@@ -100,7 +101,7 @@ finish_begins : (page_size : ℕ) (uppers : List (List (Laid BranchElement))) (p
 finish_begins page_size [] p pages sized eager b =
     let same : b ≡ b + 0 = omega arith in
     let none : p.numbers ≡ 0 + p.numbers = omega arith in
-    let all : Laid BranchElement = top_of page_size (p ∷ pages) in
+    let all : Laid BranchElement = top_of Plain page_size (p ∷ pages) in
     let t = top_begins page_size (length (p ∷ pages)) p pages b in
     subst (λ (k : ℕ). Begins (p.pages (b + 0)) k (all.pages b) all.numbers) none (subst (λ (n : ℕ). Begins (p.pages n) p.numbers (all.pages b) all.numbers) same t)
 finish_begins page_size (run ∷ uppers) p pages sized eager b =
@@ -160,7 +161,7 @@ stack_before page_size (frame ∷ frames) root whole front few stack is =
     let b : ℕ = base_in frames in
     let item = held_item frame root in
     let own : ℕ = numbers_in frame.state.uppers + numbers_of frame.state.run in
-    let one = put_before page_size (pushing frame.state item) (items_of page_size frame.after) outer b begun opened in
+    let one = put_before page_size (pushing frame.state item) (items_of Plain page_size frame.after) outer b begun opened in
     let two = before_behind (pages_put frame.state b) front own few (root.pages (base_in (frame ∷ frames))) root.numbers is in
     let count = numbers-append frame.state.run (item ∷ []) in
     let both : own + root.numbers ≡ numbers_in frame.state.uppers + numbers_of (frame.state.run ++ item ∷ []) = omega arith in

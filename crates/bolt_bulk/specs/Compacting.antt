@@ -15,21 +15,22 @@ use Rattle.bolt_bulk.specs.declared.fault.PlanFault.{PlanFault}
 use Rattle.bolt_bulk.specs.declared.fault.PlanFault.TheVariants as planned
 use Rattle.bolt_bulk.specs.declared.outcome.Done.{Done}
 use Rattle.bolt_bulk.specs.declared.outcome.Plan.{Plan}
+use Rattle.bolt_layout.specs.declared.layout.Layout.{Layout}
 
 -- the layout that a copy of a checked file has
-abbrev pub layout_for : Checked → (page_size : ℕ) → List Member → List ℕ
-layout_for checked page_size listing = layout_of_listing page_size listing (meta_of checked).root_sequence
+abbrev pub layout_for : Layout → Checked → (page_size : ℕ) → List Member → List ℕ
+layout_for which checked page_size listing = layout_of_listing which page_size listing (meta_of checked).root_sequence
 
 -- a layout has fewer bytes than this
 abbrev pub too_many : ℕ
 too_many = 2 ^ 63
 
 -- the plan is the layout's root page and high-water mark, which has fewer than 2^63 bytes; or it has no fewer, or memory ran out
-pub record Plans (checked : Checked) (page_size : ℕ) (listing : List Member) (result : Result Plan PlanFault) : Type 0 where
-  pub root : IfOk result (λ plan. plan.root ≡ layout_root page_size (tree_of listing))
-  pub high_water : IfOk result (λ plan. plan.high_water ≡ layout_mark page_size (tree_of listing))
-  pub fits : OnOk result (length (layout_for checked page_size listing) < too_many)
-  pub large : IfErr result (λ fault. fault ≡ planned.TooLarge → too_many ≤ length (layout_for checked page_size listing))
+pub record Plans (which : Layout) (checked : Checked) (page_size : ℕ) (listing : List Member) (result : Result Plan PlanFault) : Type 0 where
+  pub root : IfOk result (λ plan. plan.root ≡ layout_root which page_size (tree_of listing))
+  pub high_water : IfOk result (λ plan. plan.high_water ≡ layout_mark which page_size (tree_of listing))
+  pub fits : OnOk result (length (layout_for which checked page_size listing) < too_many)
+  pub large : IfErr result (λ fault. fault ≡ planned.TooLarge → too_many ≤ length (layout_for which checked page_size listing))
 
 -- The sink took the whole layout, with no failure, exactly where the answer is Ok, and then the number of its bytes is told; and else a
 -- beginning of it that isn't the whole. The fault Sink comes only with a failure of the sink, and any other without one. TooLarge comes

@@ -7,6 +7,7 @@ ghost use Rattle.bolt_tree.specs.Tree.{tree_of};
 ghost use Rattle.bolt_bulk.specs.Compacting.{Copies, Plans, layout_for, too_many};
 ghost use Rattle.bolt_layout.specs.Copies.{IsSoundCopy, RefusesBeginnings};
 ghost use Rattle.bolt_layout.specs.Layout.{layout_held, layout_root};
+ghost use Rattle.bolt_layout.specs.declared.layout.Layout.TheVariants.{Plain};
 
 use crate::all_pages::put_pages;
 use crate::bounds::Bounds;
@@ -45,7 +46,7 @@ fn bounds_of(page_size: u64) -> Bounds
 /// `Memory`; `Memory` where memory ran out.
 pub fn plan(alloc: Global, checked: Checked<'_>, page_size: u64) -> Result<Plan, PlanFault>
     requires { IsPageSize page_size }
-    ensures { ForListing checked.entry (λ listing. Plans checked.entry page_size listing result) }
+    ensures { ForListing checked.entry (λ listing. Plans Plain checked.entry page_size listing result) }
 {
     file_has_one_layout(&checked, page_size);
     match put_pages(alloc, bounds_of(page_size), checked, &mut NoSink) {
@@ -75,10 +76,10 @@ pub fn compact<S: Sink>(
     sink: &mut S,
 ) -> Result<Done, BulkFault>
     requires { IsPageSize page_size }
-    ensures copied { ForListing checked.entry (λ listing. Copies S.taken S.failed sink.old sink.new (layout_for checked.entry page_size listing) result) }
-    ensures accepted { OnOk result (ForListing checked.entry (λ listing. ∥ IsSoundCopy page_size (tree_of listing) (meta_of checked.entry).root_sequence listing ∥₁)) }
-    ensures held { IfOk result (λ done. ForListing checked.entry (λ listing. done.held ≡ layout_held page_size (tree_of listing))) }
-    ensures beginnings { ForListing checked.entry (λ listing. length (layout_for checked.entry page_size listing) < too_many → ∥ RefusesBeginnings (layout_for checked.entry page_size listing) (layout_root page_size (tree_of listing)) ∥₁) }
+    ensures copied { ForListing checked.entry (λ listing. Copies S.taken S.failed sink.old sink.new (layout_for Plain checked.entry page_size listing) result) }
+    ensures accepted { OnOk result (ForListing checked.entry (λ listing. ∥ IsSoundCopy Plain page_size (tree_of listing) (meta_of checked.entry).root_sequence listing ∥₁)) }
+    ensures held { IfOk result (λ done. ForListing checked.entry (λ listing. done.held ≡ layout_held Plain page_size (tree_of listing))) }
+    ensures beginnings { ForListing checked.entry (λ listing. length (layout_for Plain checked.entry page_size listing) < too_many → ∥ RefusesBeginnings (layout_for Plain checked.entry page_size listing) (layout_root Plain page_size (tree_of listing)) ∥₁) }
 {
     file_has_one_layout(&checked, page_size);
     let plan = match plan(alloc, checked, page_size) {

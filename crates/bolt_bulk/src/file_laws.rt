@@ -8,6 +8,7 @@ ghost use Rattle.bolt_tree.specs.Tree.{listing_of, tree_of};
 ghost use Rattle.bolt_bulk.specs.Compacting.{layout_for, too_many};
 ghost use Rattle.bolt_layout.specs.Copies.{IsOfOneTree, IsSoundCopy, RefusesBeginnings};
 ghost use Rattle.bolt_layout.specs.Layout.{layout_held, layout_mark, layout_root};
+ghost use Rattle.bolt_layout.specs.declared.layout.Layout.{Layout};
 
 use bolt_check::Checked;
 use bolt_layout::laws::{
@@ -35,13 +36,13 @@ fn fits(n: u64)
 pub(crate) fn file_has_one_layout(checked: &Checked<'_>, page_size: u64)
     requires { IsPageSize page_size }
     ensures tree { ForListing checked.now (λ listing. ∥ IsOfOneTree listing ∥₁) }
-    ensures length { ForListing checked.now (λ listing. length (layout_for checked.now page_size listing) ≡ layout_mark page_size (tree_of listing) * page_size) }
-    ensures accepted { ForListing checked.now (λ listing. length (layout_for checked.now page_size listing) < too_many
-        → ∥ IsSoundCopy page_size (tree_of listing) (meta_of checked.now).root_sequence listing ∥₁) }
-    ensures held { ForListing checked.now (λ listing. length (layout_for checked.now page_size listing) < too_many
-        → layout_held page_size (tree_of listing) ≤ length (layout_for checked.now page_size listing)) }
-    ensures beginnings { ForListing checked.now (λ listing. length (layout_for checked.now page_size listing) < too_many
-        → ∥ RefusesBeginnings (layout_for checked.now page_size listing) (layout_root page_size (tree_of listing)) ∥₁) }
+    ensures length { (which : Layout) → ForListing checked.now (λ listing. length (layout_for which checked.now page_size listing) ≡ layout_mark which page_size (tree_of listing) * page_size) }
+    ensures accepted { (which : Layout) → ForListing checked.now (λ listing. length (layout_for which checked.now page_size listing) < too_many
+        → ∥ IsSoundCopy which page_size (tree_of listing) (meta_of checked.now).root_sequence listing ∥₁) }
+    ensures held { (which : Layout) → ForListing checked.now (λ listing. length (layout_for which checked.now page_size listing) < too_many
+        → layout_held which page_size (tree_of listing) ≤ length (layout_for which checked.now page_size listing)) }
+    ensures beginnings { (which : Layout) → ForListing checked.now (λ listing. length (layout_for which checked.now page_size listing) < too_many
+        → ∥ RefusesBeginnings (layout_for which checked.now page_size listing) (layout_root which page_size (tree_of listing)) ∥₁) }
 {
     are_bytes(checked.bytes());
     fits(checked.meta().root_sequence);

@@ -37,6 +37,7 @@ use Rattle.bolt_cli.specs.declared.job.Job.{Job}
 use Rattle.bolt_cli.specs.declared.job.Job.TheVariants as job
 use Rattle.bolt_cli.specs.declared.page_size.PageSize.{PageSize}
 use Rattle.bolt_cli.specs.PlainWords.{path_in}
+use Rattle.bolt_layout.specs.declared.layout.Layout.TheVariants.{Plain}
 
 -- How a job ends: with a status, or with a failure that is told.
 abbrev pub Ending : Type 0
@@ -245,7 +246,7 @@ module _ {O T : Type 0} (out_taken : O → Option (List ℕ)) (out_failed : O �
   abbrev pub Compacts : List ℕ → Option Slot → Option PageSize → Ending → Type 0
   Compacts file slot size ending =
       ((meta : Meta) × (listing : List Member) × IsReadUnder file slot meta × IsListing file meta listing
-      × (let layout = layout_of_listing (copy_page_size size meta) listing meta.root_sequence in WritesCopy listing layout (lengths_line (length file) (length layout)) ending))
+      × (let layout = layout_of_listing Plain (copy_page_size size meta) listing meta.root_sequence in WritesCopy listing layout (lengths_line (length file) (length layout)) ending))
       ⊎ ((fault : CheckFault) × (failure : Failure) × IsRefusedUnder file slot fault × IsToldAs fault failure
       × (out_new ≡ out_old) × (target_new ≡ target_old) × (ending ≡ Err failure))
 

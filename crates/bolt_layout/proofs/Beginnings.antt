@@ -26,6 +26,7 @@ use Rattle.bolt_layout.proofs.PageRows.{IsInARow, IsPageFit, last_written, page_
 use Rattle.bolt_layout.proofs.Soundness.{IsLaidOut, laid_out}
 use Rattle.bolt_layout.specs.Laid.{Placed}
 use Rattle.bolt_tree.specs.Tree.{Tree}
+use Rattle.bolt_layout.specs.declared.layout.Layout.{Layout}
 
 -- a part before the cut is there
 cut_front : (file part rest : List ℕ) (at n : ℕ) → drop at file ≡ part ++ rest → at + length part ≤ n → drop at (take n file) ≡ part ++ take (n - (at + length part)) rest
@@ -100,14 +101,14 @@ only_first file page_size root sequence mark first short = record {
 }
 
 -- the root page of a layout that is cut short
-root_cut : (page_size : ℕ) (tree : Tree) (sequence n txid : ℕ) → IsPageSize page_size → IsLaidOut page_size tree sequence → n < length (layout_of page_size tree sequence)
-    → node_at (take n (layout_of page_size tree sequence)) (meta_of page_size (layout_root page_size tree) sequence (layout_mark page_size tree) txid) (layout_root page_size tree) ≡ Err CUT
-root_cut page_size tree sequence n txid size laid less =
+root_cut : (which : Layout) (page_size : ℕ) (tree : Tree) (sequence n txid : ℕ) → IsPageSize page_size → IsLaidOut which page_size tree sequence → n < length (layout_of which page_size tree sequence)
+    → node_at (take n (layout_of which page_size tree sequence)) (meta_of page_size (layout_root which page_size tree) sequence (layout_mark which page_size tree) txid) (layout_root which page_size tree) ≡ Err CUT
+root_cut which page_size tree sequence n txid size laid less =
     let bounds = size_bounds page_size size in
-    let file : List ℕ = layout_of page_size tree sequence in
+    let file : List ℕ = layout_of which page_size tree sequence in
     let torn : List ℕ = take n file in
-    let root : ℕ = layout_root page_size tree in
-    let mark : ℕ = layout_mark page_size tree in
+    let root : ℕ = layout_root which page_size tree in
+    let mark : ℕ = layout_mark which page_size tree in
     let meta : Meta = meta_of page_size root sequence mark txid in
     let long = laid.long in
     let room = laid.room in
@@ -134,59 +135,59 @@ root_cut page_size tree sequence n txid size laid less =
           cut_late torn meta root head.flag head.n own.view.overflow head.is _ torn_at fits2 head.known (omega arith) (omega arith) (omega arith)
     ])
 
-first_there : (page_size : ℕ) (tree : Tree) (sequence n : ℕ) → IsLaidOut page_size tree sequence → n < length (layout_of page_size tree sequence) → 80 ≤ n
-    → IsMeta (take n (layout_of page_size tree sequence)) 0 (meta_of page_size (layout_root page_size tree) sequence (layout_mark page_size tree) 0)
-first_there page_size tree sequence n laid less whole =
-    let file : List ℕ = layout_of page_size tree sequence in
-    let root : ℕ = layout_root page_size tree in
-    let mark : ℕ = layout_mark page_size tree in
+first_there : (which : Layout) (page_size : ℕ) (tree : Tree) (sequence n : ℕ) → IsLaidOut which page_size tree sequence → n < length (layout_of which page_size tree sequence) → 80 ≤ n
+    → IsMeta (take n (layout_of which page_size tree sequence)) 0 (meta_of page_size (layout_root which page_size tree) sequence (layout_mark which page_size tree) 0)
+first_there which page_size tree sequence n laid less whole =
+    let file : List ℕ = layout_of which page_size tree sequence in
+    let root : ℕ = layout_root which page_size tree in
+    let mark : ℕ = layout_mark which page_size tree in
     let l = length-meta_bytes page_size root sequence mark 0 in
     let fit = laid.fits in
     meta_written (take n file) _ 0 page_size root sequence mark 0 (cut_front file (meta_bytes page_size root sequence mark 0) laid.file.behind_first 0 n laid.file.first_bytes (omega arith))
     (record { size = fit.size; root_fits = fit.root_fits; sequence_fits = fit.sequence_fits; mark_fits = fit.mark_fits; txid_fits = omega arith }) (inl refl) (omega arith)
 
-second_there : (page_size : ℕ) (tree : Tree) (sequence n : ℕ) → IsLaidOut page_size tree sequence → n < length (layout_of page_size tree sequence) → page_size + 80 ≤ n
-    → IsMeta (take n (layout_of page_size tree sequence)) page_size (meta_of page_size (layout_root page_size tree) sequence (layout_mark page_size tree) 1)
-second_there page_size tree sequence n laid less whole =
-    let file : List ℕ = layout_of page_size tree sequence in
-    let root : ℕ = layout_root page_size tree in
-    let mark : ℕ = layout_mark page_size tree in
+second_there : (which : Layout) (page_size : ℕ) (tree : Tree) (sequence n : ℕ) → IsLaidOut which page_size tree sequence → n < length (layout_of which page_size tree sequence) → page_size + 80 ≤ n
+    → IsMeta (take n (layout_of which page_size tree sequence)) page_size (meta_of page_size (layout_root which page_size tree) sequence (layout_mark which page_size tree) 1)
+second_there which page_size tree sequence n laid less whole =
+    let file : List ℕ = layout_of which page_size tree sequence in
+    let root : ℕ = layout_root which page_size tree in
+    let mark : ℕ = layout_mark which page_size tree in
     let l = length-meta_bytes page_size root sequence mark 1 in
     let cut : length (take n file) ≡ n = length-take n file ∙ omega arith in
     meta_written (take n file) _ page_size page_size root sequence mark 1 (cut_front file (meta_bytes page_size root sequence mark 1) laid.file.behind_second page_size n laid.file.second_bytes (omega arith))
     laid.fits (inr refl) (omega arith)
 
-torn_root : (page_size : ℕ) (tree : Tree) (sequence n : ℕ) → IsPageSize page_size → IsLaidOut page_size tree sequence → n < length (layout_of page_size tree sequence) → 80 ≤ n
-    → IsRefused (take n (layout_of page_size tree sequence)) (Structure (finding CUT (layout_root page_size tree)))
-torn_root page_size tree sequence n size laid less whole =
-    let file : List ℕ = layout_of page_size tree sequence in
+torn_root : (which : Layout) (page_size : ℕ) (tree : Tree) (sequence n : ℕ) → IsPageSize page_size → IsLaidOut which page_size tree sequence → n < length (layout_of which page_size tree sequence) → 80 ≤ n
+    → IsRefused (take n (layout_of which page_size tree sequence)) (Structure (finding CUT (layout_root which page_size tree)))
+torn_root which page_size tree sequence n size laid less whole =
+    let file : List ℕ = layout_of which page_size tree sequence in
     let torn : List ℕ = take n file in
-    let root : ℕ = layout_root page_size tree in
-    let mark : ℕ = layout_mark page_size tree in
+    let root : ℕ = layout_root which page_size tree in
+    let mark : ℕ = layout_mark which page_size tree in
     let cut : length torn ≡ n = length-take n file ∙ omega arith in
-    let first = first_there page_size tree sequence n laid less whole in
+    let first = first_there which page_size tree sequence n laid less whole in
     elim (cases_lt n (page_size + 80)) [
       | inl short ↦ (
         Zero,
         meta_of page_size root sequence mark 0,
         only_first torn page_size root sequence mark first (omega arith),
-        cut_first torn (meta_of page_size root sequence mark 0) (root_cut page_size tree sequence n 0 size laid less),
+        cut_first torn (meta_of page_size root sequence mark 0) (root_cut which page_size tree sequence n 0 size laid less),
       )
       | inr enough ↦ (
         One,
         meta_of page_size root sequence mark 1,
-        chosen_of torn page_size (meta_of page_size root sequence mark 0) (meta_of page_size root sequence mark 1) first (second_there page_size tree sequence n laid less enough) refl (omega arith),
-        cut_first torn (meta_of page_size root sequence mark 1) (root_cut page_size tree sequence n 1 size laid less),
+        chosen_of torn page_size (meta_of page_size root sequence mark 0) (meta_of page_size root sequence mark 1) first (second_there which page_size tree sequence n laid less enough) refl (omega arith),
+        cut_first torn (meta_of page_size root sequence mark 1) (root_cut which page_size tree sequence n 1 size laid less),
       )
     ]
 
-pub beginnings_refused : (page_size : ℕ) (tree : Tree) (sequence : ℕ) → IsAsked page_size tree sequence → length (layout_of page_size tree sequence) < 2 ^ 63
-    → RefusesBeginnings (layout_of page_size tree sequence) (layout_root page_size tree)
-beginnings_refused page_size tree sequence asked short =
-    let laid = laid_out page_size tree sequence asked.size asked.storable asked.sequence_fits short in
-    let file : List ℕ = layout_of page_size tree sequence in
+pub beginnings_refused : (which : Layout) (page_size : ℕ) (tree : Tree) (sequence : ℕ) → IsAsked page_size tree sequence → length (layout_of which page_size tree sequence) < 2 ^ 63
+    → RefusesBeginnings (layout_of which page_size tree sequence) (layout_root which page_size tree)
+beginnings_refused which page_size tree sequence asked short =
+    let laid = laid_out which page_size tree sequence asked.size asked.storable asked.sequence_fits short in
+    let file : List ℕ = layout_of which page_size tree sequence in
     record {
       before_metas = λ n less few. let cut : length (take n file) ≡ n = length-take n file ∙ omega arith in
           (λ whole. omega arith, no_slot (take n file) (omega arith));
-      at_root = λ n less enough. torn_root page_size tree sequence n asked.size laid less enough;
+      at_root = λ n less enough. torn_root which page_size tree sequence n asked.size laid less enough;
     }

@@ -11,7 +11,7 @@ use Rattle.bolt_format.specs.Metas.{IsPageSize}
 use Rattle.bolt_tree.specs.Listing.{Member}
 use Rattle.bolt_tree.specs.Paths.{Path}
 use Rattle.bolt_tree.specs.Tree.{Tree, end, listing_below, listing_of, with_bucket, with_value}
-use Rattle.bolt_layout.specs.Cut.{cut_of}
+use Rattle.bolt_layout.specs.Cut.{branch_cut, cut_of}
 use Rattle.bolt_layout.specs.Divisions.{IsDivided, IsPageRun}
 use Rattle.bolt_layout.specs.Held.{longest, most_held}
 use Rattle.bolt_layout.specs.Items.{bucket_item, is_inline, items_of, leaf_item, root_of, stored_bucket}
@@ -19,11 +19,12 @@ use Rattle.bolt_layout.specs.Laid.{Laid, held_in, numbers_of, size_of}
 use Rattle.bolt_layout.specs.Layout.{layout_held, layout_mark, layout_of}
 use Rattle.bolt_layout.specs.Levels.{branch_view, leaf_level, leaf_view, next_level, page_over, root_over, run_overflow, top_in}
 use Rattle.bolt_layout.specs.Storable.{IsStorable}
-use Rattle.bolt_layout.proofs.Cutting.{cut_divides, cut_halves}
+use Rattle.bolt_layout.proofs.Cutting.{branches_divide, branches_halve, cut_divides}
 use Rattle.bolt_layout.proofs.ListLemmas.{all_split}
 use Rattle.bolt_layout.proofs.OverRows.{pages_count, runs_numbers, runs_some}
 use Rattle.bolt_layout.proofs.MetaLemmas.{size_bounds}
 use Rattle.bolt_layout.proofs.Soundness.{layout_length}
+use Rattle.bolt_layout.specs.declared.layout.Layout.{Layout}
 
 -- An item takes 16 bytes at least. While the pages below it are written, `most` items are held, and no more than these pages have bytes.
 record IsHeldBelow {E : Type 0} (page_size most : ℕ) (item : Laid E) : Type 0 where
@@ -52,12 +53,17 @@ run_sized {E = E} page_size most (item ∷ run) all =
     let e = sum_by-cons (size_of {E = E}) item run in omega arith
 
 -- a page has few items
-thin : {E : Type 0} (page_size wide most : ℕ) (run : List (Laid E)) → 16 * wide ≤ page_size → IsPageRun page_size wide size_of run → AllByRecursion (IsHeldBelow page_size most) run
+thin : {E : Type 0} (page_size wide spare most : ℕ) (run : List (Laid E)) → 16 * wide ≤ page_size → spare ≤ 1 → IsPageRun page_size wide spare size_of run → AllByRecursion (IsHeldBelow page_size most) run
     → 16 * length run ≤ page_size
-thin page_size wide most run room is all =
-    let sized = run_sized page_size most run all in
+thin {E = E} page_size wide spare most run room one is all =
     elim (cases_lt wide (length run)) [
-      | inl many ↦ (let fits = is.fits many in omega arith)
+      | inl many ↦
+          (let but = is.fits many in
+          let both = all_split (IsHeldBelow page_size most) but.front but.last (subst (AllByRecursion (IsHeldBelow page_size most)) but.whole all) in
+          let sized = run_sized page_size most but.front both.0 in
+          let long = ap (λ (xs : List (Laid E)). length xs) but.whole ∙ length-append but.front but.last in
+          let few = but.few in
+          let fits = but.fits in omega arith)
       | inr few ↦ omega arith
     ]
 
@@ -74,85 +80,85 @@ over_held view page_size most run room all =
 
 -- ---- a level
 
-level_held : {E : Type 0} (view : ℕ → List E → PageView) (page_size wide most : ℕ) (runs : List (List (Laid E))) (items : List (Laid E)) → 16 * wide ≤ page_size
-    → flat_map (λ run. run) runs ≡ items → AllByRecursion (IsPageRun page_size wide size_of) runs → AllByRecursion (IsHeldBelow page_size most) items
+level_held : {E : Type 0} (view : ℕ → List E → PageView) (page_size wide spare most : ℕ) (runs : List (List (Laid E))) (items : List (Laid E)) → 16 * wide ≤ page_size → spare ≤ 1
+    → flat_map (λ run. run) runs ≡ items → AllByRecursion (IsPageRun page_size wide spare size_of) runs → AllByRecursion (IsHeldBelow page_size most) items
     → AllByRecursion (IsHeldBelow page_size (most + page_size / 16)) (map (page_over view page_size) runs)
-level_held view page_size wide most [] items room whole each all = tt
-level_held view page_size wide most (run ∷ runs) items room whole each all =
+level_held view page_size wide spare most [] items room one whole each all = tt
+level_held view page_size wide spare most (run ∷ runs) items room one whole each all =
     let both = all_split (IsHeldBelow page_size most) run (flat_map (λ run. run) runs) (subst (AllByRecursion (IsHeldBelow page_size most)) (sym whole) all) in
-    let few = thin page_size wide most run room each.0 both.0 in
-    (over_held view page_size most run few both.0, level_held view page_size wide most runs (flat_map (λ run. run) runs) room refl each.1 both.1)
+    let few = thin page_size wide spare most run room one each.0 both.0 in
+    (over_held view page_size most run few both.0, level_held view page_size wide spare most runs (flat_map (λ run. run) runs) room one refl each.1 both.1)
 
 weaker : {E : Type 0} (page_size most more : ℕ) (item : Laid E) → most ≤ more → IsHeldBelow page_size most item → IsHeldBelow page_size more item
 weaker page_size most more item h is = let few = is.few in record { sized = is.sized; few = omega arith; small = is.small }
 
 -- half the pages, one level more
-top_held : (page_size steps k most : ℕ) (level : List (Laid BranchElement)) → 64 ≤ page_size → AllByRecursion (IsHeldBelow page_size most) level → 1 ≤ length level → length level ≤ suc steps → length level ≤ 2 ^ k
-    → IsHeldBelow page_size (most + k * (page_size / 16)) (top_in steps page_size level)
-top_held page_size steps k most [] low all some fuel few = absurd (omega arith)
-top_held page_size steps k most (page ∷ []) low all some fuel few = weaker page_size most _ page (omega arith) all.0
-top_held page_size zero k most (page ∷ other ∷ level) low all some fuel few = absurd (omega arith)
-top_held page_size (suc steps) zero most (page ∷ other ∷ level) low all some fuel few = absurd (omega arith)
-top_held page_size (suc steps) (suc k) most (page ∷ other ∷ level) low all some fuel few =
+top_held : (which : Layout) (page_size steps k most : ℕ) (level : List (Laid BranchElement)) → 64 ≤ page_size → AllByRecursion (IsHeldBelow page_size most) level → 1 ≤ length level → length level ≤ suc steps → length level ≤ 2 ^ k
+    → IsHeldBelow page_size (most + k * (page_size / 16)) (top_in which steps page_size level)
+top_held which page_size steps k most [] low all some fuel few = absurd (omega arith)
+top_held which page_size steps k most (page ∷ []) low all some fuel few = weaker page_size most _ page (omega arith) all.0
+top_held which page_size zero k most (page ∷ other ∷ level) low all some fuel few = absurd (omega arith)
+top_held which page_size (suc steps) zero most (page ∷ other ∷ level) low all some fuel few = absurd (omega arith)
+top_held which page_size (suc steps) (suc k) most (page ∷ other ∷ level) low all some fuel few =
     let pages : List (Laid BranchElement) = page ∷ other ∷ level in
-    let runs : List (List (Laid BranchElement)) = cut_of page_size 2 size_of pages in
-    let divided : IsDivided page_size 3 size_of pages runs = cut_divides page_size 2 3 size_of pages (omega arith) (omega arith) (omega arith) in
-    let half : 2 * length runs ≤ suc (length pages) = cut_halves page_size size_of pages in
-    let up = level_held branch_view page_size 3 most runs pages (omega arith) divided.whole divided.each all in
+    let runs : List (List (Laid BranchElement)) = branch_cut which page_size size_of pages in
+    let divided : IsDivided page_size 3 1 size_of pages runs = branches_divide which page_size size_of pages in
+    let half : 2 * length runs ≤ suc (length pages) = branches_halve which page_size size_of pages in
+    let up = level_held branch_view page_size 3 1 most runs pages (omega arith) (omega arith) divided.whole divided.each all in
     let any = runs_some runs pages divided.whole (omega arith) in
     let same = length-map runs (page_over branch_view page_size) in
     let double : 2 ^ suc k ≡ 2 * 2 ^ k = pow-suc 2 k ∙ omega arith in
-    let ih = top_held page_size steps k (most + page_size / 16) (next_level page_size pages) low up (omega arith) (omega arith) (omega arith) in
+    let ih = top_held which page_size steps k (most + page_size / 16) (next_level which page_size pages) low up (omega arith) (omega arith) (omega arith) in
     let more = suc-mul k (page_size / 16) in
-    weaker page_size _ _ (top_in (suc steps) page_size pages) (omega arith) ih
+    weaker page_size _ _ (top_in which (suc steps) page_size pages) (omega arith) ih
 
-top_numbers : (page_size steps : ℕ) (level : List (Laid BranchElement)) → length level ≤ suc steps → numbers_of level ≤ (top_in steps page_size level).numbers
-top_numbers page_size steps [] fuel = omega arith
-top_numbers page_size steps (page ∷ []) fuel = omega arith
-top_numbers page_size zero (page ∷ other ∷ level) fuel = absurd (omega arith)
-top_numbers page_size (suc steps) (page ∷ other ∷ level) fuel =
+top_numbers : (which : Layout) (page_size steps : ℕ) (level : List (Laid BranchElement)) → length level ≤ suc steps → numbers_of level ≤ (top_in which steps page_size level).numbers
+top_numbers which page_size steps [] fuel = omega arith
+top_numbers which page_size steps (page ∷ []) fuel = omega arith
+top_numbers which page_size zero (page ∷ other ∷ level) fuel = absurd (omega arith)
+top_numbers which page_size (suc steps) (page ∷ other ∷ level) fuel =
     let pages : List (Laid BranchElement) = page ∷ other ∷ level in
-    let runs : List (List (Laid BranchElement)) = cut_of page_size 2 size_of pages in
-    let divided : IsDivided page_size 3 size_of pages runs = cut_divides page_size 2 3 size_of pages (omega arith) (omega arith) (omega arith) in
-    let half : 2 * length runs ≤ suc (length pages) = cut_halves page_size size_of pages in
+    let runs : List (List (Laid BranchElement)) = branch_cut which page_size size_of pages in
+    let divided : IsDivided page_size 3 1 size_of pages runs = branches_divide which page_size size_of pages in
+    let half : 2 * length runs ≤ suc (length pages) = branches_halve which page_size size_of pages in
     let same = length-map runs (page_over branch_view page_size) in
-    let ih = top_numbers page_size steps (next_level page_size pages) (omega arith) in
+    let ih = top_numbers which page_size steps (next_level which page_size pages) (omega arith) in
     let numbers = runs_numbers branch_view page_size runs in
     let all = ap (λ (r : List (Laid BranchElement)). numbers_of r) divided.whole in omega arith
 
 -- ---- a bucket
 
-level_numbers : (page_size : ℕ) (items : List (Laid LeafElement)) → numbers_of (leaf_level page_size items) ≤ (root_over page_size items).numbers
+level_numbers : (which : Layout) (page_size : ℕ) (items : List (Laid LeafElement)) → numbers_of (leaf_level page_size items) ≤ (root_over which page_size items).numbers
 unfolding root_over
-level_numbers page_size [] = omega arith
-level_numbers page_size (item ∷ items) =
+level_numbers which page_size [] = omega arith
+level_numbers which page_size (item ∷ items) =
     let level : List (Laid BranchElement) = leaf_level page_size (item ∷ items) in
-    top_numbers page_size (length level) level (omega arith)
+    top_numbers which page_size (length level) level (omega arith)
 
-items_numbers : (page_size : ℕ) (items : List (Laid LeafElement)) → numbers_of items ≤ (root_over page_size items).numbers
-items_numbers page_size items =
+items_numbers : (which : Layout) (page_size : ℕ) (items : List (Laid LeafElement)) → numbers_of items ≤ (root_over which page_size items).numbers
+items_numbers which page_size items =
     let runs : List (List (Laid LeafElement)) = cut_of page_size 1 size_of items in
-    let divided : IsDivided page_size 1 size_of items runs = cut_divides page_size 1 1 size_of items (omega arith) (omega arith) (omega arith) in
+    let divided : IsDivided page_size 1 0 size_of items runs = cut_divides page_size 1 1 0 size_of items (omega arith) (omega arith) (omega arith) in
     let numbers = runs_numbers leaf_view page_size runs in
     let all = ap (λ (r : List (Laid LeafElement)). numbers_of r) divided.whole in
-    let level = level_numbers page_size items in omega arith
+    let level = level_numbers which page_size items in omega arith
 
 -- at most 64 levels, each with a sixteenth of the page size
-root_held : (page_size most : ℕ) (items : List (Laid LeafElement)) → 64 ≤ page_size → AllByRecursion (IsHeldBelow page_size most) items → (root_over page_size items).numbers ≤ 2 ^ 63
-    → IsHeldBelow page_size (most + 4 * page_size) (root_over page_size items)
+root_held : (which : Layout) (page_size most : ℕ) (items : List (Laid LeafElement)) → 64 ≤ page_size → AllByRecursion (IsHeldBelow page_size most) items → (root_over which page_size items).numbers ≤ 2 ^ 63
+    → IsHeldBelow page_size (most + 4 * page_size) (root_over which page_size items)
 unfolding root_over
-root_held page_size most [] low all room = weaker page_size (most + page_size / 16) _ (root_over page_size []) (omega arith) (over_held leaf_view page_size most [] (omega arith) tt)
-root_held page_size most (item ∷ items) low all room =
+root_held which page_size most [] low all room = weaker page_size (most + page_size / 16) _ (root_over which page_size []) (omega arith) (over_held leaf_view page_size most [] (omega arith) tt)
+root_held which page_size most (item ∷ items) low all room =
     let runs : List (List (Laid LeafElement)) = cut_of page_size 1 size_of (item ∷ items) in
     let level : List (Laid BranchElement) = leaf_level page_size (item ∷ items) in
-    let divided : IsDivided page_size 1 size_of (item ∷ items) runs = cut_divides page_size 1 1 size_of (item ∷ items) (omega arith) (omega arith) (omega arith) in
-    let leaves = level_held leaf_view page_size 1 most runs (item ∷ items) (omega arith) divided.whole divided.each all in
+    let divided : IsDivided page_size 1 0 size_of (item ∷ items) runs = cut_divides page_size 1 1 0 size_of (item ∷ items) (omega arith) (omega arith) (omega arith) in
+    let leaves = level_held leaf_view page_size 1 0 most runs (item ∷ items) (omega arith) (omega arith) divided.whole divided.each all in
     let any = runs_some runs (item ∷ items) divided.whole (omega arith) in
     let same = length-map runs (page_over leaf_view page_size) in
     let count = pages_count leaf_view page_size runs in
-    let numbers = level_numbers page_size (item ∷ items) in
-    let top = top_held page_size (length level) 63 (most + page_size / 16) level low leaves (omega arith) (omega arith) (omega arith) in
-    weaker page_size _ _ (root_over page_size (item ∷ items)) (omega arith) top
+    let numbers = level_numbers which page_size (item ∷ items) in
+    let top = top_held which page_size (length level) 63 (most + page_size / 16) level low leaves (omega arith) (omega arith) (omega arith) in
+    weaker page_size _ _ (root_over which page_size (item ∷ items)) (omega arith) top
 
 -- ---- a tree
 
@@ -166,70 +172,70 @@ inline_held page_size most key value is_bucket = record { sized = omega arith; f
 bucket_held : (page_size most : ℕ) (key : List ℕ) (sequence : ℕ) (root : Laid BranchElement) → IsHeldBelow page_size most root → IsHeldBelow page_size most (bucket_item key sequence root)
 bucket_held page_size most key sequence root is = record { sized = omega arith; few = is.few; small = is.small }
 
-stored_held : (page_size most : ℕ) (key : List ℕ) (sequence : ℕ) (inside : Tree) (items : List (Laid LeafElement)) (after : List (Laid LeafElement)) (b : Bool) → is_inline page_size inside items ≡ b
-    → numbers_of (stored_bucket page_size key sequence inside items ∷ after) ≤ 2 ^ 63
-    → ((root_over page_size items).numbers ≤ 2 ^ 63 → IsHeldBelow page_size most (root_over page_size items))
-    → IsHeldBelow page_size most (stored_bucket page_size key sequence inside items) × (numbers_of after ≤ 2 ^ 63)
-stored_held page_size most key sequence inside items after true e room root = rw e (inline_held page_size most key _ true, omega arith)
-stored_held page_size most key sequence inside items after false e room root =
-    let within : (root_over page_size items).numbers + numbers_of after ≤ 2 ^ 63 = rw e at room in
-    rw e (bucket_held page_size most key sequence (root_over page_size items) (root (omega arith)), omega arith)
+stored_held : (which : Layout) (page_size most : ℕ) (key : List ℕ) (sequence : ℕ) (inside : Tree) (items : List (Laid LeafElement)) (after : List (Laid LeafElement)) (b : Bool) → is_inline page_size inside items ≡ b
+    → numbers_of (stored_bucket which page_size key sequence inside items ∷ after) ≤ 2 ^ 63
+    → ((root_over which page_size items).numbers ≤ 2 ^ 63 → IsHeldBelow page_size most (root_over which page_size items))
+    → IsHeldBelow page_size most (stored_bucket which page_size key sequence inside items) × (numbers_of after ≤ 2 ^ 63)
+stored_held which page_size most key sequence inside items after true e room root = rw e (inline_held page_size most key _ true, omega arith)
+stored_held which page_size most key sequence inside items after false e room root =
+    let within : (root_over which page_size items).numbers + numbers_of after ≤ 2 ^ 63 = rw e at room in
+    rw e (bucket_held page_size most key sequence (root_over which page_size items) (root (omega arith)), omega arith)
 
 -- each item, where no path below is longer than so many parts more
-tree_held : (page_size deep : ℕ) (path : Path) (tree : Tree) → 64 ≤ page_size → numbers_of (items_of page_size tree) ≤ 2 ^ 63 → longest (listing_below path tree) ≤ length path + deep
-    → AllByRecursion (IsHeldBelow page_size (4 * page_size * deep)) (items_of page_size tree)
-tree_held page_size deep path end low room short = tt
-tree_held page_size deep path (with_value key value after) low room short =
-    (inline_held page_size _ key value false, tree_held page_size deep path after low (omega arith) (omega arith))
-tree_held page_size zero path (with_bucket key sequence inside after) low room short =
+tree_held : (which : Layout) (page_size deep : ℕ) (path : Path) (tree : Tree) → 64 ≤ page_size → numbers_of (items_of which page_size tree) ≤ 2 ^ 63 → longest (listing_below path tree) ≤ length path + deep
+    → AllByRecursion (IsHeldBelow page_size (4 * page_size * deep)) (items_of which page_size tree)
+tree_held which page_size deep path end low room short = tt
+tree_held which page_size deep path (with_value key value after) low room short =
+    (inline_held page_size _ key value false, tree_held which page_size deep path after low (omega arith) (omega arith))
+tree_held which page_size zero path (with_bucket key sequence inside after) low room short =
     let l = length-append path (key ∷ []) in absurd (omega arith)
-tree_held page_size (suc deep) path (with_bucket key sequence inside after) low room short =
+tree_held which page_size (suc deep) path (with_bucket key sequence inside after) low room short =
     let l = length-append path (key ∷ []) in
     let both = longest-append (listing_below (path ++ key ∷ []) inside) (listing_below path after) in
-    let items : List (Laid LeafElement) = items_of page_size inside in
+    let items : List (Laid LeafElement) = items_of which page_size inside in
     let more : 4 * page_size * suc deep ≡ 4 * page_size * deep + 4 * page_size = omega arith in
-    let root : (root_over page_size items).numbers ≤ 2 ^ 63 → IsHeldBelow page_size (4 * page_size * suc deep) (root_over page_size items) =
+    let root : (root_over which page_size items).numbers ≤ 2 ^ 63 → IsHeldBelow page_size (4 * page_size * suc deep) (root_over which page_size items) =
     λ within. (
-    let numbers = items_numbers page_size items in
-    let below = tree_held page_size deep (path ++ key ∷ []) inside low (omega arith) (omega arith) in
-    weaker page_size _ _ (root_over page_size items) (omega arith) (root_held page_size (4 * page_size * deep) items low below within)
+    let numbers = items_numbers which page_size items in
+    let below = tree_held which page_size deep (path ++ key ∷ []) inside low (omega arith) (omega arith) in
+    weaker page_size _ _ (root_over which page_size items) (omega arith) (root_held which page_size (4 * page_size * deep) items low below within)
     ) in
-    let (one, rest) = stored_held page_size (4 * page_size * suc deep) key sequence inside items (items_of page_size after) (is_inline page_size inside items) refl room root in
-    (one, tree_held page_size (suc deep) path after low rest (omega arith))
+    let (one, rest) = stored_held which page_size (4 * page_size * suc deep) key sequence inside items (items_of which page_size after) (is_inline page_size inside items) refl room root in
+    (one, tree_held which page_size (suc deep) path after low rest (omega arith))
 
-whole_held : (page_size : ℕ) (tree : Tree) → 64 ≤ page_size → (root_of page_size tree).numbers ≤ 2 ^ 63 → IsHeldBelow page_size (most_held page_size (listing_of tree)) (root_of page_size tree)
+whole_held : (which : Layout) (page_size : ℕ) (tree : Tree) → 64 ≤ page_size → (root_of which page_size tree).numbers ≤ 2 ^ 63 → IsHeldBelow page_size (most_held page_size (listing_of tree)) (root_of which page_size tree)
 unfolding root_of
-whole_held page_size tree low room =
-    let items : List (Laid LeafElement) = items_of page_size tree in
-    let numbers = items_numbers page_size items in
+whole_held which page_size tree low room =
+    let items : List (Laid LeafElement) = items_of which page_size tree in
+    let numbers = items_numbers which page_size items in
     let deep : ℕ = longest (listing_of tree) in
-    let below = tree_held page_size deep [] tree low (omega arith) (omega arith) in
+    let below = tree_held which page_size deep [] tree low (omega arith) (omega arith) in
     let more : 4 * page_size * (1 + deep) ≡ 4 * page_size * deep + 4 * page_size = omega arith in
-    weaker page_size _ _ (root_over page_size items) (omega arith) (root_held page_size (4 * page_size * deep) items low below room)
+    weaker page_size _ _ (root_over which page_size items) (omega arith) (root_held which page_size (4 * page_size * deep) items low below room)
 
-held_bounded : (page_size : ℕ) (tree : Tree) → 64 ≤ page_size → (root_of page_size tree).numbers ≤ 2 ^ 63 → (root_of page_size tree).held ≤ most_held page_size (listing_of tree)
-held_bounded page_size tree low room = (whole_held page_size tree low room).few
+held_bounded : (which : Layout) (page_size : ℕ) (tree : Tree) → 64 ≤ page_size → (root_of which page_size tree).numbers ≤ 2 ^ 63 → (root_of which page_size tree).held ≤ most_held page_size (listing_of tree)
+held_bounded which page_size tree low room = (whole_held which page_size tree low room).few
 
-held_small : (page_size : ℕ) (tree : Tree) → 64 ≤ page_size → (root_of page_size tree).numbers ≤ 2 ^ 63 → (root_of page_size tree).held ≤ (root_of page_size tree).numbers * page_size
-held_small page_size tree low room = (whole_held page_size tree low room).small
+held_small : (which : Layout) (page_size : ℕ) (tree : Tree) → 64 ≤ page_size → (root_of which page_size tree).numbers ≤ 2 ^ 63 → (root_of which page_size tree).held ≤ (root_of which page_size tree).numbers * page_size
+held_small which page_size tree low room = (whole_held which page_size tree low room).small
 
 -- of a layout of fewer than 2^63 bytes
-layout_small : (page_size : ℕ) (tree : Tree) (sequence : ℕ) → IsPageSize page_size → IsStorable tree → length (layout_of page_size tree sequence) < 2 ^ 63
-    → (64 ≤ page_size) × ((root_of page_size tree).numbers ≤ 2 ^ 63) × ((root_of page_size tree).numbers * page_size ≤ length (layout_of page_size tree sequence))
-layout_small page_size tree sequence size storable short =
-    let exact = layout_length page_size tree sequence size storable in
+layout_small : (which : Layout) (page_size : ℕ) (tree : Tree) (sequence : ℕ) → IsPageSize page_size → IsStorable tree → length (layout_of which page_size tree sequence) < 2 ^ 63
+    → (64 ≤ page_size) × ((root_of which page_size tree).numbers ≤ 2 ^ 63) × ((root_of which page_size tree).numbers * page_size ≤ length (layout_of which page_size tree sequence))
+layout_small which page_size tree sequence size storable short =
+    let exact = layout_length which page_size tree sequence size storable in
     let bounds = size_bounds page_size size in
-    let wide : layout_mark page_size tree * 1 ≤ layout_mark page_size tree * page_size = mul-le-mul_left (layout_mark page_size tree) (omega arith) in
-    let below : (root_of page_size tree).numbers * page_size ≤ layout_mark page_size tree * page_size = mul-le-mul_right page_size (omega arith) in
+    let wide : layout_mark which page_size tree * 1 ≤ layout_mark which page_size tree * page_size = mul-le-mul_left (layout_mark which page_size tree) (omega arith) in
+    let below : (root_of which page_size tree).numbers * page_size ≤ layout_mark which page_size tree * page_size = mul-le-mul_right page_size (omega arith) in
     (omega arith, omega arith, omega arith)
 
-pub layout_bounded : (page_size : ℕ) (tree : Tree) (sequence : ℕ) → IsPageSize page_size → IsStorable tree → length (layout_of page_size tree sequence) < 2 ^ 63
-    → layout_held page_size tree ≤ most_held page_size (listing_of tree)
-layout_bounded page_size tree sequence size storable short =
-    let (low, room, bytes) = layout_small page_size tree sequence size storable short in held_bounded page_size tree low room
+pub layout_bounded : (which : Layout) (page_size : ℕ) (tree : Tree) (sequence : ℕ) → IsPageSize page_size → IsStorable tree → length (layout_of which page_size tree sequence) < 2 ^ 63
+    → layout_held which page_size tree ≤ most_held page_size (listing_of tree)
+layout_bounded which page_size tree sequence size storable short =
+    let (low, room, bytes) = layout_small which page_size tree sequence size storable short in held_bounded which page_size tree low room
 
-pub layout_fewer : (page_size : ℕ) (tree : Tree) (sequence : ℕ) → IsPageSize page_size → IsStorable tree → length (layout_of page_size tree sequence) < 2 ^ 63
-    → layout_held page_size tree ≤ length (layout_of page_size tree sequence)
-layout_fewer page_size tree sequence size storable short =
-    let (low, room, bytes) = layout_small page_size tree sequence size storable short in
-    let small = held_small page_size tree low room in omega arith
+pub layout_fewer : (which : Layout) (page_size : ℕ) (tree : Tree) (sequence : ℕ) → IsPageSize page_size → IsStorable tree → length (layout_of which page_size tree sequence) < 2 ^ 63
+    → layout_held which page_size tree ≤ length (layout_of which page_size tree sequence)
+layout_fewer which page_size tree sequence size storable short =
+    let (low, room, bytes) = layout_small which page_size tree sequence size storable short in
+    let small = held_small which page_size tree low room in omega arith

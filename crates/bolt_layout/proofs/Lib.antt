@@ -11,6 +11,7 @@ mod Showing
 mod SoundCopies
 mod Soundness
 mod TreeItems
+mod TwoChildren
 mod WorkedBytes
 mod WorkedLayouts
 pub mod BranchLemmas

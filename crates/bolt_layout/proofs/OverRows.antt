@@ -4,15 +4,16 @@ use Rattle.std.specs.List.{AllByRecursion}
 use Rattle.std.proofs.Math.Nat.{mul-le-mul_right, pow-suc, suc-mul}
 use Rattle.std.proofs.lemmas.Bool.{cases_lt}
 use Rattle.std.proofs.lemmas.List.{append-nil, length-map}
-use Rattle.std.proofs.lemmas.List.Sums.{sum_by-cons}
+use Rattle.std.proofs.lemmas.List.Sums.{sum_by-append, sum_by-cons}
 use Rattle.bolt_format.specs.Elements.{BranchElement, LeafElement}
 use Rattle.bolt_format.specs.Pages.{PageView}
-use Rattle.bolt_layout.specs.Cut.{cut_of, max_items, run_size}
-use Rattle.bolt_layout.specs.Divisions.{IsDivided, IsPageRun}
-use Rattle.bolt_layout.proofs.Cutting.{cut_divides, cut_halves}
+use Rattle.bolt_layout.specs.Cut.{branch_cut, cut_of, max_items, run_size}
+use Rattle.bolt_layout.specs.Divisions.{FitsBut, IsDivided, IsPageRun}
+use Rattle.bolt_layout.proofs.Cutting.{branches_divide, branches_halve, cut_divides}
 use Rattle.bolt_layout.proofs.ListLemmas.{all_split}
 use Rattle.bolt_layout.specs.Laid.{Laid, numbers_of, size_of}
 use Rattle.bolt_layout.specs.Levels.{branch_view, leaf_level, leaf_view, next_level, page_over, root_over, top_in}
+use Rattle.bolt_layout.specs.declared.layout.Layout.{Layout}
 
 abbrev pub Over : Type 1
 Over = Laid BranchElement → List (Laid LeafElement) → Type 0
@@ -25,7 +26,7 @@ Pieces over (page ∷ pages) leaves = (first : Laid LeafElement) × (front back 
 
 -- a run that has room on a page
 pub record IsRun {E : Type 0} (run : List (Laid E)) : Type 0 where
-  pub few : length run ≤ max_items
+  pub few : length run ≤ suc max_items
   pub small : run_size size_of run < 0x100000000
 
 abbrev pub IsOver : (page_size height : ℕ) → Over
@@ -85,28 +86,39 @@ sum_at_most {E = E} bound (x ∷ run) h =
     let f : suc (length run) * bound ≡ bound + length run * bound = suc-mul (length run) bound ∙ omega arith in omega arith
 
 -- A run that a page can hold, of items that are not too large, has room on its page.
-run_of : {E : Type 0} (page_size wide bound : ℕ) (run : List (Laid E)) → page_size < 0x100000000 → 16 + wide * bound < 0x100000000
-    → IsPageRun page_size wide size_of run → AllByRecursion (IsAtMost bound) run → IsRun run
-run_of page_size wide bound run small room is sizes = record {
-  few = is.capped;
-  small = elim (cases_lt wide (length run)) [
-    | inl many ↦ (let fits = is.fits many in omega arith)
-    | inr few ↦
-        (let a = sum_at_most bound run sizes in
-        let b : length run * bound ≤ wide * bound = mul-le-mul_right bound few in omega arith)
-  ];
-}
+run_fits : {E : Type 0} (page_size spare bound : ℕ) (run : List (Laid E)) → page_size + spare * bound < 0x100000000 → FitsBut page_size spare size_of run
+    → AllByRecursion (IsAtMost bound) run → run_size size_of run < 0x100000000
+run_fits {E = E} page_size spare bound run small is sizes =
+    let both = all_split (IsAtMost bound) is.front is.last (subst (AllByRecursion (IsAtMost bound)) is.whole sizes) in
+    let sum = ap (λ (xs : List (Laid E)). sum_by size_of xs) is.whole ∙ sum_by-append size_of is.front is.last in
+    let a = sum_at_most bound is.last both.1 in
+    let b : length is.last * bound ≤ spare * bound = mul-le-mul_right bound is.few in
+    let fits = is.fits in omega arith
+
+run_of : {E : Type 0} (page_size wide spare bound : ℕ) (run : List (Laid E)) → spare ≤ 1 → page_size + spare * bound < 0x100000000 → 16 + wide * bound < 0x100000000
+    → IsPageRun page_size wide spare size_of run → AllByRecursion (IsAtMost bound) run → IsRun run
+run_of page_size wide spare bound run one small room is sizes =
+    let few = is.capped in
+    record {
+      few = omega arith;
+      small = elim (cases_lt wide (length run)) [
+        | inl many ↦ run_fits page_size spare bound run small (is.fits many) sizes
+        | inr few ↦
+            (let a = sum_at_most bound run sizes in
+            let b : length run * bound ≤ wide * bound = mul-le-mul_right bound few in omega arith)
+      ];
+    }
 
 -- The leaf pages over a row of items that is divided.
-pub leaves_over : (page_size : ℕ) (runs : List (List (Laid LeafElement))) (leaves : List (Laid LeafElement)) → page_size < 0x100000000
-    → flat_map (λ run. run) runs ≡ leaves → AllByRecursion (IsPageRun page_size 1 size_of) runs → AllByRecursion (IsAtMost 0xFFFFFFEF) leaves
+pub leaves_over : (page_size : ℕ) (runs : List (List (Laid LeafElement))) (leaves : List (Laid LeafElement)) → page_size < 0x80000000
+    → flat_map (λ run. run) runs ≡ leaves → AllByRecursion (IsPageRun page_size 1 0 size_of) runs → AllByRecursion (IsAtMost 0xFFFFFFEF) leaves
     → Pieces (IsOver page_size 0) (map (page_over leaf_view page_size) runs) leaves
 leaves_over page_size [] leaves small whole each sizes = sym whole
-leaves_over page_size ([] ∷ runs) leaves small whole each sizes = absurd (let is : IsPageRun page_size 1 size_of [] = each.0 in let some = is.some in omega arith)
+leaves_over page_size ([] ∷ runs) leaves small whole each sizes = absurd (let is : IsPageRun page_size 1 0 size_of [] = each.0 in let some = is.some in omega arith)
 leaves_over page_size ((first ∷ front) ∷ runs) leaves small whole each sizes =
     let back : List (Laid LeafElement) = flat_map (λ run. run) runs in
     let both = all_split (IsAtMost 0xFFFFFFEF) (first ∷ front) back (subst (AllByRecursion (IsAtMost 0xFFFFFFEF)) (sym whole) sizes) in
-    let fits = run_of page_size 1 0xFFFFFFEF (first ∷ front) small (omega arith) each.0 both.0 in
+    let fits = run_of page_size 1 0 0xFFFFFFEF (first ∷ front) (omega arith) (omega arith) (omega arith) each.0 both.0 in
     (first, front, back, sym whole, (refl, fits), leaves_over page_size runs back small refl each.1 both.1)
 
 pub pieces_first : (over : Over) (page : Laid BranchElement) (pages : List (Laid BranchElement)) (leaves : List (Laid LeafElement)) → Pieces over (page ∷ pages) leaves
@@ -122,19 +134,19 @@ branch_over page_size height first run leaves x rest fits pieces e =
 
 -- The branch pages over a row of pages that is divided.
 pub branches_over : (page_size height : ℕ) (runs : List (List (Laid BranchElement))) (kids : List (Laid BranchElement)) (leaves : List (Laid LeafElement))
-    → page_size < 0x100000000 → flat_map (λ run. run) runs ≡ kids → AllByRecursion (IsPageRun page_size 3 size_of) runs
+    → page_size < 0x80000000 → flat_map (λ run. run) runs ≡ kids → AllByRecursion (IsPageRun page_size 3 1 size_of) runs
     → AllByRecursion (IsAtMost 0x40000010) kids → Pieces (IsOver page_size height) kids leaves
     → Pieces (IsOver page_size (suc height)) (map (page_over branch_view page_size) runs) leaves
 branches_over page_size height [] kids leaves small whole each sizes pieces = subst (λ (r : List (Laid BranchElement)). Pieces (IsOver page_size height) r leaves) (sym whole) pieces
 branches_over page_size height ([] ∷ runs) kids leaves small whole each sizes pieces =
-    absurd (let is : IsPageRun page_size 3 size_of [] = each.0 in let some = is.some in omega arith)
+    absurd (let is : IsPageRun page_size 3 1 size_of [] = each.0 in let some = is.some in omega arith)
 branches_over page_size height ((first ∷ run) ∷ runs) kids leaves small whole each sizes pieces =
     let others : List (Laid BranchElement) = flat_map (λ run. run) runs in
     let pieces2 = subst (λ (r : List (Laid BranchElement)). Pieces (IsOver page_size height) r leaves) (sym whole) pieces in
     let both = all_split (IsAtMost 0x40000010) (first ∷ run) others (subst (AllByRecursion (IsAtMost 0x40000010)) (sym whole) sizes) in
     let (front, back, e, a, b) = pieces_split (IsOver page_size height) (first ∷ run) others leaves pieces2 in
     let (x, rest, e2) = pieces_first (IsOver page_size height) first run front a in
-    let fits = run_of page_size 3 0x40000010 (first ∷ run) small (omega arith) each.0 both.0 in
+    let fits = run_of page_size 3 1 0x40000010 (first ∷ run) (omega arith) (omega arith) (omega arith) each.0 both.0 in
     let more = branches_over page_size height runs others back small refl each.1 both.1 b in
     (x, rest, back, e ∙ ap (λ (r : List (Laid LeafElement)). r ++ back) e2, branch_over page_size height first run front x rest fits a e2, more)
 
@@ -182,42 +194,42 @@ fewer others next height levels half few (suc k) most =
     let double : 2 ^ suc k ≡ 2 * 2 ^ k = pow-suc 2 k ∙ omega arith in
     let less = few k (omega arith) in omega arith
 
-top_fits : (page_size steps height : ℕ) (level : List (Laid BranchElement)) (leaves : List (Laid LeafElement)) → page_size < 0x100000000
+top_fits : (which : Layout) (page_size steps height : ℕ) (level : List (Laid BranchElement)) (leaves : List (Laid LeafElement)) → page_size < 0x80000000
     → AllByRecursion HasShortKey leaves → Pieces (IsOver page_size height) level leaves
-    → 1 ≤ length level → length level ≤ suc steps → IsTopOver page_size height (length level) (numbers_of level) (top_in steps page_size level) leaves
-top_fits page_size steps height [] leaves small keys pieces some fuel = absurd (omega arith)
-top_fits page_size steps height (page ∷ []) leaves small keys pieces some fuel =
+    → 1 ≤ length level → length level ≤ suc steps → IsTopOver page_size height (length level) (numbers_of level) (top_in which steps page_size level) leaves
+top_fits which page_size steps height [] leaves small keys pieces some fuel = absurd (omega arith)
+top_fits which page_size steps height (page ∷ []) leaves small keys pieces some fuel =
     record { levels = height; few = λ k most. omega arith; over = over_whole page_size height page leaves pieces; more = omega arith }
-top_fits page_size zero height (page ∷ other ∷ level) leaves small keys pieces some fuel = absurd (omega arith)
-top_fits page_size (suc steps) height (page ∷ other ∷ level) leaves small keys pieces some fuel =
+top_fits which page_size zero height (page ∷ other ∷ level) leaves small keys pieces some fuel = absurd (omega arith)
+top_fits which page_size (suc steps) height (page ∷ other ∷ level) leaves small keys pieces some fuel =
     let pages : List (Laid BranchElement) = page ∷ other ∷ level in
-    let runs : List (List (Laid BranchElement)) = cut_of page_size 2 size_of pages in
-    let divided : IsDivided page_size 3 size_of pages runs = cut_divides page_size 2 3 size_of pages (omega arith) (omega arith) (omega arith) in
-    let half : 2 * length runs ≤ suc (length pages) = cut_halves page_size size_of pages in
+    let runs : List (List (Laid BranchElement)) = branch_cut which page_size size_of pages in
+    let divided : IsDivided page_size 3 1 size_of pages runs = branches_divide which page_size size_of pages in
+    let half : 2 * length runs ≤ suc (length pages) = branches_halve which page_size size_of pages in
     let up = branches_over page_size height runs pages leaves small divided.whole divided.each (pieces_small page_size height pages leaves pieces keys) pieces in
     let any = runs_some runs pages divided.whole (omega arith) in
     let same = length-map runs (page_over branch_view page_size) in
-    let ih = top_fits page_size steps (suc height) (next_level page_size pages) leaves small keys up (omega arith) (omega arith) in
+    let ih = top_fits which page_size steps (suc height) (next_level which page_size pages) leaves small keys up (omega arith) (omega arith) in
     let numbers = runs_numbers branch_view page_size runs in
     let all = ap (λ (r : List (Laid BranchElement)). numbers_of r) divided.whole in
     let more = ih.more in
     record { levels = ih.levels; few = fewer (length level) (length runs) height ih.levels half (λ k most. ih.few k (omega arith)); over = ih.over; more = omega arith }
 
 -- The root page of a bucket's items stands over them, and where it takes no more than 2^63 page numbers, at most 64 pages from its leaves.
-pub root_is_over : (page_size : ℕ) (items : List (Laid LeafElement)) → page_size < 0x100000000 → AllByRecursion HasShortKey items
+pub root_is_over : (which : Layout) (page_size : ℕ) (items : List (Laid LeafElement)) → page_size < 0x80000000 → AllByRecursion HasShortKey items
     → AllByRecursion (IsAtMost 0xFFFFFFEF) items
-    → (height : ℕ) × ((root_over page_size items).numbers ≤ 2 ^ 63 → height ≤ 63) × IsOver page_size height (root_over page_size items) items
+    → (height : ℕ) × ((root_over which page_size items).numbers ≤ 2 ^ 63 → height ≤ 63) × IsOver page_size height (root_over which page_size items) items
 unfolding root_over
-root_is_over page_size [] small keys sizes = (0, λ room. omega arith, (refl, record { few = omega arith; small = omega arith }))
-root_is_over page_size (item ∷ items) small keys sizes =
+root_is_over which page_size [] small keys sizes = (0, λ room. omega arith, (refl, record { few = omega arith; small = omega arith }))
+root_is_over which page_size (item ∷ items) small keys sizes =
     let all : List (Laid LeafElement) = item ∷ items in
     let runs : List (List (Laid LeafElement)) = cut_of page_size 1 size_of all in
     let level : List (Laid BranchElement) = leaf_level page_size all in
-    let divided : IsDivided page_size 1 size_of all runs = cut_divides page_size 1 1 size_of all (omega arith) (omega arith) (omega arith) in
+    let divided : IsDivided page_size 1 0 size_of all runs = cut_divides page_size 1 1 0 size_of all (omega arith) (omega arith) (omega arith) in
     let pieces = leaves_over page_size runs all small divided.whole divided.each sizes in
     let any = runs_some runs all divided.whole (omega arith) in
     let same = length-map runs (page_over leaf_view page_size) in
     let count = pages_count leaf_view page_size runs in
-    let top = top_fits page_size (length level) 0 level all small keys pieces (omega arith) (omega arith) in
+    let top = top_fits which page_size (length level) 0 level all small keys pieces (omega arith) (omega arith) in
     let more = top.more in
     (top.levels, λ room. top.few 63 (omega arith), top.over)

@@ -26,6 +26,7 @@ use Rattle.bolt_layout.proofs.MetaLemmas.{largest_page}
 use Rattle.bolt_layout.proofs.OverRows.{HasShortKey, IsAtMost, root_is_over}
 use Rattle.bolt_layout.proofs.PageLemmas.{head_written}
 use Rattle.bolt_layout.proofs.TreeItems.{inline_read, root_page, tree_items, tree_rise}
+use Rattle.bolt_layout.specs.declared.layout.Layout.{Layout}
 
 module _ (file : List ℕ) (meta : Meta) where
   -- Elements of items whose keys rise, rise.
@@ -69,10 +70,10 @@ module _ (file : List ℕ) (meta : Meta) where
       × ((own : List LeafElement) × AreEntries (IsEntry file meta) (start_of e.value) own × Shows (IsEntry file meta) inside own)
 
   -- An inline bucket.
-  flat_shows : (page_size : ℕ) (tree : Tree) → holds_bucket tree ≡ false → (n : ℕ) → Shows (IsEntry file meta) tree (elements_of (items_of page_size tree) n)
-  flat_shows page_size end none n = tt
-  flat_shows page_size (with_value key value after) none n = (refl, refl, refl, flat_shows page_size after none (n + 0))
-  flat_shows page_size (with_bucket key sequence inside after) none n = absurd (cc)
+  flat_shows : (which : Layout) (page_size : ℕ) (tree : Tree) → holds_bucket tree ≡ false → (n : ℕ) → Shows (IsEntry file meta) tree (elements_of (items_of which page_size tree) n)
+  flat_shows which page_size end none n = tt
+  flat_shows which page_size (with_value key value after) none n = (refl, refl, refl, flat_shows which page_size after none (n + 0))
+  flat_shows which page_size (with_bucket key sequence inside after) none n = absurd (cc)
 
   inline_start : (value : List ℕ) (es : List LeafElement) → head_root value ≡ 0 → inline_elements value ≡ es → start_of value ≡ Inline_page es
   inline_start value es h same = let z : (head_root value == 0) ≡ true = eq-eqb (head_root value) 0 h in rw z (ap Inline_page same)
@@ -96,89 +97,89 @@ module _ (file : List ℕ) (meta : Meta) where
       let first : IsItem page_size item = all.0 in
       (flat_below page_size item (item.element n) (first.key n) items all.1 rise.0 (n + item.numbers), flat_rises page_size items all.1 rise.1 (n + item.numbers))
 
-  inline_shows : (page_size sequence : ℕ) (key : Key) (inside : Tree) (e : LeafElement) → page_size ≤ largest_page → sequence < 256 ^ 8 → HasLengths inside
-      → AllByRecursion (IsItem page_size) (items_of page_size inside) → Rise (items_of page_size inside) → is_inline page_size inside (items_of page_size inside) ≡ true
-      → e ≡ record { key = key; value = inline_value sequence (elements_of (items_of page_size inside) 0); is_bucket = true } → ShowsBucket key sequence inside e
-  inline_shows page_size sequence key inside e small sized lengths all rise inline same =
-      let es : List LeafElement = elements_of (items_of page_size inside) 0 in
+  inline_shows : (which : Layout) (page_size sequence : ℕ) (key : Key) (inside : Tree) (e : LeafElement) → page_size ≤ largest_page → sequence < 256 ^ 8 → HasLengths inside
+      → AllByRecursion (IsItem page_size) (items_of which page_size inside) → Rise (items_of which page_size inside) → is_inline page_size inside (items_of which page_size inside) ≡ true
+      → e ≡ record { key = key; value = inline_value sequence (elements_of (items_of which page_size inside) 0); is_bucket = true } → ShowsBucket key sequence inside e
+  inline_shows which page_size sequence key inside e small sized lengths all rise inline same =
+      let es : List LeafElement = elements_of (items_of which page_size inside) 0 in
       let value : List ℕ = inline_value sequence es in
-      let read = inline_read page_size sequence inside small sized lengths all inline in
+      let read = inline_read which page_size sequence inside small sized lengths all inline in
       let entries : AreEntries (IsEntry file meta) (Inline_page es) es =
-      record { rises = flat_rises page_size (items_of page_size inside) all rise 0; exact = λ f. (λ has. has, λ has. has) } in
+      record { rises = flat_rises page_size (items_of which page_size inside) all rise 0; exact = λ f. (λ has. has, λ has. has) } in
       let there = subst (λ (s : Start). AreEntries (IsEntry file meta) s es) (sym (inline_start value es read.1 read.3)) entries in
-      subst (ShowsBucket key sequence inside) (sym same) (refl, refl, read.2, (es, there, flat_shows page_size inside read.4 0))
+      subst (ShowsBucket key sequence inside) (sym same) (refl, refl, read.2, (es, there, flat_shows which page_size inside read.4 0))
 
   -- A bucket with a root page.
   root_start : (value : List ℕ) (root : ℕ) → head_root value ≡ root → 1 ≤ root → start_of value ≡ Root_page root
   root_start value root h some = let z : (head_root value == 0) ≡ false = ne_eqb (head_root value) 0 (λ e. omega arith) in rw z (ap Root_page h)
 
   -- the entries under the root page over a row of items
-  pub root_holds : (page_size n : ℕ) (items : List (Laid LeafElement)) → page_size ≤ largest_page → AllByRecursion (IsItem page_size) items
-      → 1 ≤ n → n + (root_over page_size items).numbers ≤ limit → ArePages file meta ((root_over page_size items).pages n)
-      → Holds file meta ((root_over page_size items).element n).child items
-  root_holds page_size n items small all some room shown =
+  pub root_holds : (which : Layout) (page_size n : ℕ) (items : List (Laid LeafElement)) → page_size ≤ largest_page → AllByRecursion (IsItem page_size) items
+      → 1 ≤ n → n + (root_over which page_size items).numbers ≤ limit → ArePages file meta ((root_over which page_size items).pages n)
+      → Holds file meta ((root_over which page_size items).element n).child items
+  root_holds which page_size n items small all some room shown =
       let keys = all_weaker (IsItem page_size) HasShortKey (λ item i. i.short) items all in
       let sizes = all_weaker (IsItem page_size) (IsAtMost 0xFFFFFFEF) (λ item i. i.most) items all in
-      let (height, low, over) = root_is_over page_size items (omega arith) keys sizes in
-      over_holds file meta page_size height (root_over page_size items) items over n some room shown
+      let (height, low, over) = root_is_over which page_size items (omega arith) keys sizes in
+      over_holds file meta page_size height (root_over which page_size items) items over n some room shown
 
-  root_shows : (page_size sequence n : ℕ) (key : Key) (inside : Tree) (items : List (Laid LeafElement)) (e : LeafElement) → 0 < page_size → page_size ≤ largest_page → sequence < 256 ^ 8
+  root_shows : (which : Layout) (page_size sequence n : ℕ) (key : Key) (inside : Tree) (items : List (Laid LeafElement)) (e : LeafElement) → 0 < page_size → page_size ≤ largest_page → sequence < 256 ^ 8
       → AllByRecursion (IsItem page_size) items → Rise items
       → ((es : List LeafElement) → AreOf file meta es items → Shows (IsEntry file meta) inside es)
-      → 1 ≤ n → n + (root_over page_size items).numbers ≤ limit → ArePages file meta ((root_over page_size items).pages n)
-      → e ≡ (bucket_item key sequence (root_over page_size items)).element n → ShowsBucket key sequence inside e
-  root_shows page_size sequence n key inside items e sized small narrow all rise ih some room shown same =
-      let root = root_over page_size items in
-      let (height, low, page) = root_page page_size items sized small all rise in
+      → 1 ≤ n → n + (root_over which page_size items).numbers ≤ limit → ArePages file meta ((root_over which page_size items).pages n)
+      → e ≡ (bucket_item key sequence (root_over which page_size items)).element n → ShowsBucket key sequence inside e
+  root_shows which page_size sequence n key inside items e sized small narrow all rise ih some room shown same =
+      let root = root_over which page_size items in
+      let (height, low, page) = root_page which page_size items sized small all rise in
       let c = page.child n in
       let child : ℕ = (root.element n).child in
       let value : List ℕ = root_value child sequence in
       let head = head_written value [] child sequence (sym (append-nil value)) (omega arith) narrow in
-      let held = root_holds page_size n items small all some room shown in
+      let held = root_holds which page_size n items small all some room shown in
       let there = subst (λ (s : Start). AreEntries (IsEntry file meta) s held.es) (sym (root_start value child head.0 (omega arith)))
       (held_entries page_size child items held all rise) in
       subst (ShowsBucket key sequence inside) (sym same) (refl, refl, head.1, (held.es, there, ih held.es held.are))
 
-  stored_shows : (page_size sequence n : ℕ) (key : Key) (inside : Tree) (e : LeafElement) → 0 < page_size → page_size ≤ largest_page → sequence < 256 ^ 8 → HasLengths inside
-      → AllByRecursion (IsItem page_size) (items_of page_size inside) → Rise (items_of page_size inside)
-      → ((es : List LeafElement) → AreOf file meta es (items_of page_size inside) → Shows (IsEntry file meta) inside es)
-      → (b : Bool) → is_inline page_size inside (items_of page_size inside) ≡ b
-      → 1 ≤ n → n + (stored_bucket page_size key sequence inside (items_of page_size inside)).numbers ≤ limit
-      → ArePages file meta ((stored_bucket page_size key sequence inside (items_of page_size inside)).pages n)
-      → e ≡ (stored_bucket page_size key sequence inside (items_of page_size inside)).element n → ShowsBucket key sequence inside e
-  stored_shows page_size sequence n key inside e sized small narrow lengths all rise ih true inline some room shown same =
-      inline_shows page_size sequence key inside e small narrow lengths all rise inline (rw inline at same)
-  stored_shows page_size sequence n key inside e sized small narrow lengths all rise ih false inline some room shown same =
-      root_shows page_size sequence n key inside (items_of page_size inside) e sized small narrow all rise ih some (rw inline at room) (rw inline at shown) (rw inline at same)
+  stored_shows : (which : Layout) (page_size sequence n : ℕ) (key : Key) (inside : Tree) (e : LeafElement) → 0 < page_size → page_size ≤ largest_page → sequence < 256 ^ 8 → HasLengths inside
+      → AllByRecursion (IsItem page_size) (items_of which page_size inside) → Rise (items_of which page_size inside)
+      → ((es : List LeafElement) → AreOf file meta es (items_of which page_size inside) → Shows (IsEntry file meta) inside es)
+      → (b : Bool) → is_inline page_size inside (items_of which page_size inside) ≡ b
+      → 1 ≤ n → n + (stored_bucket which page_size key sequence inside (items_of which page_size inside)).numbers ≤ limit
+      → ArePages file meta ((stored_bucket which page_size key sequence inside (items_of which page_size inside)).pages n)
+      → e ≡ (stored_bucket which page_size key sequence inside (items_of which page_size inside)).element n → ShowsBucket key sequence inside e
+  stored_shows which page_size sequence n key inside e sized small narrow lengths all rise ih true inline some room shown same =
+      inline_shows which page_size sequence key inside e small narrow lengths all rise inline (rw inline at same)
+  stored_shows which page_size sequence n key inside e sized small narrow lengths all rise ih false inline some room shown same =
+      root_shows which page_size sequence n key inside (items_of which page_size inside) e sized small narrow all rise ih some (rw inline at room) (rw inline at shown) (rw inline at same)
 
   -- the elements of a tree's items show it
-  pub tree_shows : (page_size : ℕ) → 0 < page_size → page_size ≤ largest_page → (tree : Tree) → HasLengths tree → RisesInside tree
-      → (es : List LeafElement) → AreOf file meta es (items_of page_size tree) → Shows (IsEntry file meta) tree es
-  tree_shows page_size sized small end lengths rises [] h = tt
-  tree_shows page_size sized small end lengths rises (e ∷ es) h = h
-  tree_shows page_size sized small (with_value key value after) lengths rises [] h = h
-  tree_shows page_size sized small (with_value key value after) lengths rises (e ∷ es) h =
+  pub tree_shows : (which : Layout) (page_size : ℕ) → 0 < page_size → page_size ≤ largest_page → (tree : Tree) → HasLengths tree → RisesInside tree
+      → (es : List LeafElement) → AreOf file meta es (items_of which page_size tree) → Shows (IsEntry file meta) tree es
+  tree_shows which page_size sized small end lengths rises [] h = tt
+  tree_shows which page_size sized small end lengths rises (e ∷ es) h = h
+  tree_shows which page_size sized small (with_value key value after) lengths rises [] h = h
+  tree_shows which page_size sized small (with_value key value after) lengths rises (e ∷ es) h =
       let (n, some, room, same, shown) = h.0 in (
         ap (λ (x : LeafElement). x.is_bucket) same,
         ap (λ (x : LeafElement). x.key) same,
         ap (λ (x : LeafElement). x.value) same,
-        tree_shows page_size sized small after lengths.2 rises es h.1,
+        tree_shows which page_size sized small after lengths.2 rises es h.1,
       )
-  tree_shows page_size sized small (with_bucket key sequence inside after) lengths rises [] h = h
-  tree_shows page_size sized small (with_bucket key sequence inside after) lengths rises (e ∷ es) h =
+  tree_shows which page_size sized small (with_bucket key sequence inside after) lengths rises [] h = h
+  tree_shows which page_size sized small (with_bucket key sequence inside after) lengths rises (e ∷ es) h =
       let (n, some, room, same, shown) = h.0 in
-      let all = tree_items page_size sized small inside lengths.2 rises.1 in
-      let rise = tree_rise page_size inside rises.0 in
-      let (bucket, named, counted, inner) = stored_shows page_size sequence n key inside e sized small lengths.1 lengths.2 all rise
-      (tree_shows page_size sized small inside lengths.2 rises.1) (is_inline page_size inside (items_of page_size inside)) refl some room shown same in
-      (bucket, named, counted, inner, tree_shows page_size sized small after lengths.3 rises.2 es h.1)
+      let all = tree_items which page_size sized small inside lengths.2 rises.1 in
+      let rise = tree_rise which page_size inside rises.0 in
+      let (bucket, named, counted, inner) = stored_shows which page_size sequence n key inside e sized small lengths.1 lengths.2 all rise
+      (tree_shows which page_size sized small inside lengths.2 rises.1) (is_inline page_size inside (items_of which page_size inside)) refl some room shown same in
+      (bucket, named, counted, inner, tree_shows which page_size sized small after lengths.3 rises.2 es h.1)
 
   -- and so the tree is that of the bucket over its items
-  pub root_tree : (page_size n : ℕ) (tree : Tree) → 0 < page_size → page_size ≤ largest_page → HasLengths tree → Rises key_cmp (keys_in tree) → RisesInside tree
-      → 1 ≤ n → n + (root_over page_size (items_of page_size tree)).numbers ≤ limit → ArePages file meta ((root_over page_size (items_of page_size tree)).pages n)
-      → IsTreeOf (IsEntry file meta) (Root_page ((root_over page_size (items_of page_size tree)).element n).child) tree
-  root_tree page_size n tree sized small lengths rising inside some room shown =
-      let items = items_of page_size tree in
-      let all = tree_items page_size sized small tree lengths inside in
-      let held = root_holds page_size n items small all some room shown in
-      (held.es, held_entries page_size ((root_over page_size items).element n).child items held all (tree_rise page_size tree rising), tree_shows page_size sized small tree lengths inside held.es held.are)
+  pub root_tree : (which : Layout) (page_size n : ℕ) (tree : Tree) → 0 < page_size → page_size ≤ largest_page → HasLengths tree → Rises key_cmp (keys_in tree) → RisesInside tree
+      → 1 ≤ n → n + (root_over which page_size (items_of which page_size tree)).numbers ≤ limit → ArePages file meta ((root_over which page_size (items_of which page_size tree)).pages n)
+      → IsTreeOf (IsEntry file meta) (Root_page ((root_over which page_size (items_of which page_size tree)).element n).child) tree
+  root_tree which page_size n tree sized small lengths rising inside some room shown =
+      let items = items_of which page_size tree in
+      let all = tree_items which page_size sized small tree lengths inside in
+      let held = root_holds which page_size n items small all some room shown in
+      (held.es, held_entries page_size ((root_over which page_size items).element n).child items held all (tree_rise which page_size tree rising), tree_shows which page_size sized small tree lengths inside held.es held.are)

@@ -18,41 +18,42 @@ use Rattle.bolt_layout.proofs.MetaLemmas.{size_bounds}
 use Rattle.bolt_layout.proofs.Showing.{root_tree}
 use Rattle.bolt_layout.proofs.Soundness.{IsSoundLayout, PassingIsSound, laid_out, layout_sound}
 use Rattle.bolt_layout.proofs.SpanLemmas.{IsShown}
+use Rattle.bolt_layout.specs.declared.layout.Layout.{Layout}
 
 -- what a bucket's tree lists is the bucket's listing
 abbrev pub TreeLists : Type 0
 TreeLists = (file : List ℕ) (meta : Meta) (bucket : Start) (tree : Tree) → IsTreeOf (IsEntry file meta) bucket tree → Lists (IsEntry file meta) bucket (listing_of tree)
 
-layout_tree : (page_size : ℕ) (tree : Tree) (sequence : ℕ) → IsPageSize page_size → IsStorable tree → IsSoundLayout page_size tree sequence
-    → IsTreeOf (IsEntry (layout_of page_size tree sequence) (layout_meta page_size tree sequence 1)) (Root_page (layout_root page_size tree)) tree
+layout_tree : (which : Layout) (page_size : ℕ) (tree : Tree) (sequence : ℕ) → IsPageSize page_size → IsStorable tree → IsSoundLayout which page_size tree sequence
+    → IsTreeOf (IsEntry (layout_of which page_size tree sequence) (layout_meta which page_size tree sequence 1)) (Root_page (layout_root which page_size tree)) tree
 unfolding root_of
-layout_tree page_size tree sequence size storable sound =
+layout_tree which page_size tree sequence size storable sound =
     let bounds = size_bounds page_size size in
-    let file = layout_of page_size tree sequence in
-    let meta = layout_meta page_size tree sequence 1 in
-    let shown : ArePages file meta (layout_pages page_size tree) =
-    all_weaker (λ (p : Placed). IsShown file meta p.number p.view) (λ (p : Placed). page_at file meta p.number ≡ Some p.view) (λ p s. s.shows) (layout_pages page_size tree) sound.shown in
-    root_tree file meta page_size 3 tree (omega arith) (omega arith) storable.lengths storable.rising storable.rising_inside (omega arith) sound.room shown
+    let file = layout_of which page_size tree sequence in
+    let meta = layout_meta which page_size tree sequence 1 in
+    let shown : ArePages file meta (layout_pages which page_size tree) =
+    all_weaker (λ (p : Placed). IsShown file meta p.number p.view) (λ (p : Placed). page_at file meta p.number ≡ Some p.view) (λ p s. s.shows) (layout_pages which page_size tree) sound.shown in
+    root_tree file meta which page_size 3 tree (omega arith) (omega arith) storable.lengths storable.rising storable.rising_inside (omega arith) sound.room shown
 
-pub sound_copy : PassingIsSound → TreeLists → (page_size : ℕ) (tree : Tree) (sequence : ℕ) → IsAsked page_size tree sequence
-    → length (layout_of page_size tree sequence) < 2 ^ 63 → IsSoundCopy page_size tree sequence (listing_of tree)
-sound_copy passing lists page_size tree sequence asked short =
-    let sound = layout_sound passing page_size tree sequence asked.size (laid_out page_size tree sequence asked.size asked.storable asked.sequence_fits short) in
-    let file = layout_of page_size tree sequence in
-    let meta = layout_meta page_size tree sequence 1 in
+pub sound_copy : PassingIsSound → TreeLists → (which : Layout) (page_size : ℕ) (tree : Tree) (sequence : ℕ) → IsAsked page_size tree sequence
+    → length (layout_of which page_size tree sequence) < 2 ^ 63 → IsSoundCopy which page_size tree sequence (listing_of tree)
+sound_copy passing lists which page_size tree sequence asked short =
+    let sound = layout_sound passing which page_size tree sequence asked.size (laid_out which page_size tree sequence asked.size asked.storable asked.sequence_fits short) in
+    let file = layout_of which page_size tree sequence in
+    let meta = layout_meta which page_size tree sequence 1 in
     record {
       chosen = sound.chosen;
       sound = record { slot = One; valid = sound.chosen.valid; trees = sound.trees; right = λ tested. sound.accounts };
-      lists = lists file meta (Root_page (layout_root page_size tree)) tree (layout_tree page_size tree sequence asked.size asked.storable sound);
+      lists = lists file meta (Root_page (layout_root which page_size tree)) tree (layout_tree which page_size tree sequence asked.size asked.storable sound);
     }
 
 -- the copy of what has a listing lists it again
 abbrev pub LayoutsAreSound : Type 0
-LayoutsAreSound = (page_size : ℕ) (tree : Tree) (sequence : ℕ) → IsAsked page_size tree sequence → length (layout_of page_size tree sequence) < 2 ^ 63
-    → IsSoundCopy page_size tree sequence (listing_of tree)
+LayoutsAreSound = (which : Layout) (page_size : ℕ) (tree : Tree) (sequence : ℕ) → IsAsked page_size tree sequence → length (layout_of which page_size tree sequence) < 2 ^ 63
+    → IsSoundCopy which page_size tree sequence (listing_of tree)
 
-pub copy_lists : LayoutsAreSound → (page_size sequence : ℕ) (listing : List Member) → IsOfOneTree listing → IsPageSize page_size → sequence < 2 ^ 64
-    → length (layout_of_listing page_size listing sequence) < 2 ^ 63 → IsSoundCopy page_size (tree_of listing) sequence listing
-copy_lists sound page_size sequence listing is size fits short =
-    subst (IsSoundCopy page_size (tree_of listing) sequence) is.lists
-    (sound page_size (tree_of listing) sequence (record { size = size; storable = is.storable; sequence_fits = fits }) short)
+pub copy_lists : LayoutsAreSound → (which : Layout) (page_size sequence : ℕ) (listing : List Member) → IsOfOneTree listing → IsPageSize page_size → sequence < 2 ^ 64
+    → length (layout_of_listing which page_size listing sequence) < 2 ^ 63 → IsSoundCopy which page_size (tree_of listing) sequence listing
+copy_lists sound which page_size sequence listing is size fits short =
+    subst (IsSoundCopy which page_size (tree_of listing) sequence) is.lists
+    (sound which page_size (tree_of listing) sequence (record { size = size; storable = is.storable; sequence_fits = fits }) short)

@@ -30,6 +30,7 @@ use Rattle.bolt_layout.specs.Laid.{Placed}
 use Rattle.bolt_layout.specs.Levels.{root_over}
 use Rattle.bolt_layout.specs.Storable.{IsStorable}
 use Rattle.bolt_tree.specs.Tree.{Tree}
+use Rattle.bolt_layout.specs.declared.layout.Layout.{Layout}
 
 -- How long the pieces are.
 length-meta_page : (page_size root sequence mark txid : ℕ) → 80 ≤ page_size → length (meta_page page_size root sequence mark txid) ≡ page_size
@@ -138,33 +139,33 @@ abbrev pub PassingIsSound : Type 0
 PassingIsSound = (file : List ℕ) (meta : Meta) → PassesTests file meta → HasSoundTrees file meta
 
 -- what is known of the file before anything is read
-pub record IsLaidOut (page_size : ℕ) (tree : Tree) (sequence : ℕ) : Type 0 where
-  pub room : layout_mark page_size tree ≤ limit
-  pub fits : IsMetaFit page_size (layout_root page_size tree) sequence (layout_mark page_size tree) 1
-  pub above : 3 ≤ layout_root page_size tree
-  pub below : layout_root page_size tree < layout_mark page_size tree
-  pub row : IsInARow 3 (layout_pages page_size tree) (layout_mark page_size tree)
-  pub pages : AllByRecursion (IsPageFit page_size) (layout_pages page_size tree)
-  pub file : IsFile page_size (layout_root page_size tree) sequence (layout_mark page_size tree) (layout_pages page_size tree) (layout_of page_size tree sequence)
-  pub long : length (layout_of page_size tree sequence) ≡ layout_mark page_size tree * page_size
-  pub last : (front : List Placed) × (own : Placed) × (layout_pages page_size tree ≡ front ++ own ∷ []) × (own.number ≡ layout_root page_size tree)
+pub record IsLaidOut (which : Layout) (page_size : ℕ) (tree : Tree) (sequence : ℕ) : Type 0 where
+  pub room : layout_mark which page_size tree ≤ limit
+  pub fits : IsMetaFit page_size (layout_root which page_size tree) sequence (layout_mark which page_size tree) 1
+  pub above : 3 ≤ layout_root which page_size tree
+  pub below : layout_root which page_size tree < layout_mark which page_size tree
+  pub row : IsInARow 3 (layout_pages which page_size tree) (layout_mark which page_size tree)
+  pub pages : AllByRecursion (IsPageFit page_size) (layout_pages which page_size tree)
+  pub file : IsFile page_size (layout_root which page_size tree) sequence (layout_mark which page_size tree) (layout_pages which page_size tree) (layout_of which page_size tree sequence)
+  pub long : length (layout_of which page_size tree sequence) ≡ layout_mark which page_size tree * page_size
+  pub last : (front : List Placed) × (own : Placed) × (layout_pages which page_size tree ≡ front ++ own ∷ []) × (own.number ≡ layout_root which page_size tree)
   pub height : ℕ
   pub low : height ≤ 63
-  pub page : IsPage page_size height (root_over page_size (items_of page_size tree)) (items_of page_size tree)
+  pub page : IsPage page_size height (root_over which page_size (items_of which page_size tree)) (items_of which page_size tree)
 
 -- it has as many bytes as its pages
-pub layout_length : (page_size : ℕ) (tree : Tree) (sequence : ℕ) → IsPageSize page_size → IsStorable tree
-    → length (layout_of page_size tree sequence) ≡ layout_mark page_size tree * page_size
+pub layout_length : (which : Layout) (page_size : ℕ) (tree : Tree) (sequence : ℕ) → IsPageSize page_size → IsStorable tree
+    → length (layout_of which page_size tree sequence) ≡ layout_mark which page_size tree * page_size
 unfolding layout_of root_of
-layout_length page_size tree sequence size storable =
+layout_length which page_size tree sequence size storable =
     let bounds = size_bounds page_size size in
-    let items = items_of page_size tree in
-    let all = tree_items page_size (omega arith) (omega arith) tree storable.lengths storable.rising_inside in
-    let rise = tree_rise page_size tree storable.rising in
-    let (height, low, page) = root_page page_size items (omega arith) (omega arith) all rise in
-    let pages : List Placed = layout_pages page_size tree in
-    let root : ℕ = layout_root page_size tree in
-    let mark : ℕ = layout_mark page_size tree in
+    let items = items_of which page_size tree in
+    let all = tree_items which page_size (omega arith) (omega arith) tree storable.lengths storable.rising_inside in
+    let rise = tree_rise which page_size tree storable.rising in
+    let (height, low, page) = root_page which page_size items (omega arith) (omega arith) all rise in
+    let pages : List Placed = layout_pages which page_size tree in
+    let root : ℕ = layout_root which page_size tree in
+    let mark : ℕ = layout_mark which page_size tree in
     let exact = length-placed page_size 3 mark pages (page.pages.row 3) (page.pages.room 3) in
     let m0 : List ℕ = meta_page page_size root sequence mark 0 in
     let m1 : List ℕ = meta_page page_size root sequence mark 1 in
@@ -177,19 +178,19 @@ layout_length page_size tree sequence size storable =
     let b = length-append m1 (fl ++ rest) in
     let c = length-append fl rest in omega arith
 
-pub laid_out : (page_size : ℕ) (tree : Tree) (sequence : ℕ) → IsPageSize page_size → IsStorable tree → sequence < 2 ^ 64
-    → length (layout_of page_size tree sequence) < 2 ^ 63 → IsLaidOut page_size tree sequence
+pub laid_out : (which : Layout) (page_size : ℕ) (tree : Tree) (sequence : ℕ) → IsPageSize page_size → IsStorable tree → sequence < 2 ^ 64
+    → length (layout_of which page_size tree sequence) < 2 ^ 63 → IsLaidOut which page_size tree sequence
 unfolding layout_of root_of
-laid_out page_size tree sequence size storable sized short =
-    let exact = layout_length page_size tree sequence size storable in
+laid_out which page_size tree sequence size storable sized short =
+    let exact = layout_length which page_size tree sequence size storable in
     let bounds = size_bounds page_size size in
-    let items = items_of page_size tree in
-    let all = tree_items page_size (omega arith) (omega arith) tree storable.lengths storable.rising_inside in
-    let rise = tree_rise page_size tree storable.rising in
-    let (height, low, page) = root_page page_size items (omega arith) (omega arith) all rise in
-    let pages : List Placed = layout_pages page_size tree in
-    let root : ℕ = layout_root page_size tree in
-    let mark : ℕ = layout_mark page_size tree in
+    let items = items_of which page_size tree in
+    let all = tree_items which page_size (omega arith) (omega arith) tree storable.lengths storable.rising_inside in
+    let rise = tree_rise which page_size tree storable.rising in
+    let (height, low, page) = root_page which page_size items (omega arith) (omega arith) all rise in
+    let pages : List Placed = layout_pages which page_size tree in
+    let root : ℕ = layout_root which page_size tree in
+    let mark : ℕ = layout_mark which page_size tree in
     let row : IsInARow 3 pages mark = page.pages.row 3 in
     let child = page.child 3 in
     let wide : mark * 1024 ≤ mark * page_size = mul-le-mul_left mark (omega arith) in
@@ -211,22 +212,22 @@ laid_out page_size tree sequence size storable sized short =
       page = page;
     }
 
-pub record IsSoundLayout (page_size : ℕ) (tree : Tree) (sequence : ℕ) : Type 0 where
-  pub chosen : IsChosen (layout_of page_size tree sequence) One (layout_meta page_size tree sequence 1)
-  pub trees : HasSoundTrees (layout_of page_size tree sequence) (layout_meta page_size tree sequence 1)
-  pub accounts : HasRightAccounts (layout_of page_size tree sequence) (layout_meta page_size tree sequence 1)
-  pub room : layout_mark page_size tree ≤ limit
-  pub shown : AllByRecursion (λ page. IsShown (layout_of page_size tree sequence) (layout_meta page_size tree sequence 1) page.number page.view) (layout_pages page_size tree)
+pub record IsSoundLayout (which : Layout) (page_size : ℕ) (tree : Tree) (sequence : ℕ) : Type 0 where
+  pub chosen : IsChosen (layout_of which page_size tree sequence) One (layout_meta which page_size tree sequence 1)
+  pub trees : HasSoundTrees (layout_of which page_size tree sequence) (layout_meta which page_size tree sequence 1)
+  pub accounts : HasRightAccounts (layout_of which page_size tree sequence) (layout_meta which page_size tree sequence 1)
+  pub room : layout_mark which page_size tree ≤ limit
+  pub shown : AllByRecursion (λ page. IsShown (layout_of which page_size tree sequence) (layout_meta which page_size tree sequence 1) page.number page.view) (layout_pages which page_size tree)
 
-pub layout_sound : PassingIsSound → (page_size : ℕ) (tree : Tree) (sequence : ℕ) → IsPageSize page_size → IsLaidOut page_size tree sequence → IsSoundLayout page_size tree sequence
+pub layout_sound : PassingIsSound → (which : Layout) (page_size : ℕ) (tree : Tree) (sequence : ℕ) → IsPageSize page_size → IsLaidOut which page_size tree sequence → IsSoundLayout which page_size tree sequence
 unfolding layout_of root_of
-layout_sound law page_size tree sequence size laid =
+layout_sound law which page_size tree sequence size laid =
     let bounds = size_bounds page_size size in
-    let items = items_of page_size tree in
-    let pages : List Placed = layout_pages page_size tree in
-    let root : ℕ = layout_root page_size tree in
-    let mark : ℕ = layout_mark page_size tree in
-    let meta : Meta = layout_meta page_size tree sequence 1 in
+    let items = items_of which page_size tree in
+    let pages : List Placed = layout_pages which page_size tree in
+    let root : ℕ = layout_root which page_size tree in
+    let mark : ℕ = layout_mark which page_size tree in
+    let meta : Meta = layout_meta which page_size tree sequence 1 in
     let file : List ℕ = file_bytes page_size root sequence mark pages in
     let stand = laid.file in
     let long = stand.long in

@@ -30,6 +30,7 @@ use Rattle.bolt_layout.specs.Laid.{Laid, elements_of, size_of}
 use Rattle.bolt_layout.specs.Levels.{root_over}
 use Rattle.bolt_layout.specs.Storable.{HasLengths, RisesInside, keys_in}
 use Rattle.bolt_tree.specs.Tree.{Tree, end, with_bucket, with_value}
+use Rattle.bolt_layout.specs.declared.layout.Layout.{Layout}
 
 -- a value
 value_item : (page_size : ℕ) (key value : List ℕ) → 1 ≤ length key → length key ≤ 0x40000000 → length value ≤ 0x7FFFFFFE → IsItem page_size (leaf_item key value false)
@@ -45,11 +46,11 @@ value_item page_size key value some short sized = record {
 }
 
 -- an inline bucket
-flat_elements : (page_size : ℕ) (tree : Tree) → holds_bucket tree ≡ false → HasLengths tree → (n : ℕ) → AllByRecursion IsFlat (elements_of (items_of page_size tree) n)
-flat_elements page_size end none lengths n = tt
-flat_elements page_size (with_value key value after) none lengths n =
-    (record { some = lengths.0.0; key = lengths.0.1; value = lengths.1; flat = refl }, flat_elements page_size after none lengths.2 (n + 0))
-flat_elements page_size (with_bucket key sequence inside after) none lengths n = absurd (cc)
+flat_elements : (which : Layout) (page_size : ℕ) (tree : Tree) → holds_bucket tree ≡ false → HasLengths tree → (n : ℕ) → AllByRecursion IsFlat (elements_of (items_of which page_size tree) n)
+flat_elements which page_size end none lengths n = tt
+flat_elements which page_size (with_value key value after) none lengths n =
+    (record { some = lengths.0.0; key = lengths.0.1; value = lengths.1; flat = refl }, flat_elements which page_size after none lengths.2 (n + 0))
+flat_elements which page_size (with_bucket key sequence inside after) none lengths n = absurd (cc)
 
 keys_same : (es : List LeafElement) → keys_of (map leaf_entry es) ≡ map (λ (e : LeafElement). e.key) es
 keys_same [] = refl
@@ -73,23 +74,23 @@ inline_spot : (host : ℕ) (e : LeafElement) (keys : List Key) → e.is_bucket �
 inline_spot host e keys bucket root same = let z : (head_root e.value == 0) ≡ true = eq-eqb (head_root e.value) 0 root in rw (bucket, z, same) refl
 
 -- what an inline bucket's value says
-pub inline_read : (page_size sequence : ℕ) (inside : Tree) → page_size ≤ largest_page → sequence < 256 ^ 8 → HasLengths inside → AllByRecursion (IsItem page_size) (items_of page_size inside)
-    → is_inline page_size inside (items_of page_size inside) ≡ true
-    → (value_fault (inline_value sequence (elements_of (items_of page_size inside) 0)) ≡ None)
-    × (head_root (inline_value sequence (elements_of (items_of page_size inside) 0)) ≡ 0)
-    × (head_sequence (inline_value sequence (elements_of (items_of page_size inside) 0)) ≡ sequence)
-    × (inline_elements (inline_value sequence (elements_of (items_of page_size inside) 0)) ≡ elements_of (items_of page_size inside) 0)
+pub inline_read : (which : Layout) (page_size sequence : ℕ) (inside : Tree) → page_size ≤ largest_page → sequence < 256 ^ 8 → HasLengths inside → AllByRecursion (IsItem page_size) (items_of which page_size inside)
+    → is_inline page_size inside (items_of which page_size inside) ≡ true
+    → (value_fault (inline_value sequence (elements_of (items_of which page_size inside) 0)) ≡ None)
+    × (head_root (inline_value sequence (elements_of (items_of which page_size inside) 0)) ≡ 0)
+    × (head_sequence (inline_value sequence (elements_of (items_of which page_size inside) 0)) ≡ sequence)
+    × (inline_elements (inline_value sequence (elements_of (items_of which page_size inside) 0)) ≡ elements_of (items_of which page_size inside) 0)
     × (holds_bucket inside ≡ false)
-    × (length (inline_value sequence (elements_of (items_of page_size inside) 0)) ≤ 0x7FFFFFFE)
-inline_read page_size sequence inside small sized lengths all inline =
-    let items = items_of page_size inside in
+    × (length (inline_value sequence (elements_of (items_of which page_size inside) 0)) ≤ 0x7FFFFFFE)
+inline_read which page_size sequence inside small sized lengths all inline =
+    let items = items_of which page_size inside in
     let es : List LeafElement = elements_of items 0 in
     let parts = and_parts (not (holds_bucket inside)) _ inline in
     let sizes = and_parts (nat_le (run_size size_of items) (page_size / 4)) _ parts.1 in
     let quarter = leb-true (run_size size_of items) (page_size / 4) sizes.0 in
     let few = leb-true (length items) max_items sizes.1 in
     let none = not-true (holds_bucket inside) parts.0 in
-    let flat = flat_elements page_size inside none lengths 0 in
+    let flat = flat_elements which page_size inside none lengths 0 in
     let size = items_size page_size items all 0 in
     let long = length-elements items 0 in
     let less = div-le_self page_size 4 in
@@ -97,15 +98,15 @@ inline_read page_size sequence inside small sized lengths all inline =
     let written = inline_written sequence es sized flat (omega arith) (omega arith) in
     (written.0, written.1, written.2, written.3, none, omega arith)
 
-inline_item : (page_size : ℕ) (key : List ℕ) (sequence : ℕ) (inside : Tree) → page_size ≤ largest_page → 1 ≤ length key → length key ≤ 0x40000000 → sequence < 256 ^ 8
-    → HasLengths inside → AllByRecursion (IsItem page_size) (items_of page_size inside) → Rise (items_of page_size inside)
-    → is_inline page_size inside (items_of page_size inside) ≡ true
-    → IsItem page_size (leaf_item key (inline_value sequence (elements_of (items_of page_size inside) 0)) true)
-inline_item page_size key sequence inside small some short sized lengths all rise inline =
-    let items = items_of page_size inside in
+inline_item : (which : Layout) (page_size : ℕ) (key : List ℕ) (sequence : ℕ) (inside : Tree) → page_size ≤ largest_page → 1 ≤ length key → length key ≤ 0x40000000 → sequence < 256 ^ 8
+    → HasLengths inside → AllByRecursion (IsItem page_size) (items_of which page_size inside) → Rise (items_of which page_size inside)
+    → is_inline page_size inside (items_of which page_size inside) ≡ true
+    → IsItem page_size (leaf_item key (inline_value sequence (elements_of (items_of which page_size inside) 0)) true)
+inline_item which page_size key sequence inside small some short sized lengths all rise inline =
+    let items = items_of which page_size inside in
     let es : List LeafElement = elements_of items 0 in
     let value : List ℕ = inline_value sequence es in
-    let written = inline_read page_size sequence inside small sized lengths all inline in
+    let written = inline_read which page_size sequence inside small sized lengths all inline in
     let wide = written.5 in
     let keys = items_keys page_size items all None None None 0 rise (above_none items) (within_none items) in
     let named : map (λ (i : LeafElement). i.key) (inline_elements value) ≡ keys_of (map leaf_entry es) = ap (λ (x : List LeafElement). map (λ (i : LeafElement). i.key) x) written.3 ∙ sym (keys_same es) in
@@ -125,22 +126,22 @@ inline_item page_size key sequence inside small some short sized lengths all ris
     }
 
 -- the root page of a bucket's items
-pub root_page : (page_size : ℕ) (items : List (Laid LeafElement)) → 0 < page_size → page_size ≤ largest_page → AllByRecursion (IsItem page_size) items → Rise items
-    → (height : ℕ) × ((root_over page_size items).numbers ≤ limit → height ≤ 63) × IsPage page_size height (root_over page_size items) items
-root_page page_size items sized small all rise =
+pub root_page : (which : Layout) (page_size : ℕ) (items : List (Laid LeafElement)) → 0 < page_size → page_size ≤ largest_page → AllByRecursion (IsItem page_size) items → Rise items
+    → (height : ℕ) × ((root_over which page_size items).numbers ≤ limit → height ≤ 63) × IsPage page_size height (root_over which page_size items) items
+root_page which page_size items sized small all rise =
     let keys = all_weaker (IsItem page_size) HasShortKey (λ item i. i.short) items all in
     let sizes = all_weaker (IsItem page_size) (IsAtMost 0xFFFFFFEF) (λ item i. i.most) items all in
-    let (height, low, over) = root_is_over page_size items (omega arith) keys sizes in
-    (height, low, over_page page_size sized height (root_over page_size items) items over all rise)
+    let (height, low, over) = root_is_over which page_size items (omega arith) keys sizes in
+    (height, low, over_page page_size sized height (root_over which page_size items) items over all rise)
 
 root_spot : (host root : ℕ) (e : LeafElement) → e.is_bucket ≡ true → head_root e.value ≡ root → 1 ≤ root → bucket_spots host (leaf_entry e) ≡ Some (At_page (start_of (head_root e.value)))
 root_spot host root e bucket same some = let z : (head_root e.value == 0) ≡ false = ne_eqb (head_root e.value) 0 (λ zero_root. omega arith) in rw (bucket, z) refl
 
-root_item : (page_size : ℕ) (key : List ℕ) (sequence : ℕ) (items : List (Laid LeafElement)) → 0 < page_size → page_size ≤ largest_page → 1 ≤ length key → length key ≤ 0x40000000 → sequence < 256 ^ 8
-    → AllByRecursion (IsItem page_size) items → Rise items → IsItem page_size (bucket_item key sequence (root_over page_size items))
-root_item page_size key sequence items sized small some short narrow all rise =
-    let root = root_over page_size items in
-    let (height, low, page) = root_page page_size items sized small all rise in
+root_item : (which : Layout) (page_size : ℕ) (key : List ℕ) (sequence : ℕ) (items : List (Laid LeafElement)) → 0 < page_size → page_size ≤ largest_page → 1 ≤ length key → length key ≤ 0x40000000 → sequence < 256 ^ 8
+    → AllByRecursion (IsItem page_size) items → Rise items → IsItem page_size (bucket_item key sequence (root_over which page_size items))
+root_item which page_size key sequence items sized small some short narrow all rise =
+    let root = root_over which page_size items in
+    let (height, low, page) = root_page which page_size items sized small all rise in
     let item = bucket_item key sequence root in
     let value : ℕ → List ℕ = λ n. root_value (root.element n).child sequence in
     let head : (n : ℕ) → (root.element n).child < 256 ^ 8 → (head_root (value n) ≡ (root.element n).child) =
@@ -169,51 +170,51 @@ root_item page_size key sequence items sized small some short narrow all rise =
     }
 
 -- the items of a tree
-stored_key : (page_size : ℕ) (key : List ℕ) (sequence : ℕ) (inside : Tree) (items : List (Laid LeafElement)) (b : Bool) → is_inline page_size inside items ≡ b
-    → (stored_bucket page_size key sequence inside items).key ≡ key
-stored_key page_size key sequence inside items true e = rw e refl
-stored_key page_size key sequence inside items false e = rw e refl
+stored_key : (which : Layout) (page_size : ℕ) (key : List ℕ) (sequence : ℕ) (inside : Tree) (items : List (Laid LeafElement)) (b : Bool) → is_inline page_size inside items ≡ b
+    → (stored_bucket which page_size key sequence inside items).key ≡ key
+stored_key which page_size key sequence inside items true e = rw e refl
+stored_key which page_size key sequence inside items false e = rw e refl
 
-keys_below : (page_size : ℕ) (key : Key) (tree : Tree) → IsBelow key_cmp key (keys_in tree) → (x : Laid LeafElement) → x.key ≡ key
-    → AllByRecursion (IsBelowItem x) (items_of page_size tree)
-keys_below page_size key end below x same = tt
-keys_below page_size key (with_value other value after) below x same = (
+keys_below : (which : Layout) (page_size : ℕ) (key : Key) (tree : Tree) → IsBelow key_cmp key (keys_in tree) → (x : Laid LeafElement) → x.key ≡ key
+    → AllByRecursion (IsBelowItem x) (items_of which page_size tree)
+keys_below which page_size key end below x same = tt
+keys_below which page_size key (with_value other value after) below x same = (
   ap (λ (k : Key). key_lt k other) same ∙ ap is_lt (below other (contains_head other (keys_in after))),
-  keys_below page_size key after (λ k has. below k (contains_tail other k (keys_in after) has)) x same,
+  keys_below which page_size key after (λ k has. below k (contains_tail other k (keys_in after) has)) x same,
 )
-keys_below page_size key (with_bucket other sequence inside after) below x same =
-    let items = items_of page_size inside in
-    let named = stored_key page_size other sequence inside items (is_inline page_size inside items) refl in (
-      ap (λ (k : Key). key_lt k (stored_bucket page_size other sequence inside items).key) same
+keys_below which page_size key (with_bucket other sequence inside after) below x same =
+    let items = items_of which page_size inside in
+    let named = stored_key which page_size other sequence inside items (is_inline page_size inside items) refl in (
+      ap (λ (k : Key). key_lt k (stored_bucket which page_size other sequence inside items).key) same
           ∙ (ap (λ (k : Key). key_lt key k) named ∙ ap is_lt (below other (contains_head other (keys_in after)))),
-      keys_below page_size key after (λ k has. below k (contains_tail other k (keys_in after) has)) x same,
+      keys_below which page_size key after (λ k has. below k (contains_tail other k (keys_in after) has)) x same,
     )
 
-pub tree_rise : (page_size : ℕ) (tree : Tree) → Rises key_cmp (keys_in tree) → Rise (items_of page_size tree)
-tree_rise page_size end h = tt
-tree_rise page_size (with_value key value after) h =
-    (keys_below page_size key after h.0 (leaf_item key value false) refl, tree_rise page_size after h.1)
-tree_rise page_size (with_bucket key sequence inside after) h =
-    let items = items_of page_size inside in
-    let named = stored_key page_size key sequence inside items (is_inline page_size inside items) refl in
-    (keys_below page_size key after h.0 (stored_bucket page_size key sequence inside items) named, tree_rise page_size after h.1)
+pub tree_rise : (which : Layout) (page_size : ℕ) (tree : Tree) → Rises key_cmp (keys_in tree) → Rise (items_of which page_size tree)
+tree_rise which page_size end h = tt
+tree_rise which page_size (with_value key value after) h =
+    (keys_below which page_size key after h.0 (leaf_item key value false) refl, tree_rise which page_size after h.1)
+tree_rise which page_size (with_bucket key sequence inside after) h =
+    let items = items_of which page_size inside in
+    let named = stored_key which page_size key sequence inside items (is_inline page_size inside items) refl in
+    (keys_below which page_size key after h.0 (stored_bucket which page_size key sequence inside items) named, tree_rise which page_size after h.1)
 
-stored_item : (page_size : ℕ) (key : List ℕ) (sequence : ℕ) (inside : Tree) → 0 < page_size → page_size ≤ largest_page → 1 ≤ length key → length key ≤ 0x40000000 → sequence < 256 ^ 8
-    → HasLengths inside → AllByRecursion (IsItem page_size) (items_of page_size inside) → Rise (items_of page_size inside) → (b : Bool) → is_inline page_size inside (items_of page_size inside) ≡ b
-    → IsItem page_size (stored_bucket page_size key sequence inside (items_of page_size inside))
-stored_item page_size key sequence inside sized small some short narrow lengths all rise true e =
-    rw e (inline_item page_size key sequence inside small some short narrow lengths all rise e)
-stored_item page_size key sequence inside sized small some short narrow lengths all rise false e =
-    rw e (root_item page_size key sequence (items_of page_size inside) sized small some short narrow all rise)
+stored_item : (which : Layout) (page_size : ℕ) (key : List ℕ) (sequence : ℕ) (inside : Tree) → 0 < page_size → page_size ≤ largest_page → 1 ≤ length key → length key ≤ 0x40000000 → sequence < 256 ^ 8
+    → HasLengths inside → AllByRecursion (IsItem page_size) (items_of which page_size inside) → Rise (items_of which page_size inside) → (b : Bool) → is_inline page_size inside (items_of which page_size inside) ≡ b
+    → IsItem page_size (stored_bucket which page_size key sequence inside (items_of which page_size inside))
+stored_item which page_size key sequence inside sized small some short narrow lengths all rise true e =
+    rw e (inline_item which page_size key sequence inside small some short narrow lengths all rise e)
+stored_item which page_size key sequence inside sized small some short narrow lengths all rise false e =
+    rw e (root_item which page_size key sequence (items_of which page_size inside) sized small some short narrow all rise)
 
-pub tree_items : (page_size : ℕ) → 0 < page_size → page_size ≤ largest_page → (tree : Tree) → HasLengths tree → RisesInside tree → AllByRecursion (IsItem page_size) (items_of page_size tree)
-tree_items page_size sized small end lengths rises = tt
-tree_items page_size sized small (with_value key value after) lengths rises =
-    (value_item page_size key value lengths.0.0 lengths.0.1 lengths.1, tree_items page_size sized small after lengths.2 rises)
-tree_items page_size sized small (with_bucket key sequence inside after) lengths rises =
-    let items = items_of page_size inside in
-    let all = tree_items page_size sized small inside lengths.2 rises.1 in
-    let rise = tree_rise page_size inside rises.0 in (
-      stored_item page_size key sequence inside sized small lengths.0.0 lengths.0.1 lengths.1 lengths.2 all rise (is_inline page_size inside items) refl,
-      tree_items page_size sized small after lengths.3 rises.2,
+pub tree_items : (which : Layout) (page_size : ℕ) → 0 < page_size → page_size ≤ largest_page → (tree : Tree) → HasLengths tree → RisesInside tree → AllByRecursion (IsItem page_size) (items_of which page_size tree)
+tree_items which page_size sized small end lengths rises = tt
+tree_items which page_size sized small (with_value key value after) lengths rises =
+    (value_item page_size key value lengths.0.0 lengths.0.1 lengths.1, tree_items which page_size sized small after lengths.2 rises)
+tree_items which page_size sized small (with_bucket key sequence inside after) lengths rises =
+    let items = items_of which page_size inside in
+    let all = tree_items which page_size sized small inside lengths.2 rises.1 in
+    let rise = tree_rise which page_size inside rises.0 in (
+      stored_item which page_size key sequence inside sized small lengths.0.0 lengths.0.1 lengths.1 lengths.2 all rise (is_inline page_size inside items) refl,
+      tree_items which page_size sized small after lengths.3 rises.2,
     )

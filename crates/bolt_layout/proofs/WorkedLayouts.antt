@@ -8,10 +8,12 @@ use Rattle.bolt_layout.specs.Items.{root_of}
 use Rattle.bolt_layout.specs.Layout.{layout_held, layout_mark, layout_of, layout_root}
 use Rattle.bolt_layout.specs.Levels.{overflow_of, root_over}
 use Rattle.bolt_layout.specs.PageBytes.{branch_bytes, branch_header, freelist_page, header_bytes, inline_value, leaf_bytes, leaf_header, meta_bytes, meta_page, meta_record, number_bytes, page_bytes, root_value}
+use Rattle.bolt_layout.specs.declared.layout.Layout.{Layout}
+use Rattle.bolt_layout.specs.declared.layout.Layout.TheVariants.{Plain, Balanced}
 
-abbrev IsWorked : (page_size : ℕ) → Tree → (sequence sum root mark held : ℕ) → Type 0
-IsWorked page_size tree sequence sum root mark held =
-    (fnv_of (layout_of page_size tree sequence) ≡ sum) × (layout_root page_size tree ≡ root) × (layout_mark page_size tree ≡ mark) × (layout_held page_size tree ≡ held)
+abbrev IsWorked : Layout → (page_size : ℕ) → Tree → (sequence sum root mark held : ℕ) → Type 0
+IsWorked which page_size tree sequence sum root mark held =
+    (fnv_of (layout_of which page_size tree sequence) ≡ sum) × (layout_root which page_size tree ≡ root) × (layout_mark which page_size tree ≡ mark) × (layout_held which page_size tree ≡ held)
 
 -- values of 82 bytes under keys of two digits
 abbrev digits : List ℕ → Tree
@@ -55,6 +57,17 @@ bucket_in_bucket = with_bucket (97 ∷ []) 0 (with_bucket (99 ∷ []) 0 (with_va
 abbrev pub long_keys : Tree
 long_keys = with_bucket (98 ∷ []) 0 (with_value (49 ∷ replicate 499 107) (replicate 400 120) (with_value (50 ∷ replicate 499 107) (replicate 400 120) (with_value (51 ∷ replicate 499 107) (replicate 400 120) end))) end
 
+-- more of them: seven leaves under three levels of branches, and eleven, where the row of branches over the first row of branches loses an item too
+abbrev long_values : List ℕ → Tree
+long_values [] = end
+long_values (n ∷ numbers) = with_value ((48 + n) ∷ replicate 499 107) (replicate 400 120) (long_values numbers)
+
+abbrev seven_leaves : Tree
+seven_leaves = with_bucket (98 ∷ []) 0 (long_values (range_with_len 0 7)) end
+
+abbrev eleven_leaves : Tree
+eleven_leaves = with_bucket (98 ∷ []) 0 (long_values (range_with_len 0 11)) end
+
 -- a leaf that is full with a bucket that it holds, and one byte more
 abbrev pub filled_leaf : Tree
 filled_leaf = with_bucket (98 ∷ []) 0 (with_value (97 ∷ []) (replicate 958 120) (with_bucket (99 ∷ []) 0 (with_value (107 ∷ []) (replicate 300 120) end) end)) end
@@ -79,22 +92,34 @@ abbrev hundred : Tree
 hundred = entries (range_with_len 0 100)
 
 layouts_are :
-    IsWorked 4096 no_entries 0 9737331009492300045 3 4 0
-    × IsWorked 4096 one_inline 0 8906171419981019676 3 4 1
-    × IsWorked 4096 empty_bucket 0 4442632031782585997 3 4 1
-    × IsWorked 4096 filled_page 0 376389502935461466 4 5 1
-    × IsWorked 4096 overfull_page 0 4884421998806214021 5 6 1
-    × IsWorked 4096 quarter_page 0 14303106919727609673 3 4 1
-    × IsWorked 4096 past_quarter 0 7749995516879663027 4 5 1
-    × IsWorked 1024 forty_values 0 9336260530764483405 8 9 13
-    × IsWorked 1024 bucket_in_bucket 0 2346231677177009335 5 6 1
-    × IsWorked 1024 long_keys 0 16207058772857379024 11 12 2
-    × IsWorked 1024 filled_leaf 0 2990879556654988314 5 6 2
-    × IsWorked 1024 overfull_leaf 0 6573129876057791784 7 8 2
-    × IsWorked 1024 many_buckets 5 11628926834878968518 7 8 4
-    × IsWorked 1024 hundred 77 18415106701196619101 29 30 18
+    IsWorked Plain 4096 no_entries 0 9737331009492300045 3 4 0
+    × IsWorked Plain 4096 one_inline 0 8906171419981019676 3 4 1
+    × IsWorked Plain 4096 empty_bucket 0 4442632031782585997 3 4 1
+    × IsWorked Plain 4096 filled_page 0 376389502935461466 4 5 1
+    × IsWorked Plain 4096 overfull_page 0 4884421998806214021 5 6 1
+    × IsWorked Plain 4096 quarter_page 0 14303106919727609673 3 4 1
+    × IsWorked Plain 4096 past_quarter 0 7749995516879663027 4 5 1
+    × IsWorked Plain 1024 forty_values 0 9336260530764483405 8 9 13
+    × IsWorked Plain 1024 bucket_in_bucket 0 2346231677177009335 5 6 1
+    × IsWorked Plain 1024 long_keys 0 16207058772857379024 11 12 2
+    × IsWorked Plain 1024 filled_leaf 0 2990879556654988314 5 6 2
+    × IsWorked Plain 1024 overfull_leaf 0 6573129876057791784 7 8 2
+    × IsWorked Plain 1024 many_buckets 5 11628926834878968518 7 8 4
+    × IsWorked Plain 1024 hundred 77 18415106701196619101 29 30 18
+    × IsWorked Balanced 1024 hundred 77 18415106701196619101 29 30 18
+    × IsWorked Balanced 1024 long_keys 0 12246013417431415610 8 9 3
+    × IsWorked Plain 1024 seven_leaves 0 14856600821584319613 23 24 3
+    × IsWorked Balanced 1024 seven_leaves 0 10409730401809140747 18 19 5
+    × IsWorked Plain 1024 eleven_leaves 0 8461296673094134919 36 37 4
+    × IsWorked Balanced 1024 eleven_leaves 0 8172358324331492310 30 31 6
 unfolding fnv_of fnv_step overflow_of root_of root_over layout_of branch_bytes branch_header freelist_page header_bytes inline_value leaf_bytes leaf_header meta_bytes meta_page meta_record number_bytes page_bytes root_value
 layouts_are = (
+  (refl, refl, refl, refl),
+  (refl, refl, refl, refl),
+  (refl, refl, refl, refl),
+  (refl, refl, refl, refl),
+  (refl, refl, refl, refl),
+  (refl, refl, refl, refl),
   (refl, refl, refl, refl),
   (refl, refl, refl, refl),
   (refl, refl, refl, refl),

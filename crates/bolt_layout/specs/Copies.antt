@@ -11,12 +11,13 @@ use Rattle.bolt_tree.specs.Listing.{IsListing, Member}
 use Rattle.bolt_tree.specs.Tree.{Tree, listing_of, tree_of}
 use Rattle.bolt_layout.specs.Layout.{layout_meta, layout_of}
 use Rattle.bolt_layout.specs.Storable.{IsStorable}
+use Rattle.bolt_layout.specs.declared.layout.Layout.{Layout}
 
 -- the meta of slot one is in force in the layout, which is sound for it, trees and accounts, and has this listing
-pub record IsSoundCopy (page_size : ℕ) (tree : Tree) (sequence : ℕ) (listing : List Member) : Type 0 where
-  pub chosen : IsChosen (layout_of page_size tree sequence) One (layout_meta page_size tree sequence 1)
-  pub sound : IsSound (layout_of page_size tree sequence) (layout_meta page_size tree sequence 1) true
-  pub lists : IsListing (layout_of page_size tree sequence) (layout_meta page_size tree sequence 1) listing
+pub record IsSoundCopy (which : Layout) (page_size : ℕ) (tree : Tree) (sequence : ℕ) (listing : List Member) : Type 0 where
+  pub chosen : IsChosen (layout_of which page_size tree sequence) One (layout_meta which page_size tree sequence 1)
+  pub sound : IsSound (layout_of which page_size tree sequence) (layout_meta which page_size tree sequence 1) true
+  pub lists : IsListing (layout_of which page_size tree sequence) (layout_meta which page_size tree sequence 1) listing
 
 -- A layout is asked for by an accepted page size, a tree that can be stored and a sequence of 64 bits.
 pub record IsAsked (page_size : ℕ) (tree : Tree) (sequence : ℕ) : Type 0 where
@@ -35,5 +36,5 @@ pub record IsOfOneTree (listing : List Member) : Type 0 where
   pub lists : listing_of (tree_of listing) ≡ listing
   pub one : (tree : Tree) → listing_of tree ≡ listing → tree ≡ tree_of listing
 
-abbrev pub layout_of_listing : (page_size : ℕ) → List Member → (sequence : ℕ) → List ℕ
-layout_of_listing page_size listing sequence = layout_of page_size (tree_of listing) sequence
+abbrev pub layout_of_listing : (which : Layout) (page_size : ℕ) → List Member → (sequence : ℕ) → List ℕ
+layout_of_listing which page_size listing sequence = layout_of which page_size (tree_of listing) sequence

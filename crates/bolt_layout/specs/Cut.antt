@@ -1,6 +1,8 @@
 -- The cut of a row of items into the runs that share a page: docs/LAYOUT.md, "The cut".
 -- Over items of any kind, by their sizes.
 use Rattle.std.specs.Prelude.{suc, ◌≡◌, ◌≢◌, ◌≤◌, ◌<◌, ◌⊎◌, ◌↔◌, ℕ, ◌+◌, Bool, ◌||◌, ◌&&◌, nat_lt, nat_le, List, [], ◌∷◌, ◌++◌, length, sum_by, flat_map, Some, slice_get, if◌then◌else◌}
+use Rattle.bolt_layout.specs.declared.layout.Layout.{Layout}
+use Rattle.bolt_layout.specs.declared.layout.Layout.TheVariants.{Plain, Balanced}
 
 -- the most items that a page may have
 abbrev pub max_items : ℕ
@@ -39,6 +41,18 @@ cut_from page_size least size run (next ∷ items) =
 abbrev pub cut_of : {X : Type 0} → (page_size least : ℕ) → (X → ℕ) → List X → List (List X)
 cut_of page_size least size [] = []
 cut_of page_size least size (first ∷ items) = cut_from page_size least size (first ∷ []) items
+
+-- A run of one item at the end of a row joins the run before it.
+abbrev pub join_last : {X : Type 0} → List (List X) → List (List X)
+join_last [] = []
+join_last (run ∷ []) = run ∷ []
+join_last (run ∷ next ∷ []) = if nat_lt (length next) 2 then (run ++ next) ∷ [] else run ∷ next ∷ []
+join_last (run ∷ next ∷ more ∷ runs) = run ∷ join_last (next ∷ more ∷ runs)
+
+-- how a row of a bucket's pages is divided into branches: no branch of the balanced layout has a single item, where its row has two
+abbrev pub branch_cut : {X : Type 0} → Layout → (page_size : ℕ) → (X → ℕ) → List X → List (List X)
+branch_cut Plain page_size size items = cut_of page_size 2 size items
+branch_cut Balanced page_size size items = join_last (cut_of page_size 2 size items)
 
 -- there is one cut of each row, and it is this one
 abbrev pub CutIsOne : Type 0 → Type 0

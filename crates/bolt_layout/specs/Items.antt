@@ -6,6 +6,7 @@ use Rattle.bolt_layout.specs.Cut.{max_items, run_size}
 use Rattle.bolt_layout.specs.Laid.{Laid, elements_of, size_of}
 use Rattle.bolt_layout.specs.Levels.{root_over}
 use Rattle.bolt_layout.specs.PageBytes.{inline_value, root_value}
+use Rattle.bolt_layout.specs.declared.layout.Layout.{Layout}
 
 -- a value, or a bucket within its own value, has no pages below it
 abbrev pub leaf_item : (key value : List ℕ) → (is_bucket : Bool) → Laid LeafElement
@@ -39,18 +40,18 @@ abbrev pub is_inline : (page_size : ℕ) → Tree → List (Laid LeafElement) �
 is_inline page_size inside items =
     not (holds_bucket inside) && (nat_le (run_size size_of items) (page_size / 4) && nat_le (length items) max_items)
 
-abbrev pub stored_bucket : (page_size : ℕ) → (key : List ℕ) → (sequence : ℕ) → Tree → List (Laid LeafElement) → Laid LeafElement
-stored_bucket page_size key sequence inside items =
+abbrev pub stored_bucket : (which : Layout) (page_size : ℕ) → (key : List ℕ) → (sequence : ℕ) → Tree → List (Laid LeafElement) → Laid LeafElement
+stored_bucket which page_size key sequence inside items =
     if is_inline page_size inside items then leaf_item key (inline_value sequence (elements_of items 0)) true
-    else bucket_item key sequence (root_over page_size items)
+    else bucket_item key sequence (root_over which page_size items)
 
 -- the entries of a bucket in order, as items
-abbrev pub items_of : (page_size : ℕ) → Tree → List (Laid LeafElement)
-items_of page_size end = []
-items_of page_size (with_value key value after) = leaf_item key value false ∷ items_of page_size after
-items_of page_size (with_bucket key sequence inside after) =
-    stored_bucket page_size key sequence inside (items_of page_size inside) ∷ items_of page_size after
+abbrev pub items_of : (which : Layout) (page_size : ℕ) → Tree → List (Laid LeafElement)
+items_of which page_size end = []
+items_of which page_size (with_value key value after) = leaf_item key value false ∷ items_of which page_size after
+items_of which page_size (with_bucket key sequence inside after) =
+    stored_bucket which page_size key sequence inside (items_of which page_size inside) ∷ items_of which page_size after
 
 -- the root page of the root bucket, which is never inline
-unfoldable pub root_of : (page_size : ℕ) → Tree → Laid BranchElement
-root_of page_size tree = root_over page_size (items_of page_size tree)
+unfoldable pub root_of : (which : Layout) (page_size : ℕ) → Tree → Laid BranchElement
+root_of which page_size tree = root_over which page_size (items_of which page_size tree)

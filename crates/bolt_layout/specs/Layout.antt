@@ -1,38 +1,44 @@
 -- The layout of a tree at a page size: its pages, and its bytes: docs/LAYOUT.md, "Numbers" and "Bytes".
-use Rattle.std.specs.Prelude.{ℕ, ◌+◌, List, [], ◌∷◌, ◌++◌}
+use Rattle.std.specs.Prelude.{◌≡◌, ◌≤◌, ℕ, ◌+◌, List, [], ◌∷◌, ◌++◌, length}
+use Rattle.bolt_format.specs.declared.kind.Kind.TheVariants as kind
 use Rattle.bolt_format.specs.declared.meta.Meta.{Meta}
 use Rattle.bolt_tree.specs.Tree.{Tree}
 use Rattle.bolt_layout.specs.Items.{root_of}
 use Rattle.bolt_layout.specs.Laid.{Placed}
 use Rattle.bolt_layout.specs.PageBytes.{freelist_page, meta_page, page_bytes}
+use Rattle.bolt_layout.specs.declared.layout.Layout.{Layout}
 
 -- the first page behind the metas and the freelist
 abbrev pub first_page : ℕ
 first_page = 3
 
 -- the number of the root page, and the high-water mark behind its span
-abbrev pub layout_root : (page_size : ℕ) → Tree → ℕ
-layout_root page_size tree = ((root_of page_size tree).element first_page).child
+abbrev pub layout_root : (which : Layout) (page_size : ℕ) → Tree → ℕ
+layout_root which page_size tree = ((root_of which page_size tree).element first_page).child
 
-abbrev pub layout_mark : (page_size : ℕ) → Tree → ℕ
-layout_mark page_size tree = first_page + (root_of page_size tree).numbers
+abbrev pub layout_mark : (which : Layout) (page_size : ℕ) → Tree → ℕ
+layout_mark which page_size tree = first_page + (root_of which page_size tree).numbers
 
 -- how many items are held at one time, at the most, while the pages are written in the order of their numbers
-abbrev pub layout_held : (page_size : ℕ) → Tree → ℕ
-layout_held page_size tree = (root_of page_size tree).held
+abbrev pub layout_held : (which : Layout) (page_size : ℕ) → Tree → ℕ
+layout_held which page_size tree = (root_of which page_size tree).held
 
 -- the pages of all buckets, in the order of their numbers
-abbrev pub layout_pages : (page_size : ℕ) → Tree → List Placed
-layout_pages page_size tree = (root_of page_size tree).pages first_page
+abbrev pub layout_pages : (which : Layout) (page_size : ℕ) → Tree → List Placed
+layout_pages which page_size tree = (root_of which page_size tree).pages first_page
+
+-- a page that isn't a branch of fewer than two elements
+abbrev pub HasTwoIfBranch : Placed → Type 0
+HasTwoIfBranch page = page.view.kind ≡ kind.Branch → 2 ≤ length page.view.branches
 
 -- what the meta of this transaction says
-abbrev pub layout_meta : (page_size : ℕ) → Tree → (sequence txid : ℕ) → Meta
-layout_meta page_size tree sequence txid = record {
+abbrev pub layout_meta : (which : Layout) (page_size : ℕ) → Tree → (sequence txid : ℕ) → Meta
+layout_meta which page_size tree sequence txid = record {
   page_size = page_size;
-  root = layout_root page_size tree;
+  root = layout_root which page_size tree;
   root_sequence = sequence;
   freelist = 2;
-  high_water = layout_mark page_size tree;
+  high_water = layout_mark which page_size tree;
   txid = txid;
 }
 
@@ -49,6 +55,6 @@ file_bytes page_size root sequence mark pages =
     ++ placed_bytes page_size pages))
 
 -- the bytes: two metas, a freelist without ids, and the pages
-unfoldable pub layout_of : (page_size : ℕ) → Tree → (sequence : ℕ) → List ℕ
-layout_of page_size tree sequence =
-    file_bytes page_size (layout_root page_size tree) sequence (layout_mark page_size tree) (layout_pages page_size tree)
+unfoldable pub layout_of : (which : Layout) (page_size : ℕ) → Tree → (sequence : ℕ) → List ℕ
+layout_of which page_size tree sequence =
+    file_bytes page_size (layout_root which page_size tree) sequence (layout_mark which page_size tree) (layout_pages which page_size tree)

@@ -3,8 +3,9 @@ use Rattle.std.specs.Prelude.{◌≡◌, ◌≤◌, ℕ, zero, suc, ◌+◌, ◌
 use Rattle.bolt_format.specs.Elements.{BranchElement, LeafElement}
 use Rattle.bolt_format.specs.Pages.{PageView}
 use Rattle.bolt_format.specs.declared.kind.Kind.TheVariants as kind
-use Rattle.bolt_layout.specs.Cut.{cut_of, run_size}
+use Rattle.bolt_layout.specs.Cut.{branch_cut, cut_of, run_size}
 use Rattle.bolt_layout.specs.Laid.{Laid, elements_of, first_key, held_in, numbers_of, pages_of, size_of}
+use Rattle.bolt_layout.specs.declared.layout.Layout.{Layout}
 
 -- the least number of further pages with which a page has room for this many bytes, of which there is one at least
 unfoldable pub overflow_of : (page_size size : ℕ) → ℕ
@@ -40,24 +41,24 @@ abbrev pub leaf_level : (page_size : ℕ) → List (Laid LeafElement) → List (
 leaf_level page_size items = map (page_over leaf_view page_size) (cut_of page_size 1 size_of items)
 
 -- the branch pages over the pages of a level
-abbrev pub next_level : (page_size : ℕ) → List (Laid BranchElement) → List (Laid BranchElement)
-next_level page_size level = map (page_over branch_view page_size) (cut_of page_size 2 size_of level)
+abbrev pub next_level : (which : Layout) (page_size : ℕ) → List (Laid BranchElement) → List (Laid BranchElement)
+next_level which page_size level = map (page_over branch_view page_size) (branch_cut which page_size size_of level)
 
 -- The page at the top over a level: the one of a level that has no other, and else that of the next level. Over no page it is an empty leaf.
 -- It is found in as many steps as the level has pages, as each level has fewer than the one below.
-abbrev pub top_in : (steps page_size : ℕ) → List (Laid BranchElement) → Laid BranchElement
-top_in steps page_size [] = page_over leaf_view page_size []
-top_in steps page_size (page ∷ []) = page
-top_in zero page_size (page ∷ other ∷ level) = page
-top_in (suc steps) page_size (page ∷ other ∷ level) = top_in steps page_size (next_level page_size (page ∷ other ∷ level))
+abbrev pub top_in : (which : Layout) (steps page_size : ℕ) → List (Laid BranchElement) → Laid BranchElement
+top_in which steps page_size [] = page_over leaf_view page_size []
+top_in which steps page_size (page ∷ []) = page
+top_in which zero page_size (page ∷ other ∷ level) = page
+top_in which (suc steps) page_size (page ∷ other ∷ level) = top_in which steps page_size (next_level which page_size (page ∷ other ∷ level))
 
-abbrev pub top_of : (page_size : ℕ) → List (Laid BranchElement) → Laid BranchElement
-top_of page_size level = top_in (length level) page_size level
+abbrev pub top_of : (which : Layout) (page_size : ℕ) → List (Laid BranchElement) → Laid BranchElement
+top_of which page_size level = top_in which (length level) page_size level
 
 -- so while a level has more than one page, the top is that of the next
 abbrev pub TopIsAbove : Type 0
-TopIsAbove = (page_size : ℕ) (level : List (Laid BranchElement)) → 2 ≤ length level → top_of page_size level ≡ top_of page_size (next_level page_size level)
+TopIsAbove = (which : Layout) (page_size : ℕ) (level : List (Laid BranchElement)) → 2 ≤ length level → top_of which page_size level ≡ top_of which page_size (next_level which page_size level)
 
 -- the root page of a bucket with these items
-unfoldable pub root_over : (page_size : ℕ) → List (Laid LeafElement) → Laid BranchElement
-root_over page_size items = top_of page_size (leaf_level page_size items)
+unfoldable pub root_over : (which : Layout) (page_size : ℕ) → List (Laid LeafElement) → Laid BranchElement
+root_over which page_size items = top_of which page_size (leaf_level page_size items)

@@ -1,5 +1,6 @@
 //! What holds of the layout of a tree: docs/LAYOUT.md, "What holds of it".
 ghost use Rattle.std.specs.Prelude.{◌≡◌, ◌≤◌, ◌<◌, ◌*◌, ◌^◌, ℕ, List, length};
+ghost use Rattle.std.specs.List.{AllByRecursion};
 ghost use Rattle.bolt_format.specs.Elements.{BranchElement, LeafElement};
 ghost use Rattle.bolt_format.specs.Bytes.{IsBytes};
 ghost use Rattle.bolt_format.specs.Metas.{IsPageSize};
@@ -12,9 +13,11 @@ ghost use Rattle.bolt_layout.specs.Copies.{IsAsked, IsOfOneTree, IsSoundCopy, Re
 ghost use Rattle.bolt_layout.specs.Cut.{CutIsOne};
 ghost use Rattle.bolt_layout.specs.Laid.{Laid};
 ghost use Rattle.bolt_layout.specs.Held.{most_held};
-ghost use Rattle.bolt_layout.specs.Layout.{layout_held, layout_mark, layout_of, layout_root};
+ghost use Rattle.bolt_layout.specs.Layout.{HasTwoIfBranch, layout_held, layout_mark, layout_of, layout_pages, layout_root};
 ghost use Rattle.bolt_layout.specs.Levels.{IsOverflow, TopIsAbove, overflow_of};
 ghost use Rattle.bolt_layout.specs.Storable.{IsStorable};
+ghost use Rattle.bolt_layout.specs.declared.layout.Layout.{Layout};
+ghost use Rattle.bolt_layout.specs.declared.layout.Layout.TheVariants.{Balanced};
 
 use bolt_check::laws::sound_trees_pass_the_tests;
 use bolt_tree::listing_laws::{
@@ -24,9 +27,9 @@ use bolt_tree::listing_laws::{
 /// The layout of a tree is a sound file, and its listing is that of the tree, where it has fewer
 /// than 2^63 bytes.
 pub fn layout_is_sound()
-    ensures { (page_size : ℕ) (tree : Tree) (sequence : ℕ) → IsAsked page_size tree sequence
-        → length (layout_of page_size tree sequence) < 2 ^ 63
-        → IsSoundCopy page_size tree sequence (listing_of tree) }
+    ensures { (which : Layout) (page_size : ℕ) (tree : Tree) (sequence : ℕ) → IsAsked page_size tree sequence
+        → length (layout_of which page_size tree sequence) < 2 ^ 63
+        → IsSoundCopy which page_size tree sequence (listing_of tree) }
 {
     sound_trees_pass_the_tests();
     a_tree_lists_its_bucket();
@@ -34,30 +37,35 @@ pub fn layout_is_sound()
 
 /// It has as many bytes as its pages.
 pub fn layout_has_length()
-    ensures { (page_size : ℕ) (tree : Tree) (sequence : ℕ) → IsPageSize page_size → IsStorable tree
-        → length (layout_of page_size tree sequence) ≡ layout_mark page_size tree * page_size }
+    ensures { (which : Layout) (page_size : ℕ) (tree : Tree) (sequence : ℕ) → IsPageSize page_size → IsStorable tree
+        → length (layout_of which page_size tree sequence) ≡ layout_mark which page_size tree * page_size }
 {}
 
 /// While its pages are written, no more items are held at one time than four page sizes for each
 /// bucket of a path, if it has fewer than 2^63 bytes.
 pub fn held_is_bounded()
-    ensures { (page_size : ℕ) (tree : Tree) (sequence : ℕ) → IsPageSize page_size → IsStorable tree
-        → length (layout_of page_size tree sequence) < 2 ^ 63
-        → layout_held page_size tree ≤ most_held page_size (listing_of tree) }
+    ensures { (which : Layout) (page_size : ℕ) (tree : Tree) (sequence : ℕ) → IsPageSize page_size → IsStorable tree
+        → length (layout_of which page_size tree sequence) < 2 ^ 63
+        → layout_held which page_size tree ≤ most_held page_size (listing_of tree) }
 {}
 
 /// Nor are more items held than it has bytes.
 pub fn held_is_small()
-    ensures { (page_size : ℕ) (tree : Tree) (sequence : ℕ) → IsPageSize page_size → IsStorable tree
-        → length (layout_of page_size tree sequence) < 2 ^ 63
-        → layout_held page_size tree ≤ length (layout_of page_size tree sequence) }
+    ensures { (which : Layout) (page_size : ℕ) (tree : Tree) (sequence : ℕ) → IsPageSize page_size → IsStorable tree
+        → length (layout_of which page_size tree sequence) < 2 ^ 63
+        → layout_held which page_size tree ≤ length (layout_of which page_size tree sequence) }
+{}
+
+/// In a balanced layout no branch page has fewer than two elements.
+pub fn balanced_branches_have_two()
+    ensures { (page_size : ℕ) (tree : Tree) → AllByRecursion HasTwoIfBranch (layout_pages Balanced page_size tree) }
 {}
 
 /// Where it is cut short anywhere, it is refused.
 pub fn beginnings_are_refused()
-    ensures { (page_size : ℕ) (tree : Tree) (sequence : ℕ) → IsAsked page_size tree sequence
-        → length (layout_of page_size tree sequence) < 2 ^ 63
-        → RefusesBeginnings (layout_of page_size tree sequence) (layout_root page_size tree) }
+    ensures { (which : Layout) (page_size : ℕ) (tree : Tree) (sequence : ℕ) → IsAsked page_size tree sequence
+        → length (layout_of which page_size tree sequence) < 2 ^ 63
+        → RefusesBeginnings (layout_of which page_size tree sequence) (layout_root which page_size tree) }
 {}
 
 /// There is one cut of each row of items.
@@ -95,11 +103,11 @@ pub fn a_files_listing_is_of_one_tree()
 
 /// That layout is a sound file, and has the same listing, where it has fewer than 2^63 bytes.
 pub fn a_copy_lists_the_same()
-    ensures { (file : List ℕ) (meta : Meta) (listing : List Member) (page_size : ℕ)
+    ensures { (which : Layout) (file : List ℕ) (meta : Meta) (listing : List Member) (page_size : ℕ)
         → IsBytes file → HasSoundTrees file meta → IsListing file meta listing
         → IsPageSize page_size → meta.root_sequence < 2 ^ 64
-        → length (layout_of_listing page_size listing meta.root_sequence) < 2 ^ 63
-        → IsSoundCopy page_size (tree_of listing) meta.root_sequence listing }
+        → length (layout_of_listing which page_size listing meta.root_sequence) < 2 ^ 63
+        → IsSoundCopy which page_size (tree_of listing) meta.root_sequence listing }
 {
     layout_is_sound();
     a_files_listing_is_of_one_tree();

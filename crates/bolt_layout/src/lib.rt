@@ -4,3 +4,6 @@
 #![tactic(auto)]
 
 pub mod laws;
+mod layout;
+
+pub use layout::Layout;

@@ -6,10 +6,11 @@ use Rattle.bolt_layout.specs.Items.{bucket_item, items_of}
 use Rattle.bolt_layout.specs.Laid.{Laid, first_key, size_of}
 use Rattle.bolt_layout.specs.Levels.{branch_view, leaf_view, page_over, top_of}
 use Rattle.bolt_bulk.specs.Private.OpenRuns.{Frame, Open, coming_key, has_room, key_size, pushing}
+use Rattle.bolt_layout.specs.declared.layout.Layout.TheVariants.{Plain}
 
 -- What comes of open upper runs and the pages that are still to come from below.
 abbrev pub finish : ℕ → List (List (Laid BranchElement)) → List (Laid BranchElement) → Laid BranchElement
-finish page_size [] pages = top_of page_size pages
+finish page_size [] pages = top_of Plain page_size pages
 finish page_size (run ∷ uppers) pages = finish page_size uppers (map (page_over branch_view page_size) (cut_from page_size 2 size_of run pages))
 
 -- and of an open bucket with the items that are still to come
@@ -41,7 +42,7 @@ held_item frame root = bucket_item frame.key frame.sequence root
 -- this comes of the innermost bucket; then that comes of all
 abbrev pub IsStack : ℕ → List Frame → Laid BranchElement → Laid BranchElement → Type 0
 IsStack page_size [] root whole = root ≡ whole
-IsStack page_size (frame ∷ frames) root whole = (outer : Laid BranchElement) × IsOpen page_size (pushing frame.state (held_item frame root)) (items_of page_size frame.after) outer
+IsStack page_size (frame ∷ frames) root whole = (outer : Laid BranchElement) × IsOpen page_size (pushing frame.state (held_item frame root)) (items_of Plain page_size frame.after) outer
     × HasBegun (pushing frame.state (held_item frame root)) × IsStack page_size frames outer whole
 
 pub record IsPass (page_size : ℕ) (frames : List Frame) (state : Open) (items : List (Laid LeafElement)) (whole : Laid BranchElement) : Type 0 where

@@ -6,16 +6,16 @@ returns-clause-tree c = one_tree c.args.checked.now (rw c.bytes.ensures at c.are
 
 pub returns-clause-length : goal.returns-clause-length
 returns-clause-length c =
-    has_length c.args.checked.now (rw c.bytes.ensures at c.are_bytes.ensures) c.a_files_listing_is_of_one_tree.ensures c.layout_has_length.ensures c.args.page_size c.requires
+    λ which. has_length c.args.checked.now (rw c.bytes.ensures at c.are_bytes.ensures) c.a_files_listing_is_of_one_tree.ensures c.layout_has_length.ensures which c.args.page_size c.requires
 
 pub returns-clause-accepted : goal.returns-clause-accepted
 returns-clause-accepted c =
-    accepted c.args.checked.now (rw c.bytes.ensures at c.are_bytes.ensures) c.a_copy_lists_the_same.ensures c.args.page_size c.requires (rw c.meta.ensures at c.fits.ensures)
+    λ which. accepted c.args.checked.now (rw c.bytes.ensures at c.are_bytes.ensures) c.a_copy_lists_the_same.ensures which c.args.page_size c.requires (rw c.meta.ensures at c.fits.ensures)
 
 pub returns-clause-beginnings : goal.returns-clause-beginnings
 returns-clause-beginnings c =
-    refused c.args.checked.now (rw c.bytes.ensures at c.are_bytes.ensures) c.a_files_listing_is_of_one_tree.ensures c.beginnings_are_refused.ensures c.args.page_size c.requires (rw c.meta.ensures at c.fits.ensures)
+    λ which. refused c.args.checked.now (rw c.bytes.ensures at c.are_bytes.ensures) c.a_files_listing_is_of_one_tree.ensures c.beginnings_are_refused.ensures which c.args.page_size c.requires (rw c.meta.ensures at c.fits.ensures)
 
 pub returns-clause-held : goal.returns-clause-held
 returns-clause-held c =
-    holds_few c.args.checked.now (rw c.bytes.ensures at c.are_bytes.ensures) c.a_files_listing_is_of_one_tree.ensures c.held_is_small.ensures c.args.page_size c.requires
+    λ which. holds_few c.args.checked.now (rw c.bytes.ensures at c.are_bytes.ensures) c.a_files_listing_is_of_one_tree.ensures c.held_is_small.ensures which c.args.page_size c.requires
