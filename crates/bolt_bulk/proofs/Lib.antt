@@ -14,6 +14,7 @@ mod HeldRuns
 mod HeldSteps
 mod LeafPuts
 mod Members
+mod NoLimits
 mod Ontos
 mod OpenRowLemmas
 mod OpenRunLemmas

@@ -36,6 +36,9 @@ use Rattle.bolt_bulk.proofs.Frames.{waiting}
 use Rattle.bolt_bulk.proofs.HeldPasses.{around_reverse}
 use Rattle.bolt_bulk.proofs.HeldSteps.{around_length, enters_held, items_length, leaves_held, takes_held}
 use Rattle.bolt_bulk.proofs.Ontos.{IsValue, onto_items, onto_push, value_items, values_held}
+use Rattle.bolt_bulk.specs.Private.Coming.{leaves_coming}
+use Rattle.bolt_bulk.specs.Private.RowLimits.{limit_in}
+use Rattle.bolt_bulk.proofs.NoLimits.{no_limits}
 use Rattle.bolt_bulk.proofs.PassSteps.{IsOn, inline_item, on_before, on_enters, on_leaves, on_numbers, on_takes, open_values, pass_takes_all, root_item, values_put, values_rows}
 use Rattle.bolt_bulk.proofs.PutBefore.{bytes-append}
 use Rattle.bolt_bulk.proofs.PutsLemmas.{puts_then}
@@ -121,28 +124,28 @@ module _ {S : Type 0} (tree : Tree) (taken : S → Option (List ℕ)) (failed : 
 
 -- with nothing that may be inline
 pub on_of : (tree : Tree) (pass : Pass) (levels : List Level) (left : Tree) (put : List Placed) (is : IsAt tree pass levels left put) → pass.pending ≡ None
-    → (levels ≡ map level_of is.frames) × IsOn pass.bounds.page_size tree is.frames is.state (items_of Plain pass.bounds.page_size left) (rows_of pass.bucket pass.next) put
+    → (levels ≡ map level_of is.frames) × IsOn Plain pass.bounds.page_size tree is.frames is.state (items_of Plain pass.bounds.page_size left) (rows_of pass.bucket pass.next) put
 on_of tree pass levels left put is none =
     let (same, rest) = subst (λ (p : Option Pending). IsPending p pass.entries.items (map level_of is.frames) is.rest levels left) none is.pends in
-    let under = subst (λ (t : Tree). IsPass pass.bounds.page_size is.frames is.state (items_of Plain pass.bounds.page_size t) (root_of Plain pass.bounds.page_size tree)) rest is.under in
+    let under = subst (λ (t : Tree). IsPass Plain pass.bounds.page_size is.frames is.state (items_of Plain pass.bounds.page_size t) (root_of Plain pass.bounds.page_size tree)) rest is.under in
     (same, record { under = under; rows_are = is.rows; put_is = is.put_is })
 
 -- with a bucket that may be inline
 abbrev pub HasPending : (tree : Tree) (pass : Pass) (levels : List Level) (left : Tree) (put : List Placed) (is : IsAt tree pass levels left put) → Pending → Type 0
 HasPending tree pass levels left put is p = (after : Tree)
     × (levels ≡ record { key = p.key.now; after = after } ∷ map level_of is.frames)
-    × IsOn pass.bounds.page_size tree is.frames is.state (items_of Plain pass.bounds.page_size (with_bucket p.key.now p.sequence (onto (map leaf_view pass.entries.items) left) after)) (rows_of pass.bucket pass.next) put
+    × IsOn Plain pass.bounds.page_size tree is.frames is.state (items_of Plain pass.bounds.page_size (with_bucket p.key.now p.sequence (onto (map leaf_view pass.entries.items) left) after)) (rows_of pass.bucket pass.next) put
 
 pending_of : (tree : Tree) (pass : Pass) (levels : List Level) (left : Tree) (put : List Placed) (p : Pending) (is : IsAt tree pass levels left put) → pass.pending ≡ Some p → HasPending tree pass levels left put is p
 pending_of tree pass levels left put p is some =
     let (after, same, rest) = subst (λ (q : Option Pending). IsPending q pass.entries.items (map level_of is.frames) is.rest levels left) some is.pends in
-    let under = subst (λ (t : Tree). IsPass pass.bounds.page_size is.frames is.state (items_of Plain pass.bounds.page_size t) (root_of Plain pass.bounds.page_size tree)) rest is.under in
+    let under = subst (λ (t : Tree). IsPass Plain pass.bounds.page_size is.frames is.state (items_of Plain pass.bounds.page_size t) (root_of Plain pass.bounds.page_size tree)) rest is.under in
     (after, same, record { under = under; rows_are = is.rows; put_is = is.put_is })
 
 -- what was put stands before the rest, at any time
 pub at_before : (tree : Tree) (pass : Pass) (levels : List Level) (left : Tree) (put : List Placed) → IsAt tree pass levels left put → StandsBefore put (layout_pages Plain pass.bounds.page_size tree)
 at_before tree pass levels left put is =
-    on_before pass.bounds.page_size tree is.frames is.state (items_of Plain pass.bounds.page_size is.rest) (rows_of pass.bucket pass.next) put (record { under = is.under; rows_are = is.rows; put_is = is.put_is })
+    on_before Plain pass.bounds.page_size tree is.frames is.state (items_of Plain pass.bounds.page_size is.rest) (rows_of pass.bucket pass.next) put (record { under = is.under; rows_are = is.rows; put_is = is.put_is })
 
 -- a step that puts nothing
 pub steps_none : {S A : Type 0} {taken : S → Option (List ℕ)} {failed : S → ℕ} (tree : Tree) (pass : Pass) (levels : List Level) (left : Tree) (put : List Placed) (old : S) (At : List Placed → Type 0) (result : Result A BulkFault)
@@ -202,8 +205,8 @@ module _ {S : Type 0} (taken : S → Option (List ℕ)) (failed : S → ℕ) (tr
   value_steps levels key value after old new bucket next counted result is none puts rows large counts =
       let (same, on) = on_of tree pass levels (with_value key value after) put is none in
       let made : Open = taking P is.state (leaf_item key value false) in
-      let then = on_takes P tree is.frames is.state key value false (items_of Plain P after) rows_now put on in
-      let few = on_numbers P tree is.frames made _ _ _ then in
+      let then = on_takes Plain P tree is.frames is.state key value false (items_of Plain P after) rows_now put on in
+      let few = on_numbers Plain P tree is.frames made _ _ _ then in
       record {
         more = rows_room_put P rows_now key (16 + (length key + length value));
         puts = puts;
@@ -221,7 +224,7 @@ module _ {S : Type 0} (taken : S → Option (List ℕ)) (failed : S → ℕ) (tr
               held = takes_held P is.frames is.state (leaf_item key value false) pass.most counted.most refl is.held (k.most ∙ ap (λ (n : ℕ). max pass.most (capped n)) count);
               pends = subst (λ (p : Option Pending). IsPending p pass.entries.items (map level_of is.frames) after levels after) (sym none) (same, refl);
             }));
-        before = on_before P tree is.frames made _ _ _ then;
+        before = on_before Plain P tree is.frames made _ _ _ then;
         large = if_err_map result large (λ e l h. let m = l h in omega (arith, m, few));
       }
 
@@ -242,13 +245,13 @@ module _ {S : Type 0} (taken : S → Option (List ℕ)) (failed : S → ℕ) (tr
       let count = length-map pass.entries.items leaf_view in
       let sizes = small.sized in
       let fits = small.small in
-      let item = inline_item P p.key.now p.sequence shown values (omega arith) (omega arith) in
-      let on2 = subst (λ (i : Laid LeafElement). IsOn P tree is.frames is.state (i ∷ items_of Plain P after) rows_now put) item on in
-      let then0 = on_takes P tree is.frames is.state p.key.now value true (items_of Plain P after) rows_now put on2 in
+      let item = inline_item Plain P p.key.now p.sequence shown values (omega arith) (omega arith) in
+      let on2 = subst (λ (i : Laid LeafElement). IsOn Plain P tree is.frames is.state (i ∷ items_of Plain P after) rows_now put) item on in
+      let then0 = on_takes Plain P tree is.frames is.state p.key.now value true (items_of Plain P after) rows_now put on2 in
       let made : Open = taking P is.state (leaf_item p.key.now value true) in
-      let Then : ℕ → Type 0 = λ n. IsOn P tree is.frames made (items_of Plain P after) (rows_taking P rows_now (inline_element p.key.now p.sequence shown) (16 + (length p.key.now + n))) (put ++ rows_room_put P rows_now p.key.now (16 + (length p.key.now + n))) in
+      let Then : ℕ → Type 0 = λ n. IsOn Plain P tree is.frames made (items_of Plain P after) (rows_taking P rows_now (inline_element p.key.now p.sequence shown) (16 + (length p.key.now + n))) (put ++ rows_room_put P rows_now p.key.now (16 + (length p.key.now + n))) in
       let then : Then size = subst Then (sym sized) then0 in
-      let numbers = on_numbers P tree is.frames made _ _ _ then in
+      let numbers = on_numbers Plain P tree is.frames made _ _ _ then in
       let first : level ≡ record { key = p.key.now; after = after } = cc in
       let others : levels ≡ map level_of is.frames = cc in
       let behind : after ≡ level.after = ap (λ (l : Level). l.after) (sym first) in
@@ -269,14 +272,14 @@ module _ {S : Type 0} (taken : S → Option (List ℕ)) (failed : S → ℕ) (tr
               held = takes_held P is.frames is.state (leaf_item p.key.now value true) pass.most counted.most refl is.held (k.most ∙ ap (λ (n : ℕ). max pass.most (capped n)) count);
               pends = (others, behind);
             }));
-        before = on_before P tree is.frames made _ _ _ then;
+        before = on_before Plain P tree is.frames made _ _ _ then;
         large = if_err_map result large (λ e l h. let m = l h in omega (arith, m, numbers));
       }
 
   -- ---- a bucket that has a root page is opened, and the one around it waits
 
   abbrev opened_rows : Pending → ℕ → OpenRows
-  opened_rows p next = record { leaves = record { elements = map leaf_view pass.entries.items; size = p.size }; uppers = []; next = next }
+  opened_rows p next = record { leaves = record { elements = map leaf_view pass.entries.items; size = p.size }; uppers = []; limits = limit_in []; next = next }
 
   -- where it stands then
   abbrev room_for : Pending → OpenRows
@@ -291,10 +294,10 @@ module _ {S : Type 0} (taken : S → Option (List ℕ)) (failed : S → ℕ) (tr
     outer : IsOpenRows (room_for p) (making_room P is.state p.key.now (32 + length p.key.now)) (base_in is.frames)
     base : (room_for p).next ≡ base_in (frame_of p left after is.state ∷ is.frames)
     values : AllByRecursion IsValue (map leaf_view pass.entries.items)
-    on : IsOn P tree (frame_of p left after is.state ∷ is.frames) (open_values (value_items (map leaf_view pass.entries.items))) (items_of Plain P left) (opened_rows p (room_for p).next)
+    on : IsOn Plain P tree (frame_of p left after is.state ∷ is.frames) (open_values (limit_in []) (value_items (map leaf_view pass.entries.items))) (items_of Plain P left) (opened_rows p (room_for p).next)
         (put ++ rows_room_put P rows_now p.key.now (32 + length p.key.now))
 
-  has_opened : (levels : List Level) (left : Tree) (p : Pending) (is : IsAt tree pass levels left put) → pass.pending ≡ Some p → IsSmall P p pass.entries.items → HasRoot P (onto (map leaf_view pass.entries.items) left)
+  has_opened : (levels : List Level) (left : Tree) (p : Pending) (is : IsAt tree pass levels left put) → pass.pending ≡ Some p → IsSmall P p pass.entries.items → HasRoot Plain P (onto (map leaf_view pass.entries.items) left)
       → HasOpened levels left p is
   has_opened levels left p is some small rooted =
       let (after, same, on) = pending_of tree pass levels left put p is some in
@@ -305,12 +308,12 @@ module _ {S : Type 0} (taken : S → Option (List ℕ)) (failed : S → ℕ) (tr
       let sizes = small.sized in
       let fits = small.small in
       let inner : List (Laid LeafElement) = items_of Plain P (onto shown left) in
-      let item = root_item P p.key.now p.sequence (onto shown left) rooted in
-      let on2 = subst (λ (i : Laid LeafElement). IsOn P tree is.frames is.state (i ∷ items_of Plain P after) rows_now put) item on in
-      let (entered, made, placed) = on_enters P tree is.frames is.state p.key.now p.sequence inner after rows_now put on2 in
+      let item = root_item Plain P p.key.now p.sequence (onto shown left) rooted in
+      let on2 = subst (λ (i : Laid LeafElement). IsOn Plain P tree is.frames is.state (i ∷ items_of Plain P after) rows_now put) item on in
+      let (entered, made, placed) = on_enters Plain P tree (limit_in []) is.frames is.state p.key.now p.sequence inner after rows_now put (no_limits P (leaves_coming P [] inner)) on2 in
       let frames : List Frame = frame_of p left after is.state ∷ is.frames in
-      let begun = subst (λ (items : List (Laid LeafElement)). IsPass P frames (open_values []) items (root_of Plain P tree)) (onto_items P shown left) entered in
-      let under = pass_takes_all P frames [] shown (items_of Plain P left) (root_of Plain P tree) (omega arith) (omega arith) begun in
+      let begun = subst (λ (items : List (Laid LeafElement)). IsPass Plain P frames (open_values (limit_in []) []) items (root_of Plain P tree)) (onto_items Plain P shown left) entered in
+      let under = pass_takes_all Plain P (limit_in []) frames [] shown (items_of Plain P left) (root_of Plain P tree) (omega arith) (omega arith) begun in
       let room_is : 32 + length p.key.now ≡ 16 + (length p.key.now + 16) = omega arith in
       let base : (room_for p).next ≡ base_in frames = made.next_is ∙ ap (λ (n : ℕ). next_number (making_room P is.state p.key.now n) (base_in is.frames)) room_is in
       record {
@@ -319,29 +322,29 @@ module _ {S : Type 0} (taken : S → Option (List ℕ)) (failed : S → ℕ) (tr
         outer = made;
         base = base;
         values = values;
-        on = record { under = under; rows_are = values_rows shown p.size (base_in frames) (room_for p).next values sizes base; put_is = placed ∙ values_put frames shown };
+        on = record { under = under; rows_are = values_rows (limit_in []) shown p.size (base_in frames) (room_for p).next values sizes base; put_is = placed ∙ values_put (limit_in []) frames shown };
       }
 
   -- a fault on the way
   pub open_stops : {A : Type 0} (levels : List Level) (left : Tree) (p : Pending) (old new : S) (At : List Placed → Type 0) (e : BulkFault)
-      → IsAt tree pass levels left put → pass.pending ≡ Some p → IsSmall P p pass.entries.items → HasRoot P (onto (map leaf_view pass.entries.items) left)
+      → IsAt tree pass levels left put → pass.pending ≡ Some p → IsSmall P p pass.entries.items → HasRoot Plain P (onto (map leaf_view pass.entries.items) left)
       → Puts {A = A} taken failed old new (placed_bytes P (rows_room_put P rows_now p.key.now (32 + length p.key.now))) (Err e)
       → (e ≡ fault.TooLarge → pass.bounds.limit < (room_for p).next)
       → Steps {A = A} tree taken failed old new pass.bounds put At (Err e)
   open_stops levels left p old new At e is some small rooted puts large =
       let then = has_opened levels left p is some small rooted in
-      let numbers = on_numbers P tree _ _ _ _ _ then.on in
+      let numbers = on_numbers Plain P tree _ _ _ _ _ then.on in
       record {
         more = rows_room_put P rows_now p.key.now (32 + length p.key.now);
         puts = puts;
         at = tt;
-        before = on_before P tree _ _ _ _ _ then.on;
+        before = on_before Plain P tree _ _ _ _ _ then.on;
         large = λ h. let m = large h in omega (arith, m, numbers);
       }
 
   -- all went well
   pub open_steps : (levels : List Level) (left : Tree) (p : Pending) (old new : S) (bucket : OpenBucket) (w : Waiting) (around : Vec Waiting Global) (entries : Vec Leaf Global) (next held : ℕ) (counted : Pass)
-      → IsAt tree pass levels left put → pass.pending ≡ Some p → IsSmall P p pass.entries.items → HasRoot P (onto (map leaf_view pass.entries.items) left)
+      → IsAt tree pass levels left put → pass.pending ≡ Some p → IsSmall P p pass.entries.items → HasRoot Plain P (onto (map leaf_view pass.entries.items) left)
       → Puts {A = ⊤} taken failed old new (placed_bytes P (rows_room_put P rows_now p.key.now (32 + length p.key.now))) (Ok tt)
       → around.items ≡ pass.waiting.items ++ w ∷ [] → rows_of w.bucket next ≡ room_for p → w.key.now ≡ p.key.now → w.sequence ≡ p.sequence → rows_of bucket next ≡ opened_rows p next
       → Counts (record { alloc = pass.alloc; bounds = pass.bounds; waiting = around; bucket = bucket; pending = None; entries = entries; next = next; around = held; most = pass.most }) counted
@@ -350,12 +353,12 @@ module _ {S : Type 0} (taken : S → Option (List ℕ)) (failed : S → ℕ) (tr
       let then = has_opened levels left p is some small rooted in
       let frame : Frame = frame_of p left then.after is.state in
       let frames : List Frame = frame ∷ is.frames in
-      let state : Open = open_values (value_items (map leaf_view pass.entries.items)) in
+      let state : Open = open_values (limit_in []) (value_items (map leaf_view pass.entries.items)) in
       let next_is : next ≡ (room_for p).next = ap (λ (r : OpenRows). r.next) rows in
       let room_is : 32 + length p.key.now ≡ 16 + (length p.key.now + 16) = omega arith in
       let values : List (Laid LeafElement) = value_items (map leaf_view pass.entries.items) in
       let here : IsOpenRows (rows_of bucket next) state (base_in frames) = subst (λ (r : OpenRows). IsOpenRows r state (base_in frames)) (sym values_are)
-      (values_rows (map leaf_view pass.entries.items) p.size (base_in frames) next then.values small.sized (next_is ∙ then.base)) in
+      (values_rows (limit_in []) (map leaf_view pass.entries.items) p.size (base_in frames) next then.values small.sized (next_is ∙ then.base)) in
       let waits : AreWaiting (reverse around.items) frames = subst (λ (ws : List Waiting). AreWaiting ws frames) (sym (ap reverse items ∙ reverse-append pass.waiting.items (w ∷ []))) (
         subst (λ (n : ℕ). IsOpenRows (rows_of w.bucket n) frame.state (base_in is.frames)) (next_is ∙ then.base)
             (subst (λ (n : ℕ). IsOpenRows (rows_of w.bucket next) (making_room P is.state p.key.now n) (base_in is.frames)) room_is
@@ -376,11 +379,11 @@ module _ {S : Type 0} (taken : S → Option (List ℕ)) (failed : S → ℕ) (tr
           rows = here;
           waits = waits;
           put_is = then.on.put_is;
-          held = enters_held P frame is.frames is.state p.key.now (16 + (length p.key.now + 16)) values pass.most counted.most refl (values_held (map leaf_view pass.entries.items)) is.held
+          held = enters_held P (limit_in []) frame is.frames is.state p.key.now (16 + (length p.key.now + 16)) values pass.most counted.most refl (values_held (map leaf_view pass.entries.items)) is.held
               (k.most ∙ ap (λ (n : ℕ). max pass.most (capped n)) count);
           pends = (then.same, refl);
         });
-        before = on_before P tree _ _ _ _ _ then.on;
+        before = on_before Plain P tree _ _ _ _ _ then.on;
         large = tt;
       }
 
@@ -398,11 +401,11 @@ module _ {S : Type 0} (taken : S → Option (List ℕ)) (failed : S → ℕ) (tr
       let ws : reverse pass.waiting.items ≡ w ∷ reverse around.items = ap reverse popped ∙ reverse-append around.items (w ∷ []) in
       let waits = subst (λ (fs : List Frame). AreWaiting (reverse pass.waiting.items) fs) more_frames is.waits in
       let (outer, key, sequence, others) = subst (λ (l : List Waiting). AreWaiting l (frame ∷ frames)) ws waits in
-      let on2 = subst (λ (fs : List Frame). IsOn P tree fs is.state [] rows_now put) more_frames on in
+      let on2 = subst (λ (fs : List Frame). IsOn Plain P tree fs is.state [] rows_now put) more_frames on in
       let made : Open = pushing frame.state (held_item frame (end_of P is.state)) in
       let base : ℕ = base_in (frame ∷ frames) in
-      let then = on_leaves P tree frame frames is.state rows_now (rows_of w.bucket base) put on2 outer refl in
-      let numbers = on_numbers P tree frames made _ _ _ then in
+      let then = on_leaves Plain P tree frame frames is.state rows_now (rows_of w.bucket base) put on2 outer refl in
+      let numbers = on_numbers Plain P tree frames made _ _ _ then in
       let size : 32 + length w.key.now ≡ 16 + (length frame.key + 16) = (let n = ap (λ (k : List ℕ). length k) key in omega arith) in
       let Row : List ℕ → ℕ → ℕ → OpenRows = λ k s n. rows_push (rows_of w.bucket base) (root_element k (rows_end P rows_now) s) n (bucket_end_next P rows_now) in
       let row_is : Row w.key.now w.sequence (32 + length w.key.now) ≡ Row frame.key frame.sequence (16 + (length frame.key + 16)) =
@@ -422,10 +425,10 @@ module _ {S : Type 0} (taken : S → Option (List ℕ)) (failed : S → ℕ) (tr
               rows = here;
               waits = others;
               put_is = then.put_is;
-              held = leaves_held P frame frames is.state pass.most counted.most is.under.begun.whole so_far (k.most ∙ ap (λ (n : ℕ). max pass.most (capped n)) count);
+              held = leaves_held P frame frames is.state pass.most counted.most is.under.begun so_far (k.most ∙ ap (λ (n : ℕ). max pass.most (capped n)) count);
               pends = subst (λ (p : Option Pending). IsPending p pass.entries.items (map level_of frames) frame.after levels level.after) (sym none) top;
             }));
-        before = on_before P tree frames made _ _ _ then;
+        before = on_before Plain P tree frames made _ _ _ then;
         large = if_err_map result large (λ e l h. let m = l h in omega (arith, m, numbers));
       }
 

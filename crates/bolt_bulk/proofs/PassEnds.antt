@@ -19,6 +19,10 @@ use Rattle.bolt_bulk.specs.Private.HeldCounts.{capped}
 use Rattle.bolt_bulk.specs.Private.HeldSoFar.{held_so_far}
 use Rattle.bolt_bulk.specs.Private.OpenBuckets.{bucket_end_next, rows_of}
 use Rattle.bolt_bulk.specs.Private.OpenRows.{IsOpenRows}
+use Rattle.bolt_bulk.specs.Private.Coming.{leaves_coming}
+use Rattle.bolt_bulk.specs.Private.RowLimits.{limit_in}
+use Rattle.bolt_bulk.proofs.NoLimits.{no_limits}
+use Rattle.bolt_layout.specs.Items.{items_of}
 use Rattle.bolt_bulk.specs.Private.OpenRuns.{Frame, Open, all_put, end_of, nothing_open}
 use Rattle.bolt_bulk.specs.Private.Passes.{HasLeft, IsAt, Steps, depth_of, level_of, pending_depth}
 use Rattle.bolt_bulk.specs.Private.Rows.{OpenRows, no_leaves, rows_end, rows_end_put}
@@ -110,16 +114,16 @@ members_fit path (with_bucket key sequence inside after) (key_fits, sequence_fit
 
 -- ---- the beginning
 
-pub has_begun : (tree : Tree) (pass : Pass) → pass.waiting.items ≡ [] → pass.pending ≡ None → rows_of pass.bucket pass.next ≡ record { leaves = no_leaves; uppers = []; next = first_page } → pass.most ≡ 0 → HasLeft tree pass (listing_of tree) []
+pub has_begun : (tree : Tree) (pass : Pass) → pass.waiting.items ≡ [] → pass.pending ≡ None → rows_of pass.bucket pass.next ≡ record { leaves = no_leaves; uppers = []; limits = limit_in []; next = first_page } → pass.most ≡ 0 → HasLeft tree pass (listing_of tree) []
 has_begun tree pass none nothing rows fresh = record {
   levels = [];
   left = tree;
   at = record {
     frames = [];
-    state = nothing_open;
+    state = nothing_open (limit_in []);
     rest = tree;
-    under = pass_begins pass.bounds.page_size tree;
-    rows = subst (λ (r : OpenRows). IsOpenRows r nothing_open first_page) (sym rows) (nothing_rows first_page);
+    under = pass_begins Plain pass.bounds.page_size (limit_in []) tree (no_limits pass.bounds.page_size (leaves_coming pass.bounds.page_size [] (items_of Plain pass.bounds.page_size tree)));
+    rows = subst (λ (r : OpenRows). IsOpenRows r (nothing_open (limit_in [])) first_page) (sym rows) (nothing_rows (limit_in []) first_page);
     waits = rw none tt;
     put_is = refl;
     held = omega arith;
@@ -151,16 +155,16 @@ pub record HasEnd (tree : Tree) (pass : Pass) (put : List Placed) : Type 0 where
   pub mark : bucket_end_next pass.bounds.page_size (rows_of pass.bucket pass.next) ≡ layout_mark Plain pass.bounds.page_size tree
   pub held : pass.most ≡ capped (layout_held Plain pass.bounds.page_size tree)
 
-root_ended : (page_size : ℕ) (tree : Tree) (state : Open) (rows : OpenRows) (put : List Placed) → IsOn page_size tree [] state [] rows put
+root_ended : (page_size : ℕ) (tree : Tree) (state : Open) (rows : OpenRows) (put : List Placed) → IsOn Plain page_size tree [] state [] rows put
     → (layout_pages Plain page_size tree ≡ put ++ rows_end_put page_size rows) × (rows_end page_size rows ≡ layout_root Plain page_size tree) × (bucket_end_next page_size rows ≡ layout_mark Plain page_size tree)
     × (held_so_far [] state ≡ layout_held Plain page_size tree)
 root_ended page_size tree state rows put on =
     let ended = rows_ended page_size rows state first_page on.rows_are in
-    let whole : end_of page_size state ≡ root_of Plain page_size tree = ends page_size state on.under.root on.under.current ∙ on.under.stack in (
-      sym (pass_ends page_size tree state on.under) ∙ (ap (λ (ps : List Placed). all_put [] state ++ ps) (sym ended.0) ∙ ap (λ (ps : List Placed). ps ++ rows_end_put page_size rows) (sym on.put_is)),
+    let whole : end_of page_size state ≡ root_of Plain page_size tree = ends Plain page_size state on.under.root on.under.current ∙ on.under.stack in (
+      sym (pass_ends Plain page_size tree state on.under) ∙ (ap (λ (ps : List Placed). all_put [] state ++ ps) (sym ended.0) ∙ ap (λ (ps : List Placed). ps ++ rows_end_put page_size rows) (sym on.put_is)),
       ended.1 ∙ ap (λ (r : Laid BranchElement). (r.element first_page).child) whole,
       end_numbered page_size rows state first_page on.rows_are ∙ ap (λ (r : Laid BranchElement). first_page + r.numbers) whole,
-      sym (end_held page_size state on.under.begun.whole) ∙ ap (λ (r : Laid BranchElement). r.held) whole,
+      sym (end_held page_size state on.under.begun) ∙ ap (λ (r : Laid BranchElement). r.held) whole,
     )
 
 pub has_end : (tree : Tree) (pass : Pass) (put : List Placed) → HasLeft tree pass [] put → depth_of pass ≤ 1 → HasEnd tree pass put
@@ -171,7 +175,7 @@ has_end tree pass put has shallow =
     let at = subst (λ (t : Tree). IsAt tree pass [] t put) left (subst (λ (ls : List Level). IsAt tree pass ls has.left put) none has.at) in
     let (same, on) = on_of tree pass [] end put at (no_pending pass shallow) in
     let frames = no_frames at.frames same in
-    let on2 = subst (λ (fs : List Frame). IsOn pass.bounds.page_size tree fs at.state [] (rows_of pass.bucket pass.next) put) frames on in
+    let on2 = subst (λ (fs : List Frame). IsOn Plain pass.bounds.page_size tree fs at.state [] (rows_of pass.bucket pass.next) put) frames on in
     let (pages, root, mark, held) = root_ended pass.bounds.page_size tree at.state (rows_of pass.bucket pass.next) put on2 in
     record { pages = pages; root = root; mark = mark; held = at.held ∙ ap capped (ap (λ (fs : List Frame). held_so_far fs at.state) frames ∙ held) }
 

@@ -54,6 +54,7 @@ pub(crate) struct Pass<'a> {
 impl<'a> Pass<'a> {
     ghost use Rattle.bolt_tree.specs.Tree.{Tree, end, listing_of, with_bucket, with_value};
     ghost use Rattle.bolt_layout.specs.Laid.{Placed};
+    ghost use Rattle.bolt_layout.specs.declared.layout.Layout.TheVariants.{Plain};
     ghost use Rattle.bolt_bulk.specs.Private.Levels.{Level};
     ghost use Rattle.bolt_format.specs.ElementPlaces.{leaf_view};
     ghost use Rattle.bolt_bulk.specs.Private.Passes.{HasLeft, HasRoot, IsAt, IsNoDeeper, IsReady, Steps, depth_of, onto};
@@ -73,7 +74,7 @@ impl<'a> Pass<'a> {
             alloc,
             bounds,
             waiting: Vec::new(alloc),
-            bucket: OpenBucket::new(alloc),
+            bucket: OpenBucket::new(alloc, &[]),
             pending: None,
             entries: Vec::new(alloc),
             next: 3,
@@ -244,10 +245,10 @@ impl<'a> Pass<'a> {
         ensures depth { OnOk result (depth_of self.new ≡ depth_of self.old) }
         ensures pending { OnOk result (self.new.pending ≡ None) }
         ensures steps { (tree left : Tree) (levels : List Level) (put : List Placed) → IsAt tree self.old levels left put
-            → HasRoot self.old.bounds.page_size (onto (map leaf_view self.old.entries.items) left)
+            → HasRoot Plain self.old.bounds.page_size (onto (map leaf_view self.old.entries.items) left)
             → Steps tree S.taken S.failed sink.old sink.new self.old.bounds put (IsAt tree self.new levels left) result }
     {
-        let inner = OpenBucket::of_values(self.alloc, self.entries.as_slice(), pending.size);
+        let inner = OpenBucket::of_values(self.alloc, self.entries.as_slice(), pending.size, &[]);
         let inner = match inner {
             Err(fault) => return Err(fault),
             Ok(inner) => inner,
@@ -340,7 +341,7 @@ impl<'a> Pass<'a> {
             unreachable!()
         };
         let around = waiting.around;
-        let inner = mem::replace(&mut self.bucket, OpenBucket::new(self.alloc));
+        let inner = mem::replace(&mut self.bucket, OpenBucket::new(self.alloc, &[]));
         match leave(&self.bounds, inner, waiting, &mut self.next, sink) {
             Err(fault) => Err(fault),
             Ok(outer) => {

@@ -25,6 +25,7 @@ use Rattle.bolt_bulk.specs.declared.fault.BulkFault.TheVariants as fault
 use Rattle.bolt_bulk.specs.declared.pass.Pass.{Pass}
 use Rattle.bolt_bulk.specs.declared.pass.Pending.{Pending}
 use Rattle.bolt_bulk.specs.declared.steps.Waiting.{Waiting}
+use Rattle.bolt_layout.specs.declared.layout.Layout.{Layout}
 use Rattle.bolt_layout.specs.declared.layout.Layout.TheVariants.{Plain}
 
 -- entries that are values, in front of a tree
@@ -56,7 +57,7 @@ pub record IsAt (tree : Tree) (pass : Pass) (levels : List Level) (left : Tree) 
   pub frames : List Frame
   pub state : Open
   pub rest : Tree
-  pub under : IsPass pass.bounds.page_size frames state (items_of Plain pass.bounds.page_size rest) (root_of Plain pass.bounds.page_size tree)
+  pub under : IsPass Plain pass.bounds.page_size frames state (items_of Plain pass.bounds.page_size rest) (root_of Plain pass.bounds.page_size tree)
   pub rows : IsOpenRows (rows_of pass.bucket pass.next) state (base_in frames)
   pub waits : AreWaiting (reverse pass.waiting.items) frames
   pub put_is : put ≡ all_put frames state
@@ -93,8 +94,8 @@ abbrev pub depth_of : Pass → ℕ
 depth_of pass = suc (length pass.waiting.items) + pending_depth pass.pending
 
 -- a bucket with these entries has a root page
-abbrev pub HasRoot : (page_size : ℕ) → Tree → Type 0
-HasRoot page_size inside = is_inline page_size inside (items_of Plain page_size inside) ≡ false
+abbrev pub HasRoot : Layout → (page_size : ℕ) → Tree → Type 0
+HasRoot which page_size inside = is_inline page_size inside (items_of which page_size inside) ≡ false
 
 -- these pages stand before others of the layout
 pub record StandsBefore (front whole : List Placed) : Type 0 where

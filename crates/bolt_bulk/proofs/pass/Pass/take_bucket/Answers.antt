@@ -3,6 +3,7 @@ use Rattle.std.proofs.Common.{◌∷◌, List, Result, Ok, map, subst}
 use Rattle.std.specs.Prelude.{⊤}
 use Rattle.bolt_format.specs.ElementPlaces.{leaf_view}
 use Rattle.bolt_tree.specs.Tree.{Tree, with_bucket}
+use Rattle.bolt_layout.specs.declared.layout.Layout.TheVariants.{Plain}
 use Rattle.bolt_layout.specs.Laid.{Placed}
 use Rattle.bolt_bulk.specs.Private.Levels.{Level}
 use Rattle.bolt_bulk.specs.Private.Passes.{IsAt, Steps}
@@ -20,7 +21,7 @@ returns-in_default-clause-steps g c = λ tree inside after levels put is.
 pub returns-in-Err-clause-steps : goal.returns-in-Err-clause-steps
 returns-in-Err-clause-steps g c = λ tree inside after levels put is.
     let left : Tree = with_bucket c.args.key.now c.args.sequence inside after in
-    let rooted = bucket_has_root c.args.self.now.bounds.page_size (map leaf_view c.args.self.now.entries.items) c.args.key.now c.args.sequence inside after in
+    let rooted = bucket_has_root Plain c.args.self.now.bounds.page_size (map leaf_view c.args.self.now.entries.items) c.args.key.now c.args.sequence inside after in
     steps_stop tree g.S.Sink.taken g.S.Sink.failed c.args.self.now.bounds c.args.sink.now c.open_pending.new.sink put (IsAt tree c.open_pending.new.self levels left) _ c.in-Err.fault
     (c.in-Err.ensures.steps tree left levels put is rooted)
 
@@ -28,7 +29,7 @@ pub returns-in-Ok-clause-steps : goal.returns-in-Ok-clause-steps
 returns-in-Ok-clause-steps g c = λ tree inside after levels put is.
     let left : Tree = with_bucket c.args.key.now c.args.sequence inside after in
     let own : Level = record { key = c.args.key.now; after = after } in
-    let rooted = bucket_has_root c.args.self.now.bounds.page_size (map leaf_view c.args.self.now.entries.items) c.args.key.now c.args.sequence inside after in
+    let rooted = bucket_has_root Plain c.args.self.now.bounds.page_size (map leaf_view c.args.self.now.entries.items) c.args.key.now c.args.sequence inside after in
     let done : Result ⊤ BulkFault = Ok tt in
     let At : List Placed → Type 0 = IsAt tree c.begin-in-Ok.new.self (own ∷ levels) inside in
     steps_then tree g.S.Sink.taken g.S.Sink.failed c.args.self.now.bounds c.args.sink.now c.open_pending.new.sink c.open_pending.new.sink put (IsAt tree c.open_pending.new.self levels left) At tt done

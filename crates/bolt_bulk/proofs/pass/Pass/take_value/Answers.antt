@@ -4,6 +4,7 @@ use Rattle.std.proofs.lemmas.List.{length-map}
 use Rattle.bolt_format.specs.ElementPlaces.{leaf_view}
 use Rattle.bolt_format.specs.Elements.{LeafElement}
 use Rattle.bolt_tree.specs.Tree.{Tree, with_value}
+use Rattle.bolt_layout.specs.declared.layout.Layout.TheVariants.{Plain}
 use Rattle.bolt_layout.specs.Laid.{Placed}
 use Rattle.bolt_bulk.specs.Private.Passes.{IsAt, Steps}
 use Rattle.bolt_bulk.specs.Private.TakenItems.{entries_size}
@@ -30,7 +31,7 @@ returns-in-Err-clause-steps g c = λ tree after levels put is.
       | else-size-self-via-then-size-self+else-len-lt-MAX_ITEMS w ↦ inr (omega arith)
       | else-size-self-via-else-size-self w ↦ inl (omega arith)
     ] in
-    let rooted = value_too_large c.args.self.now.bounds.page_size (map leaf_view c.args.self.now.entries.items) c.args.key.now c.args.value.now after large in
+    let rooted = value_too_large Plain c.args.self.now.bounds.page_size (map leaf_view c.args.self.now.entries.items) c.args.key.now c.args.value.now after large in
     steps_stop tree g.S.Sink.taken g.S.Sink.failed c.args.self.now.bounds c.args.sink.now c.open_pending.new.sink put (IsAt tree c.open_pending.new.self levels left) (IsAt tree c.open_pending.new.self levels after) c.in-Err.fault
     (c.in-Err.ensures.steps tree left levels put is rooted)
 
@@ -45,7 +46,7 @@ returns-in-Ok-clause-steps g c = λ tree after levels put is.
       | else-size-self-via-then-size-self+else-len-lt-MAX_ITEMS w ↦ inr (omega arith)
       | else-size-self-via-else-size-self w ↦ inl (omega arith)
     ] in
-    let rooted = value_too_large c.args.self.now.bounds.page_size (map leaf_view c.args.self.now.entries.items) c.args.key.now c.args.value.now after large in
+    let rooted = value_too_large Plain c.args.self.now.bounds.page_size (map leaf_view c.args.self.now.entries.items) c.args.key.now c.args.value.now after large in
     let At : List Placed → Type 0 = IsAt tree c.put_value-in-Ok.new.self levels after in
     steps_then tree g.S.Sink.taken g.S.Sink.failed c.args.self.now.bounds c.args.sink.now c.open_pending.new.sink c.put_value-in-Ok.new.sink put (IsAt tree c.open_pending.new.self levels left) At tt c.put_value-in-Ok.result
     (c.in-Ok.ensures.steps tree left levels put is rooted)
