@@ -15,7 +15,7 @@ push_last (run ∷ next ∷ runs) x = run ∷ push_last (next ∷ runs) x
 abbrev pub HasItem : {X : Type 0} → List X → Type 0
 HasItem run = 1 ≤ length run
 
--- One more item joins the last run, or is a run of its own behind one that has two.
+-- One more item joins the last run, or is a run of its own after one that has two.
 abbrev pub IsPushed : {X : Type 0} → List (List X) → X → List (List X) → Type 0
 IsPushed runs x more = (more ≡ push_last runs x) ⊎ ((more ≡ runs ++ (x ∷ []) ∷ []) × (2 ≤ last_length runs))
 

@@ -23,11 +23,14 @@ pub mod LeafLemmas
 pub mod LimitedRows
 pub mod ListLemmas
 pub mod MetaLemmas
+pub mod NotMuchLarger
 pub mod NumberLemmas
 pub mod OneCut
 pub mod OverRows
 pub mod PageLemmas
 pub mod PageRows
+pub mod PlainNumbers
 pub mod RightLimits
 pub mod SpanLemmas
 pub mod Tops
+pub mod Weights

@@ -35,7 +35,33 @@ top_front : (run more : List Face) → HasItem run → top_face (run ++ more) �
 top_front [] more some = absurd (omega arith)
 top_front (f ∷ run) more some = refl
 
--- where no page is lost
+-- where the last run joins the one before it
+joined_row : (lost : Bool) (row : ℕ × ℕ) (runs : List (List Face)) (above : List Face)
+    → ((rows : List (ℕ × ℕ)) → limits_told lost (row ∷ rows) ≡ Some (row.0 - 2) ∷ limits_told true rows) → AllByRecursion HasItem runs
+    → row.0 ≡ length runs → last_length runs ≡ 1 → 2 ≤ length runs → above ≡ map top_face runs → IsRow lost row runs above
+joined_row lost row runs above told all r one two same =
+    let (last, tops) = join_tops top_face top_front runs all one two in
+    record {
+      limit = Some (row.0 - 2);
+      next = true;
+      told = told;
+      right = inr (ap (λ (n : ℕ). Some (n - 2)) r, one, two);
+      above_lost = (last, same ∙ tops);
+    }
+
+-- and where no run does
+kept_row : (lost : Bool) (row : ℕ × ℕ) (runs : List (List Face)) (above : List Face)
+    → ((rows : List (ℕ × ℕ)) → limits_told lost (row ∷ rows) ≡ None ∷ limits_told false rows) → (2 ≤ last_length runs) ⊎ (length runs ≤ 1)
+    → above ≡ map top_face runs → IsRow lost row runs above
+kept_row lost row runs above told long same = record {
+  limit = None;
+  next = false;
+  told = told;
+  right = inl (refl, long);
+  above_lost = same ∙ ap (λ (rs : List (List Face)). map top_face rs) (sym (join_none runs long));
+}
+
+-- Where no page is lost, what is told is of this row.
 whole_row : (row : ℕ × ℕ) (runs : List (List Face)) → AllByRecursion HasItem runs → 1 ≤ length runs → row.0 ≡ length runs → row.1 ≡ last_length runs
     → IsRow false row runs (map top_face runs)
 whole_row row runs all some r m = elim (cases_Bool (row.1 == 1 && nat_lt 1 row.0)) [
@@ -43,29 +69,17 @@ whole_row row runs all some r m = elim (cases_Bool (row.1 == 1 && nat_lt 1 row.0
       (let tests = and_parts (row.1 == 1) (nat_lt 1 row.0) t in
       let one = eqb-true row.1 1 tests.0 in
       let two = ltb-true 1 row.0 tests.1 in
-      record {
-        limit = Some (row.0 - 2);
-        next = true;
-        told = λ rows. rw t refl;
-        right = inr (ap (λ (n : ℕ). Some (n - 2)) r, omega arith, omega arith);
-        above_lost = join_tops top_face top_front runs all (omega arith) (omega arith);
-      })
+      joined_row false row runs (map top_face runs) (λ rows. rw t refl) all r (omega arith) (omega arith) refl)
   | inr f ↦
       (let any = last_some runs all some in
       let long : (2 ≤ last_length runs) ⊎ (length runs ≤ 1) = elim (and_cases (row.1 == 1) (nat_lt 1 row.0) f) [
         | inl u ↦ inl (let other : row.1 ≢ 1 = eqb-false row.1 1 u in omega arith)
         | inr u ↦ inr (let few = ltb-false 1 row.0 u in omega arith)
       ] in
-      record {
-        limit = None;
-        next = false;
-        told = λ rows. rw f refl;
-        right = inl (refl, long);
-        above_lost = ap (λ (rs : List (List Face)). map top_face rs) (sym (join_none runs long));
-      })
+      kept_row false row runs (map top_face runs) (λ rows. rw f refl) long refl)
 ]
 
--- Where one is lost, what is told is of a row with one page more.
+-- Where one is lost, what is told is of a row with one page more: this joins the last run,
 pushed_row : (row : ℕ × ℕ) (runs more : List (List Face)) (last : Face) → AllByRecursion HasItem runs → 1 ≤ length runs → more ≡ push_last runs last
     → row.0 ≡ length more → row.1 ≡ last_length more → IsRow true row runs (map top_face more)
 pushed_row row runs more last all some e r m =
@@ -80,28 +94,16 @@ pushed_row row runs more last all some e r m =
           (let tests = and_parts (row.1 == 2) (nat_lt 1 row.0) t in
           let two = eqb-true row.1 2 tests.0 in
           let many = ltb-true 1 row.0 tests.1 in
-          let (y, tops) = join_tops top_face top_front runs all (omega arith) (omega arith) in
-          record {
-            limit = Some (row.0 - 2);
-            next = true;
-            told = λ rows. rw (u, t) refl;
-            right = inr (ap (λ (n : ℕ). Some (n - 2)) r2, omega arith, omega arith);
-            above_lost = (y, same ∙ tops);
-          })
+          joined_row true row runs (map top_face more) (λ rows. rw (u, t) refl) all r2 (omega arith) (omega arith) same)
       | inr f ↦
           (let long : (2 ≤ last_length runs) ⊎ (length runs ≤ 1) = elim (and_cases (row.1 == 2) (nat_lt 1 row.0) f) [
             | inl v ↦ inl (let other : row.1 ≢ 2 = eqb-false row.1 2 v in omega arith)
             | inr v ↦ inr (let few = ltb-false 1 row.0 v in omega arith)
           ] in
-          record {
-            limit = None;
-            next = false;
-            told = λ rows. rw (u, f) refl;
-            right = inl (refl, long);
-            above_lost = same ∙ ap (λ (rs : List (List Face)). map top_face rs) (sym (join_none runs long));
-          })
+          kept_row true row runs (map top_face more) (λ rows. rw (u, f) refl) long same)
     ]
 
+-- or is a run of its own.
 alone_row : (row : ℕ × ℕ) (runs more : List (List Face)) (last : Face) → more ≡ runs ++ (last ∷ []) ∷ [] → 2 ≤ last_length runs
     → row.1 ≡ last_length more → IsRow true row runs (map top_face more)
 alone_row row runs more last e two m =
