@@ -1,6 +1,7 @@
 mod Beginnings
 mod BranchPages
 mod FileTrees
+mod HeldBounds
 mod Holding
 mod KeyLaws
 mod LaidItems
@@ -16,14 +17,20 @@ mod WorkedBytes
 mod WorkedLayouts
 pub mod BranchLemmas
 pub mod Cutting
+pub mod Faces
+pub mod LastItem
 pub mod LeafLemmas
+pub mod LimitedRows
 pub mod ListLemmas
 pub mod MetaLemmas
+pub mod NotMuchLarger
 pub mod NumberLemmas
 pub mod OneCut
 pub mod OverRows
 pub mod PageLemmas
 pub mod PageRows
+pub mod PlainNumbers
+pub mod RightLimits
 pub mod SpanLemmas
 pub mod Tops
-mod HeldBounds
+pub mod Weights

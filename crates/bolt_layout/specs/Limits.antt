@@ -1,6 +1,6 @@
 -- The cut of a row of a bucket's pages by how many runs it may have. One pass from left to right can't know that an item is the last of its
 -- row; but where the number of runs is known before, this gives the balanced cut.
-use Rattle.std.specs.Prelude.{zero, suc, ◌≡◌, ◌≤◌, ◌<◌, ◌==◌, ◌-◌, ℕ, Bool, true, false, ◌&&◌, nat_lt, List, [], ◌∷◌, ◌++◌, length, Option, Some, None, if◌then◌else◌}
+use Rattle.std.specs.Prelude.{zero, suc, ◌≡◌, ◌≤◌, ◌==◌, ◌-◌, ℕ, Bool, true, false, ◌&&◌, nat_lt, List, [], ◌∷◌, ◌++◌, length, Option, Some, None, if◌then◌else◌}
 use Rattle.bolt_format.specs.Elements.{BranchElement}
 use Rattle.bolt_layout.specs.Cut.{branch_cut, cut_of, joins}
 use Rattle.bolt_layout.specs.Laid.{Laid, size_of}
