@@ -14,8 +14,8 @@ mod HeldRuns
 mod HeldSteps
 mod LeafPuts
 mod Members
-mod NoLimits
 mod Ontos
+mod Openings
 mod OpenRowLemmas
 mod OpenRunLemmas
 mod PassAt
