@@ -30,6 +30,7 @@ pub mod OverRows
 pub mod PageLemmas
 pub mod PageRows
 pub mod PlainNumbers
+pub mod PlainRows
 pub mod RightLimits
 pub mod SpanLemmas
 pub mod Tops

@@ -7,5 +7,6 @@ pub mod Laid
 pub mod Layout
 pub mod Levels
 pub mod Limits
+pub mod Openings
 pub mod PageBytes
 pub mod Storable
