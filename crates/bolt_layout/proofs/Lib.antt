@@ -33,5 +33,7 @@ pub mod PlainNumbers
 pub mod PlainRows
 pub mod RightLimits
 pub mod SpanLemmas
+pub mod Tellings
+pub mod ToldRows
 pub mod Tops
 pub mod Weights
