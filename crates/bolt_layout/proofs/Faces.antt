@@ -1,13 +1,15 @@
--- A row of pages as the cut sees it: the keys and sizes of the pages decide how the row is cut, and the keys and sizes of the row above.
+-- A row as the cut sees it: the keys and sizes of its items decide how the row is cut, and the keys and sizes of the row above.
 use Rattle.std.proofs.Common.{◌≡◌, ◌∙◌, ◌++◌, ◌+◌, ℕ, nat_lt, true, false, List, [], ◌∷◌, length, map, sum_by, refl, sym, ap, inl, inr, arith}
 use Rattle.std.proofs.lemmas.Bool.{cases_Bool}
 use Rattle.std.proofs.lemmas.List.{length-map, map-append}
 use Rattle.std.proofs.lemmas.List.Sums.{sum_by-cons}
-use Rattle.bolt_format.specs.Elements.{BranchElement}
+use Rattle.bolt_format.specs.Elements.{BranchElement, LeafElement}
+use Rattle.bolt_format.specs.Pages.{PageView}
 use Rattle.bolt_layout.specs.Cut.{branch_cut, cut_from, cut_of, join_last, joins}
 use Rattle.bolt_layout.specs.Laid.{Laid, size_of}
-use Rattle.bolt_layout.specs.Levels.{branch_view, next_level, page_over}
+use Rattle.bolt_layout.specs.Levels.{branch_view, leaf_view, next_level, page_over}
 use Rattle.bolt_layout.specs.Limits.{last_length}
+use Rattle.bolt_layout.specs.Openings.{leaf_pages}
 use Rattle.bolt_layout.specs.declared.layout.Layout.{Layout}
 use Rattle.bolt_layout.specs.declared.layout.Layout.TheVariants.{Plain, Balanced}
 
@@ -70,12 +72,12 @@ map_branches f Plain page_size size items = map_cut f page_size 2 size items
 map_branches {X = X} {Y = Y} f Balanced page_size size items =
     map_join f (cut_of page_size 2 (λ (x : X). size (f x)) items) ∙ ap (λ (rs : List (List Y)). join_last rs) (map_cut f page_size 2 size items)
 
--- a page's key and size
+-- an item's key and size
 abbrev pub Face : Type 0
 Face = List ℕ × ℕ
 
-abbrev pub face : Laid BranchElement → Face
-face page = (page.key, page.size)
+abbrev pub face : {E : Type 0} → Laid E → Face
+face item = (item.key, item.size)
 
 abbrev pub face_size : Face → ℕ
 face_size f = f.1
@@ -88,18 +90,24 @@ top_key (f ∷ faces) = f.0
 abbrev pub top_face : List Face → Face
 top_face faces = (top_key faces, 16 + length (top_key faces))
 
-over_face : (page_size : ℕ) (run : List (Laid BranchElement)) → face (page_over branch_view page_size run) ≡ top_face (map face run)
-over_face page_size [] = refl
-over_face page_size (page ∷ run) = refl
+over_face : {E : Type 0} (view : ℕ → List E → PageView) (page_size : ℕ) (run : List (Laid E)) → face (page_over view page_size run) ≡ top_face (map face run)
+over_face view page_size [] = refl
+over_face view page_size (item ∷ run) = refl
 
-over_faces : (page_size : ℕ) (runs : List (List (Laid BranchElement))) → map face (map (page_over branch_view page_size) runs) ≡ map top_face (map (map face) runs)
-over_faces page_size [] = refl
-over_faces page_size (run ∷ runs) =
-    ap (λ (f : Face). f ∷ map face (map (page_over branch_view page_size) runs)) (over_face page_size run)
-    ∙ ap (λ (fs : List Face). top_face (map face run) ∷ fs) (over_faces page_size runs)
+over_faces : {E : Type 0} (view : ℕ → List E → PageView) (page_size : ℕ) (runs : List (List (Laid E)))
+    → map face (map (page_over view page_size) runs) ≡ map top_face (map (map face) runs)
+over_faces view page_size [] = refl
+over_faces view page_size (run ∷ runs) =
+    ap (λ (f : Face). f ∷ map face (map (page_over view page_size) runs)) (over_face view page_size run)
+    ∙ ap (λ (fs : List Face). top_face (map face run) ∷ fs) (over_faces view page_size runs)
+
+pub leaf_faces : (page_size : ℕ) (items : List (Laid LeafElement)) → map face (leaf_pages page_size items) ≡ map top_face (cut_from page_size 1 face_size [] (map face items))
+leaf_faces page_size items =
+    over_faces leaf_view page_size (cut_from page_size 1 size_of [] items)
+    ∙ ap (λ (rs : List (List Face)). map top_face rs) (map_from face page_size 1 face_size [] items)
 
 pub next_faces : (which : Layout) (page_size : ℕ) (pages : List (Laid BranchElement))
     → map face (next_level which page_size pages) ≡ map top_face (branch_cut which page_size face_size (map face pages))
 next_faces which page_size pages =
-    over_faces page_size (branch_cut which page_size size_of pages)
+    over_faces branch_view page_size (branch_cut which page_size size_of pages)
     ∙ ap (λ (rs : List (List Face)). map top_face rs) (map_branches face which page_size face_size pages)

@@ -15,6 +15,7 @@ mod TreeItems
 mod TwoChildren
 mod WorkedBytes
 mod WorkedLayouts
+pub mod BalancedRows
 pub mod BranchLemmas
 pub mod Cutting
 pub mod Faces
@@ -26,11 +27,16 @@ pub mod MetaLemmas
 pub mod NotMuchLarger
 pub mod NumberLemmas
 pub mod OneCut
+pub mod OpenedBuckets
 pub mod OverRows
 pub mod PageLemmas
 pub mod PageRows
 pub mod PlainNumbers
+pub mod PlainRows
 pub mod RightLimits
+pub mod SameFaces
 pub mod SpanLemmas
+pub mod Tellings
+pub mod ToldRows
 pub mod Tops
 pub mod Weights

@@ -208,9 +208,15 @@ rows_limited page_size (row ∷ rows) lost plain balanced (two, r, m, told) lack
     rw (is.told rows) (rows_at page_size (limits_told is.next rows) is.limit balanced (row_limited page_size size_of is.limit balanced right)
     (rows_limited page_size rows is.next (next_level Plain page_size plain) (next_level Balanced page_size balanced) told above) k)
 
+-- They are right for each row of pages with the same keys and sizes,
+pub limits_alike : (page_size : ℕ) (plain balanced : List (Laid BranchElement)) (rows : List (ℕ × ℕ)) → AreTold page_size plain rows → map face plain ≡ map face balanced
+    → HaveRightLimits Balanced page_size (limit_at (limits_told false rows)) balanced
+limits_alike page_size plain balanced rows told same = rows_limited page_size rows false plain balanced told same
+
+-- so for the row itself.
 pub right_limits : (page_size : ℕ) (pages : List (Laid BranchElement)) (rows : List (ℕ × ℕ)) → AreTold page_size pages rows
     → HaveRightLimits Balanced page_size (limit_at (limits_told false rows)) pages
-right_limits page_size pages rows told = rows_limited page_size rows false pages pages told refl
+right_limits page_size pages rows told = limits_alike page_size pages pages rows told refl
 
 -- The plain rows need no limit.
 pub plain_limits : (page_size : ℕ) (pages : List (Laid BranchElement)) → HaveRightLimits Plain page_size (λ k. None) pages
