@@ -1,12 +1,17 @@
 -- Limits that are right for the buckets of a tree are so for those that are still to come.
-use Rattle.std.proofs.Common.{◌≡◌, ℕ, suc, ◌+◌, Bool, true, false, List, [], ◌∷◌, Option, refl, ap, subst, arith}
+use Rattle.std.proofs.Common.{◌≡◌, ℕ, suc, true, false, List, [], ◌∷◌, Option, None, refl, subst}
 use Rattle.bolt_format.specs.Elements.{LeafElement}
-use Rattle.bolt_tree.specs.Tree.{Tree, with_bucket}
+use Rattle.bolt_tree.specs.Tree.{Tree}
 use Rattle.bolt_layout.specs.Items.{is_inline, items_of}
-use Rattle.bolt_layout.specs.Openings.{AreRight, opened_by, opened_in}
+use Rattle.bolt_layout.specs.Openings.{AreRight, leaf_pages, opened_by, opened_in}
 use Rattle.bolt_layout.specs.declared.layout.Layout.{Layout}
+use Rattle.bolt_layout.specs.declared.layout.Layout.TheVariants.{Plain}
+use Rattle.bolt_layout.proofs.PlainRows.{plain_right, plain_rows}
+use Rattle.bolt_bulk.specs.Private.HeldCounts.{capped}
+use Rattle.bolt_bulk.specs.Private.RowLimits.{limit_in}
+use Rattle.bolt_bulk.specs.declared.limits.Limits.{Limits}
 use Rattle.bolt_bulk.specs.Private.OpenRuns.{Frame}
-use Rattle.bolt_bulk.specs.Private.Passes.{AreRightAround, onto}
+use Rattle.bolt_bulk.specs.Private.Passes.{AreRightAround, FitLimits, limits_with, onto}
 
 module _ (which : Layout) (page_size : ℕ) (limits : ℕ → ℕ → Option ℕ) where
   -- entries that are values change nothing
@@ -30,3 +35,10 @@ module _ (which : Layout) (page_size : ℕ) (limits : ℕ → ℕ → Option ℕ
 
   pub around_at : (m n : ℕ) (frames : List Frame) → m ≡ n → AreRightAround which page_size limits m frames → AreRightAround which page_size limits n frames
   around_at m n frames same right = subst (λ (k : ℕ). AreRightAround which page_size limits k frames) same right
+
+-- no limits are right for the plain layout
+pub fit_plain : (page_size : ℕ) (limits : Limits) (tree : Tree) → ((bucket level : ℕ) → limit_in limits bucket level ≡ None) → FitLimits (record { which = Plain; tree = tree }) page_size (limits_with limits)
+fit_plain page_size limits tree none = record {
+  root = plain_rows page_size (limits_with limits) (λ bucket level. none (capped bucket) level) 0 (leaf_pages page_size (items_of Plain page_size tree));
+  others = plain_right page_size (limits_with limits) (λ bucket level. none (capped bucket) level) 1 tree;
+}

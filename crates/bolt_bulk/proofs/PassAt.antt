@@ -378,13 +378,14 @@ module _ {S : Type 0} (taken : S → Option (List ℕ)) (failed : S → ℕ) (wa
       }
 
   -- all went well
-  pub open_steps : (levels : List Level) (left : Tree) (p : Pending) (old new : S) (bucket : OpenBucket) (w : Waiting) (around : Vec Waiting Global) (entries : Vec Leaf Global) (next held : ℕ) (counted : Pass)
+  pub open_steps : (levels : List Level) (left : Tree) (p : Pending) (old new : S) (bucket : OpenBucket) (w : Waiting) (around : Vec Waiting Global) (entries : Vec Leaf Global) (next opened held : ℕ) (counted : Pass)
       → IsAt wanted pass levels left put → pass.pending ≡ Some p → IsSmall P p pass.entries.items → HasRoot wanted.which P (onto (map leaf_view pass.entries.items) left)
       → Puts {A = ⊤} taken failed old new (placed_bytes P (rows_room_put P rows_now p.key.now (32 + length p.key.now))) (Ok tt)
       → around.items ≡ pass.waiting.items ++ w ∷ [] → rows_of w.bucket next ≡ room_for p → w.key.now ≡ p.key.now → w.sequence ≡ p.sequence → rows_of bucket next ≡ opened_rows p next
-      → Counts (record { alloc = pass.alloc; bounds = pass.bounds; limits = pass.limits; waiting = around; bucket = bucket; pending = None; entries = entries; next = next; opened = min (pass.opened + 1) 18446744073709551615; around = held; most = pass.most }) counted
+      → opened ≡ min (pass.opened + 1) 18446744073709551615
+      → Counts (record { alloc = pass.alloc; bounds = pass.bounds; limits = pass.limits; waiting = around; bucket = bucket; pending = None; entries = entries; next = next; opened = opened; around = held; most = pass.most }) counted
       → Steps {A = ⊤} wanted taken failed old new pass.bounds put (IsAt wanted counted levels left) (Ok tt)
-  open_steps levels left p old new bucket w around entries next held counted is some small rooted puts items rows key sequence values_are k =
+  open_steps levels left p old new bucket w around entries next opened held counted is some small rooted puts items rows key sequence values_are one_more k =
       let then = has_opened levels left p is some small rooted in
       let frame : Frame = frame_of p left then.after is.state in
       let frames : List Frame = frame ∷ is.frames in

@@ -13,7 +13,7 @@ use Rattle.bolt_layout.specs.Layout.{first_page, placed_bytes}
 use Rattle.bolt_layout.specs.PageBytes.{page_bytes}
 use Rattle.bolt_bulk.specs.Private.OpenRuns.{Frame, Open, Upper, all_put, base_in, frames_put, next_number, numbers_in, own_page, pages_put, pushing, put_in}
 use Rattle.bolt_layout.proofs.OverRows.{numbers-append}
-use Rattle.bolt_bulk.specs.Private.Coming.{Comes, IsOpen, IsPass, IsStack, held_item, leaves_coming}
+use Rattle.bolt_bulk.specs.Private.Coming.{Comes, IsOpen, IsPass, IsStack, held_item}
 use Rattle.bolt_bulk.proofs.OpenRunLemmas.{cut_step, left_begins, pages-append, pages_push, pushed_put}
 use Rattle.bolt_layout.specs.declared.layout.Layout.{Layout}
 use Rattle.bolt_layout.specs.declared.layout.Layout.TheVariants.{Plain, Balanced}

@@ -205,7 +205,7 @@ pub(crate) fn climb<'a, S: Sink>(
     requires closed { length closed.key.now ≤ 1073741824 }
     requires next { next.old ≤ bounds.now.limit }
     ensures pages { Puts S.taken S.failed sink.old sink.new (placed_bytes bounds.now.page_size (rows_put bounds.now.page_size key.now (branch_view closed.entry) next.old (rows_above uppers.old.items))) result }
-    ensures rows { OnOk result (rows_above uppers.new.items ≡ rows_climb bounds.now.page_size (bucket_limit limits (length (rows_above uppers.old.items))) key.now (branch_view closed.entry) next.old (rows_above uppers.old.items)) }
+    ensures rows { OnOk result (rows_above uppers.new.items ≡ rows_climb bounds.now.page_size (bucket_limit limits.entry (length (rows_above uppers.old.items))) key.now (branch_view closed.entry) next.old (rows_above uppers.old.items)) }
     ensures standing { OnOk result (AllByRecursion IsStanding (rows_above uppers.new.items)) }
     ensures next { OnOk result (next.new ≡ rows_next bounds.now.page_size key.now (branch_view closed.entry) next.old (rows_above uppers.old.items)) }
     ensures within { OnOk result (next.new ≤ bounds.now.limit) }

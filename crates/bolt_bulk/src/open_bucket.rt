@@ -127,7 +127,7 @@ impl<'a> OpenBucket<'a> {
     /// A bucket of which nothing is open.
     pub(crate) fn new(alloc: Global, limits: BucketLimits<'a>) -> OpenBucket<'a>
         ensures open { IsOpenBucket result }
-        ensures rows { (next : ℕ) → rows_of result next ≡ record { leaves = no_leaves; uppers = []; limits = bucket_limit limits; next = next } }
+        ensures rows { (next : ℕ) → rows_of result next ≡ record { leaves = no_leaves; uppers = []; limits = bucket_limit limits.entry; next = next } }
     {
         OpenBucket {
             leaves: LeafRun {
@@ -153,7 +153,7 @@ impl<'a> OpenBucket<'a> {
         requires keys { AllByRecursion (λ (entry : Leaf). length entry.key.now ≤ 1073741824) entries.now }
         requires values { AllByRecursion (λ (entry : Leaf). entry.is_bucket ≡ false) entries.now }
         ensures open { IfOk result (λ bucket. IsOpenBucket bucket) }
-        ensures rows { IfOk result (λ bucket. (next : ℕ) → rows_of bucket next ≡ record { leaves = record { elements = map leaf_view entries.now; size = size }; uppers = []; limits = bucket_limit limits; next = next }) }
+        ensures rows { IfOk result (λ bucket. (next : ℕ) → rows_of bucket next ≡ record { leaves = record { elements = map leaf_view entries.now; size = size }; uppers = []; limits = bucket_limit limits.entry; next = next }) }
         ensures fault { IfErr result (λ e. e ≡ fault.Memory) }
     {
         let items = value_items(alloc, entries)?;

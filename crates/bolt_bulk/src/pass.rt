@@ -57,13 +57,10 @@ pub(crate) struct Pass<'a> {
 
 impl<'a> Pass<'a> {
     ghost use Rattle.bolt_tree.specs.Tree.{Tree, end, listing_of, with_bucket, with_value};
-    ghost use Rattle.bolt_layout.specs.Items.{items_of};
     ghost use Rattle.bolt_layout.specs.Laid.{Placed};
-    ghost use Rattle.bolt_layout.specs.Limits.{HaveRightLimits};
-    ghost use Rattle.bolt_layout.specs.Openings.{AreRight, leaf_pages};
     ghost use Rattle.bolt_bulk.specs.Private.Levels.{Level};
     ghost use Rattle.bolt_format.specs.ElementPlaces.{leaf_view};
-    ghost use Rattle.bolt_bulk.specs.Private.Passes.{HasLeft, HasRoot, IsAt, IsNoDeeper, IsReady, Steps, Wanted, depth_of, limits_by, onto};
+    ghost use Rattle.bolt_bulk.specs.Private.Passes.{FitLimits, HasLeft, HasRoot, IsAt, IsNoDeeper, IsReady, Steps, Wanted, depth_of, limits_with, onto};
     ghost use Rattle.bolt_bulk.specs.Private.Endings.{Ends, IsFitMember};
     ghost use Rattle.bolt_tree.specs.Listing.{Member};
     ghost use Rattle.bolt_tree.specs.Paths.{path_of};
@@ -73,10 +70,8 @@ impl<'a> Pass<'a> {
     pub(crate) fn new(alloc: Global, bounds: Bounds, limits: &'a Limits) -> Pass<'a>
         requires { 3 ≤ bounds.limit }
         ensures bounds { result.bounds ≡ bounds }
-        ensures limits { result.limits ≡ limits }
         ensures ready { IsReady result }
-        ensures at { (wanted : Wanted) → HaveRightLimits wanted.which bounds.page_size (limits_by result 0) (leaf_pages bounds.page_size (items_of wanted.which bounds.page_size wanted.tree))
-            → AreRight wanted.which bounds.page_size (limits_by result) 1 wanted.tree → HasLeft wanted result (listing_of wanted.tree) [] }
+        ensures at { (wanted : Wanted) → FitLimits wanted bounds.page_size (limits_with limits.now) → HasLeft wanted result (listing_of wanted.tree) [] }
     {
         Pass {
             alloc,
@@ -268,8 +263,12 @@ impl<'a> Pass<'a> {
             all: self.limits,
             bucket: self.opened,
         };
-        let inner =
-            OpenBucket::of_values(self.alloc, self.entries.as_slice(), pending.size, limits);
+        let inner = OpenBucket::of_values(
+            self.alloc,
+            self.entries.as_slice(),
+            pending.size,
+            limits,
+        );
         let inner = match inner {
             Err(fault) => return Err(fault),
             Ok(inner) => inner,
@@ -363,7 +362,10 @@ impl<'a> Pass<'a> {
             unreachable!()
         };
         let around = waiting.around;
-        let inner = mem::replace(&mut self.bucket, OpenBucket::new(self.alloc, waiting.bucket.limits));
+        let inner = mem::replace(
+            &mut self.bucket,
+            OpenBucket::new(self.alloc, waiting.bucket.limits),
+        );
         match leave(&self.bounds, inner, waiting, &mut self.next, sink) {
             Err(fault) => Err(fault),
             Ok(outer) => {

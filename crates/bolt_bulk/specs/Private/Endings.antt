@@ -6,7 +6,6 @@ use Rattle.bolt_format.specs.Sinks.{AppendsProperBeginning}
 use Rattle.bolt_tree.specs.Entries.{Bucket, Item, Value}
 use Rattle.bolt_tree.specs.Listing.{Member}
 use Rattle.bolt_tree.specs.Paths.{Path}
-use Rattle.bolt_tree.specs.Tree.{Tree}
 use Rattle.bolt_layout.specs.Laid.{Placed}
 use Rattle.bolt_layout.specs.Layout.{layout_held, layout_mark, layout_pages, layout_root, placed_bytes}
 use Rattle.bolt_bulk.specs.Private.HeldCounts.{capped}

@@ -9,7 +9,9 @@ use Rattle.bolt_tree.specs.Tree.{Tree, with_bucket, with_value}
 use Rattle.bolt_layout.specs.Items.{is_inline, items_of, root_of}
 use Rattle.bolt_layout.specs.Laid.{Placed}
 use Rattle.bolt_layout.specs.Layout.{layout_mark, layout_pages, placed_bytes}
-use Rattle.bolt_layout.specs.Openings.{AreRight, opened_in}
+use Rattle.bolt_layout.specs.Limits.{HaveRightLimits}
+use Rattle.bolt_layout.specs.Openings.{AreRight, leaf_pages, opened_in}
+use Rattle.bolt_bulk.specs.declared.limits.Limits.{Limits}
 use Rattle.bolt_bulk.specs.Private.Coming.{IsPass}
 use Rattle.bolt_bulk.specs.Private.RowLimits.{limit_in}
 use Rattle.bolt_bulk.specs.Private.HeldCounts.{AreCounted, capped, items_around}
@@ -59,8 +61,16 @@ pub record Wanted : Type 0 where
   pub tree : Tree
 
 -- the limits of a bucket's rows, as a pass looks them up by the bucket's number
+abbrev pub limits_with : Limits → (bucket level : ℕ) → Option ℕ
+limits_with limits bucket level = limit_in limits (capped bucket) level
+
 abbrev pub limits_by : Pass → (bucket level : ℕ) → Option ℕ
-limits_by pass bucket level = limit_in pass.limits.now (capped bucket) level
+limits_by pass = limits_with pass.limits.now
+
+-- limits are right for all buckets of a tree, of which the root bucket is number 0
+pub record FitLimits (wanted : Wanted) (page_size : ℕ) (limits : ℕ → ℕ → Option ℕ) : Type 0 where
+  pub root : HaveRightLimits wanted.which page_size (limits 0) (leaf_pages page_size (items_of wanted.which page_size wanted.tree))
+  pub others : AreRight wanted.which page_size limits 1 wanted.tree
 
 -- they are right for the buckets behind those that wait
 abbrev pub AreRightAround : Layout → (page_size : ℕ) → (limits : ℕ → ℕ → Option ℕ) → (n : ℕ) → List Frame → Type 0

@@ -34,8 +34,8 @@ returns-clause-steps g c = λ wanted left levels put is rooted.
     let items : c.push.new.self.items ≡ c.args.self.now.waiting.items ++ c.in-Ok-waiting.waiting ∷ [] = search rules in
     let values = rw (c.as_slice.ensures.value, sym c.replace-outer.ensures.after) at (c.in-Ok.ensures.rows c.enter-waiting.new.next) in
     open_steps g.S.Sink.taken g.S.Sink.failed wanted c.args.self.now put levels left c.args.pending c.args.sink.now c.enter-waiting.new.sink c.replace-outer.new.dest c.in-Ok-waiting.waiting c.push.new.self c.clear.new.self
-    c.enter-waiting.new.next _ c.count.new.self is c.requires.pending small rooted (puts_well _ _ _ c.in-Ok-waiting.waiting (rw c.replace-outer.ensures.value at c.in-Ok-waiting.ensures.pages))
-    items (rw c.replace-outer.ensures.value at c.in-Ok-waiting.ensures.rows) c.in-Ok-waiting.ensures.key c.in-Ok-waiting.ensures.sequence values c.count.ensures.counts
+    c.enter-waiting.new.next _ _ c.count.new.self is c.requires.pending small rooted (puts_well _ _ _ c.in-Ok-waiting.waiting (rw c.replace-outer.ensures.value at c.in-Ok-waiting.ensures.pages))
+    items (rw c.replace-outer.ensures.value at c.in-Ok-waiting.ensures.rows) c.in-Ok-waiting.ensures.key c.in-Ok-waiting.ensures.sequence values c.saturating_add-self.ensures c.count.ensures.counts
 
 pub count-requires : goal.count-requires
 count-requires g c =
