@@ -1,34 +1,44 @@
 -- A forward pass over a tree, with a frame for each bucket that waits: what comes of them is the root page, and what was put are its pages.
-use Rattle.std.proofs.Common.{◌≡◌, ◌∙◌, ℕ, List, [], ◌∷◌, ◌++◌, refl, sym, ap, subst, append_assoc}
+use Rattle.std.proofs.Common.{◌≡◌, ◌∙◌, ℕ, Option, List, [], ◌∷◌, ◌++◌, refl, sym, ap, subst, append_assoc}
 use Rattle.std.proofs.lemmas.List.{append-nil}
 use Rattle.bolt_format.specs.Elements.{BranchElement, LeafElement}
 use Rattle.bolt_tree.specs.Tree.{Tree}
 use Rattle.bolt_layout.specs.Items.{bucket_item, items_of, root_of}
 use Rattle.bolt_layout.specs.Laid.{Laid, Placed}
 use Rattle.bolt_layout.specs.Levels.{root_over}
+use Rattle.bolt_layout.specs.Limits.{HaveRightLimits}
 use Rattle.bolt_layout.specs.Layout.{first_page, layout_pages}
 use Rattle.bolt_bulk.specs.Private.OpenRuns.{Frame, Open, all_put, base_in, end_of, end_puts, frames_put, making_room, next_number, nothing_open, pages_put, pushing, room_puts, taking}
-use Rattle.bolt_bulk.specs.Private.Coming.{IsPass, IsStack, held_item}
-use Rattle.bolt_bulk.proofs.OpenRunLemmas.{ends, ends_put, opens, pushed_put, room_put, takes, takes_begun}
-use Rattle.bolt_layout.specs.declared.layout.Layout.TheVariants.{Plain}
+use Rattle.bolt_bulk.specs.Private.Coming.{HasBegun, IsPass, IsStack, held_item, leaves_coming}
+use Rattle.bolt_bulk.proofs.OpenRunLemmas.{ends, ends_put, opens, pushed_put, room_put, takes}
+use Rattle.bolt_layout.specs.declared.layout.Layout.{Layout}
+
+-- a run with an item isn't empty
+no_push : (run : List (Laid LeafElement)) (item : Laid LeafElement) → run ++ item ∷ [] ≡ [] → ⊥
+no_push [] item e = cc
+no_push (x ∷ run) item e = cc
+
+pushed_begun : (state : Open) (item : Laid LeafElement) → HasBegun (pushing state item)
+pushed_begun state item none = absurd (no_push state.run item none)
 
 -- The beginning: nothing is open, nothing was put.
-pub pass_begins : (page_size : ℕ) (tree : Tree) → IsPass page_size [] nothing_open (items_of Plain page_size tree) (root_of Plain page_size tree)
+pub pass_begins : (which : Layout) (page_size : ℕ) (limits : ℕ → Option ℕ) (tree : Tree) → HaveRightLimits which page_size limits (leaves_coming page_size [] (items_of which page_size tree))
+    → IsPass which page_size [] (nothing_open limits) (items_of which page_size tree) (root_of which page_size tree)
 unfolding root_of
-pass_begins page_size tree = record {
-  root = root_over Plain page_size (items_of Plain page_size tree);
-  current = opens page_size (items_of Plain page_size tree);
-  begun = record { whole = λ e. refl };
+pass_begins which page_size limits tree right = record {
+  root = root_over which page_size (items_of which page_size tree);
+  current = opens which page_size limits (items_of which page_size tree) right;
+  begun = λ none. refl;
   stack = refl;
 }
 
 -- An item with no pages below it: room is made, and it is taken.
-pub pass_takes : (page_size : ℕ) (frames : List Frame) (state : Open) (item : Laid LeafElement) (items : List (Laid LeafElement)) (whole : Laid BranchElement)
-    → IsPass page_size frames state (item ∷ items) whole → IsPass page_size frames (taking page_size state item) items whole
-pass_takes page_size frames state item items whole pass = record {
+pub pass_takes : (which : Layout) (page_size : ℕ) (frames : List Frame) (state : Open) (item : Laid LeafElement) (items : List (Laid LeafElement)) (whole : Laid BranchElement)
+    → IsPass which page_size frames state (item ∷ items) whole → IsPass which page_size frames (taking page_size state item) items whole
+pass_takes which page_size frames state item items whole pass = record {
   root = pass.root;
-  current = takes page_size state item items pass.root pass.begun pass.current;
-  begun = takes_begun page_size state item;
+  current = takes which page_size state item items pass.root pass.current;
+  begun = pushed_begun (making_room page_size state item.key item.size) item;
   stack = pass.stack;
 }
 
@@ -46,34 +56,35 @@ abbrev pub waiting : ℕ → Open → List ℕ → ℕ → Laid BranchElement �
 waiting page_size state key sequence root after =
     record { state = making_room page_size state key (bucket_item key sequence root).size; key = key; sequence = sequence; after = after }
 
-pub pass_enters : (page_size : ℕ) (frames : List Frame) (state : Open) (key : List ℕ) (sequence : ℕ) (inner : List (Laid LeafElement)) (after : Tree) (whole : Laid BranchElement)
-    → IsPass page_size frames state (bucket_item key sequence (root_over Plain page_size inner) ∷ items_of Plain page_size after) whole
-    → IsPass page_size (waiting page_size state key sequence (root_over Plain page_size inner) after ∷ frames) nothing_open inner whole
-pass_enters page_size frames state key sequence inner after whole pass =
-    let item : Laid LeafElement = bucket_item key sequence (root_over Plain page_size inner) in
+pub pass_enters : (which : Layout) (page_size : ℕ) (limits : ℕ → Option ℕ) (frames : List Frame) (state : Open) (key : List ℕ) (sequence : ℕ) (inner : List (Laid LeafElement)) (after : Tree) (whole : Laid BranchElement)
+    → HaveRightLimits which page_size limits (leaves_coming page_size [] inner)
+    → IsPass which page_size frames state (bucket_item key sequence (root_over which page_size inner) ∷ items_of which page_size after) whole
+    → IsPass which page_size (waiting page_size state key sequence (root_over which page_size inner) after ∷ frames) (nothing_open limits) inner whole
+pass_enters which page_size limits frames state key sequence inner after whole right pass =
+    let item : Laid LeafElement = bucket_item key sequence (root_over which page_size inner) in
     record {
-      root = root_over Plain page_size inner;
-      current = opens page_size inner;
-      begun = record { whole = λ e. refl };
-      stack = (pass.root, takes page_size state item (items_of Plain page_size after) pass.root pass.begun pass.current, takes_begun page_size state item, pass.stack);
+      root = root_over which page_size inner;
+      current = opens which page_size limits inner right;
+      begun = λ none. refl;
+      stack = (pass.root, takes which page_size state item (items_of which page_size after) pass.root pass.current, pass.stack);
     }
 
-pub put_enters : (page_size : ℕ) (frames : List Frame) (state : Open) (key : List ℕ) (sequence : ℕ) (root : Laid BranchElement) (after : Tree)
-    → all_put (waiting page_size state key sequence root after ∷ frames) nothing_open
+pub put_enters : (page_size : ℕ) (limits : ℕ → Option ℕ) (frames : List Frame) (state : Open) (key : List ℕ) (sequence : ℕ) (root : Laid BranchElement) (after : Tree)
+    → all_put (waiting page_size state key sequence root after ∷ frames) (nothing_open limits)
     ≡ all_put frames state ++ room_puts page_size state key (bucket_item key sequence root).size (base_in frames)
-put_enters page_size frames state key sequence root after =
+put_enters page_size limits frames state key sequence root after =
     let size : ℕ = (bucket_item key sequence root).size in
     append-nil (frames_put (waiting page_size state key sequence root after ∷ frames))
     ∙ (ap (λ (ps : List Placed). frames_put frames ++ ps) (room_put page_size state key size (base_in frames))
     ∙ sym (append_assoc (frames_put frames) (pages_put state (base_in frames)) (room_puts page_size state key size (base_in frames))))
 
 -- The end of a bucket within: its runs close, and the bucket that waits takes its item.
-pub pass_leaves : (page_size : ℕ) (frame : Frame) (frames : List Frame) (state : Open) (whole : Laid BranchElement) → IsPass page_size (frame ∷ frames) state [] whole
-    → IsPass page_size frames (pushing frame.state (held_item frame (end_of page_size state))) (items_of Plain page_size frame.after) whole
-pass_leaves page_size frame frames state whole pass =
-    let same : pass.root ≡ end_of page_size state = sym (ends page_size state pass.root pass.current) in
-    let (outer, is, begun, rest) = subst (λ (r : Laid BranchElement). IsStack page_size (frame ∷ frames) r whole) same pass.stack in
-    record { root = outer; current = is; begun = begun; stack = rest }
+pub pass_leaves : (which : Layout) (page_size : ℕ) (frame : Frame) (frames : List Frame) (state : Open) (whole : Laid BranchElement) → IsPass which page_size (frame ∷ frames) state [] whole
+    → IsPass which page_size frames (pushing frame.state (held_item frame (end_of page_size state))) (items_of which page_size frame.after) whole
+pass_leaves which page_size frame frames state whole pass =
+    let same : pass.root ≡ end_of page_size state = sym (ends which page_size state pass.root pass.current) in
+    let (outer, is, rest) = subst (λ (r : Laid BranchElement). IsStack which page_size (frame ∷ frames) r whole) same pass.stack in
+    record { root = outer; current = is; begun = pushed_begun frame.state (held_item frame (end_of page_size state)); stack = rest }
 
 pub put_leaves : (page_size : ℕ) (frame : Frame) (frames : List Frame) (state : Open)
     → all_put frames (pushing frame.state (held_item frame (end_of page_size state))) ≡ all_put (frame ∷ frames) state ++ end_puts page_size state (base_in (frame ∷ frames))
@@ -89,8 +100,8 @@ put_leaves page_size frame frames state =
     ∙ (sym (append_assoc xs ys (zs ++ es)) ∙ sym (append_assoc (xs ++ ys) zs es))
 
 -- The end: what was put and what the last runs put are the pages of the layout.
-pub pass_ends : (page_size : ℕ) (tree : Tree) (state : Open) → IsPass page_size [] state [] (root_of Plain page_size tree)
-    → all_put [] state ++ end_puts page_size state first_page ≡ layout_pages Plain page_size tree
-pass_ends page_size tree state pass =
-    let same : end_of page_size state ≡ root_of Plain page_size tree = ends page_size state pass.root pass.current ∙ pass.stack in
+pub pass_ends : (which : Layout) (page_size : ℕ) (tree : Tree) (state : Open) → IsPass which page_size [] state [] (root_of which page_size tree)
+    → all_put [] state ++ end_puts page_size state first_page ≡ layout_pages which page_size tree
+pass_ends which page_size tree state pass =
+    let same : end_of page_size state ≡ root_of which page_size tree = ends which page_size state pass.root pass.current ∙ pass.stack in
     sym (ends_put page_size state first_page) ∙ ap (λ (r : Laid BranchElement). r.pages first_page) same

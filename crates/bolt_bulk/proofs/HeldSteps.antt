@@ -1,5 +1,5 @@
 -- What a pass held so far, at the most, changes only where an item joins a leaf: then the items that are held now count.
-use Rattle.std.proofs.Common.{◌≡◌, ◌∙◌, ℕ, ◌+◌, ◌≤◌, Bool, true, false, List, [], ◌∷◌, ◌++◌, length, max, refl, sym, ap, subst, arith}
+use Rattle.std.proofs.Common.{◌≡◌, ◌∙◌, ℕ, ◌+◌, ◌≤◌, Bool, true, false, Option, List, [], ◌∷◌, ◌++◌, length, max, refl, sym, ap, subst, arith}
 use Rattle.std.proofs.lemmas.List.{length-append, length-map}
 use Rattle.std.proofs.lemmas.List.Sums.{sum_by-cons}
 use Rattle.bolt_format.specs.ElementPlaces.{branch_view}
@@ -13,7 +13,7 @@ use Rattle.bolt_bulk.specs.Private.HeldItems.{held_view}
 use Rattle.bolt_bulk.specs.Private.HeldSoFar.{held_frames, held_on, held_open, held_over, held_so_far, length_frames, length_open, length_over}
 use Rattle.bolt_bulk.specs.Private.OpenBuckets.{rows_of}
 use Rattle.bolt_bulk.specs.Private.OpenRows.{AreRows, IsOpenRows}
-use Rattle.bolt_bulk.specs.Private.OpenRuns.{Frame, Open, climb, close, end_of, has_room, key_size, making_room, numbers_in, pushing, taking}
+use Rattle.bolt_bulk.specs.Private.OpenRuns.{Frame, Open, Upper, climb, close, end_of, has_room, key_size, making_room, numbers_in, pushed_on, pushing, stays_open, taking}
 use Rattle.bolt_bulk.specs.Private.Passes.{AreWaiting}
 use Rattle.bolt_bulk.specs.declared.branch_runs.BranchRun.{BranchRun}
 use Rattle.bolt_bulk.specs.declared.open_bucket.OpenBucket.{OpenBucket}
@@ -35,9 +35,10 @@ on_page : {E : Type 0} (run : List (Laid E)) → held_in run ≡ held_on run 0
 on_page [] = refl
 on_page (item ∷ run) = ap (λ (n : ℕ). max item.held (1 + n)) (on_page run)
 
-over_max : (uppers : List (List (Laid BranchElement))) (inner : ℕ) → held_over uppers inner ≡ max (held_over uppers 0) (length_over uppers + inner)
+over_max : (uppers : List Upper) (inner : ℕ) → held_over uppers inner ≡ max (held_over uppers 0) (length_over uppers + inner)
 over_max [] inner = omega arith
-over_max (run ∷ uppers) inner =
+over_max (upper ∷ uppers) inner =
+    let run : List (Laid BranchElement) = upper.run in
     let a = over_max uppers (held_on run inner) in
     let b = over_max uppers (held_on run 0) in
     let c = on_max run inner in omega arith
@@ -61,20 +62,20 @@ frames_max (frame ∷ frames) inner =
 joined : (run : List (Laid BranchElement)) (q : Laid BranchElement) → 1 ≤ q.held → held_on (run ++ q ∷ []) 0 ≡ held_on run q.held
 joined run q some = on_push run q 0 ∙ ap (λ (n : ℕ). held_on run n) (let e : max q.held (1 + 0) ≡ q.held = omega arith in e)
 
-climbs : (page_size : ℕ) (key : List ℕ) (q : Laid BranchElement) (run : List (Laid BranchElement)) (uppers : List (List (Laid BranchElement))) → 1 ≤ q.held
-    → ((up : Laid BranchElement) → 1 ≤ up.held → held_over (climb page_size key up uppers) 0 ≡ held_over uppers up.held)
-    → (b : Bool) → has_room page_size 2 (run ++ q ∷ []) (key_size key) ≡ b → held_over (climb page_size key q (run ∷ uppers)) 0 ≡ held_over (run ∷ uppers) q.held
-climbs page_size key q run uppers some above true room = rw room (ap (λ (n : ℕ). held_over uppers n) (joined run q some))
-climbs page_size key q run uppers some above false room =
-    let up : Laid BranchElement = levels.page_over levels.branch_view page_size (run ++ q ∷ []) in
-    let same : up.held ≡ held_on run q.held = on_page (run ++ q ∷ []) ∙ joined run q some in
-    let m = on_max run q.held in
+climbs : (page_size : ℕ) (new : Option ℕ) (key : List ℕ) (q : Laid BranchElement) (upper : Upper) (uppers : List Upper) → 1 ≤ q.held
+    → ((up : Laid BranchElement) → 1 ≤ up.held → held_over (climb page_size new key up uppers) 0 ≡ held_over uppers up.held)
+    → (b : Bool) → stays_open page_size (pushed_on upper q) (key_size key) ≡ b → held_over (climb page_size new key q (upper ∷ uppers)) 0 ≡ held_over (upper ∷ uppers) q.held
+climbs page_size new key q upper uppers some above true room = rw room (ap (λ (n : ℕ). held_over uppers n) (joined upper.run q some))
+climbs page_size new key q upper uppers some above false room =
+    let up : Laid BranchElement = levels.page_over levels.branch_view page_size (upper.run ++ q ∷ []) in
+    let same : up.held ≡ held_on upper.run q.held = on_page (upper.run ++ q ∷ []) ∙ joined upper.run q some in
+    let m = on_max upper.run q.held in
     rw room (above up (omega arith) ∙ ap (λ (n : ℕ). held_over uppers n) same)
 
-climbed : (page_size : ℕ) (key : List ℕ) (q : Laid BranchElement) (uppers : List (List (Laid BranchElement))) → 1 ≤ q.held → held_over (climb page_size key q uppers) 0 ≡ held_over uppers q.held
-climbed page_size key q [] some = omega arith
-climbed page_size key q (run ∷ uppers) some =
-    climbs page_size key q run uppers some (λ up high. climbed page_size key up uppers high) (has_room page_size 2 (run ++ q ∷ []) (key_size key)) refl
+climbed : (page_size : ℕ) (new : Option ℕ) (key : List ℕ) (q : Laid BranchElement) (uppers : List Upper) → 1 ≤ q.held → held_over (climb page_size new key q uppers) 0 ≡ held_over uppers q.held
+climbed page_size new key q [] some = omega arith
+climbed page_size new key q (upper ∷ uppers) some =
+    climbs page_size new key q upper uppers some (λ up high. climbed page_size new key up uppers high) (stays_open page_size (pushed_on upper q) (key_size key)) refl
 
 -- room for an item is made by closing pages
 room_first : {E : Type 0} (page_size : ℕ) (run : List (Laid E)) (size : ℕ) → has_room page_size 1 run size ≡ false → 1 ≤ held_on run 0
@@ -87,22 +88,23 @@ made page_size state key size false room =
     let q : Laid BranchElement = levels.page_over levels.leaf_view page_size state.run in
     let same : q.held ≡ held_on state.run 0 = on_page state.run in
     let some = room_first page_size state.run size room in
-    rw room (climbed page_size key q state.uppers (omega arith) ∙ ap (λ (n : ℕ). held_over state.uppers n) same)
+    rw room (climbed page_size (state.limits (length state.uppers)) key q state.uppers (omega arith) ∙ ap (λ (n : ℕ). held_over state.uppers n) same)
 
 -- and so does the end of a bucket
-closed : (page_size : ℕ) (q : Laid BranchElement) (uppers : List (List (Laid BranchElement))) → 1 ≤ q.held → (close page_size q uppers).held ≡ held_over uppers q.held
+closed : (page_size : ℕ) (q : Laid BranchElement) (uppers : List Upper) → 1 ≤ q.held → (close page_size q uppers).held ≡ held_over uppers q.held
 closed page_size q [] some = refl
-closed page_size q (run ∷ uppers) some =
+closed page_size q (upper ∷ uppers) some =
+    let run : List (Laid BranchElement) = upper.run in
     let up : Laid BranchElement = levels.page_over levels.branch_view page_size (run ++ q ∷ []) in
     let same : up.held ≡ held_on run q.held = on_page (run ++ q ∷ []) ∙ joined run q some in
     let m = on_max run q.held in
     closed page_size up uppers (omega arith) ∙ ap (λ (n : ℕ). held_over uppers n) same
 
-ended_over : (page_size : ℕ) (run : List (Laid LeafElement)) (uppers : List (List (Laid BranchElement))) → (run ≡ [] → uppers ≡ [])
+ended_over : (page_size : ℕ) (run : List (Laid LeafElement)) (uppers : List Upper) → (run ≡ [] → uppers ≡ [])
     → (close page_size (levels.page_over levels.leaf_view page_size run) uppers).held ≡ held_over uppers (held_on run 0)
 ended_over page_size [] uppers begun =
     let none = begun refl in
-    let P : List (List (Laid BranchElement)) → Type 0 = λ us. (close page_size (levels.page_over levels.leaf_view page_size []) us).held ≡ held_over us (held_on {E = LeafElement} [] 0) in
+    let P : List Upper → Type 0 = λ us. (close page_size (levels.page_over levels.leaf_view page_size []) us).held ≡ held_over us (held_on {E = LeafElement} [] 0) in
     subst P (sym none) refl
 ended_over page_size (item ∷ run) uppers begun =
     let q : Laid BranchElement = levels.page_over levels.leaf_view page_size (item ∷ run) in
@@ -149,10 +151,10 @@ leaves_held page_size frame frames state before after begun old counted =
 flat_run : {E : Type 0} (run : List (Laid E)) → held_in run ≤ length run → held_on run 0 ≡ length run
 flat_run run flat = let e = on_page run in let m = on_max run 0 in omega arith
 
-pub enters_held : (page_size : ℕ) (frame : Frame) (frames : List Frame) (state : Open) (key : List ℕ) (size : ℕ) (run : List (Laid LeafElement)) (before after : ℕ) → frame.state ≡ making_room page_size state key size
+pub enters_held : (page_size : ℕ) (limits : ℕ → Option ℕ) (frame : Frame) (frames : List Frame) (state : Open) (key : List ℕ) (size : ℕ) (run : List (Laid LeafElement)) (before after : ℕ) → frame.state ≡ making_room page_size state key size
     → held_in run ≤ length run → before ≡ capped (held_so_far frames state)
-    → after ≡ max before (capped (length_frames (frame ∷ frames) + length_open (record { uppers = []; run = run }))) → after ≡ capped (held_so_far (frame ∷ frames) (record { uppers = []; run = run }))
-enters_held page_size frame frames state key size run before after room flat old counted =
+    → after ≡ max before (capped (length_frames (frame ∷ frames) + length_open (record { uppers = []; run = run; limits = limits }))) → after ≡ capped (held_so_far (frame ∷ frames) (record { uppers = []; run = run; limits = limits }))
+enters_held page_size limits frame frames state key size run before after room flat old counted =
     let same = ap (λ (s : Open). held_open s 0) room ∙ made page_size state key size (has_room page_size 1 state.run size) refl in
     let values = flat_run run flat in
     let inner = ap (λ (n : ℕ). held_frames frames (held_open frame.state n)) values in
@@ -170,13 +172,13 @@ run_length run pages n same =
     let e = ap (λ (es : List BranchElement). length es) same in
     let k = length-elements pages n in omega arith
 
-above_length : (runs : List BranchRun) (uppers : List (List (Laid BranchElement))) (b : ℕ) → AreRows (rows_above runs) uppers b → items_above runs ≡ length_over uppers
+above_length : (runs : List BranchRun) (uppers : List Upper) (b : ℕ) → AreRows (rows_above runs) uppers b → items_above runs ≡ length_over uppers
 above_length [] [] b are = refl
-above_length [] (pages ∷ uppers) b are = absurd are
+above_length [] (upper ∷ uppers) b are = absurd are
 above_length (run ∷ runs) [] b are = absurd are
-above_length (run ∷ runs) (pages ∷ uppers) b are =
+above_length (run ∷ runs) (upper ∷ uppers) b are =
     let ih = above_length runs uppers b are.1 in
-    let one = run_length run pages _ are.0.same in
+    let one = run_length run upper.run _ are.0.same in
     let s = sum_by-cons (λ (r : BranchRun). length r.elements.items) run runs in omega arith
 
 pub items_length : (bucket : OpenBucket) (next b : ℕ) (state : Open) → IsOpenRows (rows_of bucket next) state b → items_in bucket ≡ length_open state

@@ -15,6 +15,7 @@ mod HeldSteps
 mod LeafPuts
 mod Members
 mod Ontos
+mod Openings
 mod OpenRowLemmas
 mod OpenRunLemmas
 mod PassAt

@@ -13,7 +13,7 @@ use Rattle.bolt_layout.specs.PageBytes.{leaf_data}
 use Rattle.bolt_bulk.specs.Private.OpenRows.{IsKeyedItem}
 use Rattle.bolt_bulk.specs.Private.Passes.{onto}
 use Rattle.bolt_bulk.specs.Private.TakenItems.{entries_size}
-use Rattle.bolt_layout.specs.declared.layout.Layout.TheVariants.{Plain}
+use Rattle.bolt_layout.specs.declared.layout.Layout.{Layout}
 
 abbrev pub IsValue : LeafElement → Type 0
 IsValue e = e.is_bucket ≡ false
@@ -28,9 +28,9 @@ pub values_held : (entries : List LeafElement) → held_in (value_items entries)
 values_held [] = omega arith
 values_held (e ∷ entries) = let ih = values_held entries in omega arith
 
-pub onto_items : (page_size : ℕ) (entries : List LeafElement) (tree : Tree) → items_of Plain page_size (onto entries tree) ≡ value_items entries ++ items_of Plain page_size tree
-onto_items page_size [] tree = refl
-onto_items page_size (e ∷ entries) tree = ap (λ (items : List (Laid LeafElement)). leaf_item e.key e.value false ∷ items) (onto_items page_size entries tree)
+pub onto_items : (which : Layout) (page_size : ℕ) (entries : List LeafElement) (tree : Tree) → items_of which page_size (onto entries tree) ≡ value_items entries ++ items_of which page_size tree
+onto_items which page_size [] tree = refl
+onto_items which page_size (e ∷ entries) tree = ap (λ (items : List (Laid LeafElement)). leaf_item e.key e.value false ∷ items) (onto_items which page_size entries tree)
 
 pub onto_push : (entries : List LeafElement) (e : LeafElement) (tree : Tree) → onto (entries ++ e ∷ []) tree ≡ onto entries (with_value e.key e.value tree)
 onto_push [] e tree = refl
@@ -48,18 +48,18 @@ values_size (e ∷ entries) =
     let a = length-append e.key (e.value ++ leaf_data entries) in
     let b = length-append e.value (leaf_data entries) in omega arith
 
-pub onto_size : (page_size : ℕ) (entries : List LeafElement) (tree : Tree)
-    → run_size size_of (items_of Plain page_size (onto entries tree)) + 16 ≡ entries_size entries + run_size size_of (items_of Plain page_size tree)
-onto_size page_size [] tree = omega arith
-onto_size page_size (e ∷ entries) tree =
-    let ih = onto_size page_size entries tree in
-    let own = sum_by-cons (size_of {E = LeafElement}) (leaf_item e.key e.value false) (items_of Plain page_size (onto entries tree)) in
+pub onto_size : (which : Layout) (page_size : ℕ) (entries : List LeafElement) (tree : Tree)
+    → run_size size_of (items_of which page_size (onto entries tree)) + 16 ≡ entries_size entries + run_size size_of (items_of which page_size tree)
+onto_size which page_size [] tree = omega arith
+onto_size which page_size (e ∷ entries) tree =
+    let ih = onto_size which page_size entries tree in
+    let own = sum_by-cons (size_of {E = LeafElement}) (leaf_item e.key e.value false) (items_of which page_size (onto entries tree)) in
     let a = length-append e.key (e.value ++ leaf_data entries) in
     let b = length-append e.value (leaf_data entries) in omega arith
 
-pub onto_count : (page_size : ℕ) (entries : List LeafElement) (tree : Tree) → length (items_of Plain page_size (onto entries tree)) ≡ length entries + length (items_of Plain page_size tree)
-onto_count page_size [] tree = omega arith
-onto_count page_size (e ∷ entries) tree = let ih = onto_count page_size entries tree in omega arith
+pub onto_count : (which : Layout) (page_size : ℕ) (entries : List LeafElement) (tree : Tree) → length (items_of which page_size (onto entries tree)) ≡ length entries + length (items_of which page_size tree)
+onto_count which page_size [] tree = omega arith
+onto_count which page_size (e ∷ entries) tree = let ih = onto_count which page_size entries tree in omega arith
 
 same_value : (e : LeafElement) → IsValue e → record { key = e.key; value = e.value; is_bucket = false } ≡ e
 same_value e v = ap (λ (b : Bool). record { key = e.key; value = e.value; is_bucket = b }) (sym v)
@@ -86,14 +86,14 @@ values_count [] = refl
 values_count (e ∷ entries) = let ih = values_count entries in omega arith
 
 -- a bucket of values alone that takes a quarter of a page at most is inline
-pub ends_inline : (page_size : ℕ) (entries : List LeafElement) → entries_size entries ≤ page_size / 4 → length entries ≤ 65534
-    → is_inline page_size (onto entries end) (items_of Plain page_size (onto entries end)) ≡ true
-ends_inline page_size entries small few =
+pub ends_inline : (which : Layout) (page_size : ℕ) (entries : List LeafElement) → entries_size entries ≤ page_size / 4 → length entries ≤ 65534
+    → is_inline page_size (onto entries end) (items_of which page_size (onto entries end)) ≡ true
+ends_inline which page_size entries small few =
     let h = onto_holds entries end in
-    let s = onto_size page_size entries end in
-    let c = onto_count page_size entries end in
-    let fits : nat_le (run_size size_of (items_of Plain page_size (onto entries end))) (page_size / 4) ≡ true = le-leb _ _ (omega arith) in
-    let cap : nat_le (length (items_of Plain page_size (onto entries end))) max_items ≡ true = le-leb _ _ (omega arith) in
+    let s = onto_size which page_size entries end in
+    let c = onto_count which page_size entries end in
+    let fits : nat_le (run_size size_of (items_of which page_size (onto entries end))) (page_size / 4) ≡ true = le-leb _ _ (omega arith) in
+    let cap : nat_le (length (items_of which page_size (onto entries end))) max_items ≡ true = le-leb _ _ (omega arith) in
     rw (h, fits, cap) refl
 
 never_first : (a b : Bool) → (a && (false && b)) ≡ false
@@ -106,20 +106,20 @@ never_last true false = refl
 never_last false b = refl
 
 -- one with a value more than takes a quarter of a page, or than a page may have, isn't
-pub value_too_large : (page_size : ℕ) (entries : List LeafElement) (key value : List ℕ) (after : Tree)
+pub value_too_large : (which : Layout) (page_size : ℕ) (entries : List LeafElement) (key value : List ℕ) (after : Tree)
     → (page_size / 4 < entries_size entries + (16 + (length key + length value))) ⊎ (65534 ≤ length entries)
-    → is_inline page_size (onto entries (with_value key value after)) (items_of Plain page_size (onto entries (with_value key value after))) ≡ false
-value_too_large page_size entries key value after large =
-    let s = onto_size page_size entries (with_value key value after) in
-    let own = sum_by-cons (size_of {E = LeafElement}) (leaf_item key value false) (items_of Plain page_size after) in
-    let c = onto_count page_size entries (with_value key value after) in
+    → is_inline page_size (onto entries (with_value key value after)) (items_of which page_size (onto entries (with_value key value after))) ≡ false
+value_too_large which page_size entries key value after large =
+    let s = onto_size which page_size entries (with_value key value after) in
+    let own = sum_by-cons (size_of {E = LeafElement}) (leaf_item key value false) (items_of which page_size after) in
+    let c = onto_count which page_size entries (with_value key value after) in
     let inside : Tree = onto entries (with_value key value after) in
     elim large [
-      | inl long ↦ (let no : nat_le (run_size size_of (items_of Plain page_size inside)) (page_size / 4) ≡ false = lt-leb _ _ (omega arith) in rw no (never_first (not (holds_bucket inside)) (nat_le (length (items_of Plain page_size inside)) max_items)))
-      | inr many ↦ (let no : nat_le (length (items_of Plain page_size inside)) max_items ≡ false = lt-leb _ _ (omega arith) in rw no (never_last (not (holds_bucket inside)) (nat_le (run_size size_of (items_of Plain page_size inside)) (page_size / 4))))
+      | inl long ↦ (let no : nat_le (run_size size_of (items_of which page_size inside)) (page_size / 4) ≡ false = lt-leb _ _ (omega arith) in rw no (never_first (not (holds_bucket inside)) (nat_le (length (items_of which page_size inside)) max_items)))
+      | inr many ↦ (let no : nat_le (length (items_of which page_size inside)) max_items ≡ false = lt-leb _ _ (omega arith) in rw no (never_last (not (holds_bucket inside)) (nat_le (run_size size_of (items_of which page_size inside)) (page_size / 4))))
     ]
 
 -- and one that holds a bucket isn't
-pub bucket_has_root : (page_size : ℕ) (entries : List LeafElement) (key : List ℕ) (sequence : ℕ) (inside after : Tree)
-    → is_inline page_size (onto entries (with_bucket key sequence inside after)) (items_of Plain page_size (onto entries (with_bucket key sequence inside after))) ≡ false
-bucket_has_root page_size entries key sequence inside after = rw (onto_holds entries (with_bucket key sequence inside after)) refl
+pub bucket_has_root : (which : Layout) (page_size : ℕ) (entries : List LeafElement) (key : List ℕ) (sequence : ℕ) (inside after : Tree)
+    → is_inline page_size (onto entries (with_bucket key sequence inside after)) (items_of which page_size (onto entries (with_bucket key sequence inside after))) ≡ false
+bucket_has_root which page_size entries key sequence inside after = rw (onto_holds entries (with_bucket key sequence inside after)) refl

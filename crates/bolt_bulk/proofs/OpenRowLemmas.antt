@@ -1,5 +1,5 @@
 -- What the code keeps open of a bucket is what the pass has open.
-use Rattle.std.proofs.Common.{◌≡◌, ◌∙◌, ℕ, ◌+◌, true, false, List, [], ◌∷◌, ◌++◌, length, refl, sym, ap, inl, inr, arith}
+use Rattle.std.proofs.Common.{◌≡◌, ◌∙◌, ℕ, suc, ◌+◌, Option, true, false, List, [], ◌∷◌, ◌++◌, length, refl, sym, ap, inl, inr, arith}
 use Rattle.std.specs.List.{AllByRecursion}
 use Rattle.std.proofs.lemmas.Bool.{cases_Bool}
 use Rattle.std.proofs.lemmas.List.Sums.{sum_by_push}
@@ -7,45 +7,52 @@ use Rattle.bolt_format.specs.Elements.{BranchElement, LeafElement}
 use Rattle.bolt_layout.specs.Cut.{run_size}
 use Rattle.bolt_layout.specs.Laid.{Laid, Placed, elements_of, first_key, numbers_of, size_of}
 use Rattle.bolt_layout.specs.Levels.{branch_view, leaf_view, overflow_of, page_over, run_overflow}
-use Rattle.bolt_bulk.specs.Private.OpenRuns.{Open, climb, close, close_puts, end_of, end_puts, has_room, key_size, making_room, nothing_open, numbers_in, own_page, pushing, put_in, room_puts}
-use Rattle.bolt_bulk.specs.Private.Rows.{BranchRow, OpenRows, leaf_key, leaf_page, leaves_have_room, no_leaves, row_has_room, row_key, row_push, rows_climb, rows_close_put, rows_end, rows_end_put, rows_next, rows_root, rows_push, rows_put, rows_room, rows_room_put}
+use Rattle.bolt_bulk.specs.Private.OpenRuns.{Open, Upper, climb, close, close_puts, end_of, end_puts, has_room, key_size, making_room, nothing_open, numbers_in, own_page, pushed_on, pushing, put_in, room_puts, stays_open}
+use Rattle.bolt_bulk.specs.Private.Rows.{BranchRow, OpenRows, leaf_key, leaf_page, leaves_have_room, no_leaves, row_key, row_push, row_stays, rows_climb, rows_close_put, rows_end, rows_end_put, rows_next, rows_root, rows_push, rows_put, rows_room, rows_room_put}
 use Rattle.bolt_bulk.specs.Private.OpenRows.{AreRows, IsKeyed, IsKeyedItem, IsOpenRows}
 use Rattle.bolt_layout.proofs.ListLemmas.{all_append}
 use Rattle.bolt_layout.proofs.OverRows.{numbers-append}
-use Rattle.bolt_bulk.proofs.RowLemmas.{placed_same, elements-append, key_same, length-elements, room_same, row_pushed, rows_climbed, same_element}
+use Rattle.bolt_bulk.proofs.RowLemmas.{placed_same, elements-append, key_same, length-elements, row_pushed, rows_climbed, same_element, stays_same}
 
 -- the next number after a climb
-rows_nexted : (page_size : ℕ) (key : List ℕ) (e : BranchElement) (next b : ℕ) (q : Laid BranchElement) (rows : List BranchRow) (uppers : List (List (Laid BranchElement))) → AreRows rows uppers b → IsKeyed q
-    → e ≡ q.element (b + numbers_in uppers) → next ≡ b + numbers_in uppers + q.numbers → rows_next page_size key e next rows ≡ b + numbers_in (climb page_size key q uppers)
-rows_nexted page_size key e next b q [] [] are keyed same number = omega arith
-rows_nexted page_size key e next b q [] (run ∷ uppers) are keyed same number = absurd are
-rows_nexted page_size key e next b q (row ∷ rows) [] are keyed same number = absurd are
-rows_nexted page_size key e next b q (row ∷ rows) (run ∷ uppers) are keyed same number =
+rows_nexted : (page_size : ℕ) (new : Option ℕ) (key : List ℕ) (e : BranchElement) (next b : ℕ) (q : Laid BranchElement) (rows : List BranchRow) (uppers : List Upper) → AreRows rows uppers b → IsKeyed q
+    → e ≡ q.element (b + numbers_in uppers) → next ≡ b + numbers_in uppers + q.numbers → rows_next page_size key e next rows ≡ b + numbers_in (climb page_size new key q uppers)
+rows_nexted page_size new key e next b q [] [] are keyed same number = omega arith
+rows_nexted page_size new key e next b q [] (upper ∷ uppers) are keyed same number = absurd are
+rows_nexted page_size new key e next b q (row ∷ rows) [] are keyed same number = absurd are
+rows_nexted page_size new key e next b q (row ∷ rows) (upper ∷ uppers) are keyed same number =
+    let run : List (Laid BranchElement) = upper.run in
     let m : ℕ = b + numbers_in uppers in
     let count = numbers-append (put_in uppers) run in
-    let place : b + numbers_in (run ∷ uppers) ≡ m + numbers_of run = omega arith in
-    let pushed = row_pushed row run m q e are.0 keyed (same ∙ ap q.element place) in
-    let test = room_same page_size (row_push row e) (run ++ q ∷ []) m (key_size key) pushed in
+    let place : b + numbers_in (upper ∷ uppers) ≡ m + numbers_of run = omega arith in
+    let pushed = row_pushed row upper m q e are.0 keyed (same ∙ ap q.element place) in
+    let test = stays_same page_size (row_push row e) (pushed_on upper q) m (key_size key) pushed in
     let q2 : Laid BranchElement = page_over branch_view page_size (run ++ q ∷ []) in
     let more = numbers-append run (q ∷ []) in
     let next_is : next ≡ m + numbers_of (run ++ q ∷ []) = omega arith in
     let e2 : BranchElement = record { key = row_key (row_push row e).elements; child = next } in
     let over : overflow_of page_size (row_push row e).size ≡ run_overflow page_size (run ++ q ∷ []) = ap (overflow_of page_size) pushed.size_is in
     let named : e2 ≡ q2.element m = same_element e2 (q2.element m) (ap row_key pushed.same ∙ key_same (run ++ q ∷ []) m pushed.keyed) next_is in
-    let ih = rows_nexted page_size key e2 (next + (1 + overflow_of page_size (row_push row e).size)) b q2 rows uppers are.1 (refl, λ n. refl) named (omega arith) in
+    let ih = rows_nexted page_size new key e2 (next + (1 + overflow_of page_size (row_push row e).size)) b q2 rows uppers are.1 (refl, λ n. refl) named (omega arith) in
     let stays = numbers-append (put_in uppers) (run ++ q ∷ []) in
-    let closes = numbers-append (put_in (climb page_size key q2 uppers)) [] in
-    elim (cases_Bool (has_room page_size 2 (run ++ q ∷ []) (key_size key))) [
-      | inl t ↦ (let u : row_has_room page_size (row_push row e) (key_size key) ≡ true = test ∙ t in rw (t, u) (omega arith))
-      | inr f ↦ (let u : row_has_room page_size (row_push row e) (key_size key) ≡ false = test ∙ f in rw (f, u) (ih ∙ omega arith))
+    let closes = numbers-append (put_in (climb page_size new key q2 uppers)) [] in
+    elim (cases_Bool (stays_open page_size (pushed_on upper q) (key_size key))) [
+      | inl t ↦ (let u : row_stays page_size (row_push row e) (key_size key) ≡ true = test ∙ t in rw (t, u) (omega arith))
+      | inr f ↦ (let u : row_stays page_size (row_push row e) (key_size key) ≡ false = test ∙ f in rw (f, u) (ih ∙ omega arith))
     ]
 
-pub nothing_rows : (b : ℕ) → IsOpenRows (record { leaves = no_leaves; uppers = []; next = b }) nothing_open b
-nothing_rows b = record { same = refl; size_is = refl; keyed = tt; above = tt; next_is = omega arith }
+pub nothing_rows : (limits : ℕ → Option ℕ) (b : ℕ) → IsOpenRows (record { leaves = no_leaves; uppers = []; limits = limits; next = b }) (nothing_open limits) b
+nothing_rows limits b = record { same = refl; size_is = refl; keyed = tt; above = tt; next_is = omega arith; limits_are = refl }
 
 pub leaf_key_same : (run : List (Laid LeafElement)) (n : ℕ) → AllByRecursion IsKeyedItem run → leaf_key (elements_of run n) ≡ first_key run
 leaf_key_same [] n keyed = refl
 leaf_key_same (x ∷ run) n keyed = keyed.0 n
+
+as_many : (rows : List BranchRow) (uppers : List Upper) (b : ℕ) → AreRows rows uppers b → length rows ≡ length uppers
+as_many [] [] b are = refl
+as_many [] (upper ∷ uppers) b are = absurd are
+as_many (row ∷ rows) [] b are = absurd are
+as_many (row ∷ rows) (upper ∷ uppers) b are = ap suc (as_many rows uppers b are.1)
 
 -- making room
 pub rows_have_room : (page_size : ℕ) (rows : OpenRows) (state : Open) (b : ℕ) (key : List ℕ) (size : ℕ) → IsOpenRows rows state b
@@ -60,9 +67,11 @@ rows_have_room page_size rows state b key size is =
     let over : overflow_of page_size rows.leaves.size ≡ run_overflow page_size state.run = ap (overflow_of page_size) is.size_is in
     let named : closed ≡ q.element m = same_element closed (q.element m) (ap leaf_key is.same ∙ leaf_key_same state.run m is.keyed) is.next_is in
     let n = is.next_is in
+    let new : Option ℕ = state.limits (length state.uppers) in
+    let level : rows.limits (length rows.uppers) ≡ new = ap (λ (f : ℕ → Option ℕ). f (length rows.uppers)) is.limits_are ∙ ap (λ (k : ℕ). state.limits k) (as_many rows.uppers state.uppers b is.above) in
     let number : after ≡ m + q.numbers = omega arith in
-    let climbed = rows_climbed page_size key closed after b q rows.uppers state.uppers is.above (refl, λ k. refl) named number in
-    let nexted = rows_nexted page_size key closed after b q rows.uppers state.uppers is.above (refl, λ k. refl) named number in
+    let climbed = rows_climbed page_size new key closed after b q rows.uppers state.uppers is.above (refl, λ k. refl) named number in
+    let nexted = rows_nexted page_size new key closed after b q rows.uppers state.uppers is.above (refl, λ k. refl) named number in
     let f : ℕ → ℕ → List LeafElement → Placed = λ k s es. record { number = k; view = leaf_view (overflow_of page_size s) es } in
     let own : leaf_page page_size rows.leaves rows.next ≡ own_page leaf_view page_size state.run m =
     ap (λ (k : ℕ). f k rows.leaves.size rows.leaves.elements) is.next_is
@@ -71,9 +80,9 @@ rows_have_room page_size rows state b key size is =
       | inl t ↦ (let u : leaves_have_room page_size rows.leaves size ≡ true = test ∙ t in rw (t, u) (is, refl))
       | inr g ↦
           (let u : leaves_have_room page_size rows.leaves size ≡ false = test ∙ g in
-          let made : IsOpenRows (record { leaves = no_leaves; uppers = rows_climb page_size key closed after rows.uppers; next = rows_next page_size key closed after rows.uppers })
-          (record { uppers = climb page_size key q state.uppers; run = [] }) b = record { same = refl; size_is = refl; keyed = tt; above = climbed.0; next_is = nexted ∙ omega arith } in
-          rw (g, u) (made, ap (λ (p : Placed). p ∷ rows_put page_size key closed after rows.uppers) own ∙ ap (λ (ps : List Placed). own_page leaf_view page_size state.run m ∷ ps) climbed.1))
+          let made : IsOpenRows (record { leaves = no_leaves; uppers = rows_climb page_size new key closed after rows.uppers; limits = rows.limits; next = rows_next page_size key closed after rows.uppers })
+          (record { uppers = climb page_size new key q state.uppers; run = []; limits = state.limits }) b = record { same = refl; size_is = refl; keyed = tt; above = climbed.0; next_is = nexted ∙ omega arith; limits_are = is.limits_are } in
+          rw (g, u, level) (made, ap (λ (p : Placed). p ∷ rows_put page_size key closed after rows.uppers) own ∙ ap (λ (ps : List Placed). own_page leaf_view page_size state.run m ∷ ps) climbed.1))
     ]
 
 -- an item, once the pages below it were put
@@ -92,21 +101,23 @@ rows_pushed rows state b item is keyed =
       keyed = all_append IsKeyedItem state.run (item ∷ []) is.keyed (keyed, tt);
       above = is.above;
       next_is = omega arith;
+      limits_are = is.limits_are;
     }
 
 -- the end
-rows_closed : (page_size : ℕ) (e : BranchElement) (next b : ℕ) (q : Laid BranchElement) (rows : List BranchRow) (uppers : List (List (Laid BranchElement))) → AreRows rows uppers b → IsKeyed q
+rows_closed : (page_size : ℕ) (e : BranchElement) (next b : ℕ) (q : Laid BranchElement) (rows : List BranchRow) (uppers : List Upper) → AreRows rows uppers b → IsKeyed q
     → e ≡ q.element (b + numbers_in uppers) → next ≡ b + numbers_in uppers + q.numbers
     → (rows_close_put page_size e next rows ≡ close_puts page_size q uppers b) × (rows_root page_size e next rows ≡ ((close page_size q uppers).element b).child)
 rows_closed page_size e next b q [] [] are keyed same number =
     let at : b + 0 ≡ b = omega arith in (refl, ap (λ (x : BranchElement). x.child) (same ∙ ap q.element at))
-rows_closed page_size e next b q [] (run ∷ uppers) are keyed same number = absurd are
+rows_closed page_size e next b q [] (upper ∷ uppers) are keyed same number = absurd are
 rows_closed page_size e next b q (row ∷ rows) [] are keyed same number = absurd are
-rows_closed page_size e next b q (row ∷ rows) (run ∷ uppers) are keyed same number =
+rows_closed page_size e next b q (row ∷ rows) (upper ∷ uppers) are keyed same number =
+    let run : List (Laid BranchElement) = upper.run in
     let m : ℕ = b + numbers_in uppers in
     let count = numbers-append (put_in uppers) run in
-    let place : b + numbers_in (run ∷ uppers) ≡ m + numbers_of run = omega arith in
-    let pushed = row_pushed row run m q e are.0 keyed (same ∙ ap q.element place) in
+    let place : b + numbers_in (upper ∷ uppers) ≡ m + numbers_of run = omega arith in
+    let pushed = row_pushed row upper m q e are.0 keyed (same ∙ ap q.element place) in
     let q2 : Laid BranchElement = page_over branch_view page_size (run ++ q ∷ []) in
     let more = numbers-append run (q ∷ []) in
     let next_is : next ≡ m + numbers_of (run ++ q ∷ []) = omega arith in
@@ -114,7 +125,7 @@ rows_closed page_size e next b q (row ∷ rows) (run ∷ uppers) are keyed same 
     let over : overflow_of page_size (row_push row e).size ≡ run_overflow page_size (run ++ q ∷ []) = ap (overflow_of page_size) pushed.size_is in
     let named : e2 ≡ q2.element m = same_element e2 (q2.element m) (ap row_key pushed.same ∙ key_same (run ++ q ∷ []) m pushed.keyed) next_is in
     let ih = rows_closed page_size e2 (next + (1 + overflow_of page_size (row_push row e).size)) b q2 rows uppers are.1 (refl, λ n. refl) named (omega arith) in
-    let own = placed_same page_size (row_push row e) (run ++ q ∷ []) m next pushed next_is in (
+    let own = placed_same page_size (row_push row e) (pushed_on upper q) m next pushed next_is in (
       ap (λ (p : Placed). p ∷ rows_close_put page_size e2 (next + (1 + overflow_of page_size (row_push row e).size)) rows) own
           ∙ ap (λ (ps : List Placed). own_page branch_view page_size (run ++ q ∷ []) m ∷ ps) ih.0,
       ih.1,

@@ -1,5 +1,5 @@
 -- The steps of a pass, over what code keeps of it.
-use Rattle.std.proofs.Common.{◌≡◌, ◌∙◌, ℕ, ◌+◌, ◌<◌, true, false, List, [], ◌∷◌, ◌++◌, length, map, max, reverse, Option, Some, None, Result, Ok, Err, Bor, Vec, Global, refl, sym, ap, subst, arith, append_assoc}
+use Rattle.std.proofs.Common.{◌≡◌, ◌∙◌, ℕ, suc, ◌+◌, ◌<◌, true, false, List, [], ◌∷◌, ◌++◌, length, map, max, min, reverse, Option, Some, None, Result, Ok, Err, Bor, Vec, Global, refl, sym, ap, subst, arith, append_assoc}
 use Rattle.std.specs.Prelude.{⊤, IfErr, IfOk, OnOk}
 use Rattle.std.specs.List.{AllByRecursion}
 use Rattle.std.proofs.KnownBytes.{Appends-nil}
@@ -21,7 +21,7 @@ use Rattle.bolt_bulk.specs.Private.HeldSoFar.{held_so_far, length_frames, length
 use Rattle.bolt_bulk.specs.Private.OpenBuckets.{bucket_end_next, rows_of}
 use Rattle.bolt_bulk.specs.Private.OpenRows.{IsOpenRows}
 use Rattle.bolt_bulk.specs.Private.OpenRuns.{Frame, Open, base_in, end_of, making_room, next_number, pushing, taking}
-use Rattle.bolt_bulk.specs.Private.Passes.{AreWaiting, HasRoot, IsAt, IsPending, IsSmall, StandsBefore, Steps, level_of, onto}
+use Rattle.bolt_bulk.specs.Private.Passes.{AreRightAround, Wanted, limits_by, AreWaiting, HasRoot, IsAt, IsPending, IsSmall, StandsBefore, Steps, level_of, onto}
 use Rattle.bolt_bulk.specs.Private.Rows.{OpenRows, rows_end, rows_end_put, rows_push, rows_room, rows_room_put}
 use Rattle.bolt_bulk.specs.Private.TakenItems.{inline_element, root_element, rows_taking, value_element}
 use Rattle.bolt_bulk.specs.Puts.{Puts}
@@ -35,11 +35,14 @@ use Rattle.bolt_bulk.specs.declared.steps.Waiting.{Waiting}
 use Rattle.bolt_bulk.proofs.Frames.{waiting}
 use Rattle.bolt_bulk.proofs.HeldPasses.{around_reverse}
 use Rattle.bolt_bulk.proofs.HeldSteps.{around_length, enters_held, items_length, leaves_held, takes_held}
-use Rattle.bolt_bulk.proofs.Ontos.{IsValue, onto_items, onto_push, value_items, values_held}
+use Rattle.bolt_bulk.proofs.Ontos.{IsValue, ends_inline, onto_items, onto_push, value_items, values_held}
+use Rattle.bolt_layout.specs.Limits.{HaveRightLimits}
+use Rattle.bolt_layout.specs.Openings.{AreRight, leaf_pages, opened_by, opened_in}
+use Rattle.bolt_bulk.specs.Private.RowLimits.{limit_in}
+use Rattle.bolt_bulk.proofs.Openings.{around_at, opened_inline, opened_onto, opened_rooted, right_at, right_onto}
 use Rattle.bolt_bulk.proofs.PassSteps.{IsOn, inline_item, on_before, on_enters, on_leaves, on_numbers, on_takes, open_values, pass_takes_all, root_item, values_put, values_rows}
 use Rattle.bolt_bulk.proofs.PutBefore.{bytes-append}
 use Rattle.bolt_bulk.proofs.PutsLemmas.{puts_then}
-use Rattle.bolt_layout.specs.declared.layout.Layout.TheVariants.{Plain}
 
 -- ---- results
 
@@ -86,9 +89,9 @@ puts_fault old new text e a = record { all = tt; sound = tt; beginning = a.begin
 
 -- ---- one step after another
 
-module _ {S : Type 0} (tree : Tree) (taken : S → Option (List ℕ)) (failed : S → ℕ) (bounds : Bounds) where
+module _ {S : Type 0} (wanted : Wanted) (taken : S → Option (List ℕ)) (failed : S → ℕ) (bounds : Bounds) where
   abbrev StepsBy : {A : Type 0} (old new : S) (put : List Placed) (At : List Placed → Type 0) (result : Result A BulkFault) → Type 0
-  StepsBy old new put At result = Steps tree taken failed old new bounds put At result
+  StepsBy old new put At result = Steps wanted taken failed old new bounds put At result
 
   pub steps_then : {A B : Type 0} (old mid new : S) (put : List Placed) (Mid At : List Placed → Type 0) (x : A) (result : Result B BulkFault)
       → StepsBy old mid put Mid (Ok x) → ((all : List Placed) → Mid all → StepsBy mid new all At result) → StepsBy old new put At result
@@ -99,7 +102,7 @@ module _ {S : Type 0} (tree : Tree) (taken : S → Option (List ℕ)) (failed : 
         more = one.more ++ then.more;
         puts = subst (λ (bs : List ℕ). Puts taken failed old new bs result) (sym (bytes-append bounds.page_size one.more then.more)) (puts_then {taken = taken} {failed = failed} old mid new _ _ x result one.puts then.puts);
         at = subst (λ (ps : List Placed). OnOk result (At ps)) same then.at;
-        before = subst (λ (ps : List Placed). StandsBefore ps (layout_pages Plain bounds.page_size tree)) same then.before;
+        before = subst (λ (ps : List Placed). StandsBefore ps (layout_pages wanted.which bounds.page_size wanted.tree)) same then.before;
         large = then.large;
       }
 
@@ -119,46 +122,57 @@ module _ {S : Type 0} (tree : Tree) (taken : S → Option (List ℕ)) (failed : 
 
 -- ---- what stands in a pass
 
+-- the limits are right for the buckets that are still to come
+abbrev pub IsRightFor : Wanted → Pass → (n : ℕ) → Tree → List Frame → Type 0
+IsRightFor wanted pass n left frames = AreRight wanted.which pass.bounds.page_size (limits_by pass) n left
+    × AreRightAround wanted.which pass.bounds.page_size (limits_by pass) (n + opened_in wanted.which pass.bounds.page_size left) frames
+
+right_for : (wanted : Wanted) (pass : Pass) (n : ℕ) (rest left : Tree) (frames : List Frame) → rest ≡ left → AreRight wanted.which pass.bounds.page_size (limits_by pass) n rest
+    → AreRightAround wanted.which pass.bounds.page_size (limits_by pass) (n + opened_in wanted.which pass.bounds.page_size rest) frames → IsRightFor wanted pass n left frames
+right_for wanted pass n rest left frames same right around = subst (λ (t : Tree). IsRightFor wanted pass n t frames) same (right, around)
+
 -- with nothing that may be inline
-pub on_of : (tree : Tree) (pass : Pass) (levels : List Level) (left : Tree) (put : List Placed) (is : IsAt tree pass levels left put) → pass.pending ≡ None
-    → (levels ≡ map level_of is.frames) × IsOn pass.bounds.page_size tree is.frames is.state (items_of Plain pass.bounds.page_size left) (rows_of pass.bucket pass.next) put
-on_of tree pass levels left put is none =
+pub on_of : (wanted : Wanted) (pass : Pass) (levels : List Level) (left : Tree) (put : List Placed) (is : IsAt wanted pass levels left put) → pass.pending ≡ None
+    → (levels ≡ map level_of is.frames) × IsOn wanted.which pass.bounds.page_size wanted.tree is.frames is.state (items_of wanted.which pass.bounds.page_size left) (rows_of pass.bucket pass.next) put
+    × IsRightFor wanted pass is.opened left is.frames
+on_of wanted pass levels left put is none =
     let (same, rest) = subst (λ (p : Option Pending). IsPending p pass.entries.items (map level_of is.frames) is.rest levels left) none is.pends in
-    let under = subst (λ (t : Tree). IsPass pass.bounds.page_size is.frames is.state (items_of Plain pass.bounds.page_size t) (root_of Plain pass.bounds.page_size tree)) rest is.under in
-    (same, record { under = under; rows_are = is.rows; put_is = is.put_is })
+    let under = subst (λ (t : Tree). IsPass wanted.which pass.bounds.page_size is.frames is.state (items_of wanted.which pass.bounds.page_size t) (root_of wanted.which pass.bounds.page_size wanted.tree)) rest is.under in
+    (same, record { under = under; rows_are = is.rows; put_is = is.put_is }, right_for wanted pass is.opened is.rest left is.frames rest is.right is.right_around)
 
 -- with a bucket that may be inline
-abbrev pub HasPending : (tree : Tree) (pass : Pass) (levels : List Level) (left : Tree) (put : List Placed) (is : IsAt tree pass levels left put) → Pending → Type 0
-HasPending tree pass levels left put is p = (after : Tree)
+abbrev pub HasPending : (wanted : Wanted) (pass : Pass) (levels : List Level) (left : Tree) (put : List Placed) (is : IsAt wanted pass levels left put) → Pending → Type 0
+HasPending wanted pass levels left put is p = (after : Tree)
     × (levels ≡ record { key = p.key.now; after = after } ∷ map level_of is.frames)
-    × IsOn pass.bounds.page_size tree is.frames is.state (items_of Plain pass.bounds.page_size (with_bucket p.key.now p.sequence (onto (map leaf_view pass.entries.items) left) after)) (rows_of pass.bucket pass.next) put
+    × IsOn wanted.which pass.bounds.page_size wanted.tree is.frames is.state (items_of wanted.which pass.bounds.page_size (with_bucket p.key.now p.sequence (onto (map leaf_view pass.entries.items) left) after)) (rows_of pass.bucket pass.next) put
+    × IsRightFor wanted pass is.opened (with_bucket p.key.now p.sequence (onto (map leaf_view pass.entries.items) left) after) is.frames
 
-pending_of : (tree : Tree) (pass : Pass) (levels : List Level) (left : Tree) (put : List Placed) (p : Pending) (is : IsAt tree pass levels left put) → pass.pending ≡ Some p → HasPending tree pass levels left put is p
-pending_of tree pass levels left put p is some =
+pending_of : (wanted : Wanted) (pass : Pass) (levels : List Level) (left : Tree) (put : List Placed) (p : Pending) (is : IsAt wanted pass levels left put) → pass.pending ≡ Some p → HasPending wanted pass levels left put is p
+pending_of wanted pass levels left put p is some =
     let (after, same, rest) = subst (λ (q : Option Pending). IsPending q pass.entries.items (map level_of is.frames) is.rest levels left) some is.pends in
-    let under = subst (λ (t : Tree). IsPass pass.bounds.page_size is.frames is.state (items_of Plain pass.bounds.page_size t) (root_of Plain pass.bounds.page_size tree)) rest is.under in
-    (after, same, record { under = under; rows_are = is.rows; put_is = is.put_is })
+    let under = subst (λ (t : Tree). IsPass wanted.which pass.bounds.page_size is.frames is.state (items_of wanted.which pass.bounds.page_size t) (root_of wanted.which pass.bounds.page_size wanted.tree)) rest is.under in
+    (after, same, record { under = under; rows_are = is.rows; put_is = is.put_is }, right_for wanted pass is.opened is.rest _ is.frames rest is.right is.right_around)
 
 -- what was put stands before the rest, at any time
-pub at_before : (tree : Tree) (pass : Pass) (levels : List Level) (left : Tree) (put : List Placed) → IsAt tree pass levels left put → StandsBefore put (layout_pages Plain pass.bounds.page_size tree)
-at_before tree pass levels left put is =
-    on_before pass.bounds.page_size tree is.frames is.state (items_of Plain pass.bounds.page_size is.rest) (rows_of pass.bucket pass.next) put (record { under = is.under; rows_are = is.rows; put_is = is.put_is })
+pub at_before : (wanted : Wanted) (pass : Pass) (levels : List Level) (left : Tree) (put : List Placed) → IsAt wanted pass levels left put → StandsBefore put (layout_pages wanted.which pass.bounds.page_size wanted.tree)
+at_before wanted pass levels left put is =
+    on_before wanted.which pass.bounds.page_size wanted.tree is.frames is.state (items_of wanted.which pass.bounds.page_size is.rest) (rows_of pass.bucket pass.next) put (record { under = is.under; rows_are = is.rows; put_is = is.put_is })
 
 -- a step that puts nothing
-pub steps_none : {S A : Type 0} {taken : S → Option (List ℕ)} {failed : S → ℕ} (tree : Tree) (pass : Pass) (levels : List Level) (left : Tree) (put : List Placed) (old : S) (At : List Placed → Type 0) (result : Result A BulkFault)
-    → IsAt tree pass levels left put → IfErr result (λ e. e ≡ fault.Memory) → OnOk result (At put) → Steps tree taken failed old old pass.bounds put At result
-steps_none tree pass levels left put old At (Ok x) is memory at = record {
+pub steps_none : {S A : Type 0} {taken : S → Option (List ℕ)} {failed : S → ℕ} (wanted : Wanted) (pass : Pass) (levels : List Level) (left : Tree) (put : List Placed) (old : S) (At : List Placed → Type 0) (result : Result A BulkFault)
+    → IsAt wanted pass levels left put → IfErr result (λ e. e ≡ fault.Memory) → OnOk result (At put) → Steps wanted taken failed old old pass.bounds put At result
+steps_none wanted pass levels left put old At (Ok x) is memory at = record {
   more = [];
   puts = puts_none old (Ok x) tt;
   at = subst At (sym (append-nil put)) at;
-  before = subst (λ (ps : List Placed). StandsBefore ps (layout_pages Plain pass.bounds.page_size tree)) (sym (append-nil put)) (at_before tree pass levels left put is);
+  before = subst (λ (ps : List Placed). StandsBefore ps (layout_pages wanted.which pass.bounds.page_size wanted.tree)) (sym (append-nil put)) (at_before wanted pass levels left put is);
   large = tt;
 }
-steps_none tree pass levels left put old At (Err e) is memory at = record {
+steps_none wanted pass levels left put old At (Err e) is memory at = record {
   more = [];
   puts = puts_none old (Err e) (λ s. absurd (let other : fault.Memory ≡ fault.Sink = sym memory ∙ s in cc));
   at = tt;
-  before = subst (λ (ps : List Placed). StandsBefore ps (layout_pages Plain pass.bounds.page_size tree)) (sym (append-nil put)) (at_before tree pass levels left put is);
+  before = subst (λ (ps : List Placed). StandsBefore ps (layout_pages wanted.which pass.bounds.page_size wanted.tree)) (sym (append-nil put)) (at_before wanted pass levels left put is);
   large = λ s. absurd (let other : fault.Memory ≡ fault.TooLarge = sym memory ∙ s in cc);
 }
 
@@ -184,7 +198,7 @@ counted_items frames state waits bucket next are rows =
     let b = around_reverse waits in
     let c = items_length bucket next (base_in frames) state rows in omega arith
 
-module _ {S : Type 0} (taken : S → Option (List ℕ)) (failed : S → ℕ) (tree : Tree) (pass : Pass) (put : List Placed) where
+module _ {S : Type 0} (taken : S → Option (List ℕ)) (failed : S → ℕ) (wanted : Wanted) (pass : Pass) (put : List Placed) where
   abbrev P : ℕ
   P = pass.bounds.page_size
 
@@ -193,24 +207,24 @@ module _ {S : Type 0} (taken : S → Option (List ℕ)) (failed : S → ℕ) (tr
 
   -- ---- a value of the open bucket
   pub value_steps : {A : Type 0} (levels : List Level) (key value : List ℕ) (after : Tree) (old new : S) (bucket : OpenBucket) (next : ℕ) (counted : Pass) (result : Result A BulkFault)
-      → IsAt tree pass levels (with_value key value after) put → pass.pending ≡ None
+      → IsAt wanted pass levels (with_value key value after) put → pass.pending ≡ None
       → Puts taken failed old new (placed_bytes P (rows_room_put P rows_now key (16 + (length key + length value)))) result
       → OnOk result (rows_of bucket next ≡ rows_taking P rows_now (value_element key value) (16 + (length key + length value)))
       → IfErr result (λ e. e ≡ fault.TooLarge → pass.bounds.limit < (rows_room P rows_now key (16 + (length key + length value))).next)
-      → OnOk result (Counts (record { alloc = pass.alloc; bounds = pass.bounds; waiting = pass.waiting; bucket = bucket; pending = pass.pending; entries = pass.entries; next = next; around = pass.around; most = pass.most }) counted)
-      → Steps tree taken failed old new pass.bounds put (IsAt tree counted levels after) result
+      → OnOk result (Counts (record { alloc = pass.alloc; bounds = pass.bounds; limits = pass.limits; waiting = pass.waiting; bucket = bucket; pending = pass.pending; entries = pass.entries; next = next; opened = pass.opened; around = pass.around; most = pass.most }) counted)
+      → Steps wanted taken failed old new pass.bounds put (IsAt wanted counted levels after) result
   value_steps levels key value after old new bucket next counted result is none puts rows large counts =
-      let (same, on) = on_of tree pass levels (with_value key value after) put is none in
+      let (same, on, right) = on_of wanted pass levels (with_value key value after) put is none in
       let made : Open = taking P is.state (leaf_item key value false) in
-      let then = on_takes P tree is.frames is.state key value false (items_of Plain P after) rows_now put on in
-      let few = on_numbers P tree is.frames made _ _ _ then in
+      let then = on_takes wanted.which P wanted.tree is.frames is.state key value false (items_of wanted.which P after) rows_now put on in
+      let few = on_numbers wanted.which P wanted.tree is.frames made _ _ _ then in
       record {
         more = rows_room_put P rows_now key (16 + (length key + length value));
         puts = puts;
         at = on_ok_both result rows counts (λ e k.
             let here : IsOpenRows (rows_of bucket next) made (base_in is.frames) = subst (λ (r : OpenRows). IsOpenRows r made (base_in is.frames)) (sym e) then.rows_are in
             let count = counted_items is.frames made pass.waiting.items bucket next is.waits here in
-            subst (λ (p : Pass). IsAt tree p levels after (put ++ rows_room_put P rows_now key (16 + (length key + length value)))) (sym k.rest) (record {
+            subst (λ (p : Pass). IsAt wanted p levels after (put ++ rows_room_put P rows_now key (16 + (length key + length value)))) (sym k.rest) (record {
               frames = is.frames;
               state = made;
               rest = after;
@@ -220,21 +234,25 @@ module _ {S : Type 0} (taken : S → Option (List ℕ)) (failed : S → ℕ) (tr
               put_is = then.put_is;
               held = takes_held P is.frames is.state (leaf_item key value false) pass.most counted.most refl is.held (k.most ∙ ap (λ (n : ℕ). max pass.most (capped n)) count);
               pends = subst (λ (p : Option Pending). IsPending p pass.entries.items (map level_of is.frames) after levels after) (sym none) (same, refl);
+              opened = is.opened;
+              opened_is = is.opened_is;
+              right = right.0;
+              right_around = right.1;
             }));
-        before = on_before P tree is.frames made _ _ _ then;
+        before = on_before wanted.which P wanted.tree is.frames made _ _ _ then;
         large = if_err_map result large (λ e l h. let m = l h in omega (arith, m, few));
       }
 
   -- ---- the end of a bucket that is inline
   pub inline_steps : {A : Type 0} (level : Level) (levels : List Level) (p : Pending) (size : ℕ) (old new : S) (bucket : OpenBucket) (entries : Vec Leaf Global) (next : ℕ) (counted : Pass) (result : Result A BulkFault)
-      → IsAt tree pass (level ∷ levels) end put → pass.pending ≡ Some p → IsSmall P p pass.entries.items → size ≡ length (inline_value p.sequence (map leaf_view pass.entries.items))
+      → IsAt wanted pass (level ∷ levels) end put → pass.pending ≡ Some p → IsSmall P p pass.entries.items → size ≡ length (inline_value p.sequence (map leaf_view pass.entries.items))
       → Puts taken failed old new (placed_bytes P (rows_room_put P rows_now p.key.now (16 + (length p.key.now + size)))) result
       → OnOk result (rows_of bucket next ≡ rows_taking P rows_now (inline_element p.key.now p.sequence (map leaf_view pass.entries.items)) (16 + (length p.key.now + size)))
       → IfErr result (λ e. e ≡ fault.TooLarge → pass.bounds.limit < (rows_room P rows_now p.key.now (16 + (length p.key.now + size))).next)
-      → OnOk result (Counts (record { alloc = pass.alloc; bounds = pass.bounds; waiting = pass.waiting; bucket = bucket; pending = None; entries = entries; next = next; around = pass.around; most = pass.most }) counted)
-      → Steps tree taken failed old new pass.bounds put (IsAt tree counted levels level.after) result
+      → OnOk result (Counts (record { alloc = pass.alloc; bounds = pass.bounds; limits = pass.limits; waiting = pass.waiting; bucket = bucket; pending = None; entries = entries; next = next; opened = pass.opened; around = pass.around; most = pass.most }) counted)
+      → Steps wanted taken failed old new pass.bounds put (IsAt wanted counted levels level.after) result
   inline_steps level levels p size old new bucket entries next counted result is some small sized puts rows large counts =
-      let (after, same, on) = pending_of tree pass (level ∷ levels) end put p is some in
+      let (after, same, on, right) = pending_of wanted pass (level ∷ levels) end put p is some in
       let shown : List LeafElement = map leaf_view pass.entries.items in
       let value : List ℕ = inline_value p.sequence shown in
       let values = shown_values pass.entries.items small.values in
@@ -242,13 +260,14 @@ module _ {S : Type 0} (taken : S → Option (List ℕ)) (failed : S → ℕ) (tr
       let count = length-map pass.entries.items leaf_view in
       let sizes = small.sized in
       let fits = small.small in
-      let item = inline_item P p.key.now p.sequence shown values (omega arith) (omega arith) in
-      let on2 = subst (λ (i : Laid LeafElement). IsOn P tree is.frames is.state (i ∷ items_of Plain P after) rows_now put) item on in
-      let then0 = on_takes P tree is.frames is.state p.key.now value true (items_of Plain P after) rows_now put on2 in
+      let item = inline_item wanted.which P p.key.now p.sequence shown values (omega arith) (omega arith) in
+      let unopened = opened_inline wanted.which P (limits_by pass) (onto shown end) (ends_inline wanted.which P shown (omega arith) (omega arith)) in
+      let on2 = subst (λ (i : Laid LeafElement). IsOn wanted.which P wanted.tree is.frames is.state (i ∷ items_of wanted.which P after) rows_now put) item on in
+      let then0 = on_takes wanted.which P wanted.tree is.frames is.state p.key.now value true (items_of wanted.which P after) rows_now put on2 in
       let made : Open = taking P is.state (leaf_item p.key.now value true) in
-      let Then : ℕ → Type 0 = λ n. IsOn P tree is.frames made (items_of Plain P after) (rows_taking P rows_now (inline_element p.key.now p.sequence shown) (16 + (length p.key.now + n))) (put ++ rows_room_put P rows_now p.key.now (16 + (length p.key.now + n))) in
+      let Then : ℕ → Type 0 = λ n. IsOn wanted.which P wanted.tree is.frames made (items_of wanted.which P after) (rows_taking P rows_now (inline_element p.key.now p.sequence shown) (16 + (length p.key.now + n))) (put ++ rows_room_put P rows_now p.key.now (16 + (length p.key.now + n))) in
       let then : Then size = subst Then (sym sized) then0 in
-      let numbers = on_numbers P tree is.frames made _ _ _ then in
+      let numbers = on_numbers wanted.which P wanted.tree is.frames made _ _ _ then in
       let first : level ≡ record { key = p.key.now; after = after } = cc in
       let others : levels ≡ map level_of is.frames = cc in
       let behind : after ≡ level.after = ap (λ (l : Level). l.after) (sym first) in
@@ -258,7 +277,7 @@ module _ {S : Type 0} (taken : S → Option (List ℕ)) (failed : S → ℕ) (tr
         at = on_ok_both result rows counts (λ e k.
             let here : IsOpenRows (rows_of bucket next) made (base_in is.frames) = subst (λ (r : OpenRows). IsOpenRows r made (base_in is.frames)) (sym e) then.rows_are in
             let count = counted_items is.frames made pass.waiting.items bucket next is.waits here in
-            subst (λ (q : Pass). IsAt tree q levels level.after (put ++ rows_room_put P rows_now p.key.now (16 + (length p.key.now + size)))) (sym k.rest) (record {
+            subst (λ (q : Pass). IsAt wanted q levels level.after (put ++ rows_room_put P rows_now p.key.now (16 + (length p.key.now + size)))) (sym k.rest) (record {
               frames = is.frames;
               state = made;
               rest = after;
@@ -268,49 +287,63 @@ module _ {S : Type 0} (taken : S → Option (List ℕ)) (failed : S → ℕ) (tr
               put_is = then.put_is;
               held = takes_held P is.frames is.state (leaf_item p.key.now value true) pass.most counted.most refl is.held (k.most ∙ ap (λ (n : ℕ). max pass.most (capped n)) count);
               pends = (others, behind);
+              opened = is.opened;
+              opened_is = is.opened_is;
+              right = right_at wanted.which P (limits_by pass) (is.opened + opened_by wanted.which P (onto shown end)) is.opened after (omega arith) right.0.1;
+              right_around = around_at wanted.which P (limits_by pass) (is.opened + (opened_by wanted.which P (onto shown end) + opened_in wanted.which P after)) (is.opened + opened_in wanted.which P after) is.frames (omega arith) right.1;
             }));
-        before = on_before P tree is.frames made _ _ _ then;
+        before = on_before wanted.which P wanted.tree is.frames made _ _ _ then;
         large = if_err_map result large (λ e l h. let m = l h in omega (arith, m, numbers));
       }
 
   -- ---- a bucket that has a root page is opened, and the one around it waits
 
+  -- the limits of its rows
+  abbrev limits_now : ℕ → Option ℕ
+  limits_now = limit_in pass.limits.now pass.opened
+
   abbrev opened_rows : Pending → ℕ → OpenRows
-  opened_rows p next = record { leaves = record { elements = map leaf_view pass.entries.items; size = p.size }; uppers = []; next = next }
+  opened_rows p next = record { leaves = record { elements = map leaf_view pass.entries.items; size = p.size }; uppers = []; limits = limits_now; next = next }
 
   -- where it stands then
   abbrev room_for : Pending → OpenRows
   room_for p = rows_room P rows_now p.key.now (32 + length p.key.now)
 
   abbrev frame_of : Pending → Tree → Tree → Open → Frame
-  frame_of p left after state = waiting P state p.key.now p.sequence (root_over Plain P (items_of Plain P (onto (map leaf_view pass.entries.items) left))) after
+  frame_of p left after state = waiting P state p.key.now p.sequence (root_over wanted.which P (items_of wanted.which P (onto (map leaf_view pass.entries.items) left))) after
 
-  record HasOpened (levels : List Level) (left : Tree) (p : Pending) (is : IsAt tree pass levels left put) : Type 0 where
+  record HasOpened (levels : List Level) (left : Tree) (p : Pending) (is : IsAt wanted pass levels left put) : Type 0 where
     after : Tree
     same : levels ≡ record { key = p.key.now; after = after } ∷ map level_of is.frames
     outer : IsOpenRows (room_for p) (making_room P is.state p.key.now (32 + length p.key.now)) (base_in is.frames)
     base : (room_for p).next ≡ base_in (frame_of p left after is.state ∷ is.frames)
     values : AllByRecursion IsValue (map leaf_view pass.entries.items)
-    on : IsOn P tree (frame_of p left after is.state ∷ is.frames) (open_values (value_items (map leaf_view pass.entries.items))) (items_of Plain P left) (opened_rows p (room_for p).next)
+    right : AreRight wanted.which P (limits_by pass) (suc is.opened) left
+    right_around : AreRightAround wanted.which P (limits_by pass) (suc is.opened + opened_in wanted.which P left) (frame_of p left after is.state ∷ is.frames)
+    on : IsOn wanted.which P wanted.tree (frame_of p left after is.state ∷ is.frames) (open_values limits_now (value_items (map leaf_view pass.entries.items))) (items_of wanted.which P left) (opened_rows p (room_for p).next)
         (put ++ rows_room_put P rows_now p.key.now (32 + length p.key.now))
 
-  has_opened : (levels : List Level) (left : Tree) (p : Pending) (is : IsAt tree pass levels left put) → pass.pending ≡ Some p → IsSmall P p pass.entries.items → HasRoot P (onto (map leaf_view pass.entries.items) left)
+  has_opened : (levels : List Level) (left : Tree) (p : Pending) (is : IsAt wanted pass levels left put) → pass.pending ≡ Some p → IsSmall P p pass.entries.items → HasRoot wanted.which P (onto (map leaf_view pass.entries.items) left)
       → HasOpened levels left p is
   has_opened levels left p is some small rooted =
-      let (after, same, on) = pending_of tree pass levels left put p is some in
+      let (after, same, on, right) = pending_of wanted pass levels left put p is some in
       let shown : List LeafElement = map leaf_view pass.entries.items in
       let values = shown_values pass.entries.items small.values in
       let few = small.few in
       let count = length-map pass.entries.items leaf_view in
       let sizes = small.sized in
       let fits = small.small in
-      let inner : List (Laid LeafElement) = items_of Plain P (onto shown left) in
-      let item = root_item P p.key.now p.sequence (onto shown left) rooted in
-      let on2 = subst (λ (i : Laid LeafElement). IsOn P tree is.frames is.state (i ∷ items_of Plain P after) rows_now put) item on in
-      let (entered, made, placed) = on_enters P tree is.frames is.state p.key.now p.sequence inner after rows_now put on2 in
+      let inner : List (Laid LeafElement) = items_of wanted.which P (onto shown left) in
+      let item = root_item wanted.which P p.key.now p.sequence (onto shown left) rooted in
+      let on2 = subst (λ (i : Laid LeafElement). IsOn wanted.which P wanted.tree is.frames is.state (i ∷ items_of wanted.which P after) rows_now put) item on in
+      let own : HaveRightLimits wanted.which P limits_now (leaf_pages P inner) =
+      subst (λ (n : ℕ). HaveRightLimits wanted.which P (limit_in pass.limits.now n) (leaf_pages P inner)) (sym is.opened_is) (right.0.0 rooted).0 in
+      let (entered, made, placed) = on_enters wanted.which P wanted.tree limits_now is.frames is.state p.key.now p.sequence inner after rows_now put own on2 in
       let frames : List Frame = frame_of p left after is.state ∷ is.frames in
-      let begun = subst (λ (items : List (Laid LeafElement)). IsPass P frames (open_values []) items (root_of Plain P tree)) (onto_items P shown left) entered in
-      let under = pass_takes_all P frames [] shown (items_of Plain P left) (root_of Plain P tree) (omega arith) (omega arith) begun in
+      let begun = subst (λ (items : List (Laid LeafElement)). IsPass wanted.which P frames (open_values limits_now []) items (root_of wanted.which P wanted.tree)) (onto_items wanted.which P shown left) entered in
+      let under = pass_takes_all wanted.which P limits_now frames [] shown (items_of wanted.which P left) (root_of wanted.which P wanted.tree) (omega arith) (omega arith) begun in
+      let by = opened_rooted wanted.which P (limits_by pass) (onto shown left) rooted in
+      let same_opened = opened_onto wanted.which P (limits_by pass) shown left in
       let room_is : 32 + length p.key.now ≡ 16 + (length p.key.now + 16) = omega arith in
       let base : (room_for p).next ≡ base_in frames = made.next_is ∙ ap (λ (n : ℕ). next_number (making_room P is.state p.key.now n) (base_in is.frames)) room_is in
       record {
@@ -319,43 +352,49 @@ module _ {S : Type 0} (taken : S → Option (List ℕ)) (failed : S → ℕ) (tr
         outer = made;
         base = base;
         values = values;
-        on = record { under = under; rows_are = values_rows shown p.size (base_in frames) (room_for p).next values sizes base; put_is = placed ∙ values_put frames shown };
+        right = right_onto wanted.which P (limits_by pass) (suc is.opened) shown left (right.0.0 rooted).1;
+        right_around = (
+          right_at wanted.which P (limits_by pass) (is.opened + opened_by wanted.which P (onto shown left)) (suc is.opened + opened_in wanted.which P left) after (omega arith) right.0.1,
+          around_at wanted.which P (limits_by pass) (is.opened + (opened_by wanted.which P (onto shown left) + opened_in wanted.which P after)) (suc is.opened + opened_in wanted.which P left + opened_in wanted.which P after) is.frames (omega arith) right.1,
+        );
+        on = record { under = under; rows_are = values_rows limits_now shown p.size (base_in frames) (room_for p).next values sizes base; put_is = placed ∙ values_put limits_now frames shown };
       }
 
   -- a fault on the way
   pub open_stops : {A : Type 0} (levels : List Level) (left : Tree) (p : Pending) (old new : S) (At : List Placed → Type 0) (e : BulkFault)
-      → IsAt tree pass levels left put → pass.pending ≡ Some p → IsSmall P p pass.entries.items → HasRoot P (onto (map leaf_view pass.entries.items) left)
+      → IsAt wanted pass levels left put → pass.pending ≡ Some p → IsSmall P p pass.entries.items → HasRoot wanted.which P (onto (map leaf_view pass.entries.items) left)
       → Puts {A = A} taken failed old new (placed_bytes P (rows_room_put P rows_now p.key.now (32 + length p.key.now))) (Err e)
       → (e ≡ fault.TooLarge → pass.bounds.limit < (room_for p).next)
-      → Steps {A = A} tree taken failed old new pass.bounds put At (Err e)
+      → Steps {A = A} wanted taken failed old new pass.bounds put At (Err e)
   open_stops levels left p old new At e is some small rooted puts large =
       let then = has_opened levels left p is some small rooted in
-      let numbers = on_numbers P tree _ _ _ _ _ then.on in
+      let numbers = on_numbers wanted.which P wanted.tree _ _ _ _ _ then.on in
       record {
         more = rows_room_put P rows_now p.key.now (32 + length p.key.now);
         puts = puts;
         at = tt;
-        before = on_before P tree _ _ _ _ _ then.on;
+        before = on_before wanted.which P wanted.tree _ _ _ _ _ then.on;
         large = λ h. let m = large h in omega (arith, m, numbers);
       }
 
   -- all went well
-  pub open_steps : (levels : List Level) (left : Tree) (p : Pending) (old new : S) (bucket : OpenBucket) (w : Waiting) (around : Vec Waiting Global) (entries : Vec Leaf Global) (next held : ℕ) (counted : Pass)
-      → IsAt tree pass levels left put → pass.pending ≡ Some p → IsSmall P p pass.entries.items → HasRoot P (onto (map leaf_view pass.entries.items) left)
+  pub open_steps : (levels : List Level) (left : Tree) (p : Pending) (old new : S) (bucket : OpenBucket) (w : Waiting) (around : Vec Waiting Global) (entries : Vec Leaf Global) (next opened held : ℕ) (counted : Pass)
+      → IsAt wanted pass levels left put → pass.pending ≡ Some p → IsSmall P p pass.entries.items → HasRoot wanted.which P (onto (map leaf_view pass.entries.items) left)
       → Puts {A = ⊤} taken failed old new (placed_bytes P (rows_room_put P rows_now p.key.now (32 + length p.key.now))) (Ok tt)
       → around.items ≡ pass.waiting.items ++ w ∷ [] → rows_of w.bucket next ≡ room_for p → w.key.now ≡ p.key.now → w.sequence ≡ p.sequence → rows_of bucket next ≡ opened_rows p next
-      → Counts (record { alloc = pass.alloc; bounds = pass.bounds; waiting = around; bucket = bucket; pending = None; entries = entries; next = next; around = held; most = pass.most }) counted
-      → Steps {A = ⊤} tree taken failed old new pass.bounds put (IsAt tree counted levels left) (Ok tt)
-  open_steps levels left p old new bucket w around entries next held counted is some small rooted puts items rows key sequence values_are k =
+      → opened ≡ min (pass.opened + 1) 18446744073709551615
+      → Counts (record { alloc = pass.alloc; bounds = pass.bounds; limits = pass.limits; waiting = around; bucket = bucket; pending = None; entries = entries; next = next; opened = opened; around = held; most = pass.most }) counted
+      → Steps {A = ⊤} wanted taken failed old new pass.bounds put (IsAt wanted counted levels left) (Ok tt)
+  open_steps levels left p old new bucket w around entries next opened held counted is some small rooted puts items rows key sequence values_are one_more k =
       let then = has_opened levels left p is some small rooted in
       let frame : Frame = frame_of p left then.after is.state in
       let frames : List Frame = frame ∷ is.frames in
-      let state : Open = open_values (value_items (map leaf_view pass.entries.items)) in
+      let state : Open = open_values limits_now (value_items (map leaf_view pass.entries.items)) in
       let next_is : next ≡ (room_for p).next = ap (λ (r : OpenRows). r.next) rows in
       let room_is : 32 + length p.key.now ≡ 16 + (length p.key.now + 16) = omega arith in
       let values : List (Laid LeafElement) = value_items (map leaf_view pass.entries.items) in
       let here : IsOpenRows (rows_of bucket next) state (base_in frames) = subst (λ (r : OpenRows). IsOpenRows r state (base_in frames)) (sym values_are)
-      (values_rows (map leaf_view pass.entries.items) p.size (base_in frames) next then.values small.sized (next_is ∙ then.base)) in
+      (values_rows limits_now (map leaf_view pass.entries.items) p.size (base_in frames) next then.values small.sized (next_is ∙ then.base)) in
       let waits : AreWaiting (reverse around.items) frames = subst (λ (ws : List Waiting). AreWaiting ws frames) (sym (ap reverse items ∙ reverse-append pass.waiting.items (w ∷ []))) (
         subst (λ (n : ℕ). IsOpenRows (rows_of w.bucket n) frame.state (base_in is.frames)) (next_is ∙ then.base)
             (subst (λ (n : ℕ). IsOpenRows (rows_of w.bucket next) (making_room P is.state p.key.now n) (base_in is.frames)) room_is
@@ -368,7 +407,7 @@ module _ {S : Type 0} (taken : S → Option (List ℕ)) (failed : S → ℕ) (tr
       record {
         more = rows_room_put P rows_now p.key.now (32 + length p.key.now);
         puts = puts;
-        at = subst (λ (q : Pass). IsAt tree q levels left (put ++ rows_room_put P rows_now p.key.now (32 + length p.key.now))) (sym k.rest) (record {
+        at = subst (λ (q : Pass). IsAt wanted q levels left (put ++ rows_room_put P rows_now p.key.now (32 + length p.key.now))) (sym k.rest) (record {
           frames = frames;
           state = state;
           rest = left;
@@ -376,33 +415,38 @@ module _ {S : Type 0} (taken : S → Option (List ℕ)) (failed : S → ℕ) (tr
           rows = here;
           waits = waits;
           put_is = then.on.put_is;
-          held = enters_held P frame is.frames is.state p.key.now (16 + (length p.key.now + 16)) values pass.most counted.most refl (values_held (map leaf_view pass.entries.items)) is.held
+          held = enters_held P limits_now frame is.frames is.state p.key.now (16 + (length p.key.now + 16)) values pass.most counted.most refl (values_held (map leaf_view pass.entries.items)) is.held
               (k.most ∙ ap (λ (n : ℕ). max pass.most (capped n)) count);
           pends = (then.same, refl);
+          opened = suc is.opened;
+          opened_is = (let o = is.opened_is in omega arith);
+          right = then.right;
+          right_around = then.right_around;
         });
-        before = on_before P tree _ _ _ _ _ then.on;
+        before = on_before wanted.which P wanted.tree _ _ _ _ _ then.on;
         large = tt;
       }
 
   -- ---- the open bucket ends, and the one around it goes on
   pub leave_steps : {A : Type 0} (level : Level) (levels : List Level) (w : Waiting) (old new : S) (bucket : OpenBucket) (around : Vec Waiting Global) (next held : ℕ) (counted : Pass) (result : Result A BulkFault)
-      → IsAt tree pass (level ∷ levels) end put → pass.pending ≡ None → pass.waiting.items ≡ around.items ++ w ∷ []
+      → IsAt wanted pass (level ∷ levels) end put → pass.pending ≡ None → pass.waiting.items ≡ around.items ++ w ∷ []
       → Puts taken failed old new (placed_bytes P (rows_end_put P rows_now)) result
       → OnOk result ((before : ℕ) → rows_of bucket next ≡ rows_push (rows_of w.bucket before) (root_element w.key.now (rows_end P rows_now) w.sequence) (32 + length w.key.now) (bucket_end_next P rows_now))
       → IfErr result (λ e. e ≡ fault.TooLarge → pass.bounds.limit < bucket_end_next P rows_now)
-      → OnOk result (Counts (record { alloc = pass.alloc; bounds = pass.bounds; waiting = around; bucket = bucket; pending = pass.pending; entries = pass.entries; next = next; around = held; most = pass.most }) counted)
-      → Steps tree taken failed old new pass.bounds put (IsAt tree counted levels level.after) result
+      → OnOk result (Counts (record { alloc = pass.alloc; bounds = pass.bounds; limits = pass.limits; waiting = around; bucket = bucket; pending = pass.pending; entries = pass.entries; next = next; opened = pass.opened; around = held; most = pass.most }) counted)
+      → Steps wanted taken failed old new pass.bounds put (IsAt wanted counted levels level.after) result
   leave_steps level levels w old new bucket around next held counted result is none popped puts rows large counts =
-      let (same, on) = on_of tree pass (level ∷ levels) end put is none in
+      let (same, on, right) = on_of wanted pass (level ∷ levels) end put is none in
       let (frame, frames, more_frames, top) = first_frame level levels is.frames same in
       let ws : reverse pass.waiting.items ≡ w ∷ reverse around.items = ap reverse popped ∙ reverse-append around.items (w ∷ []) in
       let waits = subst (λ (fs : List Frame). AreWaiting (reverse pass.waiting.items) fs) more_frames is.waits in
       let (outer, key, sequence, others) = subst (λ (l : List Waiting). AreWaiting l (frame ∷ frames)) ws waits in
-      let on2 = subst (λ (fs : List Frame). IsOn P tree fs is.state [] rows_now put) more_frames on in
+      let on2 = subst (λ (fs : List Frame). IsOn wanted.which P wanted.tree fs is.state [] rows_now put) more_frames on in
+      let behind = subst (λ (fs : List Frame). AreRightAround wanted.which P (limits_by pass) (is.opened + 0) fs) more_frames right.1 in
       let made : Open = pushing frame.state (held_item frame (end_of P is.state)) in
       let base : ℕ = base_in (frame ∷ frames) in
-      let then = on_leaves P tree frame frames is.state rows_now (rows_of w.bucket base) put on2 outer refl in
-      let numbers = on_numbers P tree frames made _ _ _ then in
+      let then = on_leaves wanted.which P wanted.tree frame frames is.state rows_now (rows_of w.bucket base) put on2 outer refl in
+      let numbers = on_numbers wanted.which P wanted.tree frames made _ _ _ then in
       let size : 32 + length w.key.now ≡ 16 + (length frame.key + 16) = (let n = ap (λ (k : List ℕ). length k) key in omega arith) in
       let Row : List ℕ → ℕ → ℕ → OpenRows = λ k s n. rows_push (rows_of w.bucket base) (root_element k (rows_end P rows_now) s) n (bucket_end_next P rows_now) in
       let row_is : Row w.key.now w.sequence (32 + length w.key.now) ≡ Row frame.key frame.sequence (16 + (length frame.key + 16)) =
@@ -414,7 +458,7 @@ module _ {S : Type 0} (taken : S → Option (List ℕ)) (failed : S → ℕ) (tr
             let here : IsOpenRows (rows_of bucket next) made (base_in frames) = subst (λ (r : OpenRows). IsOpenRows r made (base_in frames)) (sym (e base ∙ row_is)) then.rows_are in
             let count = counted_items frames made around.items bucket next others here in
             let so_far : pass.most ≡ capped (held_so_far (frame ∷ frames) is.state) = is.held ∙ ap (λ (fs : List Frame). capped (held_so_far fs is.state)) more_frames in
-            subst (λ (q : Pass). IsAt tree q levels level.after (put ++ rows_end_put P rows_now)) (sym k.rest) (record {
+            subst (λ (q : Pass). IsAt wanted q levels level.after (put ++ rows_end_put P rows_now)) (sym k.rest) (record {
               frames = frames;
               state = made;
               rest = frame.after;
@@ -422,20 +466,24 @@ module _ {S : Type 0} (taken : S → Option (List ℕ)) (failed : S → ℕ) (tr
               rows = here;
               waits = others;
               put_is = then.put_is;
-              held = leaves_held P frame frames is.state pass.most counted.most is.under.begun.whole so_far (k.most ∙ ap (λ (n : ℕ). max pass.most (capped n)) count);
+              held = leaves_held P frame frames is.state pass.most counted.most is.under.begun so_far (k.most ∙ ap (λ (n : ℕ). max pass.most (capped n)) count);
               pends = subst (λ (p : Option Pending). IsPending p pass.entries.items (map level_of frames) frame.after levels level.after) (sym none) top;
+              opened = is.opened;
+              opened_is = is.opened_is;
+              right = right_at wanted.which P (limits_by pass) (is.opened + 0) is.opened frame.after (omega arith) behind.0;
+              right_around = around_at wanted.which P (limits_by pass) (is.opened + 0 + opened_in wanted.which P frame.after) (is.opened + opened_in wanted.which P frame.after) frames (omega arith) behind.1;
             }));
-        before = on_before P tree frames made _ _ _ then;
+        before = on_before wanted.which P wanted.tree frames made _ _ _ then;
         large = if_err_map result large (λ e l h. let m = l h in omega (arith, m, numbers));
       }
 
 -- ---- what takes no step in the layout
 
-module _ (tree : Tree) (pass : Pass) (levels : List Level) (put : List Placed) where
+module _ (wanted : Wanted) (pass : Pass) (levels : List Level) (put : List Placed) where
   -- a value of a bucket that may be inline
-  pub keep_at : (key value : List ℕ) (after : Tree) (p : Pending) (entry : Leaf) (size : ℕ) (entries : Vec Leaf Global) → IsAt tree pass levels (with_value key value after) put → pass.pending ≡ Some p
+  pub keep_at : (key value : List ℕ) (after : Tree) (p : Pending) (entry : Leaf) (size : ℕ) (entries : Vec Leaf Global) → IsAt wanted pass levels (with_value key value after) put → pass.pending ≡ Some p
       → entries.items ≡ pass.entries.items ++ entry ∷ [] → leaf_view entry ≡ value_element key value
-      → IsAt tree (record { alloc = pass.alloc; bounds = pass.bounds; waiting = pass.waiting; bucket = pass.bucket; pending = Some (record { key = p.key; sequence = p.sequence; size = size }); entries = entries; next = pass.next; around = pass.around; most = pass.most }) levels after put
+      → IsAt wanted (record { alloc = pass.alloc; bounds = pass.bounds; limits = pass.limits; waiting = pass.waiting; bucket = pass.bucket; pending = Some (record { key = p.key; sequence = p.sequence; size = size }); entries = entries; next = pass.next; opened = pass.opened; around = pass.around; most = pass.most }) levels after put
   keep_at key value after p entry size entries is some pushed view =
       let (behind, same, rest) = subst (λ (q : Option Pending). IsPending q pass.entries.items (map level_of is.frames) is.rest levels (with_value key value after)) some is.pends in
       let shown : List LeafElement = map leaf_view pass.entries.items in
@@ -452,12 +500,16 @@ module _ (tree : Tree) (pass : Pass) (levels : List Level) (put : List Placed) w
         waits = is.waits;
         put_is = is.put_is;
         held = is.held;
+        opened = is.opened;
+        opened_is = is.opened_is;
+        right = is.right;
+        right_around = is.right_around;
         pends = (behind, same, rest ∙ ap (λ (t : Tree). with_bucket p.key.now p.sequence t behind) (sym onto_is));
       }
 
   -- a bucket that may be inline
-  pub begin_at : (key : Bor (List ℕ)) (sequence : ℕ) (inside after : Tree) → IsAt tree pass levels (with_bucket key.now sequence inside after) put → pass.pending ≡ None → pass.entries.items ≡ []
-      → IsAt tree (record { alloc = pass.alloc; bounds = pass.bounds; waiting = pass.waiting; bucket = pass.bucket; pending = Some (record { key = key; sequence = sequence; size = 16 }); entries = pass.entries; next = pass.next; around = pass.around; most = pass.most })
+  pub begin_at : (key : Bor (List ℕ)) (sequence : ℕ) (inside after : Tree) → IsAt wanted pass levels (with_bucket key.now sequence inside after) put → pass.pending ≡ None → pass.entries.items ≡ []
+      → IsAt wanted (record { alloc = pass.alloc; bounds = pass.bounds; limits = pass.limits; waiting = pass.waiting; bucket = pass.bucket; pending = Some (record { key = key; sequence = sequence; size = 16 }); entries = pass.entries; next = pass.next; opened = pass.opened; around = pass.around; most = pass.most })
       (record { key = key.now; after = after } ∷ levels) inside put
   begin_at key sequence inside after is none empty =
       let (same, rest) = subst (λ (q : Option Pending). IsPending q pass.entries.items (map level_of is.frames) is.rest levels (with_bucket key.now sequence inside after)) none is.pends in
@@ -470,6 +522,10 @@ module _ (tree : Tree) (pass : Pass) (levels : List Level) (put : List Placed) w
         waits = is.waits;
         put_is = is.put_is;
         held = is.held;
+        opened = is.opened;
+        opened_is = is.opened_is;
+        right = is.right;
+        right_around = is.right_around;
         pends = (
           after,
           ap (λ (ls : List Level). record { key = key.now; after = after } ∷ ls) same,

@@ -19,8 +19,11 @@ use Rattle.bolt_bulk.specs.Private.HeldCounts.{capped}
 use Rattle.bolt_bulk.specs.Private.HeldSoFar.{held_so_far}
 use Rattle.bolt_bulk.specs.Private.OpenBuckets.{bucket_end_next, rows_of}
 use Rattle.bolt_bulk.specs.Private.OpenRows.{IsOpenRows}
+use Rattle.bolt_layout.specs.Limits.{HaveRightLimits}
+use Rattle.bolt_layout.specs.Openings.{AreRight, leaf_pages}
+use Rattle.bolt_layout.specs.Items.{items_of}
 use Rattle.bolt_bulk.specs.Private.OpenRuns.{Frame, Open, all_put, end_of, nothing_open}
-use Rattle.bolt_bulk.specs.Private.Passes.{HasLeft, IsAt, Steps, depth_of, level_of, pending_depth}
+use Rattle.bolt_bulk.specs.Private.Passes.{Wanted, limits_by, HasLeft, IsAt, Steps, depth_of, level_of, pending_depth}
 use Rattle.bolt_bulk.specs.Private.Rows.{OpenRows, no_leaves, rows_end, rows_end_put}
 use Rattle.bolt_bulk.specs.Puts.{Puts}
 use Rattle.bolt_bulk.specs.declared.bounds.Bounds.{Bounds}
@@ -38,7 +41,6 @@ use Rattle.bolt_bulk.proofs.PassLeft.{depth_levels}
 use Rattle.bolt_bulk.proofs.PassRows.{end_numbered}
 use Rattle.bolt_bulk.proofs.PassSteps.{IsOn}
 use Rattle.bolt_bulk.proofs.PutsLemmas.{bytes-append, pages_some, puts_first, puts_then, short_then}
-use Rattle.bolt_layout.specs.declared.layout.Layout.TheVariants.{Plain}
 
 -- ---- the next member
 
@@ -47,37 +49,37 @@ last_pushed [] key = refl
 last_pushed (part ∷ []) key = refl
 last_pushed (part ∷ next ∷ path) key = last_pushed (next ∷ path) key
 
-pub record HasValue (tree : Tree) (pass : Pass) (key value : List ℕ) (members : List Member) (put : List Placed) : Type 0 where
+pub record HasValue (wanted : Wanted) (pass : Pass) (key value : List ℕ) (members : List Member) (put : List Placed) : Type 0 where
   pub levels : List Level
   pub after : Tree
-  pub at : IsAt tree pass levels (with_value key value after) put
+  pub at : IsAt wanted pass levels (with_value key value after) put
   pub members_are : left_in levels after ≡ members
 
-pub has_value : (tree : Tree) (pass : Pass) (path : Path) (key value : List ℕ) (members : List Member) (put : List Placed) → HasLeft tree pass ((path, Value value) ∷ members) put → depth_of pass ≤ length path → last_part path ≡ key
-    → HasValue tree pass key value members put
-has_value tree pass path key value members put has deep last =
-    let d = depth_levels tree pass has.levels has.left put has.at in
+pub has_value : (wanted : Wanted) (pass : Pass) (path : Path) (key value : List ℕ) (members : List Member) (put : List Placed) → HasLeft wanted pass ((path, Value value) ∷ members) put → depth_of pass ≤ length path → last_part path ≡ key
+    → HasValue wanted pass key value members put
+has_value wanted pass path key value members put has deep last =
+    let d = depth_levels wanted pass has.levels has.left put has.at in
     let short = next_short has.levels has.left (path, Value value) members has.members_are in
     let (own, after, left, path_is, members_is) = next_value has.levels has.left path value members has.members_are (omega arith) in
     let same : own ≡ key = sym (last_pushed (path_in has.levels) own) ∙ (ap last_part (sym path_is) ∙ last) in
     record {
       levels = has.levels;
       after = after;
-      at = subst (λ (k : Key). IsAt tree pass has.levels (with_value k value after) put) same (subst (λ (t : Tree). IsAt tree pass has.levels t put) left has.at);
+      at = subst (λ (k : Key). IsAt wanted pass has.levels (with_value k value after) put) same (subst (λ (t : Tree). IsAt wanted pass has.levels t put) left has.at);
       members_are = sym members_is;
     }
 
-pub record HasBucket (tree : Tree) (pass : Pass) (key : Key) (sequence : ℕ) (members : List Member) (put : List Placed) : Type 0 where
+pub record HasBucket (wanted : Wanted) (pass : Pass) (key : Key) (sequence : ℕ) (members : List Member) (put : List Placed) : Type 0 where
   pub levels : List Level
   pub inside : Tree
   pub after : Tree
-  pub at : IsAt tree pass levels (with_bucket key sequence inside after) put
+  pub at : IsAt wanted pass levels (with_bucket key sequence inside after) put
   pub members_are : left_in (record { key = key; after = after } ∷ levels) inside ≡ members
 
-pub has_bucket : (tree : Tree) (pass : Pass) (path : Path) (key : Key) (sequence : ℕ) (members : List Member) (put : List Placed) → HasLeft tree pass ((path, Bucket sequence) ∷ members) put → depth_of pass ≤ length path → last_part path ≡ key
-    → HasBucket tree pass key sequence members put
-has_bucket tree pass path key sequence members put has deep last =
-    let d = depth_levels tree pass has.levels has.left put has.at in
+pub has_bucket : (wanted : Wanted) (pass : Pass) (path : Path) (key : Key) (sequence : ℕ) (members : List Member) (put : List Placed) → HasLeft wanted pass ((path, Bucket sequence) ∷ members) put → depth_of pass ≤ length path → last_part path ≡ key
+    → HasBucket wanted pass key sequence members put
+has_bucket wanted pass path key sequence members put has deep last =
+    let d = depth_levels wanted pass has.levels has.left put has.at in
     let short = next_short has.levels has.left (path, Bucket sequence) members has.members_are in
     let (own, inside, after, left, path_is, members_is) = next_bucket has.levels has.left path sequence members has.members_are (omega arith) in
     let same : own ≡ key = sym (last_pushed (path_in has.levels) own) ∙ (ap last_part (sym path_is) ∙ last) in
@@ -85,7 +87,7 @@ has_bucket tree pass path key sequence members put has deep last =
       levels = has.levels;
       inside = inside;
       after = after;
-      at = subst (λ (k : Key). IsAt tree pass has.levels (with_bucket k sequence inside after) put) same (subst (λ (t : Tree). IsAt tree pass has.levels t put) left has.at);
+      at = subst (λ (k : Key). IsAt wanted pass has.levels (with_bucket k sequence inside after) put) same (subst (λ (t : Tree). IsAt wanted pass has.levels t put) left has.at);
       members_are = ap (λ (k : Key). left_in (record { key = k; after = after } ∷ has.levels) inside) (sym same) ∙ sym members_is;
     }
 
@@ -110,22 +112,29 @@ members_fit path (with_bucket key sequence inside after) (key_fits, sequence_fit
 
 -- ---- the beginning
 
-pub has_begun : (tree : Tree) (pass : Pass) → pass.waiting.items ≡ [] → pass.pending ≡ None → rows_of pass.bucket pass.next ≡ record { leaves = no_leaves; uppers = []; next = first_page } → pass.most ≡ 0 → HasLeft tree pass (listing_of tree) []
-has_begun tree pass none nothing rows fresh = record {
+pub has_begun : (wanted : Wanted) (pass : Pass) → pass.waiting.items ≡ [] → pass.pending ≡ None
+    → rows_of pass.bucket pass.next ≡ record { leaves = no_leaves; uppers = []; limits = limits_by pass 0; next = first_page } → pass.most ≡ 0 → pass.opened ≡ 1
+    → HaveRightLimits wanted.which pass.bounds.page_size (limits_by pass 0) (leaf_pages pass.bounds.page_size (items_of wanted.which pass.bounds.page_size wanted.tree))
+    → AreRight wanted.which pass.bounds.page_size (limits_by pass) 1 wanted.tree → HasLeft wanted pass (listing_of wanted.tree) []
+has_begun wanted pass none nothing rows fresh first own others = record {
   levels = [];
-  left = tree;
+  left = wanted.tree;
   at = record {
     frames = [];
-    state = nothing_open;
-    rest = tree;
-    under = pass_begins pass.bounds.page_size tree;
-    rows = subst (λ (r : OpenRows). IsOpenRows r nothing_open first_page) (sym rows) (nothing_rows first_page);
+    state = nothing_open (limits_by pass 0);
+    rest = wanted.tree;
+    under = pass_begins wanted.which pass.bounds.page_size (limits_by pass 0) wanted.tree own;
+    rows = subst (λ (r : OpenRows). IsOpenRows r (nothing_open (limits_by pass 0)) first_page) (sym rows) (nothing_rows (limits_by pass 0) first_page);
     waits = rw none tt;
     put_is = refl;
     held = omega arith;
     pends = rw nothing (refl, refl);
+    opened = 1;
+    opened_is = omega arith;
+    right = others;
+    right_around = tt;
   };
-  members_are = all_left tree;
+  members_are = all_left wanted.tree;
 }
 
 -- ---- the end
@@ -145,34 +154,34 @@ only_none (Some p) h = absurd (omega arith)
 no_pending : (pass : Pass) → depth_of pass ≤ 1 → pass.pending ≡ None
 no_pending pass h = only_none pass.pending (omega arith)
 
-pub record HasEnd (tree : Tree) (pass : Pass) (put : List Placed) : Type 0 where
-  pub pages : layout_pages Plain pass.bounds.page_size tree ≡ put ++ rows_end_put pass.bounds.page_size (rows_of pass.bucket pass.next)
-  pub root : rows_end pass.bounds.page_size (rows_of pass.bucket pass.next) ≡ layout_root Plain pass.bounds.page_size tree
-  pub mark : bucket_end_next pass.bounds.page_size (rows_of pass.bucket pass.next) ≡ layout_mark Plain pass.bounds.page_size tree
-  pub held : pass.most ≡ capped (layout_held Plain pass.bounds.page_size tree)
+pub record HasEnd (wanted : Wanted) (pass : Pass) (put : List Placed) : Type 0 where
+  pub pages : layout_pages wanted.which pass.bounds.page_size wanted.tree ≡ put ++ rows_end_put pass.bounds.page_size (rows_of pass.bucket pass.next)
+  pub root : rows_end pass.bounds.page_size (rows_of pass.bucket pass.next) ≡ layout_root wanted.which pass.bounds.page_size wanted.tree
+  pub mark : bucket_end_next pass.bounds.page_size (rows_of pass.bucket pass.next) ≡ layout_mark wanted.which pass.bounds.page_size wanted.tree
+  pub held : pass.most ≡ capped (layout_held wanted.which pass.bounds.page_size wanted.tree)
 
-root_ended : (page_size : ℕ) (tree : Tree) (state : Open) (rows : OpenRows) (put : List Placed) → IsOn page_size tree [] state [] rows put
-    → (layout_pages Plain page_size tree ≡ put ++ rows_end_put page_size rows) × (rows_end page_size rows ≡ layout_root Plain page_size tree) × (bucket_end_next page_size rows ≡ layout_mark Plain page_size tree)
-    × (held_so_far [] state ≡ layout_held Plain page_size tree)
-root_ended page_size tree state rows put on =
+root_ended : (page_size : ℕ) (wanted : Wanted) (state : Open) (rows : OpenRows) (put : List Placed) → IsOn wanted.which page_size wanted.tree [] state [] rows put
+    → (layout_pages wanted.which page_size wanted.tree ≡ put ++ rows_end_put page_size rows) × (rows_end page_size rows ≡ layout_root wanted.which page_size wanted.tree) × (bucket_end_next page_size rows ≡ layout_mark wanted.which page_size wanted.tree)
+    × (held_so_far [] state ≡ layout_held wanted.which page_size wanted.tree)
+root_ended page_size wanted state rows put on =
     let ended = rows_ended page_size rows state first_page on.rows_are in
-    let whole : end_of page_size state ≡ root_of Plain page_size tree = ends page_size state on.under.root on.under.current ∙ on.under.stack in (
-      sym (pass_ends page_size tree state on.under) ∙ (ap (λ (ps : List Placed). all_put [] state ++ ps) (sym ended.0) ∙ ap (λ (ps : List Placed). ps ++ rows_end_put page_size rows) (sym on.put_is)),
+    let whole : end_of page_size state ≡ root_of wanted.which page_size wanted.tree = ends wanted.which page_size state on.under.root on.under.current ∙ on.under.stack in (
+      sym (pass_ends wanted.which page_size wanted.tree state on.under) ∙ (ap (λ (ps : List Placed). all_put [] state ++ ps) (sym ended.0) ∙ ap (λ (ps : List Placed). ps ++ rows_end_put page_size rows) (sym on.put_is)),
       ended.1 ∙ ap (λ (r : Laid BranchElement). (r.element first_page).child) whole,
       end_numbered page_size rows state first_page on.rows_are ∙ ap (λ (r : Laid BranchElement). first_page + r.numbers) whole,
-      sym (end_held page_size state on.under.begun.whole) ∙ ap (λ (r : Laid BranchElement). r.held) whole,
+      sym (end_held page_size state on.under.begun) ∙ ap (λ (r : Laid BranchElement). r.held) whole,
     )
 
-pub has_end : (tree : Tree) (pass : Pass) (put : List Placed) → HasLeft tree pass [] put → depth_of pass ≤ 1 → HasEnd tree pass put
-has_end tree pass put has shallow =
-    let d = depth_levels tree pass has.levels has.left put has.at in
+pub has_end : (wanted : Wanted) (pass : Pass) (put : List Placed) → HasLeft wanted pass [] put → depth_of pass ≤ 1 → HasEnd wanted pass put
+has_end wanted pass put has shallow =
+    let d = depth_levels wanted pass has.levels has.left put has.at in
     let none = no_levels has.levels (omega arith) in
     let left : has.left ≡ end = none_at_all has.levels has.left has.members_are in
-    let at = subst (λ (t : Tree). IsAt tree pass [] t put) left (subst (λ (ls : List Level). IsAt tree pass ls has.left put) none has.at) in
-    let (same, on) = on_of tree pass [] end put at (no_pending pass shallow) in
+    let at = subst (λ (t : Tree). IsAt wanted pass [] t put) left (subst (λ (ls : List Level). IsAt wanted pass ls has.left put) none has.at) in
+    let (same, on, right) = on_of wanted pass [] end put at (no_pending pass shallow) in
     let frames = no_frames at.frames same in
-    let on2 = subst (λ (fs : List Frame). IsOn pass.bounds.page_size tree fs at.state [] (rows_of pass.bucket pass.next) put) frames on in
-    let (pages, root, mark, held) = root_ended pass.bounds.page_size tree at.state (rows_of pass.bucket pass.next) put on2 in
+    let on2 = subst (λ (fs : List Frame). IsOn wanted.which pass.bounds.page_size wanted.tree fs at.state [] (rows_of pass.bucket pass.next) put) frames on in
+    let (pages, root, mark, held) = root_ended pass.bounds.page_size wanted at.state (rows_of pass.bucket pass.next) put on2 in
     record { pages = pages; root = root; mark = mark; held = at.held ∙ ap capped (ap (λ (fs : List Frame). held_so_far fs at.state) frames ∙ held) }
 
 -- A beginning of a text isn't the whole of a longer one.
@@ -193,9 +202,9 @@ rest_some : (page_size : ℕ) (pages : List Placed) → 1 ≤ length pages → p
 rest_some page_size [] some = absurd (omega arith)
 rest_some page_size (page ∷ pages) some = pages_some page_size page pages
 
-module _ {S : Type 0} (tree : Tree) (taken : S → Option (List ℕ)) (failed : S → ℕ) (bounds : Bounds) where
+module _ {S : Type 0} (wanted : Wanted) (taken : S → Option (List ℕ)) (failed : S → ℕ) (bounds : Bounds) where
   -- a step failed on the way
-  pub ends_early : {A : Type 0} (old new : S) (put : List Placed) (At : List Placed → Type 0) (e : BulkFault) → Steps {A = A} tree taken failed old new bounds put At (Err e) → Ends tree taken failed old new bounds put (Err e)
+  pub ends_early : {A : Type 0} (old new : S) (put : List Placed) (At : List Placed → Type 0) (e : BulkFault) → Steps {A = A} wanted taken failed old new bounds put At (Err e) → Ends wanted taken failed old new bounds put (Err e)
   ends_early old new put At e steps =
       let P : ℕ = bounds.page_size in
       let others : List Placed = steps.more ++ steps.before.rest in
@@ -214,8 +223,8 @@ module _ {S : Type 0} (tree : Tree) (taken : S → Option (List ℕ)) (failed : 
       }
 
   -- after steps that went well
-  pub ends_after : {A : Type 0} (old mid new : S) (put : List Placed) (At : List Placed → Type 0) (x : A) (result : Result Ended BulkFault) → Steps tree taken failed old mid bounds put At (Ok x)
-      → ((all : List Placed) → At all → Ends tree taken failed mid new bounds all result) → Ends tree taken failed old new bounds put result
+  pub ends_after : {A : Type 0} (old mid new : S) (put : List Placed) (At : List Placed → Type 0) (x : A) (result : Result Ended BulkFault) → Steps wanted taken failed old mid bounds put At (Ok x)
+      → ((all : List Placed) → At all → Ends wanted taken failed mid new bounds all result) → Ends wanted taken failed old new bounds put result
   ends_after old mid new put At x result one two =
       let P : ℕ = bounds.page_size in
       let then = two (put ++ one.more) one.at in

@@ -8,7 +8,7 @@ use Rattle.bolt_tree.specs.Tree.{Tree, end}
 use Rattle.bolt_layout.specs.Laid.{Placed}
 use Rattle.bolt_bulk.specs.Private.Levels.{Level, left_in}
 use Rattle.bolt_bulk.specs.Private.OpenRuns.{Frame}
-use Rattle.bolt_bulk.specs.Private.Passes.{AreWaiting, HasLeft, IsAt, IsNoDeeper, IsPending, Steps, depth_of, level_of, pending_depth}
+use Rattle.bolt_bulk.specs.Private.Passes.{Wanted, AreWaiting, HasLeft, IsAt, IsNoDeeper, IsPending, Steps, depth_of, level_of, pending_depth}
 use Rattle.bolt_bulk.specs.declared.bounds.Bounds.{Bounds}
 use Rattle.bolt_bulk.specs.declared.fault.BulkFault.{BulkFault}
 use Rattle.bolt_bulk.specs.declared.pass.Pass.{Pass}
@@ -29,23 +29,23 @@ pending_levels : (pending : Option Pending) (entries : List Leaf) (outer : List 
 pending_levels None entries outer rest levels left (same, is) = let l = ap (λ (ls : List Level). length ls) same in omega arith
 pending_levels (Some p) entries outer rest levels left (after, same, is) = let l = ap (λ (ls : List Level). length ls) same in omega arith
 
-pub depth_levels : (tree : Tree) (pass : Pass) (levels : List Level) (left : Tree) (put : List Placed) → IsAt tree pass levels left put → depth_of pass ≡ suc (length levels)
-depth_levels tree pass levels left put is =
+pub depth_levels : (wanted : Wanted) (pass : Pass) (levels : List Level) (left : Tree) (put : List Placed) → IsAt wanted pass levels left put → depth_of pass ≡ suc (length levels)
+depth_levels wanted pass levels left put is =
     let a = waiting_frames (reverse pass.waiting.items) is.frames is.waits in
     let b = length-reverse pass.waiting.items in
     let c = length-map is.frames level_of in
     let d = pending_levels pass.pending pass.entries.items (map level_of is.frames) is.rest levels left is.pends in omega arith
 
 -- what a step leaves, in other words
-pub steps_map : {S A : Type 0} {taken : S → Option (List ℕ)} {failed : S → ℕ} (tree : Tree) (old new : S) (bounds : Bounds) (put : List Placed) (At Then : List Placed → Type 0) (result : Result A BulkFault)
-    → ((all : List Placed) → At all → Then all) → Steps tree taken failed old new bounds put At result → Steps tree taken failed old new bounds put Then result
-steps_map tree old new bounds put At Then result f steps =
+pub steps_map : {S A : Type 0} {taken : S → Option (List ℕ)} {failed : S → ℕ} (wanted : Wanted) (old new : S) (bounds : Bounds) (put : List Placed) (At Then : List Placed → Type 0) (result : Result A BulkFault)
+    → ((all : List Placed) → At all → Then all) → Steps wanted taken failed old new bounds put At result → Steps wanted taken failed old new bounds put Then result
+steps_map wanted old new bounds put At Then result f steps =
     record { more = steps.more; puts = steps.puts; at = on_ok_map result steps.at (f (put ++ steps.more)); before = steps.before; large = steps.large }
 
 -- nothing was done yet
-pub steps_begun : {S : Type 0} {taken : S → Option (List ℕ)} {failed : S → ℕ} (tree : Tree) (pass : Pass) (members : List Member) (put : List Placed) (old : S) → HasLeft tree pass members put
-    → Steps {A = ⊤} tree taken failed old old pass.bounds put (HasLeft tree pass members) (Ok tt)
-steps_begun tree pass members put old has = steps_none tree pass has.levels has.left put old (HasLeft tree pass members) (Ok tt) has.at tt has
+pub steps_begun : {S : Type 0} {taken : S → Option (List ℕ)} {failed : S → ℕ} (wanted : Wanted) (pass : Pass) (members : List Member) (put : List Placed) (old : S) → HasLeft wanted pass members put
+    → Steps {A = ⊤} wanted taken failed old old pass.bounds put (HasLeft wanted pass members) (Ok tt)
+steps_begun wanted pass members put old has = steps_none wanted pass has.levels has.left put old (HasLeft wanted pass members) (Ok tt) has.at tt has
 
 -- The next member is further out, or there is none: the innermost bucket has no more.
 no_more : (depth : ℕ) (levels : List Level) (left : Tree) (members : List Member) → left_in levels left ≡ members → IsNoDeeper depth members → depth < suc (length levels) → left ≡ end
@@ -56,26 +56,26 @@ some_level : (levels : List Level) → 1 < suc (length levels) → (level : Leve
 some_level [] deep = absurd (omega arith)
 some_level (level ∷ others) deep = (level, others, refl)
 
-pub record HasEnded (tree : Tree) (pass : Pass) (members : List Member) (put : List Placed) : Type 0 where
+pub record HasEnded (wanted : Wanted) (pass : Pass) (members : List Member) (put : List Placed) : Type 0 where
   pub level : Level
   pub levels : List Level
-  pub at : IsAt tree pass (level ∷ levels) end put
+  pub at : IsAt wanted pass (level ∷ levels) end put
   pub members_are : left_in levels level.after ≡ members
 
-pub has_ended : (depth : ℕ) (tree : Tree) (pass : Pass) (members : List Member) (put : List Placed) → HasLeft tree pass members put → IsNoDeeper depth members → 1 ≤ depth → depth < depth_of pass
-    → HasEnded tree pass members put
-has_ended depth tree pass members put has shallow some deep =
-    let d = depth_levels tree pass has.levels has.left put has.at in
+pub has_ended : (depth : ℕ) (wanted : Wanted) (pass : Pass) (members : List Member) (put : List Placed) → HasLeft wanted pass members put → IsNoDeeper depth members → 1 ≤ depth → depth < depth_of pass
+    → HasEnded wanted pass members put
+has_ended depth wanted pass members put has shallow some deep =
+    let d = depth_levels wanted pass has.levels has.left put has.at in
     let none = no_more depth has.levels has.left members has.members_are shallow (omega arith) in
     let (level, levels, same) = some_level has.levels (omega arith) in
     record {
       level = level;
       levels = levels;
-      at = subst (λ (t : Tree). IsAt tree pass (level ∷ levels) t put) none (subst (λ (ls : List Level). IsAt tree pass ls has.left put) same has.at);
+      at = subst (λ (t : Tree). IsAt wanted pass (level ∷ levels) t put) none (subst (λ (ls : List Level). IsAt wanted pass ls has.left put) same has.at);
       members_are = sym (ap (λ (ls : List Level). left_in ls end) same) ∙ (sym (ap (λ (t : Tree). left_in has.levels t) none) ∙ has.members_are);
     }
 
 -- a bucket was left
-pub left_out : (tree : Tree) (pass : Pass) (level : Level) (levels : List Level) (members : List Member) (put : List Placed) → left_in levels level.after ≡ members → IsAt tree pass levels level.after put
-    → HasLeft tree pass members put
-left_out tree pass level levels members put is at = record { levels = levels; left = level.after; at = at; members_are = is }
+pub left_out : (wanted : Wanted) (pass : Pass) (level : Level) (levels : List Level) (members : List Member) (put : List Placed) → left_in levels level.after ≡ members → IsAt wanted pass levels level.after put
+    → HasLeft wanted pass members put
+left_out wanted pass level levels members put is at = record { levels = levels; left = level.after; at = at; members_are = is }

@@ -8,7 +8,7 @@ use Rattle.bolt_layout.specs.PageBytes.{root_value}
 use Rattle.bolt_bulk.specs.Private.BranchRuns.{element_up, rows_end_next}
 use Rattle.bolt_format.specs.Elements.{BranchElement}
 use Rattle.bolt_bulk.specs.Private.Rows.{BranchRow, OpenRows, leaf_key, row_key, row_push, rows_end, rows_push, rows_room, rows_room_put}
-use Rattle.bolt_bulk.specs.Private.OpenRuns.{Frame, Open, base_in, close, end_of, making_room, numbers_in, pushing, put_in, room_puts, taking}
+use Rattle.bolt_bulk.specs.Private.OpenRuns.{Frame, Open, Upper, base_in, close, end_of, making_room, numbers_in, pushing, put_in, room_puts, taking}
 use Rattle.bolt_bulk.specs.Private.Coming.{held_item}
 use Rattle.bolt_bulk.specs.Private.OpenRows.{AreRows, IsKeyed, IsOpenRows}
 use Rattle.bolt_layout.proofs.OverRows.{numbers-append}
@@ -35,16 +35,17 @@ pub enter_is : (page_size : ℕ) (rows : OpenRows) (state : Open) (b : ℕ) (key
 enter_is page_size rows state b key is = rows_have_room page_size rows state b key (32 + length key) is
 
 -- the number after a bucket's root page
-close_numbered : (page_size : ℕ) (e : BranchElement) (next b : ℕ) (q : Laid BranchElement) (rows : List BranchRow) (uppers : List (List (Laid BranchElement))) → AreRows rows uppers b → IsKeyed q
+close_numbered : (page_size : ℕ) (e : BranchElement) (next b : ℕ) (q : Laid BranchElement) (rows : List BranchRow) (uppers : List Upper) → AreRows rows uppers b → IsKeyed q
     → e ≡ q.element (b + numbers_in uppers) → next ≡ b + numbers_in uppers + q.numbers → rows_end_next page_size e next rows ≡ b + (close page_size q uppers).numbers
 close_numbered page_size e next b q [] [] are keyed same number = omega arith
-close_numbered page_size e next b q [] (run ∷ uppers) are keyed same number = absurd are
+close_numbered page_size e next b q [] (upper ∷ uppers) are keyed same number = absurd are
 close_numbered page_size e next b q (row ∷ rows) [] are keyed same number = absurd are
-close_numbered page_size e next b q (row ∷ rows) (run ∷ uppers) are keyed same number =
+close_numbered page_size e next b q (row ∷ rows) (upper ∷ uppers) are keyed same number =
+    let run : List (Laid BranchElement) = upper.run in
     let m : ℕ = b + numbers_in uppers in
     let count = numbers-append (put_in uppers) run in
-    let place : b + numbers_in (run ∷ uppers) ≡ m + numbers_of run = omega arith in
-    let pushed = row_pushed row run m q e are.0 keyed (same ∙ ap q.element place) in
+    let place : b + numbers_in (upper ∷ uppers) ≡ m + numbers_of run = omega arith in
+    let pushed = row_pushed row upper m q e are.0 keyed (same ∙ ap q.element place) in
     let q2 : Laid BranchElement = page_over branch_view page_size (run ++ q ∷ []) in
     let more = numbers-append run (q ∷ []) in
     let next_is : next ≡ m + numbers_of (run ++ q ∷ []) = omega arith in

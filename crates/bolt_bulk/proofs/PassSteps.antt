@@ -1,5 +1,5 @@
 -- The steps of a pass, over the open runs and the rows that code keeps of them.
-use Rattle.std.proofs.Common.{◌≡◌, ◌∙◌, ℕ, ◌+◌, ◌/◌, ◌≤◌, ◌<◌, ◌||◌, ◌&&◌, nat_le, nat_lt, Bool, true, false, List, [], ◌∷◌, ◌++◌, length, refl, sym, ap, subst, arith, append_assoc}
+use Rattle.std.proofs.Common.{◌≡◌, ◌∙◌, ℕ, ◌+◌, ◌/◌, ◌≤◌, ◌<◌, ◌||◌, ◌&&◌, nat_le, nat_lt, Bool, true, false, Option, List, [], ◌∷◌, ◌++◌, length, refl, sym, ap, subst, arith, append_assoc}
 use Rattle.std.specs.List.{AllByRecursion}
 use Rattle.std.proofs.lemmas.Bool.{le-leb, lt-ltb}
 use Rattle.std.proofs.lemmas.List.{append-nil, length-append}
@@ -10,9 +10,10 @@ use Rattle.bolt_layout.specs.Cut.{max_items, run_size}
 use Rattle.bolt_layout.specs.Items.{bucket_item, items_of, leaf_item, root_of, stored_bucket}
 use Rattle.bolt_layout.specs.Laid.{Laid, Placed, elements_of, size_of}
 use Rattle.bolt_layout.specs.Layout.{layout_mark, layout_pages}
+use Rattle.bolt_layout.specs.Limits.{HaveRightLimits}
 use Rattle.bolt_layout.specs.Levels.{root_over}
 use Rattle.bolt_layout.specs.PageBytes.{inline_value, leaf_data}
-use Rattle.bolt_bulk.specs.Private.Coming.{IsPass, held_item}
+use Rattle.bolt_bulk.specs.Private.Coming.{IsPass, held_item, leaves_coming}
 use Rattle.bolt_bulk.specs.Private.OpenBuckets.{bucket_end_next}
 use Rattle.bolt_bulk.specs.Private.OpenRows.{IsOpenRows}
 use Rattle.bolt_bulk.specs.Private.OpenRuns.{Frame, Open, all_put, base_in, end_of, frames_put, has_room, making_room, nothing_open, pushing, room_puts, taking}
@@ -24,114 +25,115 @@ use Rattle.bolt_bulk.proofs.Ontos.{IsValue, ends_inline, onto_items, value_items
 use Rattle.bolt_bulk.proofs.OpenRowLemmas.{rows_ended}
 use Rattle.bolt_bulk.proofs.PassRows.{enter_is, leave_is, take_is}
 use Rattle.bolt_bulk.proofs.PutBefore.{pass_before}
-use Rattle.bolt_layout.specs.declared.layout.Layout.TheVariants.{Plain}
+use Rattle.bolt_layout.specs.declared.layout.Layout.{Layout}
 
 -- Where the pass stands, apart from how code keeps the buckets that wait.
-pub record IsOn (page_size : ℕ) (tree : Tree) (frames : List Frame) (state : Open) (items : List (Laid LeafElement)) (rows : OpenRows) (put : List Placed) : Type 0 where
-  pub under : IsPass page_size frames state items (root_of Plain page_size tree)
+pub record IsOn (which : Layout) (page_size : ℕ) (tree : Tree) (frames : List Frame) (state : Open) (items : List (Laid LeafElement)) (rows : OpenRows) (put : List Placed) : Type 0 where
+  pub under : IsPass which page_size frames state items (root_of which page_size tree)
   pub rows_are : IsOpenRows rows state (base_in frames)
   pub put_is : put ≡ all_put frames state
 
-module _ (page_size : ℕ) (tree : Tree) where
+module _ (which : Layout) (page_size : ℕ) (tree : Tree) where
   -- what was put stands before the root page, and its numbers are below the high-water mark
-  pub on_before : (frames : List Frame) (state : Open) (items : List (Laid LeafElement)) (rows : OpenRows) (put : List Placed) → IsOn page_size tree frames state items rows put
-      → StandsBefore put (layout_pages Plain page_size tree)
+  pub on_before : (frames : List Frame) (state : Open) (items : List (Laid LeafElement)) (rows : OpenRows) (put : List Placed) → IsOn which page_size tree frames state items rows put
+      → StandsBefore put (layout_pages which page_size tree)
   on_before frames state items rows put on =
-      let is = pass_before page_size frames state items (root_of Plain page_size tree) on.under in
+      let is = pass_before which page_size frames state items (root_of which page_size tree) on.under in
       record { rest = is.rest; parts = is.parts ∙ ap (λ (ps : List Placed). ps ++ is.rest) (sym on.put_is); some = is.some }
 
-  pub on_numbers : (frames : List Frame) (state : Open) (items : List (Laid LeafElement)) (rows : OpenRows) (put : List Placed) → IsOn page_size tree frames state items rows put
-      → rows.next ≤ layout_mark Plain page_size tree
+  pub on_numbers : (frames : List Frame) (state : Open) (items : List (Laid LeafElement)) (rows : OpenRows) (put : List Placed) → IsOn which page_size tree frames state items rows put
+      → rows.next ≤ layout_mark which page_size tree
   on_numbers frames state items rows put on =
-      let fewer = (pass_before page_size frames state items (root_of Plain page_size tree) on.under).fewer in
+      let fewer = (pass_before which page_size frames state items (root_of which page_size tree) on.under).fewer in
       let next = on.rows_are.next_is in omega arith
 
   -- an item without pages below it is taken
   pub on_takes : (frames : List Frame) (state : Open) (key value : List ℕ) (flag : Bool) (items : List (Laid LeafElement)) (rows : OpenRows) (put : List Placed)
-      → IsOn page_size tree frames state (leaf_item key value flag ∷ items) rows put
-      → IsOn page_size tree frames (taking page_size state (leaf_item key value flag)) items (rows_taking page_size rows (record { key = key; value = value; is_bucket = flag }) (16 + (length key + length value)))
+      → IsOn which page_size tree frames state (leaf_item key value flag ∷ items) rows put
+      → IsOn which page_size tree frames (taking page_size state (leaf_item key value flag)) items (rows_taking page_size rows (record { key = key; value = value; is_bucket = flag }) (16 + (length key + length value)))
       (put ++ rows_room_put page_size rows key (16 + (length key + length value)))
   on_takes frames state key value flag items rows put on =
       let item : Laid LeafElement = leaf_item key value flag in
       let made = take_is page_size rows state (base_in frames) key value flag on.rows_are in
       record {
-        under = pass_takes page_size frames state item items (root_of Plain page_size tree) on.under;
+        under = pass_takes which page_size frames state item items (root_of which page_size tree) on.under;
         rows_are = made.0;
         put_is = ap (λ (ps : List Placed). ps ++ rows_room_put page_size rows key item.size) on.put_is
             ∙ (ap (λ (ps : List Placed). all_put frames state ++ ps) made.1 ∙ sym (put_takes page_size frames state item (λ n. refl)));
       }
 
   -- a bucket with a root page is entered
-  pub on_enters : (frames : List Frame) (state : Open) (key : List ℕ) (sequence : ℕ) (inner : List (Laid LeafElement)) (after : Tree) (rows : OpenRows) (put : List Placed)
-      → IsOn page_size tree frames state (bucket_item key sequence (root_over Plain page_size inner) ∷ items_of Plain page_size after) rows put
-      → IsPass page_size (waiting page_size state key sequence (root_over Plain page_size inner) after ∷ frames) nothing_open inner (root_of Plain page_size tree)
+  pub on_enters : (limits : ℕ → Option ℕ) (frames : List Frame) (state : Open) (key : List ℕ) (sequence : ℕ) (inner : List (Laid LeafElement)) (after : Tree) (rows : OpenRows) (put : List Placed)
+      → HaveRightLimits which page_size limits (leaves_coming page_size [] inner)
+      → IsOn which page_size tree frames state (bucket_item key sequence (root_over which page_size inner) ∷ items_of which page_size after) rows put
+      → IsPass which page_size (waiting page_size state key sequence (root_over which page_size inner) after ∷ frames) (nothing_open limits) inner (root_of which page_size tree)
       × IsOpenRows (rows_room page_size rows key (32 + length key)) (making_room page_size state key (32 + length key)) (base_in frames)
-      × (put ++ rows_room_put page_size rows key (32 + length key) ≡ all_put (waiting page_size state key sequence (root_over Plain page_size inner) after ∷ frames) nothing_open)
-  on_enters frames state key sequence inner after rows put on =
+      × (put ++ rows_room_put page_size rows key (32 + length key) ≡ all_put (waiting page_size state key sequence (root_over which page_size inner) after ∷ frames) (nothing_open limits))
+  on_enters limits frames state key sequence inner after rows put right on =
       let made = enter_is page_size rows state (base_in frames) key on.rows_are in
       let size : 32 + length key ≡ 16 + (length key + 16) = omega arith in
-      let root : Laid LeafElement = bucket_item key sequence (root_over Plain page_size inner) in (
-        pass_enters page_size frames state key sequence inner after (root_of Plain page_size tree) on.under,
+      let root : Laid LeafElement = bucket_item key sequence (root_over which page_size inner) in (
+        pass_enters which page_size limits frames state key sequence inner after (root_of which page_size tree) right on.under,
         made.0,
         ap (λ (ps : List Placed). ps ++ rows_room_put page_size rows key (32 + length key)) on.put_is
             ∙ (ap (λ (ps : List Placed). all_put frames state ++ ps) (made.1 ∙ ap (λ (n : ℕ). room_puts page_size state key n (base_in frames)) size)
-            ∙ sym (put_enters page_size frames state key sequence (root_over Plain page_size inner) after)),
+            ∙ sym (put_enters page_size limits frames state key sequence (root_over which page_size inner) after)),
       )
 
   -- it ends, and the bucket around it goes on
-  pub on_leaves : (frame : Frame) (frames : List Frame) (state : Open) (inner outer : OpenRows) (put : List Placed) → IsOn page_size tree (frame ∷ frames) state [] inner put
+  pub on_leaves : (frame : Frame) (frames : List Frame) (state : Open) (inner outer : OpenRows) (put : List Placed) → IsOn which page_size tree (frame ∷ frames) state [] inner put
       → IsOpenRows outer frame.state (base_in frames) → outer.next ≡ base_in (frame ∷ frames)
-      → IsOn page_size tree frames (pushing frame.state (held_item frame (end_of page_size state))) (items_of Plain page_size frame.after)
+      → IsOn which page_size tree frames (pushing frame.state (held_item frame (end_of page_size state))) (items_of which page_size frame.after)
       (rows_push outer (root_element frame.key (rows_end page_size inner) frame.sequence) (16 + (length frame.key + 16)) (bucket_end_next page_size inner))
       (put ++ rows_end_put page_size inner)
   on_leaves frame frames state inner outer put on waits base =
       let ended = rows_ended page_size inner state (base_in (frame ∷ frames)) on.rows_are in
       record {
-        under = pass_leaves page_size frame frames state (root_of Plain page_size tree) on.under;
+        under = pass_leaves which page_size frame frames state (root_of which page_size tree) on.under;
         rows_are = leave_is page_size inner outer state frame frames on.rows_are waits base;
         put_is = ap (λ (ps : List Placed). ps ++ rows_end_put page_size inner) on.put_is
             ∙ (ap (λ (ps : List Placed). all_put (frame ∷ frames) state ++ ps) ended.0 ∙ sym (put_leaves page_size frame frames state));
       }
 
 -- Values are taken as long as their page has room.
-abbrev pub open_values : List (Laid LeafElement) → Open
-open_values run = record { uppers = []; run = run }
+abbrev pub open_values : (limits : ℕ → Option ℕ) → List (Laid LeafElement) → Open
+open_values limits run = record { uppers = []; run = run; limits = limits }
 
 either : (a : Bool) → (a || (true && true)) ≡ true
 either true = refl
 either false = refl
 
-room_left : (page_size : ℕ) (run : List (Laid LeafElement)) (item : Laid LeafElement) → run_size size_of run + item.size ≤ page_size → length run < 65534
-    → taking page_size (open_values run) item ≡ open_values (run ++ item ∷ [])
-room_left page_size run item fits few =
+room_left : (page_size : ℕ) (limits : ℕ → Option ℕ) (run : List (Laid LeafElement)) (item : Laid LeafElement) → run_size size_of run + item.size ≤ page_size → length run < 65534
+    → taking page_size (open_values limits run) item ≡ open_values limits (run ++ item ∷ [])
+room_left page_size limits run item fits few =
     let size : nat_le (run_size size_of run + item.size) page_size ≡ true = le-leb _ _ fits in
     let cap : nat_lt (length run) max_items ≡ true = lt-ltb _ _ few in
     let room : has_room page_size 1 run item.size ≡ true = rw (size, cap) (either (nat_lt (length run) 1)) in
     rw room refl
 
-pub pass_takes_all : (page_size : ℕ) (frames : List Frame) (run : List (Laid LeafElement)) (entries : List LeafElement) (items : List (Laid LeafElement)) (whole : Laid BranchElement)
+pub pass_takes_all : (which : Layout) (page_size : ℕ) (limits : ℕ → Option ℕ) (frames : List Frame) (run : List (Laid LeafElement)) (entries : List LeafElement) (items : List (Laid LeafElement)) (whole : Laid BranchElement)
     → run_size size_of run + entries_size entries ≤ page_size + 16 → length run + length entries ≤ 65534
-    → IsPass page_size frames (open_values run) (value_items entries ++ items) whole → IsPass page_size frames (open_values (run ++ value_items entries)) items whole
-pass_takes_all page_size frames run [] items whole fits few pass = subst (λ (r : List (Laid LeafElement)). IsPass page_size frames (open_values r) items whole) (sym (append-nil run)) pass
-pass_takes_all page_size frames run (e ∷ entries) items whole fits few pass =
+    → IsPass which page_size frames (open_values limits run) (value_items entries ++ items) whole → IsPass which page_size frames (open_values limits (run ++ value_items entries)) items whole
+pass_takes_all which page_size limits frames run [] items whole fits few pass = subst (λ (r : List (Laid LeafElement)). IsPass which page_size frames (open_values limits r) items whole) (sym (append-nil run)) pass
+pass_takes_all which page_size limits frames run (e ∷ entries) items whole fits few pass =
     let item : Laid LeafElement = leaf_item e.key e.value false in
     let a = length-append e.key (e.value ++ leaf_data entries) in
     let b = length-append e.value (leaf_data entries) in
     let c = sum_by_push (size_of {E = LeafElement}) run item in
     let l = length-append run (item ∷ []) in
-    let one = pass_takes page_size frames (open_values run) item (value_items entries ++ items) whole pass in
-    let next = subst (λ (s : Open). IsPass page_size frames s (value_items entries ++ items) whole) (room_left page_size run item (omega arith) (omega arith)) one in
-    let all = pass_takes_all page_size frames (run ++ item ∷ []) entries items whole (omega arith) (omega arith) next in
-    subst (λ (r : List (Laid LeafElement)). IsPass page_size frames (open_values r) items whole) (append_assoc run (item ∷ []) (value_items entries)) all
+    let one = pass_takes which page_size frames (open_values limits run) item (value_items entries ++ items) whole pass in
+    let next = subst (λ (s : Open). IsPass which page_size frames s (value_items entries ++ items) whole) (room_left page_size limits run item (omega arith) (omega arith)) one in
+    let all = pass_takes_all which page_size limits frames (run ++ item ∷ []) entries items whole (omega arith) (omega arith) next in
+    subst (λ (r : List (Laid LeafElement)). IsPass which page_size frames (open_values limits r) items whole) (append_assoc run (item ∷ []) (value_items entries)) all
 
 -- they put nothing
-pub values_put : (frames : List Frame) (entries : List LeafElement) → all_put frames nothing_open ≡ all_put frames (open_values (value_items entries))
-values_put frames entries = ap (λ (ps : List Placed). frames_put frames ++ ps) (sym (values_pages entries (base_in frames + 0)))
+pub values_put : (limits : ℕ → Option ℕ) (frames : List Frame) (entries : List LeafElement) → all_put frames (nothing_open limits) ≡ all_put frames (open_values limits (value_items entries))
+values_put limits frames entries = ap (λ (ps : List Placed). frames_put frames ++ ps) (sym (values_pages entries (base_in frames + 0)))
 
 -- and stand in the first row
-pub values_rows : (entries : List LeafElement) (size base next : ℕ) → AllByRecursion IsValue entries → size ≡ entries_size entries → next ≡ base
-    → IsOpenRows (record { leaves = record { elements = entries; size = size }; uppers = []; next = next }) (open_values (value_items entries)) base
-values_rows entries size base next values sized at =
+pub values_rows : (limits : ℕ → Option ℕ) (entries : List LeafElement) (size base next : ℕ) → AllByRecursion IsValue entries → size ≡ entries_size entries → next ≡ base
+    → IsOpenRows (record { leaves = record { elements = entries; size = size }; uppers = []; limits = limits; next = next }) (open_values limits (value_items entries)) base
+values_rows limits entries size base next values sized at =
     let none = values_numbers entries in
     record {
       same = sym (values_elements entries (base + 0) values);
@@ -139,18 +141,19 @@ values_rows entries size base next values sized at =
       keyed = values_keyed entries;
       above = tt;
       next_is = omega arith;
+      limits_are = refl;
     }
 
 -- The item of an inline bucket.
-pub inline_item : (page_size : ℕ) (key : List ℕ) (sequence : ℕ) (entries : List LeafElement) → AllByRecursion IsValue entries → entries_size entries ≤ page_size / 4 → length entries ≤ 65534
-    → stored_bucket Plain page_size key sequence (onto entries end) (items_of Plain page_size (onto entries end)) ≡ leaf_item key (inline_value sequence entries) true
-inline_item page_size key sequence entries values small few =
-    let is = ends_inline page_size entries small few in
-    let items : items_of Plain page_size (onto entries end) ≡ value_items entries = onto_items page_size entries end ∙ append-nil (value_items entries) in
-    let elements : elements_of (items_of Plain page_size (onto entries end)) 0 ≡ entries = ap (λ (l : List (Laid LeafElement)). elements_of l 0) items ∙ values_elements entries 0 values in
+pub inline_item : (which : Layout) (page_size : ℕ) (key : List ℕ) (sequence : ℕ) (entries : List LeafElement) → AllByRecursion IsValue entries → entries_size entries ≤ page_size / 4 → length entries ≤ 65534
+    → stored_bucket which page_size key sequence (onto entries end) (items_of which page_size (onto entries end)) ≡ leaf_item key (inline_value sequence entries) true
+inline_item which page_size key sequence entries values small few =
+    let is = ends_inline which page_size entries small few in
+    let items : items_of which page_size (onto entries end) ≡ value_items entries = onto_items which page_size entries end ∙ append-nil (value_items entries) in
+    let elements : elements_of (items_of which page_size (onto entries end)) 0 ≡ entries = ap (λ (l : List (Laid LeafElement)). elements_of l 0) items ∙ values_elements entries 0 values in
     rw is (ap (λ (es : List LeafElement). leaf_item key (inline_value sequence es) true) elements)
 
 -- The item of a bucket with a root page.
-pub root_item : (page_size : ℕ) (key : List ℕ) (sequence : ℕ) (inside : Tree) → HasRoot page_size inside
-    → stored_bucket Plain page_size key sequence inside (items_of Plain page_size inside) ≡ bucket_item key sequence (root_over Plain page_size (items_of Plain page_size inside))
-root_item page_size key sequence inside not_inline = rw not_inline refl
+pub root_item : (which : Layout) (page_size : ℕ) (key : List ℕ) (sequence : ℕ) (inside : Tree) → HasRoot which page_size inside
+    → stored_bucket which page_size key sequence inside (items_of which page_size inside) ≡ bucket_item key sequence (root_over which page_size (items_of which page_size inside))
+root_item which page_size key sequence inside not_inline = rw not_inline refl

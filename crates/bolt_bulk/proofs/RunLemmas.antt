@@ -1,13 +1,14 @@
 -- A run of pages that takes one more, and closes where the next won't join it.
-use Rattle.std.proofs.Common.{div-add-mod', add-mul, ◌≡◌, ◌∙◌, ◌⊎◌, ℕ, ◌+◌, ◌-◌, ◌*◌, ◌/◌, ◌<◌, ◌≤◌, ◌||◌, ◌&&◌, nat_lt, nat_le, Bool, true, false, List, [], ◌∷◌, ◌++◌, length, refl, ap, inl, inr, arith}
-use Rattle.std.proofs.lemmas.Bool.{leb-true, ltb-true}
+use Rattle.std.proofs.Common.{div-add-mod', add-mul, ◌≡◌, ◌∙◌, ◌⊎◌, ℕ, ◌+◌, ◌-◌, ◌*◌, ◌/◌, ◌<◌, ◌≤◌, ◌||◌, ◌&&◌, nat_lt, nat_le, Bool, true, false, Option, None, List, [], ◌∷◌, ◌++◌, length, refl, ap, inl, inr, arith}
+use Rattle.std.proofs.lemmas.Bool.{cases_Bool, leb-true, ltb-true}
 use Rattle.std.proofs.lemmas.List.{length-append, append-nil}
 use Rattle.bolt_format.specs.Elements.{BranchElement}
 use Rattle.bolt_layout.specs.Cut.{max_items}
 use Rattle.bolt_layout.specs.Levels.{overflow_of}
+use Rattle.bolt_layout.specs.Limits.{is_out}
 use Rattle.bolt_layout.specs.PageBytes.{branch_data}
-use Rattle.bolt_bulk.specs.Private.BranchRuns.{IsPushed, IsSizedRow, IsStanding}
-use Rattle.bolt_bulk.specs.Private.Rows.{BranchRow, no_row, row_has_room, row_push}
+use Rattle.bolt_bulk.specs.Private.BranchRuns.{HasSlack, IsPushed, IsSizedRow, IsStanding}
+use Rattle.bolt_bulk.specs.Private.Rows.{BranchRow, no_row, row_has_room, row_kept, row_key, row_push, row_stays}
 use Rattle.bolt_layout.proofs.PageRows.{overflow_room, overflow_small}
 
 pub record OverflowFits (page_size size : ℕ) : Type 0 where
@@ -54,21 +55,48 @@ alone_small : (es : List BranchElement) (e : BranchElement) (size : ℕ) → len
 alone_small [] e size one sized key = let a = data_push [] e in omega arith
 alone_small (x ∷ es) e size one sized key = let b = length-append es (e ∷ []) in absurd (omega arith)
 
-pub stays_standing : (page_size k : ℕ) (row : BranchRow) (e : BranchElement) → page_size ≤ 33554432 → IsStanding row → length e.key ≤ 1073741824 → row_has_room page_size (row_push row e) k ≡ true → IsStanding (row_push row e)
-stays_standing page_size k row e high is key room =
+-- the first key of a run is one of its elements' keys
+pub key_pushed : (es : List BranchElement) (e : BranchElement) → length (row_key es) ≤ 1073741824 → length e.key ≤ 1073741824 → length (row_key (es ++ e ∷ [])) ≤ 1073741824
+key_pushed [] e named key = key
+key_pushed (x ∷ es) e named key = named
+
+-- a run that has room for the next page has slack
+room_slack : (page_size k : ℕ) (row : BranchRow) (e : BranchElement) → page_size ≤ 33554432 → IsStanding row → length e.key ≤ 1073741824 → row_has_room page_size (row_push row e) k ≡ true → HasSlack (row_push row e)
+room_slack page_size k row e high is key room =
     let p = pushed row e is key in
     elim (few_or_fits (nat_lt (length (row_push row e).elements) 2) (nat_le ((row_push row e).size + k) page_size) (nat_lt (length (row_push row e).elements) max_items) room) [
       | inl one ↦
           (let few : length (row_push row e).elements < 2 = ltb-true _ _ one in
-          record { sized = p.sized; small = alone_small row.elements e (row_push row e).size few p.sized key; few = omega arith })
+          record { small = alone_small row.elements e (row_push row e).size few p.sized key; few = omega arith })
       | inr both ↦
           (let fit : (row_push row e).size + k ≤ page_size = leb-true _ _ both.0 in
           let few : length (row_push row e).elements < 65534 = ltb-true _ _ both.1 in
-          record { sized = p.sized; small = omega arith; few = few })
+          record { small = omega arith; few = few })
     ]
 
-pub no_row_standing : IsStanding no_row
-no_row_standing = record { sized = refl; small = omega arith; few = omega arith }
+no_slack : {A : Type 0} → is_out None ≡ true → A
+no_slack e = absurd (cc)
+
+-- a run that stays open for the next page stands
+pub stays_standing : (page_size k : ℕ) (row : BranchRow) (e : BranchElement) → page_size ≤ 33554432 → IsStanding row → length e.key ≤ 1073741824 → row_stays page_size (row_push row e) k ≡ true
+    → IsStanding (row_kept page_size (row_push row e) k)
+stays_standing page_size k row e high is key stays =
+    let p = pushed row e is key in
+    elim (cases_Bool (row_has_room page_size (row_push row e) k)) [
+      | inl t ↦
+          (let slack = room_slack page_size k row e high is key t in
+          let small = slack.small in
+          let few = slack.few in rw t (record { sized = p.sized; small = omega arith; few = omega arith; named = key_pushed row.elements e is.named key; slack = λ out. slack }))
+      | inr f ↦
+          (let out : is_out row.left ≡ true = rw f at stays in
+          let slack = is.slack out in
+          let small = slack.small in
+          let few = slack.few in
+          let b = length-append row.elements (e ∷ []) in rw f (record { sized = p.sized; small = omega arith; few = omega arith; named = key_pushed row.elements e is.named key; slack = λ none. no_slack none }))
+    ]
+
+pub no_row_standing : (left : Option ℕ) → IsStanding (no_row left)
+no_row_standing left = record { sized = refl; small = omega arith; few = omega arith; named = omega arith; slack = λ out. record { small = omega arith; few = omega arith } }
 
 pub one_page : (page : List ℕ) → page ++ [] ≡ page
 one_page page = append-nil page

@@ -12,6 +12,7 @@ pub mod OpenBuckets
 pub mod OpenRows
 pub mod OpenRuns
 pub mod Passes
+pub mod RowLimits
 pub mod Rows
 pub mod TakenItems
 pub mod Waiting

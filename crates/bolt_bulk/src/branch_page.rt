@@ -56,7 +56,7 @@ pub(crate) fn put_branch_page<S: Sink>(
     size: usize,
     sink: &mut S,
 ) -> Result<(), SinkFault>
-    requires count { length branches.now < 65535 }
+    requires count { length branches.now < 65536 }
     requires size { size ≡ 16 + (16 * length branches.now + length (branch_data (map branch_view branches.now))) }
     requires small { size < 4294967296 }
     requires room { size ≤ (1 + overflow) * page_size }

@@ -1,5 +1,5 @@
 //! The runs of pages that stand open above a bucket's leaves.
-ghost use Rattle.std.specs.Prelude.{◌≡◌, ◌+◌, ◌<◌, ◌≤◌, [], ◌∷◌, IfErr, IfOk, OnErr, OnOk, length, option_map};
+ghost use Rattle.std.specs.Prelude.{◌≡◌, ◌+◌, ◌<◌, ◌≤◌, true, false, [], ◌∷◌, IfErr, IfOk, OnErr, OnOk, length, option_map};
 ghost use Rattle.std.specs.List.{AllByRecursion};
 ghost use Rattle.bolt_format.specs.ElementPlaces.{branch_view};
 ghost use Rattle.bolt_format.specs.Sinks.{AppendsProperBeginning};
@@ -7,31 +7,37 @@ ghost use Rattle.bolt_layout.specs.Layout.{placed_bytes};
 ghost use Rattle.bolt_layout.specs.Levels.{overflow_of};
 ghost use Rattle.bolt_bulk.specs.Private.BranchRuns.{IsPushed, IsSizedRow, IsStanding, element_up, own_element, row_of, rows_above, rows_end_next, row_taking, taking_next, taking_puts, taking_up};
 ghost use Rattle.bolt_bulk.specs.Private.OpenRuns.{key_size};
-ghost use Rattle.bolt_bulk.specs.Private.Rows.{no_row, row_has_room, row_page, row_push, rows_climb, rows_close_put, rows_next, rows_put, rows_root};
+ghost use Rattle.bolt_bulk.specs.Private.RowLimits.{bucket_limit};
+ghost use Rattle.bolt_layout.specs.Limits.{one_less};
+ghost use Rattle.bolt_bulk.specs.Private.Rows.{no_row, row_has_room, row_kept, row_page, row_push, row_stays, rows_climb, rows_close_put, rows_next, rows_put, rows_root};
 ghost use Rattle.bolt_bulk.specs.Puts.{Puts, PutsWhole};
 ghost use Rattle.bolt_bulk.specs.declared.fault.BulkFault.TheVariants as fault;
 
 use crate::bounds::{Bounds, MAX_ITEMS, number_after, overflow};
 use crate::branch_page::put_branch_page;
 use crate::fault::BulkFault;
+use crate::limits::BucketLimits;
 use bolt_format::{Branch, Sink, SinkFault};
 use std::alloc::Global;
 
-/// A run of pages that is open, and the size of the page over it.
+/// A run of pages that is open, the size of the page over it, and how many runs may come after it.
 #[derive(Drop)]
 pub(crate) struct BranchRun<'a> {
     pub elements: Vec<Branch<'a>>,
     pub size: usize,
+    /// How many runs may still begin in its row; `None` if there may be any number.
+    pub left: Option<u64>,
 }
 
 impl<'a> BranchRun<'a> {
     /// A run without pages.
-    fn new(alloc: Global) -> BranchRun<'a>
-        ensures { row_of result ≡ no_row }
+    fn new(alloc: Global, left: Option<u64>) -> BranchRun<'a>
+        ensures { row_of result ≡ no_row left }
     {
         BranchRun {
             elements: Vec::new(alloc),
             size: 16,
+            left,
         }
     }
 
@@ -57,6 +63,24 @@ impl<'a> BranchRun<'a> {
             || (self.size + (16 + key.len()) <= page_size && self.elements.len() < MAX_ITEMS)
     }
 
+    /// Whether it stays open for the page with this first key, which comes next: it joins, or it is
+    /// the last of a row that may have no further run.
+    fn stays(&mut self, page_size: usize, key: &[u8]) -> bool
+        requires { self.old.size + length key.now < 9223372036854775808 }
+        ensures stays { result ≡ row_stays page_size (row_of self.old) (key_size key.now) }
+        ensures kept { result ≡ true → row_of self.new ≡ row_kept page_size (row_of self.old) (key_size key.now) }
+        ensures same { result ≡ false → row_of self.new ≡ row_of self.old }
+    {
+        if self.has_room(page_size, key) {
+            return true;
+        }
+        if let Some(0) = self.left {
+            self.left = None;
+            return true;
+        }
+        false
+    }
+
     /// Takes the element of a page that has closed, where a page with this first key comes next.
     /// A run that this one doesn't join closes: its page is put, and its element given.
     fn take<S: Sink>(
@@ -80,7 +104,7 @@ impl<'a> BranchRun<'a> {
         ensures large { IfErr result (λ e. e ≡ fault.TooLarge → bounds.now.limit < taking_next bounds.now.page_size key.now (branch_view closed.entry) next.old (row_of self.old)) }
     {
         self.push(closed)?;
-        if self.has_room(bounds.page_size, key) {
+        if self.stays(bounds.page_size, key) {
             return Ok(None);
         }
         let up = self.close(bounds, next, sink)?;
@@ -123,7 +147,7 @@ impl<'a> BranchRun<'a> {
         ensures pages { Puts S.taken S.failed sink.old sink.new (placed_bytes bounds.now.page_size (row_page bounds.now.page_size (row_of self.old) next.old ∷ [])) result }
         ensures short { OnErr result (AppendsProperBeginning (S.taken sink.old) (S.taken sink.new) (placed_bytes bounds.now.page_size (row_page bounds.now.page_size (row_of self.old) next.old ∷ []))) }
         ensures up { IfOk result (λ up. branch_view up ≡ own_element (row_of self.old) next.old) }
-        ensures row { OnOk result (row_of self.new ≡ no_row) }
+        ensures row { OnOk result (row_of self.new ≡ no_row (one_less self.old.left)) }
         ensures next { OnOk result (next.new ≡ next.old + (1 + overflow_of bounds.now.page_size self.old.size)) }
         ensures within { OnOk result (next.new ≤ bounds.now.limit) }
         ensures large { IfErr result (λ e. e ≡ fault.TooLarge → bounds.now.limit < next.old + (1 + overflow_of bounds.now.page_size self.old.size)) }
@@ -137,6 +161,10 @@ impl<'a> BranchRun<'a> {
         };
         self.elements.clear();
         self.size = 16;
+        self.left = match self.left {
+            Some(left) => Some(left.saturating_sub(1)),
+            None => None,
+        };
         *next = after;
         Ok(up)
     }
@@ -145,7 +173,7 @@ impl<'a> BranchRun<'a> {
     fn put<S: Sink>(&self, bounds: &Bounds, number: u64, sink: &mut S) -> Result<(), SinkFault>
         requires sized { IsSizedRow (row_of self.now) }
         requires small { self.now.size < 4294967296 }
-        requires few { length self.now.elements.items < 65535 }
+        requires few { length self.now.elements.items < 65536 }
         ensures { PutsWhole S.taken S.failed sink.old sink.new (placed_bytes bounds.now.page_size (row_page bounds.now.page_size (row_of self.now) number ∷ [])) result }
     {
         let further = overflow(bounds.page_size, self.size);
@@ -161,10 +189,11 @@ impl<'a> BranchRun<'a> {
 }
 
 /// A page has closed, and a page with this first key comes next. Each run takes the page below it
-/// that closed, and closes where the next one won't join it.
+/// that closed, and closes where the next one won't join it. Above them a run of the next level begins.
 pub(crate) fn climb<'a, S: Sink>(
     alloc: Global,
     bounds: &Bounds,
+    limits: BucketLimits<'_>,
     key: &[u8],
     closed: Branch<'a>,
     uppers: &mut Vec<BranchRun<'a>>,
@@ -176,7 +205,7 @@ pub(crate) fn climb<'a, S: Sink>(
     requires closed { length closed.key.now ≤ 1073741824 }
     requires next { next.old ≤ bounds.now.limit }
     ensures pages { Puts S.taken S.failed sink.old sink.new (placed_bytes bounds.now.page_size (rows_put bounds.now.page_size key.now (branch_view closed.entry) next.old (rows_above uppers.old.items))) result }
-    ensures rows { OnOk result (rows_above uppers.new.items ≡ rows_climb bounds.now.page_size key.now (branch_view closed.entry) next.old (rows_above uppers.old.items)) }
+    ensures rows { OnOk result (rows_above uppers.new.items ≡ rows_climb bounds.now.page_size (bucket_limit limits.entry (length (rows_above uppers.old.items))) key.now (branch_view closed.entry) next.old (rows_above uppers.old.items)) }
     ensures standing { OnOk result (AllByRecursion IsStanding (rows_above uppers.new.items)) }
     ensures next { OnOk result (next.new ≡ rows_next bounds.now.page_size key.now (branch_view closed.entry) next.old (rows_above uppers.old.items)) }
     ensures within { OnOk result (next.new ≤ bounds.now.limit) }
@@ -190,7 +219,7 @@ pub(crate) fn climb<'a, S: Sink>(
             Ok(Some(up)) => closed = up,
         }
     }
-    let mut run = BranchRun::new(alloc);
+    let mut run = BranchRun::new(alloc, limits.at(uppers.len()));
     run.push(closed)?;
     if uppers.push(run).is_err() {
         return Err(BulkFault::Memory);

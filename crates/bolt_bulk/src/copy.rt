@@ -9,7 +9,7 @@ ghost use Rattle.bolt_layout.specs.Copies.{IsSoundCopy, RefusesBeginnings};
 ghost use Rattle.bolt_layout.specs.Layout.{layout_held, layout_root};
 ghost use Rattle.bolt_layout.specs.declared.layout.Layout.TheVariants.{Plain};
 
-use crate::all_pages::put_pages;
+use crate::all_pages::put_plain_pages;
 use crate::bounds::Bounds;
 use crate::fault::{BulkFault, PlanFault};
 use crate::file_laws::file_has_one_layout;
@@ -49,7 +49,7 @@ pub fn plan(alloc: Global, checked: Checked<'_>, page_size: u64) -> Result<Plan,
     ensures { ForListing checked.entry (λ listing. Plans Plain checked.entry page_size listing result) }
 {
     file_has_one_layout(&checked, page_size);
-    match put_pages(alloc, bounds_of(page_size), checked, &mut NoSink) {
+    match put_plain_pages(alloc, bounds_of(page_size), checked, &mut NoSink) {
         Ok(ended) => Ok(Plan {
             root: ended.root,
             high_water: ended.high_water,
@@ -96,7 +96,7 @@ pub fn compact<S: Sink>(
     if let Err(_) = put_first_pages(&facts, sink) {
         return Err(BulkFault::Sink);
     }
-    match put_pages(alloc, bounds_of(page_size), checked, sink) {
+    match put_plain_pages(alloc, bounds_of(page_size), checked, sink) {
         Err(fault) => Err(fault),
         Ok(ended) => Ok(Done {
             bytes: ended.high_water * page_size,

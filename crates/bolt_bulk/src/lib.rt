@@ -14,6 +14,7 @@ mod first_pages;
 mod held;
 mod held_count;
 mod leaf_page;
+mod limits;
 mod no_sink;
 mod open_bucket;
 mod outcome;

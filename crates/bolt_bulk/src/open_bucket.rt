@@ -11,6 +11,7 @@ ghost use Rattle.bolt_layout.specs.PageBytes.{leaf_data, page_bytes};
 ghost use Rattle.bolt_bulk.specs.Private.HeldCounts.{items_in};
 ghost use Rattle.bolt_bulk.specs.Private.HeldItems.{IsHeld, held_view, inlined_by, stored_value, value_item};
 ghost use Rattle.bolt_bulk.specs.Private.OpenBuckets.{HasRoomFor, IsLeafRun, IsOpenBucket, bucket_end_next, leaf_closed, leaves_of, rows_of};
+ghost use Rattle.bolt_bulk.specs.Private.RowLimits.{bucket_limit};
 ghost use Rattle.bolt_bulk.specs.Private.Rows.{leaf_page, leaves_have_room, no_leaves, rows_end, rows_end_put, rows_push, rows_room, rows_room_put};
 ghost use Rattle.bolt_bulk.specs.Private.TakenItems.{entries_size, inline_element, inline_size};
 ghost use Rattle.bolt_bulk.specs.Puts.{Puts, PutsWhole};
@@ -21,6 +22,7 @@ use crate::branch_runs::{BranchRun, climb, close_all};
 use crate::fault::BulkFault;
 use crate::held::{Held, Stored};
 use crate::leaf_page::put_leaf_page;
+use crate::limits::BucketLimits;
 use bolt_format::{Branch, Leaf, Sink, SinkFault};
 use std::alloc::Global;
 
@@ -38,6 +40,8 @@ pub(crate) struct LeafRun<'a> {
 pub(crate) struct OpenBucket<'a> {
     pub leaves: LeafRun<'a>,
     pub uppers: Vec<BranchRun<'a>>,
+    /// How many runs the rows above its leaves may have.
+    pub limits: BucketLimits<'a>,
 }
 
 impl<'a> LeafRun<'a> {
@@ -121,9 +125,9 @@ fn value_items<'a>(alloc: Global, entries: &[Leaf<'a>]) -> Result<Vec<Held<'a>>,
 
 impl<'a> OpenBucket<'a> {
     /// A bucket of which nothing is open.
-    pub(crate) fn new(alloc: Global) -> OpenBucket<'a>
+    pub(crate) fn new(alloc: Global, limits: BucketLimits<'a>) -> OpenBucket<'a>
         ensures open { IsOpenBucket result }
-        ensures rows { (next : ℕ) → rows_of result next ≡ record { leaves = no_leaves; uppers = []; next = next } }
+        ensures rows { (next : ℕ) → rows_of result next ≡ record { leaves = no_leaves; uppers = []; limits = bucket_limit limits.entry; next = next } }
     {
         OpenBucket {
             leaves: LeafRun {
@@ -132,6 +136,7 @@ impl<'a> OpenBucket<'a> {
                 size: 16,
             },
             uppers: Vec::new(alloc),
+            limits,
         }
     }
 
@@ -140,6 +145,7 @@ impl<'a> OpenBucket<'a> {
         alloc: Global,
         entries: &[Leaf<'a>],
         size: usize,
+        limits: BucketLimits<'a>,
     ) -> Result<OpenBucket<'a>, BulkFault>
         requires size { size ≡ entries_size (map leaf_view entries.now) }
         requires small { size < 4294967296 }
@@ -147,7 +153,7 @@ impl<'a> OpenBucket<'a> {
         requires keys { AllByRecursion (λ (entry : Leaf). length entry.key.now ≤ 1073741824) entries.now }
         requires values { AllByRecursion (λ (entry : Leaf). entry.is_bucket ≡ false) entries.now }
         ensures open { IfOk result (λ bucket. IsOpenBucket bucket) }
-        ensures rows { IfOk result (λ bucket. (next : ℕ) → rows_of bucket next ≡ record { leaves = record { elements = map leaf_view entries.now; size = size }; uppers = []; next = next }) }
+        ensures rows { IfOk result (λ bucket. (next : ℕ) → rows_of bucket next ≡ record { leaves = record { elements = map leaf_view entries.now; size = size }; uppers = []; limits = bucket_limit limits.entry; next = next }) }
         ensures fault { IfErr result (λ e. e ≡ fault.Memory) }
     {
         let items = value_items(alloc, entries)?;
@@ -159,6 +165,7 @@ impl<'a> OpenBucket<'a> {
         Ok(OpenBucket {
             leaves,
             uppers: Vec::new(alloc),
+            limits,
         })
     }
 
@@ -190,7 +197,16 @@ impl<'a> OpenBucket<'a> {
         }
         match self.leaves.close(bounds, next, sink) {
             Err(fault) => Err(fault),
-            Ok(closed) => climb(alloc, bounds, key, closed, &mut self.uppers, next, sink),
+            Ok(closed) => climb(
+                alloc,
+                bounds,
+                self.limits,
+                key,
+                closed,
+                &mut self.uppers,
+                next,
+                sink,
+            ),
         }
     }
 

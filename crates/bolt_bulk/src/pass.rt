@@ -4,6 +4,7 @@ ghost use Rattle.std.specs.Prelude.{[], ◌≡◌, ◌+◌, ◌/◌, ◌<◌, �
 
 use crate::bounds::{Bounds, MAX_ITEMS};
 use crate::fault::BulkFault;
+use crate::limits::{BucketLimits, Limits};
 use crate::open_bucket::OpenBucket;
 use crate::steps::{Waiting, enter, leave, take_inline, take_value};
 use bolt_format::{Leaf, Sink};
@@ -37,6 +38,7 @@ pub(crate) struct Ended {
 pub(crate) struct Pass<'a> {
     pub alloc: Global,
     pub bounds: Bounds,
+    pub limits: &'a Limits,
     /// The buckets around the one that is open, the innermost last.
     pub waiting: Vec<Waiting<'a>>,
     pub bucket: OpenBucket<'a>,
@@ -45,6 +47,8 @@ pub(crate) struct Pass<'a> {
     pub entries: Vec<Leaf<'a>>,
     /// The number of the next page.
     pub next: u64,
+    /// How many buckets were opened, the root bucket first; 2^64 - 1 if there were more.
+    pub opened: u64,
     /// How many items stand in open runs of the buckets that wait; 2^64 - 1 if there are more.
     pub around: u64,
     /// The most items that stood in open runs at one time so far; 2^64 - 1 if there were more.
@@ -56,27 +60,35 @@ impl<'a> Pass<'a> {
     ghost use Rattle.bolt_layout.specs.Laid.{Placed};
     ghost use Rattle.bolt_bulk.specs.Private.Levels.{Level};
     ghost use Rattle.bolt_format.specs.ElementPlaces.{leaf_view};
-    ghost use Rattle.bolt_bulk.specs.Private.Passes.{HasLeft, HasRoot, IsAt, IsNoDeeper, IsReady, Steps, depth_of, onto};
+    ghost use Rattle.bolt_bulk.specs.Private.Passes.{FitLimits, HasLeft, HasRoot, IsAt, IsNoDeeper, IsReady, Steps, Wanted, depth_of, limits_with, onto};
     ghost use Rattle.bolt_bulk.specs.Private.Endings.{Ends, IsFitMember};
     ghost use Rattle.bolt_tree.specs.Listing.{Member};
     ghost use Rattle.bolt_tree.specs.Paths.{path_of};
     ghost use Rattle.bolt_tree.specs.ShownEntries.{item_view};
 
     /// A pass before the first page.
-    pub(crate) fn new(alloc: Global, bounds: Bounds) -> Pass<'a>
+    pub(crate) fn new(alloc: Global, bounds: Bounds, limits: &'a Limits) -> Pass<'a>
         requires { 3 ≤ bounds.limit }
         ensures bounds { result.bounds ≡ bounds }
         ensures ready { IsReady result }
-        ensures at { (tree : Tree) → HasLeft tree result (listing_of tree) [] }
+        ensures at { (wanted : Wanted) → FitLimits wanted bounds.page_size (limits_with limits.now) → HasLeft wanted result (listing_of wanted.tree) [] }
     {
         Pass {
             alloc,
             bounds,
+            limits,
             waiting: Vec::new(alloc),
-            bucket: OpenBucket::new(alloc),
+            bucket: OpenBucket::new(
+                alloc,
+                BucketLimits {
+                    all: limits,
+                    bucket: 0,
+                },
+            ),
             pending: None,
             entries: Vec::new(alloc),
             next: 3,
+            opened: 1,
             around: 0,
             most: 0,
         }
@@ -105,8 +117,8 @@ impl<'a> Pass<'a> {
         ensures bounds { OnOk result (self.new.bounds ≡ self.old.bounds) }
         ensures ready { OnOk result (IsReady self.new) }
         ensures depth { OnOk result (depth_of self.new ≡ depth_of self.old) }
-        ensures steps { (tree after : Tree) (levels : List Level) (put : List Placed) → IsAt tree self.old levels (with_value key.now value.now after) put
-            → Steps tree S.taken S.failed sink.old sink.new self.old.bounds put (IsAt tree self.new levels after) result }
+        ensures steps { (wanted : Wanted) (after : Tree) (levels : List Level) (put : List Placed) → IsAt wanted self.old levels (with_value key.now value.now after) put
+            → Steps wanted S.taken S.failed sink.old sink.new self.old.bounds put (IsAt wanted self.new levels after) result }
     {
         let Some(pending) = self.pending else {
             return self.put_value(key, value, sink);
@@ -138,8 +150,8 @@ impl<'a> Pass<'a> {
         ensures bounds { OnOk result (self.new.bounds ≡ self.old.bounds) }
         ensures ready { OnOk result (IsReady self.new) }
         ensures depth { OnOk result (depth_of self.new ≡ depth_of self.old) }
-        ensures at { (tree after : Tree) (levels : List Level) (put : List Placed) → IsAt tree self.old levels (with_value key.now value.now after) put
-            → OnOk result (IsAt tree self.new levels after put) }
+        ensures at { (wanted : Wanted) (after : Tree) (levels : List Level) (put : List Placed) → IsAt wanted self.old levels (with_value key.now value.now after) put
+            → OnOk result (IsAt wanted self.new levels after put) }
         ensures fault { IfErr result (λ e. e ≡ BulkFault.Memory) }
     {
         let entry = Leaf {
@@ -169,8 +181,8 @@ impl<'a> Pass<'a> {
         ensures bounds { OnOk result (self.new.bounds ≡ self.old.bounds) }
         ensures ready { OnOk result (IsReady self.new) }
         ensures depth { OnOk result (depth_of self.new ≡ depth_of self.old) }
-        ensures steps { (tree after : Tree) (levels : List Level) (put : List Placed) → IsAt tree self.old levels (with_value key.now value.now after) put
-            → Steps tree S.taken S.failed sink.old sink.new self.old.bounds put (IsAt tree self.new levels after) result }
+        ensures steps { (wanted : Wanted) (after : Tree) (levels : List Level) (put : List Placed) → IsAt wanted self.old levels (with_value key.now value.now after) put
+            → Steps wanted S.taken S.failed sink.old sink.new self.old.bounds put (IsAt wanted self.new levels after) result }
     {
         let taken = take_value(
             self.alloc,
@@ -200,8 +212,8 @@ impl<'a> Pass<'a> {
         ensures bounds { OnOk result (self.new.bounds ≡ self.old.bounds) }
         ensures ready { OnOk result (IsReady self.new) }
         ensures depth { OnOk result (depth_of self.new ≡ depth_of self.old + 1) }
-        ensures steps { (tree inside after : Tree) (levels : List Level) (put : List Placed) → IsAt tree self.old levels (with_bucket key.now sequence inside after) put
-            → Steps tree S.taken S.failed sink.old sink.new self.old.bounds put (IsAt tree self.new (record { key = key.now; after = after } ∷ levels) inside) result }
+        ensures steps { (wanted : Wanted) (inside after : Tree) (levels : List Level) (put : List Placed) → IsAt wanted self.old levels (with_bucket key.now sequence inside after) put
+            → Steps wanted S.taken S.failed sink.old sink.new self.old.bounds put (IsAt wanted self.new (record { key = key.now; after = after } ∷ levels) inside) result }
     {
         let Some(pending) = self.pending else {
             self.begin(key, sequence);
@@ -224,8 +236,8 @@ impl<'a> Pass<'a> {
         ensures bounds { self.new.bounds ≡ self.old.bounds }
         ensures ready { IsReady self.new }
         ensures depth { depth_of self.new ≡ depth_of self.old + 1 }
-        ensures at { (tree inside after : Tree) (levels : List Level) (put : List Placed) → IsAt tree self.old levels (with_bucket key.now sequence inside after) put
-            → IsAt tree self.new (record { key = key.now; after = after } ∷ levels) inside put }
+        ensures at { (wanted : Wanted) (inside after : Tree) (levels : List Level) (put : List Placed) → IsAt wanted self.old levels (with_bucket key.now sequence inside after) put
+            → IsAt wanted self.new (record { key = key.now; after = after } ∷ levels) inside put }
     {
         self.pending = Some(Pending {
             key,
@@ -243,11 +255,20 @@ impl<'a> Pass<'a> {
         ensures ready { OnOk result (IsReady self.new) }
         ensures depth { OnOk result (depth_of self.new ≡ depth_of self.old) }
         ensures pending { OnOk result (self.new.pending ≡ None) }
-        ensures steps { (tree left : Tree) (levels : List Level) (put : List Placed) → IsAt tree self.old levels left put
-            → HasRoot self.old.bounds.page_size (onto (map leaf_view self.old.entries.items) left)
-            → Steps tree S.taken S.failed sink.old sink.new self.old.bounds put (IsAt tree self.new levels left) result }
+        ensures steps { (wanted : Wanted) (left : Tree) (levels : List Level) (put : List Placed) → IsAt wanted self.old levels left put
+            → HasRoot wanted.which self.old.bounds.page_size (onto (map leaf_view self.old.entries.items) left)
+            → Steps wanted S.taken S.failed sink.old sink.new self.old.bounds put (IsAt wanted self.new levels left) result }
     {
-        let inner = OpenBucket::of_values(self.alloc, self.entries.as_slice(), pending.size);
+        let limits = BucketLimits {
+            all: self.limits,
+            bucket: self.opened,
+        };
+        let inner = OpenBucket::of_values(
+            self.alloc,
+            self.entries.as_slice(),
+            pending.size,
+            limits,
+        );
         let inner = match inner {
             Err(fault) => return Err(fault),
             Ok(inner) => inner,
@@ -272,6 +293,7 @@ impl<'a> Pass<'a> {
             return Err(BulkFault::Memory);
         }
         self.around = around;
+        self.opened = self.opened.saturating_add(1);
         self.entries.clear();
         self.pending = None;
         self.count();
@@ -286,8 +308,8 @@ impl<'a> Pass<'a> {
         ensures bounds { OnOk result (self.new.bounds ≡ self.old.bounds) }
         ensures ready { OnOk result (IsReady self.new) }
         ensures depth { OnOk result (depth_of self.new + 1 ≡ depth_of self.old) }
-        ensures steps { (tree : Tree) (level : Level) (levels : List Level) (put : List Placed) → IsAt tree self.old (level ∷ levels) end put
-            → Steps tree S.taken S.failed sink.old sink.new self.old.bounds put (IsAt tree self.new levels level.after) result }
+        ensures steps { (wanted : Wanted) (level : Level) (levels : List Level) (put : List Placed) → IsAt wanted self.old (level ∷ levels) end put
+            → Steps wanted S.taken S.failed sink.old sink.new self.old.bounds put (IsAt wanted self.new levels level.after) result }
     {
         match self.pending {
             Some(pending) => self.end_inline(pending, sink),
@@ -302,8 +324,8 @@ impl<'a> Pass<'a> {
         ensures bounds { OnOk result (self.new.bounds ≡ self.old.bounds) }
         ensures ready { OnOk result (IsReady self.new) }
         ensures depth { OnOk result (depth_of self.new + 1 ≡ depth_of self.old) }
-        ensures steps { (tree : Tree) (level : Level) (levels : List Level) (put : List Placed) → IsAt tree self.old (level ∷ levels) end put
-            → Steps tree S.taken S.failed sink.old sink.new self.old.bounds put (IsAt tree self.new levels level.after) result }
+        ensures steps { (wanted : Wanted) (level : Level) (levels : List Level) (put : List Placed) → IsAt wanted self.old (level ∷ levels) end put
+            → Steps wanted S.taken S.failed sink.old sink.new self.old.bounds put (IsAt wanted self.new levels level.after) result }
     {
         let taken = take_inline(
             self.alloc,
@@ -333,14 +355,17 @@ impl<'a> Pass<'a> {
         ensures bounds { OnOk result (self.new.bounds ≡ self.old.bounds) }
         ensures ready { OnOk result (IsReady self.new) }
         ensures depth { OnOk result (depth_of self.new + 1 ≡ depth_of self.old) }
-        ensures steps { (tree : Tree) (level : Level) (levels : List Level) (put : List Placed) → IsAt tree self.old (level ∷ levels) end put
-            → Steps tree S.taken S.failed sink.old sink.new self.old.bounds put (IsAt tree self.new levels level.after) result }
+        ensures steps { (wanted : Wanted) (level : Level) (levels : List Level) (put : List Placed) → IsAt wanted self.old (level ∷ levels) end put
+            → Steps wanted S.taken S.failed sink.old sink.new self.old.bounds put (IsAt wanted self.new levels level.after) result }
     {
         let Some(waiting) = self.waiting.pop() else {
             unreachable!()
         };
         let around = waiting.around;
-        let inner = mem::replace(&mut self.bucket, OpenBucket::new(self.alloc));
+        let inner = mem::replace(
+            &mut self.bucket,
+            OpenBucket::new(self.alloc, waiting.bucket.limits),
+        );
         match leave(&self.bounds, inner, waiting, &mut self.next, sink) {
             Err(fault) => Err(fault),
             Ok(outer) => {
@@ -359,8 +384,8 @@ impl<'a> Pass<'a> {
         ensures bounds { OnOk result (self.new.bounds ≡ self.old.bounds) }
         ensures ready { OnOk result (IsReady self.new) }
         ensures depth { OnOk result (depth_of self.new ≤ depth) }
-        ensures steps { (tree : Tree) (members : List Member) (put : List Placed) → HasLeft tree self.old members put → IsNoDeeper depth members
-            → Steps tree S.taken S.failed sink.old sink.new self.old.bounds put (HasLeft tree self.new members) result }
+        ensures steps { (wanted : Wanted) (members : List Member) (put : List Placed) → HasLeft wanted self.old members put → IsNoDeeper depth members
+            → Steps wanted S.taken S.failed sink.old sink.new self.old.bounds put (HasLeft wanted self.new members) result }
     {
         'levels: while self.depth() > depth {
             if let Err(fault) = self.leave(sink) {
@@ -382,8 +407,8 @@ impl<'a> Pass<'a> {
         ensures bounds { OnOk result (self.new.bounds ≡ self.old.bounds) }
         ensures ready { OnOk result (IsReady self.new) }
         ensures depth { OnOk result (depth_of self.new ≤ 1 + length path.now) }
-        ensures steps { (tree : Tree) (members : List Member) (put : List Placed) → HasLeft tree self.old ((path_of path.now, item_view item.entry) ∷ members) put
-            → Steps tree S.taken S.failed sink.old sink.new self.old.bounds put (HasLeft tree self.new members) result }
+        ensures steps { (wanted : Wanted) (members : List Member) (put : List Placed) → HasLeft wanted self.old ((path_of path.now, item_view item.entry) ∷ members) put
+            → Steps wanted S.taken S.failed sink.old sink.new self.old.bounds put (HasLeft wanted self.new members) result }
     {
         let Some((key, _)) = path.split_last() else {
             unreachable!()
@@ -400,7 +425,7 @@ impl<'a> Pass<'a> {
     /// Ends all that is open, up to the root page of the root bucket.
     pub(crate) fn end<S: Sink>(&mut self, sink: &mut S) -> Result<Ended, BulkFault>
         requires { IsReady self.old }
-        ensures { (tree : Tree) (put : List Placed) → HasLeft tree self.old [] put → Ends tree S.taken S.failed sink.old sink.new self.old.bounds put result }
+        ensures { (wanted : Wanted) (put : List Placed) → HasLeft wanted self.old [] put → Ends wanted S.taken S.failed sink.old sink.new self.old.bounds put result }
     {
         if let Err(fault) = self.leave_to(1, sink) {
             return Err(fault);

@@ -128,7 +128,7 @@ top_numbers which page_size (suc steps) (page ∷ other ∷ level) fuel =
 
 -- ---- a bucket
 
-level_numbers : (which : Layout) (page_size : ℕ) (items : List (Laid LeafElement)) → numbers_of (leaf_level page_size items) ≤ (root_over which page_size items).numbers
+pub level_numbers : (which : Layout) (page_size : ℕ) (items : List (Laid LeafElement)) → numbers_of (leaf_level page_size items) ≤ (root_over which page_size items).numbers
 unfolding root_over
 level_numbers which page_size [] = omega arith
 level_numbers which page_size (item ∷ items) =

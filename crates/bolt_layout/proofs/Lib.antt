@@ -1,6 +1,7 @@
 mod Beginnings
 mod BranchPages
 mod FileTrees
+mod HeldBounds
 mod Holding
 mod KeyLaws
 mod LaidItems
@@ -14,16 +15,28 @@ mod TreeItems
 mod TwoChildren
 mod WorkedBytes
 mod WorkedLayouts
+pub mod BalancedRows
 pub mod BranchLemmas
 pub mod Cutting
+pub mod Faces
+pub mod LastItem
 pub mod LeafLemmas
+pub mod LimitedRows
 pub mod ListLemmas
 pub mod MetaLemmas
+pub mod NotMuchLarger
 pub mod NumberLemmas
 pub mod OneCut
+pub mod OpenedBuckets
 pub mod OverRows
 pub mod PageLemmas
 pub mod PageRows
+pub mod PlainNumbers
+pub mod PlainRows
+pub mod RightLimits
+pub mod SameFaces
 pub mod SpanLemmas
+pub mod Tellings
+pub mod ToldRows
 pub mod Tops
-mod HeldBounds
+pub mod Weights

@@ -11,7 +11,7 @@ use Rattle.bolt_layout.proofs.PageRows.{overflow_room}
 use Rattle.bolt_layout.specs.declared.layout.Layout.{Layout}
 
 -- a level of two pages or more has more than the next
-shorter : (which : Layout) (page_size : ℕ) (level : List (Laid BranchElement)) → 2 ≤ length level → suc (length (next_level which page_size level)) ≤ length level
+pub shorter : (which : Layout) (page_size : ℕ) (level : List (Laid BranchElement)) → 2 ≤ length level → suc (length (next_level which page_size level)) ≤ length level
 shorter which page_size level h =
     let half = branches_halve which page_size size_of level in
     let same = length-map (branch_cut which page_size size_of level) (page_over branch_view page_size) in omega arith

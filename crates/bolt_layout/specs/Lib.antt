@@ -6,5 +6,7 @@ pub mod Items
 pub mod Laid
 pub mod Layout
 pub mod Levels
+pub mod Limits
+pub mod Openings
 pub mod PageBytes
 pub mod Storable

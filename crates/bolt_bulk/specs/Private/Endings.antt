@@ -6,29 +6,28 @@ use Rattle.bolt_format.specs.Sinks.{AppendsProperBeginning}
 use Rattle.bolt_tree.specs.Entries.{Bucket, Item, Value}
 use Rattle.bolt_tree.specs.Listing.{Member}
 use Rattle.bolt_tree.specs.Paths.{Path}
-use Rattle.bolt_tree.specs.Tree.{Tree}
 use Rattle.bolt_layout.specs.Laid.{Placed}
 use Rattle.bolt_layout.specs.Layout.{layout_held, layout_mark, layout_pages, layout_root, placed_bytes}
 use Rattle.bolt_bulk.specs.Private.HeldCounts.{capped}
+use Rattle.bolt_bulk.specs.Private.Passes.{Wanted}
 use Rattle.bolt_bulk.specs.Puts.{Puts}
 use Rattle.bolt_bulk.specs.declared.bounds.Bounds.{Bounds}
 use Rattle.bolt_bulk.specs.declared.fault.BulkFault.{BulkFault}
 use Rattle.bolt_bulk.specs.declared.fault.BulkFault.TheVariants as fault
 use Rattle.bolt_bulk.specs.declared.pass.Ended.{Ended}
-use Rattle.bolt_layout.specs.declared.layout.Layout.TheVariants.{Plain}
 
 -- These pages were put before; the others of the layout are put, or a beginning of their bytes that isn't the whole. The root page, the
 -- high-water mark and how many items were held are told.
-pub record Ends {S : Type 0} (tree : Tree) (taken : S → Option (List ℕ)) (failed : S → ℕ) (old new : S) (bounds : Bounds) (put : List Placed) (result : Result Ended BulkFault) : Type 0 where
+pub record Ends {S : Type 0} (wanted : Wanted) (taken : S → Option (List ℕ)) (failed : S → ℕ) (old new : S) (bounds : Bounds) (put : List Placed) (result : Result Ended BulkFault) : Type 0 where
   pub others : List Placed
-  pub all : layout_pages Plain bounds.page_size tree ≡ put ++ others
+  pub all : layout_pages wanted.which bounds.page_size wanted.tree ≡ put ++ others
   pub puts : Puts taken failed old new (placed_bytes bounds.page_size others) result
   pub short : OnErr result (AppendsProperBeginning (taken old) (taken new) (placed_bytes bounds.page_size others))
-  pub root : IfOk result (λ ended. ended.root ≡ layout_root Plain bounds.page_size tree)
-  pub mark : IfOk result (λ ended. ended.high_water ≡ layout_mark Plain bounds.page_size tree)
+  pub root : IfOk result (λ ended. ended.root ≡ layout_root wanted.which bounds.page_size wanted.tree)
+  pub mark : IfOk result (λ ended. ended.high_water ≡ layout_mark wanted.which bounds.page_size wanted.tree)
   pub within : IfOk result (λ ended. ended.high_water ≤ bounds.limit)
-  pub held : IfOk result (λ ended. ended.held ≡ capped (layout_held Plain bounds.page_size tree))
-  pub large : IfErr result (λ e. e ≡ fault.TooLarge → bounds.limit < layout_mark Plain bounds.page_size tree)
+  pub held : IfOk result (λ ended. ended.held ≡ capped (layout_held wanted.which bounds.page_size wanted.tree))
+  pub large : IfErr result (λ e. e ≡ fault.TooLarge → bounds.limit < layout_mark wanted.which bounds.page_size wanted.tree)
 
 -- the last part of a path
 abbrev pub last_part : Path → Key

@@ -1,9 +1,8 @@
 -- How many items a pass held at one time so far, at the most, by what is open of the layout: the items of the open runs count as they do on
 -- the pages that these become (bolt_layout's `held_in`), of which so many stand on the page under way further in.
 use Rattle.std.specs.Prelude.{ℕ, ◌+◌, max, List, [], ◌∷◌, length}
-use Rattle.bolt_format.specs.Elements.{BranchElement}
 use Rattle.bolt_layout.specs.Laid.{Laid}
-use Rattle.bolt_bulk.specs.Private.OpenRuns.{Frame, Open}
+use Rattle.bolt_bulk.specs.Private.OpenRuns.{Frame, Open, Upper}
 
 -- the items of a run are held while `inner` items at the most are held further in
 abbrev pub held_on : {E : Type 0} → List (Laid E) → (inner : ℕ) → ℕ
@@ -11,9 +10,9 @@ held_on [] inner = inner
 held_on (item ∷ run) inner = max item.held (1 + held_on run inner)
 
 -- the runs above a bucket's leaf, the lowest first
-abbrev pub held_over : List (List (Laid BranchElement)) → (inner : ℕ) → ℕ
+abbrev pub held_over : List Upper → (inner : ℕ) → ℕ
 held_over [] inner = inner
-held_over (run ∷ uppers) inner = held_over uppers (held_on run inner)
+held_over (upper ∷ uppers) inner = held_over uppers (held_on upper.run inner)
 
 abbrev pub held_open : Open → (inner : ℕ) → ℕ
 held_open state inner = held_over state.uppers (held_on state.run inner)
@@ -27,9 +26,9 @@ abbrev pub held_so_far : List Frame → Open → ℕ
 held_so_far frames state = held_frames frames (held_open state 0)
 
 -- and how many are held now
-abbrev pub length_over : List (List (Laid BranchElement)) → ℕ
+abbrev pub length_over : List Upper → ℕ
 length_over [] = 0
-length_over (run ∷ uppers) = length_over uppers + length run
+length_over (upper ∷ uppers) = length_over uppers + length upper.run
 
 abbrev pub length_open : Open → ℕ
 length_open state = length_over state.uppers + length state.run

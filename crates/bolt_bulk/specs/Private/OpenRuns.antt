@@ -1,13 +1,14 @@
 -- The open runs of a bucket whose pages are put in one forward pass: a run of leaf items, and above it one run of pages for each level.
 -- A run closes before the first page of what no longer joins it is put, so an upper run may stand empty: then the page that is under way
 -- below begins the next run.
-use Rattle.std.specs.Prelude.{ℕ, ◌+◌, Bool, ◌||◌, ◌&&◌, nat_lt, nat_le, List, [], ◌∷◌, ◌++◌, length, if◌then◌else◌}
+use Rattle.std.specs.Prelude.{ℕ, ◌+◌, Bool, ◌||◌, ◌&&◌, nat_lt, nat_le, List, [], ◌∷◌, ◌++◌, length, Option, None, if◌then◌else◌}
 use Rattle.bolt_format.specs.Elements.{BranchElement, LeafElement}
 use Rattle.bolt_format.specs.Pages.{PageView}
 use Rattle.bolt_layout.specs.Layout.{first_page}
 use Rattle.bolt_tree.specs.Tree.{Tree}
 use Rattle.bolt_layout.specs.Cut.{max_items, run_size}
 use Rattle.bolt_layout.specs.Laid.{Laid, Placed, elements_of, numbers_of, pages_of, size_of}
+use Rattle.bolt_layout.specs.Limits.{is_out, one_less}
 use Rattle.bolt_layout.specs.Levels.{branch_view, leaf_view, page_over, run_overflow}
 
 -- an item of this size joins the run
@@ -18,56 +19,72 @@ has_room page_size least run size = nat_lt (length run) least || (nat_le (run_si
 abbrev pub key_size : List ℕ → ℕ
 key_size key = 16 + length key
 
--- the first key of the page over a run, where the page under way below it has this first key
-abbrev pub coming_key : List (Laid BranchElement) → List ℕ → List ℕ
-coming_key [] key = key
-coming_key (page ∷ run) key = page.key
+-- A run of pages above, and how many runs may still begin in its row: any number, or so many.
+pub record Upper : Type 0 where
+  pub run : List (Laid BranchElement)
+  pub left : Option ℕ
+
+-- A page of the run has closed, and one with an item of this size comes next. The run stays open for that one if it has room, or if no
+-- run may begin in its row: then that one is the last of the row, or any further run may begin.
+abbrev pub stays_open : ℕ → Upper → ℕ → Bool
+stays_open page_size upper size = has_room page_size 2 upper.run size || is_out upper.left
+
+abbrev pub pushed_on : Upper → Laid BranchElement → Upper
+pushed_on upper q = record { run = upper.run ++ q ∷ []; left = upper.left }
+
+abbrev pub kept : ℕ → Upper → ℕ → Upper
+kept page_size upper size = record { run = upper.run; left = if has_room page_size 2 upper.run size then upper.left else None }
+
+abbrev pub begun_after : Upper → Upper
+begun_after upper = record { run = []; left = one_less upper.left }
 
 -- the pages in upper runs that were put, the outermost first
-abbrev pub put_in : List (List (Laid BranchElement)) → List (Laid BranchElement)
+abbrev pub put_in : List Upper → List (Laid BranchElement)
 put_in [] = []
-put_in (run ∷ uppers) = put_in uppers ++ run
+put_in (upper ∷ uppers) = put_in uppers ++ upper.run
 
-abbrev pub numbers_in : List (List (Laid BranchElement)) → ℕ
+abbrev pub numbers_in : List Upper → ℕ
 numbers_in uppers = numbers_of (put_in uppers)
 
 -- A page q has closed, and a page with this first key comes next. Each upper run takes the page below it that closed, and closes where the next one won't join it.
-abbrev pub climb : ℕ → List ℕ → Laid BranchElement → List (List (Laid BranchElement)) → List (List (Laid BranchElement))
-climb page_size key q [] = (q ∷ []) ∷ []
-climb page_size key q (run ∷ uppers) =
-    let stays = (run ++ q ∷ []) ∷ uppers in
-    let closes = [] ∷ climb page_size key (page_over branch_view page_size (run ++ q ∷ [])) uppers in
-    if has_room page_size 2 (run ++ q ∷ []) (key_size key) then stays else closes
+-- A new run at the top has the first page of its row; after it so many runs may begin there.
+abbrev pub climb : ℕ → (new : Option ℕ) → List ℕ → Laid BranchElement → List Upper → List Upper
+climb page_size new key q [] = record { run = q ∷ []; left = new } ∷ []
+climb page_size new key q (upper ∷ uppers) =
+    let stays = kept page_size (pushed_on upper q) (key_size key) ∷ uppers in
+    let closes = begun_after upper ∷ climb page_size new key (page_over branch_view page_size (upper.run ++ q ∷ [])) uppers in
+    if stays_open page_size (pushed_on upper q) (key_size key) then stays else closes
 
 -- the page over a run itself, apart from those below it
 abbrev pub own_page : {E : Type 0} → (ℕ → List E → PageView) → ℕ → List (Laid E) → ℕ → Placed
 own_page view page_size run number = record { number = number + numbers_of run; view = view (run_overflow page_size run) (elements_of run number) }
 
 -- the pages that this puts, where the bucket's pages begin at a number
-abbrev pub climb_puts : ℕ → List ℕ → Laid BranchElement → List (List (Laid BranchElement)) → ℕ → List Placed
+abbrev pub climb_puts : ℕ → List ℕ → Laid BranchElement → List Upper → ℕ → List Placed
 climb_puts page_size key q [] number = []
-climb_puts page_size key q (run ∷ uppers) number =
-    let closed = own_page branch_view page_size (run ++ q ∷ []) (number + numbers_in uppers) in
-    let more = closed ∷ climb_puts page_size key (page_over branch_view page_size (run ++ q ∷ [])) uppers number in
-    if has_room page_size 2 (run ++ q ∷ []) (key_size key) then [] else more
+climb_puts page_size key q (upper ∷ uppers) number =
+    let closed = own_page branch_view page_size (upper.run ++ q ∷ []) (number + numbers_in uppers) in
+    let more = closed ∷ climb_puts page_size key (page_over branch_view page_size (upper.run ++ q ∷ [])) uppers number in
+    if stays_open page_size (pushed_on upper q) (key_size key) then [] else more
 
 -- at the end each run closes in turn, up to the root page
-abbrev pub close : ℕ → Laid BranchElement → List (List (Laid BranchElement)) → Laid BranchElement
+abbrev pub close : ℕ → Laid BranchElement → List Upper → Laid BranchElement
 close page_size q [] = q
-close page_size q (run ∷ uppers) = close page_size (page_over branch_view page_size (run ++ q ∷ [])) uppers
+close page_size q (upper ∷ uppers) = close page_size (page_over branch_view page_size (upper.run ++ q ∷ [])) uppers
 
-abbrev pub close_puts : ℕ → Laid BranchElement → List (List (Laid BranchElement)) → ℕ → List Placed
+abbrev pub close_puts : ℕ → Laid BranchElement → List Upper → ℕ → List Placed
 close_puts page_size q [] number = []
-close_puts page_size q (run ∷ uppers) number =
-    own_page branch_view page_size (run ++ q ∷ []) (number + numbers_in uppers) ∷ close_puts page_size (page_over branch_view page_size (run ++ q ∷ [])) uppers number
+close_puts page_size q (upper ∷ uppers) number =
+    own_page branch_view page_size (upper.run ++ q ∷ []) (number + numbers_in uppers) ∷ close_puts page_size (page_over branch_view page_size (upper.run ++ q ∷ [])) uppers number
 
--- A bucket that is open: its upper runs, and the run of leaf items.
+-- A bucket that is open: its upper runs, the run of leaf items, and how many runs may begin after the first of each row above.
 pub record Open : Type 0 where
-  pub uppers : List (List (Laid BranchElement))
+  pub uppers : List Upper
   pub run : List (Laid LeafElement)
+  pub limits : ℕ → Option ℕ
 
-abbrev pub nothing_open : Open
-nothing_open = record { uppers = []; run = [] }
+abbrev pub nothing_open : (limits : ℕ → Option ℕ) → Open
+nothing_open limits = record { uppers = []; run = []; limits = limits }
 
 -- the pages of an open bucket that were put, where they begin at a number; and the number of the next one
 abbrev pub pages_put : Open → ℕ → List Placed
@@ -79,7 +96,7 @@ next_number state number = number + numbers_in state.uppers + numbers_of state.r
 -- Room for the next item, by its key and size: it is there, or the run closes before any of the item's pages is put.
 abbrev pub making_room : ℕ → Open → List ℕ → ℕ → Open
 making_room page_size state key size =
-    let closed : Open = record { uppers = climb page_size key (page_over leaf_view page_size state.run) state.uppers; run = [] } in
+    let closed : Open = record { uppers = climb page_size (state.limits (length state.uppers)) key (page_over leaf_view page_size state.run) state.uppers; run = []; limits = state.limits } in
     if has_room page_size 1 state.run size then state else closed
 
 abbrev pub room_puts : ℕ → Open → List ℕ → ℕ → ℕ → List Placed
@@ -88,7 +105,7 @@ room_puts page_size state key size number =
     if has_room page_size 1 state.run size then [] else closed
 
 abbrev pub pushing : Open → Laid LeafElement → Open
-pushing state item = record { uppers = state.uppers; run = state.run ++ item ∷ [] }
+pushing state item = record { uppers = state.uppers; run = state.run ++ item ∷ []; limits = state.limits }
 
 abbrev pub taking : ℕ → Open → Laid LeafElement → Open
 taking page_size state item = pushing (making_room page_size state item.key item.size) item

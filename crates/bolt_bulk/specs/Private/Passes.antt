@@ -9,7 +9,11 @@ use Rattle.bolt_tree.specs.Tree.{Tree, with_bucket, with_value}
 use Rattle.bolt_layout.specs.Items.{is_inline, items_of, root_of}
 use Rattle.bolt_layout.specs.Laid.{Placed}
 use Rattle.bolt_layout.specs.Layout.{layout_mark, layout_pages, placed_bytes}
+use Rattle.bolt_layout.specs.Limits.{HaveRightLimits}
+use Rattle.bolt_layout.specs.Openings.{AreRight, leaf_pages, opened_in}
+use Rattle.bolt_bulk.specs.declared.limits.Limits.{Limits}
 use Rattle.bolt_bulk.specs.Private.Coming.{IsPass}
+use Rattle.bolt_bulk.specs.Private.RowLimits.{limit_in}
 use Rattle.bolt_bulk.specs.Private.HeldCounts.{AreCounted, capped, items_around}
 use Rattle.bolt_bulk.specs.Private.HeldSoFar.{held_so_far}
 use Rattle.bolt_bulk.specs.Private.Levels.{Level, left_in}
@@ -25,7 +29,7 @@ use Rattle.bolt_bulk.specs.declared.fault.BulkFault.TheVariants as fault
 use Rattle.bolt_bulk.specs.declared.pass.Pass.{Pass}
 use Rattle.bolt_bulk.specs.declared.pass.Pending.{Pending}
 use Rattle.bolt_bulk.specs.declared.steps.Waiting.{Waiting}
-use Rattle.bolt_layout.specs.declared.layout.Layout.TheVariants.{Plain}
+use Rattle.bolt_layout.specs.declared.layout.Layout.{Layout}
 
 -- entries that are values, in front of a tree
 abbrev pub onto : List LeafElement → Tree → Tree
@@ -51,17 +55,44 @@ IsPending (Some pending) entries outer rest levels left = (after : Tree)
     × (levels ≡ record { key = pending.key.now; after = after } ∷ outer)
     × (rest ≡ with_bucket pending.key.now pending.sequence (onto (map leaf_view entries) left) after)
 
+-- what a pass goes for: the layout of a tree
+pub record Wanted : Type 0 where
+  pub which : Layout
+  pub tree : Tree
+
+-- the limits of a bucket's rows, as a pass looks them up by the bucket's number
+abbrev pub limits_with : Limits → (bucket level : ℕ) → Option ℕ
+limits_with limits bucket level = limit_in limits (capped bucket) level
+
+abbrev pub limits_by : Pass → (bucket level : ℕ) → Option ℕ
+limits_by pass = limits_with pass.limits.now
+
+-- limits are right for all buckets of a tree, of which the root bucket is number 0
+pub record FitLimits (wanted : Wanted) (page_size : ℕ) (limits : ℕ → ℕ → Option ℕ) : Type 0 where
+  pub root : HaveRightLimits wanted.which page_size (limits 0) (leaf_pages page_size (items_of wanted.which page_size wanted.tree))
+  pub others : AreRight wanted.which page_size limits 1 wanted.tree
+
+-- they are right for the buckets behind those that wait
+abbrev pub AreRightAround : Layout → (page_size : ℕ) → (limits : ℕ → ℕ → Option ℕ) → (n : ℕ) → List Frame → Type 0
+AreRightAround which page_size limits n [] = Unit {0}
+AreRightAround which page_size limits n (frame ∷ frames) =
+    AreRight which page_size limits n frame.after × AreRightAround which page_size limits (n + opened_in which page_size frame.after) frames
+
 -- The pass has put these pages, and of the innermost bucket these entries are left.
-pub record IsAt (tree : Tree) (pass : Pass) (levels : List Level) (left : Tree) (put : List Placed) : Type 0 where
+pub record IsAt (wanted : Wanted) (pass : Pass) (levels : List Level) (left : Tree) (put : List Placed) : Type 0 where
   pub frames : List Frame
   pub state : Open
   pub rest : Tree
-  pub under : IsPass pass.bounds.page_size frames state (items_of Plain pass.bounds.page_size rest) (root_of Plain pass.bounds.page_size tree)
+  pub under : IsPass wanted.which pass.bounds.page_size frames state (items_of wanted.which pass.bounds.page_size rest) (root_of wanted.which pass.bounds.page_size wanted.tree)
   pub rows : IsOpenRows (rows_of pass.bucket pass.next) state (base_in frames)
   pub waits : AreWaiting (reverse pass.waiting.items) frames
   pub put_is : put ≡ all_put frames state
   pub pends : IsPending pass.pending pass.entries.items (map level_of frames) rest levels left
   pub held : pass.most ≡ capped (held_so_far frames state)
+  pub opened : ℕ
+  pub opened_is : pass.opened ≡ capped opened
+  pub right : AreRight wanted.which pass.bounds.page_size (limits_by pass) opened rest
+  pub right_around : AreRightAround wanted.which pass.bounds.page_size (limits_by pass) (opened + opened_in wanted.which pass.bounds.page_size rest) frames
 
 -- What is known of it without the tree. A bucket that may be inline has values alone, which take at most a quarter of a page.
 pub record IsSmall (page_size : ℕ) (pending : Pending) (entries : List Leaf) : Type 0 where
@@ -93,8 +124,8 @@ abbrev pub depth_of : Pass → ℕ
 depth_of pass = suc (length pass.waiting.items) + pending_depth pass.pending
 
 -- a bucket with these entries has a root page
-abbrev pub HasRoot : (page_size : ℕ) → Tree → Type 0
-HasRoot page_size inside = is_inline page_size inside (items_of Plain page_size inside) ≡ false
+abbrev pub HasRoot : Layout → (page_size : ℕ) → Tree → Type 0
+HasRoot which page_size inside = is_inline page_size inside (items_of which page_size inside) ≡ false
 
 -- these pages stand before others of the layout
 pub record StandsBefore (front whole : List Placed) : Type 0 where
@@ -104,12 +135,12 @@ pub record StandsBefore (front whole : List Placed) : Type 0 where
 
 -- A step puts further pages, of which others of the layout come behind, or a beginning of their bytes where it fails. It is too large a
 -- layout where a step says so.
-pub record Steps {S A : Type 0} (tree : Tree) (taken : S → Option (List ℕ)) (failed : S → ℕ) (old new : S) (bounds : Bounds) (put : List Placed) (At : List Placed → Type 0) (result : Result A BulkFault) : Type 0 where
+pub record Steps {S A : Type 0} (wanted : Wanted) (taken : S → Option (List ℕ)) (failed : S → ℕ) (old new : S) (bounds : Bounds) (put : List Placed) (At : List Placed → Type 0) (result : Result A BulkFault) : Type 0 where
   pub more : List Placed
   pub puts : Puts taken failed old new (placed_bytes bounds.page_size more) result
   pub at : OnOk result (At (put ++ more))
-  pub before : StandsBefore (put ++ more) (layout_pages Plain bounds.page_size tree)
-  pub large : IfErr result (λ e. e ≡ fault.TooLarge → bounds.limit < layout_mark Plain bounds.page_size tree)
+  pub before : StandsBefore (put ++ more) (layout_pages wanted.which bounds.page_size wanted.tree)
+  pub large : IfErr result (λ e. e ≡ fault.TooLarge → bounds.limit < layout_mark wanted.which bounds.page_size wanted.tree)
 
 -- no path of the next member is longer
 abbrev pub IsNoDeeper : ℕ → List Member → Type 0
@@ -117,8 +148,8 @@ IsNoDeeper depth [] = Unit {0}
 IsNoDeeper depth (member ∷ members) = length member.0 ≤ depth
 
 -- it stands where these members are left
-pub record HasLeft (tree : Tree) (pass : Pass) (members : List Member) (put : List Placed) : Type 0 where
+pub record HasLeft (wanted : Wanted) (pass : Pass) (members : List Member) (put : List Placed) : Type 0 where
   pub levels : List Level
   pub left : Tree
-  pub at : IsAt tree pass levels left put
+  pub at : IsAt wanted pass levels left put
   pub members_are : left_in levels left ≡ members

@@ -1,23 +1,33 @@
--- The open runs of a bucket as the code keeps them: the elements of each run with the numbers that their pages have, and the run's size.
-use Rattle.std.specs.Prelude.{ℕ, ◌+◌, Bool, ◌||◌, ◌&&◌, nat_lt, nat_le, List, [], ◌∷◌, ◌++◌, length, if◌then◌else◌}
+-- The open runs of a bucket as the code keeps them: the elements of each run with the numbers that their pages have, the run's size, and how
+-- many runs may still begin in its row.
+use Rattle.std.specs.Prelude.{ℕ, ◌+◌, Bool, ◌||◌, ◌&&◌, nat_lt, nat_le, List, [], ◌∷◌, ◌++◌, length, Option, None, if◌then◌else◌}
 use Rattle.bolt_format.specs.Elements.{BranchElement, LeafElement}
 use Rattle.bolt_layout.specs.Cut.{max_items}
 use Rattle.bolt_layout.specs.Laid.{Placed}
+use Rattle.bolt_layout.specs.Limits.{is_out, one_less}
 use Rattle.bolt_layout.specs.Levels.{branch_view, leaf_view, overflow_of}
 use Rattle.bolt_bulk.specs.Private.OpenRuns.{key_size}
 
 pub record BranchRow : Type 0 where
   pub elements : List BranchElement
   pub size : ℕ
+  pub left : Option ℕ
 
-abbrev pub no_row : BranchRow
-no_row = record { elements = []; size = 16 }
+abbrev pub no_row : (left : Option ℕ) → BranchRow
+no_row left = record { elements = []; size = 16; left = left }
 
 abbrev pub row_push : BranchRow → BranchElement → BranchRow
-row_push row e = record { elements = row.elements ++ e ∷ []; size = row.size + key_size e.key }
+row_push row e = record { elements = row.elements ++ e ∷ []; size = row.size + key_size e.key; left = row.left }
 
 abbrev pub row_has_room : ℕ → BranchRow → ℕ → Bool
 row_has_room page_size row size = nat_lt (length row.elements) 2 || (nat_le (row.size + size) page_size && nat_lt (length row.elements) max_items)
+
+-- whether it stays open for the page that comes next, and as what
+abbrev pub row_stays : ℕ → BranchRow → ℕ → Bool
+row_stays page_size row size = row_has_room page_size row size || is_out row.left
+
+abbrev pub row_kept : ℕ → BranchRow → ℕ → BranchRow
+row_kept page_size row size = record { elements = row.elements; size = row.size; left = if row_has_room page_size row size then row.left else None }
 
 abbrev pub row_key : List BranchElement → List ℕ
 row_key [] = []
@@ -28,26 +38,26 @@ abbrev pub row_page : ℕ → BranchRow → ℕ → Placed
 row_page page_size row next = record { number = next; view = branch_view (overflow_of page_size row.size) row.elements }
 
 -- The page of this element has closed, with `next` the number after it; a page with this first key comes next.
-abbrev pub rows_climb : ℕ → List ℕ → BranchElement → ℕ → List BranchRow → List BranchRow
-rows_climb page_size key e next [] = row_push no_row e ∷ []
-rows_climb page_size key e next (row ∷ rows) =
-    let closes = no_row ∷ rows_climb page_size key (record { key = row_key (row_push row e).elements; child = next }) (next + (1 + overflow_of page_size (row_push row e).size)) rows in
-    let stays = row_push row e ∷ rows in
-    if row_has_room page_size (row_push row e) (key_size key) then stays else closes
+abbrev pub rows_climb : ℕ → (new : Option ℕ) → List ℕ → BranchElement → ℕ → List BranchRow → List BranchRow
+rows_climb page_size new key e next [] = row_push (no_row new) e ∷ []
+rows_climb page_size new key e next (row ∷ rows) =
+    let closes = no_row (one_less row.left) ∷ rows_climb page_size new key (record { key = row_key (row_push row e).elements; child = next }) (next + (1 + overflow_of page_size (row_push row e).size)) rows in
+    let stays = row_kept page_size (row_push row e) (key_size key) ∷ rows in
+    if row_stays page_size (row_push row e) (key_size key) then stays else closes
 
 abbrev pub rows_put : ℕ → List ℕ → BranchElement → ℕ → List BranchRow → List Placed
 rows_put page_size key e next [] = []
 rows_put page_size key e next (row ∷ rows) =
     let closes = row_page page_size (row_push row e) next
     ∷ rows_put page_size key (record { key = row_key (row_push row e).elements; child = next }) (next + (1 + overflow_of page_size (row_push row e).size)) rows in
-    if row_has_room page_size (row_push row e) (key_size key) then [] else closes
+    if row_stays page_size (row_push row e) (key_size key) then [] else closes
 
 -- the number of the next page after that
 abbrev pub rows_next : ℕ → List ℕ → BranchElement → ℕ → List BranchRow → ℕ
 rows_next page_size key e next [] = next
 rows_next page_size key e next (row ∷ rows) =
     let closes = rows_next page_size key (record { key = row_key (row_push row e).elements; child = next }) (next + (1 + overflow_of page_size (row_push row e).size)) rows in
-    if row_has_room page_size (row_push row e) (key_size key) then next else closes
+    if row_stays page_size (row_push row e) (key_size key) then next else closes
 
 -- A run of leaf items, and all that is open of a bucket.
 pub record LeafRow : Type 0 where
@@ -60,6 +70,7 @@ no_leaves = record { elements = []; size = 16 }
 pub record OpenRows : Type 0 where
   pub leaves : LeafRow
   pub uppers : List BranchRow
+  pub limits : ℕ → Option ℕ
   pub next : ℕ
 
 abbrev pub leaves_have_room : ℕ → LeafRow → ℕ → Bool
@@ -79,7 +90,8 @@ rows_room page_size rows key size =
     let after = rows.next + (1 + overflow_of page_size rows.leaves.size) in
     let made : OpenRows = record {
       leaves = no_leaves;
-      uppers = rows_climb page_size key closed after rows.uppers;
+      uppers = rows_climb page_size (rows.limits (length rows.uppers)) key closed after rows.uppers;
+      limits = rows.limits;
       next = rows_next page_size key closed after rows.uppers;
     } in
     if leaves_have_room page_size rows.leaves size then rows else made
@@ -93,7 +105,7 @@ rows_room_put page_size rows key size =
 
 -- an item below which the pages up to `next` were put
 abbrev pub rows_push : OpenRows → LeafElement → ℕ → ℕ → OpenRows
-rows_push rows e size next = record { leaves = record { elements = rows.leaves.elements ++ e ∷ []; size = rows.leaves.size + size }; uppers = rows.uppers; next = next }
+rows_push rows e size next = record { leaves = record { elements = rows.leaves.elements ++ e ∷ []; size = rows.leaves.size + size }; uppers = rows.uppers; limits = rows.limits; next = next }
 
 -- At the end each run closes in turn: the pages that this puts, and the number of the root page.
 abbrev pub rows_close_put : ℕ → BranchElement → ℕ → List BranchRow → List Placed

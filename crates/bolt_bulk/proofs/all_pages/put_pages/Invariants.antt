@@ -6,7 +6,8 @@ use Rattle.bolt_tree.specs.Tree.{tree_of}
 use Rattle.bolt_tree.specs.Walks.{left_of, walk_checked}
 use Rattle.bolt_tree.proofs.Measured.{left_number}
 use Rattle.bolt_bulk.specs.Private.Endings.{IsFitMember}
-use Rattle.bolt_bulk.specs.Private.Passes.{HasLeft, IsReady, Steps}
+use Rattle.bolt_bulk.specs.Private.Passes.{FitLimits, HasLeft, IsReady, Steps, limits_with}
+use Rattle.bolt_layout.specs.declared.layout.Layout.{Layout}
 use Rattle.bolt_bulk.proofs.all_pages.put_pages.Given as goal
 
 -- the members that are left to the walk are left to the pass, which has put pages of the layout
@@ -16,8 +17,9 @@ invariant-members g l = record {
   bounds : l.pass.bounds ≡ l.initial.pass.bounds;
   ready : IsReady l.pass;
   fit : ForListing l.checked (λ listing. ∥ AllByRecursion IsFitMember (left_of l.walk listing) ∥₁);
-  steps : ForListing l.checked (λ listing. Steps {A = ⊤} (tree_of listing) g.S.Sink.taken g.S.Sink.failed l.initial.sink l.sink l.initial.pass.bounds []
-      (HasLeft (tree_of listing) l.pass (left_of l.walk listing)) (Ok tt));
+  steps : (which : Layout) → ForListing l.checked (λ listing. FitLimits (record { which = which; tree = tree_of listing }) l.initial.pass.bounds.page_size (limits_with l.limits)
+      → Steps {A = ⊤} (record { which = which; tree = tree_of listing }) g.S.Sink.taken g.S.Sink.failed l.initial.sink l.sink l.initial.pass.bounds []
+      (HasLeft (record { which = which; tree = tree_of listing }) l.pass (left_of l.walk listing)) (Ok tt));
 }
 
 abbrev pub decreases-members : goal.decreases-members

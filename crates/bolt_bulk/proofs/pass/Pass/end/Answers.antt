@@ -12,15 +12,15 @@ use Rattle.bolt_bulk.proofs.PassEnds.{ends_after, ends_early, has_end}
 use Rattle.bolt_bulk.proofs.pass.Pass.end.Goals as goal
 
 pub returns-in-Err : goal.returns-in-Err
-returns-in-Err g c = λ tree put has.
-    ends_early tree g.S.Sink.taken g.S.Sink.failed c.args.self.now.bounds c.args.sink.now c.leave_to.new.sink put (HasLeft tree c.leave_to.new.self []) c.in-Err.fault (c.in-Err.ensures.steps tree [] put has tt)
+returns-in-Err g c = λ wanted put has.
+    ends_early wanted g.S.Sink.taken g.S.Sink.failed c.args.self.now.bounds c.args.sink.now c.leave_to.new.sink put (HasLeft wanted c.leave_to.new.self []) c.in-Err.fault (c.in-Err.ensures.steps wanted [] put has tt)
 
 pub returns-in-Err-end : goal.returns-in-Err-end
-returns-in-Err-end g c = λ tree put has.
+returns-in-Err-end g c = λ wanted put has.
     let stop : Result Ended BulkFault = Err c.in-Err-end.fault in
-    ends_after tree g.S.Sink.taken g.S.Sink.failed c.args.self.now.bounds c.args.sink.now c.leave_to.new.sink c.end.new.sink put (HasLeft tree c.leave_to.new.self []) tt stop (c.in_default.ensures.steps tree [] put has tt)
-    (λ all mid. let end = has_end tree c.leave_to.new.self all mid c.in_default.ensures.depth in
-    subst (λ (b : Bounds). Ends tree g.S.Sink.taken g.S.Sink.failed c.leave_to.new.sink c.end.new.sink b all stop) c.in_default.ensures.bounds
+    ends_after wanted g.S.Sink.taken g.S.Sink.failed c.args.self.now.bounds c.args.sink.now c.leave_to.new.sink c.end.new.sink put (HasLeft wanted c.leave_to.new.self []) tt stop (c.in_default.ensures.steps wanted [] put has tt)
+    (λ all mid. let end = has_end wanted c.leave_to.new.self all mid c.in_default.ensures.depth in
+    subst (λ (b : Bounds). Ends wanted g.S.Sink.taken g.S.Sink.failed c.leave_to.new.sink c.end.new.sink b all stop) c.in_default.ensures.bounds
     (record {
       others = rows_end_put c.leave_to.new.self.bounds.page_size (rows_of c.leave_to.new.self.bucket c.leave_to.new.self.next);
       all = end.pages;
@@ -34,11 +34,11 @@ returns-in-Err-end g c = λ tree put has.
     }))
 
 pub returns-in-Ok : goal.returns-in-Ok
-returns-in-Ok g c = λ tree put has.
+returns-in-Ok g c = λ wanted put has.
     let well : Result Ended BulkFault = Ok (record { root = c.in-Ok.root; high_water = c.end.new.next; held = c.leave_to.new.self.most }) in
-    ends_after tree g.S.Sink.taken g.S.Sink.failed c.args.self.now.bounds c.args.sink.now c.leave_to.new.sink c.end.new.sink put (HasLeft tree c.leave_to.new.self []) tt well (c.in_default.ensures.steps tree [] put has tt)
-    (λ all mid. let end = has_end tree c.leave_to.new.self all mid c.in_default.ensures.depth in
-    subst (λ (b : Bounds). Ends tree g.S.Sink.taken g.S.Sink.failed c.leave_to.new.sink c.end.new.sink b all well) c.in_default.ensures.bounds
+    ends_after wanted g.S.Sink.taken g.S.Sink.failed c.args.self.now.bounds c.args.sink.now c.leave_to.new.sink c.end.new.sink put (HasLeft wanted c.leave_to.new.self []) tt well (c.in_default.ensures.steps wanted [] put has tt)
+    (λ all mid. let end = has_end wanted c.leave_to.new.self all mid c.in_default.ensures.depth in
+    subst (λ (b : Bounds). Ends wanted g.S.Sink.taken g.S.Sink.failed c.leave_to.new.sink c.end.new.sink b all well) c.in_default.ensures.bounds
     (record {
       others = rows_end_put c.leave_to.new.self.bounds.page_size (rows_of c.leave_to.new.self.bucket c.leave_to.new.self.next);
       all = end.pages;

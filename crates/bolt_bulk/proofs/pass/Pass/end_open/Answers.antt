@@ -14,14 +14,14 @@ leave-requires-clause-waits g c =
     (subst (λ (ws : List Waiting). AllByRecursion (IsWaiting c.args.self.now.bounds.page_size) ws) c.in-Some.ensures.items c.requires.ready.waiting)).0
 
 pub returns-in-Err-clause-steps : goal.returns-in-Err-clause-steps
-returns-in-Err-clause-steps g c = λ tree level levels put is.
-    steps_stop tree g.S.Sink.taken g.S.Sink.failed c.args.self.now.bounds c.args.sink.now c.leave.new.sink put _ _ c.in-Err.fault
-    (leave_steps g.S.Sink.taken g.S.Sink.failed tree c.args.self.now put level levels c.in-Some.waiting c.args.sink.now c.leave.new.sink c.args.self.now.bucket c.pop.new.self c.leave.new.next 0 c.args.self.now _ is c.requires.pending
+returns-in-Err-clause-steps g c = λ wanted level levels put is.
+    steps_stop wanted g.S.Sink.taken g.S.Sink.failed c.args.self.now.bounds c.args.sink.now c.leave.new.sink put _ _ c.in-Err.fault
+    (leave_steps g.S.Sink.taken g.S.Sink.failed wanted c.args.self.now put level levels c.in-Some.waiting c.args.sink.now c.leave.new.sink c.args.self.now.bucket c.pop.new.self c.leave.new.next 0 c.args.self.now _ is c.requires.pending
     c.in-Some.ensures.items (rw c.replace-inner.ensures.value at c.in-Err.ensures.pages) tt (rw c.replace-inner.ensures.value at c.in-Err.ensures.large) tt)
 
 pub returns-in-Ok-clause-steps : goal.returns-in-Ok-clause-steps
-returns-in-Ok-clause-steps g c = λ tree level levels put is.
-    leave_steps g.S.Sink.taken g.S.Sink.failed tree c.args.self.now put level levels c.in-Some.waiting c.args.sink.now c.leave.new.sink c.in-Ok.outer c.pop.new.self c.leave.new.next _ c.count.new.self _ is c.requires.pending
+returns-in-Ok-clause-steps g c = λ wanted level levels put is.
+    leave_steps g.S.Sink.taken g.S.Sink.failed wanted c.args.self.now put level levels c.in-Some.waiting c.args.sink.now c.leave.new.sink c.in-Ok.outer c.pop.new.self c.leave.new.next _ c.count.new.self _ is c.requires.pending
     c.in-Some.ensures.items (puts_well _ _ _ c.in-Ok.outer (rw c.replace-inner.ensures.value at c.in-Ok.ensures.pages)) (rw c.replace-inner.ensures.value at c.in-Ok.ensures.rows) tt c.count.ensures.counts
 
 pub count-requires : goal.count-requires

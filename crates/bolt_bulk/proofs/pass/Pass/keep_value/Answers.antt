@@ -21,7 +21,7 @@ returns-clause-ready c =
     }
 
 pub returns-clause-at : goal.returns-clause-at
-returns-clause-at c = λ tree after levels put is.
+returns-clause-at c = λ wanted after levels put is.
     let entry : Leaf = record { key = c.args.key; value = c.args.value; is_bucket = false } in
     let items : c.push.new.self.items ≡ c.args.self.now.entries.items ++ entry ∷ [] = search rules in
-    keep_at tree c.args.self.now levels put c.args.key.now c.args.value.now after c.args.pending entry c.args.size c.push.new.self is c.requires.pending items refl
+    keep_at wanted c.args.self.now levels put c.args.key.now c.args.value.now after c.args.pending entry c.args.size c.push.new.self is c.requires.pending items refl

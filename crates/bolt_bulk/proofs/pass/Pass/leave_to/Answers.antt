@@ -13,22 +13,22 @@ pub levels-init : goal.levels-init
 levels-init g c = record {
   bounds = refl;
   ready = c.requires.ready;
-  steps = λ tree members put has shallow. steps_begun tree c.args.self.now members put c.args.sink.now has;
+  steps = λ wanted members put has shallow. steps_begun wanted c.args.self.now members put c.args.sink.now has;
 }
 
 pub leave-requires-clause-ready : goal.leave-requires-clause-ready
 leave-requires-clause-ready g c = c.levels.invariant.ready
 
 pub returns-in-Err-clause-steps : goal.returns-in-Err-clause-steps
-returns-in-Err-clause-steps g c = λ tree members put has shallow.
+returns-in-Err-clause-steps g c = λ wanted members put has shallow.
     let stop : Result ⊤ BulkFault = Err c.in-Err.fault in
-    let At : List Placed → Type 0 = HasLeft tree c.leave.new.self members in
-    steps_then tree g.S.Sink.taken g.S.Sink.failed c.args.self.now.bounds c.args.sink.now c.levels.sink c.leave.new.sink put (HasLeft tree c.levels.self members) At tt stop
-    (c.levels.invariant.steps tree members put has shallow)
-    (λ all mid. let ended = has_ended c.args.depth tree c.levels.self members all mid shallow c.requires.some (omega arith) in
-    subst (λ (b : Bounds). Steps tree g.S.Sink.taken g.S.Sink.failed c.levels.sink c.leave.new.sink b all At stop) c.levels.invariant.bounds
-    (steps_stop tree g.S.Sink.taken g.S.Sink.failed c.levels.self.bounds c.levels.sink c.leave.new.sink all (IsAt tree c.leave.new.self ended.levels ended.level.after) At c.in-Err.fault
-    (c.in-Err.ensures.steps tree ended.level ended.levels all ended.at)))
+    let At : List Placed → Type 0 = HasLeft wanted c.leave.new.self members in
+    steps_then wanted g.S.Sink.taken g.S.Sink.failed c.args.self.now.bounds c.args.sink.now c.levels.sink c.leave.new.sink put (HasLeft wanted c.levels.self members) At tt stop
+    (c.levels.invariant.steps wanted members put has shallow)
+    (λ all mid. let ended = has_ended c.args.depth wanted c.levels.self members all mid shallow c.requires.some (omega arith) in
+    subst (λ (b : Bounds). Steps wanted g.S.Sink.taken g.S.Sink.failed c.levels.sink c.leave.new.sink b all At stop) c.levels.invariant.bounds
+    (steps_stop wanted g.S.Sink.taken g.S.Sink.failed c.levels.self.bounds c.levels.sink c.leave.new.sink all (IsAt wanted c.leave.new.self ended.levels ended.level.after) At c.in-Err.fault
+    (c.in-Err.ensures.steps wanted ended.level ended.levels all ended.at)))
 
 pub levels-smaller : goal.levels-smaller
 levels-smaller g c = let fewer = c.in_default.ensures.depth in omega arith
@@ -37,16 +37,16 @@ pub levels-preserved : goal.levels-preserved
 levels-preserved g c = record {
   bounds = c.in_default.ensures.bounds ∙ c.levels.invariant.bounds;
   ready = c.in_default.ensures.ready;
-  steps = λ tree members put has shallow.
+  steps = λ wanted members put has shallow.
       let well : Result ⊤ BulkFault = Ok tt in
-      let At : List Placed → Type 0 = HasLeft tree c.leave.new.self members in
-      steps_then tree g.S.Sink.taken g.S.Sink.failed c.args.self.now.bounds c.args.sink.now c.levels.sink c.leave.new.sink put (HasLeft tree c.levels.self members) At tt well
-      (c.levels.invariant.steps tree members put has shallow)
-      (λ all mid. let ended = has_ended c.args.depth tree c.levels.self members all mid shallow c.requires.some (omega arith) in
-      subst (λ (b : Bounds). Steps tree g.S.Sink.taken g.S.Sink.failed c.levels.sink c.leave.new.sink b all At well) c.levels.invariant.bounds
-      (steps_map tree c.levels.sink c.leave.new.sink c.levels.self.bounds all (IsAt tree c.leave.new.self ended.levels ended.level.after) At well
-      (λ then at. left_out tree c.leave.new.self ended.level ended.levels members then ended.members_are at)
-      (c.in_default.ensures.steps tree ended.level ended.levels all ended.at)));
+      let At : List Placed → Type 0 = HasLeft wanted c.leave.new.self members in
+      steps_then wanted g.S.Sink.taken g.S.Sink.failed c.args.self.now.bounds c.args.sink.now c.levels.sink c.leave.new.sink put (HasLeft wanted c.levels.self members) At tt well
+      (c.levels.invariant.steps wanted members put has shallow)
+      (λ all mid. let ended = has_ended c.args.depth wanted c.levels.self members all mid shallow c.requires.some (omega arith) in
+      subst (λ (b : Bounds). Steps wanted g.S.Sink.taken g.S.Sink.failed c.levels.sink c.leave.new.sink b all At well) c.levels.invariant.bounds
+      (steps_map wanted c.levels.sink c.leave.new.sink c.levels.self.bounds all (IsAt wanted c.leave.new.self ended.levels ended.level.after) At well
+      (λ then at. left_out wanted c.leave.new.self ended.level ended.levels members then ended.members_are at)
+      (c.in_default.ensures.steps wanted ended.level ended.levels all ended.at)));
 }
 
 pub returns-clause-bounds : goal.returns-clause-bounds
@@ -56,4 +56,4 @@ pub returns-clause-ready : goal.returns-clause-ready
 returns-clause-ready g c = c.levels.invariant.ready
 
 pub returns-clause-steps : goal.returns-clause-steps
-returns-clause-steps g c = λ tree members put has shallow. c.levels.invariant.steps tree members put has shallow
+returns-clause-steps g c = λ wanted members put has shallow. c.levels.invariant.steps wanted members put has shallow

@@ -1,9 +1,8 @@
 use Rattle.std.proofs.Common.{◌≡◌, List, Ok}
 use Rattle.std.specs.Prelude.{⊤}
 use Rattle.bolt_tree.specs.Listing.{Member}
-use Rattle.bolt_tree.specs.Tree.{Tree}
 use Rattle.bolt_layout.specs.Laid.{Placed}
-use Rattle.bolt_bulk.specs.Private.Passes.{HasLeft, IsNoDeeper, IsReady, Steps, depth_of}
+use Rattle.bolt_bulk.specs.Private.Passes.{Wanted, HasLeft, IsNoDeeper, IsReady, Steps, depth_of}
 use Rattle.bolt_bulk.proofs.pass.Pass.leave_to.Given as goal
 
 -- the steps so far are one, and the same members are left
@@ -11,8 +10,8 @@ abbrev pub invariant-levels : goal.invariant-levels
 invariant-levels g l = record {
   bounds : l.self.bounds ≡ l.initial.self.bounds;
   ready : IsReady l.self;
-  steps : (tree : Tree) (members : List Member) (put : List Placed) → HasLeft tree l.initial.self members put → IsNoDeeper l.depth members
-      → Steps {A = ⊤} tree g.S.Sink.taken g.S.Sink.failed l.initial.sink l.sink l.initial.self.bounds put (HasLeft tree l.self members) (Ok tt);
+  steps : (wanted : Wanted) (members : List Member) (put : List Placed) → HasLeft wanted l.initial.self members put → IsNoDeeper l.depth members
+      → Steps {A = ⊤} wanted g.S.Sink.taken g.S.Sink.failed l.initial.sink l.sink l.initial.self.bounds put (HasLeft wanted l.self members) (Ok tt);
 }
 
 abbrev pub decreases-levels : goal.decreases-levels

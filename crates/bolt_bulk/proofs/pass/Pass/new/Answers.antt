@@ -4,4 +4,4 @@ use Rattle.bolt_bulk.proofs.PassEnds.{has_begun}
 use Rattle.bolt_bulk.proofs.pass.Pass.new.Goals as goal
 
 pub returns-clause-at : goal.returns-clause-at
-returns-clause-at c = λ tree. has_begun tree _ c.new.ensures.items refl (c.new-2.ensures.rows 3) refl
+returns-clause-at c = λ wanted fit. has_begun wanted _ c.new.ensures.items refl (c.new-2.ensures.rows 3) refl refl fit.root fit.others

@@ -13,29 +13,29 @@ use Rattle.bolt_bulk.proofs.PassReady.{small_of}
 use Rattle.bolt_bulk.proofs.pass.Pass.open_pending.Goals as goal
 
 pub returns-in-Err-clause-steps : goal.returns-in-Err-clause-steps
-returns-in-Err-clause-steps g c = λ tree left levels put is rooted.
-    steps_none tree c.args.self.now levels left put c.args.sink.now _ (Err c.in-Err.fault) is c.in-Err.ensures.fault tt
+returns-in-Err-clause-steps g c = λ wanted left levels put is rooted.
+    steps_none wanted c.args.self.now levels left put c.args.sink.now _ (Err c.in-Err.fault) is c.in-Err.ensures.fault tt
 
 pub returns-in-Err-waiting-clause-steps : goal.returns-in-Err-waiting-clause-steps
-returns-in-Err-waiting-clause-steps g c = λ tree left levels put is rooted.
+returns-in-Err-waiting-clause-steps g c = λ wanted left levels put is rooted.
     let small = small_of c.args.self.now.bounds.page_size c.args.self.now.pending c.args.pending c.args.self.now.entries.items c.requires.pending c.requires.ready.pending in
-    open_stops g.S.Sink.taken g.S.Sink.failed tree c.args.self.now put levels left c.args.pending c.args.sink.now c.enter-waiting.new.sink _ c.in-Err-waiting.fault is c.requires.pending small rooted
+    open_stops g.S.Sink.taken g.S.Sink.failed wanted c.args.self.now put levels left c.args.pending c.args.sink.now c.enter-waiting.new.sink _ c.in-Err-waiting.fault is c.requires.pending small rooted
     (puts_fault _ _ _ c.in-Err-waiting.fault (rw c.replace-outer.ensures.value at c.in-Err-waiting.ensures.pages)) (rw c.replace-outer.ensures.value at c.in-Err-waiting.ensures.large)
 
 pub returns-then-is_err-clause-steps : goal.returns-then-is_err-clause-steps
-returns-then-is_err-clause-steps g c = λ tree left levels put is rooted.
+returns-then-is_err-clause-steps g c = λ wanted left levels put is rooted.
     let small = small_of c.args.self.now.bounds.page_size c.args.self.now.pending c.args.pending c.args.self.now.entries.items c.requires.pending c.requires.ready.pending in
-    open_stops g.S.Sink.taken g.S.Sink.failed tree c.args.self.now put levels left c.args.pending c.args.sink.now c.enter-waiting.new.sink _ fault.Memory is c.requires.pending small rooted
+    open_stops g.S.Sink.taken g.S.Sink.failed wanted c.args.self.now put levels left c.args.pending c.args.sink.now c.enter-waiting.new.sink _ fault.Memory is c.requires.pending small rooted
     (puts_failed _ _ _ c.in-Ok-waiting.waiting (rw c.replace-outer.ensures.value at c.in-Ok-waiting.ensures.pages)) (λ e. absurd cc)
 
 pub returns-clause-steps : goal.returns-clause-steps
-returns-clause-steps g c = λ tree left levels put is rooted.
+returns-clause-steps g c = λ wanted left levels put is rooted.
     let small = small_of c.args.self.now.bounds.page_size c.args.self.now.pending c.args.pending c.args.self.now.entries.items c.requires.pending c.requires.ready.pending in
     let items : c.push.new.self.items ≡ c.args.self.now.waiting.items ++ c.in-Ok-waiting.waiting ∷ [] = search rules in
     let values = rw (c.as_slice.ensures.value, sym c.replace-outer.ensures.after) at (c.in-Ok.ensures.rows c.enter-waiting.new.next) in
-    open_steps g.S.Sink.taken g.S.Sink.failed tree c.args.self.now put levels left c.args.pending c.args.sink.now c.enter-waiting.new.sink c.replace-outer.new.dest c.in-Ok-waiting.waiting c.push.new.self c.clear.new.self
-    c.enter-waiting.new.next _ c.count.new.self is c.requires.pending small rooted (puts_well _ _ _ c.in-Ok-waiting.waiting (rw c.replace-outer.ensures.value at c.in-Ok-waiting.ensures.pages))
-    items (rw c.replace-outer.ensures.value at c.in-Ok-waiting.ensures.rows) c.in-Ok-waiting.ensures.key c.in-Ok-waiting.ensures.sequence values c.count.ensures.counts
+    open_steps g.S.Sink.taken g.S.Sink.failed wanted c.args.self.now put levels left c.args.pending c.args.sink.now c.enter-waiting.new.sink c.replace-outer.new.dest c.in-Ok-waiting.waiting c.push.new.self c.clear.new.self
+    c.enter-waiting.new.next _ _ c.count.new.self is c.requires.pending small rooted (puts_well _ _ _ c.in-Ok-waiting.waiting (rw c.replace-outer.ensures.value at c.in-Ok-waiting.ensures.pages))
+    items (rw c.replace-outer.ensures.value at c.in-Ok-waiting.ensures.rows) c.in-Ok-waiting.ensures.key c.in-Ok-waiting.ensures.sequence values c.saturating_add-self.ensures c.count.ensures.counts
 
 pub count-requires : goal.count-requires
 count-requires g c =

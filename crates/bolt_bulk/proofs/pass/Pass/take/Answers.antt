@@ -25,11 +25,11 @@ last_is parts front key same =
     ap last_part shown ∙ last_pushed (path_of front) key.now
 
 pub returns-in-Err-clause-steps : goal.returns-in-Err-clause-steps
-returns-in-Err-clause-steps g c = λ tree members put has.
+returns-in-Err-clause-steps g c = λ wanted members put has.
     let first : Member = (path_of c.args.path.now, item_view c.args.item) in
     let l = length-map c.args.path.now (λ (part : Bor (List ℕ)). part.now) in
-    steps_stop tree g.S.Sink.taken g.S.Sink.failed c.args.self.now.bounds c.args.sink.now c.leave_to.new.sink put (HasLeft tree c.leave_to.new.self (first ∷ members)) (HasLeft tree c.leave_to.new.self members) c.in-Err.fault
-    (c.in-Err.ensures.steps tree (first ∷ members) put has (omega arith))
+    steps_stop wanted g.S.Sink.taken g.S.Sink.failed c.args.self.now.bounds c.args.sink.now c.leave_to.new.sink put (HasLeft wanted c.leave_to.new.self (first ∷ members)) (HasLeft wanted c.leave_to.new.self members) c.in-Err.fault
+    (c.in-Err.ensures.steps wanted (first ∷ members) put has (omega arith))
 
 pub take_value-requires-clause-key : goal.take_value-requires-clause-key
 take_value-requires-clause-key g c =
@@ -44,7 +44,7 @@ take_bucket-requires-clause-key g c =
     let n = ap (λ (k : List ℕ). length k) last in omega (arith, fits, n)
 
 pub returns-in-Value-clause-steps : goal.returns-in-Value-clause-steps
-returns-in-Value-clause-steps g c = λ tree members put has.
+returns-in-Value-clause-steps g c = λ wanted members put has.
     let path : Path = path_of c.args.path.now in
     let item : item_view c.args.item ≡ entries.Value c.in-Value.value.now = ap item_view c.in-Value.is in
     let first : Member = (path, item_view c.args.item) in
@@ -52,31 +52,31 @@ returns-in-Value-clause-steps g c = λ tree members put has.
     let key : List ℕ = c.in-Some.key.now.now in
     let last = last_is c.args.path.now c.in-Some.field-0-1.now c.in-Some.key.now c.in-Some.ensures.cases.0 in
     let l = length-map c.args.path.now (λ (part : Bor (List ℕ)). part.now) in
-    let At : List Placed → Type 0 = HasLeft tree c.take_value.new.self members in
-    steps_then tree g.S.Sink.taken g.S.Sink.failed c.args.self.now.bounds c.args.sink.now c.leave_to.new.sink c.take_value.new.sink put (HasLeft tree c.leave_to.new.self (first ∷ members)) At tt c.take_value.result
-    (c.in_default-leave_to.ensures.steps tree (first ∷ members) put has (omega arith))
+    let At : List Placed → Type 0 = HasLeft wanted c.take_value.new.self members in
+    steps_then wanted g.S.Sink.taken g.S.Sink.failed c.args.self.now.bounds c.args.sink.now c.leave_to.new.sink c.take_value.new.sink put (HasLeft wanted c.leave_to.new.self (first ∷ members)) At tt c.take_value.result
+    (c.in_default-leave_to.ensures.steps wanted (first ∷ members) put has (omega arith))
     (λ all mid. let deep = c.in_default-leave_to.ensures.depth in
-    let next = has_value tree c.leave_to.new.self path key value members all (subst (λ (i : entries.Item). HasLeft tree c.leave_to.new.self ((path, i) ∷ members) all) item mid) (omega arith) last in
-    subst (λ (b : Bounds). Steps tree g.S.Sink.taken g.S.Sink.failed c.leave_to.new.sink c.take_value.new.sink b all At c.take_value.result) c.in_default-leave_to.ensures.bounds
-    (steps_map tree c.leave_to.new.sink c.take_value.new.sink c.leave_to.new.self.bounds all (IsAt tree c.take_value.new.self next.levels next.after) At c.take_value.result
+    let next = has_value wanted c.leave_to.new.self path key value members all (subst (λ (i : entries.Item). HasLeft wanted c.leave_to.new.self ((path, i) ∷ members) all) item mid) (omega arith) last in
+    subst (λ (b : Bounds). Steps wanted g.S.Sink.taken g.S.Sink.failed c.leave_to.new.sink c.take_value.new.sink b all At c.take_value.result) c.in_default-leave_to.ensures.bounds
+    (steps_map wanted c.leave_to.new.sink c.take_value.new.sink c.leave_to.new.self.bounds all (IsAt wanted c.take_value.new.self next.levels next.after) At c.take_value.result
     (λ then at. record { levels = next.levels; left = next.after; at = at; members_are = next.members_are })
-    (c.take_value.ensures.steps tree next.after next.levels all next.at)))
+    (c.take_value.ensures.steps wanted next.after next.levels all next.at)))
 
 pub returns-in-Bucket-clause-steps : goal.returns-in-Bucket-clause-steps
-returns-in-Bucket-clause-steps g c = λ tree members put has.
+returns-in-Bucket-clause-steps g c = λ wanted members put has.
     let path : Path = path_of c.args.path.now in
     let item : item_view c.args.item ≡ entries.Bucket c.in-Bucket.sequence = ap item_view c.in-Bucket.is in
     let first : Member = (path, item_view c.args.item) in
     let key : List ℕ = c.in-Some.key.now.now in
     let last = last_is c.args.path.now c.in-Some.field-0-1.now c.in-Some.key.now c.in-Some.ensures.cases.0 in
     let l = length-map c.args.path.now (λ (part : Bor (List ℕ)). part.now) in
-    let At : List Placed → Type 0 = HasLeft tree c.take_bucket.new.self members in
-    steps_then tree g.S.Sink.taken g.S.Sink.failed c.args.self.now.bounds c.args.sink.now c.leave_to.new.sink c.take_bucket.new.sink put (HasLeft tree c.leave_to.new.self (first ∷ members)) At tt c.take_bucket.result
-    (c.in_default-leave_to.ensures.steps tree (first ∷ members) put has (omega arith))
+    let At : List Placed → Type 0 = HasLeft wanted c.take_bucket.new.self members in
+    steps_then wanted g.S.Sink.taken g.S.Sink.failed c.args.self.now.bounds c.args.sink.now c.leave_to.new.sink c.take_bucket.new.sink put (HasLeft wanted c.leave_to.new.self (first ∷ members)) At tt c.take_bucket.result
+    (c.in_default-leave_to.ensures.steps wanted (first ∷ members) put has (omega arith))
     (λ all mid. let deep = c.in_default-leave_to.ensures.depth in
-    let next = has_bucket tree c.leave_to.new.self path key c.in-Bucket.sequence members all (subst (λ (i : entries.Item). HasLeft tree c.leave_to.new.self ((path, i) ∷ members) all) item mid) (omega arith) last in
+    let next = has_bucket wanted c.leave_to.new.self path key c.in-Bucket.sequence members all (subst (λ (i : entries.Item). HasLeft wanted c.leave_to.new.self ((path, i) ∷ members) all) item mid) (omega arith) last in
     let own : Level = record { key = key; after = next.after } in
-    subst (λ (b : Bounds). Steps tree g.S.Sink.taken g.S.Sink.failed c.leave_to.new.sink c.take_bucket.new.sink b all At c.take_bucket.result) c.in_default-leave_to.ensures.bounds
-    (steps_map tree c.leave_to.new.sink c.take_bucket.new.sink c.leave_to.new.self.bounds all (IsAt tree c.take_bucket.new.self (own ∷ next.levels) next.inside) At c.take_bucket.result
+    subst (λ (b : Bounds). Steps wanted g.S.Sink.taken g.S.Sink.failed c.leave_to.new.sink c.take_bucket.new.sink b all At c.take_bucket.result) c.in_default-leave_to.ensures.bounds
+    (steps_map wanted c.leave_to.new.sink c.take_bucket.new.sink c.leave_to.new.self.bounds all (IsAt wanted c.take_bucket.new.self (own ∷ next.levels) next.inside) At c.take_bucket.result
     (λ then at. record { levels = own ∷ next.levels; left = next.inside; at = at; members_are = next.members_are })
-    (c.take_bucket.ensures.steps tree next.inside next.after next.levels all next.at)))
+    (c.take_bucket.ensures.steps wanted next.inside next.after next.levels all next.at)))

@@ -13,25 +13,25 @@ use Rattle.bolt_bulk.proofs.PassAt.{steps_none, steps_stop, steps_then}
 use Rattle.bolt_bulk.proofs.pass.Pass.take_bucket.Goals as goal
 
 pub returns-in_default-clause-steps : goal.returns-in_default-clause-steps
-returns-in_default-clause-steps g c = λ tree inside after levels put is.
+returns-in_default-clause-steps g c = λ wanted inside after levels put is.
     let own : Level = record { key = c.args.key.now; after = after } in
-    steps_none tree c.args.self.now levels (with_bucket c.args.key.now c.args.sequence inside after) put c.args.sink.now (IsAt tree c.begin.new.self (own ∷ levels) inside) _ is tt (c.begin.ensures.at tree inside after levels put is)
+    steps_none wanted c.args.self.now levels (with_bucket c.args.key.now c.args.sequence inside after) put c.args.sink.now (IsAt wanted c.begin.new.self (own ∷ levels) inside) _ is tt (c.begin.ensures.at wanted inside after levels put is)
 
 pub returns-in-Err-clause-steps : goal.returns-in-Err-clause-steps
-returns-in-Err-clause-steps g c = λ tree inside after levels put is.
+returns-in-Err-clause-steps g c = λ wanted inside after levels put is.
     let left : Tree = with_bucket c.args.key.now c.args.sequence inside after in
-    let rooted = bucket_has_root c.args.self.now.bounds.page_size (map leaf_view c.args.self.now.entries.items) c.args.key.now c.args.sequence inside after in
-    steps_stop tree g.S.Sink.taken g.S.Sink.failed c.args.self.now.bounds c.args.sink.now c.open_pending.new.sink put (IsAt tree c.open_pending.new.self levels left) _ c.in-Err.fault
-    (c.in-Err.ensures.steps tree left levels put is rooted)
+    let rooted = bucket_has_root wanted.which c.args.self.now.bounds.page_size (map leaf_view c.args.self.now.entries.items) c.args.key.now c.args.sequence inside after in
+    steps_stop wanted g.S.Sink.taken g.S.Sink.failed c.args.self.now.bounds c.args.sink.now c.open_pending.new.sink put (IsAt wanted c.open_pending.new.self levels left) _ c.in-Err.fault
+    (c.in-Err.ensures.steps wanted left levels put is rooted)
 
 pub returns-in-Ok-clause-steps : goal.returns-in-Ok-clause-steps
-returns-in-Ok-clause-steps g c = λ tree inside after levels put is.
+returns-in-Ok-clause-steps g c = λ wanted inside after levels put is.
     let left : Tree = with_bucket c.args.key.now c.args.sequence inside after in
     let own : Level = record { key = c.args.key.now; after = after } in
-    let rooted = bucket_has_root c.args.self.now.bounds.page_size (map leaf_view c.args.self.now.entries.items) c.args.key.now c.args.sequence inside after in
+    let rooted = bucket_has_root wanted.which c.args.self.now.bounds.page_size (map leaf_view c.args.self.now.entries.items) c.args.key.now c.args.sequence inside after in
     let done : Result ⊤ BulkFault = Ok tt in
-    let At : List Placed → Type 0 = IsAt tree c.begin-in-Ok.new.self (own ∷ levels) inside in
-    steps_then tree g.S.Sink.taken g.S.Sink.failed c.args.self.now.bounds c.args.sink.now c.open_pending.new.sink c.open_pending.new.sink put (IsAt tree c.open_pending.new.self levels left) At tt done
-    (c.in-Ok.ensures.steps tree left levels put is rooted)
-    (λ all mid. subst (λ (b : Bounds). Steps tree g.S.Sink.taken g.S.Sink.failed c.open_pending.new.sink c.open_pending.new.sink b all At done) c.in-Ok.ensures.bounds
-    (steps_none tree c.open_pending.new.self levels left all c.open_pending.new.sink At done mid tt (c.begin-in-Ok.ensures.at tree inside after levels all mid)))
+    let At : List Placed → Type 0 = IsAt wanted c.begin-in-Ok.new.self (own ∷ levels) inside in
+    steps_then wanted g.S.Sink.taken g.S.Sink.failed c.args.self.now.bounds c.args.sink.now c.open_pending.new.sink c.open_pending.new.sink put (IsAt wanted c.open_pending.new.self levels left) At tt done
+    (c.in-Ok.ensures.steps wanted left levels put is rooted)
+    (λ all mid. subst (λ (b : Bounds). Steps wanted g.S.Sink.taken g.S.Sink.failed c.open_pending.new.sink c.open_pending.new.sink b all At done) c.in-Ok.ensures.bounds
+    (steps_none wanted c.open_pending.new.self levels left all c.open_pending.new.sink At done mid tt (c.begin-in-Ok.ensures.at wanted inside after levels all mid)))

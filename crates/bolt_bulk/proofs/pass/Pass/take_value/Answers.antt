@@ -15,12 +15,12 @@ use Rattle.bolt_bulk.proofs.pass.Pass.take_value.Goals as goal
 use Rattle.bolt_bulk.proofs.pass.Pass.take_value.Goals.{else-size-self-via-then-size-self+else-len-lt-MAX_ITEMS, else-size-self-via-else-size-self}
 
 pub returns-then-len-lt-MAX_ITEMS-clause-steps : goal.returns-then-len-lt-MAX_ITEMS-clause-steps
-returns-then-len-lt-MAX_ITEMS-clause-steps g c = λ tree after levels put is.
-    steps_none tree c.args.self.now levels (with_value c.args.key.now c.args.value.now after) put c.args.sink.now (IsAt tree c.keep_value.new.self levels after) c.keep_value.result is
-    c.keep_value.ensures.fault (c.keep_value.ensures.at tree after levels put is)
+returns-then-len-lt-MAX_ITEMS-clause-steps g c = λ wanted after levels put is.
+    steps_none wanted c.args.self.now levels (with_value c.args.key.now c.args.value.now after) put c.args.sink.now (IsAt wanted c.keep_value.new.self levels after) c.keep_value.result is
+    c.keep_value.ensures.fault (c.keep_value.ensures.at wanted after levels put is)
 
 pub returns-in-Err-clause-steps : goal.returns-in-Err-clause-steps
-returns-in-Err-clause-steps g c = λ tree after levels put is.
+returns-in-Err-clause-steps g c = λ wanted after levels put is.
     let left : Tree = with_value c.args.key.now c.args.value.now after in
     let small = small_of c.args.self.now.bounds.page_size c.args.self.now.pending c.in-Some.pending c.args.self.now.entries.items c.in-Some.is c.requires.ready.pending in
     let sized = small.sized in
@@ -30,12 +30,12 @@ returns-in-Err-clause-steps g c = λ tree after levels put is.
       | else-size-self-via-then-size-self+else-len-lt-MAX_ITEMS w ↦ inr (omega arith)
       | else-size-self-via-else-size-self w ↦ inl (omega arith)
     ] in
-    let rooted = value_too_large c.args.self.now.bounds.page_size (map leaf_view c.args.self.now.entries.items) c.args.key.now c.args.value.now after large in
-    steps_stop tree g.S.Sink.taken g.S.Sink.failed c.args.self.now.bounds c.args.sink.now c.open_pending.new.sink put (IsAt tree c.open_pending.new.self levels left) (IsAt tree c.open_pending.new.self levels after) c.in-Err.fault
-    (c.in-Err.ensures.steps tree left levels put is rooted)
+    let rooted = value_too_large wanted.which c.args.self.now.bounds.page_size (map leaf_view c.args.self.now.entries.items) c.args.key.now c.args.value.now after large in
+    steps_stop wanted g.S.Sink.taken g.S.Sink.failed c.args.self.now.bounds c.args.sink.now c.open_pending.new.sink put (IsAt wanted c.open_pending.new.self levels left) (IsAt wanted c.open_pending.new.self levels after) c.in-Err.fault
+    (c.in-Err.ensures.steps wanted left levels put is rooted)
 
 pub returns-in-Ok-clause-steps : goal.returns-in-Ok-clause-steps
-returns-in-Ok-clause-steps g c = λ tree after levels put is.
+returns-in-Ok-clause-steps g c = λ wanted after levels put is.
     let left : Tree = with_value c.args.key.now c.args.value.now after in
     let small = small_of c.args.self.now.bounds.page_size c.args.self.now.pending c.in-Some.pending c.args.self.now.entries.items c.in-Some.is c.requires.ready.pending in
     let sized = small.sized in
@@ -45,9 +45,9 @@ returns-in-Ok-clause-steps g c = λ tree after levels put is.
       | else-size-self-via-then-size-self+else-len-lt-MAX_ITEMS w ↦ inr (omega arith)
       | else-size-self-via-else-size-self w ↦ inl (omega arith)
     ] in
-    let rooted = value_too_large c.args.self.now.bounds.page_size (map leaf_view c.args.self.now.entries.items) c.args.key.now c.args.value.now after large in
-    let At : List Placed → Type 0 = IsAt tree c.put_value-in-Ok.new.self levels after in
-    steps_then tree g.S.Sink.taken g.S.Sink.failed c.args.self.now.bounds c.args.sink.now c.open_pending.new.sink c.put_value-in-Ok.new.sink put (IsAt tree c.open_pending.new.self levels left) At tt c.put_value-in-Ok.result
-    (c.in-Ok.ensures.steps tree left levels put is rooted)
-    (λ all mid. subst (λ (b : Bounds). Steps tree g.S.Sink.taken g.S.Sink.failed c.open_pending.new.sink c.put_value-in-Ok.new.sink b all At c.put_value-in-Ok.result) c.in-Ok.ensures.bounds
-    (c.put_value-in-Ok.ensures.steps tree after levels all mid))
+    let rooted = value_too_large wanted.which c.args.self.now.bounds.page_size (map leaf_view c.args.self.now.entries.items) c.args.key.now c.args.value.now after large in
+    let At : List Placed → Type 0 = IsAt wanted c.put_value-in-Ok.new.self levels after in
+    steps_then wanted g.S.Sink.taken g.S.Sink.failed c.args.self.now.bounds c.args.sink.now c.open_pending.new.sink c.put_value-in-Ok.new.sink put (IsAt wanted c.open_pending.new.self levels left) At tt c.put_value-in-Ok.result
+    (c.in-Ok.ensures.steps wanted left levels put is rooted)
+    (λ all mid. subst (λ (b : Bounds). Steps wanted g.S.Sink.taken g.S.Sink.failed c.open_pending.new.sink c.put_value-in-Ok.new.sink b all At c.put_value-in-Ok.result) c.in-Ok.ensures.bounds
+    (c.put_value-in-Ok.ensures.steps wanted after levels all mid))

@@ -1,0 +1,112 @@
+-- The end of a cut: what one more item at the end of the row changes, and what joining the last run does.
+use Rattle.std.proofs.Common.{◌≡◌, ◌∙◌, ◌⊎◌, ◌++◌, ◌≤◌, ℕ, suc, nat_lt, true, false, List, [], ◌∷◌, length, map, refl, sym, ap, inl, inr, arith}
+use Rattle.std.specs.List.{AllByRecursion}
+use Rattle.std.proofs.lemmas.Bool.{cases_Bool, le-ltb, lt-ltb, ltb-false, or_parts}
+use Rattle.std.proofs.lemmas.List.{length_push}
+use Rattle.bolt_layout.specs.Cut.{cut_from, cut_of, join_last, joins}
+use Rattle.bolt_layout.specs.Limits.{last_length}
+
+-- the runs with one more item in the last
+abbrev pub push_last : {X : Type 0} → List (List X) → X → List (List X)
+push_last [] x = (x ∷ []) ∷ []
+push_last (run ∷ []) x = (run ++ x ∷ []) ∷ []
+push_last (run ∷ next ∷ runs) x = run ∷ push_last (next ∷ runs) x
+
+abbrev pub HasItem : {X : Type 0} → List X → Type 0
+HasItem run = 1 ≤ length run
+
+-- One more item joins the last run, or is a run of its own after one that has two.
+abbrev pub IsPushed : {X : Type 0} → List (List X) → X → List (List X) → Type 0
+IsPushed runs x more = (more ≡ push_last runs x) ⊎ ((more ≡ runs ++ (x ∷ []) ∷ []) × (2 ≤ last_length runs))
+
+-- A row that has begun has a run.
+pub some_runs : {X : Type 0} (page_size least : ℕ) (size : X → ℕ) (run items : List X) → 1 ≤ length (cut_from page_size least size run items)
+some_runs page_size least size run [] = omega arith
+some_runs page_size least size run (next ∷ items) = elim (cases_Bool (joins page_size least size run next)) [
+  | inl t ↦ rw t (some_runs page_size least size (run ++ next ∷ []) items)
+  | inr f ↦ rw f (omega arith)
+]
+
+-- A run that ends has as many items as it needs.
+pub ended_long : {X : Type 0} (page_size least : ℕ) (size : X → ℕ) (run : List X) (next : X) → joins page_size least size run next ≡ false → least ≤ length run
+ended_long page_size least size run next f = ltb-false (length run) least (or_parts (nat_lt (length run) least) _ f).0
+
+pub last_behind : {X : Type 0} (run : List X) (runs : List (List X)) → 1 ≤ length runs → last_length (run ∷ runs) ≡ last_length runs
+last_behind run [] some = absurd (omega arith)
+last_behind run (next ∷ runs) some = refl
+
+pushed_behind : {X : Type 0} (run : List X) (runs more : List (List X)) (x : X) → 1 ≤ length runs → IsPushed runs x more → IsPushed (run ∷ runs) x (run ∷ more)
+pushed_behind run [] more x some is = absurd (omega arith)
+pushed_behind {X = X} run (next ∷ runs) more x some (inl e) = inl (ap (λ (rs : List (List X)). run ∷ rs) e)
+pushed_behind {X = X} run (next ∷ runs) more x some (inr is) = inr (ap (λ (rs : List (List X)). run ∷ rs) is.0, is.1)
+
+pushed_from : {X : Type 0} (page_size : ℕ) (size : X → ℕ) (run items : List X) (x : X)
+    → IsPushed (cut_from page_size 2 size run items) x (cut_from page_size 2 size run (items ++ x ∷ []))
+pushed_from page_size size run [] x = elim (cases_Bool (joins page_size 2 size run x)) [
+  | inl t ↦ rw t (inl refl)
+  | inr f ↦ rw f (inr (refl, ended_long page_size 2 size run x f))
+]
+pushed_from page_size size run (next ∷ items) x = elim (cases_Bool (joins page_size 2 size run next)) [
+  | inl t ↦ rw t (pushed_from page_size size (run ++ next ∷ []) items x)
+  | inr f ↦ rw f (pushed_behind run (cut_from page_size 2 size (next ∷ []) items) _ x (some_runs page_size 2 size (next ∷ []) items) (pushed_from page_size size (next ∷ []) items x))
+]
+
+pub cut_pushed : {X : Type 0} (page_size : ℕ) (size : X → ℕ) (items : List X) (x : X) → 1 ≤ length items
+    → IsPushed (cut_of page_size 2 size items) x (cut_of page_size 2 size (items ++ x ∷ []))
+cut_pushed page_size size [] x some = absurd (omega arith)
+cut_pushed page_size size (first ∷ items) x some = pushed_from page_size size (first ∷ []) items x
+
+-- How many runs there are then, and how many items are in the last.
+pub push_counts : {X : Type 0} (runs : List (List X)) (x : X) → 1 ≤ length runs → (length (push_last runs x) ≡ length runs) × (last_length (push_last runs x) ≡ suc (last_length runs))
+push_counts [] x some = absurd (omega arith)
+push_counts (run ∷ []) x some = let l = length_push run x in (refl, omega arith)
+push_counts (run ∷ next ∷ runs) x some =
+    let ih = push_counts (next ∷ runs) x (omega arith) in
+    let l = last_behind run (push_last (next ∷ runs) x) (let n = ih.0 in omega arith) in
+    (ap suc ih.0, l ∙ ih.1)
+
+pub last_append : {X : Type 0} (runs : List (List X)) (run : List X) → last_length (runs ++ run ∷ []) ≡ length run
+last_append [] run = refl
+last_append (first ∷ []) run = refl
+last_append (first ∷ next ∷ runs) run = last_append (next ∷ runs) run
+
+pub last_some : {X : Type 0} (runs : List (List X)) → AllByRecursion HasItem runs → 1 ≤ length runs → 1 ≤ last_length runs
+last_some [] all some = absurd (omega arith)
+last_some (run ∷ []) all some = all.0
+last_some (run ∷ next ∷ runs) all some = last_some (next ∷ runs) all.1 (omega arith)
+
+-- Joining the last run leaves a cut as it is, if that run has two items or no run before it.
+pub join_none : {X : Type 0} (runs : List (List X)) → (2 ≤ last_length runs) ⊎ (length runs ≤ 1) → join_last runs ≡ runs
+join_none [] h = refl
+join_none (run ∷ []) h = refl
+join_none (run ∷ next ∷ []) (inl two) = let t : nat_lt (length next) 2 ≡ false = le-ltb (length next) 2 two in rw t refl
+join_none (run ∷ next ∷ []) (inr one) = absurd (omega arith)
+join_none {X = X} (run ∷ next ∷ more ∷ runs) (inl two) = ap (λ (rs : List (List X)). run ∷ rs) (join_none (next ∷ more ∷ runs) (inl two))
+join_none (run ∷ next ∷ more ∷ runs) (inr one) = absurd (omega arith)
+
+pub join_behind : {X : Type 0} (run : List X) (runs : List (List X)) → 2 ≤ length runs → join_last (run ∷ runs) ≡ run ∷ join_last runs
+join_behind run [] two = absurd (omega arith)
+join_behind run (next ∷ []) two = absurd (omega arith)
+join_behind run (next ∷ more ∷ runs) two = refl
+
+-- What is made of each run's front alone doesn't change when an item joins the last run,
+abbrev pub IsOfFront : {X Y : Type 0} → (List X → Y) → Type 0
+IsOfFront {X = X} top = (run more : List X) → HasItem run → top (run ++ more) ≡ top run
+
+pub push_tops : {X Y : Type 0} (top : List X → Y) → IsOfFront top → (runs : List (List X)) (x : X) → AllByRecursion HasItem runs → 1 ≤ length runs
+    → map top (push_last runs x) ≡ map top runs
+push_tops top front [] x all some = absurd (omega arith)
+push_tops {Y = Y} top front (run ∷ []) x all some = ap (λ (y : Y). y ∷ []) (front run (x ∷ []) all.0)
+push_tops {Y = Y} top front (run ∷ next ∷ runs) x all some = ap (λ (ys : List Y). top run ∷ ys) (push_tops top front (next ∷ runs) x all.1 (omega arith))
+
+-- and loses its last when the last run joins the one before.
+pub join_tops : {X Y : Type 0} (top : List X → Y) → IsOfFront top → (runs : List (List X)) → AllByRecursion HasItem runs → last_length runs ≡ 1 → 2 ≤ length runs
+    → (y : Y) × (map top runs ≡ map top (join_last runs) ++ y ∷ [])
+join_tops top front [] all one two = absurd (omega arith)
+join_tops top front (run ∷ []) all one two = absurd (omega arith)
+join_tops {Y = Y} top front (run ∷ next ∷ []) all one two =
+    let t : nat_lt (length next) 2 ≡ true = lt-ltb (length next) 2 (omega arith) in
+    (top next, rw t (ap (λ (y : Y). y ∷ top next ∷ []) (sym (front run next all.0))))
+join_tops {Y = Y} top front (run ∷ next ∷ more ∷ runs) all one two =
+    let (y, e) = join_tops top front (next ∷ more ∷ runs) all.1 one (omega arith) in
+    (y, ap (λ (ys : List Y). top run ∷ ys) e)

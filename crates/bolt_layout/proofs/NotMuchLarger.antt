@@ -1,0 +1,90 @@
+-- The plain layout of a tree takes at most 28 times the page numbers of the balanced one: both have the same leaves.
+use Rattle.std.proofs.Common.{◌≡◌, ◌∙◌, ℕ, ◌+◌, ◌*◌, ◌≤◌, List, [], ◌∷◌, length, map, refl, sym, ap, inl, inr, arith}
+use Rattle.std.specs.List.{AllByRecursion}
+use Rattle.std.proofs.lemmas.Bool.{cases_Bool}
+use Rattle.bolt_format.specs.Elements.{LeafElement}
+use Rattle.bolt_format.specs.Metas.{IsPageSize}
+use Rattle.bolt_tree.specs.Tree.{Tree, end, with_bucket, with_value}
+use Rattle.bolt_layout.specs.Cut.{cut_of, run_size}
+use Rattle.bolt_layout.specs.Items.{is_inline, items_of, root_of, stored_bucket}
+use Rattle.bolt_layout.specs.Laid.{Laid, numbers_of, size_of}
+use Rattle.bolt_layout.specs.Levels.{overflow_of, root_over}
+use Rattle.bolt_layout.specs.Storable.{HasLengths, IsStorable, RisesInside}
+use Rattle.bolt_layout.specs.declared.layout.Layout.TheVariants.{Plain, Balanced}
+use Rattle.bolt_layout.proofs.Faces.{Face, face, face_size, map_cut, sum_map}
+use Rattle.bolt_layout.proofs.HeldBounds.{level_numbers}
+use Rattle.bolt_layout.proofs.LaidItems.{IsItem}
+use Rattle.bolt_layout.proofs.ListLemmas.{all_weaker}
+use Rattle.bolt_layout.proofs.MetaLemmas.{largest_page, size_bounds}
+use Rattle.bolt_layout.proofs.OverRows.{HasShortKey}
+use Rattle.bolt_layout.proofs.PlainNumbers.{leaves_numbers, plain_most}
+use Rattle.bolt_layout.proofs.SameFaces.{inline_alike, items_alike}
+use Rattle.bolt_layout.proofs.TreeItems.{tree_items}
+use Rattle.bolt_layout.proofs.Weights.{HasKeyRoom, own_numbers}
+
+-- The sizes of the items decide what the leaves take themselves.
+faces_numbers : (page_size : ℕ) → List (List Face) → ℕ
+faces_numbers page_size [] = 0
+faces_numbers page_size (faces ∷ runs) = (1 + overflow_of page_size (run_size face_size faces)) + faces_numbers page_size runs
+
+own_by_faces : (page_size : ℕ) (runs : List (List (Laid LeafElement))) → own_numbers page_size runs ≡ faces_numbers page_size (map (map face) runs)
+unfolding faces_numbers
+own_by_faces page_size [] = refl
+own_by_faces page_size (run ∷ runs) =
+    let ih = own_by_faces page_size runs in
+    let sum = sum_map face face_size run in
+    let e = ap (λ (n : ℕ). overflow_of page_size (16 + n)) sum in omega arith
+
+own_alike : (page_size : ℕ) (plain balanced : List (Laid LeafElement)) → map face plain ≡ map face balanced
+    → own_numbers page_size (cut_of page_size 1 size_of plain) ≡ own_numbers page_size (cut_of page_size 1 size_of balanced)
+own_alike page_size plain balanced same =
+    own_by_faces page_size (cut_of page_size 1 size_of plain)
+    ∙ (ap (λ (runs : List (List Face)). faces_numbers page_size runs)
+    (map_cut face page_size 1 face_size plain
+    ∙ (ap (λ (faces : List Face). cut_of page_size 1 face_size faces) same ∙ sym (map_cut face page_size 1 face_size balanced)))
+    ∙ sym (own_by_faces page_size (cut_of page_size 1 size_of balanced)))
+
+-- So a bucket's root page takes not many more numbers in the plain layout, where its items don't,
+root_larger : (page_size : ℕ) (plain balanced : List (Laid LeafElement)) → 1024 ≤ page_size → AllByRecursion (IsItem page_size) plain → map face plain ≡ map face balanced
+    → numbers_of plain ≤ 28 * numbers_of balanced → (root_over Plain page_size plain).numbers ≤ 28 * (root_over Balanced page_size balanced).numbers
+unfolding root_over
+root_larger page_size [] [] low all same below = omega arith
+root_larger page_size [] (item ∷ balanced) low all same below = absurd (let e = ap (λ (faces : List Face). length faces) same in omega arith)
+root_larger page_size (item ∷ plain) balanced low all same below =
+    let items : List (Laid LeafElement) = item ∷ plain in
+    let rooms = all_weaker (IsItem page_size) HasKeyRoom (λ i is. let size = is.size 0 in omega arith) items all in
+    let short = all_weaker (IsItem page_size) HasShortKey (λ i is. is.short) items all in
+    let most = plain_most page_size items low rooms short (omega arith) in
+    let least = level_numbers Balanced page_size balanced in
+    let leaves = leaves_numbers page_size balanced in
+    let own = own_alike page_size items balanced same in omega arith
+
+-- and so for a bucket as it is stored,
+stored_larger : (page_size : ℕ) (key : List ℕ) (sequence : ℕ) (inside : Tree) (plain balanced : List (Laid LeafElement)) → is_inline page_size inside plain ≡ is_inline page_size inside balanced
+    → (root_over Plain page_size plain).numbers ≤ 28 * (root_over Balanced page_size balanced).numbers
+    → (stored_bucket Plain page_size key sequence inside plain).numbers ≤ 28 * (stored_bucket Balanced page_size key sequence inside balanced).numbers
+stored_larger page_size key sequence inside plain balanced inline larger = elim (cases_Bool (is_inline page_size inside balanced)) [
+  | inl t ↦ rw (inline, t) (omega arith)
+  | inr f ↦ rw (inline, f) larger
+]
+
+-- and for all buckets.
+items_larger : (page_size : ℕ) → 1024 ≤ page_size → page_size ≤ largest_page → (tree : Tree) → HasLengths tree → RisesInside tree
+    → numbers_of (items_of Plain page_size tree) ≤ 28 * numbers_of (items_of Balanced page_size tree)
+items_larger page_size low high end lengths rises = omega arith
+items_larger page_size low high (with_value key value after) lengths rises = let rest = items_larger page_size low high after lengths.2 rises in omega arith
+items_larger page_size low high (with_bucket key sequence inside after) lengths rises =
+    let plain = items_of Plain page_size inside in
+    let balanced = items_of Balanced page_size inside in
+    let all = tree_items Plain page_size (omega arith) high inside lengths.2 rises.1 in
+    let root = root_larger page_size plain balanced low all (items_alike page_size inside) (items_larger page_size low high inside lengths.2 rises.1) in
+    let stored = stored_larger page_size key sequence inside plain balanced (inline_alike page_size inside) root in
+    let rest = items_larger page_size low high after lengths.3 rises.2 in omega arith
+
+pub plain_not_much_larger : (page_size : ℕ) (tree : Tree) → IsPageSize page_size → IsStorable tree → (root_of Plain page_size tree).numbers ≤ 28 * (root_of Balanced page_size tree).numbers
+unfolding root_of
+plain_not_much_larger page_size tree size storable =
+    let bounds = size_bounds page_size size in
+    let all = tree_items Plain page_size (omega arith) (omega arith) tree storable.lengths storable.rising_inside in
+    let items = items_larger page_size (omega arith) (omega arith) tree storable.lengths storable.rising_inside in
+    root_larger page_size (items_of Plain page_size tree) (items_of Balanced page_size tree) (omega arith) all (items_alike page_size tree) items

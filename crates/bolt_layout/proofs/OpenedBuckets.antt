@@ -1,0 +1,65 @@
+-- How many buckets a pass opens: as many in both layouts, and no more than there are page numbers.
+use Rattle.std.proofs.Common.{◌≡◌, ◌≤◌, ℕ, suc, List, [], ◌∷◌, length, refl, inl, inr, arith}
+use Rattle.std.proofs.lemmas.Bool.{cases_Bool}
+use Rattle.bolt_format.specs.Elements.{LeafElement}
+use Rattle.bolt_tree.specs.Tree.{Tree, end, with_bucket, with_value}
+use Rattle.bolt_layout.specs.Cut.{cut_of}
+use Rattle.bolt_layout.specs.Items.{is_inline, items_of, root_of, stored_bucket}
+use Rattle.bolt_layout.specs.Laid.{Laid, numbers_of, size_of}
+use Rattle.bolt_layout.specs.Levels.{root_over}
+use Rattle.bolt_layout.specs.Openings.{opened_by, opened_in}
+use Rattle.bolt_layout.specs.declared.layout.Layout.{Layout}
+use Rattle.bolt_layout.specs.declared.layout.Layout.TheVariants.{Plain, Balanced}
+use Rattle.bolt_layout.proofs.HeldBounds.{level_numbers}
+use Rattle.bolt_layout.proofs.LastItem.{some_runs}
+use Rattle.bolt_layout.proofs.PlainNumbers.{leaves_numbers}
+use Rattle.bolt_layout.proofs.SameFaces.{inline_alike}
+use Rattle.bolt_layout.proofs.Weights.{own_numbers}
+
+-- The same buckets have a root page.
+one_same : (page_size : ℕ) (inside : Tree) → opened_in Plain page_size inside ≡ opened_in Balanced page_size inside → opened_by Plain page_size inside ≡ opened_by Balanced page_size inside
+one_same page_size inside same = let inline = inline_alike page_size inside in rw (inline, same) refl
+
+pub opened_same : (page_size : ℕ) (tree : Tree) → opened_in Plain page_size tree ≡ opened_in Balanced page_size tree
+opened_same page_size end = refl
+opened_same page_size (with_value key value after) = opened_same page_size after
+opened_same page_size (with_bucket key sequence inside after) =
+    let one = one_same page_size inside (opened_same page_size inside) in
+    let rest = opened_same page_size after in omega arith
+
+pub opened_by_same : (page_size : ℕ) (inside : Tree) → opened_by Plain page_size inside ≡ opened_by Balanced page_size inside
+opened_by_same page_size inside = one_same page_size inside (opened_same page_size inside)
+
+-- A root page has a number beside those below the items.
+own_some : {E : Type 0} (page_size : ℕ) (runs : List (List (Laid E))) → 1 ≤ length runs → 1 ≤ own_numbers page_size runs
+own_some page_size [] some = absurd (omega arith)
+own_some page_size (run ∷ runs) some = omega arith
+
+root_some : (which : Layout) (page_size : ℕ) (items : List (Laid LeafElement)) → suc (numbers_of items) ≤ (root_over which page_size items).numbers
+unfolding root_over
+root_some which page_size [] = omega arith
+root_some which page_size (item ∷ items) =
+    let all : List (Laid LeafElement) = item ∷ items in
+    let numbers = leaves_numbers page_size all in
+    let some = own_some page_size (cut_of page_size 1 size_of all) (some_runs page_size 1 size_of (item ∷ []) items) in
+    let level = level_numbers which page_size all in omega arith
+
+stored_few : (which : Layout) (page_size : ℕ) (key : List ℕ) (sequence : ℕ) (inside : Tree) → opened_in which page_size inside ≤ numbers_of (items_of which page_size inside)
+    → opened_by which page_size inside ≤ (stored_bucket which page_size key sequence inside (items_of which page_size inside)).numbers
+stored_few which page_size key sequence inside few = elim (cases_Bool (is_inline page_size inside (items_of which page_size inside))) [
+  | inl t ↦ rw t (omega arith)
+  | inr f ↦ let root = root_some which page_size (items_of which page_size inside) in rw f (omega arith)
+]
+
+items_few : (which : Layout) (page_size : ℕ) (tree : Tree) → opened_in which page_size tree ≤ numbers_of (items_of which page_size tree)
+items_few which page_size end = omega arith
+items_few which page_size (with_value key value after) = let rest = items_few which page_size after in omega arith
+items_few which page_size (with_bucket key sequence inside after) =
+    let one = stored_few which page_size key sequence inside (items_few which page_size inside) in
+    let rest = items_few which page_size after in omega arith
+
+pub opened_few : (page_size : ℕ) (which : Layout) (tree : Tree) → opened_in which page_size tree ≤ (root_of which page_size tree).numbers
+unfolding root_of
+opened_few page_size which tree =
+    let few = items_few which page_size tree in
+    let root = root_some which page_size (items_of which page_size tree) in omega arith

@@ -1,0 +1,23 @@
+-- The plain layout needs no limits in any of its buckets.
+use Rattle.std.proofs.Common.{◌≡◌, ◌+◌, ℕ, suc, List, Option, None}
+use Rattle.bolt_format.specs.Elements.{BranchElement}
+use Rattle.bolt_tree.specs.Tree.{Tree, end, with_bucket, with_value}
+use Rattle.bolt_layout.specs.Items.{items_of}
+use Rattle.bolt_layout.specs.Laid.{Laid}
+use Rattle.bolt_layout.specs.Limits.{HaveRightLimits}
+use Rattle.bolt_layout.specs.Openings.{AreRight, leaf_pages, opened_by}
+use Rattle.bolt_layout.specs.declared.layout.Layout.TheVariants.{Plain}
+use Rattle.bolt_layout.proofs.RightLimits.{plain_limits}
+
+pub plain_rows : (page_size : ℕ) (limits : ℕ → ℕ → Option ℕ) → ((bucket level : ℕ) → limits bucket level ≡ None) → (bucket : ℕ) (pages : List (Laid BranchElement))
+    → HaveRightLimits Plain page_size (limits bucket) pages
+plain_rows page_size limits none bucket pages k = rw (none bucket k) (plain_limits page_size pages k)
+
+pub plain_right : (page_size : ℕ) (limits : ℕ → ℕ → Option ℕ) → ((bucket level : ℕ) → limits bucket level ≡ None) → (n : ℕ) (tree : Tree)
+    → AreRight Plain page_size limits n tree
+plain_right page_size limits none n end = tt
+plain_right page_size limits none n (with_value key value after) = plain_right page_size limits none n after
+plain_right page_size limits none n (with_bucket key sequence inside after) = (
+  λ own. (plain_rows page_size limits none n (leaf_pages page_size (items_of Plain page_size inside)), plain_right page_size limits none (suc n) inside),
+  plain_right page_size limits none (n + opened_by Plain page_size inside) after,
+)

@@ -1,0 +1,223 @@
+-- The limits that follow from what is told of the plain rows are those of the balanced ones. For this the keys and sizes of the pages are
+-- compared, row by row.
+use Rattle.std.proofs.Common.{◌≡◌, ◌≢◌, ◌∙◌, ◌⊎◌, ◌++◌, ◌+◌, ◌-◌, ◌≤◌, ◌==◌, ◌&&◌, ℕ, zero, suc, nat_lt, Bool, true, false, List, [], ◌∷◌, length, map, Option, Some, None, refl, sym, ap, subst, inl, inr, arith}
+use Rattle.std.specs.List.{AllByRecursion}
+use Rattle.std.proofs.lemmas.Bool.{and_cases, and_parts, cases_Bool, eq-eqb, eqb-false, eqb-true, ltb-false, ltb-true, ne_eqb}
+use Rattle.std.proofs.lemmas.List.{length-map, length_push, map-append}
+use Rattle.bolt_format.specs.Elements.{BranchElement}
+use Rattle.bolt_layout.specs.Cut.{branch_cut, cut_of, join_last}
+use Rattle.bolt_layout.specs.Divisions.{IsPageRun}
+use Rattle.bolt_layout.specs.Laid.{Laid, size_of}
+use Rattle.bolt_layout.specs.Levels.{next_level}
+use Rattle.bolt_layout.specs.Limits.{AreTold, HaveRightLimits, cut_row, last_length, level_up, limit_at, limits_told}
+use Rattle.bolt_layout.specs.declared.layout.Layout.TheVariants.{Plain, Balanced}
+use Rattle.bolt_layout.proofs.Cutting.{cut_divides}
+use Rattle.bolt_layout.proofs.Faces.{Face, face, face_size, map_cut, map_last, next_faces, top_face}
+use Rattle.bolt_layout.proofs.LastItem.{HasItem, IsPushed, cut_pushed, join_none, join_tops, last_append, last_some, push_counts, push_last, push_tops, some_runs}
+use Rattle.bolt_layout.proofs.ListLemmas.{all_weaker}
+use Rattle.bolt_layout.proofs.LimitedRows.{IsLimit, row_free, row_limited}
+
+-- A row of the balanced layout is that of the plain one, or lacks its last page.
+abbrev Lost : Bool → (plain balanced : List Face) → Type 0
+Lost false plain balanced = plain ≡ balanced
+Lost true plain balanced = (last : Face) × (plain ≡ balanced ++ last ∷ [])
+
+-- What is told of a plain row gives the limit of the balanced one, which is cut into these runs when nothing is joined, and says whether
+-- the row above lacks its last page.
+record IsRow (lost : Bool) (row : ℕ × ℕ) (runs : List (List Face)) (above : List Face) : Type 0 where
+  limit : Option ℕ
+  next : Bool
+  told : (rows : List (ℕ × ℕ)) → limits_told lost (row ∷ rows) ≡ limit ∷ limits_told next rows
+  right : IsLimit (length runs) (last_length runs) limit
+  above_lost : Lost next above (map top_face (join_last runs))
+
+top_front : (run more : List Face) → HasItem run → top_face (run ++ more) ≡ top_face run
+top_front [] more some = absurd (omega arith)
+top_front (f ∷ run) more some = refl
+
+-- where the last run joins the one before it
+joined_row : (lost : Bool) (row : ℕ × ℕ) (runs : List (List Face)) (above : List Face)
+    → ((rows : List (ℕ × ℕ)) → limits_told lost (row ∷ rows) ≡ Some (row.0 - 2) ∷ limits_told true rows) → AllByRecursion HasItem runs
+    → row.0 ≡ length runs → last_length runs ≡ 1 → 2 ≤ length runs → above ≡ map top_face runs → IsRow lost row runs above
+joined_row lost row runs above told all r one two same =
+    let (last, tops) = join_tops top_face top_front runs all one two in
+    record {
+      limit = Some (row.0 - 2);
+      next = true;
+      told = told;
+      right = inr (ap (λ (n : ℕ). Some (n - 2)) r, one, two);
+      above_lost = (last, same ∙ tops);
+    }
+
+-- and where no run does
+kept_row : (lost : Bool) (row : ℕ × ℕ) (runs : List (List Face)) (above : List Face)
+    → ((rows : List (ℕ × ℕ)) → limits_told lost (row ∷ rows) ≡ None ∷ limits_told false rows) → (2 ≤ last_length runs) ⊎ (length runs ≤ 1)
+    → above ≡ map top_face runs → IsRow lost row runs above
+kept_row lost row runs above told long same = record {
+  limit = None;
+  next = false;
+  told = told;
+  right = inl (refl, long);
+  above_lost = same ∙ ap (λ (rs : List (List Face)). map top_face rs) (sym (join_none runs long));
+}
+
+-- Where no page is lost, what is told is of this row.
+whole_row : (row : ℕ × ℕ) (runs : List (List Face)) → AllByRecursion HasItem runs → 1 ≤ length runs → row.0 ≡ length runs → row.1 ≡ last_length runs
+    → IsRow false row runs (map top_face runs)
+whole_row row runs all some r m = elim (cases_Bool (row.1 == 1 && nat_lt 1 row.0)) [
+  | inl t ↦
+      (let tests = and_parts (row.1 == 1) (nat_lt 1 row.0) t in
+      let one = eqb-true row.1 1 tests.0 in
+      let two = ltb-true 1 row.0 tests.1 in
+      joined_row false row runs (map top_face runs) (λ rows. rw t refl) all r (omega arith) (omega arith) refl)
+  | inr f ↦
+      (let any = last_some runs all some in
+      let long : (2 ≤ last_length runs) ⊎ (length runs ≤ 1) = elim (and_cases (row.1 == 1) (nat_lt 1 row.0) f) [
+        | inl u ↦ inl (let other : row.1 ≢ 1 = eqb-false row.1 1 u in omega arith)
+        | inr u ↦ inr (let few = ltb-false 1 row.0 u in omega arith)
+      ] in
+      kept_row false row runs (map top_face runs) (λ rows. rw f refl) long refl)
+]
+
+-- Where one is lost, what is told is of a row with one page more: this joins the last run,
+pushed_row : (row : ℕ × ℕ) (runs more : List (List Face)) (last : Face) → AllByRecursion HasItem runs → 1 ≤ length runs → more ≡ push_last runs last
+    → row.0 ≡ length more → row.1 ≡ last_length more → IsRow true row runs (map top_face more)
+pushed_row row runs more last all some e r m =
+    let counts = push_counts runs last some in
+    let any = last_some runs all some in
+    let r2 : row.0 ≡ length runs = r ∙ (ap (λ (rs : List (List Face)). length rs) e ∙ counts.0) in
+    let m2 : row.1 ≡ suc (last_length runs) = m ∙ (ap (λ (rs : List (List Face)). last_length rs) e ∙ counts.1) in
+    let same : map top_face more ≡ map top_face runs = ap (λ (rs : List (List Face)). map top_face rs) e ∙ push_tops top_face top_front runs last all some in
+    let u : (row.1 == 1) ≡ false = ne_eqb row.1 1 (λ one. omega arith) in
+    elim (cases_Bool (row.1 == 2 && nat_lt 1 row.0)) [
+      | inl t ↦
+          (let tests = and_parts (row.1 == 2) (nat_lt 1 row.0) t in
+          let two = eqb-true row.1 2 tests.0 in
+          let many = ltb-true 1 row.0 tests.1 in
+          joined_row true row runs (map top_face more) (λ rows. rw (u, t) refl) all r2 (omega arith) (omega arith) same)
+      | inr f ↦
+          (let long : (2 ≤ last_length runs) ⊎ (length runs ≤ 1) = elim (and_cases (row.1 == 2) (nat_lt 1 row.0) f) [
+            | inl v ↦ inl (let other : row.1 ≢ 2 = eqb-false row.1 2 v in omega arith)
+            | inr v ↦ inr (let few = ltb-false 1 row.0 v in omega arith)
+          ] in
+          kept_row true row runs (map top_face more) (λ rows. rw (u, f) refl) long same)
+    ]
+
+-- or is a run of its own.
+alone_row : (row : ℕ × ℕ) (runs more : List (List Face)) (last : Face) → more ≡ runs ++ (last ∷ []) ∷ [] → 2 ≤ last_length runs
+    → row.1 ≡ last_length more → IsRow true row runs (map top_face more)
+alone_row row runs more last e two m =
+    let one : row.1 ≡ 1 = m ∙ (ap (λ (rs : List (List Face)). last_length rs) e ∙ last_append runs (last ∷ [])) in
+    let t : (row.1 == 1) ≡ true = eq-eqb row.1 1 one in
+    record {
+      limit = None;
+      next = true;
+      told = λ rows. rw t refl;
+      right = inl (refl, inl two);
+      above_lost = (
+        top_face (last ∷ []),
+        ap (λ (rs : List (List Face)). map top_face rs) e
+            ∙ (map-append top_face runs ((last ∷ []) ∷ [])
+            ∙ ap (λ (rs : List (List Face)). map top_face rs ++ top_face (last ∷ []) ∷ []) (sym (join_none runs (inl two)))),
+      );
+    }
+
+lost_row : (row : ℕ × ℕ) (runs more : List (List Face)) (last : Face) → AllByRecursion HasItem runs → 1 ≤ length runs → IsPushed runs last more
+    → row.0 ≡ length more → row.1 ≡ last_length more → IsRow true row runs (map top_face more)
+lost_row row runs more last all some (inl e) r m = pushed_row row runs more last all some e r m
+lost_row row runs more last all some (inr e) r m = alone_row row runs more last e.0 e.1 m
+
+-- Either way, by the cut of the plain row.
+cut_items : (page_size : ℕ) (faces : List Face) → AllByRecursion HasItem (cut_of page_size 2 face_size faces)
+cut_items page_size faces =
+    let divided = cut_divides page_size 2 2 0 face_size faces (omega arith) (omega arith) (omega arith) in
+    all_weaker (IsPageRun page_size 2 0 face_size) HasItem (λ run is. is.some) (cut_of page_size 2 face_size faces) divided.each
+
+cut_some : (page_size : ℕ) (faces : List Face) → 1 ≤ length faces → 1 ≤ length (cut_of page_size 2 face_size faces)
+cut_some page_size [] some = absurd (omega arith)
+cut_some page_size (f ∷ faces) some = some_runs page_size 2 face_size (f ∷ []) faces
+
+told_row : (page_size : ℕ) (lost : Bool) (row : ℕ × ℕ) (plain balanced : List Face) → Lost lost plain balanced → 2 ≤ length plain
+    → row.0 ≡ length (cut_of page_size 2 face_size plain) → row.1 ≡ last_length (cut_of page_size 2 face_size plain)
+    → IsRow lost row (cut_of page_size 2 face_size balanced) (map top_face (cut_of page_size 2 face_size plain))
+told_row page_size false row plain balanced same two r m =
+    let runs = cut_of page_size 2 face_size plain in
+    subst (λ (fs : List Face). IsRow false row (cut_of page_size 2 face_size fs) (map top_face runs)) same
+    (whole_row row runs (cut_items page_size plain) (cut_some page_size plain (omega arith)) r m)
+told_row page_size true row plain balanced (last, e) two r m =
+    let long : length plain ≡ length balanced + 1 = ap (λ (fs : List Face). length fs) e ∙ length_push balanced last in
+    let runs = cut_of page_size 2 face_size balanced in
+    let pushed = cut_pushed page_size face_size balanced last (omega arith) in
+    lost_row row runs (cut_of page_size 2 face_size plain) last (cut_items page_size balanced) (cut_some page_size balanced (omega arith))
+    (subst (λ (fs : List Face). IsPushed runs last (cut_of page_size 2 face_size fs)) (sym e) pushed) r m
+
+-- A row of one page, and the rows above it, are cut alike.
+next_short : (page_size : ℕ) (pages : List (Laid BranchElement)) → length pages ≤ 1 → length (next_level Balanced page_size pages) ≤ 1
+next_short page_size [] few = omega arith
+next_short page_size (page ∷ []) few = omega arith
+next_short page_size (page ∷ other ∷ pages) few = absurd (omega arith)
+
+short_row : (page_size : ℕ) (pages : List (Laid BranchElement)) → length pages ≤ 1 → cut_row page_size size_of None pages ≡ branch_cut Balanced page_size size_of pages
+short_row page_size [] few = refl
+short_row page_size (page ∷ []) few = refl
+short_row page_size (page ∷ other ∷ pages) few = absurd (omega arith)
+
+short_rows : (page_size k : ℕ) (pages : List (Laid BranchElement)) → length pages ≤ 1
+    → cut_row page_size size_of None (level_up Balanced page_size k pages) ≡ branch_cut Balanced page_size size_of (level_up Balanced page_size k pages)
+short_rows page_size zero pages few = short_row page_size pages few
+short_rows page_size (suc k) pages few = short_rows page_size k (next_level Balanced page_size pages) (next_short page_size pages few)
+
+-- The lengths of a cut are those of the cut of the keys and sizes.
+face_cut : (page_size : ℕ) (pages : List (Laid BranchElement))
+    → (length (cut_of page_size 2 size_of pages) ≡ length (cut_of page_size 2 face_size (map face pages)))
+    × (last_length (cut_of page_size 2 size_of pages) ≡ last_length (cut_of page_size 2 face_size (map face pages)))
+face_cut page_size pages =
+    let runs = cut_of page_size 2 size_of pages in
+    let same = map_cut face page_size 2 face_size pages in (
+      sym (length-map runs (map face)) ∙ ap (λ (rs : List (List Face)). length rs) same,
+      sym (map_last face runs) ∙ ap (λ (rs : List (List Face)). last_length rs) same,
+    )
+
+lost_short : (lost : Bool) (plain balanced : List Face) → Lost lost plain balanced → length plain ≤ 1 → length balanced ≤ 1
+lost_short false plain balanced same few = let e = ap (λ (fs : List Face). length fs) same in omega arith
+lost_short true plain balanced (last, same) few = let e = ap (λ (fs : List Face). length fs) same ∙ length_push balanced last in omega arith
+
+rows_at : (page_size : ℕ) (limits : List (Option ℕ)) (limit : Option ℕ) (pages : List (Laid BranchElement))
+    → cut_row page_size size_of limit pages ≡ branch_cut Balanced page_size size_of pages
+    → HaveRightLimits Balanced page_size (limit_at limits) (next_level Balanced page_size pages) → HaveRightLimits Balanced page_size (limit_at (limit ∷ limits)) pages
+rows_at page_size limits limit pages first above zero = first
+rows_at page_size limits limit pages first above (suc k) = above k
+
+rows_limited : (page_size : ℕ) (rows : List (ℕ × ℕ)) (lost : Bool) (plain balanced : List (Laid BranchElement)) → AreTold page_size plain rows
+    → Lost lost (map face plain) (map face balanced) → HaveRightLimits Balanced page_size (limit_at (limits_told lost rows)) balanced
+rows_limited page_size [] lost plain balanced few lacks k =
+    let a = length-map plain face in
+    let b = length-map balanced face in
+    let short = lost_short lost (map face plain) (map face balanced) lacks (omega arith) in
+    short_rows page_size k balanced (omega arith)
+rows_limited page_size (row ∷ rows) lost plain balanced (two, r, m, told) lacks k =
+    let a = length-map plain face in
+    let of_plain = face_cut page_size plain in
+    let of_balanced = face_cut page_size balanced in
+    let is = told_row page_size lost row (map face plain) (map face balanced) lacks (omega arith) (r ∙ of_plain.0) (m ∙ of_plain.1) in
+    let above : Lost is.next (map face (next_level Plain page_size plain)) (map face (next_level Balanced page_size balanced)) =
+    subst (λ (fs : List Face). Lost is.next fs (map face (next_level Balanced page_size balanced))) (sym (next_faces Plain page_size plain))
+    (subst (λ (fs : List Face). Lost is.next (map top_face (cut_of page_size 2 face_size (map face plain))) fs) (sym (next_faces Balanced page_size balanced)) is.above_lost) in
+    let right : IsLimit (length (cut_of page_size 2 size_of balanced)) (last_length (cut_of page_size 2 size_of balanced)) is.limit =
+    rw (of_balanced.0, of_balanced.1) is.right in
+    rw (is.told rows) (rows_at page_size (limits_told is.next rows) is.limit balanced (row_limited page_size size_of is.limit balanced right)
+    (rows_limited page_size rows is.next (next_level Plain page_size plain) (next_level Balanced page_size balanced) told above) k)
+
+-- They are right for each row of pages with the same keys and sizes,
+pub limits_alike : (page_size : ℕ) (plain balanced : List (Laid BranchElement)) (rows : List (ℕ × ℕ)) → AreTold page_size plain rows → map face plain ≡ map face balanced
+    → HaveRightLimits Balanced page_size (limit_at (limits_told false rows)) balanced
+limits_alike page_size plain balanced rows told same = rows_limited page_size rows false plain balanced told same
+
+-- so for the row itself.
+pub right_limits : (page_size : ℕ) (pages : List (Laid BranchElement)) (rows : List (ℕ × ℕ)) → AreTold page_size pages rows
+    → HaveRightLimits Balanced page_size (limit_at (limits_told false rows)) pages
+right_limits page_size pages rows told = limits_alike page_size pages pages rows told refl
+
+-- The plain rows need no limit.
+pub plain_limits : (page_size : ℕ) (pages : List (Laid BranchElement)) → HaveRightLimits Plain page_size (λ k. None) pages
+plain_limits page_size pages k = row_free page_size size_of (level_up Plain page_size k pages)

@@ -1,0 +1,77 @@
+-- The limits of a tree are those that the plain layout tells of each of its buckets.
+use Rattle.std.proofs.Common.{◌≡◌, ◌∙◌, ◌+◌, ◌<◌, ◌≤◌, ◌==◌, ℕ, zero, suc, nat_lt, true, false, List, Option, refl, subst, inl, inr, arith}
+use Rattle.std.proofs.lemmas.Bool.{cases_Bool, eq-eqb, lt-ltb, le-ltb, ne_eqb}
+use Rattle.bolt_tree.specs.Tree.{Tree, end, with_bucket, with_value}
+use Rattle.bolt_layout.specs.Items.{is_inline, items_of}
+use Rattle.bolt_layout.specs.Limits.{limit_at, limits_told}
+use Rattle.bolt_layout.specs.Openings.{AreTellings, leaf_pages, limits_below, limits_for, opened_in, told_of}
+use Rattle.bolt_layout.specs.declared.layout.Layout.TheVariants.{Plain}
+
+-- These limits are those below, for the buckets of a tree.
+abbrev AreBelow : (page_size : ℕ) → (limits : ℕ → ℕ → Option ℕ) → (n : ℕ) → Tree → Type 0
+AreBelow page_size limits n tree = (bucket level : ℕ) → n ≤ bucket → bucket < n + opened_in Plain page_size tree
+    → limits bucket level ≡ limits_below page_size n tree bucket level
+
+behind_inline : (page_size n : ℕ) (key : List ℕ) (sequence : ℕ) (inside after : Tree) → is_inline page_size inside (items_of Plain page_size inside) ≡ true → (bucket level : ℕ)
+    → limits_below page_size n (with_bucket key sequence inside after) bucket level ≡ limits_below page_size n after bucket level
+behind_inline page_size n key sequence inside after inline bucket level = rw inline refl
+
+-- of a bucket with a root page, of what is inside, and of what is behind
+own_below : (page_size n : ℕ) (key : List ℕ) (sequence : ℕ) (inside after : Tree) → is_inline page_size inside (items_of Plain page_size inside) ≡ false → (level : ℕ)
+    → limits_below page_size n (with_bucket key sequence inside after) n level ≡ limit_at (limits_told false (told_of page_size (leaf_pages page_size (items_of Plain page_size inside)))) level
+own_below page_size n key sequence inside after own level = let e : (n == n) ≡ true = eq-eqb n n refl in rw (own, e) refl
+
+inside_below : (page_size n : ℕ) (key : List ℕ) (sequence : ℕ) (inside after : Tree) → is_inline page_size inside (items_of Plain page_size inside) ≡ false
+    → (bucket level : ℕ) → suc n ≤ bucket → bucket < suc n + opened_in Plain page_size inside
+    → limits_below page_size n (with_bucket key sequence inside after) bucket level ≡ limits_below page_size (suc n) inside bucket level
+inside_below page_size n key sequence inside after own bucket level some few =
+    let e : (bucket == n) ≡ false = ne_eqb bucket n (λ same. (omega arith)) in
+    let l : nat_lt bucket (suc n + opened_in Plain page_size inside) ≡ true = lt-ltb bucket (suc n + opened_in Plain page_size inside) few in
+    rw (own, e, l) refl
+
+after_below : (page_size n : ℕ) (key : List ℕ) (sequence : ℕ) (inside after : Tree) → is_inline page_size inside (items_of Plain page_size inside) ≡ false
+    → (bucket level : ℕ) → suc n + opened_in Plain page_size inside ≤ bucket
+    → limits_below page_size n (with_bucket key sequence inside after) bucket level ≡ limits_below page_size (suc n + opened_in Plain page_size inside) after bucket level
+after_below page_size n key sequence inside after own bucket level some =
+    let e : (bucket == n) ≡ false = ne_eqb bucket n (λ same. (omega arith)) in
+    let l : nat_lt bucket (suc n + opened_in Plain page_size inside) ≡ false = le-ltb bucket (suc n + opened_in Plain page_size inside) some in
+    rw (own, e, l) refl
+
+below_tellings : (page_size : ℕ) (limits : ℕ → ℕ → Option ℕ) (n : ℕ) (tree : Tree) → AreBelow page_size limits n tree → AreTellings page_size limits n tree
+below_tellings page_size limits n end are = tt
+below_tellings page_size limits n (with_value key value after) are = below_tellings page_size limits n after are
+below_tellings page_size limits n (with_bucket key sequence inside after) are = elim (cases_Bool (is_inline page_size inside (items_of Plain page_size inside))) [
+  | inl t ↦
+      (let none : opened_in Plain page_size (with_bucket key sequence inside after) ≡ 0 + opened_in Plain page_size after = rw t refl in
+      let behind : AreBelow page_size limits n after =
+      λ bucket level some few. are bucket level some (omega arith) ∙ behind_inline page_size n key sequence inside after t bucket level in
+      let same : n ≡ n + 0 = omega arith in
+      let last : AreTellings page_size limits (n + 0) after =
+      subst (λ (m : ℕ). AreTellings page_size limits m after) same (below_tellings page_size limits n after behind) in
+      rw t (λ own. absurd cc, last))
+  | inr f ↦
+      (let many : opened_in Plain page_size (with_bucket key sequence inside after) ≡ suc (opened_in Plain page_size inside) + opened_in Plain page_size after = rw f refl in
+      let level_own : (level : ℕ) → limits n level ≡ limits_below page_size n (with_bucket key sequence inside after) n level = λ level. are n level (omega arith) (omega arith) in
+      let within : AreBelow page_size limits (suc n) inside =
+      λ bucket level some few. are bucket level (omega arith) (omega arith) ∙ inside_below page_size n key sequence inside after f bucket level some few in
+      let behind : AreBelow page_size limits (suc n + opened_in Plain page_size inside) after =
+      λ bucket level some few. are bucket level (omega arith) (omega arith) ∙ after_below page_size n key sequence inside after f bucket level some in
+      let place : suc n + opened_in Plain page_size inside ≡ n + suc (opened_in Plain page_size inside) = omega arith in
+      let last : AreTellings page_size limits (n + suc (opened_in Plain page_size inside)) after =
+      subst (λ (m : ℕ). AreTellings page_size limits m after) place (below_tellings page_size limits (suc n + opened_in Plain page_size inside) after behind) in
+      let own_are : (level : ℕ) → limits n level ≡ limit_at (limits_told false (told_of page_size (leaf_pages page_size (items_of Plain page_size inside)))) level =
+      λ level. level_own level ∙ own_below page_size n key sequence inside after f level in
+      rw f (λ own. (own_are, below_tellings page_size limits (suc n) inside within), last))
+]
+
+later_bucket : (page_size : ℕ) (tree : Tree) (bucket level : ℕ) → 1 ≤ bucket → limits_for page_size tree bucket level ≡ limits_below page_size 1 tree bucket level
+later_bucket page_size tree zero level some = absurd (omega arith)
+later_bucket page_size tree (suc bucket) level some = refl
+
+pub tellings_are : (page_size : ℕ) (tree : Tree) → AreTellings page_size (limits_for page_size tree) 1 tree
+tellings_are page_size tree = below_tellings page_size (limits_for page_size tree) 1 tree (λ bucket level some few. later_bucket page_size tree bucket level some)
+
+-- The root bucket is number 0.
+pub root_tellings : (page_size : ℕ) (tree : Tree) (level : ℕ)
+    → limits_for page_size tree 0 level ≡ limit_at (limits_told false (told_of page_size (leaf_pages page_size (items_of Plain page_size tree)))) level
+root_tellings page_size tree level = refl

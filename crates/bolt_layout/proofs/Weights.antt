@@ -1,0 +1,132 @@
+-- How many page numbers a row of pages takes: its overflow, by the weights of what stands on it.
+use Rattle.std.proofs.Common.{◌≡◌, ℕ, ◌+◌, ◌*◌, ◌-◌, ◌/◌, ◌<◌, ◌≤◌, List, [], ◌∷◌, ◌++◌, length, map, flat_map, sum_by, refl, ap, arith}
+use Rattle.std.specs.List.{AllByRecursion}
+use Rattle.std.proofs.Math.Nat.{add-mul, div-add-mod', div-lt_iff_lt-mul, div-mul-le_self, mod-lt, mul-suc}
+use Rattle.std.proofs.lemmas.Nat.{le-div}
+use Rattle.std.proofs.lemmas.List.Sums.{sum_by-cons}
+use Rattle.bolt_format.specs.Pages.{PageView}
+use Rattle.bolt_layout.specs.Laid.{Laid, numbers_of, size_of}
+use Rattle.bolt_layout.specs.Levels.{overflow_of, page_over, run_overflow}
+use Rattle.bolt_layout.proofs.LastItem.{HasItem}
+use Rattle.bolt_layout.proofs.ListLemmas.{all_split}
+use Rattle.bolt_layout.proofs.OverRows.{numbers-append}
+
+div_rises : (a b k : ℕ) → 0 < k → a ≤ b → a / k ≤ b / k
+div_rises a b k some h = let l = div-mul-le_self a k in le-div (a / k) b k some (omega arith)
+
+div_sum : (a b k : ℕ) → 0 < k → (a + b) / k ≤ a / k + (1 + b / k)
+div_sum a b k some =
+    let q : ℕ = a / k in
+    let r : ℕ = b / k in
+    let x = div-add-mod' a k in
+    let y = div-add-mod' b k in
+    let s = mod-lt a some in
+    let t = mod-lt b some in
+    let e = add-mul q r k in
+    let f = add-mul (q + r) 2 k in
+    let below : (a + b) / k < (q + r) + 2 = (div-lt_iff_lt-mul {k = k} {x = a + b} {y = (q + r) + 2} some).1 (omega arith) in omega arith
+
+-- an item weighs a page, and as many as its size fills
+abbrev pub weight : {E : Type 0} → (page_size : ℕ) → Laid E → ℕ
+weight page_size item = 1 + item.size / page_size
+
+abbrev pub weights : {E : Type 0} → (page_size : ℕ) → List (Laid E) → ℕ
+weights page_size [] = 0
+weights page_size (item ∷ items) = weight page_size item + weights page_size items
+
+weights-append : {E : Type 0} (page_size : ℕ) (xs ys : List (Laid E)) → weights page_size (xs ++ ys) ≡ weights page_size xs + weights page_size ys
+weights-append page_size [] ys = omega arith
+weights-append page_size (x ∷ xs) ys = let ih = weights-append page_size xs ys in omega arith
+
+-- The numbers that the pages over these runs take themselves.
+abbrev pub own_numbers : {E : Type 0} → (page_size : ℕ) → List (List (Laid E)) → ℕ
+own_numbers page_size [] = 0
+own_numbers page_size (run ∷ runs) = (1 + run_overflow page_size run) + own_numbers page_size runs
+
+pub level_numbers_are : {E : Type 0} (view : ℕ → List E → PageView) (page_size : ℕ) (runs : List (List (Laid E)))
+    → numbers_of (map (page_over view page_size) runs) ≡ numbers_of (flat_map (λ run. run) runs) + own_numbers page_size runs
+level_numbers_are view page_size [] = refl
+level_numbers_are view page_size (run ∷ runs) =
+    let ih = level_numbers_are view page_size runs in
+    let l = numbers-append run (flat_map (λ run. run) runs) in omega arith
+
+-- A page's overflow is at most the weight of its items.
+run_weight : {E : Type 0} (page_size : ℕ) (run : List (Laid E)) → 16 ≤ page_size → (15 + sum_by size_of run) / page_size ≤ weights page_size run
+run_weight page_size [] low = let below : 15 / page_size < 1 = (div-lt_iff_lt-mul {k = page_size} {x = 15} {y = 1} (omega arith)).1 (omega arith) in omega arith
+run_weight {E = E} page_size (item ∷ run) low =
+    let ih = run_weight page_size run low in
+    let s : 15 + sum_by size_of (item ∷ run) ≡ item.size + (15 + sum_by size_of run) = let c = sum_by-cons (size_of {E = E}) item run in omega arith in
+    let e = ap (λ (n : ℕ). n / page_size) s in
+    let d = div_sum item.size (15 + sum_by size_of run) page_size (omega arith) in omega arith
+
+pub own_weight : {E : Type 0} (page_size : ℕ) (runs : List (List (Laid E))) → 16 ≤ page_size
+    → own_numbers page_size runs ≤ length runs + weights page_size (flat_map (λ run. run) runs)
+unfolding overflow_of
+own_weight page_size [] low = omega arith
+own_weight page_size (run ∷ runs) low =
+    let ih = own_weight page_size runs low in
+    let l = weights-append page_size run (flat_map (λ run. run) runs) in
+    let w = run_weight page_size run low in
+    let e : (16 + sum_by size_of run) - 1 ≡ 15 + sum_by size_of run = omega arith in
+    let f = ap (λ (n : ℕ). n / page_size) e in omega arith
+
+-- An item has the 16 bytes of its header and its key.
+abbrev pub HasKeyRoom : {E : Type 0} → Laid E → Type 0
+HasKeyRoom item = 16 + length item.key ≤ item.size
+
+-- So the page over a run weighs no more than the first item, nor than the numbers that the page takes.
+first_weight : {E : Type 0} (view : ℕ → List E → PageView) (page_size : ℕ) (first : Laid E) (run : List (Laid E)) → 16 ≤ page_size → HasKeyRoom first
+    → weight page_size (page_over view page_size (first ∷ run)) ≤ weight page_size first
+first_weight view page_size first run low room = let d = div_rises (16 + length first.key) first.size page_size (omega arith) room in omega arith
+
+pub level_weights : {E : Type 0} (view : ℕ → List E → PageView) (page_size : ℕ) (runs : List (List (Laid E))) → 16 ≤ page_size → AllByRecursion HasItem runs
+    → AllByRecursion HasKeyRoom (flat_map (λ run. run) runs) → weights page_size (map (page_over view page_size) runs) ≤ weights page_size (flat_map (λ run. run) runs)
+level_weights view page_size [] low some room = omega arith
+level_weights view page_size ([] ∷ runs) low some room = absurd (let none = some.0 in omega arith)
+level_weights view page_size ((first ∷ run) ∷ runs) low some room =
+    let rest : List (Laid _) = flat_map (λ run. run) runs in
+    let both = all_split HasKeyRoom (first ∷ run) rest room in
+    let ih = level_weights view page_size runs low some.1 both.1 in
+    let l = weights-append page_size (first ∷ run) rest in
+    let w = first_weight view page_size first run low both.0.0 in omega arith
+
+pub own_weights : {E : Type 0} (view : ℕ → List E → PageView) (page_size : ℕ) (runs : List (List (Laid E))) → 16 ≤ page_size → AllByRecursion HasItem runs
+    → AllByRecursion HasKeyRoom (flat_map (λ run. run) runs) → weights page_size (map (page_over view page_size) runs) ≤ own_numbers page_size runs
+unfolding overflow_of
+own_weights view page_size [] low some room = omega arith
+own_weights view page_size ([] ∷ runs) low some room = absurd (let none = some.0 in omega arith)
+own_weights {E = E} view page_size ((first ∷ run) ∷ runs) low some room =
+    let both = all_split HasKeyRoom (first ∷ run) (flat_map (λ run. run) runs) room in
+    let ih = own_weights view page_size runs low some.1 both.1 in
+    let one : 16 + length first.key ≤ first.size = both.0.0 in
+    let c = sum_by-cons (size_of {E = E}) first run in
+    let d = div_rises (16 + length first.key) ((16 + sum_by size_of (first ∷ run)) - 1) page_size (omega arith) (omega arith) in omega arith
+
+-- each item weighs a page at least
+pub weights_count : {E : Type 0} (page_size : ℕ) (items : List (Laid E)) → length items ≤ weights page_size items
+weights_count page_size [] = omega arith
+weights_count page_size (item ∷ items) = let ih = weights_count page_size items in omega arith
+
+-- So no page is heavier than the heaviest below.
+abbrev pub IsLight : {E : Type 0} → (page_size most : ℕ) → Laid E → Type 0
+IsLight page_size most item = weight page_size item ≤ most
+
+pub level_light : {E : Type 0} (view : ℕ → List E → PageView) (page_size most : ℕ) (runs : List (List (Laid E))) → 16 ≤ page_size → AllByRecursion HasItem runs
+    → AllByRecursion HasKeyRoom (flat_map (λ run. run) runs) → AllByRecursion (IsLight page_size most) (flat_map (λ run. run) runs)
+    → AllByRecursion (IsLight page_size most) (map (page_over view page_size) runs)
+level_light view page_size most [] low some room light = tt
+level_light view page_size most ([] ∷ runs) low some room light = absurd (let none = some.0 in omega arith)
+level_light {E = E} view page_size most ((first ∷ run) ∷ runs) low some room light =
+    let rest : List (Laid E) = flat_map (λ run. run) runs in
+    let rooms = all_split HasKeyRoom (first ∷ run) rest room in
+    let lights = all_split (IsLight page_size most) (first ∷ run) rest light in
+    let w = first_weight view page_size first run low rooms.0.0 in
+    let one : weight page_size first ≤ most = lights.0.0 in
+    (omega arith, level_light view page_size most runs low some.1 rooms.1 lights.1)
+
+pub weights_light : {E : Type 0} (page_size most : ℕ) (items : List (Laid E)) → AllByRecursion (IsLight page_size most) items → weights page_size items ≤ most * length items
+weights_light page_size most [] light = omega arith
+weights_light page_size most (item ∷ items) light =
+    let ih = weights_light page_size most items light.1 in
+    let one : weight page_size item ≤ most = light.0 in
+    let e = mul-suc most (length items) in omega arith

@@ -1,0 +1,70 @@
+-- The cut of a row of a bucket's pages by how many runs it may have. One pass from left to right can't know that an item is the last of its
+-- row; but where the number of runs is known before, this gives the balanced cut.
+use Rattle.std.specs.Prelude.{zero, suc, ◌≡◌, ◌≤◌, ◌==◌, ◌-◌, ℕ, Bool, true, false, ◌&&◌, nat_lt, List, [], ◌∷◌, ◌++◌, length, Option, Some, None, if◌then◌else◌}
+use Rattle.bolt_format.specs.Elements.{BranchElement}
+use Rattle.bolt_layout.specs.Cut.{branch_cut, cut_of, joins}
+use Rattle.bolt_layout.specs.Laid.{Laid, size_of}
+use Rattle.bolt_layout.specs.Levels.{next_level}
+use Rattle.bolt_layout.specs.declared.layout.Layout.{Layout}
+use Rattle.bolt_layout.specs.declared.layout.Layout.TheVariants.{Plain}
+
+-- how many runs may still begin in a row: any number, or so many
+abbrev pub is_out : Option ℕ → Bool
+is_out None = false
+is_out (Some zero) = true
+is_out (Some (suc n)) = false
+
+abbrev pub one_less : Option ℕ → Option ℕ
+one_less None = None
+one_less (Some n) = Some (n - 1)
+
+-- From the left, as the cut goes; but an item that doesn't join, where no run may begin, joins all the same, and the rest is cut freely.
+abbrev pub cut_left : {X : Type 0} → (page_size : ℕ) → (X → ℕ) → (left : Option ℕ) → List X → List X → List (List X)
+cut_left page_size size left run [] = run ∷ []
+cut_left page_size size left run (next ∷ items) =
+    let joined = cut_left page_size size left (run ++ next ∷ []) items in
+    let forced = cut_left page_size size None (run ++ next ∷ []) items in
+    let begun = run ∷ cut_left page_size size (one_less left) (next ∷ []) items in
+    if joins page_size 2 size run next then joined else (if is_out left then forced else begun)
+
+abbrev pub cut_row : {X : Type 0} → (page_size : ℕ) → (X → ℕ) → (left : Option ℕ) → List X → List (List X)
+cut_row page_size size left [] = []
+cut_row page_size size left (first ∷ items) = cut_left page_size size left (first ∷ []) items
+
+-- the k-th level above a level of pages
+abbrev pub level_up : Layout → (page_size k : ℕ) → List (Laid BranchElement) → List (Laid BranchElement)
+level_up which page_size zero pages = pages
+level_up which page_size (suc k) pages = level_up which page_size k (next_level which page_size pages)
+
+abbrev pub limit_at : List (Option ℕ) → ℕ → Option ℕ
+limit_at [] k = None
+limit_at (limit ∷ limits) zero = limit
+limit_at (limit ∷ limits) (suc k) = limit_at limits k
+
+-- these limits give the cut of each level above these pages
+abbrev pub HaveRightLimits : Layout → (page_size : ℕ) → (limit : ℕ → Option ℕ) → List (Laid BranchElement) → Type 0
+HaveRightLimits which page_size limit pages = (k : ℕ) →
+    cut_row page_size size_of (limit k) (level_up which page_size k pages) ≡ branch_cut which page_size size_of (level_up which page_size k pages)
+
+-- What a pass over the plain layout tells of the rows above a bucket's leaves, as far as they have two pages: of each the number of its runs,
+-- and how many items the last run has.
+abbrev pub last_length : {X : Type 0} → List (List X) → ℕ
+last_length [] = 0
+last_length (run ∷ []) = length run
+last_length (run ∷ next ∷ runs) = last_length (next ∷ runs)
+
+abbrev pub AreTold : (page_size : ℕ) → List (Laid BranchElement) → List (ℕ × ℕ) → Type 0
+AreTold page_size pages [] = length pages ≤ 1
+AreTold page_size pages (row ∷ rows) = (2 ≤ length pages)
+    × (row.0 ≡ length (cut_of page_size 2 size_of pages)) × (row.1 ≡ last_length (cut_of page_size 2 size_of pages))
+    × AreTold page_size (next_level Plain page_size pages) rows
+
+-- The limits of the rows of the balanced layout. In it a row may lack the last item that it has in the plain one: then the last run has one
+-- item less. A row that would end in a run of one item, behind another run, has one run less; and then the row above lacks its last item.
+abbrev pub limits_told : (lost : Bool) → List (ℕ × ℕ) → List (Option ℕ)
+limits_told lost [] = []
+limits_told false (row ∷ rows) =
+    if row.1 == 1 && nat_lt 1 row.0 then Some (row.0 - 2) ∷ limits_told true rows else None ∷ limits_told false rows
+limits_told true (row ∷ rows) =
+    if row.1 == 1 then None ∷ limits_told true rows
+    else (if row.1 == 2 && nat_lt 1 row.0 then Some (row.0 - 2) ∷ limits_told true rows else None ∷ limits_told false rows)
