@@ -1,4 +1,4 @@
--- What a layout promises: docs/LAYOUT.md, "What holds of it".
+-- What a layout promises: docs/LAYOUT.md, "What holds of both layouts".
 use Rattle.std.specs.Prelude.{◌≡◌, ◌≤◌, ◌<◌, ◌^◌, ℕ, true, List, length, take}
 use Rattle.bolt_format.specs.Metas.{IsChosen, IsPageSize}
 use Rattle.bolt_format.specs.declared.fault.TheConstants.PageFault.{CUT}

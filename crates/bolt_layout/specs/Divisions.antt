@@ -1,4 +1,4 @@
--- What the soundness of a layout asks of the way in which a row is divided: docs/LAYOUT.md, "What holds of it". The cuts of both layouts
+-- What the soundness of a layout asks of the way in which a row is divided: docs/LAYOUT.md, "What holds of both layouts". The cuts of both layouts
 -- have it.
 use Rattle.std.specs.Prelude.{suc, ◌≡◌, ◌≤◌, ◌<◌, ◌+◌, ◌*◌, ℕ, List, ◌++◌, length, flat_map}
 use Rattle.std.specs.List.{AllByRecursion}

@@ -1,4 +1,4 @@
-//! What holds of the layout of a tree: docs/LAYOUT.md, "What holds of it".
+//! What holds of the layout of a tree: docs/LAYOUT.md, "What holds of both layouts".
 ghost use Rattle.std.specs.Prelude.{◌≡◌, ◌≤◌, ◌<◌, ◌*◌, ◌^◌, ℕ, List, length};
 ghost use Rattle.std.specs.List.{AllByRecursion};
 ghost use Rattle.bolt_format.specs.Elements.{BranchElement, LeafElement};
