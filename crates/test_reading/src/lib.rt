@@ -8,6 +8,8 @@ mod bucket_at;
 #[cfg(test)]
 mod check_rows;
 #[cfg(test)]
+mod claim_rows;
+#[cfg(test)]
 mod figure_rows;
 #[cfg(test)]
 mod free_rows;

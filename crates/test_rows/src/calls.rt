@@ -43,6 +43,41 @@ fn key_of<'a>(answer: Option<Entry<'a>>) -> &'a [u8] {
     }
 }
 
+/// What is told of each call on a cursor.
+#[derive(Clone, Copy)]
+pub enum Told {
+    /// The key of its answer.
+    Moves,
+    /// The same, and how many pages were opened until then.
+    Openings,
+    /// Whether keys were compared: `none`, as many as were told before (`same`), `some`, which a way
+    /// of two pages allows, or `many`.
+    Comparisons,
+}
+
+/// What calls on a new cursor of a bucket come to, one behind another.
+pub fn run_calls(alloc: Global, file: &[u8], words: &str, told: Told) -> Result<Vec<u8>, Fault> {
+    let checked = check(alloc, file).map_err(|_| Fault::Unread)?;
+    let (path, calls) = halves(words, ' ');
+    let mut cursor = bucket_at(alloc, checked, path)?.cursor();
+    let mut line = Vec::new(alloc);
+    for call in calls.split_whitespace() {
+        let before = cursor.compared();
+        let answer = make_call(alloc, &mut cursor, call)?;
+        if cursor.compared() > 1024 {
+            return Err(Fault::Differs);
+        }
+        match told {
+            Told::Moves => push_word(&mut line, key_of(answer))?,
+            Told::Openings => push_opening(&mut line, key_of(answer), cursor.opened())?,
+            Told::Comparisons => {
+                push_word(&mut line, amount(before, cursor.compared()).as_bytes())?;
+            }
+        }
+    }
+    Ok(line)
+}
+
 /// Adds a word to a line of them.
 pub fn push_word(line: &mut Vec<u8>, word: &[u8]) -> Result<(), AllocError> {
     if !line.is_empty() {
@@ -51,52 +86,10 @@ pub fn push_word(line: &mut Vec<u8>, word: &[u8]) -> Result<(), AllocError> {
     line.extend_from_slice(word)
 }
 
-/// The keys that the calls on a new cursor of a bucket answer.
-pub fn moves(alloc: Global, file: &[u8], words: &str) -> Result<Vec<u8>, Fault> {
-    let checked = check(alloc, file).map_err(|_| Fault::Unread)?;
-    let (path, calls) = halves(words, ' ');
-    let mut cursor = bucket_at(alloc, checked, path)?.cursor();
-    let mut line = Vec::new(alloc);
-    for call in calls.split_whitespace() {
-        let answer = make_call(alloc, &mut cursor, call)?;
-        push_word(&mut line, key_of(answer))?;
-    }
-    Ok(line)
-}
-
-/// The same, and behind each key how many pages were opened until then.
-pub fn openings(alloc: Global, file: &[u8], words: &str) -> Result<Vec<u8>, Fault> {
-    let checked = check(alloc, file).map_err(|_| Fault::Unread)?;
-    let (path, calls) = halves(words, ' ');
-    let mut cursor = bucket_at(alloc, checked, path)?.cursor();
-    let mut line = Vec::new(alloc);
-    for call in calls.split_whitespace() {
-        let answer = make_call(alloc, &mut cursor, call)?;
-        push_word(&mut line, key_of(answer))?;
-        let opened = format!(in alloc; ":{}", cursor.opened())?;
-        line.extend_from_slice(opened.as_bytes())?;
-        if cursor.compared() > 1024 {
-            return Err(Fault::Differs);
-        }
-    }
-    Ok(line)
-}
-
-/// Whether the calls compared keys: `none`, as many as were told before (`same`), `some`, which a
-/// way of two pages allows, or `many`.
-pub fn comparisons(alloc: Global, file: &[u8], words: &str) -> Result<Vec<u8>, Fault> {
-    let checked = check(alloc, file).map_err(|_| Fault::Unread)?;
-    let (path, calls) = halves(words, ' ');
-    let mut cursor = bucket_at(alloc, checked, path)?.cursor();
-    let mut line = Vec::new(alloc);
-    let mut before = cursor.compared();
-    for call in calls.split_whitespace() {
-        let _ = make_call(alloc, &mut cursor, call)?;
-        let compared = cursor.compared();
-        push_word(&mut line, amount(before, compared).as_bytes())?;
-        before = compared;
-    }
-    Ok(line)
+fn push_opening(line: &mut Vec<u8>, key: &[u8], opened: u64) -> Result<(), AllocError> {
+    push_word(line, key)?;
+    let text = format!(in *line.allocator(); ":{opened}")?;
+    line.extend_from_slice(text.as_bytes())
 }
 
 fn amount(before: u64, compared: u64) -> &'static str {

@@ -1,6 +1,6 @@
 //! What command lines and calls come to on a file.
 
-use crate::calls::{comparisons, moves, openings};
+use crate::calls::{Told, run_calls};
 use crate::row::Want;
 use crate::tokens::{Fault, bytes_of};
 use crate::walks::{depths, look_ups, members};
@@ -128,9 +128,9 @@ fn named(alloc: Global, job: &Job) -> Result<Ran, AllocError> {
 /// | `depths`, `depths PATH` | how much a walk gives |
 pub fn call(alloc: Global, file: &[u8], verb: &str, words: &str) -> Result<Ran, Fault> {
     let mut out = match verb {
-        "moves" => moves(alloc, file, words)?,
-        "opens" => openings(alloc, file, words)?,
-        "compares" => comparisons(alloc, file, words)?,
+        "moves" => run_calls(alloc, file, words, Told::Moves)?,
+        "opens" => run_calls(alloc, file, words, Told::Openings)?,
+        "compares" => run_calls(alloc, file, words, Told::Comparisons)?,
         "under" => look_ups(alloc, file, words)?,
         "walk" => members(alloc, file, words)?,
         "depths" => depths(alloc, file, words)?,
