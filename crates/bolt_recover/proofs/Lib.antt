@@ -14,6 +14,7 @@ mod RunPaths
 mod RunRecovers
 mod RunSteps
 mod RunSurveys
+mod RunTrees
 mod SoundListing
 mod SoundSurveys
 mod StepLemmas

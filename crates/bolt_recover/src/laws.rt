@@ -4,9 +4,12 @@ ghost use Rattle.bolt_format.specs.declared.meta.Meta.{Meta};
 ghost use Rattle.bolt_check.specs.Sound.{HasSoundTrees, IsFirstFinding};
 ghost use Rattle.bolt_check.specs.Ways.{Before};
 ghost use Rattle.bolt_check.specs.declared.finding.Finding.{Finding};
+ghost use Rattle.bolt_tree.specs.Entries.{IsEntry, Item, Root_page};
 ghost use Rattle.bolt_tree.specs.Listing.{IsListing, Member};
+ghost use Rattle.bolt_tree.specs.Paths.{Holds, Path};
+ghost use Rattle.bolt_tree.specs.Tree.{Tree, listing_of};
 ghost use Rattle.bolt_recover.specs.Losses.{AreLosses, LossView};
-ghost use Rattle.bolt_recover.specs.Recovered.{IsRecovered};
+ghost use Rattle.bolt_recover.specs.Recovered.{IsRecovered, IsRecoveredMember};
 ghost use Rattle.bolt_recover.specs.Surveys.{Has, IsSurvey, Visit, lost};
 
 /// A file has at most one survey.
@@ -27,6 +30,16 @@ pub fn recovered_listing_is_one()
 /// Each file has a recovered listing.
 pub fn each_file_has_a_recovered_listing()
     ensures { (file : List ℕ) (meta : Meta) → (listing : List Member) × IsRecovered file meta listing }
+{}
+
+/// A recovered listing is what a tree lists.
+pub fn recovered_listing_is_of_a_tree()
+    ensures { (file : List ℕ) (meta : Meta) (listing : List Member) → IsRecovered file meta listing → (tree : Tree) × (listing ≡ listing_of tree) }
+{}
+
+/// Each recovered member is what its path holds: an entry of the bucket that the path names.
+pub fn recovered_members_are_held()
+    ensures { (file : List ℕ) (meta : Meta) (survey : List Visit) (path : Path) (item : Item) → IsRecoveredMember file meta survey path item → Holds (IsEntry file meta) (Root_page meta.root) path item }
 {}
 
 /// A file tells at most one list of losses.

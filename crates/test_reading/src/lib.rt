@@ -1,5 +1,5 @@
-//! Tests of what is read of a file: its metas and pages, the checker's calls, pagers, walks and texts;
-//! and of sinks. Most rows of what is read stand in `test_rows`. The crate has nothing beside its
+//! Tests of what is read of a file: its metas and pages, the checker's calls, pagers, walks,
+//! recoveries and texts; and of sinks. Most rows of what is read stand in `test_rows`. The crate has
 //! tests.
 #![tactic(auto)]
 
@@ -9,6 +9,8 @@ mod bucket_at;
 mod check_rows;
 #[cfg(test)]
 mod claim_rows;
+#[cfg(test)]
+mod damaged_samples;
 #[cfg(test)]
 mod figure_rows;
 #[cfg(test)]
@@ -21,6 +23,8 @@ mod meta_rows;
 mod pager_rows;
 #[cfg(test)]
 mod read_rows;
+#[cfg(test)]
+mod recovery_rows;
 #[cfg(test)]
 mod sink_rows;
 #[cfg(test)]
