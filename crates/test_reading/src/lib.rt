@@ -1,6 +1,6 @@
 //! Tests of what is read of a file: its metas and pages, the checker's calls, pagers, walks,
 //! recoveries and texts; and of sinks. Most rows of what is read stand in `test_rows`. The crate has
-//! tests.
+//! nothing beside its tests.
 #![tactic(auto)]
 
 #[cfg(test)]
