@@ -29,5 +29,6 @@ mod PutParts
 mod PutsLemmas
 mod RowLemmas
 mod RunLemmas
+mod ToldRuns
 mod WalkLeft
 mod WholePuts

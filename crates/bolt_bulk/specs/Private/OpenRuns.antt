@@ -39,6 +39,11 @@ kept page_size upper size = record { run = upper.run; left = if has_room page_si
 abbrev pub begun_after : Upper → Upper
 begun_after upper = record { run = []; left = one_less upper.left; closed = suc upper.closed }
 
+-- what an open run tells of its row at the bucket's end, when it takes the page that is under way: how many runs the row has, and how many
+-- items the last one has
+abbrev pub told_by : Upper → ℕ × ℕ
+told_by upper = (suc upper.closed, suc (length upper.run))
+
 -- the pages in upper runs that were put, the outermost first
 abbrev pub put_in : List Upper → List (Laid BranchElement)
 put_in [] = []
