@@ -13,6 +13,7 @@ mod HeldPuts
 mod HeldRuns
 mod HeldSteps
 mod LeafPuts
+mod LimitLemmas
 mod Members
 mod Ontos
 mod Openings
