@@ -261,7 +261,7 @@ module _ {O T : Type 0} (out_taken : O → Option (List ℕ)) (out_failed : O �
   DoesJob file (job.Keys name slot path form) = Prints (IsReadAnswer file slot (IsKeysAnswer file (path_in path.items) form))
   DoesJob file (job.Get name slot path form) = Prints (IsReadAnswer file slot (IsGetAnswer file (path_in path.items) form))
   DoesJob file (job.List name slot from) = Prints (IsReadAnswer file slot (IsListAnswer file (path_in from.items)))
-  DoesJob file (job.Compact name slot out size) = Compacts file slot size
+  DoesJob file (job.Compact name slot out size which) = Compacts file slot size
 
 -- ---- the end of a run
 
