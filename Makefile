@@ -20,6 +20,8 @@ demo:
 	@echo "That was the program before any proof: make build proves it and builds it."
 
 COPY = out/copy.db
+# Sources that refer to sections of documents.
+SOURCES = Makefile $(wildcard crates/*/src/*.rt crates/*/specs/*.antt crates/*/specs/*/*.antt crates/*/proofs/*.antt)
 # The documents that show commands with what they print.
 SHOWING = README.md docs/GUIDE.md docs/COMMANDS.md docs/luntsegi.1
 
@@ -41,14 +43,18 @@ examples: $(PROGRAM)
 	$(PROGRAM) check $(LEAKED).db | cmp - $(LEAKED).findings
 	$(PROGRAM) check $(LEAKED).db 2>&1 > /dev/full | grep -qx "error: write failed"
 	$(PROGRAM) check $(LEAKED).db 2> /dev/null > /dev/full; test $$? -eq 1
+	tools/bbolt/build.sh
 	python3 -B tools/usage/run_examples.py $(PROGRAM) $(SHOWING)
 
-# That the manual page and what bash and zsh complete say what help does; and, where mandoc is
-# installed, that it finds nothing in the page.
+# The manual page and what bash and zsh complete are compared with help, and mandoc finds nothing in
+# the page, if it is installed. What documents and sources refer to exists; a document of broken links
+# shows that this is found.
 manual: $(PROGRAM)
 	if command -v mandoc > /dev/null; then mandoc -Tlint docs/luntsegi.1; fi
 	python3 -B tools/usage/compare_manual.py $(PROGRAM) docs/luntsegi.1
 	python3 -B tools/usage/compare_completions.py $(PROGRAM)
+	python3 -B tools/usage/check_links.py README.md $(wildcard docs/*.md) docs/luntsegi.1 $(SOURCES)
+	python3 -B tools/usage/check_links.py tools/usage/broken_links.md | cmp - tools/usage/broken_links.found
 
 LISTED_LONG = out/listed_long.db
 
@@ -161,7 +167,7 @@ memory: $(PROGRAM) $(REFUSE) $(NESTED) $(DEEP)
 	$(SWEEP) memory 1 $(LEAKED).db check "list --meta 1" "compact -o OUT --meta 1"
 	$(SWEEP) memory 1 $(DEEP) info check buckets stats
 	$(SWEEP) memory 1500 $(DEEP) "compact -o OUT"
-	-cd crates/tree_rows && rt try --test --fail-alloc 1000 -- memory_rows > $(abspath $(REFUSED_ROWS)) 2>&1
+	-cd crates/test_reading && rt try --test --fail-alloc 1000 -- memory_rows > $(abspath $(REFUSED_ROWS)) 2>&1
 	grep -c "refused at depth ., and gives all" $(REFUSED_ROWS) | grep -x 6
 	grep -c "refused at its beginning, and gives the rest" $(REFUSED_ROWS) | grep -x 3
 	grep -c "refused before the calls" $(REFUSED_ROWS) | grep -x 1

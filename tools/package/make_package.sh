@@ -47,8 +47,8 @@ Depends: libc6 (>= ${library#GLIBC_})
 Section: database
 Priority: optional
 Description: inspect and compact bbolt database files
- Tells what is in a file in which etcd and others keep their data, whether it is
- sound, and writes compact copies. It never writes into the file that it reads.
+ Inspects, checks and compacts bbolt database files, the format etcd uses. It
+ takes no lock and never writes to the file that it reads.
 END
 }
 

@@ -5,9 +5,10 @@
 
 In a document an example is a block that is indented by four spaces or, on a manual page, literal.
 Each line of it that begins with `$ ` is a command, and the lines below it are all that it prints,
-on both streams. The commands are run in order in the current folder, where `luntsegi` is PROGRAM;
-files that they write go to out/examples, which is emptied first. Prints what differs; the status is
-1 then, and where a document has no command.
+on both streams. The commands are run in order in the current folder, where `luntsegi` is PROGRAM and
+`bbolt` is out/bbolt; if that isn't built, the commands that begin with `bbolt` are left out. Files
+that they write go to out/examples, which is emptied first. Prints what differs; the status is 1 then,
+and if a document has no command.
 """
 
 import difflib
@@ -19,6 +20,7 @@ import sys
 import tempfile
 
 WRITTEN = "out/examples"
+BBOLT = "out/bbolt"
 
 
 def blocks(text):
@@ -61,15 +63,23 @@ def run_document(name, folder):
         shown = commands(file.read())
     shutil.rmtree(WRITTEN, ignore_errors=True)
     os.makedirs(WRITTEN)
-    different = [differs(name, command, wanted, printed(command, folder)) for command, wanted in shown]
-    print(f"{name}: {len(shown)} commands, {sum(different)} differ")
-    return bool(shown) and not any(different)
+    run = [(command, wanted) for command, wanted in shown if can_run(command)]
+    different = [differs(name, command, wanted, printed(command, folder)) for command, wanted in run]
+    left_out = len(shown) - len(run)
+    print(f"{name}: {len(run)} commands, {sum(different)} differ" + f", {left_out} left out" * bool(left_out))
+    return bool(run) and not any(different)
+
+
+def can_run(command):
+    """Whether the command's program is there, which is in doubt for bbolt alone."""
+    return not command.startswith("bbolt ") or os.path.exists(BBOLT)
 
 
 def main():
     program, *names = sys.argv[1:]
     with tempfile.TemporaryDirectory() as folder:
         os.symlink(os.path.abspath(program), os.path.join(folder, "luntsegi"))
+        os.symlink(os.path.abspath(BBOLT), os.path.join(folder, "bbolt"))
         right = [run_document(name, folder) for name in names]
     sys.exit(not all(right))
 

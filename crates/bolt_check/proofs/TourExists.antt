@@ -38,7 +38,7 @@ abbrev pub numbers : ℕ → List ℕ
 numbers zero = []
 numbers (suc k) = k ∷ numbers k
 
-has_number : (n k : ℕ) → n < k → Has n (numbers k)
+pub has_number : (n k : ℕ) → n < k → Has n (numbers k)
 has_number n zero h = absurd (omega arith)
 has_number n (suc k) h = elim (cases_eq n k) [ inl e ↦ inl e | inr ne ↦ inr (has_number n k (omega arith)) ]
 

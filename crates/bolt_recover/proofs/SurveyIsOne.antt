@@ -9,28 +9,28 @@ use Rattle.bolt_check.proofs.Single.{tests_one}
 use Rattle.bolt_check.proofs.WayOrder.{before_irreflexive, before_strict, before_total, before_trans}
 use Rattle.bolt_recover.specs.Surveys.{Gives, Has, IsClaimedIn, IsOpen, Surveys, Visit, kept}
 
-abbrev ways : List Visit → List (List ℕ)
+abbrev pub ways : List Visit → List (List ℕ)
 ways visits = map (λ (v : Visit). v.way) visits
 
 -- a survey from some place on: what stands in front, which may be said of visits of another survey too, and the rest
-record Suffix (survey : List Visit) (InFront : Visit → Type 0) (rest : List Visit) : Type 0 where
-  split : (v : Visit) → Has survey v → InFront v ⊎ Has rest v
-  inside : (v : Visit) → Has rest v → Has survey v
-  front : (v : Visit) → InFront v → Has survey v
-  after : (v w : Visit) → InFront v → Has rest w → Before v.way w.way
-  rises : Rises (ways rest)
+pub record Suffix (survey : List Visit) (InFront : Visit → Type 0) (rest : List Visit) : Type 0 where
+  pub split : (v : Visit) → Has survey v → InFront v ⊎ Has rest v
+  pub inside : (v : Visit) → Has rest v → Has survey v
+  pub front : (v : Visit) → InFront v → Has survey v
+  pub after : (v w : Visit) → InFront v → Has rest w → Before v.way w.way
+  pub rises : Rises (ways rest)
 
 before_each : (way : List ℕ) (rest : List Visit) → IsBeforeAll way (ways rest) → (w : Visit) → Has rest w → Before way w.way
 before_each way [] h w has = absurd has
 before_each way (x ∷ rest) h w (inl e) = rw e h.0
 before_each way (x ∷ rest) h w (inr has) = before_each way rest h.1 w has
 
-parent_before : (parent : List ℕ) (i : ℕ) → Before parent (parent ++ i ∷ [])
+pub parent_before : (parent : List ℕ) (i : ℕ) → Before parent (parent ++ i ∷ [])
 parent_before [] i = tt
 parent_before (j ∷ parent) i = inr (refl, parent_before parent i)
 
 -- a visit before the first of the rest stands in front
-earlier : (survey : List Visit) (InFront : Visit → Type 0) (x : Visit) (rest : List Visit) → Suffix survey InFront (x ∷ rest)
+pub earlier : (survey : List Visit) (InFront : Visit → Type 0) (x : Visit) (rest : List Visit) → Suffix survey InFront (x ∷ rest)
     → (v : Visit) → Has survey v → Before v.way x.way → InFront v
 earlier survey InFront x rest suffix v has lt =
     elim (suffix.split v has) [
@@ -95,7 +95,7 @@ module _ (nodes : Nodes) (reach : Reach) where
       gives_one nodes (IsClaimedIn nodes reach b x.way) q.0 x.found y.found
       (subst (λ (s : Spot). Gives nodes (IsClaimedIn nodes reach b x.way) s x.found) spot here) there
 
-  next_suffix : (a : List Visit) (InFront : Visit → Type 0) (x z : Visit) (xs : List Visit) → z ≡ x → Suffix a InFront (x ∷ xs)
+  pub next_suffix : (a : List Visit) (InFront : Visit → Type 0) (x z : Visit) (xs : List Visit) → z ≡ x → Suffix a InFront (x ∷ xs)
       → Suffix a (λ v. InFront v ⊎ (v ≡ z)) xs
   next_suffix a InFront x z xs same at = record {
     split = λ v has. elim (at.split v has) [ inl f ↦ inl (inl f) | inr h ↦ elim h [ inl e ↦ inl (inr (e ∙ sym same)) | inr k ↦ inr k ] ];

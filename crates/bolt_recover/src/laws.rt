@@ -4,7 +4,7 @@ ghost use Rattle.bolt_format.specs.declared.meta.Meta.{Meta};
 ghost use Rattle.bolt_check.specs.Sound.{HasSoundTrees, IsFirstFinding};
 ghost use Rattle.bolt_check.specs.Ways.{Before};
 ghost use Rattle.bolt_check.specs.declared.finding.Finding.{Finding};
-ghost use Rattle.bolt_tree.specs.Listing.{Member};
+ghost use Rattle.bolt_tree.specs.Listing.{IsListing, Member};
 ghost use Rattle.bolt_recover.specs.Losses.{AreLosses, LossView};
 ghost use Rattle.bolt_recover.specs.Recovered.{IsRecovered};
 ghost use Rattle.bolt_recover.specs.Surveys.{Has, IsSurvey, Visit, lost};
@@ -14,9 +14,19 @@ pub fn survey_is_one()
     ensures { (file : List ℕ) (meta : Meta) (a b : List Visit) → IsSurvey file meta a → IsSurvey file meta b → a ≡ b }
 {}
 
+/// Each file has a survey.
+pub fn each_file_has_a_survey()
+    ensures { (file : List ℕ) (meta : Meta) → (survey : List Visit) × IsSurvey file meta survey }
+{}
+
 /// A file has at most one recovered listing.
 pub fn recovered_listing_is_one()
     ensures { (file : List ℕ) (meta : Meta) (a b : List Member) → IsRecovered file meta a → IsRecovered file meta b → a ≡ b }
+{}
+
+/// Each file has a recovered listing.
+pub fn each_file_has_a_recovered_listing()
+    ensures { (file : List ℕ) (meta : Meta) → (listing : List Member) × IsRecovered file meta listing }
 {}
 
 /// A file tells at most one list of losses.
@@ -27,6 +37,11 @@ pub fn losses_are_one()
 /// Sound trees lose nothing.
 pub fn sound_trees_lose_nothing()
     ensures { (file : List ℕ) (meta : Meta) (survey : List Visit) (v : Visit) → HasSoundTrees file meta → IsSurvey file meta survey → Has survey v → v.found ≡ None }
+{}
+
+/// The recovered listing of sound trees is their listing.
+pub fn sound_trees_recover_their_listing()
+    ensures { (file : List ℕ) (meta : Meta) (listing : List Member) → HasSoundTrees file meta → IsRecovered file meta listing → IsListing file meta listing }
 {}
 
 /// What is found at the first lost way is the first finding of the trees.

@@ -4,5 +4,9 @@
 
 pub mod laws;
 mod loss;
+mod open_page;
+mod recovery;
+mod steps;
 
 pub use loss::Loss;
+pub use recovery::Recovery;

@@ -1,6 +1,6 @@
 pub mod AllEntries
 pub mod BackLemmas
-mod BucketWays
+pub mod BucketWays
 mod Climbing
 mod Coming
 pub mod CountLemmas
@@ -9,7 +9,7 @@ pub mod DescentLemmas
 mod Entering
 mod EntryOrder
 pub mod Existing
-mod Filters
+pub mod Filters
 pub mod FirstMoves
 pub mod FurtherLemmas
 pub mod GapLemmas
@@ -31,7 +31,7 @@ pub mod OpeningMoves
 pub mod PagerLemmas
 mod Parts
 pub mod PathEntries
-mod PathOrder
+pub mod PathOrder
 pub mod PlaceLemmas
 pub mod PlaceMoves
 mod ReadBack

@@ -2,7 +2,7 @@
 
 use crate::draft::make;
 use crate::row::Want;
-use crate::runs::{Ran, read_line, run_line};
+use crate::runs::{Ran, call, is_met_by_cuts, read_line, run_line};
 use crate::tokens::{Fault, halves, number};
 use std::alloc::Global;
 use std::mem;
@@ -31,9 +31,19 @@ impl Bench {
         self.held
     }
 
-    /// Does what a block of lines says: `file` describes the file that the next rows are on, `swap`
-    /// exchanges it for the one that is kept, `cut` ends it at a length, `$` is a command line and what it comes to, and `?` one
-    /// of which the file that it names is asked.
+    /// Does what a block of lines says:
+    ///
+    /// | verb | what |
+    /// |---|---|
+    /// | `file` | describes the file that the next rows are on |
+    /// | `swap` | exchanges it for the one that is kept |
+    /// | `cut` | ends it at a length |
+    /// | `$` | a command line, and what it comes to |
+    /// | `cuts` | the same on each beginning of the file with a length in a range |
+    /// | `?` | a command line, and the files that it names |
+    /// | `#` | a comment |
+    ///
+    /// Other verbs are calls.
     pub fn take(&mut self, block: &str) -> Result<(), Fault> {
         let (head, rest) = halves(block, '\n');
         let (verb, words) = halves(head, ' ');
@@ -46,12 +56,30 @@ impl Bench {
                 let ran = run_line(self.alloc, self.file.as_slice(), words)?;
                 self.compare(ran, rest)?;
             }
+            "cuts" => self.try_cuts(words, rest)?,
             "?" => {
                 let ran = read_line(self.alloc, words)?;
                 self.compare(ran, rest)?;
             }
-            _ => return Err(Fault::Unread),
+            _ => {
+                let ran = call(self.alloc, self.file.as_slice(), verb, words)?;
+                self.compare(ran, rest)?;
+            }
         }
+        Ok(())
+    }
+
+    /// `FIRST-LAST` and a command line, which makes no copy of the beginnings with these lengths.
+    fn try_cuts(&mut self, words: &str, lines: &str) -> Result<(), Fault> {
+        let (range, line) = halves(words, ' ');
+        let (first, last) = halves(range, '-');
+        let lengths = number(first)?..=number(last)?;
+        let want = Want::of(self.alloc, lines)?;
+        let file = self.file.as_slice();
+        if !is_met_by_cuts(self.alloc, file, (lengths, line), &want)? {
+            return Err(Fault::Differs);
+        }
+        self.held = self.held.saturating_add(1);
         Ok(())
     }
 

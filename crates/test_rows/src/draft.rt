@@ -2,9 +2,9 @@
 
 use crate::page_words::{Placed, branch, free, inline, leaf, long_free, set_fields};
 use crate::tokens::{Fault, bytes_of, halves, number};
-use sample_files::maker::{FRESH, MetaFields, database_of, patch};
-use sample_files::samples::nested_buckets;
 use std::alloc::Global;
+use test_files::maker::{FRESH, MetaFields, database_of, patch};
+use test_files::samples::nested_buckets;
 
 /// A file that is being described.
 #[derive(Drop)]

@@ -3,11 +3,13 @@
 #![tactic(auto)]
 
 mod bench;
+mod calls;
 mod draft;
 mod page_words;
 mod row;
 mod runs;
 mod tokens;
+mod walks;
 
 use bench::Bench;
 use std::{env, fs, io};

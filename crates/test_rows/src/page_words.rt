@@ -1,11 +1,11 @@
 //! Pages from the words that describe them.
 
 use crate::tokens::{Fault, bytes_of, halves, number, push_numbers};
-use sample_files::maker::{
-    BRANCH_FLAGS, Element, LEAF_FLAGS, MetaFields, PageHeader, branch_with, freelist, leaf_with,
-    long_freelist, reference,
-};
 use std::alloc::Global;
+use test_files::maker::{
+    BRANCH_FLAGS, Element, LEAF_FLAGS, MetaFields, PageHeader, branch_with, freelist,
+    long_freelist, page_with, reference,
+};
 
 /// An element of a leaf page: its key, and its value or what a bucket's element stores.
 #[derive(Drop)]
@@ -58,12 +58,27 @@ fn header(word: &str, flags: u16, count: usize) -> Result<PageHeader, Fault> {
 /// A page as it is written, and its number.
 pub type Placed = (u64, Vec<u8>);
 
+/// Adds the elements of a word: one, or one for each number of a range, in five digits, as `0..9=v`.
+fn push_elements(held: &mut Vec<Held>, inline: &[Vec<u8>], word: &str) -> Result<(), Fault> {
+    let alloc = *held.allocator();
+    let Some((first, rest)) = word.split_once("..") else {
+        held.push(element(alloc, inline, word)?)?;
+        return Ok(());
+    };
+    let (last, value) = halves(rest, '=');
+    for n in number(first)?..=number(last)? {
+        let word = format!(in alloc; "{n:05}={value}")?;
+        held.push(element(alloc, inline, word.as_str())?)?;
+    }
+    Ok(())
+}
+
 /// A leaf page of elements.
 pub fn leaf(alloc: Global, inline: &[Vec<u8>], words: &str) -> Result<Placed, Fault> {
     let mut held = Vec::new(alloc);
     let (id, rest) = halves(words, ' ');
     for word in rest.split_whitespace() {
-        held.push(element(alloc, inline, word)?)?;
+        push_elements(&mut held, inline, word)?;
     }
     let mut elements = Vec::new(alloc);
     for one in &held {
@@ -75,7 +90,7 @@ pub fn leaf(alloc: Global, inline: &[Vec<u8>], words: &str) -> Result<Placed, Fa
         })?;
     }
     let header = header(id, LEAF_FLAGS, elements.len())?;
-    let page = leaf_with(alloc, header, elements.as_slice(), &[])?;
+    let page = page_with(alloc, header, elements.as_slice(), &[])?;
     Ok((header.id, page))
 }
 

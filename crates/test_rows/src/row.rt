@@ -33,9 +33,16 @@ impl<'a> Want<'a> {
         }
     }
 
-    /// What these lines say: `>` and a line of standard output, `!` and a line of standard error, `=`
-    /// and the status where it isn't 0, `+` and what becomes of the copy. `>*` is a line of a word that may
-    /// repeat its text, and `>> FIRST LAST` stands for a line for each of these numbers.
+    /// What these lines say:
+    ///
+    /// | line | what is wanted |
+    /// |---|---|
+    /// | `> TEXT`, `! TEXT` | a line of standard output, or of standard error |
+    /// | `>* WORD ..` | a line of words, each of which may repeat its text, with nothing between |
+    /// | `>> FIRST LAST` | a line for each of these numbers |
+    /// | `>x FIRST LAST BEFORE BEHIND` | the same with five digits in hexadecimal, between two texts |
+    /// | `= STATUS` | the status where it isn't 0 |
+    /// | `+ COPY` | what becomes of the copy |
     pub fn of(alloc: Global, text: &'a str) -> Result<Want<'a>, Fault> {
         let mut want = Want::nothing(alloc);
         for line in text.lines() {
@@ -47,16 +54,36 @@ impl<'a> Want<'a> {
                 "=" => want.status = text,
                 "+" => want.copy = text,
                 ">>" => want.push_numbers(text)?,
+                ">x" => want.push_digits(text)?,
                 _ => return Err(Fault::Unread),
             }
         }
         Ok(want)
     }
 
-    fn push_repeated(&mut self, word: &str) -> Result<(), Fault> {
-        let line = bytes_of(*self.out.allocator(), word)?;
-        self.out.extend_from_slice(line.as_slice())?;
+    fn push_repeated(&mut self, words: &str) -> Result<(), Fault> {
+        for word in words.split_whitespace() {
+            let piece = bytes_of(*self.out.allocator(), word)?;
+            self.out.extend_from_slice(piece.as_slice())?;
+        }
         push_line(&mut self.out, "")
+    }
+
+    /// A line for each number: its five digits in hexadecimal, with a text before and one behind.
+    fn push_digits(&mut self, words: &str) -> Result<(), Fault> {
+        let (first, rest) = halves(words, ' ');
+        let (last, rest) = halves(rest, ' ');
+        let (before, behind) = halves(rest, ' ');
+        for n in number(first)?..=number(last)? {
+            let digits = format!(in *self.out.allocator(); "{n:05}")?;
+            push_text(&mut self.out, before)?;
+            for digit in digits.as_bytes() {
+                self.out.push(b'3')?;
+                self.out.push(*digit)?;
+            }
+            push_line(&mut self.out, behind)?;
+        }
+        Ok(())
     }
 
     fn push_numbers(&mut self, words: &str) -> Result<(), Fault> {

@@ -1,9 +1,13 @@
-//! What command lines come to on a file.
+//! What command lines and calls come to on a file.
 
+use crate::calls::{comparisons, moves, openings};
+use crate::row::Want;
 use crate::tokens::{Fault, bytes_of};
+use crate::walks::{depths, look_ups, members};
 use bolt_cli::{Job, Refusal, read_words, run};
 use bolt_format::MemSink;
 use std::alloc::{AllocError, Global};
+use std::ops::RangeInclusive;
 
 /// What a run wrote, and its status. That of a refused line has a word behind it: what it is
 /// refused as.
@@ -33,6 +37,27 @@ pub fn run_line(alloc: Global, file: &[u8], line: &str) -> Result<Ran, Fault> {
         Ok(job) => Ok(run_job(alloc, file, &job)?),
         Err(refusal) => Ok(refused(alloc, &refusal)?),
     }
+}
+
+/// Whether the command line comes to what is wanted, and makes no copy, on the beginnings of the file
+/// with each of these lengths.
+pub fn is_met_by_cuts(
+    alloc: Global,
+    file: &[u8],
+    (lengths, line): (RangeInclusive<u64>, &str),
+    want: &Want<'_>,
+) -> Result<bool, Fault> {
+    let Ok(job) = read_words(alloc, words_of(alloc, line)?) else {
+        return Err(Fault::Unread);
+    };
+    for length in lengths {
+        let cut = file.get(..length as usize).ok_or(Fault::Unread)?;
+        let ran = run_job(alloc, cut, &job)?;
+        if !want.is_met(&ran) || !ran.target.is_empty() {
+            return Ok(false);
+        }
+    }
+    Ok(true)
 }
 
 fn run_job(alloc: Global, file: &[u8], job: &Job) -> Result<Ran, AllocError> {
@@ -89,4 +114,35 @@ fn named(alloc: Global, job: &Job) -> Result<Ran, AllocError> {
     let target = job.target().unwrap_or("none");
     let names = format!(in alloc; "{file}\n{target}\n")?;
     wrote(alloc, names.as_str(), "", "0")
+}
+
+/// What calls on the file come to:
+///
+/// | verb and words | what is told |
+/// |---|---|
+/// | `moves PATH CALL ..` | the keys that calls on a cursor answer |
+/// | `opens PATH CALL ..` | the same, and how many pages were opened |
+/// | `compares PATH CALL ..` | whether keys were compared |
+/// | `under PATH KEY ..` | what stands under the keys |
+/// | `walk`, `walk PATH` | each path of a walk with what stands there |
+/// | `depths`, `depths PATH` | how much a walk gives |
+pub fn call(alloc: Global, file: &[u8], verb: &str, words: &str) -> Result<Ran, Fault> {
+    let mut out = match verb {
+        "moves" => moves(alloc, file, words)?,
+        "opens" => openings(alloc, file, words)?,
+        "compares" => comparisons(alloc, file, words)?,
+        "under" => look_ups(alloc, file, words)?,
+        "walk" => members(alloc, file, words)?,
+        "depths" => depths(alloc, file, words)?,
+        _ => return Err(Fault::Unread),
+    };
+    if !out.is_empty() {
+        out.push(b'\n')?;
+    }
+    Ok(Ran {
+        out,
+        err: Vec::new(alloc),
+        target: Vec::new(alloc),
+        status: "0",
+    })
 }

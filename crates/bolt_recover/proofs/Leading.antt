@@ -1,0 +1,59 @@
+-- Where an element of an open page leads, as a place.
+use Rattle.std.proofs.Common.{◌≡◌, ◌∙◌, ℕ, ◌<◌, Bool, true, false, List, Option, Some, None, Ok, IfSome, length, slice_get, refl, sym, ap, arith, inl, inr}
+use Rattle.std.specs.Option.{option_map}
+use Rattle.std.proofs.lemmas.Option.{slice_get_cases}
+use Rattle.bolt_format.specs.Elements.{LeafElement}
+use Rattle.bolt_format.specs.Shown.{shown}
+use Rattle.bolt_format.specs.declared.meta.Meta.{Meta}
+use Rattle.bolt_format.proofs.PageLaws.{length-shown_leaves}
+use Rattle.bolt_check.specs.Keys.{Key}
+use Rattle.bolt_check.specs.Nodes.{Entry, node_at}
+use Rattle.bolt_check.specs.ShownNodes.{shown_node}
+use Rattle.bolt_check.specs.Stops.{IsInner, page_spot, spot_at}
+use Rattle.bolt_check.specs.TreeKinds.{tree_kind}
+use Rattle.bolt_check.specs.Ways.{At_inline, PageSpot, step_entry, step_on}
+use Rattle.bolt_check.specs.declared.stop.PageStop.{PageStop}
+use Rattle.bolt_check.specs.declared.stop.Stop.{Stop}
+use Rattle.bolt_check.specs.declared.stop.Stop.TheVariants as stop
+use Rattle.bolt_check.specs.declared.tree_page.TreePage.{TreePage}
+use Rattle.bolt_check.proofs.NodeLemmas.{length-leaf}
+use Rattle.bolt_tree.specs.Paths.{Path}
+use Rattle.bolt_recover.specs.Places.{place_on, step_place}
+use Rattle.bolt_recover.specs.Private.Frames.{content_place, step_path, stop_place}
+use Rattle.bolt_recover.specs.declared.open_page.Content.TheVariants.{Page}
+
+-- only an element of a leaf leads to an inline bucket
+from_leaf : (is_leaf : Bool) (s : PageSpot) (e next : Option Entry) (host : ℕ) (keys : List Key) → Some (At_inline host keys) ≡ step_entry is_leaf s e next → is_leaf ≡ true
+from_leaf true s e next host keys h = refl
+from_leaf false s None next host keys h = absurd (cc)
+from_leaf false s (Some e) next host keys h = absurd (cc)
+
+no_leaf : (page : TreePage) (i : ℕ) → page.is_leaf ≡ true → i < length (shown_node page).entries → slice_get (shown page.page).leaves i ≡ None → ⊥
+no_leaf page i is below none =
+    elim (slice_get_cases (shown page.page).leaves i).1 [
+      | inl (e, lt, some, h) ↦ (let both : None ≡ Some e = sym none ∙ some in cc)
+      | inr (past, h) ↦ absurd (omega (arith, past, below, length-leaf page is, length-shown_leaves page.page (page.kind ∙ ap tree_kind is)))
+    ]
+
+place_of : (file : List ℕ) (meta : Meta) (path : Path) (o : Option LeafElement) (r : Option Stop)
+    → ((s : Stop) → r ≡ Some s → o ≡ None → (host : ℕ) (keys : List Key) → spot_at s ≡ At_inline host keys → ⊥)
+    → IfSome r (λ (s : Stop). (e : LeafElement) → o ≡ Some e → IsInner e.value s)
+    → place_on file meta path o (option_map spot_at r) ≡ option_map (stop_place file meta (step_path path o)) r
+place_of file meta path o None not inner = refl
+place_of file meta path None (Some (stop.Page s)) not inner = refl
+place_of file meta path None (Some (stop.Bucket s)) not inner = absurd (not (stop.Bucket s) refl refl _ _ refl)
+place_of file meta path (Some e) (Some (stop.Page s)) not inner = refl
+place_of file meta path (Some e) (Some (stop.Bucket s)) not inner = rw (inner e refl) refl
+
+pub leads_to : (file : List ℕ) (meta : Meta) (path : Path) (page : TreePage) (s : PageStop) (i : ℕ) (r : Option Stop)
+    → node_at file meta s.number ≡ Ok (shown_node page) → i < length (shown_node page).entries
+    → option_map spot_at r ≡ step_on (shown_node page) (page_spot s) i
+    → IfSome r (λ (stop : Stop). (e : LeafElement) → slice_get (shown page.page).leaves i ≡ Some e → IsInner e.value stop)
+    → step_place file meta (content_place path (Page page s)) i ≡ option_map (stop_place file meta (step_path path (slice_get (shown page.page).leaves i))) r
+unfolding shown_node
+leads_to file meta path page s i r node below leads inner =
+    rw (node, ← leads) (place_of file meta path (slice_get (shown page.page).leaves i) r
+    (λ t is none host keys at.
+    let led : Some (At_inline host keys) ≡ step_on (shown_node page) (page_spot s) i = ap Some (sym at) ∙ ap (option_map spot_at) (sym is) ∙ leads in
+    no_leaf page i (from_leaf (shown_node page).is_leaf _ _ _ host keys led) below none)
+    inner)

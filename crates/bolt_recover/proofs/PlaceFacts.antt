@@ -1,0 +1,124 @@
+-- Places along ways: the spot there, the next one, and the elements.
+use Rattle.std.proofs.Common.{◌≡◌, ◌∙◌, ℕ, suc, ◌<◌, ◌≤◌, Bool, List, [], ◌∷◌, ◌++◌, length, map, Option, Some, None, Result, Ok, Err, slice_get, refl, sym, ap, subst, arith}
+use Rattle.std.specs.Option.{option_map}
+use Rattle.std.proofs.lemmas.List.{length-map}
+use Rattle.std.proofs.lemmas.Option.{slice_get_within}
+use Rattle.bolt_format.specs.Elements.{LeafElement}
+use Rattle.bolt_format.specs.Headers.{count_field, flags_field, kind_of}
+use Rattle.bolt_format.specs.Pages.{from_page, page_at, page_fault, page_overflow, shown_as, span_bytes}
+use Rattle.bolt_format.specs.declared.kind.Kind.{Kind}
+use Rattle.bolt_format.specs.declared.kind.Kind.TheVariants as kind
+use Rattle.bolt_format.specs.declared.meta.Meta.{Meta}
+use Rattle.bolt_check.specs.Nodes.{Entry, Node, Nodes, leaf_entry, node_at, node_seen}
+use Rattle.bolt_check.specs.Ways.{At_inline, At_page, PageSpot, Spot, follow, reached, step, step_at, step_entry, step_from}
+use Rattle.bolt_tree.specs.Paths.{Path}
+use Rattle.bolt_recover.specs.Places.{Place, elements_at, follow_places, leaves_of, next_place, place_at, place_on, root_place, step_place}
+use Rattle.bolt_recover.specs.Private.Runs.{entry_count, place_size}
+
+abbrev spot_in : Option Place → Option Spot
+spot_in o = option_map (λ (p : Place). p.spot) o
+
+spot_on : (file : List ℕ) (meta : Meta) (path : Path) (e : Option LeafElement) (s : Option Spot) → spot_in (place_on file meta path e s) ≡ s
+spot_on file meta path e None = refl
+spot_on file meta path None (Some s) = refl
+spot_on file meta path (Some e) (Some s) = refl
+
+spot_next : (file : List ℕ) (meta : Meta) (here : Option Place) (i : ℕ) → spot_in (next_place file meta here i) ≡ step (node_at file meta) (spot_in here) i
+spot_next file meta None i = refl
+spot_next file meta (Some p) i = spot_on file meta p.path (slice_get p.elements i) (step_from (node_at file meta) p.spot i)
+
+spot_follow : (file : List ℕ) (meta : Meta) (here : Option Place) (way : List ℕ) → spot_in (follow_places file meta here way) ≡ follow (node_at file meta) (spot_in here) way
+spot_follow file meta here [] = refl
+spot_follow file meta here (i ∷ way) =
+    spot_follow file meta (next_place file meta here i) way ∙ ap (λ (s : Option Spot). follow (node_at file meta) s way) (spot_next file meta here i)
+
+-- the spot of a place is where its way leads
+pub spot_is : (file : List ℕ) (meta : Meta) (way : List ℕ) (p : Place) → place_at file meta way ≡ Some p → reached (node_at file meta) meta.root way ≡ Some p.spot
+spot_is file meta way p is = sym (spot_follow file meta (Some (root_place file meta)) way) ∙ ap spot_in is
+
+place_of : (o : Option Place) (s : Spot) → spot_in o ≡ Some s → (p : Place) × (o ≡ Some p) × (p.spot ≡ s)
+place_of None s e = absurd (cc)
+place_of (Some p) s e = (p, refl, let same : Some p.spot ≡ Some s = e in cc)
+
+-- and each way that leads somewhere has a place
+pub place_is : (file : List ℕ) (meta : Meta) (way : List ℕ) (s : Spot) → reached (node_at file meta) meta.root way ≡ Some s
+    → (p : Place) × (place_at file meta way ≡ Some p) × (p.spot ≡ s)
+place_is file meta way s e = place_of (place_at file meta way) s (spot_follow file meta (Some (root_place file meta)) way ∙ e)
+
+follow_next : (file : List ℕ) (meta : Meta) (here : Option Place) (way : List ℕ) (i : ℕ)
+    → follow_places file meta here (way ++ i ∷ []) ≡ next_place file meta (follow_places file meta here way) i
+follow_next file meta here [] i = refl
+follow_next file meta here (j ∷ way) i = follow_next file meta (next_place file meta here j) way i
+
+-- one step further
+pub place_further : (file : List ℕ) (meta : Meta) (way : List ℕ) (i : ℕ) (p : Place) → place_at file meta way ≡ Some p → place_at file meta (way ++ i ∷ []) ≡ step_place file meta p i
+place_further file meta way i p is = follow_next file meta (Some (root_place file meta)) way i ∙ ap (λ (o : Option Place). next_place file meta o i) is
+
+-- the elements at a place are those of its spot
+abbrev HasElements : List ℕ → Meta → Place → Type 0
+HasElements file meta p = (value : List ℕ) × (p.elements ≡ elements_at file meta p.spot value)
+
+some_place : (p q : Place) → Some p ≡ Some q → p ≡ q
+some_place p q e = cc
+
+elements_on : (file : List ℕ) (meta : Meta) (path : Path) (e : Option LeafElement) (s : Option Spot) (p : Place) → place_on file meta path e s ≡ Some p → HasElements file meta p
+elements_on file meta path e None p is = absurd (cc)
+elements_on file meta path None (Some s) p is = subst (HasElements file meta) (some_place _ p is) ([], refl)
+elements_on file meta path (Some e) (Some s) p is = subst (HasElements file meta) (some_place _ p is) (e.value, refl)
+
+elements_next : (file : List ℕ) (meta : Meta) (here : Option Place) (i : ℕ) (p : Place) → next_place file meta here i ≡ Some p → HasElements file meta p
+elements_next file meta None i p is = absurd (cc)
+elements_next file meta (Some q) i p is = elements_on file meta q.path (slice_get q.elements i) (step_from (node_at file meta) q.spot i) p is
+
+elements_follow : (file : List ℕ) (meta : Meta) (here : Option Place) (way : List ℕ) (p : Place) → ((q : Place) → here ≡ Some q → HasElements file meta q)
+    → follow_places file meta here way ≡ Some p → HasElements file meta p
+elements_follow file meta here [] p has is = has p is
+elements_follow file meta here (i ∷ way) p has is = elements_follow file meta (next_place file meta here i) way p (λ q next. elements_next file meta here i q next) is
+
+pub elements_is : (file : List ℕ) (meta : Meta) (way : List ℕ) (p : Place) → place_at file meta way ≡ Some p → HasElements file meta p
+elements_is file meta way p is =
+    elements_follow file meta (Some (root_place file meta)) way p (λ q here. subst (HasElements file meta) (some_place (root_place file meta) q here) ([], refl)) is
+
+-- a page that is a node shows no more leaf elements than it has entries
+by_kind : (fault : Option ℕ) (k : Option Kind) (count overflow : ℕ) (bytes : List ℕ) (other : Option ℕ) (node : Node)
+    → node_seen (shown_as fault k count overflow bytes) other ≡ Ok node → length (leaves_of (shown_as fault k count overflow bytes)) ≤ length node.entries
+by_kind (Some fault) k count overflow bytes other node is = omega arith
+by_kind None None count overflow bytes other node is = omega arith
+by_kind None (Some kind.Branch) count overflow bytes other node is = omega arith
+by_kind None (Some kind.Leaf) count overflow bytes other node is =
+    let leaves = leaves_of (shown_as None (Some kind.Leaf) count overflow bytes) in
+    let entries : node.entries ≡ map leaf_entry leaves = (let same = sym is in cc) in
+    let long = ap length entries ∙ length-map leaves leaf_entry in omega (arith, long)
+by_kind None (Some kind.Meta) count overflow bytes other node is = omega arith
+by_kind None (Some kind.Freelist) count overflow bytes other node is = omega arith
+
+page_leaves : (file : List ℕ) (meta : Meta) (n : ℕ) (node : Node) → node_at file meta n ≡ Ok node → length (leaves_of (page_at file meta n)) ≤ length node.entries
+unfolding node_at page_at
+page_leaves file meta n node is =
+    by_kind (page_fault file meta n) (kind_of (flags_field (from_page file meta n))) (count_field (from_page file meta n)) (page_overflow file meta n) (span_bytes file meta n) (page_fault file meta n) node is
+
+pub size_enough : (file : List ℕ) (meta : Meta) (p : Place) (s : PageSpot) (node : Node) → HasElements file meta p → p.spot ≡ At_page s → node_at file meta s.number ≡ Ok node
+    → length p.elements ≤ place_size (node_at file meta) p.spot p.elements
+size_enough file meta p s node (value, has) at page =
+    let long = ap length (has ∙ ap (λ (t : Spot). elements_at file meta t value) at) in
+    let few = page_leaves file meta s.number node page in
+    let size : place_size (node_at file meta) p.spot p.elements ≡ length node.entries =
+    ap (λ (t : Spot). place_size (node_at file meta) t p.elements) at ∙ ap entry_count page in
+    omega (arith, long, few, size)
+
+-- an entry that leads somewhere is there
+entry_within : (is_leaf : Bool) (s : PageSpot) (entries : List Entry) (i : ℕ) (o next : Option Entry) (t : Spot) → slice_get entries i ≡ o → step_entry is_leaf s o next ≡ Some t → i < length entries
+entry_within is_leaf s entries i None next t at e = absurd (cc)
+entry_within is_leaf s entries i (Some x) next t at e = slice_get_within entries i x at
+
+step_within : (r : Result Node ℕ) (s : PageSpot) (i : ℕ) (t : Spot) → step_at r s i ≡ Some t → i < entry_count r
+step_within (Err fault) s i t e = absurd (cc)
+step_within (Ok node) s i t e = entry_within node.is_leaf s node.entries i (slice_get node.entries i) (slice_get node.entries (suc i)) t refl e
+
+pub leads_within : (nodes : Nodes) (s : Spot) (elements : List LeafElement) (i : ℕ) (t : Spot) → step_from nodes s i ≡ Some t → i < place_size nodes s elements
+leads_within nodes (At_page s) elements i t e = step_within (nodes s.number) s i t e
+leads_within nodes (At_inline host keys) elements i t e = absurd (cc)
+
+-- a step to a place is a step of its spot
+pub step_spot : (file : List ℕ) (meta : Meta) (p t : Place) (i : ℕ) → step_place file meta p i ≡ Some t → step_from (node_at file meta) p.spot i ≡ Some t.spot
+step_spot file meta p t i e = sym (spot_on file meta p.path (slice_get p.elements i) (step_from (node_at file meta) p.spot i)) ∙ ap spot_in e

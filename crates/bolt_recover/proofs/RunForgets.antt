@@ -1,0 +1,53 @@
+-- A run may forget its ways.
+use Rattle.std.proofs.Common.{◌≡◌, ◌∙◌, ℕ, zero, suc, Bool, List, [], ◌∷◌, ◌++◌, map, Option, Some, None, slice_get, refl, ap, subst}
+use Rattle.std.proofs.lemmas.List.{map-append}
+use Rattle.bolt_format.specs.Elements.{LeafElement}
+use Rattle.bolt_format.specs.declared.meta.Meta.{Meta}
+use Rattle.bolt_check.specs.Nodes.{node_at}
+use Rattle.bolt_tree.specs.Listing.{Member}
+use Rattle.bolt_tree.specs.Paths.{Path}
+use Rattle.bolt_recover.specs.Losses.{LossView}
+use Rattle.bolt_recover.specs.Places.{Place, root_place, step_place}
+use Rattle.bolt_recover.specs.Private.Frames.{NoWay, stay}
+use Rattle.bolt_recover.specs.Private.Runs.{Runs, RunsAll, Task, To_give, To_visit, Visited, claimed_with, entry_tasks, gives_at, losses_in, lost_at, place_tasks, tasks_from, visits_at}
+use Rattle.bolt_recover.specs.Private.Runs.Runs.{done, give, keep, lose}
+use Rattle.bolt_recover.proofs.RunOrder.{Way, further}
+
+abbrev blind : Task Way → Task NoWay
+blind (To_visit w p) = To_visit tt p
+blind (To_give path e) = To_give path e
+
+abbrev pub blind_visit : Visited Way → Visited NoWay
+blind_visit v = record { way = tt; place = v.place; found = v.found }
+
+module _ (file : List ℕ) (meta : Meta) where
+  entry_blind : (w : Way) (path : Path) (o : Option LeafElement) (q : Option Place)
+      → map blind (gives_at file meta further path o ++ visits_at file meta further w q) ≡ gives_at file meta stay path o ++ visits_at file meta stay tt q
+  entry_blind w path None None = refl
+  entry_blind w path None (Some p) = refl
+  entry_blind w path (Some e) None = refl
+  entry_blind w path (Some e) (Some p) = refl
+
+  tasks_blind : (w : Way) (p : Place) (i k : ℕ) → map blind (tasks_from file meta further w p i k) ≡ tasks_from file meta stay tt p i k
+  tasks_blind w p i zero = refl
+  tasks_blind w p i (suc k) =
+      map-append blind (entry_tasks file meta further w p i) (tasks_from file meta further w p (suc i) k)
+      ∙ ap (λ (ts : List (Task NoWay)). ts ++ map blind (tasks_from file meta further w p (suc i) k)) (entry_blind (further w i) p.path (slice_get p.elements i) (step_place file meta p i))
+      ∙ ap (λ (ts : List (Task NoWay)). entry_tasks file meta stay tt p i ++ ts) (tasks_blind w p (suc i) k)
+
+  forgets : (claimed : ℕ → Bool) (tasks : List (Task Way)) (visits : List (Visited Way)) (members : List Member) → Runs file meta further claimed tasks visits members
+      → Runs file meta stay claimed (map blind tasks) (map blind_visit visits) members
+  forgets claimed tasks visits members done = done
+  forgets claimed tasks visits members (give {tasks = more} {members = rest} run) = give (forgets claimed more visits rest run)
+  forgets claimed tasks visits members (keep {way = w} {p = p} {tasks = more} {visits = rest} passes run) =
+      let next = forgets _ (place_tasks file meta further w p ++ more) rest members run in
+      keep passes (subst (λ (ts : List (Task NoWay)). Runs file meta stay (claimed_with (node_at file meta) claimed p.spot) ts (map blind_visit rest) members)
+      (map-append blind (place_tasks file meta further w p) more ∙ ap (λ (ts : List (Task NoWay)). ts ++ map blind more) (tasks_blind w p 0 _)) next)
+  forgets claimed tasks visits members (lose {tasks = more} {visits = rest} tests run) = lose tests (forgets claimed more rest members run)
+
+  pub forgotten : (visits : List (Visited Way)) (members : List Member) → RunsAll file meta further [] visits members → RunsAll file meta stay tt (map blind_visit visits) members
+  forgotten visits members run = forgets _ (To_visit [] (root_place file meta) ∷ []) visits members run
+
+pub same_losses : (visits : List (Visited Way)) → losses_in (map blind_visit visits) ≡ losses_in visits
+same_losses [] = refl
+same_losses (v ∷ visits) = ap (λ (ls : List LossView). lost_at v.place v.found ++ ls) (same_losses visits)

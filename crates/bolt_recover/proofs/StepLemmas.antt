@@ -1,0 +1,444 @@
+-- What the steps of a recovering walk leave to be done.
+use Rattle.std.proofs.Common.{◌≡◌, ◌∙◌, ◌≤◌, ◌<◌, ℕ, suc, ◌+◌, ◌-◌, Bool, true, false, ◌↔◌, List, [], ◌∷◌, ◌++◌, length, take, drop, Option, Some, None, Result, Ok, Err, OnOk, OnErr, slice_get, refl, sym, ap, subst, subst₂, arith, append_assoc, length-append}
+use Rattle.std.proofs.lemmas.List.{length-take-le, take-append-drop, take-append-le, take_all}
+use Rattle.std.specs.Option.{option_map}
+use Rattle.bolt_format.specs.Elements.{LeafElement}
+use Rattle.bolt_format.specs.Pages.{page_at}
+use Rattle.bolt_format.specs.declared.meta.Meta.{Meta}
+use Rattle.bolt_check.specs.Claims.{claims_file, claims_meta, is_claimed}
+use Rattle.bolt_check.specs.declared.claims.Claims.{Claims}
+use Rattle.bolt_check.proofs.Judging.{tests_same}
+use Rattle.bolt_check.specs.Findings.{IsMetaPage, Passes, Tests}
+use Rattle.bolt_check.specs.Nodes.{node_at}
+use Rattle.bolt_check.specs.Stops.{page_spot, spot_at}
+use Rattle.bolt_check.specs.Ways.{At_page, start_of}
+use Rattle.bolt_check.specs.declared.stop.PageStop.{PageStop}
+use Rattle.std.proofs.lemmas.Bool.Decides.{nat_tests}
+use Rattle.bolt_check.specs.declared.finding.Finding.{Finding}
+use Rattle.bolt_check.specs.declared.stop.Stop.{Stop}
+use Rattle.bolt_check.specs.declared.stop.Stop.TheVariants as stop
+use Rattle.bolt_tree.specs.Listing.{Member}
+use Rattle.bolt_tree.specs.Paths.{Path}
+use Rattle.bolt_recover.specs.Losses.{LossView, loss_of}
+use Rattle.bolt_recover.specs.Places.{Place, leaves_of, step_place}
+use Rattle.bolt_recover.specs.Private.Frames.{AreOpen, ComesTo, Ends, GivesHead, GoesOn, HasOpen, IsContent, IsGoodContent, IsGoodPage, IsShallow, NoWay, State, StaysOn, ahead_level, ahead_tasks, ahead_weight, claims_nodes, content_elements, content_place, content_size, content_spot, is_over, lost_state, open_tasks, over_by, page_tasks, page_weight, state_tasks, stay, stop_place}
+use Rattle.bolt_recover.specs.Private.Runs.{Runs, RunsAll, Task, To_visit, Visited, claimed_with, entry_tasks, gives_at, losses_in, meta_pages, place_size, place_tasks, tasks_from, visits_at}
+use Rattle.bolt_recover.specs.declared.open_page.Content.{Content}
+use Rattle.bolt_recover.specs.declared.open_page.Content.TheVariants.{Bucket, Page}
+use Rattle.bolt_recover.specs.declared.open_page.OpenPage.{OpenPage}
+use Rattle.bolt_recover.specs.declared.steps.Ahead.{Ahead}
+use Rattle.bolt_recover.proofs.RunSteps.{ends, gives, keeps, loses}
+
+-- the innermost page is the last one
+open_last : (file : List ℕ) (meta : Meta) (path : Path) (pages : List OpenPage) (page : OpenPage) (rest : List (Task NoWay))
+    → open_tasks file meta path (pages ++ page ∷ []) rest ≡ page_tasks file meta path page ++ open_tasks file meta path pages rest
+open_last file meta path [] page rest = refl
+open_last file meta path (first ∷ pages) page rest = open_last file meta path pages page (page_tasks file meta path first ++ rest)
+
+are_open_push : (file : List ℕ) (meta : Meta) (low : ℕ) (pages : List OpenPage) (page : OpenPage) (high : ℕ)
+    → AreOpen file meta low pages page.level → IsGoodPage file meta page → page.level ≤ high → AreOpen file meta low (pages ++ page ∷ []) high
+are_open_push file meta low [] page high are good le = (are, good, le)
+are_open_push file meta low (first ∷ pages) page high are good le = (are.0, are.1, are_open_push file meta first.level pages page high are.2 good le)
+
+-- the innermost page, and those before it
+pub record Innermost (file : List ℕ) (meta : Meta) (low : ℕ) (pages : List OpenPage) (page : OpenPage) (high : ℕ) : Type 0 where
+  pub below : AreOpen file meta low pages page.level
+  pub good : IsGoodPage file meta page
+  pub within : page.level ≤ high
+
+low_high : (file : List ℕ) (meta : Meta) (low : ℕ) (pages : List OpenPage) (high : ℕ) → AreOpen file meta low pages high → low ≤ high
+low_high file meta low [] high are = are
+low_high file meta low (first ∷ pages) high are = let more = low_high file meta first.level pages high are.2 in let here = are.0 in omega (arith, more, here)
+
+innermost : (file : List ℕ) (meta : Meta) (low : ℕ) (pages : List OpenPage) (page : OpenPage) (high : ℕ) → AreOpen file meta low (pages ++ page ∷ []) high
+    → Innermost file meta low pages page high
+innermost file meta low [] page high are = record { below = are.0; good = are.1; within = are.2 }
+innermost file meta low (first ∷ pages) page high are =
+    let more = innermost file meta first.level pages page high are.2 in record { below = (are.0, are.1, more.below); good = more.good; within = more.within }
+
+are_open_up : (file : List ℕ) (meta : Meta) (low : ℕ) (pages : List OpenPage) (high higher : ℕ) → AreOpen file meta low pages high → high ≤ higher → AreOpen file meta low pages higher
+are_open_up file meta low [] high higher are le = omega (arith, are, le)
+are_open_up file meta low (first ∷ pages) high higher are le = (are.0, are.1, are_open_up file meta first.level pages high higher are.2 le)
+
+-- the tasks of open pages look at no more of the path than their level
+same_open : (file : List ℕ) (meta : Meta) (low high : ℕ) (pages : List OpenPage) (a b : Path) (rest : List (Task NoWay)) → AreOpen file meta low pages high
+    → ((n : ℕ) → n ≤ high → take n a ≡ take n b) → open_tasks file meta a pages rest ≡ open_tasks file meta b pages rest
+same_open file meta low high [] a b rest are same = refl
+same_open file meta low high (page ∷ pages) a b rest are same =
+    let here = same page.level (low_high file meta page.level pages high are.2) in
+    ap (λ (p : Path). open_tasks file meta a pages (tasks_from file meta stay tt (content_place p page.content) page.next (page.count - page.next) ++ rest)) here
+    ∙ same_open file meta page.level high pages a b (page_tasks file meta b page ++ rest) are.2 same
+
+-- an opened page as the place that it was visited as
+size_is : (file : List ℕ) (meta : Meta) (content : Content) → IsGoodContent file meta content
+    → content_size content ≡ place_size (node_at file meta) (content_spot content) (content_elements content)
+size_is file meta (Page page s) good = rw good.0 refl
+size_is file meta (Bucket s) good = refl
+
+opened : (file : List ℕ) (meta : Meta) (path : Path) (s : Stop) (content : Content) (level count : ℕ) → IsContent file meta s content → count ≡ content_size content
+    → page_tasks file meta path (record { content = content; level = level; count = count; next = 0 }) ≡ place_tasks file meta stay tt (stop_place file meta (take level path) s)
+opened file meta path s content level count is long =
+    let none : count - 0 ≡ count = omega arith in
+    let place : content_place (take level path) content ≡ stop_place file meta (take level path) s = λ i. record { spot = is.spot i; path = take level path; elements = is.elements i } in
+    rw (none, long, size_is file meta content is.good) (ap (λ (p : Place). place_tasks file meta stay tt p) place)
+
+same_claims : (file : List ℕ) (meta : Meta) (a b : ℕ → Bool) (tasks : List (Task NoWay)) (visits : List (Visited NoWay)) (members : List Member)
+    → ((n : ℕ) → b n ≡ a n) → Runs file meta stay a tasks visits members → Runs file meta stay b tasks visits members
+same_claims file meta a b tasks visits members same run = subst (λ (f : ℕ → Bool). Runs file meta stay f tasks visits members) (sym (λ i n. same n i)) run
+
+-- while something is ahead or open, it isn't over
+not_ahead : (s : State) (ahead : Ahead) → s.ahead ≡ Some ahead → is_over s ≡ true → ⊥
+not_ahead s ahead is over = let f : false ≡ true = ap (λ (o : Option Ahead). over_by o s.pages) (sym is) ∙ over in cc
+
+more_open : (o : Option Ahead) (front : List OpenPage) (top : OpenPage) → over_by o (front ++ top ∷ []) ≡ false
+more_open None [] top = refl
+more_open None (page ∷ front) top = refl
+more_open (Some ahead) front top = refl
+
+not_open : (s : State) (front : List OpenPage) (top : OpenPage) → s.ahead ≡ None → s.pages ≡ front ++ top ∷ [] → is_over s ≡ true → ⊥
+not_open s front top is pages over =
+    let f : false ≡ true = sym (more_open None front top) ∙ ap (over_by None) (sym pages) ∙ ap (λ (o : Option Ahead). over_by o s.pages) (sym is) ∙ over in cc
+
+-- what was ahead is open
+pub entered_page : (s : State) (ahead : Ahead) (content : Content) (count : ℕ) (claimed : ℕ → Bool) → HasOpen s → s.ahead ≡ Some ahead
+    → Passes (node_at s.file s.meta) (λ n. s.claimed n ≡ true) (spot_at ahead.stop) → IsContent s.file s.meta ahead.stop content
+    → ((n : ℕ) → claimed n ≡ claimed_with (node_at s.file s.meta) s.claimed (spot_at ahead.stop) n) → count ≡ content_size content → count < 65536
+    → GoesOn s (record s { claimed = claimed; ahead = None; pages = s.pages ++ record { content = content; level = ahead.level; count = count; next = 0 } ∷ [] })
+entered_page s ahead content count claimed has is passes content_is claims long fits =
+    let page : OpenPage = record { content = content; level = ahead.level; count = count; next = 0 } in
+    let are = rw is at has.pages in
+    let within = rw is at has.within in
+    let none : 0 ≤ count = omega arith in
+    record {
+      on = record {
+        file = refl;
+        meta = refl;
+        placed = record {
+          pages = are_open_push s.file s.meta 0 s.pages page (length s.path) are (record { content = content_is.good; count = long; fits = fits; taken = none }) within;
+          within = omega arith;
+        };
+      };
+      path = refl;
+      over = λ over. absurd (not_ahead s ahead is over);
+      same = λ members losses comes.
+          let first = subst (λ (o : Option Ahead). Runs s.file s.meta stay s.claimed (ahead_tasks s.file s.meta s.path o (open_tasks s.file s.meta s.path s.pages [])) comes.visits members) is comes.run in
+          let next = keeps s.file s.meta stay s.claimed tt (stop_place s.file s.meta (take ahead.level s.path) ahead.stop) (open_tasks s.file s.meta s.path s.pages []) comes.visits members passes first in
+          record {
+            visits = next.0;
+            run = same_claims s.file s.meta (claimed_with (node_at s.file s.meta) s.claimed (spot_at ahead.stop)) claimed _ next.0 members claims
+                (subst (λ (ts : List (Task NoWay)). Runs s.file s.meta stay (claimed_with (node_at s.file s.meta) s.claimed (spot_at ahead.stop)) ts next.0 members)
+                (sym (open_last s.file s.meta s.path s.pages page [] ∙ ap (λ (ts : List (Task NoWay)). ts ++ open_tasks s.file s.meta s.path s.pages []) (opened s.file s.meta s.path ahead.stop content ahead.level count content_is long)))
+                next.2);
+            all = comes.all ∙ ap (λ (vs : List (Visited NoWay)). s.losses ++ losses_in vs) next.1;
+          };
+    }
+
+-- what was ahead is lost
+pub entered_lost : (s : State) (ahead : Ahead) (x : Finding) (claimed : ℕ → Bool) → HasOpen s → s.ahead ≡ Some ahead
+    → Tests (node_at s.file s.meta) (λ n. s.claimed n ≡ true) (spot_at ahead.stop) x → ((n : ℕ) → claimed n ≡ s.claimed n)
+    → GoesOn s (lost_state (record s { claimed = claimed }) ahead x)
+entered_lost s ahead x claimed has is tests claims =
+    let are = rw is at has.pages in
+    let within = rw is at has.within in
+    let place : Place = stop_place s.file s.meta (take ahead.level s.path) ahead.stop in
+    record {
+      on = record { file = refl; meta = refl; placed = record { pages = are_open_up s.file s.meta 0 s.pages ahead.level (length s.path) are within; within = omega arith } };
+      path = refl;
+      over = λ over. absurd (not_ahead s ahead is over);
+      same = λ members losses comes.
+          let first = subst (λ (o : Option Ahead). Runs s.file s.meta stay s.claimed (ahead_tasks s.file s.meta s.path o (open_tasks s.file s.meta s.path s.pages [])) comes.visits members) is comes.run in
+          let next = loses s.file s.meta stay s.claimed tt place x (open_tasks s.file s.meta s.path s.pages []) comes.visits members tests first in
+          record {
+            visits = next.0;
+            run = same_claims s.file s.meta s.claimed claimed _ next.0 members claims next.2;
+            all = comes.all ∙ ap (λ (vs : List (Visited NoWay)). s.losses ++ losses_in vs) next.1
+                ∙ sym (append_assoc s.losses (loss_of place x ∷ []) (losses_in next.0));
+          };
+    }
+
+-- nothing has changed, but how the claims are kept
+pub stayed : (s : State) (claimed : ℕ → Bool) → HasOpen s → ((n : ℕ) → claimed n ≡ s.claimed n) → GoesOn s (record s { claimed = claimed })
+stayed s claimed has claims = record {
+  on = record { file = refl; meta = refl; placed = record { pages = has.pages; within = has.within } };
+  path = refl;
+  over = λ over. over;
+  same = λ members losses comes. record { visits = comes.visits; run = same_claims s.file s.meta s.claimed claimed _ comes.visits members claims comes.run; all = comes.all };
+}
+
+-- without what is ahead the tasks are those of the open pages
+run_open : (s : State) (visits : List (Visited NoWay)) (members : List Member) → s.ahead ≡ None → Runs s.file s.meta stay s.claimed (state_tasks s) visits members
+    → Runs s.file s.meta stay s.claimed (open_tasks s.file s.meta s.path s.pages []) visits members
+run_open s visits members is run =
+    subst (λ (o : Option Ahead). Runs s.file s.meta stay s.claimed (ahead_tasks s.file s.meta s.path o (open_tasks s.file s.meta s.path s.pages [])) visits members) is run
+
+run_top : (s : State) (front : List OpenPage) (top : OpenPage) (visits : List (Visited NoWay)) (members : List Member) → s.ahead ≡ None → s.pages ≡ front ++ top ∷ []
+    → Runs s.file s.meta stay s.claimed (state_tasks s) visits members
+    → Runs s.file s.meta stay s.claimed (page_tasks s.file s.meta s.path top ++ open_tasks s.file s.meta s.path front []) visits members
+run_top s front top visits members is pages run =
+    subst (λ (ts : List (Task NoWay)). Runs s.file s.meta stay s.claimed ts visits members)
+    (ap (λ (ps : List OpenPage). open_tasks s.file s.meta s.path ps []) pages ∙ open_last s.file s.meta s.path front top []) (run_open s visits members is run)
+
+-- nothing was open
+pub took_none : (s : State) → HasOpen s → s.ahead ≡ None → s.pages ≡ [] → Ends s (record s { ahead = None; pages = []; path = [] })
+took_none s has is none = record {
+  on = record { file = refl; meta = refl; placed = record { pages = omega arith; within = omega arith } };
+  ended = record { ahead = refl; pages = refl; path = refl };
+  none = λ members losses comes.
+      let open_run = subst (λ (ps : List OpenPage). Runs s.file s.meta stay s.claimed (open_tasks s.file s.meta s.path ps []) comes.visits members) none (run_open s comes.visits members is comes.run) in
+      let over = ends s.file s.meta stay s.claimed comes.visits members open_run in
+      (over.1, record { visits = comes.visits; run = subst (λ (ms : List Member). Runs s.file s.meta stay s.claimed [] comes.visits ms) over.1 open_run; all = comes.all });
+}
+
+pub top_of : (s : State) (front : List OpenPage) (top : OpenPage) → HasOpen s → s.ahead ≡ None → s.pages ≡ front ++ top ∷ [] → Innermost s.file s.meta 0 front top (length s.path)
+top_of s front top has is pages =
+    let are = rw is at has.pages in
+    innermost s.file s.meta 0 front top (length s.path) (subst (λ (ps : List OpenPage). AreOpen s.file s.meta 0 ps (length s.path)) pages are)
+
+-- the innermost page had no more elements
+pub took_last : (s : State) (front : List OpenPage) (top : OpenPage) → HasOpen s → s.ahead ≡ None → s.pages ≡ front ++ top ∷ [] → top.next ≡ top.count
+    → GoesOn s (record s { ahead = None; pages = front })
+took_last s front top has is pages over =
+    let inner = top_of s front top has is pages in
+    let nothing : top.count - top.next ≡ 0 = omega arith in
+    record {
+      on = record { file = refl; meta = refl; placed = record { pages = are_open_up s.file s.meta 0 front top.level (length s.path) inner.below inner.within; within = omega arith } };
+      path = refl;
+      over = λ over. absurd (not_open s front top is pages over);
+      same = λ members losses comes. record {
+        visits = comes.visits;
+        run = subst (λ (n : ℕ). Runs s.file s.meta stay s.claimed (tasks_from s.file s.meta stay tt (content_place (take top.level s.path) top.content) top.next n ++ open_tasks s.file s.meta s.path front []) comes.visits members)
+            nothing (run_top s front top comes.visits members is pages comes.run);
+        all = comes.all;
+      };
+    }
+
+take_below : (m n : ℕ) (path rest : Path) → m ≤ length path → n ≤ m → take n (take m path ++ rest) ≡ take n path
+take_below m n path rest long le =
+    let have = length-take-le m path long in
+    let short : n ≤ length (take m path) = omega (arith, have) in
+    take-append-le n (take m path) rest short ∙ sym (take-append-le n (take m path) (drop m path) short) ∙ ap (take n) (take-append-drop m path)
+
+-- the next element of the innermost page, with a path that is the same up to its level
+module _ (s : State) (front : List OpenPage) (top : OpenPage) (has : HasOpen s) (is : s.ahead ≡ None) (pages : s.pages ≡ front ++ top ∷ []) (more : top.next ≡ top.count → ⊥) where
+  abbrev moved : OpenPage
+  moved = record { content = top.content; level = top.level; count = top.count; next = top.next + 1 }
+
+  abbrev here : Place
+  here = content_place (take top.level s.path) top.content
+
+  abbrev rest_tasks : List (Task NoWay)
+  rest_tasks = tasks_from s.file s.meta stay tt here (suc top.next) (top.count - (top.next + 1)) ++ open_tasks s.file s.meta s.path front []
+
+  inner : Innermost s.file s.meta 0 front top (length s.path)
+  inner = top_of s front top has is pages
+
+  in_front : top.next + 1 ≤ top.count
+  in_front = let taken = inner.good.taken in omega (arith, taken, more)
+
+  run_entry : (visits : List (Visited NoWay)) (members : List Member) → Runs s.file s.meta stay s.claimed (state_tasks s) visits members
+      → Runs s.file s.meta stay s.claimed (entry_tasks s.file s.meta stay tt here top.next ++ rest_tasks) visits members
+  run_entry visits members run =
+      let lt = in_front in
+      let count : top.count - top.next ≡ suc (top.count - (top.next + 1)) = omega (arith, lt) in
+      subst (λ (ts : List (Task NoWay)). Runs s.file s.meta stay s.claimed ts visits members)
+      (ap (λ (n : ℕ). tasks_from s.file s.meta stay tt here top.next n ++ open_tasks s.file s.meta s.path front []) count
+      ∙ append_assoc (entry_tasks s.file s.meta stay tt here top.next) (tasks_from s.file s.meta stay tt here (suc top.next) (top.count - (top.next + 1))) (open_tasks s.file s.meta s.path front []))
+      (run_top s front top visits members is pages run)
+
+  moved_open : (high : ℕ) → top.level ≤ high → AreOpen s.file s.meta 0 (front ++ moved ∷ []) high
+  moved_open high le = are_open_push s.file s.meta 0 front moved high inner.below (record { content = inner.good.content; count = inner.good.count; fits = inner.good.fits; taken = in_front }) le
+
+  -- what is left of the open pages under a path that is the same up to the level
+  moved_tasks : (path : Path) → ((n : ℕ) → n ≤ top.level → take n path ≡ take n s.path) → rest_tasks ≡ open_tasks s.file s.meta path (front ++ moved ∷ []) []
+  moved_tasks path same =
+      let one : suc top.next ≡ top.next + 1 = omega arith in
+      ap (λ (i : ℕ). tasks_from s.file s.meta stay tt here i (top.count - (top.next + 1)) ++ open_tasks s.file s.meta s.path front []) one
+      ∙ ap (λ (p : Path). tasks_from s.file s.meta stay tt (content_place p top.content) (top.next + 1) (top.count - (top.next + 1)) ++ open_tasks s.file s.meta s.path front []) (sym (same top.level (omega arith)))
+      ∙ ap (λ (ts : List (Task NoWay)). page_tasks s.file s.meta path moved ++ ts) (same_open s.file s.meta 0 top.level front s.path path [] inner.below (λ n le. sym (same n le)))
+      ∙ sym (open_last s.file s.meta path front moved [])
+
+  -- where the element leads is ahead
+  abbrev ahead_of : ℕ → Option Stop → Option Ahead
+  ahead_of level r = option_map (λ (stop : Stop). record { stop = stop; level = level }) r
+
+  visits_ahead : (path : Path) (level : ℕ) (r : Option Stop) (rest : List (Task NoWay)) → visits_at s.file s.meta stay tt (option_map (stop_place s.file s.meta (take level path)) r) ++ rest
+      ≡ ahead_tasks s.file s.meta path (ahead_of level r) rest
+  visits_ahead path level None rest = refl
+  visits_ahead path level (Some stop) rest = refl
+
+  ahead_within : (level : ℕ) (r : Option Stop) (high : ℕ) → level ≤ high → ahead_level (ahead_of level r) high ≤ high
+  ahead_within level None high le = omega arith
+  ahead_within level (Some stop) high le = le
+
+  ahead_above : (low level : ℕ) (r : Option Stop) (high : ℕ) → low ≤ level → level ≤ high → low ≤ ahead_level (ahead_of level r) high
+  ahead_above low level None high le up = omega (arith, le, up)
+  ahead_above low level (Some stop) high le up = le
+
+  -- an element of a branch
+  pub took_branch : (r : Option Stop) → slice_get (content_elements top.content) top.next ≡ None
+      → step_place s.file s.meta here top.next ≡ option_map (stop_place s.file s.meta (take top.level s.path)) r
+      → GoesOn s (record s { ahead = ahead_of top.level r; pages = front ++ moved ∷ [] })
+  took_branch r none leads =
+      let within = inner.within in
+      record {
+        on = record {
+          file = refl;
+          meta = refl;
+          placed = record {
+            pages = moved_open (ahead_level (ahead_of top.level r) (length s.path)) (ahead_above top.level top.level r (length s.path) (omega arith) within);
+            within = ahead_within top.level r (length s.path) within;
+          };
+        };
+        path = refl;
+        over = λ over. absurd (not_open s front top is pages over);
+        same = λ members losses comes. record {
+          visits = comes.visits;
+          run = subst (λ (ts : List (Task NoWay)). Runs s.file s.meta stay s.claimed ts comes.visits members)
+              (ap (λ (o : Option LeafElement). (gives_at s.file s.meta stay (take top.level s.path) o ++ visits_at s.file s.meta stay tt (step_place s.file s.meta here top.next)) ++ rest_tasks) none
+              ∙ ap (λ (o : Option Place). visits_at s.file s.meta stay tt o ++ rest_tasks) leads
+              ∙ visits_ahead s.path top.level r rest_tasks
+              ∙ ap (ahead_tasks s.file s.meta s.path (ahead_of top.level r)) (moved_tasks s.path (λ n le. refl)))
+              (run_entry comes.visits members comes.run);
+          all = comes.all;
+        };
+      }
+
+  -- an element of a leaf
+  pub took_leaf : (e : LeafElement) (r : Option Stop) → slice_get (content_elements top.content) top.next ≡ Some e
+      → step_place s.file s.meta here top.next ≡ option_map (stop_place s.file s.meta (take top.level s.path ++ e.key ∷ [])) r
+      → GivesHead s (record s { ahead = ahead_of (top.level + 1) r; pages = front ++ moved ∷ []; path = take top.level s.path ++ e.key ∷ [] }) e
+  took_leaf e r some leads =
+      let within = inner.within in
+      let path : Path = take top.level s.path ++ e.key ∷ [] in
+      let long : length path ≡ top.level + 1 = length-append (take top.level s.path) (e.key ∷ []) ∙ ap (λ (n : ℕ). n + 1) (length-take-le top.level s.path within) in
+      let whole : take (top.level + 1) path ≡ path = take_all (top.level + 1) path (omega (arith, long)) in
+      record {
+        on = record {
+          file = refl;
+          meta = refl;
+          placed = record {
+            pages = moved_open (ahead_level (ahead_of (top.level + 1) r) (length path)) (ahead_above top.level (top.level + 1) r (length path) (omega arith) (omega (arith, long)));
+            within = ahead_within (top.level + 1) r (length path) (omega (arith, long));
+          };
+        };
+        more = more_open (ahead_of (top.level + 1) r) front moved;
+        head = λ members losses comes.
+            let first = subst (λ (ts : List (Task NoWay)). Runs s.file s.meta stay s.claimed ts comes.visits members)
+            (ap (λ (o : Option LeafElement). (gives_at s.file s.meta stay (take top.level s.path) o ++ visits_at s.file s.meta stay tt (step_place s.file s.meta here top.next)) ++ rest_tasks) some)
+            (run_entry comes.visits members comes.run) in
+            let next = gives s.file s.meta stay s.claimed path e (visits_at s.file s.meta stay tt (step_place s.file s.meta here top.next) ++ rest_tasks) comes.visits members first in (
+              next.0,
+              next.1,
+              record {
+                visits = comes.visits;
+                run = subst (λ (ts : List (Task NoWay)). Runs s.file s.meta stay s.claimed ts comes.visits next.0)
+                    (ap (λ (o : Option Place). visits_at s.file s.meta stay tt o ++ rest_tasks) (leads ∙ ap (λ (p : Path). option_map (stop_place s.file s.meta p) r) (sym whole))
+                    ∙ visits_ahead path (top.level + 1) r rest_tasks
+                    ∙ ap (ahead_tasks s.file s.meta path (ahead_of (top.level + 1) r)) (moved_tasks path (λ n le. take_below top.level n s.path (e.key ∷ []) within le)))
+                    next.2;
+                all = comes.all;
+              },
+            );
+      }
+
+-- a state with these parts
+pub as_state : (P : State → Type 0) (t : State) (file : List ℕ) (meta : Meta) (ahead : Option Ahead) (pages : List OpenPage) (path : Path) (losses : List LossView)
+    → t.file ≡ file → t.meta ≡ meta → t.ahead ≡ ahead → t.pages ≡ pages → t.path ≡ path → t.losses ≡ losses → P t
+    → P (record { file = file; meta = meta; claimed = t.claimed; ahead = ahead; pages = pages; path = path; losses = losses })
+as_state P t file meta ahead pages path losses f m a g p l h =
+    subst P (λ i. record { file = f i; meta = m i; claimed = t.claimed; ahead = a i; pages = g i; path = p i; losses = l i }) h
+
+-- the root page alone is ahead
+abbrev pub start_state : List ℕ → Meta → PageStop → State
+start_state file meta root =
+    record { file = file; meta = meta; claimed = meta_pages; ahead = Some (record { stop = stop.Page root; level = 0 }); pages = []; path = []; losses = [] }
+
+pub started : (file : List ℕ) (meta : Meta) (root : PageStop) → page_spot root ≡ start_of meta.root → root.number ≡ meta.root → (visits : List (Visited NoWay)) (members : List Member)
+    → RunsAll file meta stay tt visits members → ComesTo (start_state file meta root) members (losses_in visits)
+started file meta root spot number visits members run = record {
+  visits = visits;
+  run = subst (λ (p : Place). Runs file meta stay meta_pages (To_visit tt p ∷ []) visits members)
+      (λ i. record { spot = At_page (sym spot i); path = []; elements = leaves_of (page_at file meta (sym number i)) }) run;
+  all = refl;
+}
+
+pub started_open : (file : List ℕ) (meta : Meta) (root : PageStop) → HasOpen (start_state file meta root)
+started_open file meta root = record { pages = omega arith; within = omega arith }
+
+-- the meta pages alone are claimed
+pub same_test : (a b : Bool) → (a ≡ true → b ≡ true) → (b ≡ true → a ≡ true) → a ≡ b
+same_test true b to from = sym (to refl)
+same_test false true to from = from refl
+same_test false false to from = refl
+
+pub of_metas : (claimed : ℕ → Bool) → ((n : ℕ) → (claimed n ≡ true) ↔ IsMetaPage n) → (n : ℕ) → claimed n ≡ meta_pages n
+of_metas claimed metas n = same_test (claimed n) (meta_pages n) (λ h. let is = (metas n).0 h in grind (arith, nat_tests)) (λ h. (metas n).1 (grind (arith, nat_tests)))
+
+pub root_refused : (claims : Claims) (file : List ℕ) (meta : Meta) (x : Finding) → claims_file claims ≡ file → claims_meta claims ≡ meta
+    → ((n : ℕ) → (is_claimed claims n ≡ true) ↔ IsMetaPage n) → Tests (claims_nodes claims) (λ n. is_claimed claims n ≡ true) (At_page (start_of meta.root)) x
+    → Tests (node_at file meta) IsMetaPage (At_page (start_of meta.root)) x
+root_refused claims file meta x f m metas h =
+    tests_same (node_at file meta) (λ n. is_claimed claims n ≡ true) IsMetaPage (At_page (start_of meta.root)) x (λ n. (metas n).0) (λ n. (metas n).1)
+    (subst₂ (λ (a : List ℕ) (b : Meta). Tests (node_at a b) (λ n. is_claimed claims n ≡ true) (At_page (start_of meta.root)) x) f m h)
+
+pub either : {A X E P Q : Type 0} (result : Result X E) → OnOk result P → OnErr result Q → (P → A) → (Q → A) → A
+either (Ok x) p q f g = f p
+either (Err e) p q f g = g q
+
+-- the root page is open
+pub begins : (file f : List ℕ) (meta m : Meta) (before claimed : ℕ → Bool) (root : PageStop) (content : Content) (count : ℕ) → f ≡ file → m ≡ meta → ((n : ℕ) → before n ≡ meta_pages n)
+    → page_spot root ≡ start_of meta.root → root.number ≡ meta.root → Passes (node_at f m) (λ n. before n ≡ true) (At_page (page_spot root)) → IsContent f m (stop.Page root) content
+    → ((n : ℕ) → claimed n ≡ claimed_with (node_at f m) before (At_page (page_spot root)) n) → count ≡ content_size content → count < 65536
+    → (visits : List (Visited NoWay)) (members : List Member) → RunsAll file meta stay tt visits members
+    → ComesTo (record { file = f; meta = m; claimed = claimed; ahead = None; pages = record { content = content; level = 0; count = count; next = 0 } ∷ []; path = []; losses = [] }) members (losses_in visits)
+begins file f meta m before claimed root content count e h metas spot number passes is claims long fits visits members run =
+    let s : State = record (start_state f m root) { claimed = before } in
+    let ahead : Ahead = record { stop = stop.Page root; level = 0 } in
+    let here : ComesTo s members (losses_in visits) =
+    subst (λ (t : State). ComesTo t members (losses_in visits))
+    (λ i. record { file = sym e i; meta = sym h i; claimed = λ n. sym (metas n) i; ahead = Some ahead; pages = []; path = []; losses = [] }) (started file meta root spot number visits members run) in
+    let placed : HasOpen s = record { pages = omega arith; within = omega arith } in
+    (entered_page s ahead content count claimed placed refl passes is claims long fits).same members (losses_in visits) here
+
+-- the element to be taken next is there
+pub next_below : (file : List ℕ) (meta : Meta) (page : OpenPage) → IsGoodPage file meta page → (page.next ≡ page.count → ⊥) → page.next < content_size page.content
+next_below file meta page good more = let count = good.count in let taken = good.taken in omega (arith, count, taken, more)
+
+pub is_shallow : (file : List ℕ) (meta : Meta) (content : Content) → IsGoodContent file meta content → IsShallow content
+is_shallow file meta (Page page s) good = good.2
+is_shallow file meta (Bucket s) good = tt
+
+none_is : {A B : Type 0} (f : A → B) (o : Option A) → None ≡ option_map f o → o ≡ None
+none_is f None e = refl
+none_is f (Some x) e = absurd (cc)
+
+-- an element that is taken was worth more than where it leads
+pub moved_weight : (file : List ℕ) (meta : Meta) (path under : Path) (content : Content) (level above count next : ℕ) (r : Option Stop)
+    → step_place file meta (content_place path content) next ≡ option_map (stop_place file meta under) r → next + 1 ≤ count
+    → ahead_weight (option_map (λ (stop : Stop). record { stop = stop; level = above }) r) + page_weight (record { content = content; level = level; count = count; next = next + 1 })
+    < page_weight (record { content = content; level = level; count = count; next = next })
+moved_weight file meta path under (Page page s) level above count next None leads le = omega arith
+moved_weight file meta path under (Page page s) level above count next (Some (stop.Page t)) leads le = omega arith
+moved_weight file meta path under (Page page s) level above count next (Some (stop.Bucket t)) leads le = omega arith
+moved_weight file meta path under (Bucket s) level above count next r leads le =
+    let none = none_is (stop_place file meta under) r leads in rw none (omega arith)
+
+-- one step after another
+pub unmoved : (s : State) → HasOpen s → GoesOn s s
+unmoved s has = record { on = record { file = refl; meta = refl; placed = has }; path = refl; over = λ over. over; same = λ members losses comes. comes }
+
+on_from : (a b c : State) → StaysOn a b → StaysOn b c → StaysOn a c
+on_from a b c h k = record { file = k.file ∙ h.file; meta = k.meta ∙ h.meta; placed = k.placed }
+
+pub goes_from : (a b c : State) → GoesOn a b → GoesOn b c → GoesOn a c
+goes_from a b c h k = record { on = on_from a b c h.on k.on; path = k.path ∙ h.path; over = λ over. k.over (h.over over); same = λ members losses comes. k.same members losses (h.same members losses comes) }
+
+pub gives_from : (a b c : State) (e : LeafElement) → GoesOn a b → GivesHead b c e → GivesHead a c e
+gives_from a b c e h k = record { on = on_from a b c h.on k.on; more = k.more; head = λ members losses comes. k.head members losses (h.same members losses comes) }
+
+pub ends_from : (a b c : State) → GoesOn a b → Ends b c → Ends a c
+ends_from a b c h k = record { on = on_from a b c h.on k.on; ended = k.ended; none = λ members losses comes. k.none members losses (h.same members losses comes) }
+
+pub when_err : {X E P : Type 0} (result : Result X E) → P → OnErr result P
+when_err (Ok x) p = tt
+when_err (Err e) p = p

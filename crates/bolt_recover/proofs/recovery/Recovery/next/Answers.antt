@@ -1,0 +1,56 @@
+use Rattle.std.proofs.Common.{◌≡◌, ◌∙◌, ◌∷◌, List, ap, sym}
+use Rattle.std.proofs.Math.Logic.{∥∥₁_elim, ∥∥₁_map}
+use Rattle.std.proofs.Props.{props}
+use Rattle.bolt_format.specs.ElementPlaces.{leaf_view}
+use Rattle.bolt_tree.specs.Entries.{Item}
+use Rattle.bolt_tree.specs.Listing.{Member}
+use Rattle.bolt_recover.specs.Recovered.{IsRecovered}
+use Rattle.bolt_recover.specs.Private.Frames.{left_by, state_of}
+use Rattle.bolt_recover.specs.Recoveries.{recovery_file, recovery_left, recovery_losses, recovery_meta, recovery_path}
+use Rattle.bolt_recover.proofs.Recovering.{has_open_prop, left_next, left_none, left_same, on_advanced, told_ended}
+use Rattle.bolt_recover.proofs.StepLemmas.{when_err}
+use Rattle.bolt_recover.proofs.recovery.Recovery.next.Goals as goal
+
+pub advance-requires : goal.advance-requires
+advance-requires c = ∥∥₁_elim c.args.self.now.on (has_open_prop (state_of c.args.self.now.steps)) (λ on. on.placed)
+
+pub invariant_of-self : goal.invariant_of-self
+invariant_of-self c =
+    let old = state_of c.args.self.now.steps in
+    let new = state_of c.advance.new.self in
+    record { on = ∥∥₁_map c.args.self.now.on (λ on. on_advanced old new c.args.self.now.meta on c.advance.result c.advance.ensures.given c.advance.ensures.same) }
+
+pub returns-in_err-leaf-clause-same : goal.returns-in_err-leaf-clause-same
+unfolding recovery_file recovery_left recovery_meta
+returns-in_err-leaf-clause-same c =
+    let old = state_of c.args.self.now.steps in
+    let new = state_of c.advance.new.self in
+    let same : (listing : List Member) → IsRecovered old.file c.args.self.now.meta listing → left_by new listing ≡ left_by old listing =
+    λ listing recovered. ∥∥₁_elim c.args.self.now.on (hlevel props) (λ on. left_same old new c.args.self.now.meta on c.in_err-leaf.ensures.same listing recovered) in
+    when_err c.from_residual.result same
+
+pub returns-in-Some-clause-given : goal.returns-in-Some-clause-given
+unfolding recovery_file recovery_left recovery_meta recovery_path
+returns-in-Some-clause-given c = λ listing recovered.
+    let old = state_of c.args.self.now.steps in
+    let new = state_of c.advance.new.self in
+    let given = rw c.in-Some.is at c.in_ok-leaf.ensures.given in
+    ∥∥₁_elim c.args.self.now.on (hlevel props) (λ on.
+    left_next old new c.args.self.now.meta on (leaf_view c.in-Some.leaf) given listing recovered
+    ∙ ap (λ (item : Item). (new.path, item) ∷ left_by new listing) (sym c.of.ensures))
+
+pub returns-in-None-clause-given : goal.returns-in-None-clause-given
+unfolding recovery_file recovery_left recovery_meta recovery_path
+returns-in-None-clause-given c = λ listing recovered.
+    let old = state_of c.args.self.now.steps in
+    let new = state_of c.advance.new.self in
+    let ended = rw c.in-None.is at c.in_ok-leaf.ensures.given in
+    ∥∥₁_elim c.args.self.now.on (hlevel props) (λ on. left_none old new c.args.self.now.meta on ended listing recovered)
+
+pub returns-in-None-clause-all : goal.returns-in-None-clause-all
+unfolding recovery_file recovery_losses recovery_meta
+returns-in-None-clause-all c = λ losses told.
+    let old = state_of c.args.self.now.steps in
+    let new = state_of c.advance.new.self in
+    let ended = rw c.in-None.is at c.in_ok-leaf.ensures.given in
+    ∥∥₁_elim c.args.self.now.on (hlevel props) (λ on. told_ended old new c.args.self.now.meta on ended losses told)

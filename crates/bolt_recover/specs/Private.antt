@@ -1,0 +1,3 @@
+-- What private contracts and proofs cite, and no public one.
+pub mod Frames
+pub mod Runs

@@ -1,0 +1,256 @@
+-- The open pages of the code as what is still to be done.
+use Rattle.std.specs.Prelude.{◌≡◌, ◌≤◌, ◌<◌, IsTrue, ℕ, ◌+◌, ◌-◌, ◌*◌, Bool, true, false, List, [], ◌∷◌, ◌++◌, length, map, take, Option, Some, None, Ok, if◌then◌else◌, sum_by}
+use Rattle.bolt_format.specs.ElementPlaces.{leaf_view}
+use Rattle.bolt_format.specs.Elements.{IsBucketValue, LeafElement}
+use Rattle.bolt_format.specs.declared.element.Leaf as element
+use Rattle.bolt_format.specs.Pages.{page_at}
+use Rattle.bolt_format.specs.Shown.{shown}
+use Rattle.bolt_format.specs.ShownInline.{shown_inline}
+use Rattle.bolt_format.specs.declared.meta.Meta.{Meta}
+use Rattle.bolt_check.specs.Claims.{claims_file, claims_meta, is_claimed, pages_left}
+use Rattle.bolt_check.specs.Findings.{IsMetaPage, Tests}
+use Rattle.bolt_check.specs.Nodes.{Nodes, node_at}
+use Rattle.bolt_check.specs.ShownNodes.{shown_node}
+use Rattle.bolt_check.specs.Stops.{inline_keys, page_spot, spot_at}
+use Rattle.bolt_check.specs.Ways.{At_inline, At_page, Spot, start_of}
+use Rattle.bolt_check.specs.declared.fault.CheckFault.{CheckFault}
+use Rattle.bolt_check.specs.declared.fault.CheckFault.TheVariants.{Accounts, Memory, Open, Structure}
+use Rattle.bolt_check.specs.declared.claims.Claims.{Claims}
+use Rattle.bolt_check.specs.declared.finding.Finding.{Finding}
+use Rattle.bolt_check.specs.declared.stop.Stop.{Stop}
+use Rattle.bolt_check.specs.declared.stop.Stop.TheVariants as stop
+use Rattle.bolt_tree.specs.Entries.{item_of}
+use Rattle.bolt_tree.specs.Listing.{Member}
+use Rattle.bolt_tree.specs.Paths.{Path, path_of}
+use Rattle.bolt_recover.specs.Losses.{AreLosses, LossView, loss_of}
+use Rattle.bolt_recover.specs.Places.{Place, leaves_of}
+use Rattle.bolt_recover.specs.Private.Runs.{Runs, Task, To_visit, Visited, losses_in, tasks_from}
+use Rattle.bolt_recover.specs.Recovered.{IsRecovered}
+use Rattle.bolt_tree.specs.Private.Behind.{behind}
+use Rattle.bolt_recover.specs.ShownLosses.{loss_view}
+use Rattle.bolt_recover.specs.declared.open_page.Content.{Content}
+use Rattle.bolt_recover.specs.declared.open_page.Content.TheVariants.{Bucket, Page}
+use Rattle.bolt_recover.specs.declared.open_page.OpenPage.{OpenPage}
+use Rattle.bolt_recover.specs.declared.steps.Ahead.{Ahead}
+use Rattle.bolt_recover.specs.declared.steps.Steps.{Steps}
+use Rattle.bolt_recover.specs.declared.steps.Taken.{Taken}
+use Rattle.bolt_recover.specs.declared.steps.Taken.TheVariants.{End, Leaf, Nothing}
+
+-- the code keeps no ways
+abbrev pub NoWay : Type 0
+NoWay = Unit {0}
+
+abbrev pub stay : NoWay → ℕ → NoWay
+stay way i = tt
+
+abbrev pub claims_nodes : Claims → Nodes
+claims_nodes claims = node_at (claims_file claims) (claims_meta claims)
+
+-- what a stop leads to
+abbrev pub stop_elements : List ℕ → Meta → Stop → List LeafElement
+stop_elements file meta (stop.Page s) = leaves_of (page_at file meta s.number)
+stop_elements file meta (stop.Bucket s) = shown_inline s.page
+
+abbrev pub stop_place : List ℕ → Meta → Path → Stop → Place
+stop_place file meta path s = record { spot = spot_at s; path = path; elements = stop_elements file meta s }
+
+-- an open page as a place
+abbrev pub content_spot : Content → Spot
+content_spot (Page page s) = At_page (page_spot s)
+content_spot (Bucket s) = At_inline s.host (inline_keys s.page)
+
+abbrev pub content_elements : Content → List LeafElement
+content_elements (Page page s) = (shown page.page).leaves
+content_elements (Bucket s) = shown_inline s.page
+
+abbrev pub content_size : Content → ℕ
+content_size (Page page s) = length (shown_node page).entries
+content_size (Bucket s) = length (shown_inline s.page)
+
+abbrev pub content_place : Path → Content → Place
+content_place path content = record { spot = content_spot content; path = path; elements = content_elements content }
+
+-- the page is the one that the file has under its number, no more than 64 pages deep in its bucket
+abbrev pub IsGoodContent : List ℕ → Meta → Content → Type 0
+IsGoodContent file meta (Page page s) = (node_at file meta s.number ≡ Ok (shown_node page)) × (page_at file meta s.number ≡ Some (shown page.page)) × (s.depth ≤ 64)
+IsGoodContent file meta (Bucket s) = Unit {0}
+
+abbrev pub IsShallow : Content → Type 0
+IsShallow (Page page s) = s.depth ≤ 64
+IsShallow (Bucket s) = Unit {0}
+
+-- the path of the bucket that a step comes to
+abbrev pub step_path : Path → Option LeafElement → Path
+step_path path None = path
+step_path path (Some e) = path ++ e.key ∷ []
+
+-- what a visit of a stop opens
+pub record IsContent (file : List ℕ) (meta : Meta) (s : Stop) (content : Content) : Type 0 where
+  pub spot : content_spot content ≡ spot_at s
+  pub elements : content_elements content ≡ stop_elements file meta s
+  pub good : IsGoodContent file meta content
+
+-- the steps as data
+pub record State : Type 0 where
+  pub file : List ℕ
+  pub meta : Meta
+  pub claimed : ℕ → Bool
+  pub ahead : Option Ahead
+  pub pages : List OpenPage
+  pub path : Path
+  pub losses : List LossView
+
+abbrev pub state_of : Steps → State
+state_of steps = record {
+  file = claims_file steps.claims;
+  meta = claims_meta steps.claims;
+  claimed = is_claimed steps.claims;
+  ahead = steps.ahead;
+  pages = steps.open.items;
+  path = path_of steps.path.items;
+  losses = map loss_view steps.losses.items;
+}
+
+-- what was ahead is lost, with this finding
+abbrev pub lost_state : State → Ahead → Finding → State
+lost_state s ahead x = record s { ahead = None; losses = s.losses ++ loss_of (stop_place s.file s.meta (take ahead.level s.path) ahead.stop) x ∷ [] }
+
+pub record IsGoodPage (file : List ℕ) (meta : Meta) (page : OpenPage) : Type 0 where
+  pub content : IsGoodContent file meta page.content
+  pub count : page.count ≡ content_size page.content
+  pub fits : page.count < 65536
+  pub taken : page.next ≤ page.count
+
+-- Good pages from a level on, each as deep as the one before or deeper, up to a level.
+abbrev pub AreOpen : List ℕ → Meta → (low : ℕ) → List OpenPage → (high : ℕ) → Type 0
+AreOpen file meta low [] high = low ≤ high
+AreOpen file meta low (page ∷ pages) high = (low ≤ page.level) × IsGoodPage file meta page × AreOpen file meta page.level pages high
+
+abbrev pub ahead_level : Option Ahead → ℕ → ℕ
+ahead_level None high = high
+ahead_level (Some ahead) high = ahead.level
+
+pub record HasOpen (s : State) : Type 0 where
+  pub pages : AreOpen s.file s.meta 0 s.pages (ahead_level s.ahead (length s.path))
+  pub within : ahead_level s.ahead (length s.path) ≤ length s.path
+
+-- what is left of an open page, and of all of them, the innermost first
+abbrev pub page_tasks : List ℕ → Meta → Path → OpenPage → List (Task NoWay)
+page_tasks file meta path page = tasks_from file meta stay tt (content_place (take page.level path) page.content) page.next (page.count - page.next)
+
+abbrev pub open_tasks : List ℕ → Meta → Path → List OpenPage → List (Task NoWay) → List (Task NoWay)
+open_tasks file meta path [] rest = rest
+open_tasks file meta path (page ∷ pages) rest = open_tasks file meta path pages (page_tasks file meta path page ++ rest)
+
+abbrev pub ahead_tasks : List ℕ → Meta → Path → Option Ahead → List (Task NoWay) → List (Task NoWay)
+ahead_tasks file meta path None rest = rest
+ahead_tasks file meta path (Some ahead) rest = To_visit tt (stop_place file meta (take ahead.level path) ahead.stop) ∷ rest
+
+abbrev pub state_tasks : State → List (Task NoWay)
+state_tasks s = ahead_tasks s.file s.meta s.path s.ahead (open_tasks s.file s.meta s.path s.pages [])
+
+-- these members are left, and with the losses told so far these are all losses
+pub record ComesTo (s : State) (members : List Member) (losses : List LossView) : Type 0 where
+  pub visits : List (Visited NoWay)
+  pub run : Runs s.file s.meta stay s.claimed (state_tasks s) visits members
+  pub all : losses ≡ s.losses ++ losses_in visits
+
+-- nothing is left to be done
+abbrev pub over_by : Option Ahead → List OpenPage → Bool
+over_by None [] = true
+over_by None (page ∷ pages) = false
+over_by (Some ahead) pages = false
+
+abbrev pub is_over : State → Bool
+is_over s = over_by s.ahead s.pages
+
+-- the same file, in good order
+pub record StaysOn (old new : State) : Type 0 where
+  pub file : new.file ≡ old.file
+  pub meta : new.meta ≡ old.meta
+  pub placed : HasOpen new
+
+-- nothing was given
+pub record GoesOn (old new : State) : Type 0 where
+  pub on : StaysOn old new
+  pub path : new.path ≡ old.path
+  pub over : is_over old ≡ true → is_over new ≡ true
+  pub same : (members : List Member) (losses : List LossView) → ComesTo old members losses → ComesTo new members losses
+
+-- this element was given
+pub record GivesHead (old new : State) (e : LeafElement) : Type 0 where
+  pub on : StaysOn old new
+  pub more : is_over new ≡ false
+  pub head : (members : List Member) (losses : List LossView) → ComesTo old members losses
+      → (rest : List Member) × (members ≡ (new.path, item_of e) ∷ rest) × ComesTo new rest losses
+
+-- nothing was left
+pub record HasEnded (s : State) : Type 0 where
+  pub ahead : s.ahead ≡ None
+  pub pages : s.pages ≡ []
+  pub path : s.path ≡ []
+
+pub record Ends (old new : State) : Type 0 where
+  pub on : StaysOn old new
+  pub ended : HasEnded new
+  pub none : (members : List Member) (losses : List LossView) → ComesTo old members losses → (members ≡ []) × ComesTo new [] losses
+
+abbrev pub Takes : State → State → Taken → Type 0
+Takes old new (Leaf leaf) = GivesHead old new (leaf_view leaf)
+Takes old new Nothing = GoesOn old new
+Takes old new End = Ends old new
+
+-- what of a listing is left: all behind the path of what was given last
+abbrev pub left_by : State → List Member → List Member
+left_by s listing = if is_over s then [] else behind s.path listing
+
+-- good steps over a file under this meta, which come to all that is recovered and lost of it
+pub record IsOn (s : State) (under : Meta) : Type 0 where
+  pub meta : s.meta ≡ under
+  pub placed : HasOpen s
+  pub comes : (listing : List Member) (losses : List LossView) → IsRecovered s.file under listing → AreLosses s.file under losses → ComesTo s (left_by s listing) losses
+
+-- a bucket that is given has a bucket's value
+abbrev pub TakesBucket : Taken → Type 0
+TakesBucket (Leaf leaf) = IsTrue leaf.is_bucket → IsBucketValue leaf.value.now
+TakesBucket Nothing = Unit {0}
+TakesBucket End = Unit {0}
+
+abbrev pub Advances : State → State → Option element.Leaf → Type 0
+Advances old new (Some leaf) = GivesHead old new (leaf_view leaf)
+Advances old new None = Ends old new
+
+-- the finding of the root page, where the meta pages alone are claimed, or want of memory
+abbrev pub IsRefusedRoot : List ℕ → Meta → CheckFault → Type 0
+IsRefusedRoot file meta (Structure x) = Tests (node_at file meta) IsMetaPage (At_page (start_of meta.root)) x
+IsRefusedRoot file meta Memory = Unit {0}
+IsRefusedRoot file meta (Open fault) = ⊥
+IsRefusedRoot file meta (Accounts findings) = ⊥
+
+-- How much there is to do at most: a page holds fewer than 65536 elements, and a visit of a page claims one.
+abbrev pub element_weight : Content → ℕ → ℕ
+element_weight (Page page s) n = n * 65538
+element_weight (Bucket s) n = n
+
+abbrev pub page_weight : OpenPage → ℕ
+page_weight page = 1 + element_weight page.content (page.count - page.next)
+
+abbrev pub stop_weight : Stop → ℕ
+stop_weight (stop.Page s) = 1
+stop_weight (stop.Bucket s) = 65537
+
+abbrev pub ahead_weight : Option Ahead → ℕ
+ahead_weight None = 0
+ahead_weight (Some ahead) = stop_weight ahead.stop
+
+abbrev pub pages_in : Content → ℕ
+pages_in (Page page s) = 1
+pages_in (Bucket s) = 0
+
+abbrev pub steps_weight : Steps → ℕ
+steps_weight steps = pages_left steps.claims * 4295163904 + ahead_weight steps.ahead + sum_by page_weight steps.open.items
+
+abbrev pub taken_weight : (old new : ℕ) → Taken → Type 0
+taken_weight old new (Leaf leaf) = Unit {0}
+taken_weight old new Nothing = new < old
+taken_weight old new End = Unit {0}

@@ -1,0 +1,98 @@
+-- What is still to be done, and all that comes of it. A way may be given as anything that a step takes further, or as nothing at all.
+use Rattle.std.specs.Prelude.{◌≡◌, ℕ, zero, suc, ◌+◌, Bool, true, false, ◌||◌, ◌&&◌, List, [], ◌∷◌, ◌++◌, length, Option, Some, None, Result, Ok, Err, nat_le, nat_lt, slice_get}
+use Rattle.bolt_format.specs.Elements.{LeafElement}
+use Rattle.bolt_format.specs.declared.meta.Meta.{Meta}
+use Rattle.bolt_check.specs.Findings.{Passes, Tests}
+use Rattle.bolt_check.specs.Nodes.{Node, Nodes, node_at}
+use Rattle.bolt_check.specs.Ways.{At_inline, At_page, Spot}
+use Rattle.bolt_check.specs.declared.finding.Finding.{Finding}
+use Rattle.bolt_tree.specs.Entries.{item_of}
+use Rattle.bolt_tree.specs.Listing.{Member}
+use Rattle.bolt_tree.specs.Paths.{Path}
+use Rattle.bolt_recover.specs.Losses.{LossView, loss_of}
+use Rattle.bolt_recover.specs.Places.{Place, root_place, step_place}
+
+-- a place to be visited, or an element to be given under its path
+pub data Task (W : Type 0) : Type 0 where
+  To_visit : W → Place → Task W
+  To_give : Path → LeafElement → Task W
+
+-- a place that was visited, and what was found there
+pub record Visited (W : Type 0) : Type 0 where
+  pub way : W
+  pub place : Place
+  pub found : Option Finding
+
+-- how many entries there are at a place
+abbrev pub entry_count : Result Node ℕ → ℕ
+entry_count (Ok node) = length node.entries
+entry_count (Err fault) = 0
+
+abbrev pub place_size : Nodes → Spot → List LeafElement → ℕ
+place_size nodes (At_page s) elements = entry_count (nodes s.number)
+place_size nodes (At_inline host keys) elements = length elements
+
+-- the pages that are claimed once this spot is
+abbrev pub in_span : Result Node ℕ → ℕ → ℕ → Bool
+in_span (Ok node) number n = nat_le number n && nat_le n (number + node.overflow)
+in_span (Err fault) number n = false
+
+abbrev pub claims_of : Nodes → Spot → ℕ → Bool
+claims_of nodes (At_page s) n = in_span (nodes s.number) s.number n
+claims_of nodes (At_inline host keys) n = false
+
+abbrev pub claimed_with : Nodes → (ℕ → Bool) → Spot → ℕ → Bool
+claimed_with nodes claimed spot n = claimed n || claims_of nodes spot n
+
+-- the meta pages alone
+abbrev pub meta_pages : ℕ → Bool
+meta_pages n = nat_lt n 2
+
+-- the losses among visits, in order
+abbrev pub lost_at : Place → Option Finding → List LossView
+lost_at p None = []
+lost_at p (Some x) = loss_of p x ∷ []
+
+abbrev pub losses_in : {W : Type 0} → List (Visited W) → List LossView
+losses_in [] = []
+losses_in (v ∷ visits) = lost_at v.place v.found ++ losses_in visits
+
+module _ (file : List ℕ) (meta : Meta) {W : Type 0} (further : W → ℕ → W) where
+  abbrev pub gives_at : Path → Option LeafElement → List (Task W)
+  gives_at path None = []
+  gives_at path (Some e) = To_give (path ++ e.key ∷ []) e ∷ []
+
+  abbrev pub visits_at : W → Option Place → List (Task W)
+  visits_at way None = []
+  visits_at way (Some p) = To_visit way p ∷ []
+
+  -- what there is to do at one entry of a place: its element is given, and where it leads is visited
+  abbrev pub entry_tasks : W → Place → ℕ → List (Task W)
+  entry_tasks way p i = gives_at p.path (slice_get p.elements i) ++ visits_at (further way i) (step_place file meta p i)
+
+  -- what there is to do at so many entries from entry i on
+  abbrev pub tasks_from : W → Place → ℕ → ℕ → List (Task W)
+  tasks_from way p i zero = []
+  tasks_from way p i (suc k) = entry_tasks way p i ++ tasks_from way p (suc i) k
+
+  abbrev pub place_tasks : W → Place → List (Task W)
+  place_tasks way p = tasks_from way p 0 (place_size (node_at file meta) p.spot p.elements)
+
+  -- from these claims these tasks come to these visits and these members
+  pub data Runs : (ℕ → Bool) → List (Task W) → List (Visited W) → List Member → Type 0 where
+    done : {claimed : ℕ → Bool} → Runs claimed [] [] []
+    give : {claimed : ℕ → Bool} {path : Path} {e : LeafElement} {tasks : List (Task W)} {visits : List (Visited W)} {members : List Member}
+        → Runs claimed tasks visits members
+        → Runs claimed (To_give path e ∷ tasks) visits ((path, item_of e) ∷ members)
+    keep : {claimed : ℕ → Bool} {way : W} {p : Place} {tasks : List (Task W)} {visits : List (Visited W)} {members : List Member}
+        → Passes (node_at file meta) (λ n. claimed n ≡ true) p.spot
+        → Runs (claimed_with (node_at file meta) claimed p.spot) (place_tasks way p ++ tasks) visits members
+        → Runs claimed (To_visit way p ∷ tasks) (record { way = way; place = p; found = None } ∷ visits) members
+    lose : {claimed : ℕ → Bool} {way : W} {p : Place} {x : Finding} {tasks : List (Task W)} {visits : List (Visited W)} {members : List Member}
+        → Tests (node_at file meta) (λ n. claimed n ≡ true) p.spot x
+        → Runs claimed tasks visits members
+        → Runs claimed (To_visit way p ∷ tasks) (record { way = way; place = p; found = Some x } ∷ visits) members
+
+  -- the run from the root page on
+  abbrev pub RunsAll : W → List (Visited W) → List Member → Type 0
+  RunsAll way visits members = Runs meta_pages (To_visit way (root_place file meta) ∷ []) visits members

@@ -1,0 +1,34 @@
+-- What a recovery shows: the file that it reads, what of the recovered listing is before it, and the losses so far.
+use Rattle.std.specs.Prelude.{◌≡◌, ℕ, List, length, take}
+use Rattle.bolt_format.specs.declared.meta.Meta.{Meta}
+use Rattle.bolt_tree.specs.Listing.{Member}
+use Rattle.bolt_tree.specs.Paths.{Path}
+use Rattle.bolt_recover.specs.Losses.{AreLosses, LossView}
+use Rattle.bolt_recover.specs.Private.Frames.{left_by, state_of}
+use Rattle.bolt_recover.specs.declared.recovery.Recovery.{Recovery}
+
+unfoldable pub recovery_file : Recovery → List ℕ
+recovery_file recovery = (state_of recovery.steps).file
+
+unfoldable pub recovery_meta : Recovery → Meta
+recovery_meta recovery = recovery.meta
+
+-- what of a recovered listing is before it
+unfoldable pub recovery_left : Recovery → List Member → List Member
+recovery_left recovery listing = left_by (state_of recovery.steps) listing
+
+-- the path of what it gave last
+unfoldable pub recovery_path : Recovery → Path
+recovery_path recovery = (state_of recovery.steps).path
+
+-- the losses that it has told so far
+unfoldable pub recovery_losses : Recovery → List LossView
+recovery_losses recovery = (state_of recovery.steps).losses
+
+-- What is promised of the losses of a file is promised for each list of them; there is exactly one (`laws`).
+abbrev pub ForLosses : List ℕ → Meta → (List LossView → Type 0) → Type 0
+ForLosses file meta P = (losses : List LossView) → AreLosses file meta losses → P losses
+
+-- these are the first of all losses
+abbrev pub AreFirst : List LossView → List LossView → Type 0
+AreFirst told losses = told ≡ take (length told) losses

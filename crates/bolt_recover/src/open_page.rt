@@ -1,0 +1,97 @@
+//! A page that is kept, and how far its elements are taken.
+ghost use Rattle.std.specs.Prelude.{◌≡◌, ◌≤◌, ◌<◌, ◌+◌, ℕ, List, true, IfErr, IfOk, IfSome, OnErr, OnOk, IsTrue, length, slice_get};
+ghost use Rattle.std.specs.Option.{option_map};
+ghost use Rattle.bolt_format.specs.Elements.{IsBucketValue};
+ghost use Rattle.bolt_format.specs.ElementPlaces.{leaf_view};
+ghost use Rattle.bolt_format.specs.declared.meta.Meta.{Meta};
+ghost use Rattle.bolt_check.specs.Claims.{claims_file, claims_meta, is_claimed, pages_left};
+ghost use Rattle.bolt_check.specs.Findings.{Passes, Tests};
+ghost use Rattle.bolt_check.specs.Stops.{spot_at};
+ghost use Rattle.bolt_tree.specs.Paths.{Path};
+ghost use Rattle.bolt_recover.specs.Places.{step_place};
+ghost use Rattle.bolt_recover.specs.Private.Frames.{IsContent, IsGoodContent, IsShallow, claims_nodes, content_elements, content_place, content_size, pages_in, step_path, stop_place};
+ghost use Rattle.bolt_recover.specs.Private.Runs.{claimed_with};
+
+use bolt_check::{BucketStop, Claims, Finding, PageStop, Stop, TreePage};
+use bolt_format::Leaf;
+
+/// A page that passed its tests, or the page of an inline bucket, with the stop that led to it.
+#[derive(Clone, Copy)]
+pub(crate) enum Content<'a> {
+    Page(TreePage<'a>, PageStop<'a>),
+    Bucket(BucketStop<'a>),
+}
+
+/// A page on the way that is open.
+#[derive(Clone, Copy)]
+pub(crate) struct OpenPage<'a> {
+    pub content: Content<'a>,
+    /// How many parts the path of its bucket has.
+    pub level: usize,
+    /// How many elements it has.
+    pub count: u16,
+    /// The element to be taken next.
+    pub next: u16,
+}
+
+impl<'a> Content<'a> {
+    /// Tests what a way leads to; a page is claimed if the tests find nothing.
+    pub fn visit(claims: &mut Claims<'a>, stop: Stop<'a>) -> Result<Content<'a>, Finding>
+        ensures file { claims_file claims.new ≡ claims_file claims.old }
+        ensures meta { claims_meta claims.new ≡ claims_meta claims.old }
+        ensures found { IfErr result (Tests (claims_nodes claims.old) (λ n. is_claimed claims.old n ≡ true) (spot_at stop.entry)) }
+        ensures same { OnErr result ((n : ℕ) → is_claimed claims.new n ≡ is_claimed claims.old n) }
+        ensures left { OnErr result (pages_left claims.new ≡ pages_left claims.old) }
+        ensures passes { OnOk result (Passes (claims_nodes claims.old) (λ n. is_claimed claims.old n ≡ true) (spot_at stop.entry)) }
+        ensures content { IfOk result (IsContent (claims_file claims.old) (claims_meta claims.old) stop.entry) }
+        ensures claims { OnOk result ((n : ℕ) → is_claimed claims.new n ≡ claimed_with (claims_nodes claims.old) (is_claimed claims.old) (spot_at stop.entry) n) }
+        ensures fewer { IfOk result (λ content. pages_left claims.new + pages_in content ≤ pages_left claims.old) }
+    {
+        match stop {
+            Stop::Page(stop) => match claims.visit(&stop) {
+                Ok(page) => Ok(Content::Page(page, stop)),
+                Err(finding) => Err(finding),
+            },
+            Stop::Bucket(stop) => match stop.test() {
+                Ok(()) => Ok(Content::Bucket(stop)),
+                Err(finding) => Err(finding),
+            },
+        }
+    }
+
+    /// How many elements it has.
+    pub fn count(&self) -> u16
+        ensures { result ≡ content_size self.now }
+    {
+        match self {
+            Content::Page(page, _) => page.count(),
+            Content::Bucket(stop) => stop.page.count(),
+        }
+    }
+
+    /// Element `i`, unless the page is a branch.
+    pub fn leaf(&self, i: u16) -> Option<Leaf<'a>>
+        requires { i < content_size self.now }
+        ensures element { option_map leaf_view result ≡ slice_get (content_elements self.now) i }
+        ensures bucket { IfSome result (λ leaf. IsTrue leaf.is_bucket → IsBucketValue leaf.value.now) }
+    {
+        match self {
+            Content::Page(page, _) if page.is_leaf => Some(page.page.leaf(i)),
+            Content::Page(_, _) => None,
+            Content::Bucket(stop) => Some(stop.page.leaf(i)),
+        }
+    }
+
+    /// Where element `i` leads, if it leads anywhere.
+    pub fn stop(&self, i: u16) -> Option<Stop<'a>>
+        requires shallow { IsShallow self.now }
+        requires below { i < content_size self.now }
+        ensures { (file : List ℕ) (meta : Meta) (path : Path) → IsGoodContent file meta self.now
+            → step_place file meta (content_place path self.now) i ≡ option_map (stop_place file meta (step_path path (slice_get (content_elements self.now) i))) result }
+    {
+        match self {
+            Content::Page(page, stop) => page.stop(i, stop),
+            Content::Bucket(_) => None,
+        }
+    }
+}

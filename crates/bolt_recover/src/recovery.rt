@@ -1,0 +1,151 @@
+//! A walk over all that is kept of a damaged file.
+ghost use Rattle.std.specs.Option.{IfNone, option_map};
+ghost use Rattle.std.specs.Prelude.{◌≡◌, ◌↔◌, ◌<◌, List, [], IfErr, IfOk, OnErr, map};
+ghost use Rattle.bolt_check.specs.Sound.{IsRefused, IsSlotRefused};
+ghost use Rattle.bolt_format.specs.Metas.{IsChosen, IsInSlot};
+ghost use Rattle.bolt_tree.specs.Listing.{Member};
+ghost use Rattle.bolt_tree.specs.Paths.{path_of};
+ghost use Rattle.bolt_tree.specs.ShownEntries.{item_view};
+ghost use Rattle.bolt_tree.specs.Walks.{GivesNext};
+ghost use Rattle.bolt_recover.specs.Private.Frames.{IsOn, IsRefusedRoot, state_of};
+ghost use Rattle.bolt_recover.specs.Recovered.{ForRecovered, IsRecovered};
+ghost use Rattle.bolt_recover.specs.ShownLosses.{loss_view};
+
+use crate::loss::Loss;
+use crate::steps::Steps;
+use bolt_check::{CheckFault, NoMemory};
+use bolt_format::{Meta, Slot, choose, slot_meta};
+use bolt_tree::{Item, Members};
+use std::alloc::Global;
+
+/// A walk over all that is kept of a file, in the order of the paths (docs/RECOVERY.md): each value
+/// and each bucket once, a bucket before what it holds. It visits no page twice, and tells what is
+/// lost on its way. It takes a byte for each whole page that lies in the file and below the
+/// high-water mark, room for the losses, and room for the pages on the way that is open.
+#[derive(Drop)]
+pub struct Recovery<'a> {
+    steps: Steps<'a>,
+    meta: Meta,
+    ghost on: { ∥ IsOn (state_of steps) meta ∥₁ },
+}
+
+impl<'a> Recovery<'a> {
+    ghost use Rattle.bolt_recover.specs.Recoveries.{AreFirst, ForLosses, recovery_file, recovery_left, recovery_losses, recovery_meta, recovery_path};
+
+    /// A recovery under the active meta.
+    ///
+    /// # Errors
+    ///
+    /// `Open` if no meta is valid; `Structure` with the finding of the root page if that is lost;
+    /// `Memory` if memory runs out. `Accounts` never comes.
+    pub fn new(alloc: Global, file: &'a [u8]) -> Result<Recovery<'a>, CheckFault>
+        ensures file { IfOk result (λ recovery. recovery_file recovery ≡ file.now) }
+        ensures meta { IfOk result (λ recovery. (slot : _) × IsChosen file.now slot (recovery_meta recovery)) }
+        ensures all { IfOk result (λ recovery. ForRecovered file.now (recovery_meta recovery) (λ listing. recovery_left recovery listing ≡ listing)) }
+        ensures path { IfOk result (λ recovery. recovery_path recovery ≡ []) }
+        ensures losses { IfOk result (λ recovery. recovery_losses recovery ≡ []) }
+        ensures refused { IfErr result (IsRefused file.now) }
+    {
+        match choose(file) {
+            Ok((_, meta)) => Recovery::under(alloc, file, meta),
+            Err(fault) => Err(CheckFault::Open(fault)),
+        }
+    }
+
+    /// A recovery under the meta of a slot, be it active or not. Errors are those of `new`, and
+    /// `Open` comes if the slot has no valid meta.
+    pub fn of_slot(alloc: Global, file: &'a [u8], slot: Slot) -> Result<Recovery<'a>, CheckFault>
+        ensures file { IfOk result (λ recovery. recovery_file recovery ≡ file.now) }
+        ensures meta { IfOk result (λ recovery. IsInSlot file.now slot (recovery_meta recovery)) }
+        ensures all { IfOk result (λ recovery. ForRecovered file.now (recovery_meta recovery) (λ listing. recovery_left recovery listing ≡ listing)) }
+        ensures path { IfOk result (λ recovery. recovery_path recovery ≡ []) }
+        ensures losses { IfOk result (λ recovery. recovery_losses recovery ≡ []) }
+        ensures refused { IfErr result (IsSlotRefused file.now slot) }
+    {
+        match slot_meta(file, slot) {
+            Ok(meta) => Recovery::under(alloc, file, meta),
+            Err(fault) => Err(CheckFault::Open(fault)),
+        }
+    }
+
+    /// A recovery under a valid meta.
+    #[tactic(auto, unfolding(crate::specs::Recoveries::recovery_file, crate::specs::Recoveries::recovery_left, crate::specs::Recoveries::recovery_losses, crate::specs::Recoveries::recovery_meta, crate::specs::Recoveries::recovery_path))]
+    fn under(alloc: Global, file: &'a [u8], meta: Meta) -> Result<Recovery<'a>, CheckFault>
+        requires { 0 < meta.page_size }
+        ensures file { IfOk result (λ recovery. recovery_file recovery ≡ file.now) }
+        ensures meta { IfOk result (λ recovery. recovery_meta recovery ≡ meta) }
+        ensures all { IfOk result (λ recovery. ForRecovered file.now meta (λ listing. recovery_left recovery listing ≡ listing)) }
+        ensures path { IfOk result (λ recovery. recovery_path recovery ≡ []) }
+        ensures losses { IfOk result (λ recovery. recovery_losses recovery ≡ []) }
+        ensures refused { IfErr result (IsRefusedRoot file.now meta) }
+    {
+        let steps = Steps::new(alloc, file, meta)?;
+        Ok(Recovery { steps, meta })
+    }
+
+    /// The meta under which the file is read.
+    #[tactic(auto, unfolding(crate::specs::Recoveries::recovery_meta))]
+    pub fn meta(&self) -> Meta
+        ensures { result ≡ recovery_meta self.now }
+    {
+        self.meta
+    }
+
+    /// Gives what comes next, or `None` if nothing is left, then and ever after. All losses are
+    /// told then.
+    ///
+    /// # Errors
+    ///
+    /// `NoMemory` if there is no room for one more open page or one more loss. The same is left
+    /// then, the path is the same, and it may be asked again.
+    #[tactic(auto, unfolding(crate::specs::Recoveries::recovery_file, crate::specs::Recoveries::recovery_left, crate::specs::Recoveries::recovery_losses, crate::specs::Recoveries::recovery_meta, crate::specs::Recoveries::recovery_path))]
+    pub fn next(&mut self) -> Result<Option<Item<'a>>, NoMemory>
+        ensures file { recovery_file self.new ≡ recovery_file self.old }
+        ensures meta { recovery_meta self.new ≡ recovery_meta self.old }
+        ensures given { IfOk result (λ given. ForRecovered (recovery_file self.old) (recovery_meta self.old) (λ listing. GivesNext (recovery_left self.old listing) (recovery_left self.new listing) (recovery_path self.new) (option_map item_view given))) }
+        ensures all { IfOk result (λ given. IfNone given (ForLosses (recovery_file self.old) (recovery_meta self.old) (λ losses. recovery_losses self.new ≡ losses))) }
+        ensures same { OnErr result (ForRecovered (recovery_file self.old) (recovery_meta self.old) (λ listing. recovery_left self.new listing ≡ recovery_left self.old listing)) }
+        ensures same_path { OnErr result (recovery_path self.new ≡ recovery_path self.old) }
+    {
+        match self.steps.advance()? {
+            Some(leaf) => Ok(Some(Item::of(&leaf))),
+            None => Ok(None),
+        }
+    }
+
+    /// The path of the item given last, from the root bucket down; empty before the first one and
+    /// after the last.
+    #[tactic(auto, unfolding(crate::specs::Recoveries::recovery_path))]
+    pub fn path(&self) -> &[&'a [u8]]
+        ensures { path_of result.now ≡ recovery_path self.now }
+    {
+        self.steps.path.as_slice()
+    }
+
+    /// The losses so far, in the order of ways; all of them once `next` has given `None`.
+    #[tactic(auto, unfolding(crate::specs::Recoveries::recovery_file, crate::specs::Recoveries::recovery_losses, crate::specs::Recoveries::recovery_meta))]
+    pub fn losses(&self) -> &[Loss<'a>]
+        ensures losses { map loss_view result.now ≡ recovery_losses self.now }
+        ensures first { ForLosses (recovery_file self.now) (recovery_meta self.now) (AreFirst (recovery_losses self.now)) }
+    {
+        self.steps.losses.as_slice()
+    }
+}
+
+impl<'a> Members<'a> for Recovery<'a> {
+    ghost use Rattle.bolt_recover.specs.Recoveries.{recovery_file, recovery_left, recovery_meta, recovery_path};
+
+    ghost lists = { λ recovery listing. IsRecovered (recovery_file recovery) (recovery_meta recovery) listing };
+
+    ghost left = { λ recovery listing. recovery_left recovery listing };
+
+    ghost last_path = { λ recovery. recovery_path recovery };
+
+    fn next(&mut self) -> Result<Option<Item<'a>>, NoMemory> {
+        Recovery::next(self)
+    }
+
+    fn path(&self) -> &[&'a [u8]] {
+        Recovery::path(self)
+    }
+}

@@ -1,0 +1,198 @@
+//! The steps of a recovering walk: one loop over the pages on the way that is open.
+ghost use Rattle.std.specs.Prelude.{◌≡◌, ◌≤◌, ◌<◌, ℕ, List, [], false, None, IfOk, IfErr, IfSome, IsTrue, OnErr, OnOk, MatchResult, length};
+ghost use Rattle.std.specs.Option.{option_map};
+ghost use Rattle.bolt_check.specs.Claims.{claims_file, claims_meta, is_claimed};
+ghost use Rattle.bolt_check.specs.Stops.{spot_at};
+ghost use Rattle.bolt_format.specs.ElementPlaces.{leaf_view};
+ghost use Rattle.bolt_format.specs.Elements.{IsBucketValue};
+ghost use Rattle.bolt_tree.specs.Listing.{Member};
+ghost use Rattle.bolt_tree.specs.Paths.{path_of};
+ghost use Rattle.bolt_recover.specs.Private.Frames.{Advances, ComesTo, GoesOn, HasOpen, IsRefusedRoot, NoWay, Takes, TakesBucket, is_over, lost_state, state_of, stay, steps_weight, taken_weight};
+ghost use Rattle.bolt_recover.specs.Private.Runs.{RunsAll, Visited, losses_in};
+
+use crate::loss::Loss;
+use crate::open_page::{Content, OpenPage};
+use bolt_check::{CheckFault, Claims, Finding, NoMemory, PageStop, Stop};
+use bolt_format::{Leaf, Meta};
+use std::alloc::Global;
+
+/// What is to be visited next.
+#[derive(Clone, Copy)]
+pub(crate) struct Ahead<'a> {
+    pub stop: Stop<'a>,
+    /// How many parts the path of its bucket has.
+    pub level: usize,
+}
+
+impl<'a> Ahead<'a> {
+    /// What an element leads to, if it leads anywhere.
+    fn of(stop: Option<Stop<'a>>, level: usize) -> Option<Ahead<'a>>
+        ensures { result ≡ option_map (λ stop. record { stop = stop; level = level }) stop.entry }
+    {
+        match stop {
+            Some(stop) => Some(Ahead { stop, level }),
+            None => None,
+        }
+    }
+}
+
+/// What a step takes.
+#[derive(Clone, Copy)]
+pub(crate) enum Taken<'a> {
+    /// The element of a leaf, which is to be given.
+    Leaf(Leaf<'a>),
+    /// Nothing that is to be given.
+    Nothing,
+    /// Nothing, since nothing is left.
+    End,
+}
+
+/// How far a recovering walk has come. First comes what is ahead, and then what is left of each
+/// open page, the innermost first.
+#[derive(Drop)]
+pub(crate) struct Steps<'a> {
+    pub alloc: Global,
+    pub claims: Claims<'a>,
+    pub ahead: Option<Ahead<'a>>,
+    pub open: Vec<OpenPage<'a>>,
+    /// The path of the element given last.
+    pub path: Vec<&'a [u8]>,
+    pub losses: Vec<Loss<'a>>,
+}
+
+impl<'a> Steps<'a> {
+    /// The root page is open, and nothing is given yet. If the root page is lost, its finding is
+    /// the fault.
+    pub fn new(alloc: Global, file: &'a [u8], meta: Meta) -> Result<Steps<'a>, CheckFault>
+        requires { 0 < meta.page_size }
+        ensures file { IfOk result (λ steps. claims_file steps.claims ≡ file.now) }
+        ensures meta { IfOk result (λ steps. claims_meta steps.claims ≡ meta) }
+        ensures path { IfOk result (λ steps. path_of steps.path.items ≡ []) }
+        ensures placed { IfOk result (λ steps. HasOpen (state_of steps)) }
+        ensures more { IfOk result (λ steps. is_over (state_of steps) ≡ false) }
+        ensures losses { IfOk result (λ steps. (state_of steps).losses ≡ []) }
+        ensures all { IfOk result (λ steps. (visits : List (Visited NoWay)) (members : List Member) → RunsAll file.now meta stay tt visits members → ComesTo (state_of steps) members (losses_in visits)) }
+        ensures refused { IfErr result (IsRefusedRoot file.now meta) }
+    {
+        let Ok(mut claims) = Claims::new(alloc, file, meta) else {
+            return Err(CheckFault::Memory);
+        };
+        let root = PageStop {
+            number: meta.root,
+            depth: 1,
+            lower: None,
+            upper: None,
+        };
+        let content = match Content::visit(&mut claims, Stop::Page(root)) {
+            Ok(content) => content,
+            Err(finding) => return Err(CheckFault::Structure(finding)),
+        };
+        let mut open = Vec::new(alloc);
+        open.reserve(1)?;
+        open.push_reserved(OpenPage {
+            content,
+            level: 0,
+            count: content.count(),
+            next: 0,
+        });
+        Ok(Steps {
+            alloc,
+            claims,
+            ahead: None,
+            open,
+            path: Vec::new(alloc),
+            losses: Vec::new(alloc),
+        })
+    }
+
+    /// What was ahead is lost, with this finding.
+    fn lose(&mut self, finding: Finding, ahead: &Ahead<'a>) -> Result<(), NoMemory>
+        requires { ahead.now.level ≤ length self.old.path.items }
+        ensures claims { self.new.claims ≡ self.old.claims }
+        ensures open { self.new.open.items ≡ self.old.open.items }
+        ensures ahead { OnOk result (self.new.ahead ≡ None) }
+        ensures told { OnOk result (state_of self.new ≡ lost_state (state_of self.old) ahead.now finding) }
+        ensures same { OnErr result (state_of self.new ≡ state_of self.old) }
+    {
+        self.losses.reserve(1)?;
+        let bucket = &self.path.as_slice()[..ahead.level];
+        let loss = Loss::new(self.alloc, finding, bucket, &ahead.stop)?;
+        self.losses.push_reserved(loss);
+        self.ahead = None;
+        Ok(())
+    }
+
+    /// Visits what is ahead, if anything is: a kept page is open then, and a lost one is told.
+    fn enter(&mut self) -> Result<(), NoMemory>
+        requires { HasOpen (state_of self.old) }
+        ensures on { GoesOn (state_of self.old) (state_of self.new) }
+        ensures entered { OnOk result (self.new.ahead ≡ None) }
+        ensures weight { OnOk result (steps_weight self.new ≤ steps_weight self.old) }
+    {
+        let Some(ahead) = self.ahead else {
+            return Ok(());
+        };
+        self.open.reserve(1)?;
+        let content = match Content::visit(&mut self.claims, ahead.stop) {
+            Ok(content) => content,
+            Err(finding) => return self.lose(finding, &ahead),
+        };
+        self.open.push_reserved(OpenPage {
+            content,
+            level: ahead.level,
+            count: content.count(),
+            next: 0,
+        });
+        self.ahead = None;
+        Ok(())
+    }
+
+    /// Takes the next element of the innermost open page, or closes it if it has no more.
+    fn take(&mut self) -> Result<Taken<'a>, NoMemory>
+        requires placed { HasOpen (state_of self.old) }
+        requires ahead { self.old.ahead ≡ None }
+        ensures taken { IfOk result (Takes (state_of self.old) (state_of self.new)) }
+        ensures bucket { IfOk result TakesBucket }
+        ensures same { OnErr result (GoesOn (state_of self.old) (state_of self.new)) }
+        ensures weight { IfOk result (taken_weight (steps_weight self.old) (steps_weight self.new)) }
+    {
+        self.path.reserve(1)?;
+        let Some(top) = self.open.pop() else {
+            self.path.clear();
+            return Ok(Taken::End);
+        };
+        if top.next == top.count {
+            return Ok(Taken::Nothing);
+        }
+        self.open.push_reserved(OpenPage {
+            next: top.next + 1,
+            ..top
+        });
+        let stop = top.content.stop(top.next);
+        let Some(leaf) = top.content.leaf(top.next) else {
+            self.ahead = Ahead::of(stop, top.level);
+            return Ok(Taken::Nothing);
+        };
+        self.path.truncate(top.level);
+        self.path.push_reserved(leaf.key);
+        self.ahead = Ahead::of(stop, top.level + 1);
+        Ok(Taken::Leaf(leaf))
+    }
+
+    /// Comes to the next element that is to be given.
+    pub fn advance(&mut self) -> Result<Option<Leaf<'a>>, NoMemory>
+        requires { HasOpen (state_of self.old) }
+        ensures given { IfOk result (Advances (state_of self.old) (state_of self.new)) }
+        ensures bucket { IfOk result (λ given. IfSome given (λ leaf. IsTrue leaf.is_bucket → IsBucketValue leaf.value.now)) }
+        ensures same { OnErr result (GoesOn (state_of self.old) (state_of self.new)) }
+    {
+        loop {
+            self.enter()?;
+            match self.take()? {
+                Taken::Leaf(leaf) => return Ok(Some(leaf)),
+                Taken::Nothing => {}
+                Taken::End => return Ok(None),
+            }
+        }
+    }
+}

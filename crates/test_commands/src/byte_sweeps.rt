@@ -1,0 +1,323 @@
+//! A file of four pages with each byte changed to each other one, under each command but `keys` and
+//! `get`: 1,044,480 files.
+
+use crate::ran::{Ran, check_run, job_of};
+use bolt_cli::{Job, Refusal};
+use std::alloc::Global;
+use std::process::Abort;
+use std::test::Fail;
+use test_files::maker::{FRESH, MetaFields};
+use test_files::samples::{INLINE_BUCKET, Sample, make};
+
+/// Bucket `b`, inline, with `k1` = `v1`, in four pages of 1,024 bytes.
+const INLINE_FILE: Sample<'static> = Sample {
+    fields: MetaFields {
+        page_size: 1024,
+        ..FRESH
+    },
+    ..INLINE_BUCKET
+};
+
+const PAGE_SIZE: usize = 1024;
+
+const HEADER_LEN: usize = 16;
+
+/// Where the second meta's record begins and ends.
+const SECOND_RECORD: usize = 1040;
+
+const SECOND_RECORD_END: usize = 1104;
+
+/// Where the data of page 3 ends.
+
+const ROOT_END: usize = 3157;
+
+/// What `info` prints where the second meta is valid, as in the file itself, and where it isn't.
+const SECOND_META: &[u8] =
+    b"page size 1024\nmeta 1\ntxid 1\nroot 3\nsequence 0\nfreelist 2\nhigh water 4\n";
+
+const FIRST_META: &[u8] =
+    b"page size 1024\nmeta 0\ntxid 0\nroot 3\nsequence 0\nfreelist 2\nhigh water 4\n";
+
+const LISTING: &[u8] = b"62 bucket 0\n62/6b31 = 7631\n";
+
+/// The texts of the pages of the file itself.
+static PAGES: [&'static [u8]; 4] = [
+    b"page 0\ntype meta\nitems 0\noverflow 0\n",
+    b"page 1\ntype meta\nitems 0\noverflow 0\n",
+    b"page 2\ntype freelist\nitems 0\noverflow 0\n",
+    b"page 3\ntype leaf\nitems 1\noverflow 0\n62 bucket 0 0\n",
+];
+
+/// What `page` tells of a page that it refuses begins so.
+static REFUSED_PAGES: [&'static [u8]; 4] = [
+    b"error: page 0: ",
+    b"error: page 1: ",
+    b"error: page 2: ",
+    b"error: page 3: ",
+];
+
+/// Whether a byte may change what `page` prints of a page: it is of the page's header, or of the
+/// elements of page 3.
+fn tells_page(at: usize, id: usize) -> bool {
+    let first = id.saturating_mul(PAGE_SIZE);
+    let end = if id == 3 {
+        ROOT_END
+    } else {
+        first.saturating_add(HEADER_LEN)
+    };
+    first <= at && at < end
+}
+
+/// Whether a byte is read by the commands that check the file first, but for a meta, of which the
+/// other one then stands in its place.
+fn is_read(at: usize) -> bool {
+    tells_page(at, 2) || tells_page(at, 3)
+}
+
+/// The commands that are run, as jobs.
+#[derive(Drop)]
+struct Jobs {
+    info: Job,
+    check: Job,
+    list: Job,
+    compact: Job,
+    /// `pages`, `buckets` and `stats`.
+    readers: Vec<Job>,
+    /// `page` of the pages 0 to 3.
+    pages: Vec<Job>,
+    /// `page` of page 4, which there isn't.
+    past: Job,
+}
+
+fn jobs_of(alloc: Global, lines: &[&str]) -> Result<Vec<Job>, Refusal> {
+    let mut jobs = Vec::new(alloc);
+    for line in lines {
+        jobs.push(job_of(alloc, line)?)?;
+    }
+    Ok(jobs)
+}
+
+impl Jobs {
+    fn read(alloc: Global) -> Result<Jobs, Refusal> {
+        let readers = [
+            "luntsegi pages FILE",
+            "luntsegi buckets FILE",
+            "luntsegi stats FILE",
+        ];
+        let pages = [
+            "luntsegi page FILE 0",
+            "luntsegi page FILE 1",
+            "luntsegi page FILE 2",
+            "luntsegi page FILE 3",
+        ];
+        Ok(Jobs {
+            info: job_of(alloc, "luntsegi info FILE")?,
+            check: job_of(alloc, "luntsegi check FILE")?,
+            list: job_of(alloc, "luntsegi list FILE")?,
+            compact: job_of(alloc, "luntsegi compact -o OUT FILE")?,
+            readers: jobs_of(alloc, &readers)?,
+            pages: jobs_of(alloc, &pages)?,
+            past: job_of(alloc, "luntsegi page FILE 4")?,
+        })
+    }
+}
+
+/// The file with the byte at a place changed.
+#[derive(Clone, Copy)]
+struct Changed<'a> {
+    file: &'a [u8],
+    at: usize,
+    /// The file as it was.
+    before: &'a [u8],
+}
+
+/// The metas and the pages tell what stands in them.
+fn check_tour(
+    rt: &impl Abort,
+    alloc: Global,
+    jobs: &Jobs,
+    changed: Changed<'_>,
+) -> Result<(), Fail> {
+    let Changed {
+        file,
+        at,
+        before: _,
+    } = changed;
+    let is_second = at < SECOND_RECORD || SECOND_RECORD_END <= at;
+    let text = if is_second { SECOND_META } else { FIRST_META };
+    check_run(alloc, &jobs.info, file, ("info", at), (0, text, b""))?;
+    let past = (
+        1,
+        b"".as_slice(),
+        b"error: page 4: out of range\n".as_slice(),
+    );
+    check_run(alloc, &jobs.past, file, ("page 4", at), past)?;
+    let texts = PAGES.iter().zip(&REFUSED_PAGES);
+    for (id, (job, (text, refusal))) in jobs.pages.iter().zip(texts).enumerate() {
+        let ran = Ran::on(alloc, job, file);
+        if tells_page(at, id) {
+            let is_refused = ran.out.bytes().is_empty() && ran.err.bytes().starts_with(refusal);
+            let is_told = ran.err.bytes().is_empty() && !ran.out.bytes().is_empty();
+            let is_one = if ran.code == 0 {
+                is_told
+            } else {
+                ran.code == 1 && is_refused
+            };
+            assert!(rt; is_one, "page {id} at {at}");
+        } else {
+            ran.check("page", at, (0, text, b""))?;
+        }
+    }
+    Ok(())
+}
+
+/// Each command refuses the file for the first finding of `check`.
+fn check_refused(
+    rt: &impl Abort,
+    alloc: Global,
+    jobs: &Jobs,
+    changed: Changed<'_>,
+    found: &Ran,
+) -> Result<(), Fail> {
+    let Changed {
+        file,
+        at,
+        before: _,
+    } = changed;
+    let findings = std::str::from_utf8(found.out.bytes()).unwrap_or("");
+    let first = findings.lines().next().unwrap_or("");
+    assert!(rt;
+        found.code == 1 && found.err.bytes().is_empty() && first.starts_with("page"),
+        "check at {at}"
+    );
+    assert!(rt; findings.ends_with(" errors found\n"), "check at {at}");
+    let line = format!(in alloc; "error: file refused: {first}\n")?;
+    let want = (1, b"".as_slice(), line.as_bytes());
+    for job in &jobs.readers {
+        check_run(alloc, job, file, ("a command", at), want)?;
+    }
+    check_run(alloc, &jobs.list, file, ("list", at), want)?;
+    let copy = Ran::on(alloc, &jobs.compact, file);
+    copy.check("compact", at, want)?;
+    assert!(rt; copy.target.bytes().is_empty(), "the copy at {at}");
+    Ok(())
+}
+
+/// Each command reads the file, and its copy is sound and lists the same.
+fn check_sound(
+    rt: &impl Abort,
+    alloc: Global,
+    jobs: &Jobs,
+    changed: Changed<'_>,
+) -> Result<(), Fail> {
+    let Changed { file, at, before } = changed;
+    for job in &jobs.readers {
+        let ran = Ran::on(alloc, job, file);
+        assert!(rt;
+            ran.code == 0 && ran.err.bytes().is_empty(),
+            "{job:?} at {at}"
+        );
+    }
+    let list = Ran::on(alloc, &jobs.list, file);
+    let copy = Ran::on(alloc, &jobs.compact, file);
+    let copied = copy.target.bytes();
+    let length = copied.len();
+    let line = format!(in alloc; "4096 -> {length} bytes\n")?;
+    copy.check("compact", at, (0, line.as_bytes(), b""))?;
+    check_run(
+        alloc,
+        &jobs.check,
+        copied,
+        ("check of the copy", at),
+        (0, b"OK\n", b""),
+    )?;
+    let listed = (0, list.out.bytes(), b"".as_slice());
+    list.check("list", at, listed)?;
+    check_run(alloc, &jobs.list, copied, ("list of the copy", at), listed)?;
+    if !is_read(at) {
+        list.check("list", at, (0, LISTING, b""))?;
+        assert!(rt; copied == before, "the copy at {at}");
+    }
+    Ok(())
+}
+
+fn check_changed(
+    rt: &impl Abort,
+    alloc: Global,
+    jobs: &Jobs,
+    changed: Changed<'_>,
+) -> Result<(), Fail> {
+    check_tour(rt, alloc, jobs, changed)?;
+    let found = Ran::on(alloc, &jobs.check, changed.file);
+    if found.is((0, b"OK\n", b"")) {
+        check_sound(rt, alloc, jobs, changed)
+    } else {
+        let at = changed.at;
+        assert!(rt;
+            is_read(at),
+            "check refuses the file with byte {at} changed"
+        );
+        check_refused(rt, alloc, jobs, changed, &found)
+    }
+}
+
+/// Changes some bits of the byte at a place.
+fn toggle(file: &mut Vec<u8>, at: usize, bits: u8) {
+    if let Some(byte) = file.get_mut(at) {
+        *byte ^= bits;
+    }
+}
+
+/// The byte at a place is each other one in turn.
+fn sweep_byte(
+    rt: &impl Abort,
+    alloc: Global,
+    jobs: &Jobs,
+    file: &[u8],
+    at: usize,
+) -> Result<(), Fail> {
+    let mut other = file.to_vec(alloc)?;
+    for bits in 1..=u8::MAX {
+        toggle(&mut other, at, bits);
+        let changed = Changed {
+            file: other.as_slice(),
+            at,
+            before: file,
+        };
+        check_changed(rt, alloc, jobs, changed)?;
+        toggle(&mut other, at, bits);
+    }
+    Ok(())
+}
+
+/// Each byte of a page is each other one in turn.
+fn sweep_page(rt: &impl Abort, alloc: Global, page: usize) -> Result<(), Fail> {
+    let file = make(alloc, &INLINE_FILE)?;
+    assert_eq!(rt; file.len(), 4 * PAGE_SIZE);
+    let jobs = Jobs::read(alloc)?;
+    let first = page.saturating_mul(PAGE_SIZE);
+    for at in first..first.saturating_add(PAGE_SIZE) {
+        sweep_byte(rt, alloc, &jobs, file.as_slice(), at)?;
+    }
+    Ok(())
+}
+
+#[test]
+fn bytes_of_the_first_meta(rt: HostRuntime) -> Result<(), Fail> {
+    sweep_page(&rt, rt.alloc(), 0)
+}
+
+#[test]
+fn bytes_of_the_second_meta(rt: HostRuntime) -> Result<(), Fail> {
+    sweep_page(&rt, rt.alloc(), 1)
+}
+
+#[test]
+fn bytes_of_the_freelist(rt: HostRuntime) -> Result<(), Fail> {
+    sweep_page(&rt, rt.alloc(), 2)
+}
+
+#[test]
+fn bytes_of_the_root(rt: HostRuntime) -> Result<(), Fail> {
+    sweep_page(&rt, rt.alloc(), 3)
+}

@@ -1,0 +1,69 @@
+//! How many items a copy holds at one time. The figures come from a program of its own, which goes
+//! through the pages of a layout and counts items that join and pages that are written.
+
+use Element::Bucket;
+use bolt_bulk::compact;
+use bolt_check::check;
+use bolt_cli::PageSize;
+use bolt_format::MemSink;
+use std::alloc::Global;
+use std::process::Abort;
+use std::test::Fail;
+use test_files::layouts::{forty_on_one_leaf, long_keys_on_one_leaf};
+use test_files::maker::Element;
+use test_files::samples::{
+    Content, EMPTY_BUCKET, FRESH_FILE, INLINE_BUCKET, NESTED_FILE, Sample, TWO_BUCKETS, make,
+};
+
+/// One bucket, which is empty.
+const EMPTY_BUCKET_ALONE: Sample<'static> = Sample {
+    pages: &[(3, Content::Leaf(&[Bucket(b"b", EMPTY_BUCKET)]))],
+    ..FRESH_FILE
+};
+
+/// The copy of the file at this page size holds so many items at the most.
+fn check_held(
+    rt: &impl Abort,
+    alloc: Global,
+    file: &[u8],
+    page_size: u64,
+    want: u64,
+) -> Result<(), Fail> {
+    let size = PageSize::new(page_size).ok_or("no page size")?;
+    let checked = check(alloc, file)?;
+    let done = compact(alloc, checked, size.bytes, &mut MemSink::new(alloc))?;
+    let held = done.held;
+    assert!(rt; held == want, "{held} items held in place of {want}");
+    Ok(())
+}
+
+#[test]
+fn no_entry_holds_no_item(rt: HostRuntime) -> Result<(), Fail> {
+    let alloc = rt.alloc();
+    check_held(&rt, alloc, make(alloc, &FRESH_FILE)?.as_slice(), 4096, 0)
+}
+
+#[test]
+fn an_inline_bucket_is_one_item(rt: HostRuntime) -> Result<(), Fail> {
+    let alloc = rt.alloc();
+    let empty = make(alloc, &EMPTY_BUCKET_ALONE)?;
+    check_held(&rt, alloc, empty.as_slice(), 4096, 1)?;
+    check_held(&rt, alloc, make(alloc, &INLINE_BUCKET)?.as_slice(), 4096, 1)?;
+    check_held(&rt, alloc, make(alloc, &TWO_BUCKETS)?.as_slice(), 4096, 2)
+}
+
+#[test]
+fn a_full_leaf_holds_the_most_of_forty_values(rt: HostRuntime) -> Result<(), Fail> {
+    let alloc = rt.alloc();
+    let file = forty_on_one_leaf(alloc)?;
+    check_held(&rt, alloc, file.as_slice(), 1024, 13)?;
+    check_held(&rt, alloc, file.as_slice(), 4096, 40)
+}
+
+#[test]
+fn pages_of_three_levels_are_held_beside_each_other(rt: HostRuntime) -> Result<(), Fail> {
+    let alloc = rt.alloc();
+    let file = long_keys_on_one_leaf(alloc)?;
+    check_held(&rt, alloc, file.as_slice(), 1024, 2)?;
+    check_held(&rt, alloc, make(alloc, &NESTED_FILE)?.as_slice(), 4096, 4)
+}

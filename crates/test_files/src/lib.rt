@@ -1,0 +1,8 @@
+//! What tests of several crates need: a maker of bbolt files, files, and a writer that halts. It
+//! stands on no other crate, and has no tests.
+#![tactic(auto)]
+
+pub mod halting;
+pub mod layouts;
+pub mod maker;
+pub mod samples;

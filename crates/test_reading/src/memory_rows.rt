@@ -1,0 +1,212 @@
+//! Rows of calls that want memory, and of calls that want none. `make memory` runs them with one
+//! request for memory refused, the 1000th of each test, and finds the message with which the test
+//! then ends. Where no request is refused, as in the gate, each of them passes.
+
+use crate::bucket_at::bucket_at;
+use bolt_check::{Checked, check};
+use bolt_tree::{Bucket, Item, NoMemory, Walk};
+use std::alloc::{AllocError, Global};
+use std::process::Abort;
+use std::test::Fail;
+use test_files::samples::{NESTED_FILE, forty_values, make, nested_buckets};
+
+/// The request that `make memory` refuses.
+const REFUSED: usize = 1000;
+
+/// How many requests it takes to make and to check the file of the walks.
+const MADE_FOR_WALKS: usize = 34;
+
+/// How many requests it takes to make and to check the files of the calls that want none.
+const MADE_FOR_CALLS: usize = 141;
+
+/// How many buckets are nested in the file of the walks.
+const DEPTH: usize = 6;
+
+/// Behind this many requests makes so many more that the refused one is this one of those that come
+/// next; the first is 1.
+fn ask_before(alloc: Global, made: usize, request: usize) -> Result<Vec<Vec<u8>>, AllocError> {
+    ask(alloc, REFUSED.saturating_sub(made).saturating_sub(request))
+}
+
+/// Makes this many requests.
+fn ask(alloc: Global, count: usize) -> Result<Vec<Vec<u8>>, AllocError> {
+    let mut blocks = Vec::with_capacity(alloc, count)?;
+    for _ in 1..count {
+        let mut block = Vec::with_capacity(alloc, 1)?;
+        block.push(0)?;
+        blocks.push(block)?;
+    }
+    Ok(blocks)
+}
+
+/// Asks for the next item, and once more where memory is wanted; the path is then as it was.
+/// Answers whether it was asked once more, too.
+fn ask_for_next<'a>(
+    rt: &impl Abort,
+    walk: &mut Walk<'a>,
+    parts: usize,
+) -> Result<(Option<Item<'a>>, bool), NoMemory> {
+    match walk.next() {
+        Ok(given) => Ok((given, false)),
+        Err(NoMemory) => {
+            assert_eq!(rt; walk.path().len(), parts, "the path after a refusal");
+            Ok((walk.next()?, true))
+        }
+    }
+}
+
+/// The walk gives all nested buckets, and then nothing, though one of its requests be refused.
+fn check_given(rt: &impl Abort, walk: &mut Walk<'_>) -> Result<(), Fail> {
+    let mut refused_at = 0;
+    for depth in 0..DEPTH {
+        let (given, is_refused) = ask_for_next(rt, walk, depth)?;
+        if is_refused {
+            refused_at = depth + 1;
+        }
+        let is_given = given == Some(Item::Bucket { sequence: 0 });
+        assert!(rt;
+            is_given && walk.path().len() == depth + 1,
+            "in bucket {depth}"
+        );
+    }
+    assert_eq!(rt; walk.next()?, None, "after the last bucket");
+    assert!(rt;
+        refused_at == 0,
+        "refused at depth {refused_at}, and gives all"
+    );
+    Ok(())
+}
+
+/// A walk from the beginning, of which this request may be refused; the first is 1.
+fn walk_over(rt: &impl Abort, alloc: Global, request: usize) -> Result<(), Fail> {
+    let file = nested_buckets(alloc, DEPTH as u64)?;
+    let checked = check(alloc, file.as_slice())?;
+    let _asked = ask_before(alloc, MADE_FOR_WALKS, request)?;
+    check_given(rt, &mut Walk::new(alloc, checked))
+}
+
+/// Whether the walk gives the bucket at this path, and then nothing.
+fn gives_the_last(walk: &mut Walk<'_>, path: &[&[u8]]) -> Result<bool, NoMemory> {
+    let given = walk.next()?;
+    let is_given = given == Some(Item::Bucket { sequence: 0 }) && walk.path() == path;
+    Ok(is_given && walk.next()?.is_none())
+}
+
+/// A walk from the last bucket, of whose beginning this request may be refused.
+fn walk_from(rt: &impl Abort, alloc: Global, request: usize) -> Result<(), Fail> {
+    let file = nested_buckets(alloc, DEPTH as u64)?;
+    let checked = check(alloc, file.as_slice())?;
+    let path: [&[u8]; DEPTH] = [b"b"; DEPTH];
+    let _asked = ask_before(alloc, MADE_FOR_WALKS, request)?;
+    let begun = Walk::from(alloc, checked, &path);
+    let is_refused = begun.is_err();
+    let mut walk = match begun {
+        Ok(walk) => walk,
+        Err(NoMemory) => Walk::from(alloc, checked, &path)?,
+    };
+    let is_last = gives_the_last(&mut walk, &path)?;
+    assert!(rt; is_last, "the last bucket, and then nothing");
+    assert!(rt; !is_refused, "refused at its beginning, and gives the rest");
+    Ok(())
+}
+
+#[test]
+fn first_request_of_a_walk(rt: HostRuntime) -> Result<(), Fail> {
+    walk_over(&rt, rt.alloc(), 1)
+}
+
+#[test]
+fn second_request_of_a_walk(rt: HostRuntime) -> Result<(), Fail> {
+    walk_over(&rt, rt.alloc(), 2)
+}
+
+#[test]
+fn third_request_of_a_walk(rt: HostRuntime) -> Result<(), Fail> {
+    walk_over(&rt, rt.alloc(), 3)
+}
+
+#[test]
+fn fourth_request_of_a_walk(rt: HostRuntime) -> Result<(), Fail> {
+    walk_over(&rt, rt.alloc(), 4)
+}
+
+#[test]
+fn fifth_request_of_a_walk(rt: HostRuntime) -> Result<(), Fail> {
+    walk_over(&rt, rt.alloc(), 5)
+}
+
+#[test]
+fn sixth_request_of_a_walk(rt: HostRuntime) -> Result<(), Fail> {
+    walk_over(&rt, rt.alloc(), 6)
+}
+
+#[test]
+fn first_request_from_a_path(rt: HostRuntime) -> Result<(), Fail> {
+    walk_from(&rt, rt.alloc(), 1)
+}
+
+#[test]
+fn second_request_from_a_path(rt: HostRuntime) -> Result<(), Fail> {
+    walk_from(&rt, rt.alloc(), 2)
+}
+
+#[test]
+fn last_request_from_a_path(rt: HostRuntime) -> Result<(), Fail> {
+    walk_from(&rt, rt.alloc(), 6)
+}
+
+/// Makes each call of a cursor of the bucket, from each of its entries.
+fn call_cursor(bucket: &Bucket<'_>) {
+    let mut cursor = bucket.cursor();
+    let _ = cursor.first();
+    for _ in 0..50 {
+        let _ = cursor.next();
+    }
+    let _ = cursor.last();
+    for _ in 0..50 {
+        let _ = cursor.prev();
+    }
+    for key in [b"".as_slice(), b"0", b"15", b"39", b"b", b"c", b"k", b"z"] {
+        let _ = cursor.seek(key);
+    }
+}
+
+/// Makes each call that wants no memory, on the bucket at a path.
+fn call_all(rt: &impl Abort, alloc: Global, checked: Checked<'_>, path: &[&[u8]], key: &[u8]) {
+    let bucket = bucket_at(checked, path);
+    assert!(rt; bucket.is_some(), "no bucket {path:?}");
+    if let Some(bucket) = bucket {
+        assert!(rt; bucket.get(key).is_some(), "no value {key:?}");
+        call_cursor(&bucket);
+    }
+    let walk = Walk::new(alloc, checked);
+    assert!(rt; walk.path().is_empty(), "no path before the first item");
+}
+
+/// One request stands before the calls and the next one behind them; a request that a call makes
+/// would come between. The one or the other may be refused.
+fn call_between(rt: &impl Abort, alloc: Global, request: usize) -> Result<(), Fail> {
+    let forty = forty_values(alloc)?;
+    let several_leaves = check(alloc, forty.as_slice())?;
+    let nested = make(alloc, &NESTED_FILE)?;
+    let nested = check(alloc, nested.as_slice())?;
+    let _asked = ask_before(alloc, MADE_FOR_CALLS, request)?;
+    let before = ask(alloc, 1);
+    call_all(rt, alloc, several_leaves, &[b"b"], b"00");
+    call_all(rt, alloc, nested, &[b"a", b"c"], b"k");
+    call_all(rt, alloc, nested, &[], b"m");
+    let behind = ask(alloc, 1);
+    assert!(rt; before.is_ok(), "refused before the calls");
+    assert!(rt; behind.is_ok(), "refused behind the calls");
+    Ok(())
+}
+
+#[test]
+fn request_before_the_calls(rt: HostRuntime) -> Result<(), Fail> {
+    call_between(&rt, rt.alloc(), 1)
+}
+
+#[test]
+fn request_behind_the_calls(rt: HostRuntime) -> Result<(), Fail> {
+    call_between(&rt, rt.alloc(), 2)
+}

@@ -1,0 +1,110 @@
+#!/usr/bin/env python3
+"""Checks that what documents refer to exists.
+
+    check_links.py FILE..
+
+In each document (.md, and the manual page) these must hold:
+
+- a relative link leads to a file, and its anchor to a heading of that file;
+- a file that is named with its folder (docs/.., crates/.., tools/.., examples/.., completions/..)
+  exists, and so does a module that is named as specs/.., proofs/.. or src/.. of some crate;
+- a section that is quoted behind a document's name, as in docs/SOUND.md, "Ways", is a heading there.
+
+In other files, sources, each document that is named exists and has the sections that are quoted.
+
+Run it at the top of the sources. Prints what is broken; the status is 1 then, and if a document
+refers to nothing.
+"""
+
+import glob
+import os
+import re
+import sys
+
+LINK = re.compile(r"\[[^\]]*\]\(([^)\s]+)\)")
+NAMED = re.compile(r"(?<![\w/.(-])((?:docs|crates|tools|examples|completions)/[\w./*-]*[\w*])")
+MODULE = re.compile(r"(?<![\w/])((?:specs|proofs)/[A-Z][\w/]*|src/\w+\.rt)")
+DOCUMENT = re.compile(r"docs/\w+\.(?:md|1)\b")
+QUOTED = re.compile(r"(docs/\w+\.md)\)?,? \(?\"([^\"]+)\"(?: and \"([^\"]+)\")?")
+# The mark of a comment that goes on in the next line.
+MARK = re.compile(r"\n[ \t]*(?:///|//!|//|--|#)?[ \t]*")
+
+
+def text_of(name):
+    with open(name, encoding="utf-8") as file:
+        return file.read()
+
+
+def prose_of(text):
+    """The text without its examples, in which # begins no heading and a bracket no link."""
+    return re.sub(r"(?m)^(?: {4}.*|```[\s\S]*?^```)$", "", text)
+
+
+def headings(name):
+    return re.findall(r"(?m)^#+ (.*)$", prose_of(text_of(name)))
+
+
+def anchor(heading):
+    """The anchor of a heading, as GitHub makes it."""
+    return re.sub(r"[^\w\- ]", "", heading.lower()).replace(" ", "-")
+
+
+def is_link_right(document, link):
+    path, _, place = link.partition("#")
+    file = os.path.join(os.path.dirname(document), path) if path else document
+    if not os.path.exists(file):
+        return False
+    return not place or place in map(anchor, headings(file))
+
+
+def is_module(name):
+    return bool(glob.glob(f"crates/*/{name}") + glob.glob(f"crates/*/{name}.antt"))
+
+
+def is_section(name, quoted):
+    """Whether a document has the section; a heading may have more in brackets."""
+    return os.path.exists(name) and any(re.sub(r" \(.*\)$", "", heading) == quoted for heading in headings(name))
+
+
+def sections(text):
+    """The quoted sections, each with whether it is there."""
+    for name, *quoted in QUOTED.findall(MARK.sub(" ", text)):
+        for heading in filter(None, quoted):
+            yield f'{name}, "{heading}"', is_section(name, heading)
+
+
+def references_of_source(text):
+    for name in DOCUMENT.findall(text):
+        yield name, os.path.exists(name)
+    yield from sections(text)
+
+
+def references(document):
+    """What the document refers to, each with whether it is there."""
+    text = text_of(document)
+    prose = prose_of(text)
+    for link in LINK.findall(prose):
+        if not re.match(r"\w+:", link):
+            yield link, is_link_right(document, link)
+    for name in NAMED.findall(text):
+        yield name, bool(glob.glob(name))
+    for name in MODULE.findall(prose):
+        yield name, is_module(name)
+    yield from sections(prose)
+
+
+def check(name):
+    """Checks one file: all that it refers to is there, and a document refers to something."""
+    is_document = name.endswith((".md", ".1"))
+    found = list(references(name) if is_document else references_of_source(text_of(name)))
+    broken = [what for what, is_there in found if not is_there]
+    for what in broken:
+        print(f"{name}: {what}")
+    return not broken and (bool(found) or not is_document)
+
+
+def main():
+    sys.exit(not all([check(name) for name in sys.argv[1:]]))
+
+
+main()
