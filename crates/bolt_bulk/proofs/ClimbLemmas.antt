@@ -15,7 +15,7 @@ use Rattle.bolt_layout.specs.Limits.{one_less}
 use Rattle.bolt_layout.specs.Layout.{placed_bytes}
 use Rattle.bolt_bulk.specs.Private.BranchRuns.{IsStanding, element_up, row_of, taking_next, taking_puts, taking_up}
 use Rattle.bolt_bulk.specs.Puts.{Puts}
-use Rattle.bolt_bulk.specs.Private.Rows.{BranchRow, no_row, row_kept, row_push, row_stays, rows_climb, rows_next, rows_put}
+use Rattle.bolt_bulk.specs.Private.Rows.{BranchRow, no_row, one_closed, row_kept, row_push, row_stays, rows_climb, rows_next, rows_put}
 use Rattle.bolt_bulk.specs.Private.OpenRuns.{key_size}
 use Rattle.bolt_bulk.specs.declared.fault.BulkFault.{BulkFault}
 use Rattle.bolt_bulk.proofs.RunLemmas.{key_pushed}
@@ -84,23 +84,23 @@ take_set_at xs i x h = ap (λ (n : ℕ). take n (set xs i x)) (add-one i) ∙ ta
 pub climb_closes : {S A : Type 0} {taken : S → Option (List ℕ)} {failed : S → ℕ} (page_size : ℕ) (fresh : Option ℕ) (key : List ℕ) (e0 : BranchElement) (n0 : ℕ) (rows0 : List BranchRow) (old mid new : S) (rows : List BranchRow) (i : ℕ)
     (e : BranchElement) (next : ℕ) (none row : BranchRow) (a : A) → i < length rows → get_or rows i none ≡ row → row_stays page_size (row_push row e) (key_size key) ≡ false
     → Climbing page_size fresh key e0 n0 rows0 taken failed old mid rows i e next → Puts taken failed mid new (placed_bytes page_size (taking_puts page_size key e next row)) (Ok a)
-    → Climbing page_size fresh key e0 n0 rows0 taken failed old new (set rows i (no_row (one_less row.left))) (i + 1) (element_up e next row) (next + (1 + overflow_of page_size (row_push row e).size))
+    → Climbing page_size fresh key e0 n0 rows0 taken failed old new (set rows i (no_row (one_less row.left) (one_closed row.closed))) (i + 1) (element_up e next row) (next + (1 + overflow_of page_size (row_push row e).size))
 climb_closes {taken = taken} {failed = failed} page_size fresh key e0 n0 rows0 old mid new rows i e next none row a h same room c one =
     let at : drop i rows ≡ row ∷ drop (i + 1) rows = drop_more rows i none h ∙ ap (λ (r : BranchRow). r ∷ drop (i + 1) rows) same in
     let up : BranchElement = element_up e next row in
     let after : ℕ = next + (1 + overflow_of page_size (row_push row e).size) in
     let rest : List BranchRow = drop (i + 1) rows in
-    let climbed : rows_climb page_size fresh key e next (row ∷ rest) ≡ no_row (one_less row.left) ∷ rows_climb page_size fresh key up after rest = rw room refl in
+    let climbed : rows_climb page_size fresh key e next (row ∷ rest) ≡ no_row (one_less row.left) (one_closed row.closed) ∷ rows_climb page_size fresh key up after rest = rw room refl in
     let nexted : rows_next page_size key e next (row ∷ rest) ≡ rows_next page_size key up after rest = rw room refl in
     let more : after_put page_size key e next row rest ≡ rows_put page_size key up after rest = rw room refl in
-    let dropped : rest ≡ drop (i + 1) (set rows i (no_row (one_less row.left))) = sym (drop-set-lt (i + 1) rows i (no_row (one_less row.left)) (omega arith)) in
-    let taken_too : take (i + 1) (set rows i (no_row (one_less row.left))) ≡ take i rows ++ no_row (one_less row.left) ∷ [] = take_set_at rows i (no_row (one_less row.left)) h in
+    let dropped : rest ≡ drop (i + 1) (set rows i (no_row (one_less row.left) (one_closed row.closed))) = sym (drop-set-lt (i + 1) rows i (no_row (one_less row.left) (one_closed row.closed)) (omega arith)) in
+    let taken_too : take (i + 1) (set rows i (no_row (one_less row.left) (one_closed row.closed))) ≡ take i rows ++ no_row (one_less row.left) (one_closed row.closed) ∷ [] = take_set_at rows i (no_row (one_less row.left) (one_closed row.closed)) h in
     let f = front_puts old mid new _ (placed_bytes page_size (taking_puts page_size key e next row)) _ _ a (left_split page_size key e next row rest (drop i rows) at) c.front one in
     record {
       climbs = c.climbs ∙ (ap (λ (rs : List BranchRow). take i rows ++ rows_climb page_size fresh key e next rs) at ∙ (ap (λ (rs : List BranchRow). take i rows ++ rs) climbed
-          ∙ (sym (append_assoc (take i rows) (no_row (one_less row.left) ∷ []) (rows_climb page_size fresh key up after rest))
+          ∙ (sym (append_assoc (take i rows) (no_row (one_less row.left) (one_closed row.closed) ∷ []) (rows_climb page_size fresh key up after rest))
           ∙ (ap (λ (rs : List BranchRow). rs ++ rows_climb page_size fresh key up after rest) (sym taken_too)
-          ∙ ap (λ (rs : List BranchRow). take (i + 1) (set rows i (no_row (one_less row.left))) ++ rows_climb page_size fresh key up after rs) dropped))));
+          ∙ ap (λ (rs : List BranchRow). take (i + 1) (set rows i (no_row (one_less row.left) (one_closed row.closed))) ++ rows_climb page_size fresh key up after rs) dropped))));
       nexts = c.nexts ∙ (ap (λ (rs : List BranchRow). rows_next page_size key e next rs) at ∙ (nexted ∙ ap (λ (rs : List BranchRow). rows_next page_size key up after rs) dropped));
       front = subst (λ (t : List ℕ). PutsFront taken failed old new (placed_bytes page_size (rows_put page_size key e0 n0 rows0)) t)
           (ap (λ (ps : List Placed). placed_bytes page_size ps) (more ∙ ap (λ (rs : List BranchRow). rows_put page_size key up after rs) dropped)) f;
@@ -146,12 +146,12 @@ climb_large page_size limit fresh key e0 n0 rows0 old mid rows i e next none row
 -- past the last run a new one takes the element
 pub climb_tops : {S B : Type 0} {taken : S → Option (List ℕ)} {failed : S → ℕ} (page_size : ℕ) (fresh : Option ℕ) (key : List ℕ) (e0 : BranchElement) (n0 : ℕ) (rows0 : List BranchRow) (old new : S) (rows : List BranchRow) (i : ℕ)
     (e : BranchElement) (next : ℕ) (b : B) → i ≡ length rows → Climbing page_size fresh key e0 n0 rows0 taken failed old new rows i e next
-    → (rows_climb page_size fresh key e0 n0 rows0 ≡ rows ++ row_push (no_row fresh) e ∷ []) × (rows_next page_size key e0 n0 rows0 ≡ next)
+    → (rows_climb page_size fresh key e0 n0 rows0 ≡ rows ++ row_push (no_row fresh 0) e ∷ []) × (rows_next page_size key e0 n0 rows0 ≡ next)
     × Puts taken failed old new (placed_bytes page_size (rows_put page_size key e0 n0 rows0)) (Ok b)
 climb_tops page_size fresh key e0 n0 rows0 old new rows i e next b top c =
     let none : drop i rows ≡ [] = drop_all i rows (omega arith) in
     let all : take i rows ≡ rows = ap (λ (n : ℕ). take n rows) top ∙ take-length rows in (
-      c.climbs ∙ (ap (λ (rs : List BranchRow). take i rows ++ rows_climb page_size fresh key e next rs) none ∙ ap (λ (rs : List BranchRow). rs ++ row_push (no_row fresh) e ∷ []) all),
+      c.climbs ∙ (ap (λ (rs : List BranchRow). take i rows ++ rows_climb page_size fresh key e next rs) none ∙ ap (λ (rs : List BranchRow). rs ++ row_push (no_row fresh 0) e ∷ []) all),
       c.nexts ∙ ap (λ (rs : List BranchRow). rows_next page_size key e next rs) none,
       puts_whole old new _ _ b (ap (λ (rs : List BranchRow). placed_bytes page_size (rows_put page_size key e next rs)) none) c.front,
     )

@@ -13,6 +13,7 @@ mod HeldPuts
 mod HeldRuns
 mod HeldSteps
 mod LeafPuts
+mod LimitLemmas
 mod Members
 mod Ontos
 mod Openings
@@ -29,5 +30,6 @@ mod PutParts
 mod PutsLemmas
 mod RowLemmas
 mod RunLemmas
+mod ToldRuns
 mod WalkLeft
 mod WholePuts

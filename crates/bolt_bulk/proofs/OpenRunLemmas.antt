@@ -1,7 +1,7 @@
 -- What a forward pass over a bucket's items puts is the pages over them.
 use Rattle.std.proofs.Common.{◌≡◌, ◌∙◌, ◌⊎◌, ℕ, suc, ◌+◌, ◌||◌, ◌&&◌, nat_lt, nat_le, true, false, Option, List, [], ◌∷◌, ◌++◌, length, map, refl, sym, ap, subst, inl, inr, arith, append_assoc}
 use Rattle.std.proofs.lemmas.Bool.{cases_Bool, or_parts}
-use Rattle.std.proofs.lemmas.List.{append-nil}
+use Rattle.std.proofs.lemmas.List.{append-nil, length-append}
 use Rattle.std.proofs.lemmas.List.Sums.{sum_by_push}
 use Rattle.bolt_format.specs.Elements.{BranchElement, LeafElement}
 use Rattle.bolt_layout.specs.Cut.{branch_cut, cut_from, joins, max_items, run_size}
@@ -62,7 +62,7 @@ pub left_begins : (page_size : ℕ) (left : Option ℕ) (run pages : List (Laid 
     → (more : List (Laid BranchElement)) × (rest : List (List (Laid BranchElement))) × (cut_left page_size size_of left run pages ≡ (run ++ more) ∷ rest)
 left_begins page_size left run [] = ([], [], ap (λ (r : List (Laid BranchElement)). r ∷ []) (sym (append-nil run)))
 left_begins page_size left run (next ∷ pages) =
-    let upper : Upper = record { run = run; left = left } in
+    let upper : Upper = record { run = run; left = left; closed = 0 } in
     elim (cases_Bool (stays_open page_size upper next.size)) [
       | inl t ↦
           let (more, rest, e) = left_begins page_size (kept page_size upper next.size).left (run ++ next ∷ []) pages in
@@ -74,43 +74,73 @@ left_begins page_size left run (next ∷ pages) =
       )
     ]
 
--- A climb keeps what comes of it.
-row_right : (which : Layout) (page_size : ℕ) (limits : ℕ → Option ℕ) (q p : Laid BranchElement) (pages : List (Laid BranchElement)) (root : Laid BranchElement)
-    → IsUnder which page_size limits (q ∷ p ∷ pages) root
-    → IsUnder which page_size (λ k. limits (suc k)) (map (page_over branch_view page_size) (cut_left page_size size_of (limits 0) (q ∷ []) (p ∷ pages))) root
-row_right which page_size limits q p pages root is =
-    let same : cut_left page_size size_of (limits 0) (q ∷ []) (p ∷ pages) ≡ branch_cut which page_size size_of (q ∷ p ∷ pages) = is.right 0 in
-    subst (λ (runs : List (List (Laid BranchElement))). IsUnder which page_size (λ k. limits (suc k)) (map (page_over branch_view page_size) runs) root) (sym same)
-    (record { top = sym (top_above which page_size (q ∷ p ∷ pages) (omega arith)) ∙ is.top; right = λ k. is.right (suc k) })
+-- the second page of a row is in the first run
+pair_step : (page_size : ℕ) (left : Option ℕ) (q p : Laid BranchElement) (pages : List (Laid BranchElement))
+    → cut_left page_size size_of left (q ∷ []) (p ∷ pages) ≡ cut_left page_size size_of left (q ∷ p ∷ []) pages
+pair_step page_size left q p pages = refl
 
-pub climb_same : (which : Layout) (page_size : ℕ) (limits : ℕ → Option ℕ) (key : List ℕ) (q : Laid BranchElement) (uppers : List Upper) (p : Laid BranchElement) (pages : List (Laid BranchElement)) (root : Laid BranchElement)
-    → p.key ≡ key → IsSized p → Comes which page_size limits uppers (q ∷ p ∷ pages) root
-    → Comes which page_size limits (climb page_size (limits (length uppers)) key q uppers) (p ∷ pages) root
-climb_same which page_size limits key q [] p pages root named sized is = row_right which page_size limits q p pages root is
-climb_same which page_size limits key q (upper ∷ uppers) p pages root named sized is =
+-- A climb keeps what comes of it.
+row_right : (which : Layout) (page_size : ℕ) (limits : ℕ → Option ℕ) (q p : Laid BranchElement) (pages all : List (Laid BranchElement)) (root : Laid BranchElement)
+    → Comes which page_size limits [] all (q ∷ p ∷ pages) root
+    → Comes which page_size limits (record { run = q ∷ []; left = limits 0; closed = 0 } ∷ []) all (p ∷ pages) root
+row_right which page_size limits q p pages all root (all_is, is) =
+    let M : List (List (Laid BranchElement)) → List (Laid BranchElement) = λ runs. map (page_over branch_view page_size) runs in
+    let same : cut_left page_size size_of (limits 0) (q ∷ []) (p ∷ pages) ≡ branch_cut which page_size size_of (q ∷ p ∷ pages) = is.right 0 in
+    let step : cut_left page_size size_of (limits 0) (q ∷ []) (p ∷ pages) ≡ cut_left page_size size_of (limits 0) ((q ∷ []) ++ p ∷ []) pages = pair_step page_size (limits 0) q p pages in
+    let cut : branch_cut which page_size size_of all ≡ cut_left page_size size_of (limits 0) ((q ∷ []) ++ p ∷ []) pages =
+    ap (λ (xs : List (Laid BranchElement)). branch_cut which page_size size_of xs) (sym all_is) ∙ (sym same ∙ step) in
+    let long = ap (λ (xs : List (Laid BranchElement)). length xs) all_is in (
+      record { runs = []; count = refl; cut = cut; some = omega arith },
+      (
+        ap M (sym cut),
+        subst (λ (runs : List (List (Laid BranchElement))). IsUnder which page_size (λ k. limits (suc k)) (M runs) root) (sym same ∙ step)
+            (record { top = sym (top_above which page_size (q ∷ p ∷ pages) (omega arith)) ∙ is.top; right = λ k. is.right (suc k) }),
+      ),
+    )
+
+pub climb_same : (which : Layout) (page_size : ℕ) (limits : ℕ → Option ℕ) (key : List ℕ) (q : Laid BranchElement) (uppers : List Upper) (p : Laid BranchElement) (pages all : List (Laid BranchElement)) (root : Laid BranchElement)
+    → p.key ≡ key → IsSized p → Comes which page_size limits uppers all (q ∷ p ∷ pages) root
+    → Comes which page_size limits (climb page_size (limits (length uppers)) key q uppers) all (p ∷ pages) root
+climb_same which page_size limits key q [] p pages all root named sized is = row_right which page_size limits q p pages all root is
+climb_same which page_size limits key q (upper ∷ uppers) p pages all root named sized (stands, is) =
     let size : p.size ≡ key_size key = sized ∙ ap key_size named in
     let above : ℕ → Option ℕ = λ k. limits (suc k) in
     let pushed : Upper = pushed_on upper q in
     let M : List (List (Laid BranchElement)) → List (Laid BranchElement) = λ runs. map (page_over branch_view page_size) runs in
-    let C : List (List (Laid BranchElement)) → Type 0 = λ runs. Comes which page_size above uppers (M runs) root in
+    let whole : List (List (Laid BranchElement)) = branch_cut which page_size size_of all in
+    let C : List (List (Laid BranchElement)) → Type 0 = λ runs. Comes which page_size above uppers (M whole) (M runs) root in
     elim (cases_Bool (stays_open page_size pushed (key_size key))) [
-      | inl t ↦ rw t (subst C (left_stays page_size pushed p (key_size key) pages size t) is)
+      | inl t ↦
+          let step = left_stays page_size pushed p (key_size key) pages size t in
+          rw t (record { runs = stands.runs; count = stands.count; cut = stands.cut ∙ ap (λ (rs : List (List (Laid BranchElement))). stands.runs ++ rs) step; some = stands.some }, subst C step is)
       | inr f ↦
-          let split = subst C (left_closes page_size pushed p (key_size key) pages size f) is in
+          let step = left_closes page_size pushed p (key_size key) pages size f in
+          let split = subst C step is in
           let (more, rest, e) = left_begins page_size (one_less upper.left) (p ∷ []) pages in
           let q2 : Laid BranchElement = page_over branch_view page_size (upper.run ++ q ∷ []) in
           let p2 : Laid BranchElement = page_over branch_view page_size (p ∷ more) in
-          let whole = subst (λ (runs : List (List (Laid BranchElement))). Comes which page_size above uppers (q2 ∷ M runs) root) e split in
-          rw f (subst (λ (runs : List (List (Laid BranchElement))). Comes which page_size above (climb page_size (above (length uppers)) key q2 uppers) (M runs) root) (sym e)
-          (climb_same which page_size above key q2 uppers p2 (M rest) root named refl whole))
+          let both = subst (λ (runs : List (List (Laid BranchElement))). Comes which page_size above uppers (M whole) (q2 ∷ M runs) root) e split in
+          let l = length-append stands.runs ((upper.run ++ q ∷ []) ∷ []) in
+          let n = stands.count in
+          rw f (
+            record {
+              runs = stands.runs ++ (upper.run ++ q ∷ []) ∷ [];
+              count = omega arith;
+              cut = stands.cut ∙ (ap (λ (rs : List (List (Laid BranchElement))). stands.runs ++ rs) step ∙ sym (append_assoc stands.runs ((upper.run ++ q ∷ []) ∷ []) (cut_left page_size size_of (one_less upper.left) (p ∷ []) pages)));
+              some = stands.some;
+            },
+            subst (λ (runs : List (List (Laid BranchElement))). Comes which page_size above (climb page_size (above (length uppers)) key q2 uppers) (M whole) (M runs) root) (sym e)
+                (climb_same which page_size above key q2 uppers p2 (M rest) (M whole) root named refl both),
+          )
     ]
 
 -- At the end each run takes the page below it, and closes.
-pub close_same : (which : Layout) (page_size : ℕ) (limits : ℕ → Option ℕ) (q : Laid BranchElement) (uppers : List Upper) (root : Laid BranchElement)
-    → Comes which page_size limits uppers (q ∷ []) root → close page_size q uppers ≡ root
-close_same which page_size limits q [] root is = is.top
-close_same which page_size limits q (upper ∷ uppers) root is =
-    close_same which page_size (λ k. limits (suc k)) (page_over branch_view page_size (upper.run ++ q ∷ [])) uppers root is
+pub close_same : (which : Layout) (page_size : ℕ) (limits : ℕ → Option ℕ) (q : Laid BranchElement) (uppers : List Upper) (all : List (Laid BranchElement)) (root : Laid BranchElement)
+    → Comes which page_size limits uppers all (q ∷ []) root → close page_size q uppers ≡ root
+close_same which page_size limits q [] all root is = is.1.top
+close_same which page_size limits q (upper ∷ uppers) all root is =
+    close_same which page_size (λ k. limits (suc k)) (page_over branch_view page_size (upper.run ++ q ∷ [])) uppers
+    (map (page_over branch_view page_size) (branch_cut which page_size size_of all)) root is.1
 
 -- The pages that were put.
 pub pages-append : {E : Type 0} (xs ys : List (Laid E)) (n : ℕ) → pages_of (xs ++ ys) n ≡ pages_of xs n ++ pages_of ys (n + numbers_of xs)
@@ -170,8 +200,8 @@ close_put page_size q (upper ∷ uppers) b =
 pub opens : (which : Layout) (page_size : ℕ) (limits : ℕ → Option ℕ) (items : List (Laid LeafElement)) → HaveRightLimits which page_size limits (leaves_coming page_size [] items)
     → IsOpen which page_size (nothing_open limits) items (root_over which page_size items)
 unfolding root_over
-opens which page_size limits [] right = record { comes = record { top = refl; right = right } }
-opens which page_size limits (item ∷ items) right = record { comes = record { top = refl; right = right } }
+opens which page_size limits [] right = record { all = leaves_coming page_size [] []; comes = (refl, record { top = refl; right = right }) }
+opens which page_size limits (item ∷ items) right = record { all = leaves_coming page_size [] (item ∷ items); comes = (refl, record { top = refl; right = right }) }
 
 leaves_first : (page_size : ℕ) (first : Laid LeafElement) (run items : List (Laid LeafElement))
     → (p : Laid BranchElement) × (rest : List (Laid BranchElement)) × (map (page_over leaf_view page_size) (cut_from page_size 1 size_of (first ∷ run) items) ≡ p ∷ rest)
@@ -191,17 +221,18 @@ pub takes : (which : Layout) (page_size : ℕ) (state : Open) (item : Laid LeafE
 takes which page_size state item items root is =
     let same = room_joins page_size 1 state.run item item.size refl in
     let M : List (List (Laid LeafElement)) → List (Laid BranchElement) = λ runs. map (page_over leaf_view page_size) runs in
-    let C : List (List (Laid LeafElement)) → Type 0 = λ runs. Comes which page_size state.limits state.uppers (M runs) root in
+    let C : List (List (Laid LeafElement)) → Type 0 = λ runs. Comes which page_size state.limits state.uppers is.all (M runs) root in
     elim (cases_Bool (has_room page_size 1 state.run item.size)) [
-      | inl t ↦ rw t (record { comes = subst C (cut_joined page_size 1 state.run item items (sym same ∙ t)) is.comes })
+      | inl t ↦ rw t (record { all = is.all; comes = subst C (cut_joined page_size 1 state.run item items (sym same ∙ t)) is.comes })
       | inr f ↦
           let q : Laid BranchElement = page_over leaf_view page_size state.run in
           let (p, rest, e, k, s) = leaves_first page_size item [] items in
           let split = subst C (cut_begun page_size 1 state.run item items (sym same ∙ f)) is.comes in
-          let whole = subst (λ (ps : List (Laid BranchElement)). Comes which page_size state.limits state.uppers (q ∷ ps) root) e split in
+          let whole = subst (λ (ps : List (Laid BranchElement)). Comes which page_size state.limits state.uppers is.all (q ∷ ps) root) e split in
           rw f (record {
-            comes = subst (λ (ps : List (Laid BranchElement)). Comes which page_size state.limits (climb page_size (state.limits (length state.uppers)) item.key q state.uppers) ps root) (sym e)
-                (climb_same which page_size state.limits item.key q state.uppers p rest root k s whole);
+            all = is.all;
+            comes = subst (λ (ps : List (Laid BranchElement)). Comes which page_size state.limits (climb page_size (state.limits (length state.uppers)) item.key q state.uppers) is.all ps root) (sym e)
+                (climb_same which page_size state.limits item.key q state.uppers p rest is.all root k s whole);
           })
     ]
 
@@ -229,7 +260,7 @@ pushed_put state item b =
 
 -- The end.
 pub ends : (which : Layout) (page_size : ℕ) (state : Open) (root : Laid BranchElement) → IsOpen which page_size state [] root → end_of page_size state ≡ root
-ends which page_size state root is = close_same which page_size state.limits (page_over leaf_view page_size state.run) state.uppers root is.comes
+ends which page_size state root is = close_same which page_size state.limits (page_over leaf_view page_size state.run) state.uppers is.all root is.comes
 
 pub ends_put : (page_size : ℕ) (state : Open) (b : ℕ) → (end_of page_size state).pages b ≡ pages_put state b ++ end_puts page_size state b
 ends_put page_size state b =

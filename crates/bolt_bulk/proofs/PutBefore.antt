@@ -111,21 +111,22 @@ top_begins which page_size (suc steps) page (other ∷ level) b =
     (begins_by (page.pages b) page.numbers (up.pages b) up.numbers _ _ first two)
 
 -- What comes of open upper runs and a page begins with the pages of those runs and of that page.
-coming_begins : (which : Layout) (page_size : ℕ) (limits : ℕ → Option ℕ) (uppers : List Upper) (p : Laid BranchElement) (pages : List (Laid BranchElement)) (root : Laid BranchElement)
-    → Comes which page_size limits uppers (p ∷ pages) root → (b : ℕ)
+coming_begins : (which : Layout) (page_size : ℕ) (limits : ℕ → Option ℕ) (uppers : List Upper) (p : Laid BranchElement) (pages all : List (Laid BranchElement)) (root : Laid BranchElement)
+    → Comes which page_size limits uppers all (p ∷ pages) root → (b : ℕ)
     → Begins (pages_of (put_in uppers) b ++ p.pages (b + numbers_in uppers)) (numbers_in uppers + p.numbers) (root.pages b) root.numbers
-coming_begins which page_size limits [] p pages root is b =
+coming_begins which page_size limits [] p pages all root is b =
     let same : b ≡ b + 0 = omega arith in
     let none : p.numbers ≡ 0 + p.numbers = omega arith in
-    let t = subst (λ (r : Laid BranchElement). Begins (p.pages b) p.numbers (r.pages b) r.numbers) is.top (top_begins which page_size (length (p ∷ pages)) p pages b) in
+    let t = subst (λ (r : Laid BranchElement). Begins (p.pages b) p.numbers (r.pages b) r.numbers) is.1.top (top_begins which page_size (length (p ∷ pages)) p pages b) in
     subst (λ (k : ℕ). Begins (p.pages (b + 0)) k (root.pages b) root.numbers) none (subst (λ (n : ℕ). Begins (p.pages n) p.numbers (root.pages b) root.numbers) same t)
-coming_begins which page_size limits (upper ∷ uppers) p pages root is b =
+coming_begins which page_size limits (upper ∷ uppers) p pages all root is b =
+    let others : List (Laid BranchElement) = map (page_over branch_view page_size) (branch_cut which page_size size_of all) in
     let run : List (Laid BranchElement) = upper.run in
     let (more, rest, e) = left_begins page_size upper.left (run ++ p ∷ []) pages in
     let up : Laid BranchElement = page_over branch_view page_size ((run ++ p ∷ []) ++ more) in
     let m : ℕ = b + numbers_in uppers in
-    let above = subst (λ (rs : List (List (Laid BranchElement))). Comes which page_size (λ k. limits (suc k)) uppers (map (page_over branch_view page_size) rs) root) e is in
-    let ih = coming_begins which page_size (λ k. limits (suc k)) uppers up (map (page_over branch_view page_size) rest) root above b in
+    let above = subst (λ (rs : List (List (Laid BranchElement))). Comes which page_size (λ k. limits (suc k)) uppers others (map (page_over branch_view page_size) rs) root) e is.1 in
+    let ih = coming_begins which page_size (λ k. limits (suc k)) uppers up (map (page_over branch_view page_size) rest) others root above b in
     let one = before_behind (pages_of (put_in uppers) b) (pages_of (run ++ p ∷ []) m) (numbers_in uppers) (numbers_of (run ++ p ∷ [])) (up.pages m) up.numbers (over_before branch_view page_size (run ++ p ∷ []) more m) in
     let two = begins_by _ _ _ _ _ _ (only_begins _ _ _ _ one) ih in
     let front : pages_of (put_in uppers) b ++ pages_of (run ++ p ∷ []) m ≡ pages_of (put_in uppers ++ run) b ++ p.pages (b + numbers_of (put_in uppers ++ run)) =
@@ -143,8 +144,8 @@ put_before which page_size state items root b is =
     let (more, rest, e) = cut_begins page_size 1 state.run items in
     let p : Laid BranchElement = page_over leaf_view page_size (state.run ++ more) in
     let m : ℕ = b + numbers_in state.uppers in
-    let comes = subst (λ (rs : List (List (Laid LeafElement))). Comes which page_size state.limits state.uppers (map (page_over leaf_view page_size) rs) root) e is.comes in
-    let one = coming_begins which page_size state.limits state.uppers p (map (page_over leaf_view page_size) rest) root comes b in
+    let comes = subst (λ (rs : List (List (Laid LeafElement))). Comes which page_size state.limits state.uppers is.all (map (page_over leaf_view page_size) rs) root) e is.comes in
+    let one = coming_begins which page_size state.limits state.uppers p (map (page_over leaf_view page_size) rest) is.all root comes b in
     let two = before_behind (pages_of (put_in state.uppers) b) (pages_of state.run m) (numbers_in state.uppers) (numbers_of state.run) (p.pages m) p.numbers (over_before leaf_view page_size state.run more m) in
     before_by _ _ _ _ _ _ two one
 

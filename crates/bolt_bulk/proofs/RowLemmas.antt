@@ -9,7 +9,7 @@ use Rattle.bolt_layout.specs.Laid.{Laid, Placed, elements_of, first_key, numbers
 use Rattle.bolt_layout.specs.Limits.{is_out, one_less}
 use Rattle.bolt_layout.specs.Levels.{branch_view, overflow_of, page_over, run_overflow}
 use Rattle.bolt_bulk.specs.Private.OpenRuns.{Upper, begun_after, climb, climb_puts, has_room, kept, key_size, numbers_in, own_page, pushed_on, put_in, stays_open}
-use Rattle.bolt_bulk.specs.Private.Rows.{BranchRow, no_row, row_has_room, row_kept, row_key, row_page, row_push, row_stays, rows_climb, rows_put}
+use Rattle.bolt_bulk.specs.Private.Rows.{BranchRow, no_row, one_closed, row_has_room, row_kept, row_key, row_page, row_push, row_stays, rows_climb, rows_put}
 use Rattle.bolt_bulk.specs.Private.OpenRows.{AreRows, IsKeyed, IsRow}
 use Rattle.bolt_layout.proofs.ListLemmas.{all_append}
 use Rattle.bolt_layout.proofs.OverRows.{numbers-append}
@@ -38,6 +38,7 @@ row_pushed row upper n q e is keyed same =
       size_is = omega arith;
       keyed = all_append IsKeyed run (q ∷ []) is.keyed (keyed, tt);
       left_is = is.left_is;
+      closed_is = is.closed_is;
     }
 
 pub room_same : (page_size : ℕ) (row : BranchRow) (upper : Upper) (n size : ℕ) → IsRow row upper n → row_has_room page_size row size ≡ has_room page_size 2 upper.run size
@@ -54,6 +55,7 @@ kept_same page_size row upper n size is = record {
   size_is = is.size_is;
   keyed = is.keyed;
   left_is = ap (λ (b : Bool). if b then row.left else None) (room_same page_size row upper n size is) ∙ ap (λ (l : Option ℕ). if has_room page_size 2 upper.run size then l else None) is.left_is;
+  closed_is = is.closed_is;
 }
 
 pub key_same : (run : List (Laid BranchElement)) (n : ℕ) → AllByRecursion IsKeyed run → row_key (elements_of run n) ≡ first_key run
@@ -78,8 +80,8 @@ pub rows_climbed : (page_size : ℕ) (new : Option ℕ) (key : List ℕ) (e : Br
     → AreRows (rows_climb page_size new key e next rows) (climb page_size new key q uppers) b × (rows_put page_size key e next rows ≡ climb_puts page_size key q uppers b)
 rows_climbed page_size new key e next b q [] [] are keyed same number =
     let at : b + 0 ≡ b + 0 + 0 = omega arith in
-    let base : IsRow (no_row new) (record { run = []; left = new }) (b + 0) = record { same = refl; size_is = refl; keyed = tt; left_is = refl } in
-    ((row_pushed (no_row new) (record { run = []; left = new }) (b + 0) q e base keyed (same ∙ ap q.element at), tt), refl)
+    let base : IsRow (no_row new 0) (record { run = []; left = new; closed = 0 }) (b + 0) = record { same = refl; size_is = refl; keyed = tt; left_is = refl; closed_is = refl } in
+    ((row_pushed (no_row new 0) (record { run = []; left = new; closed = 0 }) (b + 0) q e base keyed (same ∙ ap q.element at), tt), refl)
 rows_climbed page_size new key e next b q [] (upper ∷ uppers) are keyed same number = absurd are
 rows_climbed page_size new key e next b q (row ∷ rows) [] are keyed same number = absurd are
 rows_climbed page_size new key e next b q (row ∷ rows) (upper ∷ uppers) are keyed same number =
@@ -104,7 +106,8 @@ rows_climbed page_size new key e next b q (row ∷ rows) (upper ∷ uppers) are 
       | inr f ↦
           (let u : row_stays page_size (row_push row e) (key_size key) ≡ false = test ∙ f in
           let left : one_less row.left ≡ one_less upper.left = ap one_less are.0.left_is in
-          let here : IsRow (no_row (one_less row.left)) (begun_after upper) (b + numbers_in (climb page_size new key q2 uppers)) = record { same = refl; size_is = refl; keyed = tt; left_is = left } in
+          let counted = are.0.closed_is in
+          let here : IsRow (no_row (one_less row.left) (one_closed row.closed)) (begun_after upper) (b + numbers_in (climb page_size new key q2 uppers)) = record { same = refl; size_is = refl; keyed = tt; left_is = left; closed_is = omega arith } in
           let own = placed_same page_size (row_push row e) (pushed_on upper q) m next pushed next_is in
           rw (f, u) (
             (here, ih.0),

@@ -95,8 +95,8 @@ stays_standing page_size k row e high is key stays =
           let b = length-append row.elements (e ∷ []) in rw f (record { sized = p.sized; small = omega arith; few = omega arith; named = key_pushed row.elements e is.named key; slack = λ none. no_slack none }))
     ]
 
-pub no_row_standing : (left : Option ℕ) → IsStanding (no_row left)
-no_row_standing left = record { sized = refl; small = omega arith; few = omega arith; named = omega arith; slack = λ out. record { small = omega arith; few = omega arith } }
+pub no_row_standing : (left : Option ℕ) (closed : ℕ) → IsStanding (no_row left closed)
+no_row_standing left closed = record { sized = refl; small = omega arith; few = omega arith; named = omega arith; slack = λ out. record { small = omega arith; few = omega arith } }
 
 pub one_page : (page : List ℕ) → page ++ [] ≡ page
 one_page page = append-nil page

@@ -9,7 +9,7 @@ ghost use Rattle.bolt_bulk.specs.Private.BranchRuns.{IsPushed, IsSizedRow, IsSta
 ghost use Rattle.bolt_bulk.specs.Private.OpenRuns.{key_size};
 ghost use Rattle.bolt_bulk.specs.Private.RowLimits.{bucket_limit};
 ghost use Rattle.bolt_layout.specs.Limits.{one_less};
-ghost use Rattle.bolt_bulk.specs.Private.Rows.{no_row, row_has_room, row_kept, row_page, row_push, row_stays, rows_climb, rows_close_put, rows_next, rows_put, rows_root};
+ghost use Rattle.bolt_bulk.specs.Private.Rows.{no_row, one_closed, row_has_room, row_kept, row_page, row_push, row_stays, rows_climb, rows_close_put, rows_next, rows_put, rows_root};
 ghost use Rattle.bolt_bulk.specs.Puts.{Puts, PutsWhole};
 ghost use Rattle.bolt_bulk.specs.declared.fault.BulkFault.TheVariants as fault;
 
@@ -27,17 +27,20 @@ pub(crate) struct BranchRun<'a> {
     pub size: usize,
     /// How many runs may still begin in its row; `None` if there may be any number.
     pub left: Option<u64>,
+    /// How many runs of its row have closed; 2^64 - 1 if there were more.
+    pub closed: u64,
 }
 
 impl<'a> BranchRun<'a> {
     /// A run without pages.
     fn new(alloc: Global, left: Option<u64>) -> BranchRun<'a>
-        ensures { row_of result ≡ no_row left }
+        ensures { row_of result ≡ no_row left 0 }
     {
         BranchRun {
             elements: Vec::new(alloc),
             size: 16,
             left,
+            closed: 0,
         }
     }
 
@@ -147,7 +150,7 @@ impl<'a> BranchRun<'a> {
         ensures pages { Puts S.taken S.failed sink.old sink.new (placed_bytes bounds.now.page_size (row_page bounds.now.page_size (row_of self.old) next.old ∷ [])) result }
         ensures short { OnErr result (AppendsProperBeginning (S.taken sink.old) (S.taken sink.new) (placed_bytes bounds.now.page_size (row_page bounds.now.page_size (row_of self.old) next.old ∷ []))) }
         ensures up { IfOk result (λ up. branch_view up ≡ own_element (row_of self.old) next.old) }
-        ensures row { OnOk result (row_of self.new ≡ no_row (one_less self.old.left)) }
+        ensures row { OnOk result (row_of self.new ≡ no_row (one_less self.old.left) (one_closed self.old.closed)) }
         ensures next { OnOk result (next.new ≡ next.old + (1 + overflow_of bounds.now.page_size self.old.size)) }
         ensures within { OnOk result (next.new ≤ bounds.now.limit) }
         ensures large { IfErr result (λ e. e ≡ fault.TooLarge → bounds.now.limit < next.old + (1 + overflow_of bounds.now.page_size self.old.size)) }
@@ -165,6 +168,7 @@ impl<'a> BranchRun<'a> {
             Some(left) => Some(left.saturating_sub(1)),
             None => None,
         };
+        self.closed = self.closed.saturating_add(1);
         *next = after;
         Ok(up)
     }

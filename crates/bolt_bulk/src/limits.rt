@@ -1,7 +1,11 @@
 //! How many runs the rows of a bucket's branches may have.
-ghost use Rattle.std.specs.Prelude.{◌≡◌, ℕ, None};
-ghost use Rattle.bolt_bulk.specs.Private.RowLimits.{bucket_limit, limit_in};
+ghost use Rattle.std.specs.Prelude.{◌≡◌, ◌∷◌, ℕ, List, false, IfErr, None, OnOk, Some, map};
+ghost use Rattle.bolt_layout.specs.Limits.{limit_at, limits_told};
+ghost use Rattle.bolt_bulk.specs.Private.RowLimits.{IsOtherRow, bucket_limit, limit_in, run_told};
+ghost use Rattle.bolt_bulk.specs.declared.fault.BulkFault.TheVariants as fault;
 
+use crate::branch_runs::BranchRun;
+use crate::fault::BulkFault;
 use std::alloc::Global;
 use std::collections::BTreeMap;
 
@@ -20,6 +24,20 @@ pub(crate) struct BucketLimits<'a> {
     pub bucket: u64,
 }
 
+/// How many runs may begin after the first in a row, by its last open run in the plain layout, when
+/// the page under way joins that; and whether the row above loses its last item, as this row has a
+/// page less. This row may itself have lost its last item.
+fn row_limit(lost: bool, run: &BranchRun<'_>) -> (Option<u64>, bool)
+    ensures { (rows : List (ℕ × ℕ)) → limits_told lost (run_told run.now ∷ rows) ≡ result.0 ∷ limits_told result.1 rows }
+{
+    let before = run.elements.len();
+    let single = if lost { 1 } else { 0 };
+    if before == single && run.closed > 0 {
+        return (Some(run.closed - 1), true);
+    }
+    (None, lost && before == 0)
+}
+
 impl Limits {
     /// No row has a limit.
     pub(crate) fn none(alloc: Global) -> Limits
@@ -28,6 +46,42 @@ impl Limits {
         Limits {
             rows: BTreeMap::new(alloc),
         }
+    }
+
+    /// In this row only so many runs may begin after the first.
+    fn set(&mut self, bucket: u64, level: usize, left: u64) -> Result<(), BulkFault>
+        ensures row { OnOk result (limit_in self.new bucket level ≡ Some left) }
+        ensures others { OnOk result ((b l : ℕ) → IsOtherRow bucket level b l → limit_in self.new b l ≡ limit_in self.old b l) }
+        ensures fault { IfErr result (λ e. e ≡ fault.Memory) }
+    {
+        match self.rows.insert((bucket, level), left) {
+            Ok(_) => Ok(()),
+            Err(_) => Err(BulkFault::Memory),
+        }
+    }
+
+    /// Notes the limits of a bucket that ends, by what its open runs tell of the plain layout's rows:
+    /// a row that would end in a single item behind another run has one run less, and the row above
+    /// it loses its last item.
+    pub(crate) fn tell(
+        &mut self,
+        bucket: u64,
+        runs: &[BranchRun<'_>],
+    ) -> Result<(), BulkFault>
+        requires fresh { (level : ℕ) → limit_in self.old bucket level ≡ None }
+        ensures told { OnOk result ((level : ℕ) → limit_in self.new bucket level ≡ limit_at (limits_told false (map run_told runs.now)) level) }
+        ensures others { OnOk result ((b l : ℕ) → (b ≡ bucket → ⊥) → limit_in self.new b l ≡ limit_in self.old b l) }
+        ensures fault { IfErr result (λ e. e ≡ fault.Memory) }
+    {
+        let mut lost = false;
+        for level in 0..runs.len() {
+            let (limit, loses) = row_limit(lost, &runs[level]);
+            if let Some(left) = limit {
+                self.set(bucket, level, left)?;
+            }
+            lost = loses;
+        }
+        Ok(())
     }
 }
 

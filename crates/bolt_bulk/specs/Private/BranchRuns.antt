@@ -7,12 +7,12 @@ use Rattle.bolt_layout.specs.Limits.{is_out, one_less}
 use Rattle.bolt_layout.specs.Levels.{overflow_of}
 use Rattle.bolt_layout.specs.PageBytes.{branch_data}
 use Rattle.bolt_bulk.specs.Private.OpenRuns.{key_size}
-use Rattle.bolt_bulk.specs.Private.Rows.{BranchRow, no_row, row_kept, row_key, row_page, row_push, row_stays}
+use Rattle.bolt_bulk.specs.Private.Rows.{BranchRow, no_row, one_closed, row_kept, row_key, row_page, row_push, row_stays}
 use Rattle.bolt_bulk.specs.declared.branch_runs.BranchRun.{BranchRun}
 
 -- a run as the row that it is
 abbrev pub row_of : BranchRun → BranchRow
-row_of run = record { elements = map branch_view run.elements.items; size = run.size; left = run.left }
+row_of run = record { elements = map branch_view run.elements.items; size = run.size; left = run.left; closed = run.closed }
 
 abbrev pub rows_above : List BranchRun → List BranchRow
 rows_above runs = map row_of runs
@@ -43,7 +43,7 @@ pub record IsPushed (row : BranchRow) : Type 0 where
 -- A run takes the element of a page that has closed, and a page with this first key comes next: the run, what is put, the next number,
 -- and the element of the run's own page, where it closes.
 abbrev pub row_taking : ℕ → List ℕ → BranchElement → BranchRow → BranchRow
-row_taking page_size key e row = if row_stays page_size (row_push row e) (key_size key) then row_kept page_size (row_push row e) (key_size key) else no_row (one_less row.left)
+row_taking page_size key e row = if row_stays page_size (row_push row e) (key_size key) then row_kept page_size (row_push row e) (key_size key) else no_row (one_less row.left) (one_closed row.closed)
 
 abbrev pub taking_puts : ℕ → List ℕ → BranchElement → ℕ → BranchRow → List Placed
 taking_puts page_size key e next row = if row_stays page_size (row_push row e) (key_size key) then [] else row_page page_size (row_push row e) next ∷ []

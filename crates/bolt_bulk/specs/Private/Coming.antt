@@ -1,7 +1,7 @@
 -- What comes of the open runs of a bucket and of the items that are still to come; and so of all buckets that a pass has open.
-use Rattle.std.specs.Prelude.{◌≡◌, ℕ, suc, List, [], ◌∷◌, ◌++◌, Option, map}
+use Rattle.std.specs.Prelude.{◌≡◌, ◌≤◌, ℕ, suc, List, [], ◌∷◌, ◌++◌, length, Option, map}
 use Rattle.bolt_format.specs.Elements.{BranchElement, LeafElement}
-use Rattle.bolt_layout.specs.Cut.{cut_from}
+use Rattle.bolt_layout.specs.Cut.{branch_cut, cut_from}
 use Rattle.bolt_layout.specs.Items.{bucket_item, items_of}
 use Rattle.bolt_layout.specs.Laid.{Laid, size_of}
 use Rattle.bolt_layout.specs.Levels.{branch_view, leaf_view, page_over, top_of}
@@ -14,12 +14,20 @@ pub record IsUnder (which : Layout) (page_size : ℕ) (limits : ℕ → Option �
   pub top : top_of which page_size pages ≡ root
   pub right : HaveRightLimits which page_size limits pages
 
--- What comes of open upper runs, and of the pages that are still to come from below. The first of these is under way, and is in the run above.
-abbrev pub Comes : Layout → ℕ → (ℕ → Option ℕ) → List Upper → List (Laid BranchElement) → Laid BranchElement → Type 0
-Comes which page_size limits [] pages root = IsUnder which page_size limits pages root
-Comes which page_size limits (upper ∷ uppers) [] root = ⊥
-Comes which page_size limits (upper ∷ uppers) (page ∷ pages) root =
-    Comes which page_size (λ k. limits (suc k)) uppers (map (page_over branch_view page_size) (cut_left page_size size_of upper.left (upper.run ++ page ∷ []) pages)) root
+-- What comes of open upper runs, and of the pages that are still to come from below, of all pages there. The first of these is under way,
+-- and is in the run above. So many runs of that row have closed, and the run is the first of the others.
+pub record Stands (which : Layout) (page_size : ℕ) (upper : Upper) (all : List (Laid BranchElement)) (page : Laid BranchElement) (pages : List (Laid BranchElement)) : Type 0 where
+  pub runs : List (List (Laid BranchElement))
+  pub count : length runs ≡ upper.closed
+  pub cut : branch_cut which page_size size_of all ≡ runs ++ cut_left page_size size_of upper.left (upper.run ++ page ∷ []) pages
+  pub some : 2 ≤ length all
+
+abbrev pub Comes : Layout → ℕ → (ℕ → Option ℕ) → List Upper → List (Laid BranchElement) → List (Laid BranchElement) → Laid BranchElement → Type 0
+Comes which page_size limits [] all pages root = (pages ≡ all) × IsUnder which page_size limits pages root
+Comes which page_size limits (upper ∷ uppers) all [] root = ⊥
+Comes which page_size limits (upper ∷ uppers) all (page ∷ pages) root = Stands which page_size upper all page pages
+    × Comes which page_size (λ k. limits (suc k)) uppers (map (page_over branch_view page_size) (branch_cut which page_size size_of all))
+    (map (page_over branch_view page_size) (cut_left page_size size_of upper.left (upper.run ++ page ∷ []) pages)) root
 
 -- the leaves of an open bucket, with the items that are still to come
 abbrev pub leaves_coming : ℕ → List (Laid LeafElement) → List (Laid LeafElement) → List (Laid BranchElement)
@@ -27,7 +35,8 @@ leaves_coming page_size run items = map (page_over leaf_view page_size) (cut_fro
 
 -- this root page comes of an open bucket
 pub record IsOpen (which : Layout) (page_size : ℕ) (state : Open) (items : List (Laid LeafElement)) (root : Laid BranchElement) : Type 0 where
-  pub comes : Comes which page_size state.limits state.uppers (leaves_coming page_size state.run items) root
+  pub all : List (Laid BranchElement)
+  pub comes : Comes which page_size state.limits state.uppers all (leaves_coming page_size state.run items) root
 
 -- only a bucket of which nothing is open yet has an empty run
 abbrev pub HasBegun : Open → Type 0

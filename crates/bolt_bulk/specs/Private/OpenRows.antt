@@ -4,6 +4,7 @@ use Rattle.std.specs.List.{AllByRecursion}
 use Rattle.bolt_format.specs.Elements.{BranchElement, LeafElement}
 use Rattle.bolt_layout.specs.Cut.{run_size}
 use Rattle.bolt_layout.specs.Laid.{Laid, elements_of, size_of}
+use Rattle.bolt_bulk.specs.Private.HeldCounts.{capped}
 use Rattle.bolt_bulk.specs.Private.OpenRuns.{Open, Upper, key_size, next_number, numbers_in}
 use Rattle.bolt_bulk.specs.Private.Rows.{BranchRow, OpenRows}
 
@@ -16,6 +17,7 @@ pub record IsRow (row : BranchRow) (upper : Upper) (n : ℕ) : Type 0 where
   pub size_is : row.size ≡ run_size size_of upper.run
   pub keyed : AllByRecursion IsKeyed upper.run
   pub left_is : row.left ≡ upper.left
+  pub closed_is : row.closed ≡ capped upper.closed
 
 abbrev pub AreRows : List BranchRow → List Upper → ℕ → Type 0
 AreRows [] [] b = Unit {0}

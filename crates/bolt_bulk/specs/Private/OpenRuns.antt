@@ -1,7 +1,7 @@
 -- The open runs of a bucket whose pages are put in one forward pass: a run of leaf items, and above it one run of pages for each level.
 -- A run closes before the first page of what no longer joins it is put, so an upper run may stand empty: then the page that is under way
 -- below begins the next run.
-use Rattle.std.specs.Prelude.{ℕ, ◌+◌, Bool, ◌||◌, ◌&&◌, nat_lt, nat_le, List, [], ◌∷◌, ◌++◌, length, Option, None, if◌then◌else◌}
+use Rattle.std.specs.Prelude.{ℕ, suc, ◌+◌, Bool, ◌||◌, ◌&&◌, nat_lt, nat_le, List, [], ◌∷◌, ◌++◌, length, Option, None, if◌then◌else◌}
 use Rattle.bolt_format.specs.Elements.{BranchElement, LeafElement}
 use Rattle.bolt_format.specs.Pages.{PageView}
 use Rattle.bolt_layout.specs.Layout.{first_page}
@@ -19,10 +19,11 @@ has_room page_size least run size = nat_lt (length run) least || (nat_le (run_si
 abbrev pub key_size : List ℕ → ℕ
 key_size key = 16 + length key
 
--- A run of pages above, and how many runs may still begin in its row: any number, or so many.
+-- A run of pages above, how many runs may still begin in its row, which is any number or so many, and how many runs of the row have closed.
 pub record Upper : Type 0 where
   pub run : List (Laid BranchElement)
   pub left : Option ℕ
+  pub closed : ℕ
 
 -- A page of the run has closed, and one with an item of this size comes next. The run stays open for that one if it has room, or if no
 -- run may begin in its row: then that one is the last of the row, or any further run may begin.
@@ -30,13 +31,18 @@ abbrev pub stays_open : ℕ → Upper → ℕ → Bool
 stays_open page_size upper size = has_room page_size 2 upper.run size || is_out upper.left
 
 abbrev pub pushed_on : Upper → Laid BranchElement → Upper
-pushed_on upper q = record { run = upper.run ++ q ∷ []; left = upper.left }
+pushed_on upper q = record { run = upper.run ++ q ∷ []; left = upper.left; closed = upper.closed }
 
 abbrev pub kept : ℕ → Upper → ℕ → Upper
-kept page_size upper size = record { run = upper.run; left = if has_room page_size 2 upper.run size then upper.left else None }
+kept page_size upper size = record { run = upper.run; left = if has_room page_size 2 upper.run size then upper.left else None; closed = upper.closed }
 
 abbrev pub begun_after : Upper → Upper
-begun_after upper = record { run = []; left = one_less upper.left }
+begun_after upper = record { run = []; left = one_less upper.left; closed = suc upper.closed }
+
+-- what an open run tells of its row at the bucket's end, when it takes the page that is under way: how many runs the row has, and how many
+-- items the last one has
+abbrev pub told_by : Upper → ℕ × ℕ
+told_by upper = (suc upper.closed, suc (length upper.run))
 
 -- the pages in upper runs that were put, the outermost first
 abbrev pub put_in : List Upper → List (Laid BranchElement)
@@ -49,7 +55,7 @@ numbers_in uppers = numbers_of (put_in uppers)
 -- A page q has closed, and a page with this first key comes next. Each upper run takes the page below it that closed, and closes where the next one won't join it.
 -- A new run at the top has the first page of its row; after it so many runs may begin there.
 abbrev pub climb : ℕ → (new : Option ℕ) → List ℕ → Laid BranchElement → List Upper → List Upper
-climb page_size new key q [] = record { run = q ∷ []; left = new } ∷ []
+climb page_size new key q [] = record { run = q ∷ []; left = new; closed = 0 } ∷ []
 climb page_size new key q (upper ∷ uppers) =
     let stays = kept page_size (pushed_on upper q) (key_size key) ∷ uppers in
     let closes = begun_after upper ∷ climb page_size new key (page_over branch_view page_size (upper.run ++ q ∷ [])) uppers in

@@ -1,8 +1,9 @@
 -- The limits of rows, as code keeps them: of those rows alone that have one.
-use Rattle.std.specs.Prelude.{ℕ, Option}
+use Rattle.std.specs.Prelude.{◌≡◌, ◌⊎◌, ℕ, suc, Option, length}
 use Rattle.std.specs.BTreeMap.{get}
 use Rattle.std.specs.Ordering.{nat_cmp, ordering_then}
 use Rattle.std.specs.declared.cmp.Ordering.{Ordering}
+use Rattle.bolt_bulk.specs.declared.branch_runs.BranchRun.{BranchRun}
 use Rattle.bolt_bulk.specs.declared.limits.BucketLimits.{BucketLimits}
 use Rattle.bolt_bulk.specs.declared.limits.Limits.{Limits}
 
@@ -15,3 +16,11 @@ limit_in limits bucket level = get row_cmp limits.rows (bucket, level)
 
 abbrev pub bucket_limit : BucketLimits → (level : ℕ) → Option ℕ
 bucket_limit limits level = limit_in limits.all.now limits.bucket level
+
+-- it is the row of another bucket, or of another level
+abbrev pub IsOtherRow : (bucket level b l : ℕ) → Type 0
+IsOtherRow bucket level b l = (b ≡ bucket → ⊥) ⊎ (l ≡ level → ⊥)
+
+-- what an open run tells of its row: how many runs it has, and how many items the last one has, with the page that is under way
+abbrev pub run_told : BranchRun → ℕ × ℕ
+run_told run = (suc run.closed, suc (length run.elements.items))

@@ -1,6 +1,6 @@
 -- The open runs of a bucket as the code keeps them: the elements of each run with the numbers that their pages have, the run's size, and how
 -- many runs may still begin in its row.
-use Rattle.std.specs.Prelude.{ℕ, ◌+◌, Bool, ◌||◌, ◌&&◌, nat_lt, nat_le, List, [], ◌∷◌, ◌++◌, length, Option, None, if◌then◌else◌}
+use Rattle.std.specs.Prelude.{ℕ, ◌+◌, Bool, ◌||◌, ◌&&◌, nat_lt, nat_le, List, [], ◌∷◌, ◌++◌, length, min, Option, None, if◌then◌else◌}
 use Rattle.bolt_format.specs.Elements.{BranchElement, LeafElement}
 use Rattle.bolt_layout.specs.Cut.{max_items}
 use Rattle.bolt_layout.specs.Laid.{Placed}
@@ -12,12 +12,17 @@ pub record BranchRow : Type 0 where
   pub elements : List BranchElement
   pub size : ℕ
   pub left : Option ℕ
+  pub closed : ℕ
 
-abbrev pub no_row : (left : Option ℕ) → BranchRow
-no_row left = record { elements = []; size = 16; left = left }
+abbrev pub no_row : (left : Option ℕ) → (closed : ℕ) → BranchRow
+no_row left closed = record { elements = []; size = 16; left = left; closed = closed }
+
+-- how many runs of a row have closed, one more than before; 2^64 - 1 where there were more
+abbrev pub one_closed : ℕ → ℕ
+one_closed closed = min (closed + 1) 18446744073709551615
 
 abbrev pub row_push : BranchRow → BranchElement → BranchRow
-row_push row e = record { elements = row.elements ++ e ∷ []; size = row.size + key_size e.key; left = row.left }
+row_push row e = record { elements = row.elements ++ e ∷ []; size = row.size + key_size e.key; left = row.left; closed = row.closed }
 
 abbrev pub row_has_room : ℕ → BranchRow → ℕ → Bool
 row_has_room page_size row size = nat_lt (length row.elements) 2 || (nat_le (row.size + size) page_size && nat_lt (length row.elements) max_items)
@@ -27,7 +32,7 @@ abbrev pub row_stays : ℕ → BranchRow → ℕ → Bool
 row_stays page_size row size = row_has_room page_size row size || is_out row.left
 
 abbrev pub row_kept : ℕ → BranchRow → ℕ → BranchRow
-row_kept page_size row size = record { elements = row.elements; size = row.size; left = if row_has_room page_size row size then row.left else None }
+row_kept page_size row size = record { elements = row.elements; size = row.size; left = if row_has_room page_size row size then row.left else None; closed = row.closed }
 
 abbrev pub row_key : List BranchElement → List ℕ
 row_key [] = []
@@ -39,9 +44,9 @@ row_page page_size row next = record { number = next; view = branch_view (overfl
 
 -- The page of this element has closed, with `next` the number after it; a page with this first key comes next.
 abbrev pub rows_climb : ℕ → (new : Option ℕ) → List ℕ → BranchElement → ℕ → List BranchRow → List BranchRow
-rows_climb page_size new key e next [] = row_push (no_row new) e ∷ []
+rows_climb page_size new key e next [] = row_push (no_row new 0) e ∷ []
 rows_climb page_size new key e next (row ∷ rows) =
-    let closes = no_row (one_less row.left) ∷ rows_climb page_size new key (record { key = row_key (row_push row e).elements; child = next }) (next + (1 + overflow_of page_size (row_push row e).size)) rows in
+    let closes = no_row (one_less row.left) (one_closed row.closed) ∷ rows_climb page_size new key (record { key = row_key (row_push row e).elements; child = next }) (next + (1 + overflow_of page_size (row_push row e).size)) rows in
     let stays = row_kept page_size (row_push row e) (key_size key) ∷ rows in
     if row_stays page_size (row_push row e) (key_size key) then stays else closes
 

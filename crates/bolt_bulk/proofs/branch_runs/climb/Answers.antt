@@ -9,7 +9,7 @@ use Rattle.bolt_layout.specs.Limits.{one_less}
 use Rattle.bolt_bulk.specs.Private.OpenRuns.{key_size}
 use Rattle.bolt_bulk.specs.Private.RowLimits.{bucket_limit}
 use Rattle.bolt_bulk.specs.Private.BranchRuns.{IsStanding, element_up, row_of}
-use Rattle.bolt_bulk.specs.Private.Rows.{BranchRow, no_row, row_kept, row_push}
+use Rattle.bolt_bulk.specs.Private.Rows.{BranchRow, no_row, one_closed, row_kept, row_push}
 use Rattle.bolt_bulk.proofs.ClimbLemmas.{Climbing, climb_begins, climb_closes, climb_large, climb_stays, climb_stops, no_room_by, room_by, row_at, standing_at, standing_set, up_key, within_rows}
 use Rattle.bolt_bulk.proofs.branch_runs.climb.Goals as goal
 
@@ -68,9 +68,9 @@ loop-i-preserved g c =
     let e = branch_view c.loop-i.closed in
     let two = no_room_by c.args.bounds.now.page_size c.args.key.now e c.loop-i.next old _ c.in-Ok-Some.up c.in-Ok-Some.field-0-is c.in-Ok-Some.ensures.up in
     let f = two.0 in
-    let took : row_of c.take.new.self ≡ no_row (one_less old.left) = c.in-Ok-Some.ensures.row ∙ (rw f refl) in
+    let took : row_of c.take.new.self ≡ no_row (one_less old.left) (one_closed old.closed) = c.in-Ok-Some.ensures.row ∙ (rw f refl) in
     let next : c.take.new.next ≡ c.loop-i.next + (1 + overflow_of c.args.bounds.now.page_size (row_push old e).size) = c.in-Ok-Some.ensures.next ∙ (rw f refl) in
-    let rows : map row_of (set c.loop-i.uppers.items c.loop-i.i c.take.new.self) ≡ set (map row_of c.loop-i.uppers.items) c.loop-i.i (no_row (one_less old.left)) =
+    let rows : map row_of (set c.loop-i.uppers.items c.loop-i.i c.take.new.self) ≡ set (map row_of c.loop-i.uppers.items) c.loop-i.i (no_row (one_less old.left) (one_closed old.closed)) =
     map-set row_of c.loop-i.uppers.items c.loop-i.i c.take.new.self ∙ ap (λ (r : BranchRow). set (map row_of c.loop-i.uppers.items) c.loop-i.i r) took in
     let closes = climb_closes c.args.bounds.now.page_size (bucket_limit c.args.limits (length (map row_of c.args.uppers.now.items))) c.args.key.now _ _ _ _ _ _ (map row_of c.loop-i.uppers.items) c.loop-i.i e c.loop-i.next old old _
     (within_rows c.loop-i.uppers.items c.loop-i.i h) (row_at c.loop-i.uppers.items c.loop-i.i c.index_mut.result.now h c.index_mut.ensures.value) f c.loop-i.invariant.0 c.in-Ok-Some.ensures.pages in
@@ -79,8 +79,8 @@ loop-i-preserved g c =
     let C : List BranchRow → BranchElement → ℕ → Type 0 = λ rs x n. Climbing c.args.bounds.now.page_size (bucket_limit c.args.limits (length (map row_of c.args.uppers.now.items))) c.args.key.now (branch_view c.args.closed) c.args.next.now (map row_of c.args.uppers.now.items) g.S.Sink.taken g.S.Sink.failed c.args.sink.now c.take.new.sink rs (c.loop-i.i + 1) x n in
     let one : C (map row_of (set c.loop-i.uppers.items c.loop-i.i c.take.new.self)) (branch_view c.in-Ok-Some.up) c.take.new.next =
     subst (λ (rs : List BranchRow). C rs (branch_view c.in-Ok-Some.up) c.take.new.next) (sym rows)
-    (subst (λ (x : BranchElement). C (set (map row_of c.loop-i.uppers.items) c.loop-i.i (no_row (one_less old.left))) x c.take.new.next) (sym two.1)
-    (subst (λ (n : ℕ). C (set (map row_of c.loop-i.uppers.items) c.loop-i.i (no_row (one_less old.left))) (element_up e c.loop-i.next old) n) (sym next) closes)) in (
+    (subst (λ (x : BranchElement). C (set (map row_of c.loop-i.uppers.items) c.loop-i.i (no_row (one_less old.left) (one_closed old.closed))) x c.take.new.next) (sym two.1)
+    (subst (λ (n : ℕ). C (set (map row_of c.loop-i.uppers.items) c.loop-i.i (no_row (one_less old.left) (one_closed old.closed))) (element_up e c.loop-i.next old) n) (sym next) closes)) in (
       one,
       subst (λ (rs : List BranchRow). AllByRecursion IsStanding rs) (sym (map-set row_of c.loop-i.uppers.items c.loop-i.i c.take.new.self))
           (standing_set (map row_of c.loop-i.uppers.items) c.loop-i.i (row_of c.take.new.self) c.loop-i.invariant.1 c.in-Ok-Some.ensures.standing),

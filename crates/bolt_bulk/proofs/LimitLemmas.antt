@@ -1,0 +1,80 @@
+-- The limits of rows: those of other rows stay, and those of a bucket are told row by row.
+use Rattle.std.proofs.Common.{◌≡◌, ◌≢◌, ◌∙◌, ◌⊎◌, ◌==◌, ◌<◌, ◌≤◌, ◌+◌, ◌-◌, ℕ, suc, Bool, true, false, Option, Some, None, List, [], ◌∷◌, length, drop, refl, sym, ap, inl, inr, arith}
+use Rattle.std.proofs.lemmas.Bool.{cases_Bool, cases_lt}
+use Rattle.std.proofs.lemmas.List.{drop_all}
+use Rattle.std.proofs.lemmas.Bool.Decides.{eqb_tells}
+use Rattle.std.proofs.lemmas.Map.Lookups.{exact_unsigned}
+use Rattle.std.specs.BTreeMap.{BTreeMap, Updates, get}
+use Rattle.std.specs.Ordering.{is_eq, nat_cmp, ordering_then}
+use Rattle.std.specs.declared.cmp.Ordering.{Ordering}
+use Rattle.std.specs.declared.cmp.Ordering.TheVariants.{Less, Equal, Greater}
+use Rattle.bolt_layout.specs.Limits.{limit_at, limits_told}
+use Rattle.bolt_bulk.specs.Private.RowLimits.{IsOtherRow, row_cmp}
+
+differ : (a b : ℕ) → a ≢ b → (a == b) ≡ false
+differ a b other = elim (eqb_tells a b) [
+  | inl same ↦ absurd (other same.1)
+  | inr apart ↦ apart.0
+]
+
+both_equal : (o p : Ordering) → is_eq (ordering_then o p) ≡ true → (o ≡ Equal) × (p ≡ Equal)
+both_equal Less p e = absurd (cc)
+both_equal Equal Less e = absurd (cc)
+both_equal Equal Equal e = (refl, refl)
+both_equal Equal Greater e = absurd (cc)
+both_equal Greater p e = absurd (cc)
+
+apart : (bucket level b l : ℕ) → IsOtherRow bucket level b l → is_eq (row_cmp (bucket, level) (b, l)) ≡ false
+apart bucket level b l other = elim (cases_Bool (is_eq (row_cmp (bucket, level) (b, l)))) [
+  | inl t ↦
+      (let (first, second) = both_equal (nat_cmp bucket b) (nat_cmp level l) t in
+      absurd (elim other [
+        | inl other_bucket ↦ other_bucket (sym (exact_unsigned bucket b first))
+        | inr other_level ↦ other_level (sym (exact_unsigned level l second))
+      ]))
+  | inr f ↦ f
+]
+
+pub others_stay : (old new : BTreeMap (ℕ × ℕ) ℕ) (bucket level left : ℕ) → Updates row_cmp old new (bucket, level) (Some left) → (b l : ℕ) → IsOtherRow bucket level b l
+    → get row_cmp new (b, l) ≡ get row_cmp old (b, l)
+others_stay old new bucket level left updates b l other = updates.2 (b, l) (apart bucket level b l other)
+
+-- One row after another gets its limit.
+pub told_step : (rows : List (ℕ × ℕ)) (lost loses : Bool) (i : ℕ) (row : ℕ × ℕ) (limit : Option ℕ) (old new : ℕ → Option ℕ) → drop i rows ≡ row ∷ drop (i + 1) rows
+    → ((rest : List (ℕ × ℕ)) → limits_told lost (row ∷ rest) ≡ limit ∷ limits_told loses rest)
+    → ((k : ℕ) → k < i → old k ≡ limit_at (limits_told false rows) k) → ((k : ℕ) → i ≤ k → old k ≡ None)
+    → ((k : ℕ) → limit_at (limits_told false rows) (i + k) ≡ limit_at (limits_told lost (drop i rows)) k)
+    → new i ≡ limit → ((k : ℕ) → (k ≡ i → ⊥) → new k ≡ old k)
+    → ((k : ℕ) → k < i + 1 → new k ≡ limit_at (limits_told false rows) k) × ((k : ℕ) → i + 1 ≤ k → new k ≡ None)
+    × ((k : ℕ) → limit_at (limits_told false rows) (i + 1 + k) ≡ limit_at (limits_told loses (drop (i + 1) rows)) k)
+told_step rows lost loses i row limit old new at step below above rest here others =
+    let T : List (Option ℕ) = limits_told false rows in
+    let next : limits_told lost (drop i rows) ≡ limit ∷ limits_told loses (drop (i + 1) rows) =
+    ap (λ (rs : List (ℕ × ℕ)). limits_told lost rs) at ∙ step (drop (i + 1) rows) in
+    let zero_is : i ≡ i + 0 = omega arith in
+    let own : limit_at T i ≡ limit = ap (λ (n : ℕ). limit_at T n) zero_is ∙ (rest 0 ∙ ap (λ (ls : List (Option ℕ)). limit_at ls 0) next) in (
+      (λ k less. elim (cases_lt k i) [
+        | inl before ↦ others k (λ e. omega arith) ∙ below k before
+        | inr after ↦ (let same : k ≡ i = omega arith in ap new same ∙ (here ∙ (sym own ∙ ap (λ (n : ℕ). limit_at T n) (sym same))))
+      ]),
+      (λ k more. others k (λ e. omega arith) ∙ above k (omega arith)),
+      (λ k. (let shift : i + 1 + k ≡ i + suc k = omega arith in ap (λ (n : ℕ). limit_at T n) shift ∙ (rest (suc k) ∙ ap (λ (ls : List (Option ℕ)). limit_at ls (suc k)) next))),
+    )
+
+none_at : (lost : Bool) (k : ℕ) → limit_at (limits_told lost []) k ≡ None
+none_at lost k = refl
+
+-- and past the last row there is none
+pub told_all : (rows : List (ℕ × ℕ)) (lost : Bool) (i : ℕ) (old : ℕ → Option ℕ) → length rows ≤ i
+    → ((k : ℕ) → k < i → old k ≡ limit_at (limits_told false rows) k) → ((k : ℕ) → i ≤ k → old k ≡ None)
+    → ((k : ℕ) → limit_at (limits_told false rows) (i + k) ≡ limit_at (limits_told lost (drop i rows)) k)
+    → (k : ℕ) → old k ≡ limit_at (limits_told false rows) k
+told_all rows lost i old past below above rest k = elim (cases_lt k i) [
+  | inl before ↦ below k before
+  | inr after ↦
+      (let n : ℕ = k - i in
+      let same : i + n ≡ k = omega arith in
+      let none : drop i rows ≡ [] = drop_all i rows past in
+      let last = rest n ∙ (ap (λ (rs : List (ℕ × ℕ)). limit_at (limits_told lost rs) n) none ∙ none_at lost n) in
+      above k after ∙ (sym last ∙ ap (λ (m : ℕ). limit_at (limits_told false rows) m) same))
+]

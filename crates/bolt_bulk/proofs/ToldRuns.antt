@@ -1,0 +1,29 @@
+-- At a bucket's end its open runs tell of each row how many runs it has, and how many items the last one has.
+use Rattle.std.proofs.Common.{◌≡◌, ◌∙◌, ◌≤◌, ℕ, suc, ◌+◌, Option, List, [], ◌∷◌, ◌++◌, length, map, refl, sym, ap, subst, arith}
+use Rattle.std.proofs.lemmas.List.{length-append}
+use Rattle.bolt_format.specs.Elements.{BranchElement}
+use Rattle.bolt_layout.specs.Laid.{Laid, size_of}
+use Rattle.bolt_layout.specs.Levels.{branch_view, leaf_view, page_over}
+use Rattle.bolt_layout.specs.Limits.{AreTold, last_length}
+use Rattle.bolt_layout.specs.declared.layout.Layout.TheVariants.{Plain}
+use Rattle.bolt_bulk.specs.Private.Coming.{Comes, IsOpen}
+use Rattle.bolt_bulk.specs.Private.OpenRuns.{Open, Upper, told_by}
+
+last_of_runs : {X : Type 0} (runs : List (List X)) (run : List X) → last_length (runs ++ run ∷ []) ≡ length run
+last_of_runs [] run = refl
+last_of_runs (first ∷ []) run = refl
+last_of_runs (first ∷ second ∷ runs) run = last_of_runs (second ∷ runs) run
+
+rows_tell : (page_size : ℕ) (limits : ℕ → Option ℕ) (uppers : List Upper) (q : Laid BranchElement) (all : List (Laid BranchElement)) (root : Laid BranchElement)
+    → Comes Plain page_size limits uppers all (q ∷ []) root → AreTold page_size all (map told_by uppers)
+rows_tell page_size limits [] q all root is = let one = ap (λ (pages : List (Laid BranchElement)). length pages) is.0 in omega arith
+rows_tell page_size limits (upper ∷ uppers) q all root (stands, is) =
+    let last : List (Laid BranchElement) = upper.run ++ q ∷ [] in
+    let count = ap (λ (runs : List (List (Laid BranchElement))). length runs) stands.cut ∙ length-append stands.runs (last ∷ []) in
+    let closed = stands.count in
+    let items = ap (λ (runs : List (List (Laid BranchElement))). last_length runs) stands.cut ∙ last_of_runs stands.runs last in
+    let long = length-append upper.run (q ∷ []) in
+    (stands.some, omega arith, omega arith, rows_tell page_size (λ k. limits (suc k)) uppers (page_over branch_view page_size last) _ root is)
+
+pub ends_tell : (page_size : ℕ) (state : Open) (root : Laid BranchElement) (is : IsOpen Plain page_size state [] root) → AreTold page_size is.all (map told_by state.uppers)
+ends_tell page_size state root is = rows_tell page_size state.limits state.uppers (page_over leaf_view page_size state.run) is.all root is.comes
