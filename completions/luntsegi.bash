@@ -1,13 +1,13 @@
 # Completion for bash: the commands of luntsegi, their options and values, and file names.
 
-# The options of a command that have a value.
-_luntsegi_valued() {
+# The options of a command, but for those of help.
+_luntsegi_options() {
     case $1 in
         buckets) echo --form --meta ;;
         keys | get) echo --form --parts --meta ;;
         stats) echo --meta ;;
         list) echo --from --meta ;;
-        compact) echo -o --page-size --meta ;;
+        compact) echo -o --page-size --for-bbolt --meta ;;
     esac
 }
 
@@ -65,7 +65,7 @@ _luntsegi_command() {
 # Completes an option, or an operand: the name of a file, or what nobody but the user knows.
 _luntsegi_option_or_operand() {
     if [[ $1 == -* && " ${COMP_WORDS[*]:0:COMP_CWORD} " != *" -- "* ]]; then
-        _luntsegi_words "$(_luntsegi_valued "${COMP_WORDS[1]}") -h --help" "$1"
+        _luntsegi_words "$(_luntsegi_options "${COMP_WORDS[1]}") -h --help" "$1"
     elif _luntsegi_wants_file; then
         _luntsegi_files "$1"
     fi

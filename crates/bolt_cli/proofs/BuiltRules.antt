@@ -50,23 +50,23 @@ takes_one_word i o = one_by_one i o.name o.several
 
 -- ---- building
 
-abbrev pub choice_of : Text → Flag → Bool → Choice
-choice_of name flag required = record { name = name; flag = flag; required = required }
+abbrev pub choice_of : Text → Flag → Bool → Bool → Choice
+choice_of name flag has_value required = record { name = name; flag = flag; has_value = has_value; required = required }
 
-option_stays : (i : ℕ) (name : Text) (flag : Flag) (required : Bool)
-    → with_index i (option_built (choice_of name flag required)) ≡ option_built (choice_of name flag required)
-option_stays i name (long own) required = refl
-option_stays i name (short letter) required = refl
+option_stays : (i : ℕ) (name : Text) (flag : Flag) (has_value required : Bool)
+    → with_index i (option_built (choice_of name flag has_value required)) ≡ option_built (choice_of name flag has_value required)
+option_stays i name (long own) has_value required = refl
+option_stays i name (short letter) has_value required = refl
 
-option_counts_none : (i : ℕ) (name : Text) (flag : Flag) (required : Bool) → index_after i (option_rule (choice_of name flag required)) ≡ i
-option_counts_none i name (long own) required = refl
-option_counts_none i name (short letter) required = refl
+option_counts_none : (i : ℕ) (name : Text) (flag : Flag) (has_value required : Bool) → index_after i (option_rule (choice_of name flag has_value required)) ≡ i
+option_counts_none i name (long own) has_value required = refl
+option_counts_none i name (short letter) has_value required = refl
 
 options_filled : (i : ℕ) (options : List Choice) → filled_from i (map option_rule options ++ help_rule ∷ []) ≡ options_built options
 options_filled i [] = refl
 options_filled i (o ∷ options) =
-    ap₂ (λ (r : Rule) (rs : List Rule). r ∷ rs) (option_stays i o.name o.flag o.required)
-    (ap (λ j. filled_from j (map option_rule options ++ help_rule ∷ [])) (option_counts_none i o.name o.flag o.required) ∙ options_filled i options)
+    ap₂ (λ (r : Rule) (rs : List Rule). r ∷ rs) (option_stays i o.name o.flag o.has_value o.required)
+    (ap (λ j. filled_from j (map option_rule options ++ help_rule ∷ [])) (option_counts_none i o.name o.flag o.has_value o.required) ∙ options_filled i options)
 
 next_index : (i : ℕ) (o : Operand) → i < usize_max → index_after i (operand_rule o) ≡ suc i
 next_index i o small = omega (arith, small)
@@ -90,22 +90,37 @@ abbrev pub has_ascii : Flag → Bool
 has_ascii (long name) = true
 has_ascii (short letter) = nat_lt letter 128
 
+-- an option without a value has a long name
+abbrev pub is_long : Flag → Bool
+is_long (long name) = true
+is_long (short letter) = false
+
+abbrev all_ascii : List Choice → Bool
+all_ascii options = list_all (λ (o : Choice). has_ascii o.flag) options
+
+abbrev pub long_or_valued : Choice → Bool
+long_or_valued o = o.has_value || is_long o.flag
+
 -- what the lemmas below ask of a line
 abbrev pub is_good : Syntax → Bool
-is_good s = nat_lt (length s.operands) 9 && (names_differ (rules_built s) && list_all (λ (o : Choice). has_ascii o.flag) s.options)
+is_good s = nat_lt (length s.operands) 9 && (names_differ (rules_built s) && (all_ascii s.options && list_all long_or_valued s.options))
 
 pub few_operands : (s : Syntax) → is_good s ≡ true → length s.operands < 9
-few_operands s good = ltb-true (length s.operands) 9 (and_parts (nat_lt (length s.operands) 9) (names_differ (rules_built s) && list_all (λ (o : Choice). has_ascii o.flag) s.options) good).0
+few_operands s good = ltb-true (length s.operands) 9
+    (and_parts (nat_lt (length s.operands) 9) (names_differ (rules_built s) && (all_ascii s.options && list_all long_or_valued s.options)) good).0
 
-good_names : (s : Syntax) → is_good s ≡ true → (names_differ (rules_built s) ≡ true) × (list_all (λ (o : Choice). has_ascii o.flag) s.options ≡ true)
-good_names s good = and_parts (names_differ (rules_built s)) (list_all (λ (o : Choice). has_ascii o.flag) s.options)
-    (and_parts (nat_lt (length s.operands) 9) (names_differ (rules_built s) && list_all (λ (o : Choice). has_ascii o.flag) s.options) good).1
+good_names : (s : Syntax) → is_good s ≡ true → (names_differ (rules_built s) ≡ true) × ((all_ascii s.options && list_all long_or_valued s.options) ≡ true)
+good_names s good = and_parts (names_differ (rules_built s)) (all_ascii s.options && list_all long_or_valued s.options)
+    (and_parts (nat_lt (length s.operands) 9) (names_differ (rules_built s) && (all_ascii s.options && list_all long_or_valued s.options)) good).1
 
 pub differing_names : (s : Syntax) → is_good s ≡ true → names_differ (rules_built s) ≡ true
 differing_names s good = (good_names s good).0
 
 pub ascii_letters : (s : Syntax) → is_good s ≡ true → list_all (λ (o : Choice). has_ascii o.flag) s.options ≡ true
-ascii_letters s good = (good_names s good).1
+ascii_letters s good = (and_parts (all_ascii s.options) (list_all long_or_valued s.options) (good_names s good).1).0
+
+pub valued_letters : (s : Syntax) → is_good s ≡ true → list_all long_or_valued s.options ≡ true
+valued_letters s good = (and_parts (all_ascii s.options) (list_all long_or_valued s.options) (good_names s good).1).1
 
 -- what all pass, what is found passes
 pub all_found : {X : Type 0} (p test : X → Bool) (xs : List X) (x : X) → list_all p xs ≡ true → find test xs ≡ Some x → p x ≡ true
@@ -174,16 +189,16 @@ here_or_later false o later helps = refl
 abbrev pub by_long : Text → List Choice → Option Choice
 by_long name options = find (λ (o : Choice). is_called name o.flag) options
 
-one_long : (name own : Text) (flag : Flag) (required : Bool) (options : List Choice) → arg_by_long (options_built options) name ≡ option_or_help (by_long name options) (bytes_eq (codes "help") name)
-    → arg_by_long (options_built (choice_of own flag required ∷ options)) name ≡ option_or_help (by_long name (choice_of own flag required ∷ options)) (bytes_eq (codes "help") name)
-one_long name own (long word) required options later =
-    ap (λ found. cond (bytes_eq word name || false) (Some (option_built (choice_of own (long word) required))) found) later
-    ∙ here_or_later (bytes_eq word name) (choice_of own (long word) required) (by_long name options) (bytes_eq (codes "help") name)
-one_long name own (short letter) required options later = later
+one_long : (name own : Text) (flag : Flag) (has_value required : Bool) (options : List Choice) → arg_by_long (options_built options) name ≡ option_or_help (by_long name options) (bytes_eq (codes "help") name)
+    → arg_by_long (options_built (choice_of own flag has_value required ∷ options)) name ≡ option_or_help (by_long name (choice_of own flag has_value required ∷ options)) (bytes_eq (codes "help") name)
+one_long name own (long word) has_value required options later =
+    ap (λ found. cond (bytes_eq word name || false) (Some (option_built (choice_of own (long word) has_value required))) found) later
+    ∙ here_or_later (bytes_eq word name) (choice_of own (long word) has_value required) (by_long name options) (bytes_eq (codes "help") name)
+one_long name own (short letter) has_value required options later = later
 
 options_by_long : (name : Text) (options : List Choice) → arg_by_long (options_built options) name ≡ option_or_help (by_long name options) (bytes_eq (codes "help") name)
 options_by_long name [] = ap (λ b. cond b (Some help_built) None) (either_false (bytes_eq (codes "help") name))
-options_by_long name (o ∷ options) = one_long name o.name o.flag o.required options (options_by_long name options)
+options_by_long name (o ∷ options) = one_long name o.name o.flag o.has_value o.required options (options_by_long name options)
 
 pub long_found : (name : Text) (i : ℕ) (ops : List Operand) (options : List Choice)
     → arg_by_long (operands_built i ops ++ options_built options) name ≡ option_or_help (by_long name options) (bytes_eq (codes "help") name)
@@ -193,16 +208,16 @@ long_found name i (o ∷ ops) options = long_found name (suc i) ops options
 abbrev pub by_short : ℕ → List Choice → Option Choice
 by_short letter options = find (λ (o : Choice). is_lettered letter o.flag) options
 
-one_short : (letter : ℕ) (own : Text) (flag : Flag) (required : Bool) (options : List Choice) → arg_by_short (options_built options) letter ≡ option_or_help (by_short letter options) (104 == letter)
-    → arg_by_short (options_built (choice_of own flag required ∷ options)) letter ≡ option_or_help (by_short letter (choice_of own flag required ∷ options)) (104 == letter)
-one_short letter own (long word) required options later = later
-one_short letter own (short mark) required options later =
-    ap (λ found. cond (mark == letter || false) (Some (option_built (choice_of own (short mark) required))) found) later
-    ∙ here_or_later (mark == letter) (choice_of own (short mark) required) (by_short letter options) (104 == letter)
+one_short : (letter : ℕ) (own : Text) (flag : Flag) (has_value required : Bool) (options : List Choice) → arg_by_short (options_built options) letter ≡ option_or_help (by_short letter options) (104 == letter)
+    → arg_by_short (options_built (choice_of own flag has_value required ∷ options)) letter ≡ option_or_help (by_short letter (choice_of own flag has_value required ∷ options)) (104 == letter)
+one_short letter own (long word) has_value required options later = later
+one_short letter own (short mark) has_value required options later =
+    ap (λ found. cond (mark == letter || false) (Some (option_built (choice_of own (short mark) has_value required))) found) later
+    ∙ here_or_later (mark == letter) (choice_of own (short mark) has_value required) (by_short letter options) (104 == letter)
 
 options_by_short : (letter : ℕ) (options : List Choice) → arg_by_short (options_built options) letter ≡ option_or_help (by_short letter options) (104 == letter)
 options_by_short letter [] = ap (λ b. cond b (Some help_built) None) (either_false (104 == letter))
-options_by_short letter (o ∷ options) = one_short letter o.name o.flag o.required options (options_by_short letter options)
+options_by_short letter (o ∷ options) = one_short letter o.name o.flag o.has_value o.required options (options_by_short letter options)
 
 pub short_found : (letter : ℕ) (i : ℕ) (ops : List Operand) (options : List Choice)
     → arg_by_short (operands_built i ops ++ options_built options) letter ≡ option_or_help (by_short letter options) (104 == letter)

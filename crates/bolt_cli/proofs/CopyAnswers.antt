@@ -23,7 +23,7 @@ use Rattle.bolt_cli.specs.Failures.{copied}
 use Rattle.bolt_cli.specs.declared.failure.Failure.TheVariants as failure
 use Rattle.bolt_cli.specs.declared.page_size.PageSize.{PageSize}
 use Rattle.bolt_cli.proofs.ReadFiles.{read_trees}
-use Rattle.bolt_layout.specs.declared.layout.Layout.TheVariants.{Plain}
+use Rattle.bolt_layout.specs.declared.layout.Layout.{Layout}
 
 -- ---- a copy that is whole, or isn't
 
@@ -42,7 +42,7 @@ module _ {T : Type 0} {taken : T → Option (List ℕ)} {failed : T → ℕ} (ol
 
 -- ---- the copy of a file that is read
 
-module _ (file : List ℕ) (slot : Option Slot) (size : Option PageSize) (checked : Checked) (same : bytes_of checked ≡ file) (under : IsReadUnder file slot (meta_of checked)) where
+module _ (file : List ℕ) (slot : Option Slot) (size : Option PageSize) (which : Layout) (checked : Checked) (same : bytes_of checked ≡ file) (under : IsReadUnder file slot (meta_of checked)) where
   abbrev Listed : Type 0
   Listed = (listing : List Member) × IsListing file (meta_of checked) listing
 
@@ -50,33 +50,33 @@ module _ (file : List ℕ) (slot : Option Slot) (size : Option PageSize) (checke
   own_listing = has_listing file (meta_of checked) (read_trees file slot (meta_of checked) under)
 
   abbrev copy_of : Listed → List ℕ
-  copy_of listed = layout_of_listing Plain (copy_page_size size (meta_of checked)) listed.0 (meta_of checked).root_sequence
+  copy_of listed = layout_of_listing which (copy_page_size size (meta_of checked)) listed.0 (meta_of checked).root_sequence
 
   module _ {T : Type 0} (taken : T → Option (List ℕ)) (failed : T → ℕ) (old new : T) (page_size : ℕ) (is : page_size ≡ copy_page_size size (meta_of checked)) where
     abbrev Promised : Result Done BulkFault → Type 0
-    Promised result = ForListing checked (λ listing. Copies taken failed old new (layout_for Plain checked page_size listing) result)
+    Promised result = ForListing checked (λ listing. Copies taken failed old new (layout_for which checked page_size listing) result)
 
     -- what is promised of each listing holds of the one that there is
     own_copy : (result : Result Done BulkFault) → Promised result → Copies taken failed old new (copy_of own_listing) result
     own_copy result promised =
         let listing = own_listing.0 in
-        subst (λ n. Copies taken failed old new (layout_for Plain checked n listing) result) is
+        subst (λ n. Copies taken failed old new (layout_for which checked n listing) result) is
         (promised listing (subst (λ (f : List ℕ). IsListing f (meta_of checked) listing) (sym same) own_listing.1))
 
     -- It is sound, and lists the same.
     abbrev IsAccepted : Type 0
-    IsAccepted = ForListing checked (λ listing. ∥ IsSoundCopy Plain page_size (tree_of listing) (meta_of checked).root_sequence listing ∥₁)
+    IsAccepted = ForListing checked (λ listing. ∥ IsSoundCopy which page_size (tree_of listing) (meta_of checked).root_sequence listing ∥₁)
 
     own_accepted : IsAccepted → ∥ AcceptsListing (copy_of own_listing) own_listing.0 ∥₁
     own_accepted accepted =
         let listing = own_listing.0 in
         let here = accepted listing (subst (λ (f : List ℕ). IsListing f (meta_of checked) listing) (sym same) own_listing.1) in
-        subst (λ (n : ℕ). ∥ AcceptsListing (layout_of_listing Plain n listing (meta_of checked).root_sequence) listing ∥₁) is
-        (∥∥₁_map here (λ copy. (One, layout_meta Plain page_size (tree_of listing) (meta_of checked).root_sequence 1, copy.chosen, copy.sound, copy.lists)))
+        subst (λ (n : ℕ). ∥ AcceptsListing (layout_of_listing which n listing (meta_of checked).root_sequence) listing ∥₁) is
+        (∥∥₁_map here (λ copy. (One, layout_meta which page_size (tree_of listing) (meta_of checked).root_sequence 1, copy.chosen, copy.sound, copy.lists)))
 
     module _ {O : Type 0} (out_taken : O → Option (List ℕ)) (out_failed : O → ℕ) (out : O) where
       abbrev Ends : O → Ending → Type 0
-      Ends out_after ending = Compacts out_taken out_failed out out_after taken failed old new file slot size ending
+      Ends out_after ending = Compacts out_taken out_failed out out_after taken failed old new file slot size which ending
 
       pub copy_stopped : (e : BulkFault) (ending : Ending) → Promised (Err e) → IsErrAnd ending (λ reason. reason ≡ copied e) → Ends out ending
       copy_stopped e (Ok x) promised told = absurd told

@@ -13,11 +13,11 @@ use Rattle.clap.specs.Walk.{Held, Outcome, Step, Waiting, Walk, after_flag, afte
 use Rattle.clap.specs.Kinds.{or_else}
 use Rattle.clap.specs.Faults.{bundle_step_fault, flag_word_fault, flags_fault, long_fault, option_fault, repeat_fault, settle_fault, short_fault, step_fault, turn_fault, use_fault}
 use Rattle.clap.specs.declared.builder.value_parser.Reading.{Reading}
-use Rattle.bolt_cli.specs.LineWords.{Choice, Flag, Known, Operand, Syntax, after, add, give, has, is_dashes, is_lettered, long, long_name, long_value, met_long, met_short, refuse, short, short_value, take_next, take_option, take_word}
-use Rattle.bolt_cli.proofs.BuiltRules.{all_found, ascii_letters, by_long, by_short, few_operands, has_ascii, is_good, line_shape, operand_built, operand_of, option_built, option_or_help}
+use Rattle.bolt_cli.specs.LineWords.{Choice, Flag, Known, Operand, Syntax, after, add, give, given_word, has, is_dashes, is_lettered, long, long_name, long_value, met_long, met_short, refuse, short, short_value, take_alone, take_next, take_option, take_with, take_word}
+use Rattle.bolt_cli.proofs.BuiltRules.{all_found, ascii_letters, by_long, by_short, few_operands, has_ascii, is_good, is_long, line_shape, long_or_valued, operand_built, operand_of, option_built, option_or_help, valued_letters}
 use Rattle.bolt_cli.proofs.GivenRows.{Given, HasRows, rows_added, rows_more, rows_with}
 use Rattle.bolt_cli.proofs.Alike.{agrees_waiting}
-use Rattle.bolt_cli.proofs.WordSteps.{Agrees, IsAtRest, IsAwaited, IsFault, agrees_along, agrees_refused, agrees_stop, bad_line, fault_first, fault_second, first_char, held, id_in, idle_word, known, long_by, long_in, new_use, old_use, one_hyphen, one_option, operand_fault, operand_settles, option_rows, option_takes, place_in, rules_in, short_by, short_flags, short_in, value_fault, walk_at}
+use Rattle.bolt_cli.proofs.WordSteps.{Agrees, IsAtRest, IsAwaited, IsFault, agrees_along, alone_once, alone_rows, agrees_refused, agrees_stop, bad_line, fault_first, fault_second, first_char, held, id_in, idle_word, known, long_by, long_in, new_use, old_use, one_hyphen, one_option, operand_fault, operand_settles, option_rows, option_takes, place_in, rules_in, short_by, short_flags, short_in, value_fault, walk_at}
 
 -- the words that are left are read as they should be, from each state
 pub record LaterAgrees (s : Syntax) (words : List Text) : Type 0 where
@@ -178,12 +178,12 @@ operand_agrees s good given ahead only rows pending d word words rest texts late
 
 -- ---- an option
 
-pub option_one : (s : Syntax) (o : Choice) → arg_by_id (rules_in s) o.name ≡ Some (option_built o) → TakesOne s o.name (option_built o)
-option_one s o by_id = record {
+pub option_one : (s : Syntax) (o : Choice) → o.has_value ≡ true → arg_by_id (rules_in s) o.name ≡ Some (option_built o) → TakesOne s o.name (option_built o)
+option_one s o valued by_id = record {
   how = reading_by (option_built o);
   by_id = by_id;
-  fault = λ rows word. one_option o.name o.flag o.required rows word;
-  rows = λ rows word. option_rows o.name o.flag o.required rows word;
+  fault = λ rows word. one_option o.name o.flag o.has_value o.required valued rows word;
+  rows = λ rows word. option_rows o.name o.flag o.has_value o.required valued rows word;
 }
 
 -- what comes of the word of an option
@@ -199,26 +199,60 @@ none_left : (a b : Kinds) → a ≡ [] → b ≡ [] → or_else (or_else a b) []
 none_left a b no_a no_b = ap₂ (λ x y. or_else (or_else x y) []) no_a no_b
 
 option_agrees : (s : Syntax) → is_good s ≡ true → (given : Given) (ahead : List Operand) (rows : List Row) (pending : Option (Text × List Text)) (d : ℕ) (word : Text) (words : List Text)
-    → IsAtRest s given ahead rows pending d → LaterAgrees s words → (o : Choice) (v : Option Text) → arg_by_id (rules_in s) o.name ≡ Some (option_built o)
-    → OptionTurn s rows pending d word o v → after s (known given None ahead false) word ≡ take_option (Some (o, v)) (known given None ahead false)
+    → IsAtRest s given ahead rows pending d → LaterAgrees s words → (o : Choice) (v : Option Text) → o.has_value ≡ true → arg_by_id (rules_in s) o.name ≡ Some (option_built o)
+    → OptionTurn s rows pending d word o v → after s (known given None ahead false) word ≡ take_with o.name v (known given None ahead false)
     → Agrees s (known given None ahead false) (walk_at rows pending idle (suc d) false) (word ∷ words)
-option_agrees s good given ahead rows pending d word words rest later o None by_id (turn, moves) told =
+option_agrees s good given ahead rows pending d word words rest later o None valued by_id (turn, moves) told =
     let there = walk_at (settled (rules_in s) (held rows pending)).rows (Some (o.name, [])) (option o.name) (suc d) false in
-    let waits : IsAwaited s given ahead (settled (rules_in s) (held rows pending)).rows o.name d = record { choice = o; by_name = by_id; is = refl; has = rest.has; place = rest.place } in
+    let waits : IsAwaited s given ahead (settled (rules_in s) (held rows pending)).rows o.name d = record { choice = o; by_name = by_id; is = refl; valued = valued; has = rest.has; place = rest.place } in
     agrees_along s (known given None ahead false) (known given (Some o.name) ahead false) (walk_at rows pending idle (suc d) false) there word words told (turn ∙ ap (λ x. or_else x []) rest.settles) moves (later.awaited given ahead _ o.name d waits)
-option_agrees s good given ahead rows pending d word words rest later o (Some v) by_id (turn, moves) told =
+option_agrees s good given ahead rows pending d word words rest later o (Some v) valued by_id (turn, moves) told =
     let before = settled (rules_in s) (held rows pending) in
     let now = used (option_built o) (v ∷ []) before.rows in
     let how = reading_by (option_built o) in
-    let once = one_option o.name o.flag o.required before.rows v in
+    let once = one_option o.name o.flag o.has_value o.required valued before.rows v in
     elim (cases_Bool (has given o.name)) [
       | inl old ↦ agrees_stop s (known given None ahead false) (walk_at rows pending idle (suc d) false) word words (ap (λ (k : Known). k.is_refused) told ∙ old_name given None ahead false o.name v old)
           (subst IsFault (sym turn) (fault_first _ _ (fault_second (settle_fault (rules_in s) false (held rows pending)) _ (subst IsFault (sym once) (old_use before.rows given o.name rest.has old)))))
       | inr new ↦
           let more = given ++ (o.name, v) ∷ [] in
-          let says : HasRows now more = subst (λ (rs : List Row). HasRows rs more) (sym (option_rows o.name o.flag o.required before.rows v)) (rows_added before.rows given o.name how v rest.has new) in
+          let says : HasRows now more = subst (λ (rs : List Row). HasRows rs more) (sym (option_rows o.name o.flag o.has_value o.required valued before.rows v)) (rows_added before.rows given o.name how v rest.has new) in
           let next : IsAtRest s more ahead now None d = record { settles = refl; has = says; place = rest.place } in
           agrees_along s (known given None ahead false) (known more None ahead false) (walk_at rows pending idle (suc d) false) (walk_at now None idle (suc d) false) word words (told ∙ new_name given None ahead false o.name v new)
+          (turn ∙ none_left _ _ rest.settles (once ∙ new_use before.rows given o.name rest.has new)) moves (later.at_rest more ahead false now None d next)
+    ]
+
+-- ---- an option without a value
+
+-- what comes of its word
+abbrev AloneTurn : Syntax → List Row → Option (Text × List Text) → ℕ → Text → Choice → Option Text → Type 0
+AloneTurn s rows pending d word o v = let h = held rows pending in let c = rules_in s in
+    let met = flag_met c (option_built o) v h in let there = after_flag c idle word met.0 met.1 in
+    (turn_fault (line_shape s) [] (walk_at rows pending idle (suc d) false) word
+    ≡ or_else (long_by false (is_some v) c (option_built o) v h) (step_fault (line_shape s) (suc d) there.0 there.1))
+    × (walked c [] (walk_at rows pending idle (suc d) false) word ≡ after_step c word (walk_at rows pending idle (suc d) false) there.0 there.1)
+
+alone_agrees : (s : Syntax) (given : Given) (ahead : List Operand) (rows : List Row) (pending : Option (Text × List Text)) (d : ℕ) (word : Text) (words : List Text)
+    → IsAtRest s given ahead rows pending d → LaterAgrees s words → (o : Choice) (v : Option Text) → o.has_value ≡ false
+    → AloneTurn s rows pending d word o v → after s (known given None ahead false) word ≡ take_alone o.name v (known given None ahead false)
+    → Agrees s (known given None ahead false) (walk_at rows pending idle (suc d) false) (word ∷ words)
+alone_agrees s given ahead rows pending d word words rest later o (Some v) alone (turn, moves) told =
+    agrees_stop s (known given None ahead false) (walk_at rows pending idle (suc d) false) word words (ap (λ (k : Known). k.is_refused) told) (subst IsFault (sym turn) tt)
+alone_agrees s given ahead rows pending d word words rest later o None alone (turn, moves) told =
+    let k = known given None ahead false in
+    let here = walk_at rows pending idle (suc d) false in
+    let before = settled (rules_in s) (held rows pending) in
+    let now = used (option_built o) [] before.rows in
+    let how = reading_by (option_built o) in
+    let once = alone_once o.name o.flag o.has_value o.required alone before.rows in
+    elim (cases_Bool (has given o.name)) [
+      | inl old ↦ agrees_stop s k here word words (ap (λ (k : Known). k.is_refused) told ∙ old_name given None ahead false o.name given_word old)
+          (subst IsFault (sym turn) (fault_first _ _ (fault_second (settle_fault (rules_in s) false (held rows pending)) _ (subst IsFault (sym once) (old_use before.rows given o.name rest.has old)))))
+      | inr new ↦
+          let more = given ++ (o.name, given_word) ∷ [] in
+          let says : HasRows now more = subst (λ (rs : List Row). HasRows rs more) (sym (alone_rows o.name o.flag o.has_value o.required alone before.rows)) (rows_added before.rows given o.name how given_word rest.has new) in
+          let next : IsAtRest s more ahead now None d = record { settles = refl; has = says; place = rest.place } in
+          agrees_along s k (known more None ahead false) here (walk_at now None idle (suc d) false) word words (told ∙ new_name given None ahead false o.name given_word new)
           (turn ∙ none_left _ _ rest.settles (once ∙ new_use before.rows given o.name rest.has new)) moves (later.at_rest more ahead false now None d next)
     ]
 
@@ -231,6 +265,13 @@ unknown_long c true (Some v) h = tt
 unknown_short : (c : List Rule) (helps : Bool) (rest : Text) (h : Held) (later : Held → Kinds) → IsFault (short_fault c false (option_or_help None helps) rest h later)
 unknown_short c false rest h later = tt
 unknown_short c true rest h later = fault_first _ _ (fault_second (settle_fault c false h) _ tt)
+
+-- an option's word, by whether it has a value
+abbrev met_as : Bool → List Rule → Choice → Option Text → Held → Held × Outcome
+met_as valued c o v h = if valued then option_met c (option_built o) v h else flag_met c (option_built o) v h
+
+abbrev taken_as : Bool → Choice → Option Text → Known → Known
+taken_as valued o v k = if valued then take_with o.name v k else take_alone o.name v k
 
 pub long_agrees : (s : Syntax) → is_good s ≡ true → (given : Given) (ahead : List Operand) (rows : List Row) (pending : Option (Text × List Text)) (d : ℕ) (z : ℕ) (zs : Text) (words : List Text)
     → IsAtRest s given ahead rows pending d → LaterAgrees s words → (found : Option Choice) → by_long (long_name (z ∷ zs)) s.options ≡ found
@@ -253,16 +294,22 @@ long_agrees s good given ahead rows pending d z zs words rest later (Some o) met
     let here = walk_at rows pending idle (suc d) false in
     let found : arg_by_long c (long_name (z ∷ zs)) ≡ Some (option_built o) =
     long_in s good (long_name (z ∷ zs)) ∙ ap (λ o. option_or_help o (bytes_eq (codes "help") (long_name (z ∷ zs)))) met in
-    let takes = option_takes o.name o.flag o.required in
-    let fault : long_fault c false (arg_by_long c (long_name (z ∷ zs))) v h ≡ option_fault c false (option_built o) v h =
-    ap (λ a. long_fault c false a v h) found ∙ ap (λ b. long_by b (is_some v) c (option_built o) v h) takes in
-    let meets : long_met c (arg_by_long c (long_name (z ∷ zs))) v h ≡ option_met c (option_built o) v h =
-    ap (λ a. long_met c a v h) found ∙ ap (λ b. if b then option_met c (option_built o) v h else flag_met c (option_built o) v h) takes in
-    let turn = idle_word s rows pending (suc d) word refl
-    ∙ ap₂ (λ (f : Kinds) (m : Held × Outcome). let met = after_flag c idle word m.0 m.1 in or_else f (step_fault (line_shape s) (suc d) met.0 met.1)) fault meets in
-    let moves = ap (λ (m : Held × Outcome). let met = after_flag c idle word m.0 m.1 in after_step c word here met.0 met.1) meets in
-    option_agrees s good given ahead rows pending d word words rest later o v (id_in s good (λ (a : Rule). not (is_some a.index) && has_long a (long_name (z ∷ zs))) (option_built o) found)
-    (turn, moves) (ap (λ (o : Option Choice). take_option (option_map (λ o. (o, v)) o) (known given None ahead false)) met)
+    let takes = option_takes o.name o.flag o.has_value o.required in
+    let fault : (b : Bool) → o.has_value ≡ b → long_fault c false (arg_by_long c (long_name (z ∷ zs))) v h ≡ long_by b (is_some v) c (option_built o) v h =
+    λ b is. ap (λ a. long_fault c false a v h) found ∙ ap (λ b. long_by b (is_some v) c (option_built o) v h) (takes ∙ is) in
+    let meets : (b : Bool) → o.has_value ≡ b → long_met c (arg_by_long c (long_name (z ∷ zs))) v h ≡ met_as b c o v h =
+    λ b is. ap (λ a. long_met c a v h) found ∙ ap (λ b. met_as b c o v h) (takes ∙ is) in
+    let turn = λ (b : Bool) (is : o.has_value ≡ b). idle_word s rows pending (suc d) word refl
+    ∙ ap₂ (λ (f : Kinds) (m : Held × Outcome). let met = after_flag c idle word m.0 m.1 in or_else f (step_fault (line_shape s) (suc d) met.0 met.1)) (fault b is) (meets b is) in
+    let moves = λ (b : Bool) (is : o.has_value ≡ b). ap (λ (m : Held × Outcome). let met = after_flag c idle word m.0 m.1 in after_step c word here met.0 met.1) (meets b is) in
+    let k = known given None ahead false in
+    let told : (b : Bool) → o.has_value ≡ b → after s k word ≡ taken_as b o v k =
+    λ b is. ap (λ (o : Option Choice). take_option (option_map (λ o. (o, v)) o) k) met ∙ ap (λ b. taken_as b o v k) is in
+    elim (cases_Bool o.has_value) [
+      | inl valued ↦ option_agrees s good given ahead rows pending d word words rest later o v valued
+          (id_in s good (λ (a : Rule). not (is_some a.index) && has_long a (long_name (z ∷ zs))) (option_built o) found) (turn true valued, moves true valued) (told true valued)
+      | inr alone ↦ alone_agrees s given ahead rows pending d word words rest later o v alone (turn false alone, moves false alone) (told false alone)
+    ]
 
 -- ---- an option of one letter
 
@@ -292,6 +339,12 @@ same_option c y same (o ∷ options) ascii =
 letter_is : (y : ℕ) (flag : Flag) → has_ascii flag ≡ true → is_lettered y flag ≡ true → y < 128
 letter_is y (long own) ascii lettered = absurd (search rules)
 letter_is y (short letter) ascii lettered = let same = eqb-true letter y lettered in let small = ltb-true letter 128 ascii in omega (arith, same, small)
+
+-- an option with a letter has a value
+letter_valued : (y : ℕ) (has_value : Bool) (flag : Flag) → is_lettered y flag ≡ true → (has_value || is_long flag) ≡ true → has_value ≡ true
+letter_valued y true flag lettered good = refl
+letter_valued y false (long own) lettered good = absurd (search (rules, lettered))
+letter_valued y false (short letter) lettered good = absurd (search (rules, good))
 
 -- an option's letter is one byte
 one_byte : (c y : ℕ) → SameLetters c y → y < 128 → (ys : Text) → drop (length (encode_utf8 c)) (y ∷ ys) ≡ ys
@@ -344,10 +397,11 @@ short_agrees s good given ahead rows pending d y ys words rest later apart text 
     let first : slice_get (chars (y ∷ ys)) 0 ≡ Some char = ap (λ (cs : List ℕ). slice_get cs 0) are in
     let found : arg_by_short c char ≡ Some (option_built o) =
     short_in s good char ∙ ap (λ o. option_or_help o (104 == char)) (same_option char y same s.options (ascii_letters s good) ∙ met) in
-    let ascii = letter_is y o.flag (all_found (λ (o : Choice). has_ascii o.flag) (λ (o : Choice). is_lettered y o.flag) s.options o (ascii_letters s good) met)
-    (found_passes (λ (o : Choice). is_lettered y o.flag) s.options o met) in
+    let lettered = found_passes (λ (o : Choice). is_lettered y o.flag) s.options o met in
+    let ascii = letter_is y o.flag (all_found (λ (o : Choice). has_ascii o.flag) (λ (o : Choice). is_lettered y o.flag) s.options o (ascii_letters s good) met) lettered in
     let attached : attached_value (drop (length (encode_utf8 char)) (y ∷ ys)) ≡ v = ap attached_value (one_byte char y same ascii ys) ∙ attached_is ys in
-    let takes = option_takes o.name o.flag o.required in
+    let valued = letter_valued y o.has_value o.flag lettered (all_found long_or_valued (λ (o : Choice). is_lettered y o.flag) s.options o (valued_letters s good) met) in
+    let takes = option_takes o.name o.flag o.has_value o.required ∙ valued in
     let after_letter = drop (length (encode_utf8 char)) (y ∷ ys) in
     let fault : flag_word_fault c false (long_of word) word h ≡ option_fault c false (option_built o) v h =
     short_flags c y ys rows pending apart
@@ -369,5 +423,5 @@ short_agrees s good given ahead rows pending d y ys words rest later apart text 
     ∙ ap₂ (λ (f : Kinds) (met : Held × Step). or_else f (step_fault (line_shape s) (suc d) met.0 met.1)) fault reads in
     let moves = ap (λ b. let there = (if b then (h, trailing (suc d)) else long_or_other c idle word (long_of word) h) in after_step c word here there.0 there.1) other
     ∙ ap (λ (met : Held × Step). after_step c word here met.0 met.1) reads in
-    option_agrees s good given ahead rows pending d word words rest later o v (id_in s good (λ (a : Rule). not (is_some a.index) && has_short a char) (option_built o) found)
-    (turn, moves) (short_taken s k y ys apart ∙ ap (λ (o : Option Choice). take_option (option_map (λ o. (o, v)) o) k) met)
+    option_agrees s good given ahead rows pending d word words rest later o v valued (id_in s good (λ (a : Rule). not (is_some a.index) && has_short a char) (option_built o) found)
+    (turn, moves) (short_taken s k y ys apart ∙ ap (λ (o : Option Choice). take_option (option_map (λ o. (o, v)) o) k) met ∙ ap (λ b. taken_as b o v k) valued)

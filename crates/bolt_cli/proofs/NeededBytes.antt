@@ -46,4 +46,4 @@ module _ {O T : Type 0} (out_taken : O → Option (List ℕ)) (out_failed : O �
   enough (job.Get name slot path form) out_old out_new target_old target_new ending = (λ h. h, λ h. h)
   enough (job.Stats name slot) out_old out_new target_old target_new ending = (λ h. h, λ h. h)
   enough (job.List name slot from) out_old out_new target_old target_new ending = (λ h. h, λ h. h)
-  enough (job.Compact name slot target size) out_old out_new target_old target_new ending = (λ h. h, λ h. h)
+  enough (job.Compact name slot target size which) out_old out_new target_old target_new ending = (λ h. h, λ h. h)

@@ -1,5 +1,5 @@
 -- A line of a command is read as `after` says, from its first word to its last.
-use Rattle.std.proofs.Common.{◌≡◌, ◌∙◌, ℕ, suc, Bool, List, [], ◌∷◌, ◌++◌, Option, Some, None, true, false, codes, refl, sym, subst, ap, ap₂, inl, inr, ◌||◌, ◌&&◌, not}
+use Rattle.std.proofs.Common.{◌≡◌, ◌∙◌, ℕ, suc, Bool, List, [], ◌∷◌, ◌++◌, Option, Some, None, true, false, codes, refl, sym, subst, ap, ap₂, inl, inr, rules, ◌||◌, ◌&&◌, not}
 use Rattle.std.specs.Prelude.{All, fold, nat_lt, if◌then◌else◌}
 use Rattle.std.specs.List.{list_all, list_any}
 use Rattle.std.specs.Option.{option_map_or}
@@ -22,9 +22,10 @@ use Rattle.bolt_cli.proofs.LineReading.{LaterAgrees, TakesOne, given_later, long
 
 -- ---- the value of an option
 
-one_value : (name : Text) (flag : Flag) (required : Bool) → most_values (option_built (choice_of name flag required)) ≡ 1
-one_value name (long own) required = refl
-one_value name (short letter) required = refl
+one_value : (name : Text) (flag : Flag) (has_value required : Bool) → has_value ≡ true → most_values (option_built (choice_of name flag has_value required)) ≡ 1
+one_value name flag false required valued = absurd (search (rules, valued))
+one_value name (long own) true required valued = refl
+one_value name (short letter) true required valued = refl
 
 abbrev after_value : Text → Text → Held → Bool → Bool → ℕ → Held × Step
 after_value name word h same more most = (
@@ -43,7 +44,7 @@ awaited_word s good given ahead rows name d word words waits texts later =
     let h = held rows pending in
     let c = rules_in s in
     let o = waits.choice in
-    let bad : IsFault (settle_fault c false h) = subst (λ a. IsFault (option_map_or (λ a. use_fault false a [] rows) a [])) (sym waits.by_name) (no_word o.name o.flag o.required rows) in
+    let bad : IsFault (settle_fault c false h) = subst (λ a. IsFault (option_map_or (λ a. use_fault false a [] rows) a [])) (sym waits.by_name) (no_word o.name o.flag o.has_value o.required waits.valued rows) in
     elim (cases_Bool (is_option word)) [
       | inl hyphen ↦
           let refused : (after s k word).is_refused ≡ true = ap (λ b. (if b then refuse k else give name word k).is_refused) hyphen in
@@ -66,12 +67,12 @@ awaited_word s good given ahead rows name d word words waits texts later =
           ∙ ap (λ (met : Held × Step). after_step c word here met.0 met.1) is.0
           ∙ ap (λ a. let met = option_word a name word h in after_step c word here met.0 (next met.1)) waits.by_name
           ∙ ap (λ b. let met = after_value name word h b true (most_values (option_built o)) in after_step c word here met.0 met.1) same
-          ∙ ap (λ n. let met = after_value name word h true true n in after_step c word here met.0 met.1) (one_value o.name o.flag o.required) in
+          ∙ ap (λ n. let met = after_value name word h true true n in after_step c word here met.0 met.1) (one_value o.name o.flag o.has_value o.required waits.valued) in
           let taken : after s k word ≡ give name word k = ap (λ b. if b then refuse k else give name word k) free in
           let by_name : arg_by_id c o.name ≡ Some (option_built o) = ap (arg_by_id c) waits.is ∙ waits.by_name in
           agrees_along s k (give name word k) here (walk_at rows (Some (name, word ∷ [])) idle (suc d) false) word words taken clean moves
           (given_later s good given (Some name) ahead false rows name (option_built o) word d words
-          (subst (λ n. TakesOne s n (option_built o)) waits.is (option_one s o by_name)) waits.has waits.place (All-tail IsUtf8 word words texts) later)
+          (subst (λ n. TakesOne s n (option_built o)) waits.is (option_one s o waits.valued by_name)) waits.has waits.place (All-tail IsUtf8 word words texts) later)
     ]
 
 -- ---- a word between two others
@@ -126,9 +127,11 @@ operand_plain : (i : ℕ) (name : Text) (several : Bool) (rows : List Row) → I
 operand_plain i name true rows = (either_way (has_row name rows) _, same_rows (has_row name rows) rows)
 operand_plain i name false rows = (either_way (has_row name rows) _, same_rows (has_row name rows) rows)
 
-option_plain : (name : Text) (flag : Flag) (required : Bool) (rows : List Row) → IsPlain rows (option_built (choice_of name flag required))
-option_plain name (long own) required rows = (either_way (has_row name rows) _, same_rows (has_row name rows) rows)
-option_plain name (short letter) required rows = (either_way (has_row name rows) _, same_rows (has_row name rows) rows)
+option_plain : (name : Text) (flag : Flag) (has_value required : Bool) (rows : List Row) → IsPlain rows (option_built (choice_of name flag has_value required))
+option_plain name (long own) true required rows = (either_way (has_row name rows) _, same_rows (has_row name rows) rows)
+option_plain name (long own) false required rows = (either_way (has_row name rows) _, same_rows (has_row name rows) rows)
+option_plain name (short letter) true required rows = (either_way (has_row name rows) _, same_rows (has_row name rows) rows)
+option_plain name (short letter) false required rows = (either_way (has_row name rows) _, same_rows (has_row name rows) rows)
 
 help_plain : (rows : List Row) → IsPlain rows help_built
 help_plain rows = (either_way (has_row (codes "help") rows) _, same_rows (has_row (codes "help") rows) rows)
@@ -150,7 +153,7 @@ no_rules rows = (refl, refl)
 
 options_default : (rows : List Row) (options : List Choice) → NoDefaults rows (options_built options)
 options_default rows [] = one_more rows help_built [] (help_plain rows) (no_rules rows)
-options_default rows (o ∷ options) = one_more rows (option_built o) (options_built options) (option_plain o.name o.flag o.required rows) (options_default rows options)
+options_default rows (o ∷ options) = one_more rows (option_built o) (options_built options) (option_plain o.name o.flag o.has_value o.required rows) (options_default rows options)
 
 operands_default : (rows : List Row) (i : ℕ) (ops : List Operand) (options : List Choice) → NoDefaults rows (operands_built i ops ++ options_built options)
 operands_default rows i [] options = options_default rows options
@@ -218,7 +221,7 @@ end_awaited : (s : Syntax) (given : Given) (ahead : List Operand) (rows : List R
 unfolding walk_fault
 end_awaited s given ahead rows name d waits =
     let o = waits.choice in
-    fault_first _ _ (subst (λ a. IsFault (option_map_or (λ a. use_fault false a [] rows) a [])) (sym waits.by_name) (no_word o.name o.flag o.required rows))
+    fault_first _ _ (subst (λ a. IsFault (option_map_or (λ a. use_fault false a [] rows) a [])) (sym waits.by_name) (no_word o.name o.flag o.has_value o.required waits.valued rows))
 
 -- ---- all words
 

@@ -14,7 +14,7 @@ use Rattle.clap.specs.Walk.{Held, Step, Waiting, Walk, arg_by_id, arg_by_index, 
 use Rattle.clap.specs.Kinds.{or_else}
 use Rattle.clap.specs.Faults.{bundle_fault, bundle_step_fault, check_fault, defaults_fault, flag_word_fault, flags_fault, long_fault, option_fault, other_fault, positional_fault, react_fault, repeat_fault, settle_fault, short_fault, step_fault, stray_fault, turn_fault, use_fault, walk_fault}
 use Rattle.clap.specs.declared.error.ErrorKind.TheVariants as kind
-use Rattle.bolt_cli.specs.LineWords.{Choice, Flag, Known, Operand, Syntax, after, has, is_complete, is_dashes, is_option, long, is_whole, long_name, long_value, short, take_by}
+use Rattle.bolt_cli.specs.LineWords.{Choice, Flag, Known, Operand, Syntax, after, given_word, has, is_complete, is_dashes, is_option, long, is_whole, long_name, long_value, short, take_by}
 use Rattle.bolt_cli.proofs.BuiltRules.{by_long, by_short, choice_of, differing_names, few_operands, found_by_name, is_good, line_shape, long_found, operand_built, operand_found, operands_filled, option_built, option_or_help, rules_built, short_found, takes_one_word}
 use Rattle.bolt_cli.proofs.GivenRows.{Given, HasRows, has_row-given, rows_with}
 
@@ -57,18 +57,30 @@ id_in s good test a found =
 
 -- ---- one use of an argument
 
-pub one_option : (name : Text) (flag : Flag) (required : Bool) (rows : List Row) (word : Text)
-    → use_fault false (option_built (choice_of name flag required)) (word ∷ []) rows ≡ or_else (repeat_fault false name rows) []
-one_option name (long own) required rows word = refl
-one_option name (short letter) required rows word = refl
+pub one_option : (name : Text) (flag : Flag) (has_value required : Bool) → has_value ≡ true → (rows : List Row) (word : Text)
+    → use_fault false (option_built (choice_of name flag has_value required)) (word ∷ []) rows ≡ or_else (repeat_fault false name rows) []
+one_option name flag false required valued rows word = absurd (search (rules, valued))
+one_option name (long own) true required valued rows word = refl
+one_option name (short letter) true required valued rows word = refl
 
-pub no_word : (name : Text) (flag : Flag) (required : Bool) (rows : List Row) → IsFault (use_fault false (option_built (choice_of name flag required)) [] rows)
-no_word name (long own) required rows = tt
-no_word name (short letter) required rows = tt
+pub no_word : (name : Text) (flag : Flag) (has_value required : Bool) → has_value ≡ true → (rows : List Row)
+    → IsFault (use_fault false (option_built (choice_of name flag has_value required)) [] rows)
+no_word name flag false required valued rows = absurd (search (rules, valued))
+no_word name (long own) true required valued rows = tt
+no_word name (short letter) true required valued rows = tt
 
-pub option_takes : (name : Text) (flag : Flag) (required : Bool) → takes_values (option_built (choice_of name flag required)) ≡ true
-option_takes name (long own) required = refl
-option_takes name (short letter) required = refl
+pub option_takes : (name : Text) (flag : Flag) (has_value required : Bool) → takes_values (option_built (choice_of name flag has_value required)) ≡ has_value
+option_takes name (long own) true required = refl
+option_takes name (long own) false required = refl
+option_takes name (short letter) true required = refl
+option_takes name (short letter) false required = refl
+
+-- an option without a value
+pub alone_once : (name : Text) (flag : Flag) (has_value required : Bool) → has_value ≡ false → (rows : List Row)
+    → use_fault false (option_built (choice_of name flag has_value required)) [] rows ≡ or_else (repeat_fault false name rows) []
+alone_once name flag true required alone rows = absurd (search (rules, alone))
+alone_once name (long own) false required alone rows = refl
+alone_once name (short letter) false required alone rows = refl
 
 abbrev conflict_if : Bool → Kinds
 conflict_if again = or_else (if again && true then kind.ArgumentConflict ∷ [] else []) []
@@ -79,10 +91,17 @@ new_use rows given name says new = ap conflict_if (has_row-given rows given name
 pub old_use : (rows : List Row) (given : Given) (name : Text) → HasRows rows given → has given name ≡ true → IsFault (or_else (repeat_fault false name rows) [])
 old_use rows given name says old = subst (λ b. IsFault (conflict_if b)) (sym (has_row-given rows given name says ∙ old)) tt
 
-pub option_rows : (name : Text) (flag : Flag) (required : Bool) (rows : List Row) (word : Text)
-    → used (option_built (choice_of name flag required)) (word ∷ []) rows ≡ rows_with name (reading_by (option_built (choice_of name flag required))) word rows
-option_rows name (long own) required rows word = refl
-option_rows name (short letter) required rows word = refl
+pub option_rows : (name : Text) (flag : Flag) (has_value required : Bool) → has_value ≡ true → (rows : List Row) (word : Text)
+    → used (option_built (choice_of name flag has_value required)) (word ∷ []) rows ≡ rows_with name (reading_by (option_built (choice_of name flag has_value required))) word rows
+option_rows name flag false required valued rows word = absurd (search (rules, valued))
+option_rows name (long own) true required valued rows word = refl
+option_rows name (short letter) true required valued rows word = refl
+
+pub alone_rows : (name : Text) (flag : Flag) (has_value required : Bool) → has_value ≡ false → (rows : List Row)
+    → used (option_built (choice_of name flag has_value required)) [] rows ≡ rows_with name (reading_by (option_built (choice_of name flag has_value required))) given_word rows
+alone_rows name flag true required alone rows = absurd (search (rules, alone))
+alone_rows name (long own) false required alone rows = refl
+alone_rows name (short letter) false required alone rows = refl
 
 -- ---- states
 
@@ -118,6 +137,7 @@ pub record IsAwaited (s : Syntax) (given : Given) (ahead : List Operand) (rows :
   pub choice : Choice
   pub by_name : arg_by_id (rules_in s) name ≡ Some (option_built choice)
   pub is : choice.name ≡ name
+  pub valued : choice.has_value ≡ true
   pub has : HasRows rows given
   pub place : ahead ≡ drop d s.operands
 

@@ -9,6 +9,8 @@ use Rattle.bolt_tree.specs.Paths.{Path}
 use Rattle.bolt_format.specs.Metas.{IsPageSize}
 use Rattle.bolt_format.specs.declared.meta.Slot.{Slot}
 use Rattle.bolt_format.specs.declared.meta.Slot.TheVariants.{One, Zero}
+use Rattle.bolt_layout.specs.declared.layout.Layout.{Layout}
+use Rattle.bolt_layout.specs.declared.layout.Layout.TheVariants.{Balanced, Plain}
 use Rattle.bolt_report.specs.declared.form.Form.{Form}
 use Rattle.bolt_report.specs.declared.form.Form.TheVariants.{Printable, Hex, Bytes}
 use Rattle.bolt_cli.specs.CommandLine.{IsRefusalOf}
@@ -124,9 +126,9 @@ list_read (Some One) file part path parts =
     ∙ ap (λ r. reading_of (result_and_then (λ path. Ok (list file (Some One) path)) r)) (word_read part path parts)
 
 -- a page size that is read
-copy_read : (slot : Option Slot) (file target : Text) (size : ℕ) → IsPageSize size
-    → reading_of (result_and_then (λ (n : Option ℕ). Ok (compact file slot target n)) (page_size_of (decimal size))) ≡ asks (compact file slot target (Some size))
-copy_read slot file target size accepted = ap (λ (r : Result (Option ℕ) Text). reading_of (result_and_then (λ (n : Option ℕ). Ok (compact file slot target n)) r)) (size_written size accepted)
+copy_read : (slot : Option Slot) (file target : Text) (size : ℕ) (which : Layout) → IsPageSize size
+    → reading_of (result_and_then (λ (n : Option ℕ). Ok (compact file slot target n which)) (page_size_of (decimal size))) ≡ asks (compact file slot target (Some size) which)
+copy_read slot file target size which accepted = ap (λ (r : Result (Option ℕ) Text). reading_of (result_and_then (λ (n : Option ℕ). Ok (compact file slot target n which)) r)) (size_written size accepted)
 
 line_of-words_for : (name : Text) (wanted : Asked) → IsInRange wanted → line_of (words_for name wanted) ≡ asks wanted
 line_of-words_for name (info file) in_range = refl
@@ -175,12 +177,18 @@ line_of-words_for name (list file (Some One) []) in_range = refl
 line_of-words_for name (list file None (part ∷ path)) in_range = list_read None file part path in_range
 line_of-words_for name (list file (Some Zero) (part ∷ path)) in_range = list_read (Some Zero) file part path in_range
 line_of-words_for name (list file (Some One) (part ∷ path)) in_range = list_read (Some One) file part path in_range
-line_of-words_for name (compact file None target None) in_range = refl
-line_of-words_for name (compact file (Some Zero) target None) in_range = refl
-line_of-words_for name (compact file (Some One) target None) in_range = refl
-line_of-words_for name (compact file None target (Some size)) in_range = copy_read None file target size in_range
-line_of-words_for name (compact file (Some Zero) target (Some size)) in_range = copy_read (Some Zero) file target size in_range
-line_of-words_for name (compact file (Some One) target (Some size)) in_range = copy_read (Some One) file target size in_range
+line_of-words_for name (compact file None target None Plain) in_range = refl
+line_of-words_for name (compact file None target None Balanced) in_range = refl
+line_of-words_for name (compact file (Some Zero) target None Plain) in_range = refl
+line_of-words_for name (compact file (Some Zero) target None Balanced) in_range = refl
+line_of-words_for name (compact file (Some One) target None Plain) in_range = refl
+line_of-words_for name (compact file (Some One) target None Balanced) in_range = refl
+line_of-words_for name (compact file None target (Some size) Plain) in_range = copy_read None file target size Plain in_range
+line_of-words_for name (compact file None target (Some size) Balanced) in_range = copy_read None file target size Balanced in_range
+line_of-words_for name (compact file (Some Zero) target (Some size) Plain) in_range = copy_read (Some Zero) file target size Plain in_range
+line_of-words_for name (compact file (Some Zero) target (Some size) Balanced) in_range = copy_read (Some Zero) file target size Balanced in_range
+line_of-words_for name (compact file (Some One) target (Some size) Plain) in_range = copy_read (Some One) file target size Plain in_range
+line_of-words_for name (compact file (Some One) target (Some size) Balanced) in_range = copy_read (Some One) file target size Balanced in_range
 
 abbrev asked_in : Asked → Reading → Asked
 asked_in other (asks job) = job

@@ -37,7 +37,7 @@ use Rattle.bolt_cli.specs.declared.job.Job.{Job}
 use Rattle.bolt_cli.specs.declared.job.Job.TheVariants as job
 use Rattle.bolt_cli.specs.declared.page_size.PageSize.{PageSize}
 use Rattle.bolt_cli.specs.PlainWords.{path_in}
-use Rattle.bolt_layout.specs.declared.layout.Layout.TheVariants.{Plain}
+use Rattle.bolt_layout.specs.declared.layout.Layout.{Layout}
 
 -- How a job ends: with a status, or with a failure that is told.
 abbrev pub Ending : Type 0
@@ -241,12 +241,12 @@ module _ {O T : Type 0} (out_taken : O → Option (List ℕ)) (out_failed : O �
       × Does out_taken out_failed out_old out_new (done line) ending)
       ⊎ ((failure : Failure) × StopsShort target_taken target_failed target_old target_new layout failure × (out_new ≡ out_old) × (ending ≡ Err failure))
 
-  -- The target takes the layout of the file's listing at the copy's page size, which is sound and has the same listing; or the file is
+  -- The target takes the layout that is asked for of the file's listing, at the copy's page size, which is sound and has the same listing; or the file is
   -- refused, and neither is touched.
-  abbrev pub Compacts : List ℕ → Option Slot → Option PageSize → Ending → Type 0
-  Compacts file slot size ending =
+  abbrev pub Compacts : List ℕ → Option Slot → Option PageSize → Layout → Ending → Type 0
+  Compacts file slot size which ending =
       ((meta : Meta) × (listing : List Member) × IsReadUnder file slot meta × IsListing file meta listing
-      × (let layout = layout_of_listing Plain (copy_page_size size meta) listing meta.root_sequence in WritesCopy listing layout (lengths_line (length file) (length layout)) ending))
+      × (let layout = layout_of_listing which (copy_page_size size meta) listing meta.root_sequence in WritesCopy listing layout (lengths_line (length file) (length layout)) ending))
       ⊎ ((fault : CheckFault) × (failure : Failure) × IsRefusedUnder file slot fault × IsToldAs fault failure
       × (out_new ≡ out_old) × (target_new ≡ target_old) × (ending ≡ Err failure))
 
@@ -261,7 +261,7 @@ module _ {O T : Type 0} (out_taken : O → Option (List ℕ)) (out_failed : O �
   DoesJob file (job.Keys name slot path form) = Prints (IsReadAnswer file slot (IsKeysAnswer file (path_in path.items) form))
   DoesJob file (job.Get name slot path form) = Prints (IsReadAnswer file slot (IsGetAnswer file (path_in path.items) form))
   DoesJob file (job.List name slot from) = Prints (IsReadAnswer file slot (IsListAnswer file (path_in from.items)))
-  DoesJob file (job.Compact name slot out size) = Compacts file slot size
+  DoesJob file (job.Compact name slot out size which) = Compacts file slot size which
 
 -- ---- the end of a run
 

@@ -1,8 +1,9 @@
 -- The command line as `clap` is told of it, and what its matches ask for.
-use Rattle.std.specs.Prelude.{◌≡◌, ◌≢◌, ◌⊎◌, ℕ, List, [], ◌++◌, Option, Some, None, Ok, Err, Result, Bool, false, true, codes, map, fold, unwrap_or, MatchResult, if◌then◌else◌}
+use Rattle.std.specs.Prelude.{◌≡◌, ◌≢◌, ◌⊎◌, ℕ, List, [], ◌∷◌, ◌++◌, Option, Some, None, Ok, Err, Result, Bool, false, true, codes, map, fold, unwrap_or, MatchResult, if◌then◌else◌}
 use Rattle.clap.specs.Words.{App, IsAmong, Kinds, Row, Rule, all_of, app_of, fault_of, new_app, new_rule, subcommand_of, with_subcommand}
 use Rattle.clap.specs.declared.builder.action.ArgAction.{ArgAction}
-use Rattle.clap.specs.declared.builder.action.ArgAction.TheVariants.{Append}
+use Rattle.clap.specs.declared.builder.action.ArgAction.TheVariants.{Append, Set}
+use Rattle.clap.specs.declared.builder.range.ValueRange.{ValueRange}
 use Rattle.clap.specs.declared.builder.Command.{Command}
 use Rattle.clap.specs.declared.builder.Command.TheViews.{out-Command}
 use Rattle.clap.specs.declared.error.ErrorKind.{ErrorKind}
@@ -10,7 +11,7 @@ use Rattle.clap.specs.declared.error.ErrorKind.TheVariants as kind
 use Rattle.bolt_cli.specs.declared.job.Job.{Job}
 use Rattle.bolt_cli.specs.declared.words.Refusal.{Refusal}
 use Rattle.bolt_cli.specs.declared.words.Refusal.TheVariants.{Memory, Help, Version, Usage, Word}
-use Rattle.bolt_cli.specs.LineWords.{Choice, Flag, Operand, Syntax, Text, long, short}
+use Rattle.bolt_cli.specs.LineWords.{Choice, Flag, Operand, Syntax, Text, given_word, long, short}
 use Rattle.bolt_cli.specs.PlainWords.{Asked, Reading, Values, asked, asked_of, refused, syntaxes, unread}
 
 -- ---- what the command line may hold
@@ -30,12 +31,27 @@ abbrev short_of : Flag → Option ℕ
 short_of (long name) = None
 short_of (short letter) = Some letter
 
--- an option takes one value
+-- an option takes one value, or none, and then stands for a word
+abbrev option_action : (has_value : Bool) → Option ArgAction
+option_action has_value = if has_value then None else Some Set
+
+abbrev option_range : (has_value : Bool) → Option ValueRange
+option_range has_value = if has_value then None else Some (record { start_inclusive = 0; end_inclusive = 0 })
+
+abbrev option_names : (has_value : Bool) → ℕ
+option_names has_value = if has_value then 1 else 0
+
+abbrev option_missing : (has_value : Bool) → List Text
+option_missing has_value = if has_value then [] else given_word ∷ []
+
 abbrev pub option_rule : Choice → Rule
 option_rule o = record (new_rule o.name) {
   long = long_of o.flag;
   short = short_of o.flag;
-  value_names = 1;
+  action = option_action o.has_value;
+  range = option_range o.has_value;
+  value_names = option_names o.has_value;
+  missing = option_missing o.has_value;
   required = o.required;
 }
 

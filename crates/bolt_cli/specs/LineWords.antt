@@ -19,10 +19,11 @@ pub data Flag : Type 0 where
   long : Text → Flag
   short : (letter : ℕ) → Flag
 
--- an option with a value, by the value's name
+-- an option with a value, by the value's name; or one without, which is given or not
 pub record Choice : Type 0 where
   pub name : Text
   pub flag : Flag
+  pub has_value : Bool
   pub required : Bool
 
 -- a command's line: its name, its operands in order, and among them its options in any order
@@ -121,9 +122,18 @@ abbrev pub take_with : Text → Option Text → Known → Known
 take_with name (Some value) k = give name value k
 take_with name None k = record k { waiting = Some name }
 
+-- what an option without a value counts as, where it is given
+abbrev pub given_word : Text
+given_word = codes "true"
+
+-- an option without a value
+abbrev pub take_alone : Text → Option Text → Known → Known
+take_alone name (Some value) k = refuse k
+take_alone name None k = give name given_word k
+
 -- a word that is an option
 abbrev pub take_option : Meeting → Known → Known
-take_option (Some meeting) k = take_with meeting.0.name meeting.1 k
+take_option (Some meeting) k = if meeting.0.has_value then take_with meeting.0.name meeting.1 k else take_alone meeting.0.name meeting.1 k
 take_option None k = refuse k
 
 -- the value of an option

@@ -9,6 +9,8 @@ use Rattle.bolt_tree.specs.Paths.{Path}
 use Rattle.bolt_format.specs.Metas.{IsPageSize, page_sizes}
 use Rattle.bolt_format.specs.declared.meta.Slot.{Slot}
 use Rattle.bolt_format.specs.declared.meta.Slot.TheVariants.{One, Zero}
+use Rattle.bolt_layout.specs.declared.layout.Layout.{Layout}
+use Rattle.bolt_layout.specs.declared.layout.Layout.TheVariants.{Balanced, Plain}
 use Rattle.bolt_report.specs.declared.form.Form.{Form}
 use Rattle.bolt_report.specs.declared.form.Form.TheVariants.{Printable, Hex, Bytes}
 use Rattle.bolt_cli.specs.LineWords.{Choice, Known, Operand, Syntax, Text, is_complete, known_after, long, short, values_of}
@@ -28,23 +30,26 @@ abbrev pub part_operand : Operand
 part_operand = record { name = codes "PART"; several = true }
 
 abbrev pub form_option : Choice
-form_option = record { name = codes "form"; flag = long (codes "form"); required = false }
+form_option = record { name = codes "form"; flag = long (codes "form"); has_value = true; required = false }
 
 abbrev pub parts_option : Choice
-parts_option = record { name = codes "parts"; flag = long (codes "parts"); required = false }
+parts_option = record { name = codes "parts"; flag = long (codes "parts"); has_value = true; required = false }
 
 abbrev pub from_option : Choice
-from_option = record { name = codes "from"; flag = long (codes "from"); required = false }
+from_option = record { name = codes "from"; flag = long (codes "from"); has_value = true; required = false }
 
 abbrev pub meta_option : Choice
-meta_option = record { name = codes "meta"; flag = long (codes "meta"); required = false }
+meta_option = record { name = codes "meta"; flag = long (codes "meta"); has_value = true; required = false }
 
 -- the file of a copy, by `-o` (111)
 abbrev pub output_option : Choice
-output_option = record { name = codes "output"; flag = short 111; required = true }
+output_option = record { name = codes "output"; flag = short 111; has_value = true; required = true }
 
 abbrev pub page_size_option : Choice
-page_size_option = record { name = codes "page-size"; flag = long (codes "page-size"); required = false }
+page_size_option = record { name = codes "page-size"; flag = long (codes "page-size"); has_value = true; required = false }
+
+abbrev pub for_bbolt_option : Choice
+for_bbolt_option = record { name = codes "for-bbolt"; flag = long (codes "for-bbolt"); has_value = false; required = false }
 
 -- all commands
 abbrev pub syntaxes : List Syntax
@@ -58,7 +63,7 @@ syntaxes =
     ∷ record { name = codes "get"; operands = file_operand ∷ part_operand ∷ []; options = form_option ∷ parts_option ∷ meta_option ∷ [] }
     ∷ record { name = codes "stats"; operands = file_operand ∷ []; options = meta_option ∷ [] }
     ∷ record { name = codes "list"; operands = file_operand ∷ []; options = from_option ∷ meta_option ∷ [] }
-    ∷ record { name = codes "compact"; operands = file_operand ∷ []; options = output_option ∷ page_size_option ∷ meta_option ∷ [] }
+    ∷ record { name = codes "compact"; operands = file_operand ∷ []; options = output_option ∷ page_size_option ∷ for_bbolt_option ∷ meta_option ∷ [] }
     ∷ []
 
 -- ---- what a line asks for
@@ -74,7 +79,7 @@ pub data Asked : Type 0 where
   get : Text → Option Slot → Path → Form → Asked
   stats : Text → Option Slot → Asked
   list : Text → Option Slot → Path → Asked
-  compact : (file : Text) → Option Slot → (target : Text) → (page_size : Option ℕ) → Asked
+  compact : (file : Text) → Option Slot → (target : Text) → (page_size : Option ℕ) → Layout → Asked
 
 -- the path that the code owns
 abbrev pub path_in : {Z : Type 0} → List (Vec ℕ Z) → Path
@@ -94,7 +99,7 @@ asked_of (job.Keys file slot path form) = keys (string_bytes file) slot (path_in
 asked_of (job.Get file slot path form) = get (string_bytes file) slot (path_in path.items) form
 asked_of (job.Stats file slot) = stats (string_bytes file) slot
 asked_of (job.List file slot from) = list (string_bytes file) slot (path_in from.items)
-asked_of (job.Compact file slot target size) = compact (string_bytes file) slot (string_bytes target) (size_in size)
+asked_of (job.Compact file slot target size which) = compact (string_bytes file) slot (string_bytes target) (size_in size) which
 
 -- the FILE of a job
 abbrev pub file_name : Job → Text
@@ -107,11 +112,11 @@ file_name (job.Keys file slot path form) = string_bytes file
 file_name (job.Get file slot path form) = string_bytes file
 file_name (job.Stats file slot) = string_bytes file
 file_name (job.List file slot from) = string_bytes file
-file_name (job.Compact file slot target size) = string_bytes file
+file_name (job.Compact file slot target size which) = string_bytes file
 
 -- the OUT of a job that has one
 abbrev pub target_name : Job → Option Text
-target_name (job.Compact file slot target size) = Some (string_bytes target)
+target_name (job.Compact file slot target size which) = Some (string_bytes target)
 target_name _ = None
 
 -- the words that a line gives by each name
@@ -155,6 +160,11 @@ page_size_of word = if is_page_size word then Ok (Some (decimal_value word)) els
 abbrev pub page_size_by : Option Text → Result (Option ℕ) Text
 page_size_by (Some word) = page_size_of word
 page_size_by None = Ok None
+
+-- the layout of a copy, by the word of `--for-bbolt` where it is given
+abbrev pub layout_by : Option Text → Layout
+layout_by (Some word) = Balanced
+layout_by None = Plain
 
 -- a form by its word; without one names are printable
 abbrev pub form_of : Text → Result Form Text
@@ -219,7 +229,7 @@ asks_list values = result_and_then (λ file. result_and_then (λ slot. result_an
     (hex_path_by (first_of (values (codes "from"))))) (slot_by (first_of (values (codes "meta"))))) (text_by (codes "FILE") values)
 
 abbrev pub asks_compact : Values → Result Asked Text
-asks_compact values = result_and_then (λ file. result_and_then (λ slot. result_and_then (λ target. result_and_then (λ size. Ok (compact file slot target size))
+asks_compact values = result_and_then (λ file. result_and_then (λ slot. result_and_then (λ target. result_and_then (λ size. Ok (compact file slot target size (layout_by (first_of (values (codes "for-bbolt"))))))
     (page_size_by (first_of (values (codes "page-size"))))) (text_by (codes "output") values)) (slot_by (first_of (values (codes "meta"))))) (text_by (codes "FILE") values)
 
 -- what a command asks for, or which word can't be read and why
@@ -288,6 +298,11 @@ abbrev pub size_words : Option ℕ → List Text → List Text
 size_words None words = words
 size_words (Some size) words = (codes "--page-size=" ++ decimal size) ∷ words
 
+-- an option without a value, where the layout isn't the plain one
+abbrev pub layout_words : Layout → List Text → List Text
+layout_words Plain words = words
+layout_words Balanced words = codes "--for-bbolt" ∷ words
+
 abbrev pub target_word : Text → Text
 target_word target = codes "-o=" ++ target
 
@@ -302,7 +317,7 @@ words_for name (keys file slot path form) = name ∷ codes "keys" ∷ slot_words
 words_for name (get file slot path form) = name ∷ codes "get" ∷ slot_words slot (path_words file path form)
 words_for name (stats file slot) = name ∷ codes "stats" ∷ slot_words slot (codes "--" ∷ file ∷ [])
 words_for name (list file slot from) = name ∷ codes "list" ∷ slot_words slot (from_words from (codes "--" ∷ file ∷ []))
-words_for name (compact file slot target size) = name ∷ codes "compact" ∷ slot_words slot (size_words size (target_word target ∷ codes "--" ∷ file ∷ []))
+words_for name (compact file slot target size which) = name ∷ codes "compact" ∷ slot_words slot (size_words size (layout_words which (target_word target ∷ codes "--" ∷ file ∷ [])))
 
 abbrev pub IsPath : Path → Type 0
 IsPath [] = ⊥
@@ -323,5 +338,5 @@ IsInRange (page file id) = id < 2 ^ 64
 IsInRange (keys file slot path form) = IsPath path
 IsInRange (get file slot path form) = IsPath path
 IsInRange (list file slot from) = All IsPart from
-IsInRange (compact file slot target size) = IsSize size
+IsInRange (compact file slot target size which) = IsSize size
 IsInRange _ = Unit {0}

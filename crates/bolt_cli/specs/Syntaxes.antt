@@ -1,5 +1,5 @@
 -- The lines of the commands as the code has them.
-use Rattle.std.specs.Prelude.{map}
+use Rattle.std.specs.Prelude.{is_some, map}
 use Rattle.bolt_cli.specs.LineWords as plain
 use Rattle.bolt_cli.specs.declared.syntax.Choice.{Choice}
 use Rattle.bolt_cli.specs.declared.syntax.Flag.{Flag}
@@ -15,7 +15,7 @@ flag_view (Long name) = plain.long name.now
 flag_view (Short letter) = plain.short letter
 
 abbrev pub choice_view : Choice → plain.Choice
-choice_view o = record { name = o.name.now; flag = flag_view o.flag; required = o.required }
+choice_view o = record { name = o.name.now; flag = flag_view o.flag; has_value = is_some o.value; required = o.required }
 
 abbrev pub syntax_view : Syntax → plain.Syntax
 syntax_view s = record { name = s.name.now; operands = map operand_view s.operands.now; options = map choice_view s.options.now }

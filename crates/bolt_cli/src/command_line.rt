@@ -1,5 +1,7 @@
 //! What `clap` is told of the command line.
-ghost use Rattle.std.specs.Prelude.{◌≡◌, false, IfOk, map};
+ghost use Rattle.std.specs.Prelude.{◌≡◌, ◌∷◌, [], Some, false, IfOk, map};
+ghost use Rattle.clap.specs.declared.builder.action.ArgAction.TheVariants.{Set};
+ghost use Rattle.bolt_cli.specs.LineWords.{given_word};
 ghost use Rattle.clap.specs.Words.{new_app, rule_of};
 ghost use Rattle.bolt_cli.specs.CommandLine.{IsCommand, bare_program, command_of, operand_rule, option_rule, program, program_of};
 ghost use Rattle.bolt_cli.specs.Syntaxes.{choice_view, operand_view, syntax_view};
@@ -28,12 +30,29 @@ fn option_arg<'a>(alloc: Global, option: &'a Choice) -> Arg<'a>
 {
     let arg = Arg::new(alloc, option.name)
         .required(option.required)
-        .value_name(option.value)
         .help(option.help);
+    let arg = match option.value {
+        Some(name) => arg.value_name(name),
+        None => alone(arg),
+    };
     match option.flag {
         Flag::Long(name) => arg.long(name),
         Flag::Short(letter) => arg.short(letter),
     }
+}
+
+/// An option without a value: it counts as one word where it is given.
+fn alone<'a>(arg: Arg<'a>) -> Arg<'a>
+    ensures rule { rule_of result ≡ record (rule_of arg.entry) {
+      action = Some Set;
+      range = Some (record { start_inclusive = 0; end_inclusive = 0 });
+      missing = given_word ∷ [];
+    } }
+    ensures local { result.global ≡ arg.entry.global }
+{
+    arg.action(ArgAction::Set)
+        .num_args(0)
+        .default_missing_value("true")
 }
 
 /// A command that has no arguments yet.

@@ -8,26 +8,28 @@ ghost use Rattle.bolt_cli.specs.Answers.{Compacts, copy_page_size, lengths_line}
 use crate::failure::Failure;
 use crate::open_read::open_read;
 use crate::page_size::PageSize;
-use bolt_bulk::compact;
+use bolt_bulk::compact_as;
 use bolt_check::Checked;
 use bolt_format::{Sink, SinkFault, Slot};
+use bolt_layout::Layout;
 use itoa::Buffer;
 use std::alloc::Global;
 
-/// Puts the compact copy on `target`, and then the lengths of the file and of the copy on `out`.
+/// Puts the compact copy in this layout on `target`, and then the lengths of the file and of the copy on `out`.
 pub(crate) fn write_copy<O: Sink, T: Sink>(
     alloc: Global,
     file: &[u8],
     slot: Option<Slot>,
     page_size: Option<PageSize>,
+    layout: Layout,
     out: &mut O,
     target: &mut T,
 ) -> Result<u8, Failure>
-    ensures { Compacts O.taken O.failed out.old out.new T.taken T.failed target.old target.new file.now slot page_size result }
+    ensures { Compacts O.taken O.failed out.old out.new T.taken T.failed target.old target.new file.now slot page_size layout result }
 {
     let checked = open_read(alloc, file, slot)?;
     let size = size_of_copy(&checked, page_size);
-    let copy = compact(alloc, checked, size, target)?;
+    let copy = compact_as(alloc, checked, layout, size, target)?;
     put_lengths(file.len() as u64, copy.bytes, out)?;
     Ok(0)
 }

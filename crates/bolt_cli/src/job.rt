@@ -2,6 +2,7 @@
 
 use crate::page_size::PageSize;
 use bolt_format::{METAS_END, Slot};
+use bolt_layout::Layout;
 use bolt_report::Form;
 
 /// What the words of a command line ask for (docs/COMMANDS.md). The slot is that of the meta under
@@ -56,12 +57,13 @@ pub enum Job {
         slot: Option<Slot>,
         from: Vec<Vec<u8>>,
     },
-    /// A compact copy to another file, at a page size of its own or that of the file.
+    /// A compact copy to another file, at a page size of its own or that of the file, in a layout.
     Compact {
         file: String,
         slot: Option<Slot>,
         target: String,
         page_size: Option<PageSize>,
+        layout: Layout,
     },
 }
 
@@ -107,6 +109,7 @@ impl Job {
                 slot: _,
                 target: _,
                 page_size: _,
+                layout: _,
             } => file.as_str(),
         }
     }
@@ -132,6 +135,7 @@ impl Job {
                 slot: _,
                 target,
                 page_size: _,
+                layout: _,
             } => Some(target.as_str()),
             _ => None,
         }

@@ -90,6 +90,7 @@ fn do_job<O: Sink, T: Sink>(
             slot,
             target: _,
             page_size,
-        } => write_copy(alloc, file, *slot, *page_size, out, target),
+            layout,
+        } => write_copy(alloc, file, *slot, *page_size, *layout, out, target),
     }
 }

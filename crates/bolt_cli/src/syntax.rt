@@ -18,13 +18,13 @@ pub(crate) enum Flag {
     Short(char),
 }
 
-/// An option of a line, which has a value.
+/// An option of a line.
 #[derive(Clone, Copy, Debug)]
 pub(crate) struct Choice {
     pub name: &'static str,
     pub flag: Flag,
-    /// What help calls the value.
-    pub value: &'static str,
+    /// What help calls the value, of an option that has one.
+    pub value: Option<&'static str>,
     pub help: &'static str,
     pub required: bool,
 }
@@ -68,7 +68,7 @@ const KEY_PART: Operand = Operand {
 const FORM: Choice = Choice {
     name: "form",
     flag: Flag::Long("form"),
-    value: "F",
+    value: Some("F"),
     help: "How names and values are shown: printable (in hex what isn't plain ASCII), hex or bytes [default: printable]",
     required: false,
 };
@@ -76,7 +76,7 @@ const FORM: Choice = Choice {
 const PARTS: Choice = Choice {
     name: "parts",
     flag: Flag::Long("parts"),
-    value: "P",
+    value: Some("P"),
     help: "How each PART is written: text or hex [default: text]",
     required: false,
 };
@@ -84,7 +84,7 @@ const PARTS: Choice = Choice {
 const FROM: Choice = Choice {
     name: "from",
     flag: Flag::Long("from"),
-    value: "HEXPATH",
+    value: Some("HEXPATH"),
     help: "Where to begin: keys in hex joined by slashes, as the listing shows them",
     required: false,
 };
@@ -92,7 +92,7 @@ const FROM: Choice = Choice {
 const META: Choice = Choice {
     name: "meta",
     flag: Flag::Long("meta"),
-    value: "M",
+    value: Some("M"),
     help: "Read the file under the meta in slot 0 or 1, whatever its freelist says",
     required: false,
 };
@@ -100,7 +100,7 @@ const META: Choice = Choice {
 const OUTPUT: Choice = Choice {
     name: "output",
     flag: Flag::Short('o'),
-    value: "OUT",
+    value: Some("OUT"),
     help: "The file that the copy goes to, which must not exist",
     required: true,
 };
@@ -108,14 +108,22 @@ const OUTPUT: Choice = Choice {
 const PAGE_SIZE: Choice = Choice {
     name: "page-size",
     flag: Flag::Long("page-size"),
-    value: "N",
+    value: Some("N"),
     help: "The copy's page size in bytes, a power of two from 1024 to 33554432 [default: the file's]",
     required: false,
 };
 
-const COPY_NOTE: &str = "Where a branch page of the copy has one child, bbolt may panic when it \
-    deletes from it, as 1.3.6 does. Before a program writes into the copy, run bbolt's own compact \
-    over it.";
+const FOR_BBOLT: Choice = Choice {
+    name: "for-bbolt",
+    flag: Flag::Long("for-bbolt"),
+    value: None,
+    help: "Give each branch page at least two children, so that bbolt can write to the copy",
+    required: false,
+};
+
+const COPY_NOTE: &str = "Use --for-bbolt if bbolt or etcd will write to the copy: bbolt assumes \
+    that each branch page has two children, and panics when it deletes below one that has a single \
+    child, as a plain copy can have.";
 
 /// The number that `--version` tells.
 pub(crate) const VERSION: &str = "0.1.0";
@@ -189,7 +197,7 @@ pub(crate) static SYNTAXES: [Syntax; 10] = [
         name: "compact",
         about: "Write a compact copy: all that the file holds, and no free pages",
         operands: &[FILE],
-        options: &[OUTPUT, PAGE_SIZE, META],
+        options: &[OUTPUT, PAGE_SIZE, FOR_BBOLT, META],
         note: Some(COPY_NOTE),
     },
 ];

@@ -3,7 +3,7 @@ ghost use Rattle.std.specs.Prelude.{◌≡◌, Err, IfErr, IfOk, MatchOption, Ma
 ghost use Rattle.clap.specs.Words.{fault_of, found_of, kind_of, rows_of, subcommand_rows_of};
 ghost use Rattle.bolt_cli.specs.CommandLine.{Asks, Gives, HasKindOf, IsRefusalOf, IsRefusedBy, asked_by, asked_by_subcommand, program, values_in};
 ghost use Rattle.bolt_cli.specs.LineWords.{Text};
-ghost use Rattle.bolt_cli.specs.PlainWords.{Asked, IsInRange, asked, asked_of, asks, asks_buckets, asks_check, asks_compact, asks_get, asks_info, asks_keys, asks_list, asks_page, asks_pages, asks_stats, first_of, form_by, form_of, line_of, number_of, page_id, page_size_by, page_size_of, path_by, path_in, size_in, slot_by, text_by, words_for};
+ghost use Rattle.bolt_cli.specs.PlainWords.{Asked, IsInRange, asked, asked_of, asks, asks_buckets, asks_check, asks_compact, asks_get, asks_info, asks_keys, asks_list, asks_page, asks_pages, asks_stats, first_of, form_by, form_of, layout_by, line_of, number_of, page_id, page_size_by, page_size_of, path_by, path_in, size_in, slot_by, text_by, words_for};
 ghost use Rattle.bolt_cli.specs.declared.words.Refusal.TheVariants.{Memory};
 
 use crate::command_line;
@@ -11,6 +11,7 @@ use crate::job::Job;
 use crate::page_size::PageSize;
 use crate::path_words::{read_from, read_parts, read_path};
 use bolt_format::Slot;
+use bolt_layout::Layout;
 use bolt_report::Form;
 use clap::error::ErrorKind;
 use clap::{ArgMatches, Error};
@@ -51,8 +52,8 @@ impl<T: Drop> From<AllocFailed<T>> for Refusal {
 ///
 /// The lines are `info FILE`, `page FILE ID`, `pages FILE`, `check FILE`, `buckets FILE [--form F]`,
 /// `keys FILE PART.. [--form F] [--parts P]`, `get FILE PART.. [--form F] [--parts P]`, `stats FILE`,
-/// `list FILE [--from HEXPATH]` and `compact -o OUT FILE [--page-size N]`; `buckets` and those
-/// behind it also take `--meta M`, with M 0 or 1. Options stand before, between or behind the
+/// `list FILE [--from HEXPATH]` and `compact -o OUT FILE [--page-size N] [--for-bbolt]`; `buckets` and
+/// those behind it also take `--meta M`, with M 0 or 1. Options stand before, between or behind the
 /// operands, once each, as `--form hex` or `--form=hex`, and `-o OUT`, `-oOUT` or `-o=OUT`. A word
 /// that begins with a hyphen and has more is an option, unless `--` stands before it. An ID is
 /// decimal digits, at least one, of a number below 2^64; F is `printable`, `hex` or `bytes`; P is
@@ -219,11 +220,13 @@ fn read_compact(alloc: Global, matches: &ArgMatches<'_>) -> Result<Job, Refusal>
     let slot = read_slot(choice(matches, "meta"))?;
     let target = read_text(alloc, matches, "output")?;
     let page_size = read_page_size(choice(matches, "page-size"))?;
+    let layout = read_layout(choice(matches, "for-bbolt"));
     Ok(Job::Compact {
         file,
         slot,
         target,
         page_size,
+        layout,
     })
 }
 
@@ -279,6 +282,16 @@ fn read_page_size(word: Option<&str>) -> Result<Option<PageSize>, Refusal>
     match read_size(word) {
         Some(size) => Ok(Some(size)),
         None => Err(Refusal::Word("bad page size")),
+    }
+}
+
+// The layout of a copy, by the word of the option that asks for the balanced one.
+fn read_layout(word: Option<&str>) -> Layout
+    ensures { result ≡ layout_by (option_map (λ text. text.now) word.entry) }
+{
+    match word {
+        Some(_) => Layout::Balanced,
+        None => Layout::Plain,
     }
 }
 

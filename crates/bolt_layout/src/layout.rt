@@ -1,7 +1,7 @@
 //! The two layouts of a copy.
 
 /// How the last run of a level of branches is cut (docs/LAYOUT.md, "The cut").
-#[derive(Clone, Copy)]
+#[derive(Clone, Copy, Debug)]
 pub enum Layout {
     /// The last branch of a level may have a single child.
     Plain,

@@ -4,19 +4,19 @@ use Rattle.bolt_cli.proofs.compact_command.write_copy.Goals as goal
 
 pub returns-in_err-copy : goal.returns-in_err-copy
 returns-in_err-copy g c =
-    copy_stopped c.args.file.now c.args.slot c.args.page_size c.in_ok-checked.checked c.in_ok-checked.ensures.bytes c.in_ok-checked.ensures.sound
-    g.T.Sink.taken g.T.Sink.failed c.args.target.now c.compact.new.sink _ c.size_of_copy-size.ensures.size
+    copy_stopped c.args.file.now c.args.slot c.args.page_size c.args.layout c.in_ok-checked.checked c.in_ok-checked.ensures.bytes c.in_ok-checked.ensures.sound
+    g.T.Sink.taken g.T.Sink.failed c.args.target.now c.compact_as.new.sink _ c.size_of_copy-size.ensures.size
     g.O.Sink.taken g.O.Sink.failed c.args.out.now _ _ c.in_err-copy.ensures.copied c.from_residual-in_err-copy.ensures.1
 
 pub returns-in_err-put_lengths : goal.returns-in_err-put_lengths
 returns-in_err-put_lengths g c =
-    copy_untold c.args.file.now c.args.slot c.args.page_size c.in_ok-checked.checked c.in_ok-checked.ensures.bytes c.in_ok-checked.ensures.sound
-    g.T.Sink.taken g.T.Sink.failed c.args.target.now c.compact.new.sink _ c.size_of_copy-size.ensures.size
+    copy_untold c.args.file.now c.args.slot c.args.page_size c.args.layout c.in_ok-checked.checked c.in_ok-checked.ensures.bytes c.in_ok-checked.ensures.sound
+    g.T.Sink.taken g.T.Sink.failed c.args.target.now c.compact_as.new.sink _ c.size_of_copy-size.ensures.size
     g.O.Sink.taken g.O.Sink.failed c.args.out.now c.in_ok-copy.copy c.put_lengths.new.out _ _ c.in_ok-copy.ensures.copied c.in_ok-copy.ensures.accepted c.in_err-put_lengths.ensures
     c.from_residual-in_err-put_lengths.ensures.1
 
 pub returns : goal.returns
 returns g c =
-    copy_whole c.args.file.now c.args.slot c.args.page_size c.in_ok-checked.checked c.in_ok-checked.ensures.bytes c.in_ok-checked.ensures.sound
-    g.T.Sink.taken g.T.Sink.failed c.args.target.now c.compact.new.sink _ c.size_of_copy-size.ensures.size
+    copy_whole c.args.file.now c.args.slot c.args.page_size c.args.layout c.in_ok-checked.checked c.in_ok-checked.ensures.bytes c.in_ok-checked.ensures.sound
+    g.T.Sink.taken g.T.Sink.failed c.args.target.now c.compact_as.new.sink _ c.size_of_copy-size.ensures.size
     g.O.Sink.taken g.O.Sink.failed c.args.out.now c.in_ok-copy.copy c.put_lengths.new.out _ c.in_ok-copy.ensures.copied c.in_ok-copy.ensures.accepted c.in_ok-put_lengths.ensures
