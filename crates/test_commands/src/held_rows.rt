@@ -2,10 +2,11 @@
 //! through the pages of a layout and counts items that join and pages that are written.
 
 use Element::Bucket;
-use bolt_bulk::compact;
+use bolt_bulk::{compact, compact_as};
 use bolt_check::check;
 use bolt_cli::PageSize;
 use bolt_format::MemSink;
+use bolt_layout::Layout;
 use std::alloc::Global;
 use std::process::Abort;
 use std::test::Fail;
@@ -66,4 +67,16 @@ fn pages_of_three_levels_are_held_beside_each_other(rt: HostRuntime) -> Result<(
     let file = long_keys_on_one_leaf(alloc)?;
     check_held(&rt, alloc, file.as_slice(), 1024, 2)?;
     check_held(&rt, alloc, make(alloc, &NESTED_FILE)?.as_slice(), 4096, 4)
+}
+
+/// The three leaves have one branch page, so two items wait beside the third leaf's.
+#[test]
+fn a_balanced_copy_holds_the_item_that_joined(rt: HostRuntime) -> Result<(), Fail> {
+    let alloc = rt.alloc();
+    let file = long_keys_on_one_leaf(alloc)?;
+    let checked = check(alloc, file.as_slice())?;
+    let sink = &mut MemSink::new(alloc);
+    let done = compact_as(alloc, checked, Layout::Balanced, 1024, sink)?;
+    assert_eq!(rt; (done.bytes, done.held), (9 * 1024, 3));
+    Ok(())
 }
