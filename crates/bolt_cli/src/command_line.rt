@@ -84,7 +84,7 @@ pub(crate) fn program<'a>(alloc: Global) -> Result<Command<'a>, AllocError>
     ensures { IfOk result (IsCommand program) }
 {
     let program = Command::new(alloc, "luntsegi")
-        .about("Inspect and compact bbolt database files, in which etcd and others keep their data")
+        .about("Inspect, check and compact bbolt database files, the format etcd uses")
         .version(VERSION)
         .subcommand_required(true)
         .disable_help_subcommand(true);
