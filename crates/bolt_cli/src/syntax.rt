@@ -1,10 +1,10 @@
-//! The lines of the commands: what stands on each, and what help says of it.
+//! The commands: their operands and options, and their help.
 
-/// An operand of a line.
+/// An operand of a command.
 #[derive(Clone, Copy, Debug)]
 pub(crate) struct Operand {
     pub name: &'static str,
-    /// Whether it takes each word that comes, of which there is one at least, or one word.
+    /// Whether it is one word, or one and all that follow.
     pub several: bool,
     pub help: &'static str,
 }
@@ -18,26 +18,26 @@ pub(crate) enum Flag {
     Short(char),
 }
 
-/// An option of a line.
+/// An option of a command.
 #[derive(Clone, Copy, Debug)]
 pub(crate) struct Choice {
     pub name: &'static str,
     pub flag: Flag,
-    /// What help calls the value, of an option that has one.
+    /// The name of its value in help, if it has one.
     pub value: Option<&'static str>,
     pub help: &'static str,
     pub required: bool,
 }
 
-/// The line of a command.
+/// A command.
 #[derive(Clone, Copy, Debug)]
 pub(crate) struct Syntax {
     pub name: &'static str,
     pub about: &'static str,
     pub operands: &'static [Operand],
-    /// In the order in which help tells them; on a line they stand anywhere.
+    /// In the order of help. On a command line the order is free.
     pub options: &'static [Choice],
-    /// What help says behind the options.
+    /// What help prints after the options.
     pub note: Option<&'static str>,
 }
 
@@ -125,10 +125,10 @@ const COPY_NOTE: &str = "Use --for-bbolt if bbolt or etcd will write to the copy
     that each branch page has at least two children, and can panic when it deletes below one that \
     has a single child. A plain copy may have such pages.";
 
-/// The number that `--version` tells.
+/// The version that `--version` prints.
 pub(crate) const VERSION: &str = "0.1.0";
 
-/// The line of each command, in the order in which help tells them.
+/// All commands, in the order of help.
 pub(crate) static SYNTAXES: [Syntax; 10] = [
     Syntax {
         name: "info",
