@@ -2,12 +2,12 @@
 
     compare.py PROGRAM BBOLT FOLDER [--rounds N] FILE ..
 
-BBOLT is the program built from main.go beside this file. The files compared are each FILE and some
-that bbolt makes in FOLDER. Of each: bbolt accepts it where the program does, and both list the same
-and count the same pages; of its compact copy, too. Then bbolt makes random transactions on the files
-that it made, N rounds of them, and both accept the file after each round. Last, bbolt has to stop with
-a panic on a copy that has a branch of one child: without that, nothing would show that these
-transactions can find one.
+BBOLT is the program built from main.go in this folder. The files compared are each FILE and some that
+bbolt makes in FOLDER. bbolt must accept each file that the program accepts, and both must list the
+same and count the same pages, also of its compact copy. Then bbolt makes N rounds of random
+transactions on the files that it made, and both must accept the file after each round. Last, bbolt
+must panic on a copy that has a branch with one child; otherwise nothing would show that these
+transactions can find such a branch.
 """
 
 import argparse
@@ -23,7 +23,7 @@ STEPS = "60"
 
 
 def want(holds, *what):
-    """Ends the run where something doesn't hold."""
+    """Ends the run if something doesn't hold."""
     if not holds:
         sys.exit(" ".join(map(str, what)))
 

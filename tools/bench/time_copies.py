@@ -3,11 +3,11 @@
 
     time_copies.py PROGRAM FILE..
 
-Each copy is made into the folder of its file, and timed beside `check` of the file and beside a
-plain copy of as many bytes with a sync, in turn; the figures are medians of five. The status is 1
-where a copy fails, is not sound or takes longer than `check` and 1.5 times the plain copy, or where
-it takes more memory than the file, a byte for each page of it, and 32 MiB. If `make bbolt` has built
-a program of bbolt's library, its `check` and `compact` are timed too.
+Each copy is written to the folder of its file. It is timed in turn with `check` of the file, and with
+a plain copy of as many bytes with a sync. The figures are medians of five. The status is 1 if a copy
+fails, isn't sound, or takes longer than `check` and 1.5 times the plain copy, or if it needs more
+memory than the file's size, a byte for each of its pages, and 32 MiB. If `make bbolt` has built a
+program over bbolt's library, its `check` and `compact` are timed too.
 """
 
 import os
@@ -24,7 +24,7 @@ ROOM = 32 * 2**20
 
 
 def seconds(words):
-    """How long the command took, which has to end well, and the most memory that it took."""
+    """How long the command took, which must succeed, and the most memory that it needed."""
     begin = time.perf_counter()
     child = subprocess.Popen(words, stdout=subprocess.DEVNULL, stderr=subprocess.DEVNULL)
     _, status, usage = os.wait4(child.pid, 0)
@@ -35,7 +35,7 @@ def seconds(words):
 
 
 def fresh(path):
-    """A path at which nothing stands."""
+    """A path where there is no file."""
     if os.path.exists(path):
         os.remove(path)
     return path
@@ -50,7 +50,7 @@ def one_round(program, file, copy, plain):
 
 
 def time_copy(program, file):
-    """Tells the figures of one file, and whether they are as they should be."""
+    """Prints the figures of one file, and returns whether they are as they should be."""
     copy, plain = file + ".copy", file + ".plain"
     rounds = [one_round(program, file, copy, plain) for _ in range(ROUNDS)]
     checked, copied, synced, memory = (median(column) for column in zip(*rounds))
@@ -67,7 +67,7 @@ def time_copy(program, file):
 
 
 def time_bbolt(file):
-    """Tells the same figures of bbolt."""
+    """Prints the same figures of bbolt."""
     copy = file + ".copy"
     checked = median(seconds([BBOLT, "check", file])[0] for _ in range(ROUNDS))
     copied = median(seconds([BBOLT, "compact", file, fresh(copy)])[0] for _ in range(ROUNDS))
