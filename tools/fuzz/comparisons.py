@@ -1,4 +1,4 @@
-"""What holds of the answers to any file. Each function compares the program's answers with each other."""
+"""What holds of the answers to any file. Only the program's own answers are compared."""
 
 import os
 
