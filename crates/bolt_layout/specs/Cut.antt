@@ -49,7 +49,7 @@ join_last (run ∷ []) = run ∷ []
 join_last (run ∷ next ∷ []) = if nat_lt (length next) 2 then (run ++ next) ∷ [] else run ∷ next ∷ []
 join_last (run ∷ next ∷ more ∷ runs) = run ∷ join_last (next ∷ more ∷ runs)
 
--- how a row of a bucket's pages is divided into branches: no branch of the balanced layout has a single item, where its row has two
+-- how a row of a bucket's pages is divided into branches: no branch of the balanced layout has a single item, if its row has two
 abbrev pub branch_cut : {X : Type 0} → Layout → (page_size : ℕ) → (X → ℕ) → List X → List (List X)
 branch_cut Plain page_size size items = cut_of page_size 2 size items
 branch_cut Balanced page_size size items = join_last (cut_of page_size 2 size items)

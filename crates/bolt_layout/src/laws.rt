@@ -41,8 +41,9 @@ pub fn layout_has_length()
         → length (layout_of which page_size tree sequence) ≡ layout_mark which page_size tree * page_size }
 {}
 
-/// While the pages of a layout are written, at most four page sizes of items for each bucket of a
-/// path are held at one time, if the layout has fewer than 2^63 bytes.
+/// While the pages of a layout are written, the number of items that are held at one time is at most
+/// four times the page size for each part of the listing's longest path, and as much again, if the
+/// layout has fewer than 2^63 bytes.
 pub fn held_is_bounded()
     ensures { (which : Layout) (page_size : ℕ) (tree : Tree) (sequence : ℕ) → IsPageSize page_size → IsStorable tree
         → length (layout_of which page_size tree sequence) < 2 ^ 63

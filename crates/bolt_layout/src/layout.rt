@@ -5,7 +5,6 @@
 pub enum Layout {
     /// The last branch of a level may have a single child.
     Plain,
-    /// Each branch has at least two children, unless the level below has a single page. bbolt
-    /// assumes that, so it can write to the copy.
+    /// Each branch has at least two children. bbolt assumes that, so it can write to the copy.
     Balanced,
 }
