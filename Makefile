@@ -1,4 +1,4 @@
-# The ordinary names. Each needs the toolchain's command `rt` on the path.
+# The targets (docs/CONTRIBUTING.md). They need the toolchain's command `rt` on the path.
 PREFIX ?= /usr/local
 PROGRAM = crates/luntsegi/out/luntsegi
 SOUND = $(wildcard examples/*.buckets)
@@ -7,14 +7,14 @@ LEAKED = examples/leaked
 
 .PHONY: build demo examples manual failures bbolt fuzz fuzz-wrong wrong-bodies test bench memory install dist deb clean
 
-# Proves the program and the libraries below it, and builds it.
+# Proves the libraries and the program, and builds it.
 build:
 	cd crates/luntsegi && rt run -- --help > /dev/null
 
 $(PROGRAM):
 	$(MAKE) build
 
-# All that a real database holds, as the program lists it. It is compiled here without its proofs.
+# Lists a real database with the program, which is compiled here without its proofs.
 demo:
 	cd crates/luntsegi && rt try --data app.db=$(abspath examples/app.db) -- list app.db
 	@echo "That was the program before any proof: make build proves it and builds it."
@@ -25,9 +25,9 @@ SOURCES = Makefile $(wildcard crates/*/src/*.rt crates/*/specs/*.antt crates/*/s
 # The documents that show commands with what they print.
 SHOWING = README.md docs/GUIDE.md docs/COMMANDS.md docs/luntsegi.1
 
-# What the program prints of each real database, compared with what bbolt finds in it; that a compact
-# copy of each is sound and lists the same, and is made where nothing stands; and that output which
-# can't be written is told, whatever was found; and that documents show what is printed.
+# Compares what the program prints of each real database with what bbolt finds in it. A compact copy of
+# each must be sound and list the same, and an existing OUT must be refused. Output that can't be
+# written must be reported. Documents must show what is printed.
 examples: $(PROGRAM)
 	for list in $(SOUND); do $(PROGRAM) buckets $${list%.buckets}.db | cmp - $$list || exit 1; done
 	for list in $(LISTED); do $(PROGRAM) list $${list%.list}.db | cmp - $$list || exit 1; done
@@ -46,9 +46,9 @@ examples: $(PROGRAM)
 	tools/bbolt/build.sh
 	python3 -B tools/usage/run_examples.py $(PROGRAM) $(SHOWING)
 
-# The manual page and what bash and zsh complete are compared with help, and mandoc finds nothing in
-# the page, if it is installed. What documents and sources refer to exists; a document of broken links
-# shows that this is found.
+# Compares the manual page, and what bash and zsh complete, with help. If mandoc is installed, it must
+# find nothing in the page. What documents and sources refer to must exist; a document of broken links
+# shows that such links are found.
 manual: $(PROGRAM)
 	if command -v mandoc > /dev/null; then mandoc -Tlint docs/luntsegi.1; fi
 	python3 -B tools/usage/compare_manual.py $(PROGRAM) docs/luntsegi.1
@@ -63,9 +63,9 @@ SWEEP = python3 -B tools/refuse/sweep.py $(PROGRAM) $(REFUSE)
 EACH_COMMAND = info "page 5" pages check buckets stats list "keys users" "get settings theme" \
 	"get settings none" "info --help" "info more" "list --from x"
 
-# Files that can't be read or made, devices that are full, streams that are closed, readers that leave,
-# and who may read a copy. Then each write of each command fails in turn, of seven bytes at most; of the
-# many that a copy makes each 10th fails; and so do each read of FILE and the sync of OUT.
+# Tries files that can't be read or created, full devices, closed streams, readers that leave, and who
+# may read a copy. Then each write of each command fails in turn (a write has at most seven bytes), but
+# only each 10th of a copy. So do each read of FILE and the sync of OUT.
 failures: $(PROGRAM) $(REFUSE) $(LISTED_LONG)
 	sh tools/streams/try_failures.sh $(PROGRAM) examples/app.db $(LEAKED).db $(LISTED_LONG)
 	$(SWEEP) write 1 examples/app.db $(EACH_COMMAND)
@@ -86,21 +86,21 @@ FUZZ = PYTHONPATH=tools/bench python3 -B tools/fuzz
 SECONDS ?= 60
 SEED ?= $(shell date +%s)
 
-# Compares the program's answers on random files. SEED=N goes through the files of another run again.
+# Compares the program's answers on random files. SEED=N repeats the files of another run.
 fuzz: $(PROGRAM)
 	$(FUZZ)/fuzz.py $(PROGRAM) --seed $(SEED) --seconds $(SECONDS)
 
-# Compares the program with bbolt's own library, and its files after random transactions by bbolt. It
-# needs Go and bbolt's source: on Debian the packages golang-go and golang-github-coreos-bbolt-dev.
+# Compares the program with bbolt's own library, also on files after random transactions by bbolt. It
+# needs Go and bbolt's source, Debian's packages golang-go and golang-github-coreos-bbolt-dev.
 bbolt: $(PROGRAM)
 	tools/bbolt/try.sh $(PROGRAM) 30
 
-# Alters the program's answers in many ways, each of which the comparisons have to find.
+# Alters the program's answers in many ways. The comparisons must find each alteration.
 fuzz-wrong: $(PROGRAM)
 	$(FUZZ)/try_wrong.py $(PROGRAM)
 
-# Every wrong body, those that the gate tries among them. It takes an hour or two; CRATES="bolt_tree
-# bolt_cli" tries those of some crates, so that a run that was broken off can go on.
+# Tries every wrong body, including those of the gate. It takes an hour or two. CRATES="bolt_tree
+# bolt_cli" tries those of some crates, to continue a run that was interrupted.
 wrong-bodies:
 	tools/wrong_bodies/try_all.sh $(CRATES)
 
@@ -119,11 +119,11 @@ LONG = out/long.db
 SPARSE = out/sparse.db
 VERY_DEEP = out/very_deep.db
 
-# Times the reading of a file (info), the checker and what prints of a file: on a database of 256 MB
-# with a million small entries, on one with 200,000 buckets in its root bucket, and on one of 256 MB
-# with values of 100 KB. Then it times compact copies, of the first and the last of these, of one of
-# 256 MB most of which is free pages, and of one with 50,000 buckets one within another. All have pages
-# of 4,096 bytes, as bbolt makes them on most machines. After `make bbolt`, bbolt copies the same files.
+# Times `info`, `check` and the commands that print, on three databases: 256 MB with a million small
+# entries, 200,000 buckets in the root bucket, and 256 MB with values of 100 KB. Then times compact
+# copies of the first and the last of these, of 256 MB that are mostly free pages, and of 50,000 buckets
+# one within another. All have pages of 4,096 bytes, as bbolt makes them on most machines. If `make
+# bbolt` has run, bbolt copies the same files.
 bench: $(PROGRAM) $(LARGE) $(WIDE) $(LONG) $(SPARSE) $(VERY_DEEP)
 	python3 tools/bench/time_commands.py $(PROGRAM) $(LARGE) info check buckets pages stats list \
 		"keys bucket-0" "get bucket-0 entry-000000000000100000"
@@ -155,11 +155,11 @@ DEEP = out/deep.db
 NESTED = out/nested.db
 REFUSED_ROWS = out/refused_rows
 
-# Refuses memory. The program has each of its requests refused in turn: on a file of 60 nested
-# buckets and on a real one under every command, on 20,000 nested buckets under those that make few,
-# and of the many that a copy of these makes each 1500th. Then each row of memory_rows has its 1000th
-# request refused: nine of these are requests of a walk, which is asked again and goes on, and of two
-# neighbours one stands before the calls that make no request and one behind them.
+# Refuses each of the program's requests for memory in turn: under every command on a file of 60 nested
+# buckets and on a real one; on 20,000 nested buckets under the commands that make few requests; and of
+# the many that a copy of these makes, each 1500th. Then each row of memory_rows has its 1000th request
+# refused. Nine of these are requests of a walk, which is called again and goes on. Of two others one is
+# made before the calls that request nothing, and one after them.
 memory: $(PROGRAM) $(REFUSE) $(NESTED) $(DEEP)
 	$(SWEEP) memory 1 $(NESTED) info "page 3" pages check buckets stats list "list --from 62/62" \
 		"keys b b" "get b x" "compact -o OUT"
@@ -181,7 +181,7 @@ $(DEEP): tools/bench/make_deep.py
 	mkdir -p $(@D)
 	python3 -B tools/bench/make_deep.py $@
 
-# The folder in which zsh looks for completions.
+# The folder where zsh looks for completions.
 ZSH_COMPLETIONS ?= $(PREFIX)/share/zsh/site-functions
 
 install: $(PROGRAM)
@@ -190,7 +190,7 @@ install: $(PROGRAM)
 	install -D -m 644 completions/luntsegi.bash $(DESTDIR)$(PREFIX)/share/bash-completion/completions/luntsegi
 	install -D -m 644 completions/_luntsegi $(DESTDIR)$(ZSH_COMPLETIONS)/_luntsegi
 
-# Packages: an archive of what is installed and the documents, and a Debian package.
+# Packages: an archive of the installed files and the documents, and a Debian package.
 dist: $(PROGRAM)
 	tools/package/make_package.sh archive $(PROGRAM)
 

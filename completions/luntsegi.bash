@@ -1,6 +1,6 @@
 # Completion for bash: the commands of luntsegi, their options and values, and file names.
 
-# The options of a command, but for those of help.
+# The options of a command, except those of help.
 _luntsegi_options() {
     case $1 in
         buckets) echo --form --meta ;;
@@ -11,7 +11,7 @@ _luntsegi_options() {
     esac
 }
 
-# The values of an option that has few. -o takes a file name, which is completed as one.
+# The values of an option that has only a few. The value of -o is completed as a file name.
 _luntsegi_values() {
     case $1 in
         --form) echo printable hex bytes ;;
@@ -20,8 +20,8 @@ _luntsegi_values() {
     esac
 }
 
-# Whether the words from the third up to the cursor have no operand, so that FILE is to come.
-# An = stands as a word of its own between an option and its value.
+# Whether there is no operand before the cursor yet, so that FILE is next.
+# An = between an option and its value is a word of its own.
 _luntsegi_wants_file() {
     local at word
     for ((at = 2; at < COMP_CWORD; at++)); do
@@ -62,7 +62,7 @@ _luntsegi_command() {
     esac
 }
 
-# Completes an option, or an operand: the name of a file, or what nobody but the user knows.
+# Completes an option or FILE. Only the user knows the other operands.
 _luntsegi_option_or_operand() {
     if [[ $1 == -* && " ${COMP_WORDS[*]:0:COMP_CWORD} " != *" -- "* ]]; then
         _luntsegi_words "$(_luntsegi_options "${COMP_WORDS[1]}") -h --help" "$1"

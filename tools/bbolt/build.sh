@@ -1,6 +1,6 @@
 #!/bin/sh
-# Builds out/bbolt, a program of bbolt's own library. It needs Go, and bbolt's source where Debian's
-# package puts it. If one of them isn't there, it says so and builds nothing.
+# Builds out/bbolt, a program over bbolt's own library. It needs Go, and bbolt's source where Debian's
+# package puts it. If one of them is missing, it says so and builds nothing.
 set -eu
 sources=${BBOLT_GOPATH:-/usr/share/gocode}
 if ! command -v go > /dev/null || [ ! -d "$sources/src/go.etcd.io/bbolt" ]; then

@@ -26,7 +26,7 @@ RUNS = 12
 
 
 def want(holds, *what):
-    """Ends the run where something doesn't hold."""
+    """Ends the run if something doesn't hold."""
     if not holds:
         sys.exit(" ".join(map(str, what)))
 

@@ -1,5 +1,6 @@
-// Bbolt answers by bbolt's own library, for comparisons with this project's program. It makes files,
-// prints what they hold in the same lines as luntsegi, checks them, and writes into them at random.
+// Bbolt is a program over bbolt's own library, for comparisons with this project's program. It makes
+// files, prints what they hold in the same lines as luntsegi, checks them, and writes into them at
+// random.
 //
 //	bbolt make KIND FILE        makes a file: wide, nested, inline, long or churn
 //	bbolt check FILE            bbolt's own check: OK, or a line for each error and status 1
@@ -78,7 +79,7 @@ func check(tx *bolt.Tx) error {
 	return nil
 }
 
-// list prints each path with its value or the sequence of its bucket, a bucket before what it holds.
+// list prints each path with its value or the sequence of its bucket, a bucket before everything in it.
 func list(tx *bolt.Tx) error {
 	out := bytes.Buffer{}
 	var below func(path string, bucket *bolt.Bucket) error
@@ -131,7 +132,7 @@ func compact(name, out string) error {
 
 // ---- files
 
-// filler gives one value after another of about this length.
+// filler returns one value after another of about this length.
 func filler(random *rand.Rand, most int) []byte {
 	value := make([]byte, random.Intn(most+1))
 	random.Read(value)
@@ -140,7 +141,7 @@ func filler(random *rand.Rand, most int) []byte {
 
 func key(n int) []byte { return []byte(fmt.Sprintf("key-%08d", n)) }
 
-// fill puts so many entries into a bucket, with keys and values of about these lengths.
+// fill puts a number of entries into a bucket, with keys and values of about these lengths.
 func fill(bucket *bolt.Bucket, random *rand.Rand, count, keyLength, valueLength int) error {
 	for n := 0; n < count; n++ {
 		name := append(key(n), bytes.Repeat([]byte("k"), keyLength)...)
@@ -237,7 +238,7 @@ func changeAll(seed, count, name string) error {
 	return change(db, rand.New(rand.NewSource(from)), steps)
 }
 
-// change makes so many random transactions.
+// change makes a number of random transactions.
 func change(db *bolt.DB, random *rand.Rand, steps int) error {
 	for step := 0; step < steps; step++ {
 		if err := db.Update(func(tx *bolt.Tx) error { return changeOnce(tx, random) }); err != nil {
@@ -295,7 +296,7 @@ func put(bucket *bolt.Bucket, random *rand.Rand, count int) error {
 	return nil
 }
 
-// bucketKeys are the keys of a bucket that hold values.
+// bucketKeys are the keys of the values of a bucket.
 func bucketKeys(bucket *bolt.Bucket) [][]byte {
 	var keys [][]byte
 	bucket.ForEach(func(name, value []byte) error {

@@ -3,9 +3,9 @@
 
     make_deep.py FILE [BUCKETS [PAGE_SIZE]]
 
-The format is that of docs/FORMAT.md. Each bucket is `b` in the one before, a leaf of its own; the
-last is empty and inline, on page 3, and the root page is the last of the file. Without BUCKETS
-there are 20,000, and without PAGE_SIZE pages of 1,024 bytes.
+The format is that of docs/FORMAT.md. Each bucket is `b` in the preceding one, and has a leaf of its
+own. The last one is empty and inline, on page 3. The root page is the last page of the file. The
+default is 20,000 buckets and pages of 1,024 bytes.
 """
 
 import struct

@@ -3,9 +3,9 @@
 
     make_large.py FILE [ENTRIES]
 
-The format is that of docs/FORMAT.md. Without ENTRIES there are a million, in a file of about
-256 MiB. They lie in a few buckets, in leaves that are filled in key order, below branches of three
-levels. Behind the pages of each bucket a few pages are free.
+The format is that of docs/FORMAT.md. The default is a million entries, in a file of about 256 MiB.
+They are in a few buckets, in leaves that are filled in key order, below branches of three levels.
+After the pages of each bucket a few pages are free.
 """
 
 import struct
@@ -39,7 +39,7 @@ def checksum(data):
 
 
 class Pages:
-    """Writes pages one behind another, and keeps the numbers of those that are left free."""
+    """Writes pages one after another, and keeps the numbers of the free ones."""
 
     def __init__(self, out):
         self.out = out
@@ -47,7 +47,7 @@ class Pages:
         self.free = []
 
     def put_at(self, number, flags, count, body):
-        """Puts a page, with as many behind it as it needs, and answers how many these are."""
+        """Writes a page with the further pages that it needs, and returns their number."""
         overflow = (HEADER.size + len(body) - 1) // PAGE_SIZE
         span = HEADER.pack(number, flags, count, overflow) + body
         self.out.seek(number * PAGE_SIZE)
@@ -71,7 +71,7 @@ def leaf_length(element):
 
 
 def leaf_body(elements):
-    """The table of a leaf's elements, each (flags, key, value), and their data behind it."""
+    """The table of a leaf's elements, each (flags, key, value), and their data after it."""
     table, data = [], []
     begin = LEAF_ELEMENT.size * len(elements)
     for flags, key, value in elements:
@@ -87,7 +87,7 @@ def branch_length(element):
 
 
 def branch_body(elements):
-    """The table of a branch's elements, each (key, child), and their keys behind it."""
+    """The table of a branch's elements, each (key, child), and their keys after it."""
     table, data = [], []
     begin = BRANCH_ELEMENT.size * len(elements)
     for key, child in elements:
@@ -140,7 +140,7 @@ def entries(first, count):
 
 
 def buckets(pages, count):
-    """The elements of the root bucket, for so many entries below it."""
+    """The elements of the root bucket, for a number of entries below it."""
     for number in range(BUCKETS):
         first = count * number // BUCKETS
         behind = count * (number + 1) // BUCKETS

@@ -4,8 +4,8 @@
     make_long.py FILE [ENTRIES]
 
 The format is that of docs/FORMAT.md. The root bucket has ENTRIES values of 100,000 bytes, each on a
-leaf of its own whose span has 25 pages, below branches. Without ENTRIES there are 2,600, in a file
-of about 256 MiB.
+leaf of its own whose span has 25 pages, below branches. The default is 2,600, in a file of about
+256 MiB.
 """
 
 import sys

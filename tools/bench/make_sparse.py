@@ -1,11 +1,11 @@
 #!/usr/bin/env python3
-"""Makes a sound database file most of which is free pages, for `make bench`.
+"""Makes a sound database file that is mostly free pages, for `make bench`.
 
     make_sparse.py FILE [FREE]
 
-The format is that of docs/FORMAT.md. A hundred thousand small entries stand in the root bucket, and
-behind their pages FREE pages are free, of which the freelist behind them tells. Without FREE there
-are 60,000, in a file of about 256 MiB.
+The format is that of docs/FORMAT.md. The root bucket has a hundred thousand small entries. After their
+pages there are FREE free pages, and then the freelist. The default is 60,000, in a file of about
+256 MiB.
 """
 
 import struct

@@ -4,7 +4,7 @@
     make_wide.py FILE [BUCKETS]
 
 The format is that of docs/FORMAT.md. The buckets are empty and inline, in leaves that are filled in
-key order, below branches. Without BUCKETS there are 200,000.
+key order, below branches. The default is 200,000.
 """
 
 import sys

@@ -3,9 +3,9 @@
 
     time_commands.py PROGRAM FILE COMMAND..
 
-A COMMAND may be several words, of which those behind the first stand behind FILE. Prints the seconds
-that each command took, and the most memory that one took. The status is 1 where a command fails or
-takes 2 seconds or more, or where one takes more memory than the file, a byte for each page of it, and
+A COMMAND may have several words; those after the first come after FILE. Prints the seconds that each
+command took, and the most memory that one needed. The status is 1 if a command fails or takes 2
+seconds or more, or if one needs more memory than the file's size, a byte for each of its pages, and
 16 MiB.
 """
 
@@ -28,7 +28,7 @@ def timed(words):
 
 
 def peak_memory():
-    """The most memory in bytes that a command took so far."""
+    """The most memory in bytes that a command needed so far."""
     return resource.getrusage(resource.RUSAGE_CHILDREN).ru_maxrss * 1024
 
 

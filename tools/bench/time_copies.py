@@ -25,7 +25,7 @@ ROOM = 32 * 2**20
 
 
 def seconds(words):
-    """How long the command took, which has to end well, and the most memory that it took."""
+    """How long the command took, which must succeed, and the most memory that it needed."""
     begin = time.perf_counter()
     child = subprocess.Popen(words, stdout=subprocess.DEVNULL, stderr=subprocess.DEVNULL)
     _, status, usage = os.wait4(child.pid, 0)
@@ -36,7 +36,7 @@ def seconds(words):
 
 
 def fresh(path):
-    """A path at which nothing stands."""
+    """A path where there is no file."""
     if os.path.exists(path):
         os.remove(path)
     return path
@@ -52,7 +52,7 @@ def one_round(program, file, copy, plain):
 
 
 def time_copy(program, file):
-    """Tells the figures of one file, and whether they are as they should be."""
+    """Prints the figures of one file, and returns whether they are as they should be."""
     copy, plain = file + ".copy", file + ".plain"
     rounds = [one_round(program, file, copy, plain) for _ in range(ROUNDS)]
     checked, copied, balanced, synced, memory = (median(column) for column in zip(*rounds))
@@ -70,7 +70,7 @@ def time_copy(program, file):
 
 
 def time_bbolt(file):
-    """Tells the same figures of bbolt."""
+    """Prints the same figures of bbolt."""
     copy = file + ".copy"
     checked = median(seconds([BBOLT, "check", file])[0] for _ in range(ROUNDS))
     copied = median(seconds([BBOLT, "compact", file, fresh(copy)])[0] for _ in range(ROUNDS))

@@ -1,4 +1,4 @@
-"""Files that the program is asked about, and what it prints of them as data."""
+"""Files that the program is run on, and what it prints of them as data."""
 
 import os
 
@@ -15,7 +15,7 @@ FORMS = {
 
 
 def entries_of(text):
-    """What a listing says: of each path the value's bytes, or the sequence of a bucket."""
+    """The entries of a listing: for each path the bytes of the value, or the sequence of the bucket."""
     found = {}
     for line in text.decode().splitlines():
         path, kind, item = line.split(" ", 2)
@@ -29,7 +29,7 @@ def word_of(path):
 
 
 def words_of(draw, path):
-    """The words that ask for a path: in hexadecimal or, where they can be, as text."""
+    """The words for a path: in hexadecimal or, if possible, as text."""
     is_text = all(byte in PRINTABLE for key in path for byte in key)
     if is_text and draw.random() < 0.5:
         return ["--", *(key.decode() for key in path)]
@@ -46,7 +46,7 @@ def read(path):
 
 
 class File:
-    """A file that the program is asked about, with a folder for its copies."""
+    """A file that the program is run on, with a folder for its copies."""
 
     def __init__(self, program, draw, path, folder):
         self.program = program
@@ -65,7 +65,7 @@ class File:
         return self.draw.sample(things, min(MOST_PATHS, len(things)))
 
     def copy(self, name):
-        """Where a copy goes, which isn't there yet."""
+        """The path for a copy, where there is no file yet."""
         path = os.path.join(self.folder, name)
         if os.path.exists(path):
             os.remove(path)
@@ -73,7 +73,7 @@ class File:
 
 
 def info_of(file):
-    """The numbers that `info` prints; the freelist is None where none was written."""
+    """The numbers that `info` prints; the freelist is None if none was written."""
     lines = file.text("info").decode().splitlines()
     fields = dict(line.rsplit(" ", 1) for line in lines)
     return {name: None if number == "none" else int(number) for name, number in fields.items()}

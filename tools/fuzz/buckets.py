@@ -1,4 +1,4 @@
-"""Buckets as data, drawn at random: what a sound file is made of, and what it is to list."""
+"""Random buckets as data: what a sound file is made of, and what it must list."""
 
 from dataclasses import dataclass, field
 
@@ -65,7 +65,7 @@ def draw_value(draw, page_size):
 
 
 class Maker:
-    """Draws buckets, of so many entries together that a file stays small."""
+    """Draws buckets with so few entries in all that a file stays small."""
 
     def __init__(self, draw, page_size):
         self.draw = draw

@@ -1,4 +1,4 @@
-"""What holds of the answers to a file, whatever it is: each compares answers of the program alone."""
+"""What holds of the answers to any file. Only the program's own answers are compared."""
 
 import os
 
@@ -13,7 +13,7 @@ UNDER_ALL = ("pages", "buckets", "stats", "list")
 
 
 def compare_sound(file):
-    """What holds of a file that `check` accepts. Answers its listing."""
+    """What holds of a file that `check` accepts. Returns its listing."""
     listing = file.text("list")
     entries = entries_of(listing)
     info = info_of(file)
@@ -37,7 +37,7 @@ def compare_sound(file):
 
 
 def compare_refusals(file, fault):
-    """Every command that wants a sound file is refused alike, and a copy of it is empty."""
+    """Each command that needs a sound file is refused alike, and a copy is empty."""
     copy = file.copy("copy.db")
     answers = [file.run(command) for command in UNDER_ALL]
     answers += [file.run("keys", "00"), file.run("get", "00"), file.run("compact", "-o", copy)]
@@ -47,7 +47,7 @@ def compare_refusals(file, fault):
 
 
 def compare_unsound(file, checked):
-    """What holds of a file that `check` refuses for what it finds."""
+    """What holds of a file that `check` refuses with findings."""
     first_line = checked.out.splitlines()[0]
     info = info_of(file)
     compare_refusals(file, b"error: file refused: " + first_line + b"\n")
@@ -68,7 +68,7 @@ def compare_unsound(file, checked):
 
 
 def compare_closed(file, checked):
-    """A file with no valid meta is refused alike by every command."""
+    """Each command refuses a file without a valid meta alike."""
     compare_refusals(file, checked.err)
     for words in (["info"], ["page", 0], ["list", "--meta", 0], ["list", "--meta", 1]):
         answer = file.run(*words)
@@ -87,7 +87,7 @@ def compare_limits(file):
 
 
 def compare(file):
-    """Compares all answers to a file. Answers what `check` made of it, and its listing if sound."""
+    """Compares all answers to a file. Returns what `check` says of it, and its listing if it is sound."""
     before = read(file.path)
     checked = file.run("check")
     listing = None

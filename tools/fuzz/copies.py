@@ -11,7 +11,7 @@ LEAST_META = 80
 
 
 def compare_copy(file, listing, *words):
-    """A copy is sound and lists the same, and a copy of it is the same, by way of another page size."""
+    """A copy is sound and lists the same. A copy of it is the same, also via another page size."""
     program = file.program
     copy, again, other = (file.copy(name) for name in ("copy.db", "again.db", "other.db"))
     told = file.text("compact", "-o", copy, *words)
@@ -42,7 +42,7 @@ def compare_copied(file, *copies):
 
 
 def compare_beginnings(file, copy):
-    """No proper beginning of a copy is accepted."""
+    """No proper prefix of a copy is accepted."""
     whole = read(copy)
     root = info_of(File(file.program, file.draw, copy, file.folder))["root"]
     lengths = [0, LEAST_META - 1, LEAST_META, len(whole) - 1]

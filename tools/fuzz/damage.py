@@ -13,7 +13,7 @@ def put_number(data, place, width, number):
 
 
 def draw_field(draw, made):
-    """A field that stands in the file, of each kind as often as of another; or nothing."""
+    """A field that is in the file, each kind with the same probability; or nothing."""
     fields = [field for field in made.fields if field.place + field.width <= len(made.data)]
     kinds = sorted({field.of for field in fields})
     of = draw.choice(kinds) if kinds else None
@@ -31,7 +31,7 @@ def set_field(draw, made):
 
 
 def copy_field(draw, made):
-    """Gives a field the bytes that stand at another one."""
+    """Gives a field the bytes of another one."""
     to, source = draw_field(draw, made), draw_field(draw, made)
     if to and source.place + to.width <= len(made.data):
         made.data[to.place : to.place + to.width] = made.data[source.place : source.place + to.width]

@@ -29,7 +29,7 @@ def findings_of(text):
 
 
 def compare_bad_page(file, info, number, words):
-    """What `check` finds first and what `page` says of that page."""
+    """Compares the first finding of `check` with what `page` says of that page."""
     answer = file.run("page", number)
     if words in KEY_FAULTS:
         want(answer.is_ok(), "check says", words, "of page", number, "and page", answer)

@@ -3,10 +3,10 @@
 
     fuzz.py PROGRAM --seed N [--seconds N | --files N] [--first N] [--folder F]
 
-File N of a seed is the same in each run, whatever the others are. Every other file is sound, and
-the program must accept it and list what it was made of; the others are damaged in one to eight
-places. A file on which something doesn't hold is kept in the folder, and what doesn't is printed.
-The status is 1 where there is one.
+File N of a seed is the same in each run, whatever the others are. Every second file is sound, and the
+program must accept it and list what it was made of. The others are damaged in one to eight places. If
+a comparison fails, the file is kept in the folder, and the difference is printed. The status is 1 if
+one failed.
 """
 
 import argparse
@@ -26,7 +26,7 @@ from program import FAILURES, Program, want
 from sound import draw_sound
 
 
-# How much memory this and the program may have, so that neither can take all of a machine's.
+# The memory that this and the program may have, so that neither can use up the machine's.
 MOST_MEMORY = 2**32
 
 
@@ -41,7 +41,7 @@ def compare_made(file, made, kind, listing):
 
 
 def compare_one(program, seed, number, folder):
-    """Makes this file of the seed and compares all answers to it. Answers what it was."""
+    """Makes this file of the seed and compares all answers to it. Returns what it was."""
     draw = random.Random(f"{seed} {number}")
     made = draw_sound(draw)
     is_damaged = number % 2 == 1
@@ -69,7 +69,7 @@ def read_words():
 
 
 def keep(words, number, folder):
-    """Keeps the drawn file, and answers where."""
+    """Keeps the drawn file, and returns where."""
     os.makedirs(words.folder, exist_ok=True)
     kept = os.path.join(words.folder, f"{words.seed}-{number}.db")
     os.replace(os.path.join(folder, "drawn.db"), kept)

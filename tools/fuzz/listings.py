@@ -5,7 +5,7 @@ from program import want
 
 
 def compare_order(listing):
-    """Each path stands once, in order, behind the bucket that it is in."""
+    """Each path is listed once, in order, after the bucket that it is in."""
     paths = list(entries_of(listing))
     want(len(paths) == len(listing.splitlines()), "a path stands twice in the listing")
     want(paths == sorted(paths), "the paths of the listing don't rise")
@@ -57,7 +57,7 @@ def compare_values(file, entries):
 
 
 def compare_missing(file, entries):
-    """A path that holds something else or nothing is told as that."""
+    """A path that holds something else or nothing is reported as such."""
     for path in file.some(paths_between(file.draw, file.some(entries))):
         words = words_of(file.draw, path)
         in_bucket = not path[:-1] or isinstance(entries.get(path[:-1]), int)

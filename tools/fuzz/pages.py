@@ -7,7 +7,7 @@ FIRST_ROLES = ("branch", "leaf", "freelist")
 
 
 def compare_tree(tree, entries):
-    """What `page` shows along the tree is what is listed but for what inline buckets hold."""
+    """What `page` shows along the tree is what is listed, except what inline buckets hold."""
     rooted = {path for path, _ in tree}
     shown = {}
     for path, page in tree:
@@ -47,7 +47,7 @@ def compare_pages(file, info, length):
 
 
 def compare_figures(file, info, entries, kinds, tree):
-    """The figures are those of what is listed and, where `page` shows the tree, of its pages but the
+    """The figures are those of what is listed and, if `page` shows the tree, of its pages except the
     root bucket's own."""
     figures = figures_of(file)
     expected = {

@@ -1,4 +1,4 @@
-"""Runs the program, and says of each run what holds of all of them."""
+"""Runs the program, and tests of each run what holds of all."""
 
 import re
 import subprocess
@@ -17,7 +17,7 @@ TABLE = rb"ID       TYPE       ITEMS  OVRFLW\n={8} ={10} ={6} ={6}\n"
 ROW = rb"\d+ +(?:meta|freelist|branch|leaf|free) +\d* +\d* *\n"
 PAST_END = rb"(?:\d+ free pages past the end of the file\n)?"
 
-# What each command prints where it does what it is asked; names, keys and values are compared whole.
+# What each command prints if it succeeds; names, keys and values are compared whole.
 TEXTS = {
     "info": rb"page size \d+\nmeta [01]\ntxid \d+\nroot \d+\nsequence \d+\n"
     rb"freelist (?:\d+|none)\nhigh water \d+\n",
@@ -32,7 +32,7 @@ FINDINGS = re.compile(rb"(?:%b\n)+\d+ errors found\n" % FINDING)
 META_FAULT = rb"file too short|invalid database|version mismatch|checksum error|page size refused"
 REFUSED = rb"file refused: " + FINDING
 
-# What each command tells of a file with a valid meta where it doesn't.
+# What each command reports of a file with a valid meta if it fails.
 FAULTS = {
     "page": FINDING,
     "pages": REFUSED,
@@ -49,7 +49,7 @@ class Difference(Exception):
     """What doesn't hold of a file."""
 
 
-# How a comparison ends that fails: an answer may also be of no form that can be read.
+# How a failed comparison ends: an answer may also have a form that can't be read.
 FAILURES = (Difference, LookupError, ValueError)
 
 
@@ -96,14 +96,14 @@ class Program:
         return answer
 
     def text(self, *words):
-        """What these words print, which want no fault."""
+        """What these words print. They must not fail."""
         answer = self.run(*words)
         want(answer.is_ok(), *words, "answered:", answer)
         return answer.out
 
 
 def is_stated(command, answer):
-    """The answer is of a form that is stated for the command."""
+    """Whether the answer has a form that is documented for the command."""
     if answer.status == 0:
         form = TEXTS.get(command)
         return answer.err == b"" and (form is None or re.fullmatch(form, answer.out) is not None)

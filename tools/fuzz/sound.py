@@ -1,4 +1,4 @@
-"""Makes sound files at random, as docs/FORMAT.md and docs/SOUND.md have them."""
+"""Makes random sound files (docs/FORMAT.md, docs/SOUND.md)."""
 
 import struct
 from dataclasses import dataclass, field
@@ -18,7 +18,7 @@ META_BYTES = 80
 
 @dataclass(frozen=True)
 class Field:
-    """A number in a file: of what it is, where it stands, and how wide it is."""
+    """A number in a file: what it is, where it is, and how wide it is."""
 
     of: str
     place: int
@@ -35,7 +35,7 @@ def fields_at(of, form, place):
 
 @dataclass
 class Page:
-    """A page and its span. Its number is given when all pages are known."""
+    """A page and its span. It gets its number when all pages are known."""
 
     kind: int
     elements: list = field(default_factory=list)
@@ -93,7 +93,7 @@ class Value:
 
 @dataclass
 class Rooted(Value):
-    """An element of a leaf with a bucket that has a root page; its value ends as `value`."""
+    """An element of a leaf with a bucket that has a root page; its value ends with `value`."""
 
     page: Page = None
     sequence: int = 0
@@ -255,7 +255,7 @@ class Made:
 
 
 class Image:
-    """The bytes of a file while its pages are put."""
+    """The bytes of a file while its pages are written."""
 
     def __init__(self, draw, page_size):
         self.draw = draw

@@ -1,11 +1,11 @@
 #!/usr/bin/env python3
-"""Shows that no comparison passes whatever it is given, for `make fuzz-wrong`.
+"""Shows that the comparisons find wrong answers, for `make fuzz-wrong`.
 
     try_wrong.py PROGRAM
 
-Each alteration below stands between the program and the comparisons and makes one kind of answer
-wrong. The comparisons have to find it on one of the first files of a seed. The status is 1 where
-they find one of them on no file.
+Each alteration below is between the program and the comparisons, and makes one kind of answer wrong.
+The comparisons must find it on one of the first files of a seed. The status is 1 if they don't find
+one of them on any file.
 """
 
 import os

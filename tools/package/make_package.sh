@@ -10,7 +10,7 @@ kind=$1
 program=$2
 version=$("$program" --version | cut -d ' ' -f 2)
 stage=$PWD/out/stage
-# All that is packed has the time of the last commit.
+# All packed files have the time of the last commit.
 : "${SOURCE_DATE_EPOCH:=$(git log -1 --format=%ct)}"
 export SOURCE_DATE_EPOCH
 
@@ -21,7 +21,7 @@ install_files() {
     install -D -m 644 -t "$1$2/share/doc/luntsegi/docs" docs/*.md
 }
 
-# Gives all files below a folder the one time.
+# Gives all files below a folder that time.
 set_times() {
     find "$1" -exec touch --no-dereference --date="@$SOURCE_DATE_EPOCH" {} +
 }
@@ -35,7 +35,7 @@ make_archive() {
     echo "out/$name.tar.gz"
 }
 
-# What dpkg is told of the package. The least C library is that of the newest symbols that the program needs.
+# The package's description for dpkg. The oldest C library is that of the newest symbols that the program needs.
 control() {
     library=$(grep -ao 'GLIBC_[0-9][0-9.]*' "$program" | sort -V | tail -n 1)
     cat << END
@@ -46,9 +46,9 @@ Maintainer: Luntsegi maintainers <maintainers@users.noreply.luntsegi.example>
 Depends: libc6 (>= ${library#GLIBC_})
 Section: database
 Priority: optional
-Description: inspect and compact bbolt database files
- Inspects, checks and compacts bbolt database files, the format etcd uses. It
- takes no lock and never writes to the file that it reads.
+Description: inspect, check and compact bbolt database files
+ Luntsegi works on bbolt database files, the format etcd uses. It takes no
+ lock, never writes to its input and never crashes on a corrupt file.
 END
 }
 

@@ -3,13 +3,13 @@
 
     sweep.py PROGRAM LIBRARY CALL STEP FILE COMMAND..
 
-CALL is memory, read, write or sync; LIBRARY is what refuses (refuse.c). A COMMAND may be several
-words, of which those behind the first stand behind FILE; OUT stands for a file that isn't there.
-With STEP 1 each call that a command makes is refused in a run of its own, with another STEP the
-first and from there on each that is so many further. A run has to end as docs/COMMANDS.md says:
-with the full answer, or with status 1, the line of the failure, and what may be there then of the
-text and of OUT. Writes move seven bytes at most, so that they fail at many places. Prints how many
-runs ended in which way. The status is 1 where one ends otherwise, and where no failure is told.
+CALL is memory, read, write or sync; LIBRARY refuses the calls (refuse.c). A COMMAND may have several
+words; those after the first come after FILE; OUT stands for a file that doesn't exist. With STEP 1
+each call that a command makes is refused in a run of its own; with STEP N the first one and then each
+N-th. A run must end as docs/COMMANDS.md says: with the full answer, or with status 1, the line of the
+failure, and the parts of the text and of OUT that may be there then. Writes move at most seven bytes,
+so they fail at many places. Prints how many runs ended in which way. The status is 1 if one ends
+otherwise, or if no failure is reported.
 """
 
 import os
@@ -24,7 +24,7 @@ FULL = "the full answer"
 PART_OF_LINE = "a part of its line"
 MAY_BEGIN = ("list", "pages")
 
-# The lines that tell the failure of a call; the first of them has to come.
+# The lines that report the failure of a call; the first of them must come.
 LINES = {
     "memory": ("out of memory", "cannot read FILE", "cannot make OUT"),
     "read": ("cannot read FILE",),
@@ -34,7 +34,7 @@ LINES = {
 
 
 class Command:
-    """The words of a command on a file, of which calls are refused, and a folder for what it makes."""
+    """The words of a command on a file, whose calls are refused, and a folder for its output."""
 
     def __init__(self, program, library, call, file, words, folder):
         self.call = call
@@ -53,7 +53,7 @@ class Command:
         return f"error: {' '.join(names.get(word, word) for word in words.split())}\n".encode()
 
     def run(self, number):
-        """Runs it with this call refused, and answers its status, output, error and copy."""
+        """Runs it with this call refused, and returns its status, output, error and copy."""
         for made in (self.out, self.mark):
             if os.path.exists(made):
                 os.remove(made)
@@ -69,7 +69,7 @@ class Command:
         return os.path.exists(self.mark)
 
     def outcome(self, full, answer):
-        """How a run with a refusal ended, or nothing where it ended in no stated way."""
+        """How a run with a refusal ended, or nothing if it ended in no documented way."""
         status, out, err, copy = answer
         if answer == full:
             return FULL
@@ -82,7 +82,7 @@ class Command:
 
 
 def sweep(command, step):
-    """Refuses calls in turn, and prints how the runs ended. Answers whether each ended as stated."""
+    """Refuses calls in turn, and prints how the runs ended. Returns whether each ended as documented."""
     full = command.run(0)
     outcomes, wrong = Counter(), []
     number = 1

@@ -1,12 +1,12 @@
 #!/bin/sh
-# Lets the program's files and streams fail, and its readers leave, for `make failures`; and looks at
-# who may read what it makes.
+# Makes the program's files and streams fail, and its readers leave, for `make failures`; and tests
+# who may read its copies.
 #
 #   try_failures.sh PROGRAM SOUND REFUSED LONG
 #
 # SOUND is examples/app.db, REFUSED a file that isn't sound, and LONG a sound one whose listing is
-# longer than a pipe holds. Each case wants the status and the line of docs/COMMANDS.md, and the first that gets
-# another one ends the script with status 1.
+# longer than a pipe holds. Each case must have the status and the line of docs/COMMANDS.md. The first
+# that doesn't ends the script with status 1.
 
 set -u
 program=$1 sound=$2 refused=$3 long=$4
@@ -20,7 +20,7 @@ begin() {
 	: >"$folder/out" >"$folder/err"
 }
 
-# Runs the program, and keeps its status and, where they aren't sent elsewhere, its output and error.
+# Runs the program, and keeps its status and, unless they are redirected, its output and error.
 run() {
 	begin "$@"
 	timeout 10 "$program" "$@" >"$out" 2>"$err"
@@ -33,28 +33,28 @@ fail() {
 	exit 1
 }
 
-# The last run told this fault and nothing else.
+# The last run reported this fault and nothing else.
 want_fault() {
 	[ "$status" -eq 1 ] || fail "wants status 1"
 	[ "$(cat "$folder/err")" = "error: $1" ] || fail "wants error: $1"
 	[ ! -s "$folder/out" ] || fail "wants no output"
 }
 
-# OUT is there and isn't accepted.
+# OUT exists and isn't accepted.
 want_refused_copy() {
 	[ -f "$copy" ] || fail "made no OUT"
 	"$program" check "$copy" >"$folder/checked" 2>&1 && fail "OUT is accepted"
 	rm "$copy"
 }
 
-# OUT is there and lists what its source lists.
+# OUT exists and lists what its source lists.
 want_whole_copy() {
 	"$program" list "$copy" >"$folder/copied" && "$program" list "$sound" | cmp -s - "$folder/copied" ||
 		fail "OUT isn't the copy"
 	rm "$copy"
 }
 
-# Standard output that can't be written is told, whatever the command.
+# Standard output that can't be written is reported, whatever the command.
 full_output() {
 	out=/dev/full
 	for command in info pages check buckets stats list; do
@@ -77,7 +77,7 @@ full_output() {
 	out=$folder/out
 }
 
-# Standard output that is closed is told too; OUT isn't written in its place.
+# Closed standard output is reported too; OUT isn't written in its place.
 closed_output() {
 	for command in list check "compact -o $copy"; do
 		begin $command
@@ -88,14 +88,14 @@ closed_output() {
 	want_whole_copy
 }
 
-# The last run told nothing, and ended with status 1.
+# The last run reported nothing, and ended with status 1.
 want_silence() {
 	[ "$status" -eq 1 ] || fail "wants status 1"
 	[ ! -s "$folder/err" ] || fail "wants no error"
 	[ ! -s "$folder/out" ] || fail "wants no output"
 }
 
-# A reader that leaves early gets its line, and the program ends and tells nothing.
+# A reader that leaves early gets its line, and the program ends and reports nothing.
 leaving_reader() {
 	begin list "$long"
 	{
@@ -121,8 +121,8 @@ run_unread() {
 	rm "$folder/pipe"
 }
 
-# A reader that has left before anything is written isn't told either, whatever the command; OUT is
-# whole then. A fault that has nothing to do with it is told.
+# A reader that has left before anything is written isn't reported either, whatever the command; OUT
+# is whole then. A fault that has nothing to do with it is reported.
 left_reader() {
 	for command in info pages check buckets stats list; do
 		run_unread $command "$sound"
@@ -177,8 +177,8 @@ failing_error() {
 	same_without_error nonsense
 }
 
-# OUT on a device with too little room: a limit on the length of files stands for it, with the
-# signal ignored by which the system would end the program.
+# OUT on a device with too little room. A limit on the length of files stands for it; the signal by
+# which the system would end the program is ignored.
 full_target() {
 	for blocks in 0 1 8 16; do
 		begin compact with "$blocks" blocks
@@ -195,7 +195,7 @@ full_target() {
 	done
 }
 
-# OUT that can't be made, or is there.
+# OUT that can't be created, or exists.
 unmade_target() {
 	for target in "$folder/missing/copy.db" "$sound/copy.db" /proc/copy.db; do
 		run compact -o "$target" "$sound"
@@ -211,7 +211,7 @@ unmade_target() {
 	[ ! -e "$folder/missing" ] || fail "made what a link leads to"
 }
 
-# OUT has the permission bits of FILE, less those that the umask takes away, be FILE sound or not.
+# OUT has the permission bits of FILE, less those that the umask removes, whether FILE is sound or not.
 copied_permissions() {
 	for file in "$sound" "$refused"; do
 		for bits in "077 600 600" "022 600 600" "022 640 640" "022 400 400" "022 644 644" \
@@ -230,7 +230,7 @@ copied_permissions() {
 	done
 }
 
-# FILE that can't be read; OUT isn't made then.
+# FILE that can't be read; OUT isn't created then.
 unread_file() {
 	for file in "$folder/missing" "$folder" "$sound/file" ""; do
 		for command in info pages check buckets stats list "compact -o $copy"; do

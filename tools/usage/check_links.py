@@ -8,7 +8,7 @@ In each document (.md, and the manual page) these must hold:
 - a relative link leads to a file, and its anchor to a heading of that file;
 - a file that is named with its folder (docs/.., crates/.., tools/.., examples/.., completions/..)
   exists, and so does a module that is named as specs/.., proofs/.. or src/.. of some crate;
-- a section that is quoted behind a document's name, as in docs/SOUND.md, "Ways", is a heading there.
+- a section that is quoted after a document's name, as in docs/SOUND.md, "Ways", is a heading there.
 
 In other files, sources, each document that is named exists and has the sections that are quoted.
 
@@ -94,7 +94,7 @@ def references(document):
 
 
 def check(name):
-    """Checks one file: all that it refers to is there, and a document refers to something."""
+    """Checks one file: everything that it refers to exists, and a document refers to something."""
     is_document = name.endswith((".md", ".1"))
     found = list(references(name) if is_document else references_of_source(text_of(name)))
     broken = [what for what, is_there in found if not is_there]

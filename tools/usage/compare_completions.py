@@ -1,12 +1,12 @@
 #!/usr/bin/env python3
-"""Compares what bash and zsh offer behind `luntsegi` with what its help says.
+"""Compares what bash and zsh complete after `luntsegi` with its help.
 
     compare_completions.py PROGRAM
 
-They must offer each command; each option of the program and of each command; for an option with a
-few values, each word of its help that the program takes for one; and file names where FILE and OUT
-stand, and nowhere else. A shell that isn't installed is told and left out. Prints what differs; the
-status is 1 then.
+They must offer each command; each option of the program and of each command; for an option with a few
+values, each word of its help that the program accepts as a value; and file names for FILE and OUT, and
+nowhere else. A shell that isn't installed is left out, with a message. Prints what differs; the status
+is 1 then.
 """
 
 import os
@@ -32,12 +32,12 @@ def names(options):
 
 
 def words_of(about):
-    """The words of a text, without the marks around them."""
+    """The words of a text, without punctuation."""
     return sorted({word.strip("(),.:;[]") for word in about.split()})
 
 
 def takes(program, command, name, value):
-    """Whether the command takes a value of an option. That there is no such file is found later."""
+    """Whether the command accepts a value of an option. That the file doesn't exist is found later."""
     operands = ["nosuch.db"] + [PART] * (len(help_words.operands(program, command)) - 1)
     required = [word for name in help_words.required(program, command) for word in (name, "nosuch")]
     words = [program, command, name, value, *required, *operands]
@@ -45,7 +45,7 @@ def takes(program, command, name, value):
 
 
 def values(program, command, option):
-    """What is to be offered for the value of an option."""
+    """What must be offered for the value of an option."""
     name = option.names[0]
     if name in FILE_VALUES:
         return FILES
@@ -55,7 +55,7 @@ def values(program, command, option):
 
 
 def rows_of_command(program, command):
-    """Lines of a command, each with all that is to be offered for its last word."""
+    """Lines of a command, each with everything that must be offered for its last word."""
     options = help_words.options(program, command)
     operands = help_words.operands(program, command)
     yield [command, "-"], names(options)

@@ -1,5 +1,5 @@
 #!/usr/bin/env python3
-"""Compares the manual page of `luntsegi` with what its help says.
+"""Compares the manual page of `luntsegi` with its help.
 
     compare_manual.py PROGRAM MANUAL
 
@@ -21,7 +21,7 @@ def section(manual, name):
 
 
 def flag(word):
-    """An option as it is typed, from its name behind Fl."""
+    """An option as it is typed, from its name after Fl."""
     return "-" + word
 
 
@@ -33,7 +33,7 @@ def flags_of(line):
 
 
 def synopsis(manual):
-    """Of each command, in order, its options and its operands."""
+    """The options and operands of each command, in order."""
     found = []
     for line in section(manual, "SYNOPSIS"):
         if line.startswith(".Cm "):
@@ -46,7 +46,7 @@ def synopsis(manual):
 
 
 def synopsis_of_help(program):
-    """The same of help, where each command has --help too, which no synopsis repeats."""
+    """The same of help. There each command also has --help, which no synopsis repeats."""
     return [
         (command, options_of_help(program, command)[:-1], help_words.operands(program, command))
         for command in help_words.commands(program)

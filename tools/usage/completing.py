@@ -1,4 +1,4 @@
-"""What a shell offers for the last of the words of a line, by the files of completions."""
+"""What a shell completes for the last word of a line, with the files in completions."""
 
 import os
 import pty
@@ -14,7 +14,7 @@ _luntsegi
 printf '%s\\n' "${COMPREPLY[@]}"
 """
 
-# Notes what compadd would offer, but for the calls by which other functions ask it for matches.
+# Notes what compadd would offer, except in calls by which other functions ask it for matches.
 ZSH = """
 PROMPT=
 TMOUT=20
@@ -45,7 +45,7 @@ def offered_by_bash(folder, words):
 
 
 def offered_by_zsh(folder, words):
-    """Types the words and a tab to a zsh that has a terminal, and takes what it noted."""
+    """Types the words and a tab to a zsh on a terminal, and reads what it noted."""
     with tempfile.TemporaryDirectory() as own:
         offered = os.path.join(own, "offered")
         with open(os.path.join(own, ".zshrc"), "w", encoding="utf-8") as file:
@@ -65,7 +65,7 @@ def offered_by_zsh(folder, words):
 
 
 def read_to_end(terminal):
-    """Reads a terminal until nobody has its other end."""
+    """Reads a terminal until its other end is closed."""
     try:
         while os.read(terminal, 4096):
             pass

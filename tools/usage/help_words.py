@@ -1,4 +1,4 @@
-"""What a program's own help says: its commands, and of each its operands and options."""
+"""What a program's help says: its commands, and the operands and options of each."""
 
 import re
 import subprocess
@@ -9,7 +9,7 @@ Option = namedtuple("Option", "names value about")
 
 
 def help_text(program, *command):
-    """The text of --help behind a command, or without one."""
+    """The text of --help, of a command or of the program."""
     words = [program, *command, "--help"]
     return subprocess.run(words, capture_output=True, text=True, check=True).stdout
 
@@ -32,7 +32,7 @@ def operands(program, *command):
 
 
 def option(line):
-    """The option that a line of help tells."""
+    """The option of a line of help."""
     words, _, about = line.partition("  ")
     value = re.search(r"<(\w+)>", words)
     names = tuple(re.findall(r"(?<!\S)--?[\w-]+", words))

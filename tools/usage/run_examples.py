@@ -36,7 +36,7 @@ def commands(text):
 
 
 def printed(command, folder):
-    """What a command prints, where programs are looked for in a folder first."""
+    """What a command prints. Programs are looked for in a folder first."""
     environment = dict(os.environ, PATH=folder + os.pathsep + os.environ["PATH"], LC_ALL="C")
     run = subprocess.run(
         ["sh", "-c", command],
@@ -71,7 +71,7 @@ def run_document(name, folder):
 
 
 def can_run(command):
-    """Whether the command's program is there, which is in doubt for bbolt alone."""
+    """Whether the command's program exists. Only bbolt may be missing."""
     return not command.startswith("bbolt ") or os.path.exists(BBOLT)
 
 

@@ -1,11 +1,11 @@
 #!/bin/sh
-# Has the prover refuse every wrong body: the few of each crate's must-fail, which the gate tries too,
-# and those of the folders beside this file, one folder for each crate. It works on a copy in
-# out/wrong_bodies, crate after crate, and the edits of a crate share its first check.
-# Crates named as arguments are tried alone, so a run that was broken off can go on from there; the
-# libraries that it built are kept. What the prover said of each edit is in out/wrong_bodies/CRATE.log.
-# The last line counts the bodies that were refused and those that weren't. The status is 1 unless each
-# was refused.
+# Tests that the prover refuses every wrong body: the few in each crate's must-fail, which the gate tries
+# too, and those in the folders beside this file, one folder for each crate. It works on a copy in
+# out/wrong_bodies, one crate after another. The edits of a crate share its first check.
+# If crates are named as arguments, only these are tried, to continue a run that was interrupted; the
+# libraries that it built are kept. out/wrong_bodies/CRATE.log has what the prover said of each edit. The
+# last line counts the bodies that were refused and those that weren't. The status is 1 unless all were
+# refused.
 set -u
 cd "$(dirname "$0")/../.."
 here=tools/wrong_bodies

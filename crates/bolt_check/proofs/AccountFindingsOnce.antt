@@ -1,4 +1,4 @@
--- What is told of the accounts is one list.
+-- There is one list of findings of the accounts.
 use Rattle.std.proofs.Common.{◌≡◌, ◌≢◌, ◌⊎◌, ◌∙◌, ℕ, zero, suc, List, [], ◌∷◌, AllPairs, Contains, Option, Some, None, ap, ap₂, sym, refl, subst, inl, inr, arith}
 use Rattle.std.proofs.lemmas.Bool.{cases_order}
 use Rattle.bolt_format.specs.Freelists.{free_ids_of}

@@ -1,4 +1,4 @@
--- What is told of a listing, as what is told of the accounts.
+-- The findings of a listing are those of the accounts.
 use Rattle.std.proofs.Common.{◌≡◌, ◌≢◌, ◌∙◌, ◌==◌, ℕ, suc, ◌≤◌, inl, inr, ◌↔◌, List, [], ◌∷◌, Some, None, min, refl, sym, ap, subst, arith, Contains}
 use Rattle.std.proofs.lemmas.Bool.{cases_lt, cond-false, cond-true, eq-eqb, ne_eqb}
 use Rattle.bolt_format.specs.Freelists.{free_ids_at, free_ids_of, freelist_fault, freelist_fault_of}

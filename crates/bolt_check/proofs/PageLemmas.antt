@@ -1,4 +1,4 @@
--- What is told of one page.
+-- What is reported of one page.
 use Rattle.std.proofs.Common.{◌≡◌, ℕ, suc, ◌<◌, ◌≤◌, ◌⊎◌, inl, inr, true, [], ◌∷◌, refl, sym, subst, arith, Contains}
 use Rattle.std.proofs.lemmas.Bool.{cases_lt, lt-ltb, le-ltb, false≢true}
 use Rattle.std.proofs.lemmas.List.Elements.{All-cons, All-nil}

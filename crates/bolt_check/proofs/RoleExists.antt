@@ -1,4 +1,4 @@
--- In a sound file each page below the mark has a role: the tour tells whether a way leads to it.
+-- In a sound file each page below the mark has a role: the tour says whether a way leads to it.
 use Rattle.std.proofs.Common.{◌≡◌, ℕ, ◌+◌, ◌<◌, ◌≤◌, ◌⊎◌, inl, inr, Bool, true, false, List, [], ◌∷◌, Option, Some, None, Result, Ok, Err, refl, arith}
 use Rattle.std.proofs.lemmas.Bool.{cases_lt, cases_eq}
 use Rattle.bolt_format.specs.Pages.{page_overflow}

@@ -1,4 +1,4 @@
--- In a sound file a page has at most one role: it stands in one place, and the place gives the role.
+-- In a sound file a page has at most one role: it is in one place, which determines the role.
 use Rattle.std.proofs.Common.{◌≡◌, ◌∙◌, ℕ, ◌<◌, ◌==◌, inl, inr, Bool, true, false, List, Option, Some, Ok, cond, sym, ap, refl, arith}
 use Rattle.std.proofs.lemmas.Bool.{eq-eqb, ne_eqb}
 use Rattle.bolt_format.specs.declared.meta.Meta.{Meta}

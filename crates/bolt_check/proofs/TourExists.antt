@@ -1,4 +1,4 @@
--- Sound trees have a tour: each visit takes a page number away from those that are left.
+-- Sound trees have a tour: each visit removes a page number from those that are left.
 use Rattle.std.proofs.Common.{◌≡◌, ◌≢◌, ◌∙◌, ℕ, zero, suc, ◌<◌, ◌≤◌, inl, inr, List, [], ◌∷◌, ◌++◌, length, map, Option, Some, Ok, refl, sym, ap, subst, arith}
 use Rattle.std.proofs.lemmas.Bool.{cases_eq}
 use Rattle.bolt_format.specs.declared.meta.Meta.{Meta}

@@ -1,4 +1,4 @@
--- Pages that ways lead to: each is a leaf or a branch, as bolt_format's page and as the rules' node; where its elements lead.
+-- Pages that ways lead to: each is a leaf or a branch, as bolt_format's page and as the rules' node; what its elements lead to.
 use Rattle.std.proofs.Common.{◌≡◌, ◌==◌, ℕ, suc, ◌≤◌, List, [], ◌∷◌, ◌++◌, true, false, Option, Some, None, Result, Ok, slice_get, map, refl, sym, ap, ◌∙◌, arith, subst}
 use Rattle.std.specs.Option.{option_map}
 use Rattle.std.proofs.lemmas.Option.{slice_get-map}

@@ -1,4 +1,4 @@
--- A search for findings goes on from what a visited spot leads to: where the ways of `old` are `first` and, in
+-- A search for findings goes on from what a visited spot leads to: if the ways of `old` are `first` and, in
 -- the same order, those of `new`, what holds of `new` with more claimed holds of `old`.
 use Rattle.std.proofs.Common.{◌≡◌, ℕ, ◌⊎◌, inl, inr, List, Some, subst}
 use Rattle.bolt_check.specs.declared.finding.Finding.{Finding}

@@ -1,4 +1,4 @@
--- What is told where the freelist does not account for every page: docs/SOUND.md, "Accounts".
+-- What is reported if the freelist doesn't have exactly the free pages: docs/SOUND.md, "Accounts".
 use Rattle.std.specs.Prelude.{◌≡◌, ◌≢◌, ◌≤◌, ◌<◌, ◌⊎◌, ◌↔◌, ℕ, suc, List, [], ◌∷◌, AllPairs, Contains, Some}
 use Rattle.bolt_format.specs.Freelists.{free_ids_of, freelist_fault_of}
 use Rattle.bolt_format.specs.declared.meta.Meta.{Meta}
@@ -36,7 +36,7 @@ pub data IsAccountFinding (mark : ℕ) (in_use : ℕ → Type 0) (times : ℕ �
 abbrev pub IsBefore : Finding → Finding → Type 0
 IsBefore a b = (a.page < b.page) ⊎ ((a.page ≡ b.page) × (a.number < b.number))
 
--- What is told: of the freelist's own page one finding alone; otherwise all findings on the accounts, in order.
+-- What is reported: of the freelist's own page one finding alone; otherwise all findings on the accounts, in order.
 pub record AreAccountFindings (file : List ℕ) (meta : Meta) (used : ℕ → Type 0) (findings : List Finding) : Type 0 where
   pub written : meta.freelist ≢ NO_FREELIST
   pub of_page : (x : Finding) → IsFreelistFinding file meta used x → findings ≡ x ∷ []

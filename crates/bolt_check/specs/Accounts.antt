@@ -1,4 +1,5 @@
--- Does the freelist account for every page that is not in use? docs/SOUND.md, "Accounts". Throughout, `used` says of a page that it is a meta page or in the span of a page that a way leads to.
+-- Does the freelist have exactly the free pages? docs/SOUND.md, "Accounts". Throughout, `used` says of a page that it is a meta page or in
+-- the span of a page that a way leads to.
 use Rattle.std.specs.Prelude.{◌≡◌, ◌≢◌, ◌≤◌, ◌<◌, ◌==◌, ◌⊎◌, ◌+◌, ℕ, List, Some, None, count_by}
 use Rattle.bolt_format.specs.Freelists.{free_ids_of, freelist_fault_of}
 use Rattle.bolt_format.specs.Pages.{page_overflow}
@@ -16,7 +17,7 @@ pub record IsInFreelist (file : List ℕ) (meta : Meta) (n : ℕ) : Type 0 where
 abbrev pub IsInUse : List ℕ → Meta → (ℕ → Type 0) → ℕ → Type 0
 IsInUse file meta used n = used n ⊎ IsInFreelist file meta n
 
--- page n is free, where these pages are in use
+-- page n is free, if these pages are in use
 pub record IsFree (mark : ℕ) (in_use : ℕ → Type 0) (n : ℕ) : Type 0 where
   pub above_metas : 2 ≤ n
   pub below : n < mark

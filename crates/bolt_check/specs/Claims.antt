@@ -1,10 +1,10 @@
--- What the pages claimed so far show.
+-- What the claimed pages show.
 use Rattle.std.specs.Prelude.{ℕ, Bool, List}
 use Rattle.bolt_format.specs.declared.meta.Meta.{Meta}
 use Rattle.bolt_check.specs.Private.Tables.{is_used, unclaimed, use_at}
 use Rattle.bolt_check.specs.declared.claims.Claims.{Claims}
 
--- the file whose pages they are, and the meta under which it is read
+-- the file whose pages they are, and the meta that it is read under
 unfoldable pub claims_file : Claims → List ℕ
 claims_file claims = claims.file.now
 

@@ -1,4 +1,4 @@
--- What the tests of the structure tell, and which finding is the first: docs/SOUND.md, "Structure".
+-- What the tests of the structure find, and which finding is the first: docs/SOUND.md, "Structure".
 use Rattle.std.specs.Prelude.{◌≡◌, ℕ, ◌<◌, ◌⊎◌, not, ◌&&◌, List, length, map, Option, Some, None, Result, Ok, Err, if◌then◌else◌, nat_lt, ◌==◌}
 use Rattle.bolt_check.specs.Keys.{Key, keys_order_fault}
 use Rattle.bolt_check.specs.Nodes.{Entry, IsInSpan, Node, Nodes}
@@ -31,7 +31,7 @@ node_finding node s =
     if not node.is_leaf && (length node.entries == 0) then Some (finding EMPTY_BRANCH s.number)
     else finding_of (keys_order_fault None s.lower s.upper (keys_of node.entries)) s.number
 
--- the keys of an inline bucket are told of the page that holds it
+-- a finding on the keys of an inline bucket has the number of the page that contains the bucket
 abbrev pub inline_finding : ℕ → List Key → Option Finding
 inline_finding host keys = finding_of (keys_order_fault None None None keys) host
 
@@ -45,7 +45,7 @@ pub record IsLowestClaimed (before : ℕ → Type 0) (node : Node) (number n : �
   pub was : before n
   pub lowest : (k : ℕ) → IsInSpan node number k → k < n → before k → ⊥
 
--- at this page, where these pages were claimed before, the tests tell this finding
+-- at this page, if these pages were claimed before, the tests have this finding
 pub data PageTests (nodes : Nodes) (before : ℕ → Type 0) (s : PageSpot) (x : Finding) : Type 0 where
   early : early_finding nodes s ≡ Some x → PageTests nodes before s x
   twice : (node : Node) → early_finding nodes s ≡ None → nodes s.number ≡ Ok node
@@ -53,7 +53,7 @@ pub data PageTests (nodes : Nodes) (before : ℕ → Type 0) (s : PageSpot) (x :
   late : (node : Node) → early_finding nodes s ≡ None → nodes s.number ≡ Ok node
       → ((n : ℕ) → IsInSpan node s.number n → before n → ⊥) → node_finding node s ≡ Some x → PageTests nodes before s x
 
--- at this page the tests tell nothing
+-- at this page the tests find nothing
 pub record PagePasses (nodes : Nodes) (before : ℕ → Type 0) (s : PageSpot) : Type 0 where
   pub node : Node
   pub early : early_finding nodes s ≡ None
@@ -77,7 +77,7 @@ IsClaimedBefore nodes reach start way n = start n ⊎ ((v : List ℕ) × (Before
 abbrev pub IsCovered : Nodes → Reach → (ℕ → Type 0) → ℕ → Type 0
 IsCovered nodes reach start n = start n ⊎ ((way : List ℕ) × SpanHas nodes (reach way) n)
 
--- the tests tell nothing at any way
+-- the tests find nothing at any way
 pub record IsClean (nodes : Nodes) (reach : Reach) (start : ℕ → Type 0) : Type 0 where
   pub passes : (way : List ℕ) (s : Spot) → reach way ≡ Some s → Passes nodes (IsClaimedBefore nodes reach start way) s
 

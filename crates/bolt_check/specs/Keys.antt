@@ -31,7 +31,7 @@ abbrev pub is_below : Option Key → Key → Bool
 is_below None key = true
 is_below (Some bound) key = key_lt key bound
 
--- the tests of one key: above the one before it, not below the lower bound, below the upper
+-- the tests of one key: above the preceding one, not below the lower bound, below the upper
 abbrev pub key_order_fault : (before lower upper : Option Key) → Key → Option ℕ
 key_order_fault before lower upper key =
     if not (is_above before key) then Some ORDER

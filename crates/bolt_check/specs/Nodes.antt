@@ -7,7 +7,7 @@ use Rattle.bolt_format.specs.declared.kind.Kind.{Kind}
 use Rattle.bolt_format.specs.declared.kind.Kind.TheVariants as kind
 use Rattle.bolt_format.specs.declared.fault.TheConstants.PageFault.{PAGE_KIND}
 
--- An entry leads to a page, or where that is 0 and it is a bucket, to an inline bucket with these keys.
+-- An entry leads to a page. If the page is 0 and the entry is a bucket, it leads to an inline bucket with these keys.
 pub record Entry : Type 0 where
   pub key : List ℕ
   pub child : ℕ

@@ -4,7 +4,7 @@ use Rattle.bolt_format.specs.declared.meta.Meta.{Meta}
 use Rattle.bolt_check.specs.Nodes.{node_at}
 use Rattle.bolt_check.specs.Ways.{At_page, PageSpot, reached}
 
--- A way leads to this page, so deep in its bucket.
+-- A way leads to this page, at this depth in its bucket.
 pub record IsOnWay (file : List ℕ) (meta : Meta) (number depth : ℕ) : Type 0 where
   pub way : List ℕ
   pub spot : PageSpot

@@ -1,4 +1,4 @@
--- Sound files, and what is told of the others: docs/SOUND.md.
+-- Sound files, and what is reported of the others: docs/SOUND.md.
 use Rattle.std.specs.Prelude.{◌≢◌, ℕ, List, [], Bool, IsTrue}
 use Rattle.bolt_format.specs.Metas.{HasMetaFault, HasSlotFault, IsChosen, IsInSlot}
 use Rattle.bolt_format.specs.declared.meta.Meta.{Meta}
@@ -33,14 +33,14 @@ HasRightAccounts file meta = HasAccounts file meta (IsUsed file meta)
 abbrev pub IsFirstFinding : List ℕ → Meta → Finding → Type 0
 IsFirstFinding file meta x = IsFirst (node_at file meta) (reached (node_at file meta) meta.root) IsMetaPage x
 
--- what a checked file is known to be, where its accounts were tested too or not
+-- what is known of a checked file, whether its accounts were tested too or not
 pub record IsSound (file : List ℕ) (meta : Meta) (accounts : Bool) : Type 0 where
   pub slot : Slot
   pub valid : IsInSlot file slot meta
   pub trees : HasSoundTrees file meta
   pub right : IsTrue accounts → HasRightAccounts file meta
 
--- why the file, for the meta in force, is not sound
+-- why the file isn't sound for the active meta
 abbrev pub IsRefused : List ℕ → CheckFault → Type 0
 IsRefused file (Open fault) = HasMetaFault file 0 fault × ((slot : Slot) (meta : Meta) → IsInSlot file slot meta → ⊥)
 IsRefused file (Structure x) = (slot : Slot) × (meta : Meta) × IsChosen file slot meta × IsFirstFinding file meta x
@@ -49,7 +49,7 @@ IsRefused file (Accounts told) =
     × AreAccountFindings file meta (IsUsed file meta) told.items × (told.items ≢ [])
 IsRefused file Memory = Unit {0}
 
--- why the trees of the file, for the meta of this slot, are not sound
+-- why the trees of the file aren't sound for the meta of this slot
 abbrev pub IsSlotRefused : List ℕ → Slot → CheckFault → Type 0
 IsSlotRefused file slot (Open fault) = HasSlotFault file slot fault × ((meta : Meta) → IsInSlot file slot meta → ⊥)
 IsSlotRefused file slot (Structure x) = (meta : Meta) × IsInSlot file slot meta × IsFirstFinding file meta x

@@ -3,23 +3,23 @@ use Rattle.std.specs.Prelude.{◌≡◌, ℕ, suc, ◌<◌, ◌⊎◌, ◌==◌,
 use Rattle.bolt_check.specs.Keys.{Key}
 use Rattle.bolt_check.specs.Nodes.{Entry, IsInSpan, Node, Nodes}
 
--- A page that a way leads to: its number, how many pages from its bucket's root page it is, and the bounds that its keys are held to.
+-- A page that a way leads to: its number, its depth, and the bounds of its keys. The root page of a bucket has depth 1.
 pub record PageSpot : Type 0 where
   pub number : ℕ
   pub depth : ℕ
   pub lower : Option Key
   pub upper : Option Key
 
--- where a way has come to: a page, or an inline bucket with the page that holds it and its keys
+-- what a way leads to: a page, or an inline bucket with its keys and the page that contains it
 pub data Spot : Type 0 where
   At_page : PageSpot → Spot
   At_inline : ℕ → List Key → Spot
 
--- a bucket's root page is the first, and has no bounds
+-- a bucket's root page has depth 1 and no bounds
 abbrev pub start_of : ℕ → PageSpot
 start_of number = record { number = number; depth = 1; lower = None; upper = None }
 
--- the upper bound of a child: the key of the next entry, or the page's own bound behind the last
+-- the upper bound of a child: the key of the next entry or, after the last, the page's own bound
 abbrev pub upper_from : Option Entry → Option Key → Option Key
 upper_from (Some next) upper = Some next.key
 upper_from None upper = upper
@@ -70,7 +70,7 @@ Reach = List ℕ → Option Spot
 abbrev pub reached : Nodes → ℕ → Reach
 reached nodes root way = follow nodes (Some (At_page (start_of root))) way
 
--- ways are ordered as lists of numbers, a list before those that it begins
+-- ways are ordered as lists of numbers; a list comes before those that it is a prefix of
 abbrev pub Before : List ℕ → List ℕ → Type 0
 Before v [] = ⊥
 Before [] (j ∷ w) = Unit {0}

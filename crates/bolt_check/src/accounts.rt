@@ -1,4 +1,4 @@
-//! Does the freelist account for every page that is not in use? (docs/SOUND.md, "Accounts").
+//! Does the freelist have exactly the free pages? (docs/SOUND.md, "Accounts").
 ghost use Rattle.std.specs.Prelude.{◌≡◌, ◌≢◌, ◌≤◌, ◌<◌, ◌+◌, ◌∷◌, ℕ, [], IfOk, IfSome, MatchOption, None, length};
 ghost use Rattle.bolt_format.specs.Freelists.{freelist_fault_of};
 ghost use Rattle.bolt_format.specs.declared.meta.TheConstants.{NO_FREELIST};
@@ -15,8 +15,8 @@ use crate::telling::tell_listing;
 use bolt_format::{FreeIds, Meta, free_ids, known};
 use std::alloc::{AllocError, Global};
 
-/// Tests the accounts of a file whose pages in use, but for the freelist's, the table has. The
-/// answer is what is told: nothing where the accounts are right.
+/// Tests the accounts of a file. The table has the pages that ways lead to. Returns the findings,
+/// of which there are none if the accounts are right.
 pub(crate) fn test_accounts(
     alloc: Global,
     file: &[u8],
@@ -42,7 +42,7 @@ pub(crate) fn test_accounts(
     }
 }
 
-/// One finding.
+/// A list of one finding.
 fn alone(alloc: Global, finding: Finding) -> Result<Vec<Finding>, AllocError>
     ensures { IfOk result (λ told. told.items ≡ finding ∷ []) }
 {
@@ -51,7 +51,8 @@ fn alone(alloc: Global, finding: Finding) -> Result<Vec<Finding>, AllocError>
     Ok(findings)
 }
 
-/// Claims the freelist's span, unless a page of it is claimed: the answer is the lowest such page.
+/// Claims the freelist's span, unless a page of it is claimed. Then it returns the lowest such
+/// page.
 pub(crate) fn claim_freelist(file: &[u8], meta: &Meta, table: &mut [PageUse]) -> Option<u64>
     requires written { meta.now.freelist ≢ NO_FREELIST }
     requires good { freelist_fault_of file.now meta.now ≡ None }

@@ -4,8 +4,8 @@ ghost use Rattle.bolt_check.specs.Sound.{IsSound};
 
 use bolt_format::Meta;
 
-/// A file whose trees are sound for a valid meta (docs/SOUND.md). None is made but by a test of
-/// the file, so its pages may be read without testing them again.
+/// A file whose trees are sound for a valid meta (docs/SOUND.md). Only a test of the file makes
+/// one, so its pages may be read without a second test.
 #[derive(Clone, Copy)]
 pub struct Checked<'a> {
     pub(crate) bytes: &'a [u8],
@@ -25,7 +25,7 @@ impl<'a> Checked<'a> {
         self.bytes
     }
 
-    /// The meta under which the file was tested.
+    /// The meta that the file was tested under.
     #[tactic(auto, unfolding(crate::specs::CheckedFiles::meta_of))]
     pub fn meta(&self) -> Meta
         ensures { result ≡ meta_of self.now }
@@ -33,7 +33,7 @@ impl<'a> Checked<'a> {
         self.meta
     }
 
-    /// Whether the accounts were tested too.
+    /// Whether the accounts were tested too, and are right.
     #[tactic(auto, unfolding(crate::specs::CheckedFiles::has_accounts))]
     pub fn accounts(&self) -> bool
         ensures { result ≡ has_accounts self.now }

@@ -1,4 +1,4 @@
-//! The pages of a file that are claimed so far, and the tests of one page more.
+//! The claimed pages of a file, and the tests of one more page.
 ghost use Rattle.std.specs.Prelude.{◌≡◌, ◌↔◌, ◌⊎◌, ◌<◌, ◌≤◌, ℕ, true, IfErr, IfOk, Ok, OnErr, OnOk, Some};
 ghost use Rattle.std.proofs.Props.{props};
 ghost use Rattle.bolt_format.specs.Pages.{page_at};
@@ -20,9 +20,9 @@ use crate::visit::visit;
 use bolt_format::Meta;
 use std::alloc::Global;
 
-/// The pages of a file that are claimed so far: the two meta pages, and the spans of the pages that
-/// were visited and passed their tests (docs/SOUND.md, "Structure"). It takes a byte for each whole
-/// page that lies in the file and below the high-water mark.
+/// The claimed pages of a file: the two meta pages, and the spans of the visited pages that passed
+/// their tests (docs/SOUND.md, "Structure"). The table needs a byte for each whole page that lies
+/// in the file and below the high-water mark.
 #[derive(Drop)]
 pub struct Claims<'a> {
     file: &'a [u8],
@@ -34,11 +34,11 @@ pub struct Claims<'a> {
 impl<'a> Claims<'a> {
     ghost use Rattle.bolt_check.specs.Claims.{claims_file, claims_meta, is_claimed, pages_left};
 
-    /// The meta pages alone are claimed.
+    /// A table in which only the meta pages are claimed.
     ///
     /// # Errors
     ///
-    /// `NoMemory` if there is no room for the table.
+    /// `NoMemory` if there is no memory for the table.
     #[tactic(auto, unfolding(crate::specs::Claims::claims_file, crate::specs::Claims::claims_meta, crate::specs::Claims::is_claimed))]
     pub fn new(alloc: Global, file: &'a [u8], meta: Meta) -> Result<Claims<'a>, NoMemory>
         requires { 0 < meta.page_size }

@@ -10,13 +10,13 @@ use thiserror::Error;
 /// Why a file is refused.
 #[derive(Debug, Drop, Error)]
 pub enum CheckFault {
-    /// No meta is valid: the fault of the one at byte 0. Of a named slot: its own fault.
+    /// There is no valid meta. This is the fault of byte 0 or, for a named slot, the slot's own.
     #[error("no valid meta")]
     Open(MetaFault),
     /// The trees aren't sound: the first finding.
     #[error("structure")]
     Structure(Finding),
-    /// The trees are sound, and the accounts are wrong: what is told of them. `check` alone has it.
+    /// The trees are sound, but the accounts are wrong: all findings. Only `check` returns it.
     #[error("accounts")]
     Accounts(Vec<Finding>),
     /// Memory ran out.

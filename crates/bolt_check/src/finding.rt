@@ -1,4 +1,4 @@
-//! What the checker tells.
+//! What the checker reports.
 ghost use Rattle.std.specs.Prelude.{◌≡◌};
 
 /// What is wrong with a page, or with a run of pages (docs/SOUND.md).
@@ -8,20 +8,20 @@ pub struct Finding {
     pub number: u8,
     /// The number of the page, or of the first page of the run.
     pub page: u64,
-    /// The number of the last page of the run, which is `page` but for `UNREACHABLE`.
+    /// The number of the last page of the run. It differs from `page` only for `UNREACHABLE`.
     pub last: u64,
 }
 
 impl Finding {
-    /// The page is reached in two ways, or is a meta page.
+    /// Two ways lead to the page, or it is a meta page.
     pub const TWICE: u8 = 18;
-    /// A key isn't above the one before it on its page.
+    /// A key isn't above the preceding key of its page.
     pub const ORDER: u8 = 19;
     /// A key is below the key that leads to its page.
     pub const BELOW_PARENT: u8 = 20;
-    /// A key isn't below the key behind the one that leads to its page.
+    /// A key isn't below the key after the one that leads to its page.
     pub const ABOVE_NEXT: u8 = 21;
-    /// A branch has no element.
+    /// A branch has no elements.
     pub const EMPTY_BRANCH: u8 = 22;
     /// The page is the 65th on the way from its bucket's root page.
     pub const TOO_DEEP: u8 = 23;
@@ -31,10 +31,10 @@ impl Finding {
     pub const REACHED_FREED: u8 = 25;
     /// The pages are neither in use nor listed as free.
     pub const UNREACHABLE: u8 = 26;
-    /// The page is listed as free, but is a meta page or not below the high-water mark.
+    /// The page is listed as free, but is a meta page, or at or above the high-water mark.
     pub const FREE_RANGE: u8 = 27;
 
-    /// What is wrong with one page.
+    /// A finding of one page.
     pub fn of_page(number: u8, page: u64) -> Finding
         ensures { result ≡ record { number = number; page = page; last = page } }
     {

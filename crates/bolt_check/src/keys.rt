@@ -18,7 +18,7 @@ fn is_below(key: &[u8], other: &[u8]) -> bool
     key.cmp(other).is_lt()
 }
 
-/// Tests one key: it is above the one before it, not below the lower bound, and below the upper.
+/// Tests one key: it is above the preceding one, not below the lower bound, and below the upper.
 fn test_key(
     before: Option<&[u8]>,
     lower: Option<&[u8]>,
@@ -45,7 +45,7 @@ fn test_key(
     Ok(())
 }
 
-/// Tests the keys of a page, one after another, with their bounds.
+/// Tests the keys of a page, one after another, against each other and their bounds.
 #[tactic(auto, using(bolt_format::proofs::ListLemmas::drop_next, std::proofs::lemmas::List::drop_all))]
 pub(crate) fn test_keys(
     node: &TreePage<'_>,

@@ -14,7 +14,7 @@ ghost use Rattle.bolt_check.specs.Ways.{At_page, Reach, reached, start_of};
 ghost use Rattle.bolt_check.specs.declared.finding.Finding.{Finding};
 ghost use Rattle.bolt_check.specs.declared.role.Role.{Role};
 
-/// No test of the trees fails exactly where they are sound.
+/// No test of the trees fails, exactly if they are sound.
 pub fn sound_trees_pass_the_tests()
     ensures { (file : List ℕ) (meta : Meta) → HasSoundTrees file meta ↔ PassesTests file meta }
 {}
@@ -29,7 +29,7 @@ pub fn first_finding_is_one()
     ensures { (file : List ℕ) (meta : Meta) (x y : Finding) → IsFirstFinding file meta x → IsFirstFinding file meta y → x ≡ y }
 {}
 
-/// What is told of the accounts is one list.
+/// There is one list of findings of the accounts.
 pub fn account_findings_are_one()
     ensures { (file : List ℕ) (meta : Meta) (a b : List Finding) → AreAccountFindings file meta (IsUsed file meta) a → AreAccountFindings file meta (IsUsed file meta) b → a ≡ b }
 {}
@@ -39,19 +39,19 @@ pub fn role_is_one()
     ensures { (file : List ℕ) (meta : Meta) (n : ℕ) (a b : Role) → HasSoundTrees file meta → HasRightAccounts file meta → HasRole file meta n a → HasRole file meta n b → a ≡ b }
 {}
 
-/// In a sound file each page below the mark has a role.
+/// In a sound file each page below the high-water mark has a role.
 pub fn role_exists()
     ensures { (file : List ℕ) (meta : Meta) (n : ℕ) → HasSoundTrees file meta → HasRightAccounts file meta → n < meta.high_water → (role : Role) × HasRole file meta n role }
 {}
 
-/// In a sound file all pages together have roles.
+/// In a sound file there is an assignment of roles to all pages.
 pub fn roles_exist()
     ensures { (file : List ℕ) (meta : Meta) → HasSoundTrees file meta → HasRightAccounts file meta → (roles : ℕ → Role) × AreRoles file meta roles }
 {}
 
-/// A way leads to the root page of the root bucket. From a page that a way leads to, a way leads to
-/// each child of a branch, one page deeper, and to the root page of each bucket on a leaf, unless
-/// that is inline.
+/// Ways exist. One leads to the root page of the root bucket. From a page that a way leads to, one
+/// leads to each child of a branch, one page deeper, and to the root page of each bucket on a leaf,
+/// unless the bucket is inline.
 pub fn ways_go_on()
     ensures root { (file : List ℕ) (meta : Meta) → IsOnWay file meta meta.root 1 }
     ensures child { (file : List ℕ) (meta : Meta) (n depth i : ℕ) (view : PageView) (e : BranchElement) → IsOnWay file meta n depth

@@ -1,5 +1,5 @@
-//! Is a database file sound? Each page that is in use is reached once, keys stand in order, and
-//! the freelist accounts for every other page (docs/SOUND.md).
+//! Is a database file sound? Exactly one way leads to each page of a tree, keys rise, and the
+//! freelist has exactly the free pages (docs/SOUND.md).
 #![tactic(auto)]
 
 mod accounts;

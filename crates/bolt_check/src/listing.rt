@@ -1,4 +1,4 @@
-//! What the freelist lists, by page: the table of pages, and the ids past it.
+//! What the freelist lists: the table of pages, and the ids after it.
 ghost use Rattle.std.specs.Prelude.{◌≡◌, ◌==◌, ◌<◌, ◌+◌, ◌++◌, ◌∷◌, ℕ, [], IfOk, OnOk, filter, if◌then◌else◌, length, min, nat_le};
 ghost use Rattle.bolt_format.specs.ShownIds.{shown_ids};
 ghost use Rattle.bolt_check.specs.Accounts.{times_in};
@@ -9,8 +9,8 @@ use crate::table::PageUse;
 use bolt_format::FreeIds;
 use std::alloc::{AllocError, Global};
 
-/// What each page is for: for the first pages as the table says; behind it no page is used, and
-/// the ids there, sorted, say which are listed.
+/// What each page is for. The table says so of the first pages. No page after the table is used;
+/// the sorted ids say which of these are listed.
 #[derive(Clone, Copy)]
 pub(crate) struct Listing<'a> {
     pub table: &'a [PageUse],
@@ -19,7 +19,7 @@ pub(crate) struct Listing<'a> {
     pub mark: u64,
 }
 
-/// A page that is listed once more.
+/// The use of a page that is listed once more.
 fn listed(page_use: PageUse) -> PageUse
     ensures used { is_used result ≡ is_used page_use }
     ensures times { times_of result ≡ min 2 (times_of page_use + 1) }
@@ -32,7 +32,7 @@ fn listed(page_use: PageUse) -> PageUse
     }
 }
 
-/// Lists one id in the table, or where it is past the table, behind the others.
+/// Lists one id in the table or, if it is past the table, after the others.
 fn list_id(id: u64, table: &mut [PageUse], past: &mut Vec<u64>) -> Result<(), AllocError>
     ensures used { OnOk result ((n : ℕ) → is_used (use_at table.new n) ≡ is_used (use_at table.old n)) }
     ensures times { OnOk result ((n : ℕ) → n < length table.old → times_of (use_at table.new n) ≡ min 2 (times_of (use_at table.old n) + (if id == n then 1 else 0))) }
@@ -47,7 +47,7 @@ fn list_id(id: u64, table: &mut [PageUse], past: &mut Vec<u64>) -> Result<(), Al
     Ok(())
 }
 
-/// Lists the ids in the table, and answers those past it in the order in which they stand.
+/// Lists the ids in the table, and returns those past it in their order.
 pub(crate) fn list_ids(
     alloc: Global,
     ids: FreeIds<'_>,

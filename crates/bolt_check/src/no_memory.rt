@@ -1,4 +1,4 @@
-//! Want of memory.
+//! The error for memory that ran out.
 
 use std::alloc::AllocError;
 use thiserror::Error;

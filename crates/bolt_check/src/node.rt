@@ -8,8 +8,11 @@ ghost use Rattle.bolt_check.specs.ShownNodes.{shown_node};
 use crate::tree_page::TreePage;
 use bolt_format::{Kind, Meta, PageFault, page};
 
-/// Opens page `id` as a node. The fault is the page's first one, or that it is neither a branch
-/// nor a leaf.
+/// Opens page `id` as a node.
+///
+/// # Errors
+///
+/// The page's first fault, or `PAGE_KIND` if it is neither a branch nor a leaf.
 #[tactic(auto, unfolding(crate::specs::Nodes::node_at, crate::specs::ShownNodes::shown_node))]
 pub(crate) fn open<'a>(file: &'a [u8], meta: &Meta, id: u64) -> Result<TreePage<'a>, u8>
     ensures node { MatchResult result (λ node. node_at file.now meta.now id ≡ Ok (shown_node node)) (λ fault. node_at file.now meta.now id ≡ Err fault) }

@@ -13,6 +13,6 @@ pub enum Role {
     Freelist,
     /// A later page of the span of a branch, of a leaf or of the freelist.
     Inside,
-    /// None of the others.
+    /// Any other page: it isn't in use.
     Free,
 }

@@ -10,8 +10,8 @@ use crate::role::Role;
 use crate::table::PageUse;
 use bolt_format::Meta;
 
-/// What each page of a file is for, where its accounts were tested too (docs/SOUND.md, "Roles").
-/// It takes a byte for each whole page that lies in the file and below the high-water mark.
+/// What each page of a file is for (docs/SOUND.md, "Roles"). The accounts of the file are right.
+/// The table needs a byte for each whole page that lies in the file and below the high-water mark.
 #[derive(Drop)]
 pub struct Roles<'a> {
     pub(crate) checked: Checked<'a>,
@@ -30,7 +30,7 @@ impl<'a> Roles<'a> {
         self.checked
     }
 
-    /// What the page with this number is for. It has one role, and takes no memory.
+    /// The role of the page with this number, which is below the high-water mark. Needs no memory.
     #[tactic(auto, unfolding(crate::specs::RoledFiles::roles_checked, crate::specs::CheckedFiles::bytes_of, crate::specs::CheckedFiles::meta_of))]
     pub fn role(&self, id: u64) -> Role
         requires { id < (meta_of (roles_checked self.now)).high_water }
@@ -48,7 +48,7 @@ impl<'a> Roles<'a> {
     }
 }
 
-/// What the table says of a page; behind its end, nothing.
+/// The table's entry of a page; past its end, no use.
 fn page_use(table: &[PageUse], id: u64) -> PageUse
     ensures { result ≡ use_at table.now id }
 {

@@ -1,4 +1,4 @@
-//! The search of all ways from the root page, in their order, for the first finding.
+//! The search of all ways, in order, for the first finding.
 ghost use Rattle.std.specs.Prelude.{◌≡◌, ℕ, ◌<◌, ◌≤◌, ◌+◌, ◌*◌, ◌++◌, ◌∷◌, ◌↔◌, [], IfErr, IfOk, OnOk, Ok, length, vec_len};
 ghost use Rattle.bolt_check.specs.Findings.{IsClean, IsCovered, IsFirst, IsMetaPage};
 ghost use Rattle.bolt_check.specs.Nodes.{node_at};
@@ -23,7 +23,7 @@ use crate::visit::visit;
 use bolt_format::Meta;
 use std::alloc::{AllocError, Global};
 
-/// Puts what a page leads to on top of what is to be visited, the first uppermost.
+/// Pushes what a page leads to onto the pending stops, in reverse, so that the first is on top.
 #[tactic(auto, using(crate::proofs::Pendings::kids_none, crate::proofs::Pendings::kids_some, crate::proofs::Pendings::kids_end, crate::proofs::Pendings::kids_all, crate::proofs::Pendings::spots_push))]
 fn push_kids<'a>(
     node: &TreePage<'a>,
@@ -44,8 +44,8 @@ fn push_kids<'a>(
     Ok(())
 }
 
-/// A table in which the two meta pages are claimed, with a place for each whole page that lies in
-/// the file and below the high-water mark, and no other but the two.
+/// A table in which the two meta pages are claimed. It has an entry for each whole page that lies
+/// in the file and below the high-water mark, and for the two meta pages in any case.
 pub(crate) fn new_table(alloc: Global, file: &[u8], meta: &Meta) -> Result<Vec<PageUse>, AllocError>
     requires { 0 < meta.now.page_size }
     ensures metas { IfOk result (λ table. (n : ℕ) → IsClaimed table.items n ↔ IsMetaPage n) }
@@ -61,7 +61,7 @@ pub(crate) fn new_table(alloc: Global, file: &[u8], meta: &Meta) -> Result<Vec<P
     Ok(table)
 }
 
-/// The stop at the root page, alone.
+/// The pending stops at the start: the root page alone.
 fn new_pending<'a>(alloc: Global, root: u64) -> Result<Vec<Stop<'a>>, AllocError>
     ensures { IfOk result (λ pending. spots_of pending.items ≡ At_page (start_of root) ∷ []) }
 {
@@ -75,7 +75,7 @@ fn new_pending<'a>(alloc: Global, root: u64) -> Result<Vec<Stop<'a>>, AllocError
     Ok(pending)
 }
 
-/// Visits what was taken from the top of the pending stops, and puts what it leads to in its place.
+/// Visits the stop that was popped from the pending stops, and pushes what it leads to.
 fn step<'a>(
     file: &'a [u8],
     meta: &Meta,
@@ -114,8 +114,8 @@ fn step<'a>(
     }
 }
 
-/// Searches all ways from the root page, in their order, for a finding. The table is left with
-/// the pages of all spans claimed.
+/// Searches all ways from the root page, in order, for a finding. Returns a table in which the
+/// pages of all spans are claimed.
 pub(crate) fn search(alloc: Global, file: &[u8], meta: &Meta) -> Result<Vec<PageUse>, CheckFault>
     requires { 0 < meta.now.page_size }
     ensures clean { OnOk result (IsClean (node_at file.now meta.now) (reached (node_at file.now meta.now) meta.now.root) IsMetaPage) }

@@ -1,4 +1,4 @@
-//! Is a whole file sound, and are the trees of one of its metas?
+//! Is a whole file sound, and are the trees of one meta?
 ghost use Rattle.std.specs.Prelude.{◌≡◌, false, true, IfErr, IfOk};
 ghost use Rattle.bolt_format.specs.Metas.{IsChosen, IsInSlot};
 ghost use Rattle.bolt_check.specs.CheckedFiles.{bytes_of, has_accounts, meta_of};
@@ -11,9 +11,16 @@ use crate::search::search;
 use bolt_format::{Slot, choose, slot_meta};
 use std::alloc::Global;
 
-/// Tests a file under the meta in force: its trees, and then its accounts (docs/SOUND.md). It
-/// takes a byte for each whole page that lies in the file and below the high-water mark, room for
-/// the pages that are still to be visited, and room for the freelist's ids past the table.
+/// Tests a file under the active meta: its trees, and then its accounts (docs/SOUND.md).
+///
+/// It needs memory: a byte for each whole page that lies in the file and below the high-water mark,
+/// room for the pages that are still to be visited, and room for the ids past the table.
+///
+/// # Errors
+///
+/// `Open` with the fault of byte 0 if no meta is valid; `Structure` with the first finding of the
+/// trees; `Accounts` with all findings of the accounts, if the trees are sound; `Memory` if memory
+/// runs out.
 pub fn check<'a>(alloc: Global, file: &'a [u8]) -> Result<Checked<'a>, CheckFault>
     ensures bytes { IfOk result (λ checked. bytes_of checked ≡ file.now) }
     ensures meta { IfOk result (λ checked. (slot : _) × IsChosen file.now slot (meta_of checked)) }
@@ -37,13 +44,13 @@ pub fn check<'a>(alloc: Global, file: &'a [u8]) -> Result<Checked<'a>, CheckFaul
     })
 }
 
-/// Tests the trees of a file under the meta of a slot, be it in force or not (docs/SOUND.md, "One
-/// meta alone"). Its accounts aren't looked at. It takes memory as `check` does, but for ids.
+/// Tests the trees of a file under the meta of a slot, active or not (docs/SOUND.md, "One meta
+/// alone"). The accounts are ignored. It needs memory as `check` does, except for ids.
 ///
 /// # Errors
 ///
-/// `Open` where the slot has no valid meta, with the slot's fault; `Structure` with the first
-/// finding of the trees; `Memory` where memory runs out. `Accounts` never comes.
+/// `Open` with the slot's fault if it has no valid meta; `Structure` with the first finding of the
+/// trees; `Memory` if memory runs out. Never `Accounts`.
 pub fn check_slot<'a>(alloc: Global, file: &'a [u8], slot: Slot) -> Result<Checked<'a>, CheckFault>
     ensures bytes { IfOk result (λ checked. bytes_of checked ≡ file.now) }
     ensures meta { IfOk result (λ checked. IsInSlot file.now slot (meta_of checked)) }

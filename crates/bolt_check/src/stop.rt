@@ -1,4 +1,4 @@
-//! What is still to be visited.
+//! Stops: what is still to be visited.
 ghost use Rattle.std.specs.Prelude.{◌≡◌};
 ghost use Rattle.std.specs.Result.{result_err};
 ghost use Rattle.bolt_check.specs.Findings.{inline_finding};
@@ -8,8 +8,8 @@ use crate::finding::Finding;
 use crate::keys::test_inline_keys;
 use bolt_format::Inline;
 
-/// A page to be visited: its number, its place among the pages from its bucket's root page, which
-/// is the first, and the bounds of its keys.
+/// A page to be visited: its number, its depth (1 for the root page of its bucket), and the bounds
+/// of its keys.
 #[derive(Clone, Copy)]
 pub struct PageStop<'a> {
     pub number: u64,
@@ -18,7 +18,7 @@ pub struct PageStop<'a> {
     pub upper: Option<&'a [u8]>,
 }
 
-/// The page of an inline bucket to be visited, and the number of the page that holds the bucket.
+/// The page of an inline bucket to be visited, and the number of the page that contains the bucket.
 #[derive(Clone, Copy)]
 pub struct BucketStop<'a> {
     pub host: u64,
@@ -26,7 +26,8 @@ pub struct BucketStop<'a> {
 }
 
 impl<'a> BucketStop<'a> {
-    /// Tests the keys of the inline page. A finding is of the page that holds the bucket.
+    /// Tests the keys of the inline page. A finding has the number of the page that contains the
+    /// bucket.
     pub fn test(&self) -> Result<(), Finding>
         ensures { result_err result ≡ inline_finding self.now.host (inline_keys self.now.page) }
     {

@@ -1,31 +1,31 @@
 //! The table of pages: one byte for each whole page that lies in the file and below the high-water
-//! mark, and at least two.
+//! mark, and at least two bytes.
 ghost use Rattle.std.specs.Prelude.{◌≡◌, ℕ, true, ◌<◌, ◌≤◌, ◌+◌, length, IfSome, MatchOption};
 ghost use Rattle.bolt_check.specs.Private.Tables.{IsClaimed, IsUnclaimed, is_used, times_of, unclaimed, use_at};
 
-/// What a page is found to be for.
+/// What a page is used for, and whether it is listed as free.
 #[derive(Clone, Copy, Debug, PartialEq, Eq)]
 #[repr(u8)]
 pub(crate) enum PageUse {
-    /// Nothing was found yet.
+    /// Neither used nor listed so far.
     Unused,
-    /// It is a branch that a way leads to.
+    /// A branch that a way leads to.
     Branch,
-    /// It is a leaf that a way leads to.
+    /// A leaf that a way leads to.
     Leaf,
-    /// It is a meta page, a later page of a span that a way leads to, or in the freelist's span.
+    /// A meta page, a later page of a span that a way leads to, or a page of the freelist's span.
     Used,
-    /// It is listed as free, once.
+    /// Listed as free once.
     Free,
-    /// It is listed as free more than once.
+    /// Listed as free more than once.
     FreeTwice,
-    /// It is used, and listed as free once.
+    /// Used, and listed as free once.
     UsedFree,
-    /// It is used, and listed as free more than once.
+    /// Used, and listed as free more than once.
     UsedFreeTwice,
 }
 
-/// The lowest page of a span that is claimed.
+/// The lowest claimed page of a span.
 pub(crate) fn first_claimed(table: &[PageUse], from: usize, last: usize) -> Option<usize>
     requires order { from ≤ last }
     requires within { last < length table.now }
@@ -53,7 +53,7 @@ fn is_used(page_use: PageUse) -> bool
     }
 }
 
-/// Claims the pages of a span of which none is claimed, the first one for this use.
+/// Claims the pages of a span, none of which is claimed. The first one gets this use.
 #[tactic(auto, using(crate::proofs::TableLemmas::unclaimed_fewer, crate::proofs::TableLemmas::unclaimed_set))]
 pub(crate) fn claim(table: &mut [PageUse], from: usize, last: usize, first: PageUse)
     requires order { from ≤ last }

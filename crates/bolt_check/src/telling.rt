@@ -1,4 +1,4 @@
-//! Tells what is wrong with the pages of a listing, in the order of the pages.
+//! Reports what is wrong with the pages of a listing, in the order of the pages.
 ghost use Rattle.std.specs.Prelude.{◌≡◌, ◌≤◌, ◌<◌, ◌+◌, ◌++◌, ◌↔◌, [], IfOk, IsTrue, OnOk, length};
 ghost use Rattle.bolt_check.specs.Private.Listings.{AreAllFindings, AreFindingsBelow, HasFindingsTo, IsBeyondTo, IsPastTo, IsSettled, is_in_use, is_repeated, listed_times, meta_findings, page_findings, repeat_findings, run_findings, use_findings};
 
@@ -7,7 +7,7 @@ use crate::listing::Listing;
 use crate::table::PageUse;
 use std::alloc::{AllocError, Global};
 
-/// Tells the lost pages from one page to before another, if there are any.
+/// Reports the lost pages from `from` up to but not including `page`, if there are any.
 fn tell_run(findings: &mut Vec<Finding>, from: u64, page: u64) -> Result<(), AllocError>
     ensures { OnOk result (findings.new.items ≡ findings.old.items ++ run_findings from page) }
 {
@@ -21,7 +21,7 @@ fn tell_run(findings: &mut Vec<Finding>, from: u64, page: u64) -> Result<(), All
     Ok(())
 }
 
-/// Tells what is wrong with a meta page.
+/// Reports what is wrong with a meta page.
 fn tell_meta(findings: &mut Vec<Finding>, page: u64, page_use: PageUse) -> Result<(), AllocError>
     ensures { OnOk result (findings.new.items ≡ findings.old.items ++ meta_findings page page_use) }
 {
@@ -34,7 +34,7 @@ fn tell_meta(findings: &mut Vec<Finding>, page: u64, page_use: PageUse) -> Resul
     Ok(())
 }
 
-/// Tells what is wrong with a page in range.
+/// Reports what is wrong with a page in range.
 fn tell_use(findings: &mut Vec<Finding>, page: u64, page_use: PageUse) -> Result<(), AllocError>
     ensures { OnOk result (findings.new.items ≡ findings.old.items ++ use_findings page page_use) }
 {
@@ -50,7 +50,7 @@ fn tell_use(findings: &mut Vec<Finding>, page: u64, page_use: PageUse) -> Result
     Ok(())
 }
 
-/// Tells what is wrong with a page below the mark.
+/// Reports what is wrong with a page below the mark.
 fn tell_page(findings: &mut Vec<Finding>, page: u64, page_use: PageUse) -> Result<(), AllocError>
     ensures { OnOk result (findings.new.items ≡ findings.old.items ++ page_findings page page_use) }
 {
@@ -77,8 +77,8 @@ fn is_unused(page_use: PageUse) -> bool
     }
 }
 
-/// Tells one page of the table, and the run of lost pages from `from` on if it ends before it.
-/// The answer is the page from which on all up to this one are lost and still untold.
+/// Reports one page of the table. If the run of lost pages from `from` on ends before it, that is
+/// reported first. Returns the page from which on all up to this one are lost and not reported yet.
 fn tell_entry(
     listing: &Listing<'_>,
     n: usize,
@@ -102,8 +102,8 @@ fn tell_entry(
     Ok(page + 1)
 }
 
-/// Tells the pages of the table, and answers the page from which on all up to the table's end
-/// are lost and still untold.
+/// Reports the pages of the table. Returns the page from which on all up to the table's end are
+/// lost and not reported yet.
 fn tell_table(listing: &Listing<'_>, findings: &mut Vec<Finding>) -> Result<u64, AllocError>
     requires settled { IsSettled listing.now }
     requires none { findings.old.items ≡ [] }
@@ -125,7 +125,7 @@ fn is_repeated(ids: &[u64], i: usize) -> bool
     i + 1 < ids.len() && ids[i + 1] == ids[i]
 }
 
-/// Tells an id where the next is the same.
+/// Reports an id if the next one is the same.
 fn tell_repeated(findings: &mut Vec<Finding>, ids: &[u64], i: usize) -> Result<(), AllocError>
     requires { i < length ids.now }
     ensures { OnOk result (findings.new.items ≡ findings.old.items ++ repeat_findings ids.now i) }
@@ -136,7 +136,8 @@ fn tell_repeated(findings: &mut Vec<Finding>, ids: &[u64], i: usize) -> Result<(
     Ok(())
 }
 
-/// Tells the id at place `i` where it is below the mark and untold, and the lost pages before it.
+/// Reports the id at place `i` if it is below the mark and not reported yet, and the lost pages
+/// before it.
 fn tell_id(
     listing: &Listing<'_>,
     i: usize,
@@ -159,8 +160,8 @@ fn tell_id(
     Ok(id + 1)
 }
 
-/// Tells the pages behind the table and below the mark, where those from `start` on are untold,
-/// and answers from where on all up to the mark are lost and still untold.
+/// Reports the pages after the table and below the mark. Those from `start` on aren't reported yet.
+/// Returns the page from which on all up to the mark are lost and not reported yet.
 fn tell_past(
     listing: &Listing<'_>,
     start: u64,
@@ -179,8 +180,8 @@ fn tell_past(
     Ok(from)
 }
 
-/// Tells the id at place `i` where it isn't below the mark and is above `last`, the last one told.
-/// The answer is the last one told now.
+/// Reports the id at place `i` if it is at or above the mark, and above `last`, the last one
+/// reported. Returns the last one that is reported now.
 fn tell_high_id(
     listing: &Listing<'_>,
     i: usize,
@@ -200,7 +201,7 @@ fn tell_high_id(
     Ok(id)
 }
 
-/// Tells the ids from the mark on, each once.
+/// Reports the ids from the mark on, each once.
 fn tell_beyond(listing: &Listing<'_>, findings: &mut Vec<Finding>) -> Result<(), AllocError>
     requires settled { IsSettled listing.now }
     requires told { AreFindingsBelow listing.now.mark (is_in_use listing.now) (listed_times listing.now) listing.now.mark findings.old.items }
@@ -213,7 +214,7 @@ fn tell_beyond(listing: &Listing<'_>, findings: &mut Vec<Finding>) -> Result<(),
     Ok(())
 }
 
-/// All that is wrong with the pages of a listing.
+/// All findings of a listing.
 pub(crate) fn tell_listing(alloc: Global, listing: &Listing<'_>) -> Result<Vec<Finding>, AllocError>
     requires { IsSettled listing.now }
     ensures { IfOk result (λ told. AreAllFindings listing.now.mark (is_in_use listing.now) (listed_times listing.now) told.items) }

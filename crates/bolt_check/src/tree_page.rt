@@ -25,7 +25,7 @@ pub struct TreePage<'a> {
 impl<'a> TreePage<'a> {
     ghost use Rattle.bolt_check.specs.ShownNodes.{shown_node};
 
-    /// How many elements it has.
+    /// The number of its elements.
     #[tactic(auto, unfolding(crate::specs::ShownNodes::shown_node))]
     pub fn count(&self) -> u16
         ensures { result ≡ length (shown_node self.now).entries }
@@ -46,7 +46,8 @@ impl<'a> TreePage<'a> {
         }
     }
 
-    /// Where element `i` leads from a stop at this page: a child of a branch, or a bucket of a leaf.
+    /// What element `i` leads to from a stop at this page: a child of a branch, or a bucket on a
+    /// leaf. An element that is a value leads nowhere.
     #[tactic(auto, unfolding(crate::specs::ShownNodes::shown_node))]
     pub fn stop(&self, i: u16, stop: &PageStop<'a>) -> Option<Stop<'a>>
         requires below { i < length (shown_node self.now).entries }
@@ -61,7 +62,7 @@ impl<'a> TreePage<'a> {
         }
     }
 
-    /// The stop at the child of element `i` of a branch.
+    /// The stop at the child of branch element `i`.
     fn child(&self, i: u16, stop: &PageStop<'a>) -> PageStop<'a>
         requires branch { self.now.is_leaf ≡ false }
         requires below { i < length (shown_node self.now).entries }
@@ -90,8 +91,8 @@ impl<'a> TreePage<'a> {
     }
 }
 
-/// The bucket that an element of a leaf leads to from a stop at that leaf, if it is one. Its root
-/// page is the first again, and has no bounds.
+/// The stop at a bucket on a leaf, from a stop at that leaf, or `None` for a value. Its root page
+/// has depth 1, and no bounds.
 fn bucket_stop<'a>(leaf: Leaf<'a>, stop: &PageStop<'a>) -> Option<Stop<'a>>
     requires { IsTrue leaf.is_bucket → IsBucketValue leaf.value.now }
     ensures leads { option_map spot_at result ≡ bucket_spots stop.now.number (leaf_entry (leaf_view leaf.entry)) }

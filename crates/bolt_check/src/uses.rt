@@ -1,4 +1,4 @@
-//! The roles of all pages of a sound file: the search again, which now finds nothing.
+//! The roles of all pages of a sound file. The search runs again, and now finds nothing.
 ghost use Rattle.std.specs.Prelude.{◌≡◌, ◌↔◌, ◌⊎◌, ℕ, IfOk, true};
 ghost use Rattle.bolt_format.specs.declared.meta.TheConstants.{NO_FREELIST};
 ghost use Rattle.bolt_check.specs.CheckedFiles.{has_accounts};
@@ -21,7 +21,7 @@ use crate::table::PageUse;
 use bolt_format::{Meta, NO_FREELIST};
 use std::alloc::Global;
 
-/// The search of a file that is known to be sound, which finds nothing.
+/// Searches a file that is known to be sound, so nothing is found.
 fn search_sound(alloc: Global, file: &[u8], meta: &Meta) -> Result<Vec<PageUse>, NoMemory>
     requires { ∥ IsSound file.now meta.now true ∥₁ }
     ensures claimed { IfOk result (λ table. (n : ℕ) → IsClaimed table.items n ↔ IsUsed file.now meta.now n) }
@@ -37,7 +37,7 @@ fn search_sound(alloc: Global, file: &[u8], meta: &Meta) -> Result<Vec<PageUse>,
     }
 }
 
-/// Claims the freelist's span, of which no page is claimed.
+/// Claims the freelist's span. No page of it is claimed.
 fn claim_written(file: &[u8], meta: &Meta, table: &mut [PageUse])
     requires sound { ∥ IsSound file.now meta.now true ∥₁ }
     requires claimed { (n : ℕ) → IsClaimed table.old n ↔ IsUsed file.now meta.now n }
@@ -63,12 +63,12 @@ fn find_uses(alloc: Global, file: &[u8], meta: &Meta) -> Result<Vec<PageUse>, No
     Ok(table)
 }
 
-/// What each page of a file is for (docs/SOUND.md, "Roles"). The file's accounts were tested too.
+/// The roles of all pages of a file (docs/SOUND.md, "Roles"). Its accounts were tested too.
 ///
 /// # Errors
 ///
-/// `NoMemory` where there is no room for a byte for each whole page that lies in the file and below
-/// the high-water mark, or for the ways that are still to be followed.
+/// `NoMemory` if memory runs out. It needs a byte for each whole page that lies in the file and
+/// below the high-water mark, and room for the ways that are still to be followed.
 #[tactic(auto, unfolding(crate::specs::RoledFiles::roles_checked, crate::specs::CheckedFiles::has_accounts))]
 pub fn roles<'a>(alloc: Global, checked: Checked<'a>) -> Result<Roles<'a>, NoMemory>
     requires { has_accounts checked ≡ true }

@@ -21,10 +21,10 @@ use crate::table::{PageUse, claim, first_claimed};
 use crate::tree_page::TreePage;
 use bolt_format::Meta;
 
-/// How many pages may lie on the way from a bucket's root page, that page included.
+/// The greatest depth of a page. The root page of a bucket has depth 1.
 const MAX_DEPTH: u8 = 64;
 
-/// Tests a page, and claims its span where the tests tell nothing.
+/// Tests a page, and claims its span if the tests find nothing.
 pub(crate) fn visit<'a>(
     file: &'a [u8],
     meta: &Meta,
@@ -62,7 +62,7 @@ pub(crate) fn visit<'a>(
     Ok(node)
 }
 
-/// What the first page of a node is for.
+/// The use of the first page of a node.
 fn first_use(node: &TreePage<'_>) -> PageUse
     ensures { result ≡ use_of node.now.is_leaf }
 {
@@ -73,7 +73,7 @@ fn first_use(node: &TreePage<'_>) -> PageUse
     }
 }
 
-/// Tests what a page holds: a branch has an element, and then the keys.
+/// Tests the content of a page: a branch has an element, and then the keys.
 #[tactic(auto, unfolding(crate::specs::ShownNodes::shown_node))]
 fn test_node(node: &TreePage<'_>, stop: &PageStop<'_>) -> Result<(), Finding>
     ensures { result_err result ≡ node_finding (shown_node node.now) (page_spot stop.now) }

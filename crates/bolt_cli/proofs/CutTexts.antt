@@ -1,4 +1,4 @@
--- The answer of a job that may want memory on its way, whether its text was put whole or not.
+-- The answer of a job that may run out of memory on its way, whether its text was written whole or not.
 use Rattle.std.proofs.Common.{◌≡◌, ◌∙◌, ◌⊎◌, ℕ, List, Option, Ok, Err, inl, inr, ap, refl}
 use Rattle.std.specs.Result.{IsErrAnd}
 use Rattle.bolt_report.specs.Reports.{Reports}

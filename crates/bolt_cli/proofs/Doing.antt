@@ -1,4 +1,4 @@
--- What jobs do with their text, and what is told at the end of a run.
+-- What jobs do with their text, and what is reported at the end of a run.
 use Rattle.std.proofs.Common.{◌≡◌, ◌∙◌, ℕ, List, Option, Result, Ok, Err, IfErr, inl, inr, ap, refl}
 use Rattle.std.specs.Result.{IsErrAnd}
 use Rattle.std.proofs.KnownBytes.{Appends-nil}

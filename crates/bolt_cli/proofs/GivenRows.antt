@@ -1,4 +1,4 @@
--- What the rows of matches say, where a line gave these words.
+-- What the rows of matches say, if a line had these words.
 use Rattle.std.proofs.Common.{◌≡◌, ◌∙◌, Bool, List, [], ◌∷◌, ◌++◌, Option, Some, None, true, false, refl, sym, subst, ap, inl, inr, rules, ◌||◌, cond, option_map, unwrap_or, append-nil}
 use Rattle.std.specs.Prelude.{find, is_some, if◌then◌else◌}
 use Rattle.std.specs.Option.{option_map_or}

@@ -1,4 +1,4 @@
--- What the program answers to each command, and what its sinks take: docs/COMMANDS.md, "What a run writes".
+-- What the program answers to each command, and what its sinks accept: docs/COMMANDS.md, "What a run writes".
 use Rattle.std.specs.Prelude.{◌≡◌, ◌<◌, ◌≤◌, ◌-◌, ◌⊎◌, ℕ, List, [], ◌∷◌, ◌++◌, Bool, true, false, codes, decimal, length, take, Option, Some, None, Result, Ok, Err}
 use Rattle.std.specs.Io.KnownBytes.{Appends, Keeps}
 use Rattle.bolt_bulk.specs.Compacting.{too_many}
@@ -39,7 +39,7 @@ use Rattle.bolt_cli.specs.declared.page_size.PageSize.{PageSize}
 use Rattle.bolt_cli.specs.PlainWords.{path_in}
 use Rattle.bolt_layout.specs.declared.layout.Layout.{Layout}
 
--- How a job ends: with a status, or with a failure that is told.
+-- How a job ends: with a status, or with a failure that is reported.
 abbrev pub Ending : Type 0
 Ending = Result ℕ Failure
 
@@ -60,7 +60,7 @@ abbrev pub page_answer : Option PageFault → List ℕ → Answer
 page_answer None text = done text
 page_answer (Some fault) text = refused (failure.Page fault)
 
--- the answer under the meta in force, or where there is none, with the fault of byte 0
+-- the answer under the active meta or, if there is none, with the fault of byte 0
 abbrev pub IsOpenAnswer : List ℕ → (Slot → Meta → Answer) → Answer → Type 0
 IsOpenAnswer file opened answer =
     ((slot : Slot) × (meta : Meta) × IsChosen file slot meta × (answer ≡ opened slot meta))
@@ -89,7 +89,7 @@ HoldsIn file meta path item = Holds (IsEntry file meta) (Root_page meta.root) pa
 abbrev pub parents_of : Path → Path
 parents_of path = take (length path - 1) path
 
--- the whole text; or a beginning of it, as memory ran out
+-- the whole text; or a prefix of it, if memory ran out
 abbrev pub IsWholeOrCut : List ℕ → Answer → Type 0
 IsWholeOrCut text answer =
     (answer ≡ done text)
@@ -119,11 +119,11 @@ IsGetAnswer file path form meta answer =
     ((value : List ℕ) × HoldsIn file meta path (Value value) × (answer ≡ done (value_text form value)))
     ⊎ ((reason : Failure) × HoldsNone file path meta reason × (answer ≡ refused reason))
 
--- the listing from a path on; or memory ran out, and a beginning of it was put
+-- the listing from a path on; or memory ran out, and a prefix of it was written
 abbrev pub IsListAnswer : List ℕ → Path → Meta → Answer → Type 0
 IsListAnswer file from meta answer = (listing : List Member) × IsListing file meta listing × IsWholeOrCut (listing_text (rest_from from listing)) answer
 
--- the table of all pages by their roles; or memory ran out, and a beginning of it was put
+-- the table of all pages by their roles; or memory ran out, and a prefix of it was written
 abbrev pub IsPagesAnswer : List ℕ → Meta → Answer → Type 0
 IsPagesAnswer file meta answer = (roles : ℕ → Role) × AreRoles file meta roles × IsWholeOrCut (pages_text file meta roles) answer
 
@@ -144,7 +144,7 @@ no_stats = record {
   leaf_used = 0;
 }
 
--- what an entry adds to the figures so far: those of the bucket that it is
+-- what an entry adds to the figures so far: those of its bucket, if it is one
 abbrev pub AddsBy : Bool → List ℕ → Meta → LeafElement → (before after : Stats) → Type 0
 AddsBy true file meta e before after = (own : Stats) × IsStatsOf file meta (start_of e.value) own × (after ≡ add_stats before own)
 AddsBy false file meta e before after = after ≡ before
@@ -152,29 +152,29 @@ AddsBy false file meta e before after = after ≡ before
 abbrev pub AddsEntry : List ℕ → Meta → LeafElement → (before after : Stats) → Type 0
 AddsEntry file meta e before after = AddsBy e.is_bucket file meta e before after
 
--- the figures of the buckets among these entries, added to those before
+-- the figures of the buckets among these entries, added to those so far
 abbrev pub IsTotal : List ℕ → Meta → List LeafElement → (before total : Stats) → Type 0
 IsTotal file meta [] before total = total ≡ before
 IsTotal file meta (e ∷ entries) before total = (after : Stats) × AddsEntry file meta e before after × IsTotal file meta entries after total
 
--- the sum over the root's buckets; or memory ran out before anything was put
+-- the sum over the root's buckets; or memory ran out before anything was written
 abbrev pub IsStatsAnswer : List ℕ → Meta → Answer → Type 0
 IsStatsAnswer file meta answer =
     ((entries : List LeafElement) × (total : Stats) × ∥ AreEntries (IsEntry file meta) (Root_page meta.root) entries × IsTotal file meta entries no_stats total ∥₁
     × (answer ≡ done (stats_text total)))
     ⊎ (answer ≡ refused failure.Memory)
 
--- the answer where the file is sound, or where it is refused
+-- the answer if the file is sound, or if it is refused
 abbrev pub IsCheckedAnswer : List ℕ → (Meta → Answer → Type 0) → (CheckFault → Answer → Type 0) → Answer → Type 0
 IsCheckedAnswer file IsAccepted IsRefusal answer =
     ((slot : Slot) × (meta : Meta) × IsChosen file slot meta × IsSound file meta true × IsAccepted meta answer)
     ⊎ ((fault : CheckFault) × IsRefused file fault × IsRefusal fault answer)
 
--- the first finding alone is told
+-- only the first finding is reported
 abbrev pub IsFileRefusal : CheckFault → Answer → Type 0
 IsFileRefusal fault answer = (failure : Failure) × IsToldAs fault failure × (answer ≡ refused failure)
 
--- the meta under which the file is read: that of the slot that is named, or the one in force, and then accounts count too
+-- the meta that the file is read under: that of the slot that is named, or the active one, and then accounts count too
 abbrev pub IsReadUnder : List ℕ → Option Slot → Meta → Type 0
 IsReadUnder file None meta = (slot : Slot) × IsChosen file slot meta × IsSound file meta true
 IsReadUnder file (Some slot) meta = IsInSlot file slot meta × HasSoundTrees file meta
@@ -188,8 +188,8 @@ IsReadAnswer file slot IsAccepted answer =
     ((meta : Meta) × IsReadUnder file slot meta × IsAccepted meta answer)
     ⊎ ((fault : CheckFault) × IsRefusedUnder file slot fault × IsFileRefusal fault answer)
 
--- From its state `old` to `new` standard output took the text of the answer with no failure, and the job ends so; or it failed, took a
--- beginning, and the job ends with that.
+-- From its state `old` to `new` standard output accepted the text of the answer without a failure, and the job ends so; or it failed,
+-- accepted a prefix, and the job ends with that.
 abbrev pub Does : {S : Type 0} → (taken : S → Option (List ℕ)) (failed : S → ℕ) (old new : S) → Answer → Ending → Type 0
 Does taken failed old new answer ending =
     (Appends (taken old) (taken new) answer.out × (failed new ≡ failed old) × (ending ≡ answer.ending))
@@ -197,11 +197,11 @@ Does taken failed old new answer ending =
 
 -- ---- `compact`
 
--- the line that tells the lengths of the file and of its copy
+-- the line with the lengths of the file and of its copy
 abbrev pub lengths_line : (source copy : ℕ) → List ℕ
 lengths_line source copy = (decimal source ++ codes " -> ") ++ (decimal copy ++ codes " bytes\n")
 
--- the page size of the copy: the one that is asked for, or else that of the file
+-- the page size of the copy: the one that is asked for, or that of the file if none is
 abbrev pub copy_page_size : Option PageSize → Meta → ℕ
 copy_page_size (Some size) meta = size.bytes
 copy_page_size None meta = meta.page_size
@@ -213,7 +213,8 @@ StopsCopy failed old new layout failure.TooLarge = (too_many ≤ length layout) 
 StopsCopy failed old new layout failure.Write = 0 < failed new
 StopsCopy failed old new layout _ = ⊥
 
--- The target took a beginning of the layout that isn't the whole, and the failure says why. Of a layout with 2^63 bytes or more it took nothing.
+-- The target accepted a prefix of the layout that isn't the whole, and the failure says why. Of a layout with 2^63 bytes or more it
+-- accepted nothing.
 pub record StopsShort {T : Type 0} (taken : T → Option (List ℕ)) (failed : T → ℕ) (old new : T) (layout : List ℕ) (failure : Failure) : Type 0 where
   pub short : AppendsProperBeginning (taken old) (taken new) layout
   pub why : StopsCopy failed old new layout failure
@@ -228,12 +229,12 @@ AcceptsListing file listing = (slot : Slot) × (meta : Meta) × IsChosen file sl
 -- standard output and the target, each from its state `old` to `new`
 module _ {O T : Type 0} (out_taken : O → Option (List ℕ)) (out_failed : O → ℕ) (out_old out_new : O)
     (target_taken : T → Option (List ℕ)) (target_failed : T → ℕ) (target_old target_new : T) where
-  -- standard output takes the text of the answer, and the target isn't touched
+  -- standard output accepts the text of the answer, and the target isn't touched
   abbrev pub Prints : (Answer → Type 0) → Ending → Type 0
   Prints IsWanted ending = (answer : Answer) × IsWanted answer × Does out_taken out_failed out_old out_new answer ending × (target_new ≡ target_old)
 
-  -- The target took the whole layout with no failure, which has fewer than 2^63 bytes, is sound and has this listing; and then standard
-  -- output is to take the line. Or the target stopped short, standard output isn't touched, and the job ends with the failure.
+  -- The target accepted the whole layout without a failure, which has fewer than 2^63 bytes, is sound and has this listing; and then
+  -- standard output is to accept the line. Or the target stopped short, standard output isn't touched, and the job ends with the failure.
   abbrev pub WritesCopy : (listing : List Member) → (layout line : List ℕ) → Ending → Type 0
   WritesCopy listing layout line ending =
       ((length layout < too_many) × ∥ AcceptsListing layout listing ∥₁
@@ -241,8 +242,8 @@ module _ {O T : Type 0} (out_taken : O → Option (List ℕ)) (out_failed : O �
       × Does out_taken out_failed out_old out_new (done line) ending)
       ⊎ ((failure : Failure) × StopsShort target_taken target_failed target_old target_new layout failure × (out_new ≡ out_old) × (ending ≡ Err failure))
 
-  -- The target takes the layout that is asked for of the file's listing, at the copy's page size, which is sound and has the same listing; or the file is
-  -- refused, and neither is touched.
+  -- The target accepts the layout that is asked for of the file's listing, at the copy's page size, which is sound and has the same
+  -- listing; or the file is refused, and neither is touched.
   abbrev pub Compacts : List ℕ → Option Slot → Option PageSize → Layout → Ending → Type 0
   Compacts file slot size which ending =
       ((meta : Meta) × (listing : List Member) × IsReadUnder file slot meta × IsListing file meta listing
@@ -269,12 +270,12 @@ abbrev pub status_of : Ending → ℕ
 status_of (Ok status) = status
 status_of (Err failure) = 1
 
--- what is told on standard error
+-- what is printed on standard error
 abbrev pub told : Ending → List ℕ
 told (Ok status) = []
 told (Err failure) = failure_line failure
 
--- a sink took a text with no failure, or it failed and took a beginning of it
+-- a sink accepted a text without a failure, or it failed and accepted a prefix of it
 abbrev pub Takes : {S : Type 0} → (taken : S → Option (List ℕ)) (failed : S → ℕ) (old new : S) → List ℕ → Type 0
 Takes taken failed old new text =
     (Appends (taken old) (taken new) text × (failed new ≡ failed old))

@@ -1,4 +1,4 @@
--- The command line as `clap` is told of it, and what its matches ask for.
+-- The command line as it is described to `clap`, and what its matches ask for.
 use Rattle.std.specs.Prelude.{◌≡◌, ◌≢◌, ◌⊎◌, ℕ, List, [], ◌∷◌, ◌++◌, Option, Some, None, Ok, Err, Result, Bool, false, true, codes, map, fold, unwrap_or, MatchResult, if◌then◌else◌}
 use Rattle.clap.specs.Words.{App, IsAmong, Kinds, Row, Rule, all_of, app_of, fault_of, new_app, new_rule, subcommand_of, with_subcommand}
 use Rattle.clap.specs.declared.builder.action.ArgAction.{ArgAction}
@@ -65,7 +65,7 @@ command_with name rules = let bare = new_app name in record bare { top = record 
 abbrev pub command_of : Syntax → App
 command_of s = command_with s.name (rules_for s)
 
--- the program's own level: it takes no argument, wants a subcommand and tells its version
+-- the program's own level: it has no arguments, needs a subcommand and prints its version
 abbrev pub bare_program : App
 bare_program = let bare = new_app (codes "luntsegi") in record bare {
   top = record bare.top { has_version = true; subcommand_required = true; disable_help_subcommand = true };
@@ -98,7 +98,7 @@ asked_by words = asked_by_subcommand (subcommand_of program words)
 
 -- ---- answers
 
--- the answer is what is wanted, and an error says that memory ran out or what is wrong
+-- the result is what is wanted, and an error says that memory ran out or what is wrong
 abbrev pub Gives : {T X : Type 0} → (T → X) → Result X Text → Result T Refusal → Type 0
 Gives view wanted answer = MatchResult answer (λ value. wanted ≡ Ok (view value))
     (λ refusal. (refusal ≡ Memory) ⊎ (why : _) × (refusal ≡ Word why) × (wanted ≡ Err why.now))
@@ -131,8 +131,8 @@ HasKindOf fault (Version text) = fault ≡ kind.DisplayVersion
 HasKindOf fault (Usage text) = IsUsage fault × (fault ≢ kind.OutOfMemory)
 HasKindOf fault (Word why) = ⊥
 
--- Words that say this are refused so; memory may run out at any words. Which lines are told by help, which by the version and which by usage
--- is what `clap` says of the command line that it is told of.
+-- Words that say this are refused so; memory may run out at any words. For which lines `clap` prints help, the version or usage is what it
+-- says of the command line that is described to it.
 abbrev pub IsRefusalOf : List Text → Reading → Refusal → Type 0
 IsRefusalOf words line Memory = Unit {0}
 IsRefusalOf words line (Help text) = (line ≡ refused) × IsAmong kind.DisplayHelp (fault_of program words)

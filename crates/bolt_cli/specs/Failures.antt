@@ -1,4 +1,4 @@
--- Why a job isn't done, and what is told of it: docs/COMMANDS.md, "What a run writes".
+-- Why a job isn't done, and what is reported of it: docs/COMMANDS.md, "What a run writes".
 use Rattle.std.specs.Prelude.{◌≡◌, ◌≢◌, ℕ, List, [], ◌∷◌, ◌++◌, codes}
 use Rattle.bolt_bulk.specs.declared.fault.BulkFault.{BulkFault}
 use Rattle.bolt_bulk.specs.declared.fault.BulkFault.TheVariants as bulk
@@ -25,19 +25,19 @@ failure_text Write = codes "write failed\n"
 abbrev pub failure_line : Failure → List ℕ
 failure_line failure = codes "error: " ++ failure_text failure
 
--- the failure where a text wasn't put
+-- the failure if a text wasn't written
 abbrev pub reported : ReportFault → Failure
 reported report.Sink = Write
 reported report.NoMemory = Memory
 reported (report.Page fault) = Page fault
 
--- the failure where a copy wasn't written whole
+-- the failure if a copy wasn't written whole
 abbrev pub copied : BulkFault → Failure
 copied bulk.Memory = Memory
 copied bulk.TooLarge = TooLarge
 copied bulk.Sink = Write
 
--- of findings the first is told
+-- of the findings the first is reported
 abbrev pub TellsFirst : List Finding → Failure → Type 0
 TellsFirst [] failure = ⊥
 TellsFirst (x ∷ more) failure = failure ≡ File x
@@ -49,7 +49,7 @@ IsToldAs (check.Structure x) failure = failure ≡ File x
 IsToldAs (check.Accounts told) failure = TellsFirst told.items failure
 IsToldAs check.Memory failure = failure ≡ Memory
 
--- where accounts are told, something is
+-- if accounts are reported, there is a finding
 abbrev pub TellsSome : CheckFault → Type 0
 TellsSome (check.Open fault) = Unit {0}
 TellsSome (check.Structure x) = Unit {0}

@@ -42,14 +42,14 @@ is_option _ = false
 abbrev pub is_dashes : Text → Bool
 is_dashes word = bytes_eq word (codes "--")
 
--- behind `--`: a name, and behind the first `=` (61) a value
+-- after `--`: a name, and after the first `=` (61) a value
 abbrev pub long_name : Text → Text
 long_name rest = before_first (λ x. x == 61) rest
 
 abbrev pub long_value : Text → Option Text
 long_value rest = if list_any (λ x. x == 61) rest then Some (after_first (λ x. x == 61) rest) else None
 
--- behind `-` and a letter: a value, which `=` may precede
+-- after `-` and a letter: a value, which `=` may precede
 abbrev pub short_value : Text → Option Text
 short_value [] = None
 short_value (first ∷ rest) = Some (if first == 61 then rest else first ∷ rest)
@@ -72,15 +72,15 @@ met_long options rest = option_map (λ o. (o, long_value rest)) (find (λ (o : C
 abbrev pub met_short : List Choice → ℕ → Text → Meeting
 met_short options letter rest = option_map (λ o. (o, short_value rest)) (find (λ (o : Choice). is_lettered letter o.flag) options)
 
--- the option that a word names, where it names one
+-- the option that a word names, if it names one
 abbrev pub met : List Choice → Text → Meeting
 met options (first ∷ second ∷ rest) = if second == 45 then met_long options rest else met_short options second rest
 met options _ = None
 
 -- ---- the words of a line, from left to right
 
--- What a line has given so far: words by the names of operands and options; the option whose value comes next; the operands that are
--- still to come; whether `--` stood; and whether a word was out of place.
+-- What a line has said so far: words by the names of operands and options; the option whose value comes next; the operands that are still
+-- to come; whether there was a `--`; and whether a word was out of place.
 pub record Known : Type 0 where
   pub given : List (Text × Text)
   pub waiting : Option Text
@@ -109,7 +109,7 @@ add name word k = record k { given = k.given ++ (name, word) ∷ []; waiting = N
 abbrev pub give : Text → Text → Known → Known
 give name word k = if has k.given name then refuse k else add name word k
 
--- the next operand takes the word; one of several words takes all that come
+-- the next operand gets the word; one of several words gets all that come
 abbrev pub take_next : Text → Known → List Operand → Known
 take_next word k [] = refuse k
 take_next word k (o ∷ later) = if o.several then add o.name word k else give o.name word (record k { ahead = later })
@@ -122,7 +122,7 @@ abbrev pub take_with : Text → Option Text → Known → Known
 take_with name (Some value) k = give name value k
 take_with name None k = record k { waiting = Some name }
 
--- what an option without a value counts as, where it is given
+-- what an option without a value counts as, if it is given
 abbrev pub given_word : Text
 given_word = codes "true"
 

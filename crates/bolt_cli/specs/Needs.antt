@@ -4,7 +4,7 @@ use Rattle.bolt_format.specs.declared.meta.TheConstants.{METAS_END}
 use Rattle.bolt_cli.specs.declared.job.Job.{Job}
 use Rattle.bolt_cli.specs.declared.job.Job.TheVariants as job
 
--- the length of the prefix that it needs, where it doesn't need the whole
+-- the length of the prefix that it needs, if it doesn't need the whole
 abbrev pub needed_length : Job → Option ℕ
 needed_length (job.Info name) = Some METAS_END
 needed_length _ = None

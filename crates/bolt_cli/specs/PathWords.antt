@@ -1,4 +1,4 @@
--- How a command line writes a path: a word for each part, or all parts in hexadecimal in one word: docs/COMMANDS.md, "Words".
+-- How a path is written on a command line: a word for each part, or all parts in hexadecimal in one word: docs/COMMANDS.md, "Words".
 use Rattle.std.specs.Prelude.{◌==◌, List, [], ◌∷◌, Option, Some, None, Result, Ok, Err, codes, length, if◌then◌else◌}
 use Rattle.std.specs.List.{list_any, slice_split}
 use Rattle.std.specs.Str.{bytes_eq}
@@ -44,12 +44,12 @@ abbrev pub each_part : (Text → Result Key Text) → List Text → Result Path 
 each_part read [] = Ok []
 each_part read (word ∷ words) = result_and_then (λ part. result_and_then (λ path. Ok (part ∷ path)) (each_part read words)) (read word)
 
--- parts that slashes (47) part, in hexadecimal, with a byte at least in each
+-- the parts between slashes (47), in hexadecimal, with at least one byte in each
 abbrev pub hex_path_of : Text → Result Path Text
 hex_path_of word = let words = slice_split (λ byte. byte == 47) word in
     if list_any (λ part. length part == 0) words then Err (codes "bad hex") else each_part (part_of parts.Hex) words
 
--- the path where the rest of a listing begins; without one it is the whole
+-- the path at which the rest of a listing begins; without one it is the whole
 abbrev pub hex_path_by : Option Text → Result Path Text
 hex_path_by (Some word) = hex_path_of word
 hex_path_by None = Ok []

@@ -134,7 +134,7 @@ or_missing None = Err (codes "value missing")
 abbrev pub text_by : Text → Values → Result Text Text
 text_by name values = or_missing (first_of (values name))
 
--- the number that decimal digits write, of which '0' is 48: each has the weight of its place
+-- the number that decimal digits stand for, of which '0' is 48: each has the weight of its place
 abbrev pub decimal_value : Text → ℕ
 decimal_value [] = 0
 decimal_value (digit ∷ rest) = (digit - 48) * 10 ^ length rest + decimal_value rest
@@ -161,7 +161,7 @@ abbrev pub page_size_by : Option Text → Result (Option ℕ) Text
 page_size_by (Some word) = page_size_of word
 page_size_by None = Ok None
 
--- the layout of a copy, by the word of `--for-bbolt` where it is given
+-- the layout of a copy, by the word of `--for-bbolt` if it is given
 abbrev pub layout_by : Option Text → Layout
 layout_by (Some word) = Balanced
 layout_by None = Plain
@@ -178,7 +178,7 @@ abbrev pub form_by : Option Text → Result Form Text
 form_by (Some word) = form_of word
 form_by None = Ok Printable
 
--- the slot of a meta by its word; without one it is the meta in force
+-- the slot of a meta by its word; without one it is that of the active meta
 abbrev pub slot_of : Text → Result (Option Slot) Text
 slot_of word =
     if bytes_eq word (codes "0") then Ok (Some Zero)
@@ -288,7 +288,7 @@ slot_words (Some One) words = codes "--meta" ∷ codes "1" ∷ words
 abbrev pub path_words : Text → Path → Form → List Text
 path_words file path form = codes "--form" ∷ form_word form ∷ codes "--parts" ∷ codes "hex" ∷ codes "--" ∷ file ∷ map encode_lower path
 
--- in one word, where it isn't the beginning
+-- in one word, unless it is the empty path
 abbrev pub from_words : Path → List Text → List Text
 from_words [] words = words
 from_words (part ∷ path) words = codes "--from" ∷ join_with_byte 47 (map encode_lower (part ∷ path)) ∷ words
@@ -298,7 +298,7 @@ abbrev pub size_words : Option ℕ → List Text → List Text
 size_words None words = words
 size_words (Some size) words = (codes "--page-size=" ++ decimal size) ∷ words
 
--- an option without a value, where the layout isn't the plain one
+-- an option without a value, unless the layout is the plain one
 abbrev pub layout_words : Layout → List Text → List Text
 layout_words Plain words = words
 layout_words Balanced words = codes "--for-bbolt" ∷ words

@@ -8,7 +8,7 @@ use bolt_report::{Form, buckets};
 use bolt_tree::Bucket;
 use std::alloc::Global;
 
-/// Puts the names of the root's buckets.
+/// Writes the names of the buckets in the root bucket.
 pub(crate) fn print_buckets<O: Sink>(
     alloc: Global,
     file: &[u8],

@@ -9,7 +9,7 @@ use bolt_report::findings_text;
 use std::alloc::Global;
 use std::slice;
 
-/// Puts that the file is sound, or what was found.
+/// Writes `OK` if the file is sound, and otherwise its findings.
 pub(crate) fn print_check<O: Sink>(alloc: Global, file: &[u8], out: &mut O) -> Result<u8, Failure>
     ensures { (answer : Answer) × IsCheckedAnswer file.now (λ meta answer. answer ≡ done (codes "OK\n")) (λ fault answer. answer ≡ check_refusal fault) answer
         × Does O.taken O.failed out.old out.new answer result }
@@ -27,7 +27,7 @@ fn put_ok<O: Sink>(out: &mut O) -> Result<u8, Failure>
     Ok(0)
 }
 
-/// Puts the findings for which a file is refused.
+/// Writes the findings that a file is refused for.
 fn put_refusal<O: Sink>(fault: &CheckFault, out: &mut O) -> Result<u8, Failure>
     ensures { Does O.taken O.failed out.old out.new (check_refusal fault.now) result }
 {

@@ -1,4 +1,4 @@
-//! What `clap` is told of the command line.
+//! The description of the command line for `clap`.
 ghost use Rattle.std.specs.Prelude.{◌≡◌, ◌∷◌, [], Some, false, IfOk, map};
 ghost use Rattle.clap.specs.declared.builder.action.ArgAction.TheVariants.{Set};
 ghost use Rattle.bolt_cli.specs.LineWords.{given_word};
@@ -41,7 +41,7 @@ fn option_arg<'a>(alloc: Global, option: &'a Choice) -> Arg<'a>
     }
 }
 
-/// An option without a value: it counts as one word where it is given.
+/// An option without a value. If it is given, it counts as one word.
 fn alone<'a>(arg: Arg<'a>) -> Arg<'a>
     ensures rule { rule_of result ≡ record (rule_of arg.entry) {
       action = Some Set;
@@ -55,7 +55,7 @@ fn alone<'a>(arg: Arg<'a>) -> Arg<'a>
         .default_missing_value("true")
 }
 
-/// A command that has no arguments yet.
+/// A command without arguments.
 fn bare_command<'a>(alloc: Global, syntax: &'a Syntax) -> Command<'a>
     ensures { IsCommand (new_app syntax.now.name.now) result }
 {
@@ -84,7 +84,7 @@ pub(crate) fn program<'a>(alloc: Global) -> Result<Command<'a>, AllocError>
     ensures { IfOk result (IsCommand program) }
 {
     let program = Command::new(alloc, "luntsegi")
-        .about("Inspect and compact bbolt database files, in which etcd and others keep their data")
+        .about("Inspect, check and compact bbolt database files, the format etcd uses")
         .version(VERSION)
         .subcommand_required(true)
         .disable_help_subcommand(true);

@@ -15,7 +15,8 @@ use bolt_layout::Layout;
 use itoa::Buffer;
 use std::alloc::Global;
 
-/// Puts the compact copy in this layout on `target`, and then the lengths of the file and of the copy on `out`.
+/// Writes the compact copy in this layout to `target`, and then the lengths of the file and of the
+/// copy to `out`.
 pub(crate) fn write_copy<O: Sink, T: Sink>(
     alloc: Global,
     file: &[u8],
@@ -34,7 +35,7 @@ pub(crate) fn write_copy<O: Sink, T: Sink>(
     Ok(0)
 }
 
-/// The page size that is asked for, or else that of the file.
+/// The page size that is asked for, or that of the file if none is.
 fn size_of_copy(checked: &Checked<'_>, page_size: Option<PageSize>) -> u64
     ensures size { result ≡ copy_page_size page_size (meta_of checked.now) }
     ensures accepted { IsPageSize result }
@@ -45,7 +46,7 @@ fn size_of_copy(checked: &Checked<'_>, page_size: Option<PageSize>) -> u64
     }
 }
 
-/// Puts the lengths of the file and of its copy.
+/// Writes the lengths of the file and of its copy.
 fn put_lengths<O: Sink>(source: u64, copy: u64, out: &mut O) -> Result<(), SinkFault>
     ensures { Writes O.taken O.failed out.old out.new (lengths_line source copy) result }
 {
@@ -53,7 +54,7 @@ fn put_lengths<O: Sink>(source: u64, copy: u64, out: &mut O) -> Result<(), SinkF
     put_number(copy, b" bytes\n", out)
 }
 
-/// Puts a number and the words behind it.
+/// Writes a number and the words after it.
 fn put_number<O: Sink>(number: u64, words: &[u8], out: &mut O) -> Result<(), SinkFault>
     ensures { Writes O.taken O.failed out.old out.new (decimal number ++ words.now) result }
 {

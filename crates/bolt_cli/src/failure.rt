@@ -1,4 +1,4 @@
-//! Why a job isn't done, and the line that tells it.
+//! Why a job isn't done, and the line that says so.
 ghost use Rattle.std.specs.Prelude.{◌≡◌, ◌++◌, codes};
 ghost use Rattle.bolt_format.specs.Writes.{Writes};
 ghost use Rattle.bolt_report.specs.FaultWords.{finding_text};
@@ -14,15 +14,15 @@ use std::alloc::AllocFailed;
 /// Why a job isn't done (docs/COMMANDS.md, "What a run writes").
 #[derive(Clone, Copy, Debug, PartialEq, Eq)]
 pub enum Failure {
-    /// No meta is valid.
+    /// There is no valid meta.
     Metas(MetaFault),
-    /// The file isn't sound, for this reason.
+    /// The file isn't sound: its first finding.
     File(Finding),
-    /// The page that was asked for is no good.
+    /// The page that was asked for is refused.
     Page(PageFault),
-    /// No bucket is at the path that was asked for.
+    /// The path that was asked for leads to no bucket.
     NoBucket,
-    /// No value is at the path that was asked for.
+    /// The path that was asked for has no value.
     NoKey,
     /// Memory ran out.
     Memory,
@@ -88,7 +88,7 @@ impl From<BulkFault> for Failure {
     }
 }
 
-/// Puts the line of a failure: `error: ` and its text.
+/// Writes the line of a failure: `error: ` and its text.
 pub(crate) fn put_failure<E: Sink>(failure: &Failure, err: &mut E) -> Result<(), ReportFault>
     ensures { Writes E.taken E.failed err.old err.new (failure_line failure.now) result }
 {

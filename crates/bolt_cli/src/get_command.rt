@@ -13,7 +13,7 @@ use bolt_format::{Sink, Slot};
 use bolt_report::{Form, value};
 use std::alloc::Global;
 
-/// Puts the value at a path.
+/// Writes the value at a path.
 pub(crate) fn print_value<O: Sink>(
     alloc: Global,
     file: &[u8],
@@ -30,7 +30,7 @@ pub(crate) fn print_value<O: Sink>(
     Ok(0)
 }
 
-/// The value at a path, whose last part is its key.
+/// The value at a path. The last part is its key.
 fn find_value<'a>(checked: Checked<'a>, path: &[Vec<u8>]) -> Result<&'a [u8], Failure>
     ensures held { IfOk result (λ value. ∥ HoldsIn (bytes_of checked.entry) (meta_of checked.entry) (path_in path.now) (Value value.now) ∥₁) }
     ensures refused { IfErr result (HoldsNone (bytes_of checked.entry) (path_in path.now) (meta_of checked.entry)) }

@@ -6,7 +6,7 @@ use crate::failure::Failure;
 use bolt_format::{Sink, choose};
 use bolt_report::info;
 
-/// Puts the lines of the meta in force.
+/// Writes the lines of the active meta.
 pub(crate) fn print_info<O: Sink>(file: &[u8], out: &mut O) -> Result<u8, Failure>
     ensures { (answer : Answer) × IsOpenAnswer file.now (λ slot meta. done (info_text slot meta)) answer
         × Does O.taken O.failed out.old out.new answer result }

@@ -5,59 +5,60 @@ use bolt_format::{METAS_END, Slot};
 use bolt_layout::Layout;
 use bolt_report::Form;
 
-/// What the words of a command line ask for (docs/COMMANDS.md). The slot is that of the meta under
-/// which the file is read, where one was named; without one it is the meta in force.
+/// What the words of a command line ask for (docs/COMMANDS.md). The file is read under the meta in
+/// `slot` or, without one, under the active meta.
 #[derive(Debug, Drop)]
 pub enum Job {
-    /// The facts of the meta in force.
+    /// Print the active meta.
     Info {
         file: String,
     },
-    /// The text of a page.
+    /// Print one page.
     Page {
         file: String,
         id: u64,
     },
-    /// The table of all pages.
+    /// Print the table of all pages.
     Pages {
         file: String,
     },
-    /// Whether the file is sound.
+    /// Check whether the file is sound.
     Check {
         file: String,
     },
-    /// The names of the root's buckets.
+    /// Print the names of the buckets in the root bucket.
     Buckets {
         file: String,
         slot: Option<Slot>,
         form: Form,
     },
-    /// The figures of the root's buckets, added up.
+    /// Print the figures of the root's buckets, added up.
     Stats {
         file: String,
         slot: Option<Slot>,
     },
-    /// The keys of the bucket at a path.
+    /// Print the keys of the bucket at a path.
     Keys {
         file: String,
         slot: Option<Slot>,
         path: Vec<Vec<u8>>,
         form: Form,
     },
-    /// The value at a path.
+    /// Print the value at a path.
     Get {
         file: String,
         slot: Option<Slot>,
         path: Vec<Vec<u8>>,
         form: Form,
     },
-    /// The listing from a path on, from its beginning where the path is empty.
+    /// Print the listing from a path on. From the empty path that is the whole listing.
     List {
         file: String,
         slot: Option<Slot>,
         from: Vec<Vec<u8>>,
     },
-    /// A compact copy to another file, at a page size of its own or that of the file, in a layout.
+    /// Write a compact copy in a layout to another file. Without a page size it has that of the
+    /// file.
     Compact {
         file: String,
         slot: Option<Slot>,
@@ -72,7 +73,7 @@ impl Job {
     ghost use Rattle.bolt_cli.specs.Needs.{needed_length};
     ghost use Rattle.bolt_cli.specs.PlainWords.{file_name, target_name};
 
-    /// The FILE that the job is done on.
+    /// The name of FILE.
     pub fn file(&self) -> &str
         ensures { result.now ≡ file_name self.now }
     {
@@ -114,8 +115,8 @@ impl Job {
         }
     }
 
-    /// How many of FILE's first bytes the job needs, or `None` if it needs them all. On these bytes it
-    /// does what it does on the whole file (`laws::needed_bytes_are_enough`).
+    /// The number of FILE's first bytes that the job needs, or `None` if it needs them all. On
+    /// these bytes it does what it does on the whole file (`laws::needed_bytes_are_enough`).
     pub fn needed_length(&self) -> Option<u64>
         ensures { result ≡ needed_length self.now }
     {
@@ -125,7 +126,7 @@ impl Job {
         }
     }
 
-    /// The OUT of a job that writes a file.
+    /// The name of OUT, if the job writes a file.
     pub fn target(&self) -> Option<&str>
         ensures { option_map (λ name. name.now) result ≡ target_name self.now }
     {

@@ -9,7 +9,7 @@ use bolt_format::{Sink, Slot};
 use bolt_report::{Form, keys};
 use std::alloc::Global;
 
-/// Puts the keys of the bucket at a path.
+/// Writes the keys of the bucket at a path.
 pub(crate) fn print_keys<O: Sink>(
     alloc: Global,
     file: &[u8],

@@ -1,4 +1,4 @@
-//! The command line of `luntsegi`: words to a job, and a job to what it writes and its status.
+//! The command line of `luntsegi`: from words to a job, and from a job to its output and status.
 #![tactic(auto)]
 
 mod buckets_command;

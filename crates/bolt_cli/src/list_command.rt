@@ -11,7 +11,7 @@ use bolt_format::{Sink, Slot};
 use bolt_report::list;
 use std::alloc::Global;
 
-/// Puts the listing from a path on.
+/// Writes the listing from a path on.
 pub(crate) fn print_list<O: Sink>(
     alloc: Global,
     file: &[u8],

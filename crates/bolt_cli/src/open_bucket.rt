@@ -11,7 +11,7 @@ use crate::failure::Failure;
 use bolt_check::Checked;
 use bolt_tree::Bucket;
 
-/// The bucket that a path leads to from the root bucket, which the empty path stays at.
+/// The bucket at a path, from the root bucket down. The empty path is the root bucket's.
 pub(crate) fn open_bucket<'a>(checked: Checked<'a>, path: &[Vec<u8>]) -> Result<Bucket<'a>, Failure>
     ensures file { IfOk result (λ bucket. bucket_checked bucket ≡ checked.entry) }
     ensures named { IfOk result (λ bucket. ∥ LeadsTo (bytes_of checked.entry) (meta_of checked.entry) (path_in path.now) (bucket_start bucket) ∥₁) }

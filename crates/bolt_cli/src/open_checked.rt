@@ -1,4 +1,4 @@
-//! Opens a file for the commands that read no file but a sound one.
+//! Opens a file for the commands that need it to be sound.
 ghost use Rattle.std.specs.Prelude.{◌≡◌, IfErr, IfOk, true};
 ghost use Rattle.bolt_check.specs.CheckedFiles.{bytes_of, has_accounts, meta_of};
 ghost use Rattle.bolt_check.specs.Sound.{IsRefused, IsSound};
@@ -11,7 +11,7 @@ use crate::failure::Failure;
 use bolt_check::{CheckFault, Checked, check};
 use std::alloc::Global;
 
-/// The file, where it is sound for the meta in force.
+/// The file, if it is sound for the active meta.
 pub(crate) fn open_checked(alloc: Global, file: &[u8]) -> Result<Checked<'_>, Failure>
     ensures bytes { IfOk result (λ checked. bytes_of checked ≡ file.now) }
     ensures sound { IfOk result (λ checked. (slot : Slot) × IsChosen file.now slot (meta_of checked) × IsSound file.now (meta_of checked) true) }
@@ -24,7 +24,7 @@ pub(crate) fn open_checked(alloc: Global, file: &[u8]) -> Result<Checked<'_>, Fa
     }
 }
 
-/// What is told of a refused file: of its findings the first alone.
+/// The failure of a refused file: only its first finding.
 pub(crate) fn first_told(fault: &CheckFault) -> Failure
     requires { TellsSome fault.now }
     ensures { IsToldAs fault.now result }

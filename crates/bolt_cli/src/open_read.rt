@@ -1,4 +1,4 @@
-//! Opens a file for the commands that read what it holds.
+//! Opens a file for the commands that read its entries.
 ghost use Rattle.std.specs.Prelude.{◌≡◌, IfErr, IfOk};
 ghost use Rattle.bolt_check.specs.CheckedFiles.{bytes_of, meta_of};
 ghost use Rattle.bolt_check.specs.declared.fault.CheckFault.{CheckFault};
@@ -11,8 +11,8 @@ use bolt_check::{Checked, check_slot};
 use bolt_format::Slot;
 use std::alloc::Global;
 
-/// The file under the meta of a slot, where its trees are sound; without a slot under the meta in
-/// force, where its accounts are right too.
+/// Opens the file under the meta of a slot, if its trees are sound. Without a slot, opens it under
+/// the active meta, if its accounts are right too.
 pub(crate) fn open_read(
     alloc: Global,
     file: &[u8],

@@ -6,7 +6,7 @@ use crate::failure::Failure;
 use bolt_format::{Sink, choose};
 use bolt_report::page_text;
 
-/// Puts the text of a page.
+/// Writes the text of a page.
 pub(crate) fn print_page<O: Sink>(file: &[u8], id: u64, out: &mut O) -> Result<u8, Failure>
     ensures { (answer : Answer) × IsOpenAnswer file.now (λ slot meta. page_answer (page_text_fault file.now meta id) (page_text file.now meta id)) answer
         × Does O.taken O.failed out.old out.new answer result }

@@ -4,7 +4,7 @@ ghost use Rattle.bolt_format.specs.Metas.{IsPageSize};
 
 use bolt_format::page_size_ok;
 
-/// A page size that is accepted.
+/// An accepted page size.
 #[derive(Clone, Copy, Debug)]
 pub struct PageSize {
     pub bytes: u64,
@@ -12,7 +12,7 @@ pub struct PageSize {
 }
 
 impl PageSize {
-    /// The page size of this many bytes, where pages may have them.
+    /// The page size of this many bytes, if it is accepted.
     pub fn new(bytes: u64) -> Option<PageSize>
         ensures same { IfSome result (λ size. size.bytes ≡ bytes) }
         ensures refused { IfNone result (¬ IsPageSize bytes) }

@@ -7,7 +7,7 @@ use bolt_format::Sink;
 use bolt_report::pages;
 use std::alloc::Global;
 
-/// Puts the table of all pages.
+/// Writes the table of all pages.
 pub(crate) fn print_pages<O: Sink>(alloc: Global, file: &[u8], out: &mut O) -> Result<u8, Failure>
     ensures { (answer : Answer) × IsCheckedAnswer file.now (IsPagesAnswer file.now) IsFileRefusal answer
         × Does O.taken O.failed out.old out.new answer result }

@@ -1,6 +1,6 @@
-//! How the words of a path are written.
+//! How the parts of a path are written.
 
-/// How a command line writes the parts of a path.
+/// How the parts of a path are written on a command line.
 #[derive(Clone, Copy, Debug, PartialEq, Eq)]
 pub(crate) enum Parts {
     /// As they are.

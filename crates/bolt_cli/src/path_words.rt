@@ -1,4 +1,4 @@
-//! Reads the words by which a command line writes a path.
+//! Reads paths from the words of a command line.
 ghost use Rattle.std.specs.Prelude.{◌≡◌, ◌==◌, IfOk, length, map, option_map};
 ghost use Rattle.std.specs.List.{list_any, slice_split};
 ghost use Rattle.bolt_cli.specs.CommandLine.{Gives};
@@ -45,7 +45,7 @@ fn read_part(alloc: Global, parts: Parts, word: &str) -> Result<Vec<u8>, Refusal
     }
 }
 
-/// The path where a listing begins, by the value of `--from`.
+/// The path at which a listing begins, by the value of `--from`.
 pub(crate) fn read_from(alloc: Global, word: Option<&str>) -> Result<Vec<Vec<u8>>, Refusal>
     ensures { Gives (λ path. path_in path.items) (hex_path_by (option_map (λ text. text.now) word.entry)) result }
 {
@@ -55,7 +55,7 @@ pub(crate) fn read_from(alloc: Global, word: Option<&str>) -> Result<Vec<Vec<u8>
     }
 }
 
-/// The path whose parts stand in hexadecimal between slashes.
+/// The path whose parts are in hexadecimal, between slashes.
 fn read_hex_path(alloc: Global, word: &str) -> Result<Vec<Vec<u8>>, Refusal>
     ensures { Gives (λ path. path_in path.items) (hex_path_of word.now) result }
 {

@@ -1,4 +1,4 @@
-//! Runs a job: what it writes, and its status.
+//! Runs a job.
 ghost use Rattle.std.specs.Prelude.{◌≡◌, Result};
 ghost use Rattle.bolt_cli.specs.Answers.{DoesJob, Ending, Takes, status_of, told};
 
@@ -18,8 +18,9 @@ use crate::status::Status;
 use bolt_format::Sink;
 use std::alloc::Global;
 
-/// Does a job on the bytes of its file (docs/COMMANDS.md, "What a run writes"): the text goes to
-/// `out`, the line of a failure to `err`, and a copy to `target`, which other jobs don't touch.
+/// Does a job on the bytes of its file, and returns its status (docs/COMMANDS.md, "What a run
+/// writes"). It writes the text to `out`, the line of a failure to `err`, and a copy to `target`;
+/// other jobs don't touch `target`.
 pub fn run<O: Sink, E: Sink, T: Sink>(
     alloc: Global,
     job: &Job,
@@ -38,7 +39,7 @@ pub fn run<O: Sink, E: Sink, T: Sink>(
     }
 }
 
-/// Tells a failure, whatever becomes of its line.
+/// Reports a failure. The status is the same if its line can't be written.
 fn tell<E: Sink>(failure: &Failure, err: &mut E) -> Status
     ensures status { result.code ≡ 1 }
     ensures line { Takes E.taken E.failed err.old err.new (told (Err failure.now)) }
@@ -47,7 +48,7 @@ fn tell<E: Sink>(failure: &Failure, err: &mut E) -> Status
     Status { code: 1 }
 }
 
-/// Does a job, and answers its status.
+/// Does a job, and returns its status.
 fn do_job<O: Sink, T: Sink>(
     alloc: Global,
     job: &Job,

@@ -15,7 +15,7 @@ use bolt_report::{Stats, add, stats, stats_text};
 use bolt_tree::Bucket;
 use std::alloc::Global;
 
-/// Puts the figures of the root's buckets, added up.
+/// Writes the figures of the root's buckets, added up.
 pub(crate) fn print_stats<O: Sink>(
     alloc: Global,
     file: &[u8],
@@ -44,7 +44,7 @@ fn sum_buckets(alloc: Global, bucket: &Bucket<'_>) -> Result<Stats, NoMemory>
     Ok(total)
 }
 
-/// The figures so far, and those of the entry with this key where it is a bucket.
+/// Adds the figures of the entry with this key, if it is a bucket.
 fn add_entry(
     alloc: Global,
     bucket: &Bucket<'_>,

@@ -3,6 +3,6 @@
 /// How a run ended.
 #[derive(Clone, Copy, Debug, PartialEq, Eq)]
 pub struct Status {
-    /// 0 where the job was done, 1 where a fault or findings were told.
+    /// 0 if the job is done; 1 if there was a fault, or if `check` found something.
     pub code: u8,
 }

@@ -1,10 +1,10 @@
-//! The lines of the commands: what stands on each, and what help says of it.
+//! The commands: their operands and options, and their help.
 
-/// An operand of a line.
+/// An operand of a command.
 #[derive(Clone, Copy, Debug)]
 pub(crate) struct Operand {
     pub name: &'static str,
-    /// Whether it takes each word that comes, of which there is one at least, or one word.
+    /// Whether it is one word, or one and all that follow.
     pub several: bool,
     pub help: &'static str,
 }
@@ -18,58 +18,58 @@ pub(crate) enum Flag {
     Short(char),
 }
 
-/// An option of a line.
+/// An option of a command.
 #[derive(Clone, Copy, Debug)]
 pub(crate) struct Choice {
     pub name: &'static str,
     pub flag: Flag,
-    /// What help calls the value, of an option that has one.
+    /// The name of its value in help, if it has one.
     pub value: Option<&'static str>,
     pub help: &'static str,
     pub required: bool,
 }
 
-/// The line of a command.
+/// A command.
 #[derive(Clone, Copy, Debug)]
 pub(crate) struct Syntax {
     pub name: &'static str,
     pub about: &'static str,
     pub operands: &'static [Operand],
-    /// In the order in which help tells them; on a line they stand anywhere.
+    /// In the order of help. On a command line the order is free.
     pub options: &'static [Choice],
-    /// What help says behind the options.
+    /// What help prints after the options.
     pub note: Option<&'static str>,
 }
 
 const FILE: Operand = Operand {
     name: "FILE",
     several: false,
-    help: "The database file; it is read, never written",
+    help: "The database file, which is never written to",
 };
 
 const ID: Operand = Operand {
     name: "ID",
     several: false,
-    help: "The page's number, in decimal",
+    help: "The page number, in decimal",
 };
 
 const BUCKET_PART: Operand = Operand {
     name: "PART",
     several: true,
-    help: "The keys of the buckets that lead to it, from the root bucket down",
+    help: "The path to the bucket: the names of buckets, from the root bucket down",
 };
 
 const KEY_PART: Operand = Operand {
     name: "PART",
     several: true,
-    help: "The keys of the buckets that lead to it, and last its own",
+    help: "The path to the key: the names of buckets, from the root bucket down, and then the key",
 };
 
 const FORM: Choice = Choice {
     name: "form",
     flag: Flag::Long("form"),
     value: Some("F"),
-    help: "How names and values are shown: printable (in hex what isn't plain ASCII), hex or bytes [default: printable]",
+    help: "How to print names, keys and values: printable (as they are if plain ASCII, otherwise in hex), hex or bytes [default: printable]",
     required: false,
 };
 
@@ -85,7 +85,7 @@ const FROM: Choice = Choice {
     name: "from",
     flag: Flag::Long("from"),
     value: Some("HEXPATH"),
-    help: "Where to begin: keys in hex joined by slashes, as the listing shows them",
+    help: "The path to begin at: keys in hex, joined by slashes, as list prints them",
     required: false,
 };
 
@@ -93,7 +93,7 @@ const META: Choice = Choice {
     name: "meta",
     flag: Flag::Long("meta"),
     value: Some("M"),
-    help: "Read the file under the meta in slot 0 or 1, whatever its freelist says",
+    help: "Read the file under the meta in slot 0 or 1, active or not, and ignore the freelist",
     required: false,
 };
 
@@ -101,7 +101,7 @@ const OUTPUT: Choice = Choice {
     name: "output",
     flag: Flag::Short('o'),
     value: Some("OUT"),
-    help: "The file that the copy goes to, which must not exist",
+    help: "The file to write the copy to; it must not exist",
     required: true,
 };
 
@@ -121,81 +121,81 @@ const FOR_BBOLT: Choice = Choice {
     required: false,
 };
 
-const COPY_NOTE: &str = "Use --for-bbolt if bbolt or etcd will write to the copy: bbolt assumes \
-    that each branch page has two children, and panics when it deletes below one that has a single \
-    child, as a plain copy can have.";
+const COPY_NOTE: &str = "Use --for-bbolt if bbolt or etcd will write to the copy. bbolt assumes \
+    that each branch page has at least two children, and can panic when it deletes below one that \
+    has a single child. A plain copy may have such pages.";
 
-/// The number that `--version` tells.
+/// The version that `--version` prints.
 pub(crate) const VERSION: &str = "0.1.0";
 
-/// The line of each command, in the order in which help tells them.
+/// All commands, in the order of help.
 pub(crate) static SYNTAXES: [Syntax; 10] = [
     Syntax {
         name: "info",
-        about: "Show the meta in force: page size, transaction, root, freelist, high-water mark",
+        about: "Print the active meta: page size, transaction id, root, freelist, high-water mark",
         operands: &[FILE],
         options: &[],
         note: None,
     },
     Syntax {
         name: "page",
-        about: "Show one page: its type and what it holds, keys and values in hex",
+        about: "Print one page: its type and its items, keys and values in hex",
         operands: &[FILE, ID],
         options: &[],
         note: None,
     },
     Syntax {
         name: "pages",
-        about: "Show what each page is for: a row for each, and how many free ones the file lacks",
+        about: "Print what each page is for, and count free pages past the end of the file",
         operands: &[FILE],
         options: &[],
         note: None,
     },
     Syntax {
         name: "check",
-        about: "Say whether the file is sound, and if not, each thing that is wrong",
+        about: "Check whether the file is sound; if it isn't, print what is wrong",
         operands: &[FILE],
         options: &[],
         note: None,
     },
     Syntax {
         name: "buckets",
-        about: "List the names of the buckets in the root bucket",
+        about: "Print the names of the buckets in the root bucket",
         operands: &[FILE],
         options: &[FORM, META],
         note: None,
     },
     Syntax {
         name: "keys",
-        about: "List the keys of a bucket, those of its buckets among them",
+        about: "Print the keys of a bucket, and the names of the buckets in it",
         operands: &[FILE, BUCKET_PART],
         options: &[FORM, PARTS, META],
         note: None,
     },
     Syntax {
         name: "get",
-        about: "Show the value of a key",
+        about: "Print the value of a key",
         operands: &[FILE, KEY_PART],
         options: &[FORM, PARTS, META],
         note: None,
     },
     Syntax {
         name: "stats",
-        about: "Show figures of all buckets: how many, how deep, and what their pages hold",
+        about: "Print figures of all buckets together: their number, keys, depth and pages",
         operands: &[FILE],
         options: &[META],
         note: None,
     },
     Syntax {
         name: "list",
-        about: "List all that the file holds, keys and values in hex, in the order of paths",
+        about: "Print everything in the file, one line for each path, in hex",
         operands: &[FILE],
         options: &[FROM, META],
         note: None,
     },
     Syntax {
         name: "compact",
-        about: "Write a compact copy: all that the file holds, and no free pages",
+        about: "Write a compact copy: everything in the file, and no free pages",
         operands: &[FILE],
         options: &[OUTPUT, PAGE_SIZE, FOR_BBOLT, META],
         note: Some(COPY_NOTE),

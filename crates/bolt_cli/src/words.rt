@@ -17,18 +17,19 @@ use clap::error::ErrorKind;
 use clap::{ArgMatches, Error};
 use std::alloc::{AllocError, AllocFailed, Global};
 
-/// Why words give no job.
+/// Why words aren't a job.
 #[derive(Debug, Drop)]
 pub enum Refusal {
     /// Memory ran out.
     Memory,
-    /// Help was asked for: its text.
+    /// Help was asked for. This is its text.
     Help(String),
-    /// The version was asked for: its line.
+    /// The version was asked for. This is its line.
     Version(String),
-    /// The words are no line of a command: the text that says why.
+    /// The words are no line of a command. This text says why.
     Usage(String),
-    /// The words are a line of a command, but one of them can't be read: what is wrong with it.
+    /// The words are a line of a command, but one of them can't be read. This says what is wrong
+    /// with it.
     Word(&'static str),
 }
 
@@ -48,25 +49,17 @@ impl<T: Drop> From<AllocFailed<T>> for Refusal {
     }
 }
 
-/// Reads the words of a command line, of which the first is the program's name.
-///
-/// The lines are `info FILE`, `page FILE ID`, `pages FILE`, `check FILE`, `buckets FILE [--form F]`,
-/// `keys FILE PART.. [--form F] [--parts P]`, `get FILE PART.. [--form F] [--parts P]`, `stats FILE`,
-/// `list FILE [--from HEXPATH]` and `compact -o OUT FILE [--page-size N] [--for-bbolt]`; `buckets` and
-/// those behind it also take `--meta M`, with M 0 or 1. Options stand before, between or behind the
-/// operands, once each, as `--form hex` or `--form=hex`, and `-o OUT`, `-oOUT` or `-o=OUT`. A word
-/// that begins with a hyphen and has more is an option, unless `--` stands before it. An ID is
-/// decimal digits, at least one, of a number below 2^64; F is `printable`, `hex` or `bytes`; P is
-/// `text` or `hex` and says how each PART is written; a HEXPATH is parts in hexadecimal, of at
-/// least one byte each, joined by slashes; N is decimal digits of an accepted page size.
+/// Reads the words of a command line. The first one is the program's name. docs/COMMANDS.md has the
+/// commands, and says how each word is written.
 ///
 /// # Errors
 ///
-/// Words that are no such line are refused, with `Refusal::Help` where help is asked for before a
-/// word is out of place, with `Refusal::Version` where `--version` or `-V` stands in the place of a
-/// command, and else with `Refusal::Usage`. A line with a word that can't be read is refused as
-/// `Refusal::Word`: `bad page id`, `bad form`, `bad parts`, `bad hex`, `bad meta` or `bad page size`.
-/// `Refusal::Memory` comes where memory runs out.
+/// - `Help` if help is asked for before a word is out of place.
+/// - `Version` if `--version` or `-V` is in the place of a command.
+/// - `Usage` if the words are no line of a command for another reason.
+/// - `Word` if the words are a line of a command, but one of them can't be read: `bad page id`,
+///   `bad form`, `bad parts`, `bad hex`, `bad meta` or `bad page size`.
+/// - `Memory` if memory runs out.
 pub fn read_words(alloc: Global, words: Vec<String>) -> Result<Job, Refusal>
     ensures answer { let texts = map string_bytes words.items in let line = line_of texts in
         MatchResult result (λ job. line ≡ asks (asked_of job)) (IsRefusalOf texts line) }
@@ -77,7 +70,7 @@ pub fn read_words(alloc: Global, words: Vec<String>) -> Result<Job, Refusal>
     read(alloc, words)
 }
 
-// The same, by what `clap` is told of the command line.
+// Reads them by the command line as `clap` knows it.
 fn read(alloc: Global, words: Vec<String>) -> Result<Job, Refusal>
     ensures job { IfOk result (Asks (map string_bytes words.items)) }
     ensures refusal { let texts = map string_bytes words.items in
@@ -230,7 +223,7 @@ fn read_compact(alloc: Global, matches: &ArgMatches<'_>) -> Result<Job, Refusal>
     })
 }
 
-// The path that the words of PART write.
+// The path that the words of PART stand for.
 fn read_parts_of(alloc: Global, matches: &ArgMatches<'_>) -> Result<Vec<Vec<u8>>, Refusal>
     ensures { Gives (λ path. path_in path.items) (path_by (values_in (rows_of (found_of matches.now)))) result }
 {
@@ -247,7 +240,7 @@ fn read_text(alloc: Global, matches: &ArgMatches<'_>, id: &str) -> Result<String
     Ok(String::from_str(alloc, value(matches, id)?)?)
 }
 
-// The value of an argument that a line has.
+// The value of an argument that is required.
 fn value<'a>(matches: &ArgMatches<'a>, id: &str) -> Result<&'a str, Refusal>
     ensures { Gives (λ text. text.now) (text_by id.now (values_in (rows_of (found_of matches.now)))) result }
 {
@@ -257,7 +250,7 @@ fn value<'a>(matches: &ArgMatches<'a>, id: &str) -> Result<&'a str, Refusal>
     }
 }
 
-// The value of an argument that a line may have.
+// The value of an argument that may be missing.
 fn choice<'a>(matches: &ArgMatches<'a>, id: &str) -> Option<&'a str>
     ensures { option_map (λ text. text.now) result ≡ first_of (values_in (rows_of (found_of matches.now)) id.now) }
 {
@@ -285,7 +278,7 @@ fn read_page_size(word: Option<&str>) -> Result<Option<PageSize>, Refusal>
     }
 }
 
-// The layout of a copy, by the word of the option that asks for the balanced one.
+// The layout of a copy: balanced if the option's word is given.
 fn read_layout(word: Option<&str>) -> Layout
     ensures { result ≡ layout_by (option_map (λ text. text.now) word.entry) }
 {
@@ -301,11 +294,11 @@ fn read_size(word: &str) -> Option<PageSize>
     PageSize::new(read_number(word)?)
 }
 
-// The number that digits alone write.
+// The number that these digits stand for.
 fn read_number(word: &str) -> Option<u64>
     ensures { result ≡ number_of word.now }
 {
-    // `parse` would take a plus before the digits.
+    // `parse` would accept a plus before the digits.
     if word.starts_with('+') {
         return None;
     }

@@ -1,4 +1,4 @@
--- A file has one meta in force.
+-- A file has one active meta.
 use Rattle.std.proofs.Common.{◌≡◌, ◌∙◌, ℕ, ◌*◌, ◌^◌, ◌<◌, ◌≤◌, ◌==◌, List, Option, Some, None, IfNone, OnErr, ok_or, arith, sym, ap, inl, inr, subst, refl, get_or, eq-eqb}
 use Rattle.std.proofs.Math.Pow.{pow_mono}
 use Rattle.std.proofs.lemmas.Bool.{cases_lt, eqb-true}

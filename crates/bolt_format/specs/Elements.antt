@@ -45,7 +45,7 @@ branch_element bytes i = record {
   child = branch_child bytes i;
 }
 
--- leaf element i: its flags, and where its key and the value behind it lie
+-- leaf element i: its flags, and where its key and the value after it are
 unfoldable pub leaf_flags : List ℕ → ℕ → ℕ
 leaf_flags bytes i = number_at bytes (element_at i) 4
 
@@ -101,7 +101,7 @@ value_length_fault n = if nat_lt 0x7FFFFFFE n then Some VALUE_LENGTH else None
 abbrev pub leaf_flags_fault : ℕ → Option ℕ
 leaf_flags_fault flags = if flags == 0 || flags == 1 then None else Some LEAF_FLAGS
 
--- the tests of data from start to end, where that of the elements before ends at `free`
+-- the tests of data from start to end; the data of the preceding elements ends at `free`
 abbrev pub data_fault : List ℕ → (free start end : ℕ) → Option ℕ
 data_fault bytes free start end =
     if nat_lt start free then Some DATA_ORDER
@@ -113,7 +113,7 @@ unfoldable pub branch_fault : List ℕ → ℕ → ℕ → Option ℕ
 branch_fault bytes free i =
     first_of (key_length_fault (branch_key_length bytes i)) (data_fault bytes free (branch_key_start bytes i) (branch_end bytes i))
 
--- the tests of leaf element i, but for those of a bucket's value
+-- the tests of leaf element i, without those of a bucket's value
 unfoldable pub plain_leaf_fault : List ℕ → ℕ → ℕ → Option ℕ
 plain_leaf_fault bytes free i =
     first_of (leaf_flags_fault (leaf_flags bytes i))
@@ -151,7 +151,7 @@ head_sequence value = number_at value 8 8
 abbrev pub head_fault : List ℕ → Option ℕ
 head_fault value = if nat_lt (length value) 16 then Some BUCKET_SHORT else None
 
--- The page in the value of a bucket whose root is 0: it has a header, which is that of a leaf, and its elements are good.
+-- The page in the value of a bucket whose root is 0 has the header of a leaf, and its elements are good.
 abbrev pub inline_page_fault : List ℕ → Option ℕ
 inline_page_fault bytes =
     if nat_lt (length bytes) 16 || (not (flags_field bytes == 2) || is_some (leaves_fault head_fault bytes (count_field bytes))) then Some INLINE_PAGE
@@ -166,7 +166,7 @@ inline_fault bytes =
     first_of (inline_page_fault bytes)
     (if has_bucket bytes (count_field bytes) then Some INLINE_NESTED else None)
 
--- what stands behind a bucket's root page and sequence
+-- what follows a bucket's root page and sequence
 abbrev pub inline_bytes : List ℕ → List ℕ
 inline_bytes value = drop 16 value
 

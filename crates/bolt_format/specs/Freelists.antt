@@ -11,7 +11,7 @@ use Rattle.bolt_format.specs.declared.kind.Kind.TheVariants as kind
 use Rattle.bolt_format.specs.declared.meta.Meta.{Meta}
 use Rattle.bolt_format.specs.declared.meta.TheConstants.{NO_FREELIST}
 
--- A count of 0xFFFF stands for the number in the first 8 bytes, behind which the ids follow.
+-- A count of 0xFFFF means that the first 8 bytes are the number of ids, and that the ids follow.
 abbrev pub id_count : ℕ → List ℕ → ℕ
 id_count count bytes = if count == 0xFFFF then number_at bytes 16 8 else count
 
@@ -47,7 +47,7 @@ free_ids_at file meta id =
     let bytes = span_bytes file meta id in
     ids_from bytes (ids_start count) (id_count count bytes)
 
--- A meta that says so has no freelist.
+-- a meta may say that no freelist was written
 abbrev pub freelist_fault_of : List ℕ → Meta → Option ℕ
 freelist_fault_of file meta = if meta.freelist == NO_FREELIST then None else freelist_fault file meta meta.freelist
 

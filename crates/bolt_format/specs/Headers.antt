@@ -1,10 +1,10 @@
--- The header that a page begins with: docs/FORMAT.md, "Page header".
+-- The header at the start of a page: docs/FORMAT.md, "Page header".
 use Rattle.std.specs.Prelude.{◌==◌, ℕ, List, Option, Some, None, if◌then◌else◌}
 use Rattle.bolt_format.specs.Bytes.{number_at}
 use Rattle.bolt_format.specs.declared.kind.Kind.{Kind}
 use Rattle.bolt_format.specs.declared.kind.Kind.TheVariants as kind
 
--- the fields of the header at the beginning of these bytes
+-- the fields of the header in the first 16 bytes
 abbrev pub id_field : List ℕ → ℕ
 id_field bytes = number_at bytes 0 8
 

@@ -1,4 +1,4 @@
--- The meta records of a file, and which of them is in force: docs/FORMAT.md, "Meta pages" and "The meta in force".
+-- The meta records of a file, and which of them is active: docs/FORMAT.md, "Meta pages" and "The active meta".
 use Rattle.std.specs.Prelude.{IsTrue, ◌≡◌, ◌≤◌, ◌<◌, ◌⊎◌, ◌==◌, ℕ, ◌+◌, ◌*◌, ◌^◌, List, length, map, take, drop}
 use Rattle.std.specs.List.{list_any, range_with_len}
 use Rattle.bolt_format.specs.Bytes.{number_at, fnv_of}
@@ -18,7 +18,7 @@ page_sizes = map (λ k. 1024 * 2 ^ k) (range_with_len 0 page_size_count)
 abbrev pub IsPageSize : ℕ → Type 0
 IsPageSize n = IsTrue (list_any (λ size. size == n) page_sizes)
 
--- The five tests of the page that begins at byte `at`: its record stands behind a header of 16 bytes.
+-- The five tests of the page that begins at byte `at`: its record follows a header of 16 bytes.
 abbrev pub IsWhole : List ℕ → ℕ → Type 0
 IsWhole file at = at + 80 ≤ length file
 
@@ -32,7 +32,7 @@ HasVersion file at = number_at file (at + 20) 4 ≡ 2
 abbrev pub HasSum : List ℕ → ℕ → Type 0
 HasSum file at = number_at file (at + 72) 8 ≡ fnv_of (take 56 (drop (at + 16) file))
 
--- the page size is accepted, and the page stands at byte 0 or at that size
+-- the page size is accepted, and the page is at byte 0 or at that size
 abbrev pub size_at : List ℕ → ℕ → ℕ
 size_at file at = number_at file (at + 24) 4
 
@@ -49,7 +49,7 @@ meta_fields file at = record {
   txid = number_at file (at + 64) 8;
 }
 
--- the page at this byte has a valid record, which says this
+-- the page at this byte has a valid record with these fields
 pub record IsMeta (file : List ℕ) (at : ℕ) (meta : Meta) : Type 0 where
   pub whole : IsWhole file at
   pub magic : HasMagic file at
@@ -75,7 +75,7 @@ pub record IsLoneMeta (file : List ℕ) (meta : Meta) : Type 0 where
   pub valid : IsMeta file at meta
   pub least : (before : ℕ) (other : Meta) → IsPageSize before → before < at → IsMeta file before other → ⊥
 
--- Slot one is at the page size that a valid record in slot zero names; with none there, at the least accepted page size that has a valid one.
+-- If slot zero has a valid record, slot one is at its page size; otherwise it is at the least accepted page size that has a valid record.
 abbrev pub IsInOne : List ℕ → Meta → Type 0
 IsInOne file meta =
     ((zero : Meta) × IsMeta file 0 zero × IsMeta file zero.page_size meta)
@@ -85,7 +85,7 @@ abbrev pub IsInSlot : List ℕ → Slot → Meta → Type 0
 IsInSlot file Zero meta = IsMeta file 0 meta
 IsInSlot file One meta = IsInOne file meta
 
--- Why a slot has no valid record: the fault of its byte, and of byte 0 where the byte of slot one is not known.
+-- Why a slot has no valid record: the fault of its byte, or of byte 0 if the byte of slot one isn't known.
 abbrev pub HasSlotFault : List ℕ → Slot → MetaFault → Type 0
 HasSlotFault file Zero fault = HasMetaFault file 0 fault
 HasSlotFault file One fault =
@@ -96,7 +96,8 @@ abbrev pub other_slot : Slot → Slot
 other_slot Zero = One
 other_slot One = Zero
 
--- the meta in force: valid, and where the other slot has a valid one too, of the greater transaction, or of equal ones in slot zero
+-- the active meta: it is valid and, if the other slot has a valid one too, has the greater transaction id; if these are equal, it is in
+-- slot zero
 pub record IsChosen (file : List ℕ) (slot : Slot) (meta : Meta) : Type 0 where
   pub valid : IsInSlot file slot meta
   pub newest : (other : Meta) → IsInSlot file (other_slot slot) other → (other.txid < meta.txid) ⊎ ((other.txid ≡ meta.txid) × (slot ≡ Zero))

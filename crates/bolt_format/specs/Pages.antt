@@ -1,4 +1,4 @@
--- The tests of a page in their order, and what a good page shows: docs/FORMAT.md, "The tests of a page".
+-- The tests of a page in order, and what a good page shows: docs/FORMAT.md, "The tests of a page".
 use Rattle.std.specs.Prelude.{◌==◌, ◌<◌, ◌≤◌, ℕ, ◌+◌, ◌*◌, not, nat_lt, nat_le, List, [], length, drop, Option, Some, None, if◌then◌else◌, is_some, slice_range}
 use Rattle.bolt_format.specs.Headers.{id_field, flags_field, count_field, overflow_field, kind_of}
 use Rattle.bolt_format.specs.Elements.{BranchElement, LeafElement, first_of, branch_elements, branches_fault, leaf_elements, leaves_fault, value_fault}
@@ -29,7 +29,7 @@ span_fault file meta id =
 abbrev pub span_bytes : List ℕ → Meta → ℕ → List ℕ
 span_bytes file meta id = slice_range file (id * meta.page_size) ((id + 1 + page_overflow file meta id) * meta.page_size)
 
--- the tests of what a page holds
+-- the tests of a page's content
 abbrev pub content_fault : Kind → ℕ → List ℕ → Option ℕ
 content_fault kind.Branch count bytes = branches_fault bytes count
 content_fault kind.Leaf count bytes = leaves_fault value_fault bytes count
@@ -66,7 +66,7 @@ view_of kind count overflow bytes = record {
   leaves = shown_leaves kind count bytes;
 }
 
--- with the kind known, the first fault, or what is shown
+-- once the kind is known, the first fault, or what is shown
 abbrev pub fault_as : Option Kind → ℕ → List ℕ → Option ℕ
 fault_as (Some kind) count bytes = content_fault kind count bytes
 fault_as None count bytes = None
@@ -82,7 +82,7 @@ shown_as None (Some kind) count overflow bytes = Some (view_of kind count overfl
 shown_as None None count overflow bytes = None
 shown_as (Some fault) kind count overflow bytes = None
 
--- what a page shows, where it is good
+-- what a page shows, if it is good
 unfoldable pub page_at : List ℕ → Meta → ℕ → Option PageView
 page_at file meta id =
     shown_as (page_fault file meta id) (kind_of (flags_field (from_page file meta id)))

@@ -1,4 +1,4 @@
-//! What a bucket's value gives: its head, and the leaf page that an inline bucket has in it.
+//! What the value of a bucket's element contains: its head and, if it is inline, its leaf page.
 ghost use Rattle.std.specs.Prelude.{◌≡◌, ◌<◌, None, Some, false, length, slice_get};
 ghost use Rattle.std.proofs.Props.{props};
 ghost use Rattle.bolt_format.specs.Elements.{has_bucket, head_fault, leaves_fault};
@@ -9,7 +9,7 @@ use crate::element::{Leaf, leaf_at};
 /// The bytes of a bucket's value before its inline page.
 pub(crate) const HEAD_LEN: usize = 16;
 
-/// What a bucket's value begins with (docs/FORMAT.md, "Buckets").
+/// The first 16 bytes of a bucket's value (docs/FORMAT.md, "Buckets").
 #[derive(Clone, Copy, Debug, PartialEq, Eq)]
 pub struct Head {
     /// The page number of the bucket's root page, or 0 for an inline bucket.
@@ -18,8 +18,8 @@ pub struct Head {
     pub sequence: u64,
 }
 
-/// The page of an inline bucket, which passed all tests. It reads its elements in the file's bytes,
-/// each in constant time.
+/// The page of an inline bucket, which passed all tests. Its elements are read in place, each in
+/// constant time.
 #[derive(Clone, Copy)]
 pub struct Inline<'a> {
     pub(crate) count: u16,
@@ -31,14 +31,14 @@ pub struct Inline<'a> {
 impl<'a> Inline<'a> {
     ghost use Rattle.bolt_format.specs.ShownInline.{shown_inline};
 
-    /// How many elements it has.
+    /// The number of its elements.
     pub fn count(&self) -> u16
         ensures { result ≡ length (shown_inline self.now) }
     {
         self.count
     }
 
-    /// Element `i`, which is a value.
+    /// Element `i`, which is a value. `i` is below `count`.
     pub fn leaf(&self, i: u16) -> Leaf<'a>
         requires { i < length (shown_inline self.now) }
         ensures element { slice_get (shown_inline self.now) i ≡ Some (leaf_view result) }

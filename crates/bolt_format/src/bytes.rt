@@ -1,4 +1,4 @@
-//! Little-endian numbers at a place in the bytes.
+//! Little-endian numbers at a position in the bytes.
 ghost use Rattle.std.specs.Prelude.{◌≡◌, ◌+◌, ◌≤◌, length};
 ghost use Rattle.bolt_format.specs.Bytes.{number_at};
 

@@ -6,7 +6,7 @@ const FNV_BASIS: u64 = 0xcbf2_9ce4_8422_2325;
 
 const FNV_PRIME: u64 = 0x0100_0000_01b3;
 
-/// FNV-1a of 64 bits over the bytes, as docs/FORMAT.md gives it under "Checksum".
+/// The 64-bit FNV-1a checksum of the bytes (docs/FORMAT.md, "Checksum").
 #[tactic(auto, unfolding(crate::specs::Bytes::fnv_step, crate::specs::Bytes::fnv_of))]
 pub fn fnv1a(bytes: &[u8]) -> u64
     ensures { result ≡ fnv_of bytes.now }

@@ -12,7 +12,7 @@ use crate::fault::PageFault;
 use crate::header::{HEADER_LEN, Header, LEAF_FLAGS};
 use crate::kind::Kind;
 
-/// Tests what a page of a kind holds: its elements, where it is a branch or a leaf.
+/// Tests the content of a page: its elements, if it is a branch or a leaf.
 pub(crate) fn test_content(kind: Kind, bytes: &[u8], count: u16) -> Result<(), u8>
     ensures { result_err result ≡ content_fault kind count bytes.now }
 {
@@ -50,7 +50,8 @@ fn test_leaves(bytes: &[u8], count: u16) -> Result<(), u8>
     Ok(())
 }
 
-/// Tests the leaf elements of an inline page, of whose buckets only the first 16 bytes are asked.
+/// Tests the leaf elements of an inline page. Of the buckets among them only the first 16 bytes are
+/// tested.
 #[tactic(auto, using(crate::proofs::FaultLemmas::faults_from_step, crate::proofs::FaultLemmas::faults_from_end), unfolding(crate::specs::Elements::leaves_fault))]
 fn test_inline_leaves(bytes: &[u8], count: u16) -> Result<(), u8>
     ensures fault { result_err result ≡ leaves_fault head_fault bytes.now count }
@@ -67,7 +68,7 @@ fn test_inline_leaves(bytes: &[u8], count: u16) -> Result<(), u8>
     Ok(())
 }
 
-/// Tests that a bucket's value has its root page and its sequence.
+/// Tests that a bucket's value has room for its root page and its sequence.
 fn test_head(value: &[u8]) -> Result<(), u8>
     ensures { result_err result ≡ head_fault value.now }
 {
@@ -89,7 +90,7 @@ fn test_bucket_value(value: &[u8]) -> Result<(), u8>
     Ok(())
 }
 
-/// Tests the page in the value of an inline bucket: a leaf page that holds no bucket.
+/// Tests the page in the value of an inline bucket: a leaf page without buckets.
 #[tactic(auto, unfolding(crate::specs::Elements::inline_fault))]
 fn test_inline(bytes: &[u8]) -> Result<(), u8>
     ensures { result_err result ≡ inline_fault bytes.now }
@@ -101,7 +102,7 @@ fn test_inline(bytes: &[u8]) -> Result<(), u8>
     Ok(())
 }
 
-/// Tests the header of an inline page, and its elements, and answers how many they are.
+/// Tests the header of an inline page and its elements, and returns their number.
 fn test_inline_page(bytes: &[u8]) -> Result<u16, u8>
     ensures fault { result_err result ≡ inline_page_fault bytes.now }
     ensures count { IfOk result (λ count. (count ≡ count_field bytes.now) × (element_at count ≤ length bytes.now)) }

@@ -1,5 +1,5 @@
-//! The elements of branch and leaf pages. The bytes are those from the page's first one to the end
-//! of its span, or of an inline bucket's value.
+//! The elements of branch and leaf pages. The bytes are those from the page's first byte to the end
+//! of its span or, for an inline page, to the end of the bucket's value.
 ghost use Rattle.std.specs.Prelude.{◌≡◌, ◌+◌, ◌≤◌, length, IfOk};
 ghost use Rattle.std.specs.Result.{result_err};
 ghost use Rattle.bolt_format.specs.Elements.{branch_child, branch_element, branch_end, branch_fault, branch_key_start, data_fault, element_at, is_bucket_at, key_length_fault, leaf_element, leaf_end, leaf_flags, plain_leaf_fault, table_fault};
@@ -8,16 +8,16 @@ ghost use Rattle.bolt_format.specs.ElementPlaces.{IsBranchPlace, IsLeafPlace, br
 use crate::bytes::{u32_at, u64_at};
 use crate::fault::PageFault;
 
-/// The bytes of an element's header, and of the page header before the table.
+/// The length of an element's header, and of the page header before the table.
 const ELEMENT_LEN: usize = 16;
-/// The longest key in bytes.
+/// The length of the longest key.
 const MAX_KEY_LEN: usize = 0x4000_0000;
-/// The longest value in bytes.
+/// The length of the longest value.
 const MAX_VALUE_LEN: usize = 0x7FFF_FFFE;
 /// The flags of a leaf element that is a bucket.
 const BUCKET_FLAGS: u32 = 1;
 
-/// An element of a branch page: it leads to a child, whose keys are not below `key`.
+/// An element of a branch page. It leads to a child, whose keys are not below `key`.
 #[derive(Clone, Copy, Debug)]
 pub struct Branch<'a> {
     pub key: &'a [u8],
@@ -29,7 +29,7 @@ pub struct Branch<'a> {
 #[derive(Clone, Copy, Debug)]
 pub struct Leaf<'a> {
     pub key: &'a [u8],
-    /// The value's bytes, or those that give the bucket.
+    /// The bytes of the value or, for a bucket, those that `head` and `inline` read.
     pub value: &'a [u8],
     pub is_bucket: bool,
 }
@@ -49,14 +49,15 @@ pub(crate) struct LeafPlace {
     pub end: usize,
 }
 
-/// Where element `i` stands, and a table of `i` elements ends.
+/// The offset of element `i`, which is also the length of a table of `i` elements with the page
+/// header.
 pub(crate) fn element_offset(i: u16) -> usize
     ensures { result ≡ element_at i }
 {
     ELEMENT_LEN + ELEMENT_LEN * usize::from(i)
 }
 
-/// Tests that a table of elements lies within the bytes, and answers where it ends.
+/// Tests that a table of elements lies within the bytes, and returns where it ends.
 pub(crate) fn test_table(bytes: &[u8], count: u16) -> Result<usize, u8>
     ensures fault { result_err result ≡ table_fault bytes.now count }
     ensures end { IfOk result (λ end. end ≡ element_at count) }
@@ -77,7 +78,7 @@ fn test_key_length(length: usize) -> Result<(), u8>
     Ok(())
 }
 
-/// Tests data from `start` to `end`, where that of the elements before ends at `free`.
+/// Tests data from `start` to `end`. The data of the preceding elements ends at `free`.
 fn test_data(bytes: &[u8], free: usize, start: usize, end: usize) -> Result<(), u8>
     ensures { result_err result ≡ data_fault bytes.now free start end }
 {
@@ -112,7 +113,7 @@ pub(crate) fn child_at(bytes: &[u8], i: u16) -> u64
     u64_at(bytes, element_offset(i) + 8)
 }
 
-/// Tests branch element `i`, and answers where its data ends.
+/// Tests branch element `i`, and returns where its data ends.
 #[tactic(auto, unfolding(crate::specs::Elements::branch_fault))]
 pub(crate) fn test_branch(bytes: &[u8], free: usize, i: u16) -> Result<usize, u8>
     requires { element_at (i + 1) ≤ length bytes.now }
@@ -157,7 +158,7 @@ pub(crate) fn is_bucket(bytes: &[u8], i: u16) -> bool
     flags_at(bytes, i) == BUCKET_FLAGS
 }
 
-/// Tests leaf element `i`, but not a bucket's value, and answers where its parts lie.
+/// Tests leaf element `i`, but not the value of a bucket, and returns where its parts are.
 #[tactic(auto, unfolding(crate::specs::Elements::plain_leaf_fault))]
 pub(crate) fn test_leaf(bytes: &[u8], free: usize, i: u16) -> Result<LeafPlace, u8>
     requires { element_at (i + 1) ≤ length bytes.now }

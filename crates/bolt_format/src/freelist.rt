@@ -3,7 +3,8 @@ ghost use Rattle.std.specs.Prelude.{◌≡◌, ◌+◌, ◌*◌, ◌<◌, ◌≤
 
 use crate::bytes::u64_at;
 
-/// The page numbers that a freelist page holds, read in the file's bytes, each in constant time.
+/// The ids of a freelist page: the numbers of free pages. They are read in place, each in constant
+/// time.
 #[derive(Clone, Copy)]
 pub struct FreeIds<'a> {
     pub(crate) bytes: &'a [u8],
@@ -15,21 +16,21 @@ pub struct FreeIds<'a> {
 impl<'a> FreeIds<'a> {
     ghost use Rattle.bolt_format.specs.ShownIds.{shown_ids};
 
-    /// How many there are.
+    /// The number of ids.
     pub fn len(&self) -> usize
         ensures { result ≡ length (shown_ids self.now) }
     {
         self.len
     }
 
-    /// Whether there is none.
+    /// Whether there are no ids.
     pub fn is_empty(&self) -> bool
         ensures { IsTrue result ↔ (length (shown_ids self.now) ≡ 0) }
     {
         self.len() == 0
     }
 
-    /// Number `i` of them, in the order in which they stand.
+    /// Id `i`, in the order of the page. `i` is below `len`.
     pub fn get(&self, i: usize) -> u64
         requires { i < length (shown_ids self.now) }
         ensures { slice_get (shown_ids self.now) i ≡ Some result }

@@ -1,4 +1,4 @@
-//! A page that passed its tests, read in place.
+//! A page that passed its tests and is read in place.
 ghost use Rattle.std.specs.Prelude.{◌≡◌, ◌<◌, None, Some, IsTrue, length, slice_get};
 ghost use Rattle.std.proofs.Props.{props};
 ghost use Rattle.bolt_format.specs.Elements.{IsBucketValue};
@@ -8,7 +8,7 @@ ghost use Rattle.bolt_format.specs.Pages.{content_fault};
 use crate::element::{Branch, Leaf, branch_at, leaf_at};
 use crate::kind::Kind;
 
-/// A page that passed all tests. It reads its elements in the file's bytes, each in constant time.
+/// A page that passed all tests. Its elements are read in place, each in constant time.
 #[derive(Clone, Copy)]
 pub struct Page<'a> {
     pub(crate) kind: Kind,
@@ -21,7 +21,7 @@ pub struct Page<'a> {
 impl<'a> Page<'a> {
     ghost use Rattle.bolt_format.specs.Shown.{shown};
 
-    /// What the page is.
+    /// The kind of the page.
     #[tactic(auto, unfolding(crate::specs::Shown::shown))]
     pub fn kind(&self) -> Kind
         ensures { result ≡ (shown self.now).kind }
@@ -29,7 +29,7 @@ impl<'a> Page<'a> {
         self.kind
     }
 
-    /// The count in its header: how many elements a branch or a leaf has.
+    /// The count in its header: the number of elements of a branch or a leaf.
     #[tactic(auto, unfolding(crate::specs::Shown::shown))]
     pub fn count(&self) -> u16
         ensures count { result ≡ (shown self.now).count }
@@ -39,7 +39,7 @@ impl<'a> Page<'a> {
         self.count
     }
 
-    /// How many further pages its span has.
+    /// The number of further pages of its span.
     #[tactic(auto, unfolding(crate::specs::Shown::shown))]
     pub fn overflow(&self) -> u32
         ensures { result ≡ (shown self.now).overflow }
@@ -47,7 +47,7 @@ impl<'a> Page<'a> {
         self.overflow
     }
 
-    /// Element `i` of a branch page.
+    /// Element `i` of a branch page. `i` is below `count`.
     #[tactic(auto, unfolding(crate::specs::Shown::shown))]
     pub fn branch(&self, i: u16) -> Branch<'a>
         requires kind { (shown self.now).kind ≡ Kind.Branch }
@@ -57,7 +57,7 @@ impl<'a> Page<'a> {
         branch_at(self.span, i)
     }
 
-    /// Element `i` of a leaf page.
+    /// Element `i` of a leaf page. `i` is below `count`.
     #[tactic(auto, unfolding(crate::specs::Shown::shown))]
     pub fn leaf(&self, i: u16) -> Leaf<'a>
         requires kind { (shown self.now).kind ≡ Kind.Leaf }

@@ -1,31 +1,31 @@
-//! The header that a page begins with.
+//! The header at the start of a page.
 ghost use Rattle.std.specs.Prelude.{◌≡◌, ◌≤◌, length};
 ghost use Rattle.bolt_format.specs.Headers.{count_field, flags_field, id_field, kind_of, overflow_field};
 
 use crate::bytes::{u16_at, u32_at, u64_at};
 use crate::kind::Kind;
 
-/// The bytes of a page's header.
+/// The length of a page's header.
 pub(crate) const HEADER_LEN: usize = 16;
 
 /// The flags of a page that holds leaf elements.
 pub(crate) const LEAF_FLAGS: u16 = 0x02;
 
-/// What a page's header says (docs/FORMAT.md, "Page header").
+/// The fields of a page's header (docs/FORMAT.md, "Page header").
 #[derive(Clone, Copy)]
 pub(crate) struct Header {
     /// The page's own number.
     pub id: u64,
-    /// What kind of page it is.
+    /// The kind of page, one of four numbers.
     pub flags: u16,
-    /// How many elements or page numbers it holds.
+    /// The number of its elements or ids.
     pub count: u16,
-    /// How many further pages its span has.
+    /// The number of further pages of its span.
     pub overflow: u32,
 }
 
 impl Header {
-    /// The header at the beginning of the bytes.
+    /// Reads the header from the first 16 bytes.
     pub fn read(bytes: &[u8]) -> Header
         requires { 16 ≤ length bytes.now }
         ensures id { result.id ≡ id_field bytes.now }
@@ -41,7 +41,7 @@ impl Header {
         }
     }
 
-    /// The kind of page that the flags name, if they name one.
+    /// The kind of page that the flags stand for, if any.
     pub fn kind(self) -> Option<Kind>
         ensures { result ≡ kind_of self.flags }
     {

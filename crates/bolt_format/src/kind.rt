@@ -1,14 +1,14 @@
-//! What a page is.
+//! The kinds of pages.
 
-/// What a page is, by the flags in its header (docs/FORMAT.md, "Page header").
+/// The kind of a page, by the flags in its header (docs/FORMAT.md, "Page header").
 #[derive(Clone, Copy, Debug, PartialEq, Eq)]
 pub enum Kind {
-    /// Leads to other pages.
+    /// Its elements lead to other pages.
     Branch,
-    /// Holds keys with their values and buckets.
+    /// Its elements are keys with values or buckets.
     Leaf,
-    /// Holds a meta record.
+    /// Contains a meta record.
     Meta,
-    /// Holds the numbers of free pages.
+    /// Contains the numbers of free pages.
     Freelist,
 }

@@ -11,7 +11,7 @@ ghost use Rattle.bolt_format.specs.declared.meta.MetaFault.{MetaFault};
 ghost use Rattle.bolt_format.specs.declared.meta.Slot.{Slot};
 ghost use Rattle.bolt_format.specs.declared.meta.TheConstants.{METAS_END};
 
-/// The page at a byte has at most one fault, and none where its meta is valid.
+/// A page has at most one meta fault, and none if its meta is valid.
 pub fn meta_fault_is_one()
     ensures one { (file : List ℕ) (at : ℕ) (a b : MetaFault) → HasMetaFault file at a → HasMetaFault file at b → a ≡ b }
     ensures valid { (file : List ℕ) (at : ℕ) (fault : MetaFault) (meta : Meta) → HasMetaFault file at fault → IsMeta file at meta → ⊥ }
@@ -28,8 +28,8 @@ pub fn chosen_meta_is_one()
         → (other : Slot) (another : Meta) → IsChosen file other another → (other ≡ slot) × (another ≡ meta) }
 {}
 
-/// The metas of a file are those of its first `METAS_END` bytes, and so are the faults of slots
-/// without one.
+/// All metas of a file, and the faults of slots without a valid one, are those of its first
+/// `METAS_END` bytes.
 pub fn metas_lie_in_a_prefix()
     ensures chosen { (file : List ℕ) (slot : Slot) (meta : Meta) → IsChosen (take METAS_END file) slot meta ↔ IsChosen file slot meta }
     ensures slot { (file : List ℕ) (slot : Slot) (meta : Meta) → IsInSlot (take METAS_END file) slot meta ↔ IsInSlot file slot meta }
@@ -37,9 +37,9 @@ pub fn metas_lie_in_a_prefix()
     ensures slot_fault { (file : List ℕ) (slot : Slot) (fault : MetaFault) → HasSlotFault (take METAS_END file) slot fault ↔ HasSlotFault file slot fault }
 {}
 
-/// The elements of a good leaf, and those of an inline bucket, have lengths that the format allows;
-/// a bucket on a good leaf has a good value, no element of an inline bucket is a bucket, and the
-/// values of a file are bytes.
+/// The elements of a good leaf and of an inline bucket have lengths that the format allows. A
+/// bucket on a good leaf has a good value. No element of an inline bucket is a bucket. The values
+/// of a file are bytes.
 pub fn good_elements_fit()
     ensures leaf { (file : List ℕ) (meta : Meta) (id : ℕ) (view : PageView) (e : LeafElement)
         → page_at file meta id ≡ Some view → view.kind ≡ kind.Leaf → Contains view.leaves e

@@ -1,6 +1,5 @@
-//! The bytes of a bbolt database file: its metas, its pages and their elements, and the sinks that
-//! take what is written. What stands above this crate sees of a page what it shows, and none of its
-//! layout.
+//! The bytes of a bbolt database file: metas, pages and elements, and the sinks that output is
+//! written to. The crates above this one see what a page shows, not how it is laid out.
 #![tactic(auto)]
 
 mod bucket;

@@ -1,82 +1,86 @@
-//! The two meta records of a file, and which of them is in force.
+//! The two meta records of a file, and which of them is active.
 ghost use Rattle.std.specs.Prelude.{◌≡◌, ◌↔◌, IfErr, IfNone, IfOk, IfSome, IsTrue, OnErr};
 ghost use Rattle.bolt_format.specs.Metas.{HasMetaFault, HasSlotFault, IsChosen, IsInSlot, IsLoneMeta, IsMeta, IsPageSize};
 
 use crate::bytes::{u32_at, u64_at};
 use crate::checksum::fnv1a;
 
-/// The page sizes that are accepted, in bytes, from the smallest up.
+/// The accepted page sizes, in bytes, in rising order.
 pub const PAGE_SIZES: [u64; 16] = [
     1024, 2048, 4096, 8192, 16_384, 32_768, 65_536, 131_072, 262_144, 524_288, 1_048_576,
     2_097_152, 4_194_304, 8_388_608, 16_777_216, 33_554_432,
 ];
 
-/// No meta record has a byte from this one on: the greatest page size, and behind it a header and a
-/// record, which end 80 bytes further.
+/// No meta record goes beyond this many bytes: the greatest page size, and 80 bytes for a header
+/// and a record.
 pub const METAS_END: u64 = 33_554_512;
 
-/// The freelist field of a meta without a freelist.
+/// The freelist field of a meta if no freelist was written.
 pub const NO_FREELIST: u64 = u64::MAX;
 
-/// The bytes from the start of a meta page to the end of its record.
+/// The length of a page header and a meta record.
 const META_LEN: usize = 80;
 
 const MAGIC: u32 = 0xED0C_DAED;
 
 const VERSION: u32 = 2;
 
-/// What a meta record says (docs/FORMAT.md, "Meta pages"): the state of the database at one
-/// commit.
+/// The fields of a meta record: the state of the database at one commit (docs/FORMAT.md, "Meta
+/// pages").
 #[derive(Clone, Copy, Debug, PartialEq, Eq)]
 pub struct Meta {
-    /// The length of a page in bytes.
+    /// The page size in bytes.
     pub page_size: u32,
     /// The page number of the root bucket's root page.
     pub root: u64,
     /// The sequence of the root bucket.
     pub root_sequence: u64,
-    /// The page number of the freelist, or `NO_FREELIST` where none was written.
+    /// The page number of the freelist, or `NO_FREELIST` if none was written.
     pub freelist: u64,
-    /// The high-water mark: all pages in use have lower numbers.
+    /// The high-water mark: the numbers of all pages in use are below it.
     pub high_water: u64,
-    /// The transaction that wrote the record.
+    /// The id of the transaction that wrote the record.
     pub txid: u64,
 }
 
-/// Where a meta record stands.
+/// The place of a meta record in a file.
 #[derive(Clone, Copy, Debug, PartialEq, Eq)]
 pub enum Slot {
     /// At byte 0 of the file.
     Zero,
-    /// At the second page.
+    /// At byte `page_size`, the second page.
     One,
 }
 
-/// Why there is no valid meta record at a byte: the first of the tests, in this order, that fails.
+/// Why there is no valid meta record at a byte: the first test that fails. The tests are in this
+/// order.
 #[derive(Clone, Copy, Debug, PartialEq, Eq)]
 pub enum MetaFault {
-    /// Fewer than 80 bytes are there.
+    /// The file has fewer than 80 bytes from there on.
     Cut = 1,
     /// The magic number differs.
     Magic = 2,
-    /// The format's version isn't 2.
+    /// The version of the format isn't 2.
     Version = 3,
     /// The checksum differs.
     Sum = 4,
-    /// The page size isn't accepted, or the record stands neither at byte 0 nor at its page size.
+    /// The page size isn't accepted, or the record is neither at byte 0 nor at its page size.
     PageSize = 5,
 }
 
-/// Whether pages may have this many bytes: a power of two from 1,024 to
-/// 33,554,432.
+/// Whether `n` bytes are an accepted page size: a power of two from 1,024 to 33,554,432.
 pub fn page_size_ok(n: u64) -> bool
     ensures { IsTrue result ↔ IsPageSize n }
 {
     PAGE_SIZES.contains(&n)
 }
 
-/// The meta record of the page that begins at byte `at` (docs/FORMAT.md, "Meta pages"), or the
-/// first test that it fails. The page's own header isn't looked at.
+/// Reads the meta record of the page at byte `at` (docs/FORMAT.md, "Meta pages"). The page header
+/// is ignored.
+///
+/// # Errors
+///
+/// The first test that the record fails.
 pub fn meta_at(file: &[u8], at: usize) -> Result<Meta, MetaFault>
     ensures valid { IfOk result (IsMeta file.now at) }
     ensures fault { IfErr result (HasMetaFault file.now at) }
@@ -108,9 +112,12 @@ pub fn meta_at(file: &[u8], at: usize) -> Result<Meta, MetaFault>
     })
 }
 
-/// The meta in force, and its slot (docs/FORMAT.md, "The meta in force"): of two valid ones that
-/// of the greater transaction, of equal ones that of slot zero. Where no slot has a valid record,
-/// the fault is that of byte 0.
+/// Reads the active meta, and returns it with its slot (docs/FORMAT.md, "The active meta"): of two
+/// valid metas the one with the greater transaction id; if these are equal, that of slot zero.
+///
+/// # Errors
+///
+/// If neither slot has a valid meta, the fault of byte 0.
 pub fn choose(file: &[u8]) -> Result<(Slot, Meta), MetaFault>
     ensures chosen { IfOk result (λ c. IsChosen file.now c.0 c.1) }
     ensures only { IfOk result (λ c. (slot : _) (meta : _) → IsChosen file.now slot meta → (slot ≡ c.0) × (meta ≡ c.1)) }
@@ -129,12 +136,12 @@ pub fn choose(file: &[u8]) -> Result<(Slot, Meta), MetaFault>
     }
 }
 
-/// The meta record of a slot, be it in force or not (docs/FORMAT.md, "The meta in force").
+/// Reads the meta of a slot, active or not (docs/FORMAT.md, "The active meta").
 ///
 /// # Errors
 ///
-/// The fault of the byte at which the slot stands. For slot one without a valid record in slot
-/// zero, where no accepted page size has one, it is the fault of byte 0.
+/// The fault of the byte at which the slot begins. Without a valid meta in slot zero, slot one is
+/// searched for at all accepted page sizes; if none has a valid meta, the fault is that of byte 0.
 pub fn slot_meta(file: &[u8], slot: Slot) -> Result<Meta, MetaFault>
     ensures valid { IfOk result (IsInSlot file.now slot) }
     ensures fault { IfErr result (HasSlotFault file.now slot) }
@@ -150,7 +157,7 @@ pub fn slot_meta(file: &[u8], slot: Slot) -> Result<Meta, MetaFault>
     }
 }
 
-/// The first valid record at an accepted page size, for a file with none at byte 0.
+/// The first valid record at an accepted page size, for a file without one at byte 0.
 fn lone_meta(file: &[u8]) -> Option<Meta>
     ensures found { IfSome result (IsLoneMeta file.now) }
     ensures none { IfNone result ((meta : _) → IsLoneMeta file.now meta → ⊥) }

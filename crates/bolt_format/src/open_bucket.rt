@@ -1,4 +1,4 @@
-//! What the value of a bucket's element says.
+//! Reads the value of a bucket's element.
 ghost use Rattle.std.specs.Prelude.{◌≡◌};
 ghost use Rattle.bolt_format.specs.Elements.{IsBucketValue, head_root, head_sequence, inline_elements};
 ghost use Rattle.bolt_format.specs.ShownInline.{shown_inline};
@@ -7,7 +7,8 @@ use crate::bucket::{HEAD_LEN, Head, Inline};
 use crate::bytes::u64_at;
 use crate::header::Header;
 
-/// The root page and the sequence of a bucket.
+/// The root page and the sequence of a bucket, from its value. The value is that of a bucket on a
+/// good page.
 #[tactic(auto, using(crate::proofs::GoodPages::good_head))]
 pub fn head(value: &[u8]) -> Head
     requires { IsBucketValue value.now }
@@ -20,7 +21,8 @@ pub fn head(value: &[u8]) -> Head
     }
 }
 
-/// The page that a bucket whose root is 0 has in its own value.
+/// The page of an inline bucket, from its value. The value is that of a bucket on a good page, and
+/// its root is 0.
 #[tactic(auto, using(crate::proofs::GoodPages::good_inline, crate::proofs::GoodPages::good_elements, crate::proofs::GoodPages::flat_elements), unfolding(crate::specs::ShownInline::shown_inline))]
 pub fn inline(value: &[u8]) -> Inline<'_>
     requires bucket { IsBucketValue value.now }

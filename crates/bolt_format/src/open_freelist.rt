@@ -13,14 +13,18 @@ use crate::kind::Kind;
 use crate::meta::{Meta, NO_FREELIST};
 use crate::open_page::{known_span, test_span};
 
-/// The count in the header that says that the number of ids stands in the first 8 bytes.
+/// The count in the header if the number of ids is in the first 8 bytes.
 const LONG_COUNT: u16 = 0xFFFF;
 /// The bytes before the ids in that form.
 const LONG_START: usize = 24;
 
-/// The numbers of the free pages (docs/FORMAT.md, "Freelist page"): `None` where no freelist was
-/// written. Otherwise the freelist's page is tested as far as its span; a page of another kind is
-/// `PAGE_KIND`, and ids past the span are `ELEMENT_CUT`. The fault's page is the freelist's.
+/// The ids of the freelist that a meta names (docs/FORMAT.md, "Freelist page"), or `None` if no
+/// freelist was written.
+///
+/// # Errors
+///
+/// The first test of its number, header and span that the page fails; `PAGE_KIND` if it isn't a
+/// freelist; `ELEMENT_CUT` if its ids go past its span. The fault has the freelist's page number.
 pub fn free_ids<'a>(file: &'a [u8], meta: &Meta) -> Result<Option<FreeIds<'a>>, PageFault>
     ensures ids { IfOk result (λ found. option_map shown_ids found ≡ free_ids_of file.now meta.now) }
     ensures good { OnOk result (freelist_fault_of file.now meta.now ≡ None) }
@@ -38,7 +42,7 @@ pub fn free_ids<'a>(file: &'a [u8], meta: &Meta) -> Result<Option<FreeIds<'a>>, 
     }
 }
 
-/// The ids of a page as a freelist.
+/// Reads page `id` as a freelist.
 #[tactic(auto, unfolding(crate::specs::Freelists::freelist_fault, crate::specs::Freelists::free_ids_at))]
 fn ids_at<'a>(file: &'a [u8], meta: &Meta, id: u64) -> Result<FreeIds<'a>, u8>
     ensures fault { result_err result ≡ freelist_fault file.now meta.now id }
@@ -67,7 +71,7 @@ fn ids_in(bytes: &[u8], count: u16) -> Result<FreeIds<'_>, u8>
     ids_within(bytes, LONG_START, u64_at(bytes, HEADER_LEN))
 }
 
-/// This many ids from byte `start` on.
+/// The `len` ids from byte `start` on.
 #[tactic(auto, unfolding(crate::specs::ShownIds::shown_ids))]
 fn ids_within(bytes: &[u8], start: usize, len: u64) -> Result<FreeIds<'_>, u8>
     requires { start ≤ 24 }

@@ -1,4 +1,4 @@
-//! Opens a page: the tests of its number, its header and its span, and of what it holds.
+//! Opens a page: tests its number, its header, its span and its content.
 ghost use Rattle.std.specs.Prelude.{◌≡◌, ◌+◌, ◌*◌, ◌<◌, ◌^◌, IfErr, IfOk, IsSome, None, OnErr, OnOk, Some};
 ghost use Rattle.std.specs.Result.{result_err};
 ghost use Rattle.bolt_format.specs.Pages.{IsInFile, page_at, page_fault, span_fault};
@@ -12,7 +12,7 @@ use crate::header::Header;
 use crate::kind::Kind;
 use crate::meta::Meta;
 
-/// The bytes of a page's span, with what its header says.
+/// The bytes of a page's span, and the fields of its header.
 #[derive(Clone, Copy)]
 pub(crate) struct Span<'a> {
     pub kind: Kind,
@@ -21,8 +21,11 @@ pub(crate) struct Span<'a> {
     pub bytes: &'a [u8],
 }
 
-/// Page `id` of a file under a meta (docs/FORMAT.md, "The tests of a page"), or the first test
-/// that it fails.
+/// Opens page `id` of a file under a meta (docs/FORMAT.md, "The tests of a page").
+///
+/// # Errors
+///
+/// The first test that the page fails.
 pub fn page<'a>(file: &'a [u8], meta: &Meta, id: u64) -> Result<Page<'a>, PageFault>
     ensures good { IfOk result (λ page. page_at file.now meta.now id ≡ Some (shown page)) }
     ensures within { IfOk result (λ page. IsInFile file.now meta.now id (shown page)) }
@@ -35,7 +38,7 @@ pub fn page<'a>(file: &'a [u8], meta: &Meta, id: u64) -> Result<Page<'a>, PageFa
     }
 }
 
-/// The same page where it is known to be good: nothing is tested again.
+/// Opens the same page, but tests nothing. The page is known to be good.
 #[tactic(auto, using(crate::proofs::GoodPages::good_fault, crate::proofs::GoodPages::good_content_at), unfolding(crate::specs::Pages::page_at, crate::specs::Shown::shown))]
 pub fn known<'a>(file: &'a [u8], meta: &Meta, id: u64) -> Page<'a>
     requires { IsSome (page_at file.now meta.now id) }

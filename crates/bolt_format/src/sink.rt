@@ -1,27 +1,32 @@
-//! Where written bytes go.
+//! Sinks: what output is written to.
 ghost use Rattle.std.specs.Prelude.{◌≡◌, ◌≢◌, ◌<◌, ℕ, List, [], Option, OnErr, OnOk, IsErr};
 ghost use Rattle.std.specs.Io.KnownBytes.{Appends, Keeps};
 ghost use Rattle.bolt_format.specs.Sinks.{AppendsBeginning, AppendsProperBeginning};
 
-/// A sink took only a beginning of what it was given, and takes nothing more from then on.
+/// A sink has failed. It has accepted a prefix of the bytes at most, and accepts no more from now
+/// on.
 #[derive(Clone, Copy, Debug, PartialEq, Eq)]
 pub struct SinkFault;
 
-/// Takes bytes in order, until it fails. What it took stays taken.
+/// Accepts bytes in order, until it fails. It keeps what it has accepted.
 pub trait Sink {
-    /// The bytes that it took so far, where it tells them.
+    /// The bytes accepted so far, if the sink shows them.
     ghost taken: { Self → Option (List ℕ) };
 
-    /// How many failures there were so far.
+    /// The number of failures so far.
     ghost failed: { Self → ℕ };
 
-    /// Appends the bytes. `Ok` says that all of them were taken; after an `Err`, which comes only
-    /// with a failure, a beginning was, and every later `put` answers `Err` and takes nothing.
+    /// Appends the bytes.
+    ///
+    /// # Errors
+    ///
+    /// The sink failed, in this call or in an earlier one. It has accepted a prefix of `bytes`;
+    /// every later `put` returns `Err` and appends nothing.
     fn put(&mut self, bytes: &[u8]) -> Result<(), SinkFault>
         ensures all { OnOk result (Appends (taken self.old) (taken self.new) bytes.now) }
         ensures sound { OnOk result (failed self.new ≡ failed self.old) }
 
-        // Whatever the answer is.
+        // Whatever the result is.
         ensures beginning { AppendsBeginning (taken self.old) (taken self.new) bytes.now }
         ensures short { OnErr result (bytes.now ≢ [] → AppendsProperBeginning (taken self.old) (taken self.new) bytes.now) }
         ensures failure { OnErr result (0 < failed self.new) }
@@ -30,7 +35,7 @@ pub trait Sink {
         ensures refuses { 0 < failed self.old → IsErr result }
         ensures keeps { 0 < failed self.old → Keeps (taken self.old) (taken self.new) };
 
-    /// How many failures there were so far.
+    /// The number of failures so far.
     fn failures(&self) -> u64
         ensures { result ≡ failed self.now };
 }

@@ -13,7 +13,7 @@ use Rattle.bolt_layout.specs.Layout.{layout_meta, layout_of}
 use Rattle.bolt_layout.specs.Storable.{IsStorable}
 use Rattle.bolt_layout.specs.declared.layout.Layout.{Layout}
 
--- the meta of slot one is in force in the layout, which is sound for it, trees and accounts, and has this listing
+-- the meta of slot one is active in the layout, which is sound for it, trees and accounts, and has this listing
 pub record IsSoundCopy (which : Layout) (page_size : ℕ) (tree : Tree) (sequence : ℕ) (listing : List Member) : Type 0 where
   pub chosen : IsChosen (layout_of which page_size tree sequence) One (layout_meta which page_size tree sequence 1)
   pub sound : IsSound (layout_of which page_size tree sequence) (layout_meta which page_size tree sequence 1) true
@@ -30,7 +30,7 @@ pub record RefusesBeginnings (layout : List ℕ) (root : ℕ) : Type 0 where
   pub before_metas : (n : ℕ) → n < length layout → n < 80 → IsRefused (take n layout) (Open Cut)
   pub at_root : (n : ℕ) → n < length layout → 80 ≤ n → IsRefused (take n layout) (Structure (finding CUT root))
 
--- A listing is that of the tree that is read off it, which can be stored, and of no other: so it has one layout at each page size.
+-- The listing is that of exactly one tree, which is computed from it and can be stored: so it has one layout at each page size.
 pub record IsOfOneTree (listing : List Member) : Type 0 where
   pub storable : IsStorable (tree_of listing)
   pub lists : listing_of (tree_of listing) ≡ listing

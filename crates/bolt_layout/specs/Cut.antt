@@ -12,9 +12,9 @@ max_items = 65534
 abbrev pub run_size : {X : Type 0} → (X → ℕ) → List X → ℕ
 run_size size run = 16 + sum_by size run
 
--- The runs of a row: they are the row, in order, and none is empty. A run of more than `least` items has a page within the page size,
--- and none has more than 65,534 items. Each but the last has `least` items at least, and would pass the page size with the next item
--- or has 65,534.
+-- The runs of a row: they are the row, in order, and none is empty. A run of more than `least` items has a page within the page size, and
+-- none has more than 65,534 items. Each run but the last has at least `least` items, and with the next item its page would be larger than
+-- the page size, or it has 65,534.
 pub record IsCut {X : Type 0} (page_size least : ℕ) (size : X → ℕ) (items : List X) (runs : List (List X)) : Type 0 where
   pub whole : flat_map (λ run. run) runs ≡ items
   pub filled : (i : ℕ) (run : List X) → slice_get runs i ≡ Some run → run ≢ []
@@ -24,8 +24,8 @@ pub record IsCut {X : Type 0} (page_size least : ℕ) (size : X → ℕ) (items 
   pub full : (i : ℕ) (run more : List X) (next : X) → slice_get runs i ≡ Some run → slice_get runs (suc i) ≡ Some (next ∷ more)
       → (page_size < run_size size (run ++ next ∷ [])) ⊎ (length run ≡ max_items)
 
--- From the left: the next item joins the run where that has fewer than `least` items, or where its page is within the page size with
--- the item too and it has fewer than 65,534 items.
+-- From the left: the next item joins the run if the run has fewer than `least` items, or if its page with the item is within the page size
+-- and it has fewer than 65,534 items.
 abbrev pub joins : {X : Type 0} → (page_size least : ℕ) → (X → ℕ) → List X → X → Bool
 joins page_size least size run next =
     nat_lt (length run) least || (nat_le (run_size size (run ++ next ∷ [])) page_size && nat_lt (length run) max_items)
@@ -49,7 +49,7 @@ join_last (run ∷ []) = run ∷ []
 join_last (run ∷ next ∷ []) = if nat_lt (length next) 2 then (run ++ next) ∷ [] else run ∷ next ∷ []
 join_last (run ∷ next ∷ more ∷ runs) = run ∷ join_last (next ∷ more ∷ runs)
 
--- how a row of a bucket's pages is divided into branches: no branch of the balanced layout has a single item, where its row has two
+-- how a row of a bucket's pages is divided into branches: no branch of the balanced layout has a single item, if its row has two
 abbrev pub branch_cut : {X : Type 0} → Layout → (page_size : ℕ) → (X → ℕ) → List X → List (List X)
 branch_cut Plain page_size size items = cut_of page_size 2 size items
 branch_cut Balanced page_size size items = join_last (cut_of page_size 2 size items)

@@ -1,5 +1,5 @@
--- What the soundness of a layout asks of the way in which a row is divided: docs/LAYOUT.md, "What holds of both layouts". The cuts of both layouts
--- have it.
+-- What the soundness of a layout needs of the way in which a row is divided: docs/LAYOUT.md, "What holds of both layouts". The cuts of both
+-- layouts have it.
 use Rattle.std.specs.Prelude.{suc, ◌≡◌, ◌≤◌, ◌<◌, ◌+◌, ◌*◌, ℕ, List, ◌++◌, length, flat_map}
 use Rattle.std.specs.List.{AllByRecursion}
 use Rattle.bolt_layout.specs.Cut.{max_items, run_size}

@@ -19,7 +19,7 @@ leaf_item key value is_bucket = record {
   element = λ number. record { key = key; value = value; is_bucket = is_bucket };
 }
 
--- a bucket with a root page: its pages stand below the item, and its value of 16 bytes says where its root page is
+-- a bucket with a root page: its pages are below the item, and its value of 16 bytes has the number of its root page
 abbrev pub bucket_item : (key : List ℕ) → (sequence : ℕ) → (root : Laid BranchElement) → Laid LeafElement
 bucket_item key sequence root = record {
   key = key;
@@ -35,7 +35,7 @@ holds_bucket end = false
 holds_bucket (with_value key value after) = holds_bucket after
 holds_bucket (with_bucket key sequence inside after) = true
 
--- A bucket is inline where it holds no bucket, its one leaf page has at most a quarter of the page size, and it has at most 65,534 items.
+-- A bucket is inline if it holds no bucket, its one leaf page has at most a quarter of the page size, and it has at most 65,534 items.
 abbrev pub is_inline : (page_size : ℕ) → Tree → List (Laid LeafElement) → Bool
 is_inline page_size inside items =
     not (holds_bucket inside) && (nat_le (run_size size_of items) (page_size / 4) && nat_le (length items) max_items)

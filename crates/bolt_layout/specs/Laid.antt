@@ -7,9 +7,9 @@ pub record Placed : Type 0 where
   pub number : ℕ
   pub view : PageView
 
--- An item: its key, the bytes that it takes on its page, how many page numbers stand below it, and how many items are held at one time,
--- at the most, while the pages below it are written. Once it is said from which number on these stand, so are the pages themselves, and
--- the element that goes onto the page.
+-- An item: its key, the bytes that it takes on its page, how many page numbers are below it, and the greatest number of items that are held
+-- at one time while the pages below it are written. From a first number on it also has these pages, and the element that goes onto its
+-- page.
 pub record Laid (E : Type 0) : Type 0 where
   pub key : List ℕ
   pub size : ℕ

@@ -8,18 +8,18 @@ use Rattle.bolt_layout.specs.Laid.{Placed}
 use Rattle.bolt_layout.specs.PageBytes.{freelist_page, meta_page, page_bytes}
 use Rattle.bolt_layout.specs.declared.layout.Layout.{Layout}
 
--- the first page behind the metas and the freelist
+-- the first page after the metas and the freelist
 abbrev pub first_page : ℕ
 first_page = 3
 
--- the number of the root page, and the high-water mark behind its span
+-- the number of the root page, and the high-water mark after its span
 abbrev pub layout_root : (which : Layout) (page_size : ℕ) → Tree → ℕ
 layout_root which page_size tree = ((root_of which page_size tree).element first_page).child
 
 abbrev pub layout_mark : (which : Layout) (page_size : ℕ) → Tree → ℕ
 layout_mark which page_size tree = first_page + (root_of which page_size tree).numbers
 
--- how many items are held at one time, at the most, while the pages are written in the order of their numbers
+-- the greatest number of items that are held at one time, while the pages are written in the order of their numbers
 abbrev pub layout_held : (which : Layout) (page_size : ℕ) → Tree → ℕ
 layout_held which page_size tree = (root_of which page_size tree).held
 
@@ -42,7 +42,7 @@ layout_meta which page_size tree sequence txid = record {
   txid = txid;
 }
 
--- pages one behind the other
+-- pages, one after the other
 abbrev pub placed_bytes : (page_size : ℕ) → List Placed → List ℕ
 placed_bytes page_size [] = []
 placed_bytes page_size (page ∷ pages) = page_bytes page_size page.number page.view ++ placed_bytes page_size pages

@@ -25,7 +25,8 @@ leaf_view overflow elements = record { kind = kind.Leaf; count = length elements
 abbrev pub branch_view : (overflow : ℕ) → List BranchElement → PageView
 branch_view overflow elements = record { kind = kind.Branch; count = length elements; overflow = overflow; branches = elements; leaves = [] }
 
--- A page over a run of items: the pages below it from left to right, and then itself. On the page above stand its first key and its number.
+-- A page over a run of items: the pages below it from left to right, and then the page itself. The page above has its first key and its
+-- number.
 abbrev pub page_over : {E : Type 0} → (ℕ → List E → PageView) → (page_size : ℕ) → List (Laid E) → Laid BranchElement
 page_over view page_size run = record {
   key = first_key run;
@@ -44,8 +45,8 @@ leaf_level page_size items = map (page_over leaf_view page_size) (cut_of page_si
 abbrev pub next_level : (which : Layout) (page_size : ℕ) → List (Laid BranchElement) → List (Laid BranchElement)
 next_level which page_size level = map (page_over branch_view page_size) (branch_cut which page_size size_of level)
 
--- The page at the top over a level: the one of a level that has no other, and else that of the next level. Over no page it is an empty leaf.
--- It is found in as many steps as the level has pages, as each level has fewer than the one below.
+-- The top page over a level: the page of a level that has no other, and otherwise that of the next level. Over no page it is an empty leaf.
+-- It is found in as many steps as the level has pages, since each level has fewer than the one below.
 abbrev pub top_in : (which : Layout) (steps page_size : ℕ) → List (Laid BranchElement) → Laid BranchElement
 top_in which steps page_size [] = page_over leaf_view page_size []
 top_in which steps page_size (page ∷ []) = page

@@ -1,4 +1,4 @@
--- The bytes of the pages that a compact copy has: docs/LAYOUT.md, "Bytes". Each part stands directly behind the part before it.
+-- The bytes of the pages of a compact copy: docs/LAYOUT.md, "Bytes". Each part directly follows the preceding one.
 use Rattle.std.specs.Prelude.{ℕ, ◌+◌, ◌-◌, ◌*◌, List, [], ◌∷◌, ◌++◌, length, replicate, Bool, if◌then◌else◌}
 use Rattle.byteorder.specs.Endian.{little_bytes}
 use Rattle.bolt_format.specs.Bytes.{fnv_of}
@@ -23,8 +23,8 @@ header_bytes number flags count overflow =
 abbrev pub leaf_flag : Bool → ℕ
 leaf_flag is_bucket = if is_bucket then 1 else 0
 
--- The headers of elements, where those before them have this much data. All data is packed behind the last header, so from an
--- element's own header to its key there are that header, those after it, and the data before.
+-- The headers of elements, if the preceding ones have this much data. All data is packed after the last header, so from an element's own
+-- header to its key there are that header, those after it, and the preceding data.
 abbrev pub key_pos : {E : Type 0} → List E → (before : ℕ) → ℕ
 key_pos elements before = 16 * length elements + before
 
@@ -64,11 +64,11 @@ leaf_bytes elements = leaf_headers 0 elements ++ leaf_data elements
 unfoldable pub root_value : (root sequence : ℕ) → List ℕ
 root_value root sequence = number_bytes 8 root ++ number_bytes 8 sequence
 
--- the value of an inline bucket: root page 0, its sequence, and its one leaf page, with number 0 and no bytes behind it
+-- the value of an inline bucket: root page 0, its sequence, and its one leaf page, with number 0 and no bytes after it
 unfoldable pub inline_value : (sequence : ℕ) → List LeafElement → List ℕ
 inline_value sequence elements = root_value 0 sequence ++ (header_bytes 0 2 (length elements) 0 ++ leaf_bytes elements)
 
--- what stands on a page before its zeros
+-- what is on a page before its zeros
 abbrev pub content_bytes : Kind → (number : ℕ) → PageView → List ℕ
 content_bytes kind.Branch number view = header_bytes number 1 view.count view.overflow ++ branch_bytes view.branches
 content_bytes kind.Leaf number view = header_bytes number 2 view.count view.overflow ++ leaf_bytes view.leaves
@@ -92,7 +92,7 @@ meta_record page_size root sequence mark txid =
     ++ (number_bytes 8 mark
     ++ number_bytes 8 txid)))))))
 
--- what stands on a meta page before its zeros; its number is its txid
+-- what is on a meta page before its zeros; its number is its txid
 unfoldable pub meta_bytes : (page_size root sequence mark txid : ℕ) → List ℕ
 meta_bytes page_size root sequence mark txid =
     let written = meta_record page_size root sequence mark txid in

@@ -24,8 +24,8 @@ use bolt_tree::listing_laws::{
     a_tree_is_of_its_listing, a_tree_lists_its_bucket, listing_is_of_a_tree,
 };
 
-/// The layout of a tree is a sound file, and its listing is that of the tree, where it has fewer
-/// than 2^63 bytes.
+/// The layout of a tree is a sound file, and its listing is that of the tree, if the layout has
+/// fewer than 2^63 bytes.
 pub fn layout_is_sound()
     ensures { (which : Layout) (page_size : ℕ) (tree : Tree) (sequence : ℕ) → IsAsked page_size tree sequence
         → length (layout_of which page_size tree sequence) < 2 ^ 63
@@ -35,33 +35,34 @@ pub fn layout_is_sound()
     a_tree_lists_its_bucket();
 }
 
-/// It has as many bytes as its pages.
+/// The length of a layout is that of its pages.
 pub fn layout_has_length()
     ensures { (which : Layout) (page_size : ℕ) (tree : Tree) (sequence : ℕ) → IsPageSize page_size → IsStorable tree
         → length (layout_of which page_size tree sequence) ≡ layout_mark which page_size tree * page_size }
 {}
 
-/// While its pages are written, no more items are held at one time than four page sizes for each
-/// bucket of a path, if it has fewer than 2^63 bytes.
+/// While the pages of a layout are written, the number of items that are held at one time is at most
+/// four times the page size for each part of the listing's longest path, and as much again, if the
+/// layout has fewer than 2^63 bytes.
 pub fn held_is_bounded()
     ensures { (which : Layout) (page_size : ℕ) (tree : Tree) (sequence : ℕ) → IsPageSize page_size → IsStorable tree
         → length (layout_of which page_size tree sequence) < 2 ^ 63
         → layout_held which page_size tree ≤ most_held page_size (listing_of tree) }
 {}
 
-/// Nor are more items held than it has bytes.
+/// At most as many items are held as the layout has bytes.
 pub fn held_is_small()
     ensures { (which : Layout) (page_size : ℕ) (tree : Tree) (sequence : ℕ) → IsPageSize page_size → IsStorable tree
         → length (layout_of which page_size tree sequence) < 2 ^ 63
         → layout_held which page_size tree ≤ length (layout_of which page_size tree sequence) }
 {}
 
-/// In a balanced layout no branch page has fewer than two elements.
+/// No branch page of a balanced layout has fewer than two elements.
 pub fn balanced_branches_have_two()
     ensures { (page_size : ℕ) (tree : Tree) → AllByRecursion HasTwoIfBranch (layout_pages Balanced page_size tree) }
 {}
 
-/// Where it is cut short anywhere, it is refused.
+/// A layout that is cut short anywhere is refused.
 pub fn beginnings_are_refused()
     ensures { (which : Layout) (page_size : ℕ) (tree : Tree) (sequence : ℕ) → IsAsked page_size tree sequence
         → length (layout_of which page_size tree sequence) < 2 ^ 63
@@ -74,7 +75,7 @@ pub fn cut_is_one()
     ensures branches { CutIsOne (Laid BranchElement) }
 {}
 
-/// While a level has more than one page, the page at the top is that of the next level.
+/// If a level has more than one page, the top page is that of the next level.
 pub fn top_is_above()
     ensures { TopIsAbove }
 {}
@@ -91,8 +92,8 @@ pub fn a_files_tree_can_be_stored()
         → IsTreeOf (IsEntry file meta) (Root_page meta.root) tree → IsStorable tree }
 {}
 
-/// The listing of a file with sound trees is that of one tree, which can be stored. So it has one
-/// layout at each page size.
+/// The listing of a file with sound trees is that of exactly one tree, and that tree can be stored.
+/// So the listing has one layout at each page size.
 pub fn a_files_listing_is_of_one_tree()
     ensures { (file : List ℕ) (meta : Meta) (listing : List Member) → IsBytes file → HasSoundTrees file meta
         → IsListing file meta listing → IsOfOneTree listing }
@@ -101,7 +102,8 @@ pub fn a_files_listing_is_of_one_tree()
     a_tree_is_of_its_listing();
 }
 
-/// That layout is a sound file, and has the same listing, where it has fewer than 2^63 bytes.
+/// The layout of a listing is a sound file that has the same listing, if it has fewer than 2^63
+/// bytes.
 pub fn a_copy_lists_the_same()
     ensures { (which : Layout) (file : List ℕ) (meta : Meta) (listing : List Member) (page_size : ℕ)
         → IsBytes file → HasSoundTrees file meta → IsListing file meta listing

@@ -5,7 +5,6 @@
 pub enum Layout {
     /// The last branch of a level may have a single child.
     Plain,
-    /// It has two at least, unless the level below has a single page. So bbolt, which takes this for
-    /// granted, can go on writing into the copy.
+    /// Each branch has at least two children. bbolt assumes that, so it can write to the copy.
     Balanced,
 }

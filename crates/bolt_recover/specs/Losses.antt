@@ -1,4 +1,4 @@
--- What is told of a lost way: docs/RECOVERY.md, "Losses".
+-- What is reported of a lost way: docs/RECOVERY.md, "Losses".
 use Rattle.std.specs.Prelude.{◌≡◌, ℕ, List, [], ◌∷◌, ◌++◌, Option, Some, None}
 use Rattle.bolt_format.specs.declared.meta.Meta.{Meta}
 use Rattle.bolt_check.specs.Keys.{Key}

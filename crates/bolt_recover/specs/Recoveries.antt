@@ -1,4 +1,4 @@
--- What a recovery shows: the file that it reads, what of the recovered listing is before it, and the losses so far.
+-- What a recovery shows: the file that it reads, the part of the recovered listing that is left, and the losses so far.
 use Rattle.std.specs.Prelude.{◌≡◌, ℕ, List, length, take}
 use Rattle.bolt_format.specs.declared.meta.Meta.{Meta}
 use Rattle.bolt_tree.specs.Listing.{Member}
@@ -13,15 +13,15 @@ recovery_file recovery = (state_of recovery.steps).file
 unfoldable pub recovery_meta : Recovery → Meta
 recovery_meta recovery = recovery.meta
 
--- what of a recovered listing is before it
+-- the part of a recovered listing that is left
 unfoldable pub recovery_left : Recovery → List Member → List Member
 recovery_left recovery listing = left_by (state_of recovery.steps) listing
 
--- the path of what it gave last
+-- the path of the last item that it returned
 unfoldable pub recovery_path : Recovery → Path
 recovery_path recovery = (state_of recovery.steps).path
 
--- the losses that it has told so far
+-- the losses that it has reported so far
 unfoldable pub recovery_losses : Recovery → List LossView
 recovery_losses recovery = (state_of recovery.steps).losses
 

@@ -7,7 +7,7 @@ use Rattle.bolt_check.specs.Tours.{Rises}
 use Rattle.bolt_check.specs.Ways.{Before, Reach, SpanHas, Spot, reached}
 use Rattle.bolt_check.specs.declared.finding.Finding.{Finding}
 
--- A way and what the tests find at it: nothing where the way is kept, and a finding where it is lost.
+-- A way and what the tests find at it: nothing if the way is kept, and a finding if it is lost.
 pub record Visit : Type 0 where
   pub way : List ℕ
   pub found : Option Finding
@@ -31,7 +31,7 @@ IsOpen survey way = (way ≡ []) ⊎ ((parent : List ℕ) × (i : ℕ) × (way �
 abbrev pub IsClaimedIn : Nodes → Reach → List Visit → List ℕ → ℕ → Type 0
 IsClaimedIn nodes reach survey way n = IsMetaPage n ⊎ ((v : List ℕ) × (Has survey (kept v) × Before v way × SpanHas nodes (reach v) n))
 
--- what the tests of a spot give, where these pages were claimed before
+-- what the tests of a spot find, if these pages were claimed before
 abbrev pub Gives : Nodes → (ℕ → Type 0) → Spot → Option Finding → Type 0
 Gives nodes before spot None = Passes nodes before spot
 Gives nodes before spot (Some x) = Tests nodes before spot x

@@ -32,7 +32,7 @@ pub fn each_file_has_a_recovered_listing()
     ensures { (file : List ℕ) (meta : Meta) → (listing : List Member) × IsRecovered file meta listing }
 {}
 
-/// A recovered listing is what a tree lists.
+/// A recovered listing is what a tree of buckets lists.
 pub fn recovered_listing_is_of_a_tree()
     ensures { (file : List ℕ) (meta : Meta) (listing : List Member) → IsRecovered file meta listing → (tree : Tree) × (listing ≡ listing_of tree) }
 {}
@@ -42,7 +42,7 @@ pub fn recovered_members_are_held()
     ensures { (file : List ℕ) (meta : Meta) (survey : List Visit) (path : Path) (item : Item) → IsRecoveredMember file meta survey path item → Holds (IsEntry file meta) (Root_page meta.root) path item }
 {}
 
-/// A file tells at most one list of losses.
+/// A file has at most one list of losses.
 pub fn losses_are_one()
     ensures { (file : List ℕ) (meta : Meta) (a b : List LossView) → AreLosses file meta a → AreLosses file meta b → a ≡ b }
 {}
@@ -57,7 +57,7 @@ pub fn sound_trees_recover_their_listing()
     ensures { (file : List ℕ) (meta : Meta) (listing : List Member) → HasSoundTrees file meta → IsRecovered file meta listing → IsListing file meta listing }
 {}
 
-/// What is found at the first lost way is the first finding of the trees.
+/// The finding at the first lost way is the first finding of the trees.
 pub fn first_loss_is_the_first_finding()
     ensures { (file : List ℕ) (meta : Meta) (survey : List Visit) (way : List ℕ) (x : Finding) → IsSurvey file meta survey → Has survey (lost way x)
         → ((v : Visit) → Has survey v → Before v.way way → v.found ≡ None) → IsFirstFinding file meta x }

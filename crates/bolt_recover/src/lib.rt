@@ -1,5 +1,5 @@
 //! What a damaged file still holds, and what is lost of it (docs/RECOVERY.md): a walk over what is
-//! kept, which tells each loss on its way, and the laws that hold of it.
+//! kept, which reports each loss on its way, and the laws that hold of it.
 #![tactic(auto)]
 
 pub mod laws;

@@ -1,4 +1,4 @@
-//! What is told of a lost page.
+//! What is reported of a lost page.
 ghost use Rattle.std.specs.Prelude.{◌≡◌, IfOk};
 ghost use Rattle.bolt_check.specs.Stops.{spot_at};
 ghost use Rattle.bolt_tree.specs.Paths.{path_of};
@@ -8,17 +8,18 @@ ghost use Rattle.bolt_recover.specs.ShownLosses.{loss_view};
 use bolt_check::{Finding, NoMemory, Stop};
 use std::alloc::Global;
 
-/// A page, or the page of an inline bucket, that is lost with all that stands below it
-/// (docs/RECOVERY.md, "Losses").
+/// A lost page, or the lost page of an inline bucket, with everything below it (docs/RECOVERY.md,
+/// "Losses").
 #[derive(Debug, Drop)]
 pub struct Loss<'a> {
-    /// What the tests found there.
+    /// The finding of the tests there.
     pub finding: Finding,
     /// The path of the bucket that it belongs to; empty for the root bucket.
     pub bucket: Vec<&'a [u8]>,
-    /// Of a page below a branch, the key that leads to it: no lost key is below.
+    /// For a page below a branch, the key that leads to it. No lost key is below this one.
     pub lower: Option<&'a [u8]>,
-    /// The bound that no lost key reaches, if there is one.
+    /// For a page below a branch, its upper bound, if there is one. Each lost key is below this
+    /// one.
     pub upper: Option<&'a [u8]>,
 }
 
@@ -27,7 +28,7 @@ impl<'a> Loss<'a> {
     ///
     /// # Errors
     ///
-    /// `NoMemory` if there is no room for the path.
+    /// `NoMemory` if there is no memory for the path.
     pub fn new(
         alloc: Global,
         finding: Finding,

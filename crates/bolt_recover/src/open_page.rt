@@ -1,4 +1,4 @@
-//! A page that is kept, and how far its elements are taken.
+//! A kept page, and how many of its elements are done.
 ghost use Rattle.std.specs.Prelude.{◌≡◌, ◌≤◌, ◌<◌, ◌+◌, ℕ, List, true, IfErr, IfOk, IfSome, OnErr, OnOk, IsTrue, length, slice_get};
 ghost use Rattle.std.specs.Option.{option_map};
 ghost use Rattle.bolt_format.specs.Elements.{IsBucketValue};
@@ -22,20 +22,20 @@ pub(crate) enum Content<'a> {
     Bucket(BucketStop<'a>),
 }
 
-/// A page on the way that is open.
+/// An open page on the current way.
 #[derive(Clone, Copy)]
 pub(crate) struct OpenPage<'a> {
     pub content: Content<'a>,
-    /// How many parts the path of its bucket has.
+    /// The number of parts of its bucket's path.
     pub level: usize,
-    /// How many elements it has.
+    /// The number of its elements.
     pub count: u16,
-    /// The element to be taken next.
+    /// The next element.
     pub next: u16,
 }
 
 impl<'a> Content<'a> {
-    /// Tests what a way leads to; a page is claimed if the tests find nothing.
+    /// Tests what a way leads to. If the tests find nothing, the page is claimed.
     pub fn visit(claims: &mut Claims<'a>, stop: Stop<'a>) -> Result<Content<'a>, Finding>
         ensures file { claims_file claims.new ≡ claims_file claims.old }
         ensures meta { claims_meta claims.new ≡ claims_meta claims.old }
@@ -59,7 +59,7 @@ impl<'a> Content<'a> {
         }
     }
 
-    /// How many elements it has.
+    /// The number of its elements.
     pub fn count(&self) -> u16
         ensures { result ≡ content_size self.now }
     {
@@ -82,7 +82,7 @@ impl<'a> Content<'a> {
         }
     }
 
-    /// Where element `i` leads, if it leads anywhere.
+    /// What element `i` leads to, if anything.
     pub fn stop(&self, i: u16) -> Option<Stop<'a>>
         requires shallow { IsShallow self.now }
         requires below { i < content_size self.now }

@@ -1,4 +1,4 @@
-//! A walk over all that is kept of a damaged file.
+//! A walk over everything that is kept of a damaged file.
 ghost use Rattle.std.specs.Option.{IfNone, option_map};
 ghost use Rattle.std.specs.Prelude.{◌≡◌, ◌↔◌, ◌<◌, List, [], IfErr, IfOk, OnErr, map};
 ghost use Rattle.bolt_check.specs.Sound.{IsRefused, IsSlotRefused};
@@ -18,10 +18,10 @@ use bolt_format::{Meta, Slot, choose, slot_meta};
 use bolt_tree::{Item, Members};
 use std::alloc::Global;
 
-/// A walk over all that is kept of a file, in the order of the paths (docs/RECOVERY.md): each value
-/// and each bucket once, a bucket before what it holds. It visits no page twice, and tells what is
-/// lost on its way. It takes a byte for each whole page that lies in the file and below the
-/// high-water mark, room for the losses, and room for the pages on the way that is open.
+/// A walk over everything that is kept of a file, in the order of paths (docs/RECOVERY.md): each
+/// value and each bucket once, a bucket before everything in it. It visits no page twice, and
+/// reports what is lost on its way. It needs a byte for each whole page that lies in the file and
+/// below the high-water mark, room for the losses, and room for the open pages on the current way.
 #[derive(Drop)]
 pub struct Recovery<'a> {
     steps: Steps<'a>,
@@ -32,12 +32,12 @@ pub struct Recovery<'a> {
 impl<'a> Recovery<'a> {
     ghost use Rattle.bolt_recover.specs.Recoveries.{AreFirst, ForLosses, recovery_file, recovery_left, recovery_losses, recovery_meta, recovery_path};
 
-    /// A recovery under the active meta.
+    /// A walk under the active meta.
     ///
     /// # Errors
     ///
     /// `Open` if no meta is valid; `Structure` with the finding of the root page if that is lost;
-    /// `Memory` if memory runs out. `Accounts` never comes.
+    /// `Memory` if memory runs out. Never `Accounts`.
     pub fn new(alloc: Global, file: &'a [u8]) -> Result<Recovery<'a>, CheckFault>
         ensures file { IfOk result (λ recovery. recovery_file recovery ≡ file.now) }
         ensures meta { IfOk result (λ recovery. (slot : _) × IsChosen file.now slot (recovery_meta recovery)) }
@@ -52,8 +52,11 @@ impl<'a> Recovery<'a> {
         }
     }
 
-    /// A recovery under the meta of a slot, be it active or not. Errors are those of `new`, and
-    /// `Open` comes if the slot has no valid meta.
+    /// A walk under the meta of a slot, active or not.
+    ///
+    /// # Errors
+    ///
+    /// Those of `new`, but `Open` with the slot's fault if it has no valid meta.
     pub fn of_slot(alloc: Global, file: &'a [u8], slot: Slot) -> Result<Recovery<'a>, CheckFault>
         ensures file { IfOk result (λ recovery. recovery_file recovery ≡ file.now) }
         ensures meta { IfOk result (λ recovery. IsInSlot file.now slot (recovery_meta recovery)) }
@@ -68,7 +71,7 @@ impl<'a> Recovery<'a> {
         }
     }
 
-    /// A recovery under a valid meta.
+    /// A walk under a valid meta.
     #[tactic(auto, unfolding(crate::specs::Recoveries::recovery_file, crate::specs::Recoveries::recovery_left, crate::specs::Recoveries::recovery_losses, crate::specs::Recoveries::recovery_meta, crate::specs::Recoveries::recovery_path))]
     fn under(alloc: Global, file: &'a [u8], meta: Meta) -> Result<Recovery<'a>, CheckFault>
         requires { 0 < meta.page_size }
@@ -83,7 +86,7 @@ impl<'a> Recovery<'a> {
         Ok(Recovery { steps, meta })
     }
 
-    /// The meta under which the file is read.
+    /// The meta that the file is read under.
     #[tactic(auto, unfolding(crate::specs::Recoveries::recovery_meta))]
     pub fn meta(&self) -> Meta
         ensures { result ≡ recovery_meta self.now }
@@ -91,13 +94,13 @@ impl<'a> Recovery<'a> {
         self.meta
     }
 
-    /// Gives what comes next, or `None` if nothing is left, then and ever after. All losses are
-    /// told then.
+    /// Returns the next item, or `None` if nothing is left, then and ever after. By then all losses
+    /// are reported.
     ///
     /// # Errors
     ///
-    /// `NoMemory` if there is no room for one more open page or one more loss. The same is left
-    /// then, the path is the same, and it may be asked again.
+    /// `NoMemory` if there is no memory for one more open page or one more loss. The same is left
+    /// then, the path is the same, and `next` may be called again.
     #[tactic(auto, unfolding(crate::specs::Recoveries::recovery_file, crate::specs::Recoveries::recovery_left, crate::specs::Recoveries::recovery_losses, crate::specs::Recoveries::recovery_meta, crate::specs::Recoveries::recovery_path))]
     pub fn next(&mut self) -> Result<Option<Item<'a>>, NoMemory>
         ensures file { recovery_file self.new ≡ recovery_file self.old }
@@ -113,8 +116,8 @@ impl<'a> Recovery<'a> {
         }
     }
 
-    /// The path of the item given last, from the root bucket down; empty before the first one and
-    /// after the last.
+    /// The path of the last item that was returned, from the root bucket down. It is empty before
+    /// the first item and after the last.
     #[tactic(auto, unfolding(crate::specs::Recoveries::recovery_path))]
     pub fn path(&self) -> &[&'a [u8]]
         ensures { path_of result.now ≡ recovery_path self.now }
@@ -122,7 +125,8 @@ impl<'a> Recovery<'a> {
         self.steps.path.as_slice()
     }
 
-    /// The losses so far, in the order of ways; all of them once `next` has given `None`.
+    /// The losses so far, in the order of ways. Once `next` has returned `None`, these are all
+    /// losses.
     #[tactic(auto, unfolding(crate::specs::Recoveries::recovery_file, crate::specs::Recoveries::recovery_losses, crate::specs::Recoveries::recovery_meta))]
     pub fn losses(&self) -> &[Loss<'a>]
         ensures losses { map loss_view result.now ≡ recovery_losses self.now }

@@ -1,4 +1,4 @@
-//! The steps of a recovering walk: one loop over the pages on the way that is open.
+//! The steps of a recovering walk: one loop over the open pages of the current way.
 ghost use Rattle.std.specs.Prelude.{◌≡◌, ◌≤◌, ◌<◌, ℕ, List, [], false, None, IfOk, IfErr, IfSome, IsTrue, OnErr, OnOk, MatchResult, length};
 ghost use Rattle.std.specs.Option.{option_map};
 ghost use Rattle.bolt_check.specs.Claims.{claims_file, claims_meta, is_claimed};
@@ -20,12 +20,12 @@ use std::alloc::Global;
 #[derive(Clone, Copy)]
 pub(crate) struct Ahead<'a> {
     pub stop: Stop<'a>,
-    /// How many parts the path of its bucket has.
+    /// The number of parts of its bucket's path.
     pub level: usize,
 }
 
 impl<'a> Ahead<'a> {
-    /// What an element leads to, if it leads anywhere.
+    /// What an element leads to, if anything.
     fn of(stop: Option<Stop<'a>>, level: usize) -> Option<Ahead<'a>>
         ensures { result ≡ option_map (λ stop. record { stop = stop; level = level }) stop.entry }
     {
@@ -36,18 +36,18 @@ impl<'a> Ahead<'a> {
     }
 }
 
-/// What a step takes.
+/// The result of a step.
 #[derive(Clone, Copy)]
 pub(crate) enum Taken<'a> {
-    /// The element of a leaf, which is to be given.
+    /// The element of a leaf, which is returned next.
     Leaf(Leaf<'a>),
-    /// Nothing that is to be given.
+    /// Nothing to return.
     Nothing,
-    /// Nothing, since nothing is left.
+    /// Nothing to return, since nothing is left.
     End,
 }
 
-/// How far a recovering walk has come. First comes what is ahead, and then what is left of each
+/// How far a recovering walk has come. What is ahead comes first, and then what is left of each
 /// open page, the innermost first.
 #[derive(Drop)]
 pub(crate) struct Steps<'a> {
@@ -55,14 +55,17 @@ pub(crate) struct Steps<'a> {
     pub claims: Claims<'a>,
     pub ahead: Option<Ahead<'a>>,
     pub open: Vec<OpenPage<'a>>,
-    /// The path of the element given last.
+    /// The path of the last element that was returned.
     pub path: Vec<&'a [u8]>,
     pub losses: Vec<Loss<'a>>,
 }
 
 impl<'a> Steps<'a> {
-    /// The root page is open, and nothing is given yet. If the root page is lost, its finding is
-    /// the fault.
+    /// The root page is open, and nothing was returned yet.
+    ///
+    /// # Errors
+    ///
+    /// The finding of the root page if that is lost, or `Memory`.
     pub fn new(alloc: Global, file: &'a [u8], meta: Meta) -> Result<Steps<'a>, CheckFault>
         requires { 0 < meta.page_size }
         ensures file { IfOk result (λ steps. claims_file steps.claims ≡ file.now) }
@@ -105,7 +108,7 @@ impl<'a> Steps<'a> {
         })
     }
 
-    /// What was ahead is lost, with this finding.
+    /// Records the loss of what was ahead, with this finding.
     fn lose(&mut self, finding: Finding, ahead: &Ahead<'a>) -> Result<(), NoMemory>
         requires { ahead.now.level ≤ length self.old.path.items }
         ensures claims { self.new.claims ≡ self.old.claims }
@@ -122,7 +125,7 @@ impl<'a> Steps<'a> {
         Ok(())
     }
 
-    /// Visits what is ahead, if anything is: a kept page is open then, and a lost one is told.
+    /// Visits what is ahead, if anything. Then a kept page is open, and a lost one is recorded.
     fn enter(&mut self) -> Result<(), NoMemory>
         requires { HasOpen (state_of self.old) }
         ensures on { GoesOn (state_of self.old) (state_of self.new) }
@@ -147,7 +150,7 @@ impl<'a> Steps<'a> {
         Ok(())
     }
 
-    /// Takes the next element of the innermost open page, or closes it if it has no more.
+    /// Goes to the next element of the innermost open page, or closes the page if it has no more.
     fn take(&mut self) -> Result<Taken<'a>, NoMemory>
         requires placed { HasOpen (state_of self.old) }
         requires ahead { self.old.ahead ≡ None }
@@ -179,7 +182,7 @@ impl<'a> Steps<'a> {
         Ok(Taken::Leaf(leaf))
     }
 
-    /// Comes to the next element that is to be given.
+    /// Goes to the next element that is to be returned.
     pub fn advance(&mut self) -> Result<Option<Leaf<'a>>, NoMemory>
         requires { HasOpen (state_of self.old) }
         ensures given { IfOk result (Advances (state_of self.old) (state_of self.new)) }

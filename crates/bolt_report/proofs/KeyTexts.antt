@@ -1,4 +1,4 @@
--- The text of a bucket's keys, put one entry after another: what was put, and then the text of the entries that are left.
+-- The text of a bucket's keys, written entry by entry: what was written, and then the text of the entries that are left.
 -- Rests on one text after another on a sink.
 use Rattle.std.proofs.Common.{◌≡◌, ◌∙◌, ℕ, Bool, true, false, List, [], ◌∷◌, ◌++◌, Option, Result, Ok, Err, cond, filter, flat_map, refl, sym, ap, append-nil, append_assoc}
 use Rattle.std.specs.Prelude.{⊤, IsErr}

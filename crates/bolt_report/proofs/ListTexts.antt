@@ -1,4 +1,4 @@
--- The text of a listing, put one member after another: what was put, and then the text of what is left.
+-- The text of a listing, written member by member: what was written, and then the text of what is left.
 -- Rests on one text after another on a sink.
 use Rattle.std.proofs.Common.{◌≡◌, ◌∙◌, ℕ, List, [], ◌∷◌, ◌++◌, Bor, Option, Result, Ok, Err, flat_map, sym, ap, subst, append-nil, append_assoc}
 use Rattle.std.specs.Prelude.{⊤, IsErr}

@@ -1,4 +1,4 @@
--- A list put one element after another.
+-- A list, written element by element.
 use Rattle.std.proofs.Common.{◌≡◌, ◌∙◌, ◌+◌, ℕ, suc, List, [], ◌∷◌, ◌++◌, Option, Some, Result, Ok, Err, length, take, drop, flat_map, slice_get, ap, add-one, append-nil, subst, sym}
 use Rattle.std.specs.Prelude.{IsErr}
 use Rattle.std.proofs.Math.Seq.{split_at, take-length, take-suc}

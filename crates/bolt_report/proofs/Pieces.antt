@@ -1,4 +1,4 @@
--- Hexadecimal text put in pieces.
+-- Hexadecimal text, written in pieces.
 use Rattle.std.proofs.Common.{◌≡◌, ◌∙◌, ℕ, ◌-◌, ◌/◌, ◌%◌, List, [], ◌∷◌, ◌++◌, Option, Result, Ok, Err, length, take, drop, ap, refl, subst, sym, append_assoc, take-append-drop}
 use Rattle.std.specs.Prelude.{IsErr, slice_index}
 use Rattle.std.proofs.lemmas.List.{take_rest}

@@ -1,4 +1,4 @@
--- The figures of a bucket exist, and what the reading of its pages gives are they.
+-- The figures of a bucket exist, and are those that the reading of its pages returns.
 use Rattle.std.proofs.Common.{◌≡◌, ◌≢◌, ◌∙◌, ℕ, suc, ◌+◌, ◌≤◌, ◌⊎◌, inl, inr, Bool, true, false, List, [], ◌==◌, ◌∷◌, ◌++◌, Option, Some, None, Result, Ok, Err, if◌then◌else◌, sum_by, refl, sym, ap, subst, arith}
 use Rattle.bolt_format.specs.declared.meta.Meta.{Meta}
 use Rattle.bolt_check.specs.Nodes.{Entry, Node, Nodes, node_at}

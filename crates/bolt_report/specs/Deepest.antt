@@ -8,7 +8,7 @@ abbrev pub greatest : {X : Type 0} → (X → ℕ) → List X → ℕ
 greatest f [] = 0
 greatest f (x ∷ xs) = max (f x) (greatest f xs)
 
--- the depth of the bucket that an entry of a leaf is, if it is inline
+-- the depth of an entry's bucket, if it is inline
 abbrev pub inline_depth : Entry → ℕ
 inline_depth e = if e.is_bucket then (if e.child == 0 then 1 else 0) else 0
 

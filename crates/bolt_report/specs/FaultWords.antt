@@ -8,7 +8,7 @@ use Rattle.bolt_format.specs.declared.meta.MetaFault.{MetaFault}
 use Rattle.bolt_report.specs.Lines.{line}
 use Rattle.bolt_format.specs.declared.meta.MetaFault.TheVariants.{Cut, Magic, Version, Sum, PageSize}
 
--- what a file without a valid meta is refused with
+-- why a file without a valid meta is refused
 abbrev pub meta_fault_text : MetaFault → List ℕ
 meta_fault_text Cut = line (codes "file too short")
 meta_fault_text Magic = line (codes "invalid database")
@@ -49,7 +49,7 @@ page_fault_table =
 unfoldable pub page_fault_words : ℕ → List ℕ
 page_fault_words number = words_in page_fault_table number
 
--- what a page is refused with
+-- why a page is refused
 abbrev pub page_fault_text : PageFault → List ℕ
 page_fault_text fault = line (codes "page " ++ decimal fault.page ++ codes ": " ++ page_fault_words fault.number)
 
@@ -71,7 +71,7 @@ finding_table =
 unfoldable pub finding_words : ℕ → List ℕ
 finding_words number = words_in finding_table number
 
--- a finding is told of a page, or of a run of pages
+-- a finding is of a page, or of a run of pages
 unfoldable pub pages_words : ℕ → ℕ → List ℕ
 pages_words page last = if page == last then codes "page " ++ decimal page else codes "pages " ++ decimal page ++ codes " to " ++ decimal last
 

@@ -36,11 +36,11 @@ figure leaf_overflow stats = stats.leaf_overflow
 figure leaf_allocated stats = stats.leaf_allocated
 figure leaf_used stats = stats.leaf_used
 
--- a figure above the greatest u64 is that number
+-- a figure above 2^64 - 1 saturates there
 abbrev pub capped : ℕ → ℕ
 capped n = min n (2 ^ 64 - 1)
 
--- sums, but of the depths the greater
+-- sums, but the greater depth
 abbrev pub add_stats : Stats → Stats → Stats
 add_stats a b = record {
   buckets = capped (a.buckets + b.buckets);
@@ -58,7 +58,7 @@ add_stats a b = record {
   leaf_used = capped (a.leaf_used + b.leaf_used);
 }
 
--- what elements use, with their page's header
+-- the bytes that elements use, with their page's header
 abbrev pub branch_bytes : List BranchElement → ℕ
 branch_bytes elements = 16 + sum_by (λ (e : BranchElement). 16 + length e.key) elements
 
@@ -94,7 +94,7 @@ bucket_figure leaf_overflow = 0
 bucket_figure leaf_allocated = 0
 bucket_figure leaf_used = 0
 
--- what an element of a leaf adds: the bucket that it is
+-- what an element of a leaf adds: the figures of its bucket
 abbrev pub element_figure : Figure → LeafElement → ℕ
 element_figure f e = if e.is_bucket then (if head_root e.value == 0 then inline_figure f (inline_elements e.value) else bucket_figure f) else 0
 
@@ -129,7 +129,7 @@ leaf_figure leaf_overflow page_size view = view.overflow
 leaf_figure leaf_allocated page_size view = allocated page_size view
 leaf_figure leaf_used page_size view = leaf_bytes view.leaves
 
--- the figures of a page, with the inline buckets that lie in it
+-- the figures of a page, with the inline buckets in it
 abbrev pub kind_figure : Kind → Figure → ℕ → PageView → ℕ
 kind_figure kind.Branch f page_size view = branch_figure f page_size view
 kind_figure kind.Leaf f page_size view = leaf_figure f page_size view + sum_by (element_figure f) view.leaves

@@ -10,7 +10,7 @@ use Rattle.bolt_report.specs.declared.form.Form.TheVariants.{Printable, Hex, Byt
 abbrev pub is_printable : List ℕ → Bool
 is_printable bytes = list_all (λ byte. nat_le 0x20 byte && nat_le byte 0x7E) bytes
 
--- as they are where they can be printed, and else in hexadecimal; in hexadecimal; as they are
+-- as it is if it is printable, otherwise in hexadecimal; in hexadecimal; as it is
 abbrev pub shown_as : Form → List ℕ → List ℕ
 shown_as Printable bytes = if is_printable bytes then bytes else encode_lower bytes
 shown_as Hex bytes = encode_lower bytes

@@ -12,6 +12,6 @@ keys_text form entries = flat_map (λ (e : LeafElement). value_text form e.key) 
 abbrev pub buckets_text : Form → List LeafElement → List ℕ
 buckets_text form entries = keys_text form (filter (λ (e : LeafElement). e.is_bucket) entries)
 
--- what one entry adds, where all are asked for or the buckets alone
+-- what one entry adds, if all are asked for or only the buckets
 abbrev pub key_line : Form → Bool → LeafElement → List ℕ
 key_line form all e = if all || e.is_bucket then value_text form e.key else []

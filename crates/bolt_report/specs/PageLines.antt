@@ -16,7 +16,7 @@ kind_text kind.Freelist = codes "freelist"
 unfoldable pub kind_line : Kind → List ℕ
 kind_line kind = line (codes "type " ++ kind_text kind)
 
--- The four lines that a page begins with.
+-- The first four lines of a page.
 unfoldable pub head_lines : ℕ → Kind → ℕ → ℕ → List ℕ
 head_lines id kind items overflow =
     figure_line (codes "page") id
@@ -41,7 +41,7 @@ leaf_line e = encode_lower e.key ++ (if e.is_bucket then bucket_end e.value else
 unfoldable pub id_line : ℕ → List ℕ
 id_line id = line (decimal id)
 
--- A branch and a leaf have as many items as their count says, a freelist as many as it has ids, and a meta page none.
+-- The items of a branch or a leaf are its elements, those of a freelist its ids; a meta page has none.
 abbrev pub items_on : Kind → ℕ → List ℕ → ℕ
 items_on kind.Branch count ids = count
 items_on kind.Leaf count ids = count
@@ -55,6 +55,6 @@ item_lines kind.Leaf view ids = flat_map leaf_line view.leaves
 item_lines kind.Meta view ids = []
 item_lines kind.Freelist view ids = flat_map id_line ids
 
--- what page `id` shows, with its ids where it is a freelist
+-- what page `id` shows, with its ids if it is a freelist
 abbrev pub page_lines : ℕ → PageView → List ℕ → List ℕ
 page_lines id view ids = head_lines id view.kind (items_on view.kind view.count ids) view.overflow ++ item_lines view.kind view ids

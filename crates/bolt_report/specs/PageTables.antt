@@ -13,7 +13,7 @@ use Rattle.bolt_check.specs.declared.role.Role.{Role}
 use Rattle.bolt_check.specs.declared.role.Role.TheVariants as role
 use Rattle.bolt_report.specs.Lines.{line}
 
--- a text with spaces behind it, as wide as its column; a longer one passes the column
+-- a text and spaces, as wide as its column; a longer text passes the column
 unfoldable pub column : ℕ → List ℕ → List ℕ
 column width text = text ++ replicate (width - length text) 0x20
 
@@ -26,7 +26,7 @@ head_rows =
     row (codes "ID") (codes "TYPE") (codes "ITEMS") (codes "OVRFLW")
     ++ row (codes "========") (codes "==========") (codes "======") (codes "======")
 
--- an overflow of 0 isn't told
+-- an overflow of 0 is omitted
 abbrev pub overflow_text : ℕ → List ℕ
 overflow_text overflow = if overflow == 0 then [] else decimal overflow
 
@@ -64,11 +64,11 @@ pages_in file meta = range_with_len 0 (min (begun file meta) meta.high_water)
 abbrev pub pages_past : List ℕ → Meta → List ℕ
 pages_past file meta = range_with_len (begun file meta) (meta.high_water - begun file meta)
 
--- none is told where there is none
+-- no line if there are none
 abbrev pub past_line : ℕ → List ℕ
 past_line count = if count == 0 then [] else line (decimal count ++ codes " free pages past the end of the file")
 
--- the head, a row for each page in the file, and how many free pages lie past its end
+-- the head, a row for each page in the file, and how many free pages are past its end
 abbrev pub pages_text : List ℕ → Meta → (ℕ → Role) → List ℕ
 pages_text file meta roles =
     head_rows

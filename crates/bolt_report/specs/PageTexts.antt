@@ -9,7 +9,7 @@ use Rattle.bolt_format.specs.declared.kind.Kind.TheVariants as kind
 use Rattle.bolt_format.specs.declared.meta.Meta.{Meta}
 use Rattle.bolt_report.specs.PageLines.{page_lines}
 
--- A page is read as a freelist by the meta that names it as its own.
+-- A page is read as a freelist under the meta, changed so that it names this page.
 abbrev pub with_freelist : Meta → ℕ → Meta
 with_freelist meta id = record {
   page_size = meta.page_size;
@@ -31,7 +31,7 @@ abbrev pub shown_text : ℕ → List ℕ → Option PageView → List ℕ
 shown_text id ids (Some view) = page_lines id view ids
 shown_text id ids None = []
 
--- the text of a page, which is empty where the page is no good
+-- the text of a page, which is empty if the page is refused
 abbrev pub page_text : List ℕ → Meta → ℕ → List ℕ
 page_text file meta id = shown_text id (page_ids file meta id) (page_at file meta id)
 

@@ -5,8 +5,8 @@ use Rattle.bolt_format.specs.Sinks.{AppendsBeginning}
 use Rattle.bolt_report.specs.declared.fault.ReportFault.{ReportFault}
 use Rattle.bolt_report.specs.declared.fault.ReportFault.TheVariants.{Sink}
 
--- From its state `old` to `new` the sink took a beginning of the text, and where the call answered Ok the whole, with no failure. The fault
--- Sink comes only with a failure. `taken` is what a sink tells of its bytes, and `failed` its count of failures.
+-- From its state `old` to `new` the sink accepted a prefix of the text; if the call returned Ok, it accepted the whole text without a
+-- failure. The fault Sink comes only with a failure. `taken` is what a sink shows of its bytes, and `failed` its number of failures.
 pub record Reports {S A : Type 0} (taken : S → Option (List ℕ)) (failed : S → ℕ) (old new : S) (text : List ℕ) (result : Result A ReportFault) : Type 0 where
   pub all : OnOk result (Appends (taken old) (taken new) text)
   pub sound : OnOk result (failed new ≡ failed old)

@@ -13,7 +13,7 @@ use crate::puts::put;
 use crate::text::{Text, push_bytes, push_number};
 use bolt_format::{Branch, FreeIds, Kind, Leaf, Page, Sink, SinkFault, head};
 
-/// Puts a line for each element of a branch page.
+/// Writes a line for each element of a branch page.
 pub(crate) fn put_branches<S: Sink>(page: &Page<'_>, sink: &mut S) -> Result<(), SinkFault>
     requires { (shown page.now).kind ≡ Kind.Branch }
     ensures { Writes S.taken S.failed sink.old sink.new (flat_map branch_line (shown page.now).branches) result }
@@ -24,7 +24,7 @@ pub(crate) fn put_branches<S: Sink>(page: &Page<'_>, sink: &mut S) -> Result<(),
     Ok(())
 }
 
-/// Puts a line for each element of a leaf page.
+/// Writes a line for each element of a leaf page.
 pub(crate) fn put_leaves<S: Sink>(page: &Page<'_>, sink: &mut S) -> Result<(), SinkFault>
     requires { (shown page.now).kind ≡ Kind.Leaf }
     ensures { Writes S.taken S.failed sink.old sink.new (flat_map leaf_line (shown page.now).leaves) result }
@@ -35,7 +35,7 @@ pub(crate) fn put_leaves<S: Sink>(page: &Page<'_>, sink: &mut S) -> Result<(), S
     Ok(())
 }
 
-/// Puts a line for each id of a freelist.
+/// Writes a line for each id of a freelist.
 pub(crate) fn put_ids<S: Sink>(ids: &FreeIds<'_>, sink: &mut S) -> Result<(), SinkFault>
     ensures { Writes S.taken S.failed sink.old sink.new (flat_map id_line (shown_ids ids.now)) result }
 {
@@ -66,7 +66,7 @@ fn put_leaf<S: Sink>(leaf: &Leaf<'_>, sink: &mut S) -> Result<(), SinkFault>
     }
 }
 
-/// Puts what follows the key of a value.
+/// Writes what follows the key of a value.
 #[tactic(auto, unfolding(crate::specs::PageLines::value_end))]
 pub(crate) fn put_value_end<S: Sink>(value: &[u8], sink: &mut S) -> Result<(), SinkFault>
     ensures { Writes S.taken S.failed sink.old sink.new (value_end value.now) result }
@@ -76,7 +76,7 @@ pub(crate) fn put_value_end<S: Sink>(value: &[u8], sink: &mut S) -> Result<(), S
     put(b"\n", sink)
 }
 
-/// What follows the key of a branch's element.
+/// What follows the key of a branch element.
 fn child_text(child: u64) -> Text
     ensures { result.items ≡ line (codes " -> " ++ decimal child) }
 {

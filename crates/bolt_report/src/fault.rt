@@ -8,11 +8,11 @@ use bolt_tree::NoMemory;
 /// Why a text isn't whole on its sink.
 #[derive(Clone, Copy, Debug, PartialEq, Eq)]
 pub enum ReportFault {
-    /// The sink failed. It took a beginning of the text.
+    /// The sink failed. It has accepted a prefix of the text.
     Sink,
-    /// There was no memory. The sink took a beginning of the text.
+    /// Memory ran out. The sink has accepted a prefix of the text.
     NoMemory,
-    /// The page that was to be printed is no good. The sink took nothing.
+    /// The page to be printed is refused. The sink is unchanged.
     Page(PageFault),
 }
 

@@ -10,8 +10,11 @@ use crate::text::{TEXT_LEN, Text, push_bytes, push_number};
 use bolt_check::Finding;
 use bolt_format::{MetaFault, PageFault, Sink, SinkFault};
 
-/// Puts the line of a meta fault. `Sink` says that the sink failed, and no
-/// other fault comes; the sink then took a beginning of the text.
+/// Writes the line of a meta fault.
+///
+/// # Errors
+///
+/// `Sink` if the sink failed; it has then accepted a prefix of the text. There is no other error.
 pub fn meta_fault_text<S: Sink>(fault: MetaFault, sink: &mut S) -> Result<(), ReportFault>
     ensures written { Reports S.taken S.failed sink.old sink.new (meta_fault_text fault) result }
     ensures fault { IfErr result (λ fault. fault ≡ ReportFault.Sink) }
@@ -20,8 +23,11 @@ pub fn meta_fault_text<S: Sink>(fault: MetaFault, sink: &mut S) -> Result<(), Re
     Ok(())
 }
 
-/// Puts the line of a page's fault. `Sink` says that the
-/// sink failed, and no other fault comes; the sink then took a beginning of the text.
+/// Writes the line of a page's fault.
+///
+/// # Errors
+///
+/// `Sink` if the sink failed; it has then accepted a prefix of the text. There is no other error.
 pub fn page_fault_text<S: Sink>(fault: &PageFault, sink: &mut S) -> Result<(), ReportFault>
     ensures written { Reports S.taken S.failed sink.old sink.new (page_fault_text fault.now) result }
     ensures fault { IfErr result (λ fault. fault ≡ ReportFault.Sink) }
@@ -30,8 +36,11 @@ pub fn page_fault_text<S: Sink>(fault: &PageFault, sink: &mut S) -> Result<(), R
     Ok(())
 }
 
-/// Puts the line of a finding. `Sink` says that the sink failed, and no other fault comes; the sink
-/// then took a beginning of the text.
+/// Writes the line of a finding.
+///
+/// # Errors
+///
+/// `Sink` if the sink failed; it has then accepted a prefix of the text. There is no other error.
 pub fn finding_text<S: Sink>(finding: &Finding, sink: &mut S) -> Result<(), ReportFault>
     ensures written { Reports S.taken S.failed sink.old sink.new (finding_text finding.now) result }
     ensures fault { IfErr result (λ fault. fault ≡ ReportFault.Sink) }
@@ -40,8 +49,11 @@ pub fn finding_text<S: Sink>(finding: &Finding, sink: &mut S) -> Result<(), Repo
     Ok(())
 }
 
-/// Puts the line of each finding, and then the line of their number, as `2 errors found`. `Sink`
-/// says that the sink failed, and no other fault comes; the sink then took a beginning of the text.
+/// Writes the line of each finding, and then the line with their number, such as `2 errors found`.
+///
+/// # Errors
+///
+/// `Sink` if the sink failed; it has then accepted a prefix of the text. There is no other error.
 pub fn findings_text<S: Sink>(findings: &[Finding], sink: &mut S) -> Result<(), ReportFault>
     ensures written { Reports S.taken S.failed sink.old sink.new (findings_text findings.now) result }
     ensures fault { IfErr result (λ fault. fault ≡ ReportFault.Sink) }
@@ -133,7 +145,7 @@ fn finding_line(finding: &Finding) -> Text
     text
 }
 
-/// Adds the number of a page, or those of the first and the last page of a run.
+/// Adds the number of a page or, for a run, those of its first and last page.
 #[tactic(auto, unfolding(crate::specs::FaultWords::pages_words))]
 fn push_pages(text: &mut Text, page: u64, last: u64)
     requires { length text.old.items + 60 ≤ TEXT_LEN }

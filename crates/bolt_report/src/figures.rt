@@ -9,40 +9,40 @@ use crate::puts::put;
 use crate::text::{Text, push_figure};
 use bolt_format::{Sink, SinkFault};
 
-/// Figures of a bucket with all buckets below it, or of a part of one. They are this project's own;
-/// nothing says that bbolt's agree. A figure that would pass the greatest u64 is that number.
+/// The figures of a bucket with all buckets in it, or of a part of one. They are this project's own
+/// and may differ from bbolt's. A figure above 2^64 - 1 saturates there.
 #[derive(Clone, Copy, Debug, PartialEq, Eq, Default)]
 pub struct Stats {
-    /// How many buckets there are, the first one included.
+    /// The number of buckets, the outermost included.
     pub buckets: u64,
-    /// How many of them are inline.
+    /// The number of inline buckets among them.
     pub inline_buckets: u64,
-    /// The bytes that the pages of inline buckets use.
+    /// The bytes used of the pages of inline buckets.
     pub inline_used: u64,
-    /// How many elements leaves and inline pages have, buckets included.
+    /// The number of elements of leaves and inline pages, buckets included.
     pub keys: u64,
-    /// The pages on the longest way from the bucket's root page to a leaf, and the greatest depth
-    /// of the buckets in it; 1 for an inline bucket.
+    /// The number of pages on the longest way from the bucket's root page to a leaf, 1 if it is
+    /// inline, plus the greatest depth of the buckets in it.
     pub depth: u64,
-    /// How many branches there are, each with its span.
+    /// The number of branches, each with its span.
     pub branch_pages: u64,
-    /// How many further pages the spans of branches have.
+    /// The number of further pages of their spans.
     pub branch_overflow: u64,
-    /// The bytes of the spans of branches.
+    /// The bytes of their spans.
     pub branch_allocated: u64,
-    /// The bytes that branches use: of headers, elements and keys.
+    /// The bytes used of branches: headers, elements and keys.
     pub branch_used: u64,
-    /// How many leaves there are, each with its span; inline pages are none.
+    /// The number of leaves, each with its span, without inline pages.
     pub leaf_pages: u64,
-    /// How many further pages the spans of leaves have.
+    /// The number of further pages of their spans.
     pub leaf_overflow: u64,
-    /// The bytes of the spans of leaves.
+    /// The bytes of their spans.
     pub leaf_allocated: u64,
-    /// The bytes that leaves use: of headers, elements, keys and values.
+    /// The bytes used of leaves: headers, elements, keys and values.
     pub leaf_used: u64,
 }
 
-/// Two figures together: sums, but of the depths the greater.
+/// Adds up the figures of two buckets, but takes the greater depth.
 pub fn add(a: Stats, b: Stats) -> Stats
     ensures { result ≡ add_stats a b }
 {
@@ -63,8 +63,11 @@ pub fn add(a: Stats, b: Stats) -> Stats
     }
 }
 
-/// Puts the thirteen lines of figures (docs/COMMANDS.md, "What is printed"). `Sink` says that the
-/// sink failed, and no other fault comes; the sink then took a beginning of the text.
+/// Writes the thirteen lines of figures (docs/COMMANDS.md, "What is printed").
+///
+/// # Errors
+///
+/// `Sink` if the sink failed; it has then accepted a prefix of the text. There is no other error.
 pub fn stats_text<S: Sink>(stats: &Stats, sink: &mut S) -> Result<(), ReportFault>
     ensures written { Reports S.taken S.failed sink.old sink.new (stats_text stats.now) result }
     ensures fault { IfErr result (λ fault. fault ≡ ReportFault.Sink) }

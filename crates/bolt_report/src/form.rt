@@ -1,12 +1,12 @@
-//! The forms in which keys and values are printed.
+//! The forms of printed keys and values.
 
-/// How the bytes of a key or a value are printed (docs/COMMANDS.md, "What is printed").
+/// How a key or a value is printed (docs/COMMANDS.md, "What is printed").
 #[derive(Clone, Copy, Debug, PartialEq, Eq)]
 pub enum Form {
-    /// As they are where each is a printable ASCII character, and otherwise in hexadecimal.
+    /// As it is if all its bytes are printable ASCII characters, otherwise in hexadecimal.
     Printable,
     /// In lower-case hexadecimal, two digits a byte.
     Hex,
-    /// As they are.
+    /// As it is.
     Bytes,
 }

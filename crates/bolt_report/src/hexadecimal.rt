@@ -7,10 +7,10 @@ use crate::puts::put;
 use bolt_format::{Sink, SinkFault};
 use hex::encode_to_slice;
 
-/// How many bytes are encoded at a time.
+/// The number of bytes that are encoded at a time.
 const PIECE_LEN: usize = 256;
 
-/// Puts bytes in hexadecimal, piece by piece.
+/// Writes bytes in hexadecimal, piece by piece.
 pub(crate) fn put_hex<S: Sink>(bytes: &[u8], sink: &mut S) -> Result<(), SinkFault>
     ensures { Writes S.taken S.failed sink.old sink.new (encode_lower bytes.now) result }
 {
@@ -23,7 +23,7 @@ pub(crate) fn put_hex<S: Sink>(bytes: &[u8], sink: &mut S) -> Result<(), SinkFau
     Ok(())
 }
 
-/// Puts a few bytes in hexadecimal.
+/// Writes a few bytes in hexadecimal.
 fn put_hex_piece<S: Sink>(piece: &[u8], sink: &mut S) -> Result<(), SinkFault>
     requires { length piece.now ≤ PIECE_LEN }
     ensures { Writes S.taken S.failed sink.old sink.new (encode_lower piece.now) result }

@@ -15,8 +15,11 @@ use crate::values::put_value;
 use bolt_format::{Sink, SinkFault};
 use bolt_tree::{Bucket, Entry, Item};
 
-/// Puts the keys of all entries of a bucket in a form, a line for each, in byte order. `Sink` says
-/// that the sink failed, and no other fault comes; the sink then took a beginning of the text.
+/// Writes the keys of all entries of a bucket in a form, a line for each, in byte order.
+///
+/// # Errors
+///
+/// `Sink` if the sink failed; it has then accepted a prefix of the text. There is no other error.
 pub fn keys<S: Sink>(bucket: &Bucket<'_>, form: Form, sink: &mut S) -> Result<(), ReportFault>
     ensures written { ForEntries (bucket_checked bucket.now) (bucket_start bucket.now) (λ entries. Reports S.taken S.failed sink.old sink.new (keys_text form entries) result) }
     ensures fault { IfErr result (λ fault. fault ≡ ReportFault.Sink) }
@@ -25,7 +28,8 @@ pub fn keys<S: Sink>(bucket: &Bucket<'_>, form: Form, sink: &mut S) -> Result<()
     Ok(())
 }
 
-/// Puts the keys of those entries of a bucket that are buckets, as `keys` puts those of all.
+/// Writes the keys of those entries of a bucket that are buckets. The lines and the errors are as
+/// those of `keys`.
 pub fn buckets<S: Sink>(bucket: &Bucket<'_>, form: Form, sink: &mut S) -> Result<(), ReportFault>
     ensures written { ForEntries (bucket_checked bucket.now) (bucket_start bucket.now) (λ entries. Reports S.taken S.failed sink.old sink.new (buckets_text form entries) result) }
     ensures fault { IfErr result (λ fault. fault ≡ ReportFault.Sink) }
@@ -34,7 +38,7 @@ pub fn buckets<S: Sink>(bucket: &Bucket<'_>, form: Form, sink: &mut S) -> Result
     Ok(())
 }
 
-/// Puts the keys of all entries, or of the buckets alone.
+/// Writes the keys of all entries, or only those of buckets.
 fn put_keys<S: Sink>(
     bucket: &Bucket<'_>,
     form: Form,

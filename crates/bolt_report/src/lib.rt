@@ -1,5 +1,5 @@
-//! What is printed: each text as the bytes that a sink takes. A call that meets a fault leaves a
-//! beginning of its text on the sink.
+//! The texts that are printed. Each call writes its text to a sink. If it fails, the sink has
+//! accepted a prefix of the text.
 #![tactic(auto)]
 
 mod elements;

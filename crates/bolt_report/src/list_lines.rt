@@ -1,4 +1,4 @@
-//! The text of what a file holds.
+//! The text of everything in a file.
 ghost use Rattle.std.specs.Prelude.{◌≡◌, ◌∷◌, ◌++◌, ◌⊎◌, IfErr, codes, decimal, flat_map};
 ghost use Rattle.hex.specs.Hex.{encode_lower};
 ghost use Rattle.bolt_format.specs.Writes.{Writes};
@@ -21,10 +21,13 @@ use bolt_format::{Sink, SinkFault};
 use bolt_tree::{Item, Walk};
 use std::alloc::Global;
 
-/// Puts a line for each path of a file that doesn't come before `from`, with its value or the
-/// sequence of its bucket, in the order of paths (docs/LISTING.md). `Sink` says that the sink
-/// failed, and `NoMemory` that the walk wanted memory and the sink had not failed; no other fault
-/// comes, and the sink then took a beginning of the text. Nothing is allocated for a line.
+/// Writes a line for each path of a file that doesn't come before `from`, with its value or the
+/// sequence of its bucket, in the order of paths (docs/LISTING.md). A line needs no memory.
+///
+/// # Errors
+///
+/// `Sink` if the sink failed; `NoMemory` if memory ran out for the walk, and the sink had not
+/// failed. The sink has then accepted a prefix of the text. There is no other error.
 pub fn list<S: Sink>(
     alloc: Global,
     checked: Checked<'_>,
@@ -39,7 +42,7 @@ pub fn list<S: Sink>(
     put_rest(&mut walk, sink)
 }
 
-/// Puts a line for each member that a walk has before it.
+/// Writes a line for each member that a walk has ahead of it.
 fn put_rest<S: Sink>(walk: &mut Walk<'_>, sink: &mut S) -> Result<(), ReportFault>
     ensures written { ForListing (walk_checked walk.old) (λ listing. Reports S.taken S.failed sink.old sink.new (listing_text (left_of walk.old listing)) result) }
     ensures fault { IfErr result (λ fault. (fault ≡ ReportFault.Sink) ⊎ (fault ≡ ReportFault.NoMemory)) }
@@ -59,7 +62,7 @@ fn put_member<S: Sink>(path: &[&[u8]], item: &Item<'_>, sink: &mut S) -> Result<
     put_item_end(item, sink)
 }
 
-/// Puts the parts of a path in hexadecimal, joined by slashes.
+/// Writes the parts of a path in hexadecimal, joined by slashes.
 fn put_path<S: Sink>(path: &[&[u8]], sink: &mut S) -> Result<(), SinkFault>
     ensures { Writes S.taken S.failed sink.old sink.new (hex_path (path_of path.now)) result }
 {
@@ -70,7 +73,7 @@ fn put_path<S: Sink>(path: &[&[u8]], sink: &mut S) -> Result<(), SinkFault>
     put_later_parts(rest, sink)
 }
 
-/// Puts each of these parts behind a slash.
+/// Writes a slash and then the part, for each of these parts.
 fn put_later_parts<S: Sink>(parts: &[&[u8]], sink: &mut S) -> Result<(), SinkFault>
     ensures { Writes S.taken S.failed sink.old sink.new (flat_map (λ part. 0x2F ∷ encode_lower part.now) parts.now) result }
 {
@@ -87,7 +90,7 @@ fn put_later_part<S: Sink>(part: &[u8], sink: &mut S) -> Result<(), SinkFault>
     put_hex(part, sink)
 }
 
-/// Puts what follows the path of a member.
+/// Writes what follows the path of a member.
 #[tactic(auto, unfolding(crate::specs::ListLines::item_end))]
 fn put_item_end<S: Sink>(item: &Item<'_>, sink: &mut S) -> Result<(), SinkFault>
     ensures { Writes S.taken S.failed sink.old sink.new (item_end (item_view item.now)) result }

@@ -8,8 +8,11 @@ use crate::puts::put;
 use crate::text::{TEXT_LEN, Text, push_bytes, push_figure, push_number};
 use bolt_format::{Meta, NO_FREELIST, Sink, Slot};
 
-/// Puts the seven lines of a meta and its slot (docs/COMMANDS.md, "What is printed"). `Sink` says
-/// that the sink failed, and no other fault comes; the sink then took a beginning of the text.
+/// Writes the seven lines of a meta and its slot (docs/COMMANDS.md, "What is printed").
+///
+/// # Errors
+///
+/// `Sink` if the sink failed; it has then accepted a prefix of the text. There is no other error.
 pub fn info<S: Sink>(slot: Slot, meta: &Meta, sink: &mut S) -> Result<(), ReportFault>
     ensures written { Reports S.taken S.failed sink.old sink.new (info_text slot meta.now) result }
     ensures fault { IfErr result (λ fault. fault ≡ ReportFault.Sink) }

@@ -1,4 +1,4 @@
-//! The figures of one page: its own, and those of the inline buckets that lie in it.
+//! The figures of one page: its own, and those of the inline buckets in it.
 ghost use Rattle.std.specs.Prelude.{◌≡◌, ◌+◌, IsTrue, length, sum_by};
 ghost use Rattle.bolt_format.specs.Elements.{IsBucketValue};
 ghost use Rattle.bolt_format.specs.ElementPlaces.{leaf_view};
@@ -9,10 +9,10 @@ ghost use Rattle.bolt_report.specs.Figures.{Figure, allocated, branch_bytes, bra
 use crate::figures::{Stats, add};
 use bolt_format::{Inline, Kind, Leaf, Page, head, inline};
 
-/// The bytes that an element's header takes, and a page's.
+/// The length of an element's header, and of a page's.
 const HEADER: u64 = 16;
 
-/// The bytes of an element of a leaf.
+/// The bytes of a leaf element.
 fn leaf_size(leaf: &Leaf<'_>) -> u64
     ensures { result ≡ capped (16 + length leaf.now.key.now + length leaf.now.value.now) }
 {
@@ -21,7 +21,7 @@ fn leaf_size(leaf: &Leaf<'_>) -> u64
         .saturating_add(leaf.value.len() as u64)
 }
 
-/// What the elements of an inline bucket use, with its page's header.
+/// The bytes used of an inline bucket's page: its header and its elements.
 fn inline_used(page: &Inline<'_>) -> u64
     ensures { result ≡ capped (leaf_bytes (shown_inline page.now)) }
 {
@@ -46,7 +46,7 @@ pub(crate) fn inline_stats(page: &Inline<'_>) -> Stats
     }
 }
 
-/// What a leaf element adds besides its bytes: the inline bucket that it is.
+/// What a leaf element adds besides its bytes: the figures of its bucket, if it is one.
 fn element_stats(leaf: &Leaf<'_>) -> Stats
     requires { IsTrue leaf.now.is_bucket → IsBucketValue leaf.now.value.now }
     ensures { (f : Figure) → figure f result ≡ capped (element_figure f (leaf_view leaf.now)) }
@@ -70,7 +70,7 @@ fn allocated(page: &Page<'_>, page_size: u32) -> u64
     (1 + u64::from(page.overflow())) * u64::from(page_size)
 }
 
-/// What the elements of a branch use, with its header.
+/// The bytes used of a branch: its header and its elements.
 #[tactic(auto, using(bolt_format::proofs::ListLemmas::drop_next, std::proofs::lemmas::List::drop_all))]
 fn branch_used(page: &Page<'_>) -> u64
     requires { (shown page.now).kind ≡ Kind.Branch }
@@ -100,7 +100,7 @@ fn branch_stats(page: &Page<'_>, page_size: u32) -> Stats
     }
 }
 
-/// What the elements of a leaf use, with its header.
+/// The bytes used of a leaf: its header and its elements.
 fn leaf_used(page: &Page<'_>) -> u64
     requires { (shown page.now).kind ≡ Kind.Leaf }
     ensures { result ≡ capped (leaf_bytes (shown page.now).leaves) }

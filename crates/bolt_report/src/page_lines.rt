@@ -16,17 +16,20 @@ use crate::puts::put;
 use crate::text::{TEXT_LEN, Text, push_bytes, push_figure};
 use bolt_format::{FreeIds, Kind, Meta, Page, PageFault, Sink, SinkFault, free_ids, page};
 
-/// A page that passed its tests, with its ids where it is a freelist.
+/// A page that passed its tests, with its ids if it is a freelist.
 #[derive(Clone, Copy)]
 struct Found<'a> {
     page: Page<'a>,
     ids: Option<FreeIds<'a>>,
 }
 
-/// Puts what page `id` of a file shows under a meta (docs/COMMANDS.md, "What is printed"). `Page`
-/// tells the first test that the page fails; a freelist page is also refused where its ids don't
-/// lie in its span. The sink is then as it was. `Sink` says that the sink failed; it then took a
-/// beginning of the text.
+/// Writes what page `id` of a file shows under a meta (docs/COMMANDS.md, "What is printed").
+///
+/// # Errors
+///
+/// `Page` with the first test that the page fails, or if it is a freelist page whose ids don't fit
+/// in its span; the sink is then unchanged. `Sink` if the sink failed; it has then accepted a
+/// prefix of the text. There is no other error.
 pub fn page_text<S: Sink>(
     file: &[u8],
     meta: &Meta,
@@ -36,7 +39,7 @@ pub fn page_text<S: Sink>(
     ensures written { Reports S.taken S.failed sink.old sink.new (page_text file.now meta.now id) result }
     ensures memory { result ≢ Err ReportFault.NoMemory }
 
-    // A page that is no good is told before anything is put.
+    // A page is refused before anything is written.
     ensures page { (fault : PageFault) → (result ≡ Err (ReportFault.Page fault)) ↔ (page_text_fault file.now meta.now id ≡ Some fault) }
     ensures untouched { (fault : PageFault) → result ≡ Err (ReportFault.Page fault) → sink.new ≡ sink.old }
 {
@@ -49,7 +52,7 @@ pub fn page_text<S: Sink>(
     }
 }
 
-/// The page, and its ids where it is a freelist.
+/// The page, and its ids if it is a freelist.
 fn find<'a>(file: &'a [u8], meta: &Meta, id: u64) -> Result<Found<'a>, PageFault>
     ensures page { IfOk result (λ found. page_at file.now meta.now id ≡ Some (shown found.page)) }
     ensures ids { IfOk result (λ found. (shown found.page).kind ≡ Kind.Freelist → known_ids (option_map shown_ids found.ids) ≡ page_ids file.now meta.now id) }
@@ -65,7 +68,7 @@ fn find<'a>(file: &'a [u8], meta: &Meta, id: u64) -> Result<Found<'a>, PageFault
     }
 }
 
-/// The ids of a page as the freelist of its file.
+/// The ids of the page, read as if it were the freelist of its file.
 fn own_ids<'a>(file: &'a [u8], meta: &Meta, id: u64) -> Result<Option<FreeIds<'a>>, PageFault>
     ensures ids { IfOk result (λ ids. known_ids (option_map shown_ids ids) ≡ page_ids file.now meta.now id) }
     ensures fault { result_err result ≡ page_ids_fault file.now meta.now id }
@@ -107,7 +110,7 @@ fn put_items<S: Sink>(
     }
 }
 
-/// The lines that a page begins with.
+/// The first four lines of a page.
 #[tactic(auto, unfolding(crate::specs::PageLines::head_lines))]
 fn page_head(id: u64, page: &Page<'_>, ids: &Option<FreeIds<'_>>) -> Text
     ensures { result.items ≡ head_lines id (shown page.now).kind (items_on (shown page.now).kind (shown page.now).count (known_ids (option_map shown_ids ids.now))) (shown page.now).overflow }

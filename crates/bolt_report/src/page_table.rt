@@ -17,12 +17,15 @@ use bolt_check::{Checked, Role, Roles, roles};
 use bolt_format::{Sink, SinkFault, free_ids, known};
 use std::alloc::Global;
 
-/// Puts the table of all pages of a file (docs/COMMANDS.md, "What is printed"): a row for each page
-/// that begins in the file and lies below the high-water mark, but for the later pages of a span,
-/// and how many free pages lie past the file's end. The file's accounts were tested too. `Sink`
-/// says that the sink failed, and `NoMemory` that the roles of the pages wanted memory and the sink
-/// had not failed; no other fault comes, and the sink then took a beginning of the text. Nothing is
-/// allocated for a row.
+/// Writes the table of all pages of a file (docs/COMMANDS.md, "What is printed"): a line for each
+/// page that begins in the file below the high-water mark, except the later pages of a span, and
+/// the number of free pages past the end of the file. The file's accounts were tested too. A line
+/// needs no memory.
+///
+/// # Errors
+///
+/// `Sink` if the sink failed; `NoMemory` if memory ran out for the roles of the pages, and the sink
+/// had not failed. The sink has then accepted a prefix of the text. There is no other error.
 pub fn pages<S: Sink>(alloc: Global, checked: Checked<'_>, sink: &mut S) -> Result<(), ReportFault>
     requires { has_accounts checked ≡ true }
     ensures written { ForRoles checked.entry (λ roles. Reports S.taken S.failed sink.old sink.new (pages_text (bytes_of checked.entry) (meta_of checked.entry) roles) result) }
@@ -43,7 +46,7 @@ fn put_table<S: Sink>(table: &Roles<'_>, sink: &mut S) -> Result<(), SinkFault>
     put(past_text(free_past(table)).as_slice(), sink)
 }
 
-/// How many pages begin in the file.
+/// The number of pages that begin in the file.
 fn pages_begun(checked: &Checked<'_>) -> u64
     requires { 0 < (meta_of checked.now).page_size }
     ensures { result ≡ begun (bytes_of checked.now) (meta_of checked.now) }
@@ -51,8 +54,8 @@ fn pages_begun(checked: &Checked<'_>) -> u64
     (checked.bytes().len() as u64).div_ceil(u64::from(checked.meta().page_size))
 }
 
-/// How many free pages lie past the file's end: all from there on up to the mark. They are counted,
-/// and not gone over, since the mark may be any number.
+/// The number of free pages past the end of the file: all pages from there up to the mark. It is
+/// computed, not counted page by page, since the mark may be any number.
 fn free_past(table: &Roles<'_>) -> u64
     requires { has_accounts (roles_checked table.now) ≡ true }
     ensures { ForRoles (roles_checked table.now) (λ roles. result ≡ count_by (λ n. is_free (roles n)) (pages_past (bytes_of (roles_checked table.now)) (meta_of (roles_checked table.now)))) }
@@ -64,7 +67,7 @@ fn free_past(table: &Roles<'_>) -> u64
         .saturating_sub(pages_begun(&checked))
 }
 
-/// Puts the rows of the pages in the file.
+/// Writes the rows of the pages in the file.
 fn put_rows<S: Sink>(table: &Roles<'_>, sink: &mut S) -> Result<(), SinkFault>
     requires { has_accounts (roles_checked table.now) ≡ true }
     ensures { ForRoles (roles_checked table.now) (λ roles. Writes S.taken S.failed sink.old sink.new (flat_map (λ n. page_row (bytes_of (roles_checked table.now)) (meta_of (roles_checked table.now)) n (roles n)) (pages_in (bytes_of (roles_checked table.now)) (meta_of (roles_checked table.now)))) result) }
@@ -77,7 +80,7 @@ fn put_rows<S: Sink>(table: &Roles<'_>, sink: &mut S) -> Result<(), SinkFault>
     Ok(())
 }
 
-/// Puts the row of a page with this role.
+/// Writes the row of a page with this role.
 fn put_row<S: Sink>(
     checked: &Checked<'_>,
     id: u64,
@@ -116,7 +119,7 @@ fn freelist_row(checked: &Checked<'_>, id: u64) -> Text
     items_row(id, b"freelist", free_count(checked, id), page.overflow())
 }
 
-/// How many ids the freelist has.
+/// The number of ids of the freelist.
 fn free_count(checked: &Checked<'_>, id: u64) -> u64
     requires { ∥ HasRole (bytes_of checked.now) (meta_of checked.now) id Role.Freelist ∥₁ }
     ensures { result ≡ length (free_ids_at (bytes_of checked.now) (meta_of checked.now) id) }

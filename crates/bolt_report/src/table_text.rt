@@ -5,10 +5,10 @@ ghost use Rattle.bolt_report.specs.PageTables.{column, head_rows, overflow_text,
 use crate::text::{TEXT_LEN, Text, push_bytes, push_number};
 use itoa::Buffer;
 
-/// As many spaces as the widest column has places.
+/// As many spaces as the widest column is wide.
 const SPACES: [u8; 10] = [b' '; 10];
 
-/// The two rows that the table begins with.
+/// The two head rows of the table.
 pub(crate) fn head_text() -> Text
     ensures { result.items ≡ head_rows }
 {
@@ -111,7 +111,7 @@ fn push_column(text: &mut Text, item: &[u8], width: usize)
     push_bytes(text, &SPACES[..width.saturating_sub(item.len())]);
 }
 
-/// How many free pages lie past the end of the file, where there is any.
+/// The line with the number of free pages past the end of the file, or nothing if there are none.
 pub(crate) fn past_text(count: u64) -> Text
     ensures { result.items ≡ past_line count }
 {

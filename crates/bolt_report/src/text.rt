@@ -1,11 +1,11 @@
-//! Short texts, gathered in a buffer of fixed length before they are put.
+//! Short texts, gathered in a buffer of fixed length before they are written.
 ghost use Rattle.std.specs.Prelude.{◌≡◌, ◌+◌, ◌≤◌, ◌++◌, decimal, length};
 ghost use Rattle.bolt_report.specs.Lines.{figure_line};
 
 use arrayvec::ArrayVec;
 use itoa::Buffer;
 
-/// How many bytes a short text may have.
+/// The greatest length of a short text in bytes.
 pub(crate) const TEXT_LEN: usize = 512;
 
 /// A short text.

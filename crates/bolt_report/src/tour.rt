@@ -1,6 +1,6 @@
-//! The figures of a bucket with all buckets below it. Each page is read once, and nothing calls
-//! itself: the buckets that are still to be read stand in a list, and so do the pages of the one
-//! that is being read.
+//! The figures of a bucket with all buckets in it. Each page is read once, and nothing is
+//! recursive: lists have the buckets that are still to be read, and the pages of the one that is
+//! being read.
 ghost use Rattle.std.specs.Prelude.{◌≡◌, ◌<◌, ◌+◌, ◌∷◌, ◌++◌, ◌⊎◌, ℕ, [], IfOk, IsTrue, Ok, OnOk, flat_map, map, max, sum_by};
 ghost use Rattle.bolt_format.specs.ElementPlaces.{leaf_view};
 ghost use Rattle.bolt_format.specs.Elements.{IsBucketValue};
@@ -22,11 +22,11 @@ use bolt_format::{Kind, Leaf, Page, head, known};
 use bolt_tree::{At, Bucket};
 use std::alloc::{AllocError, Global};
 
-/// The figures of a bucket with all buckets below it (docs/COMMANDS.md, "What is printed").
+/// The figures of a bucket with all buckets in it (docs/COMMANDS.md, "What is printed").
 ///
 /// # Errors
 ///
-/// `NoMemory` where there is no room for the buckets and pages that are still to be read.
+/// `NoMemory` if memory runs out for the buckets and pages that are still to be read.
 pub fn stats(alloc: Global, bucket: &Bucket<'_>) -> Result<Stats, NoMemory>
     ensures { IfOk result (λ stats. ∥ IsStatsOf (bytes_of (bucket_checked bucket.now)) (meta_of (bucket_checked bucket.now)) (bucket_start bucket.now) stats ∥₁) }
 {
@@ -51,7 +51,7 @@ struct OpenBucket {
 #[derive(Clone, Copy)]
 struct OpenPage {
     number: u64,
-    /// How many pages lie on the way from the bucket's root page to this one, both included.
+    /// The number of pages from the bucket's root page to this one, both included.
     depth: u64,
 }
 
@@ -61,7 +61,7 @@ struct Read {
     figures: Stats,
     /// The greatest depth of a leaf.
     height: u64,
-    /// The depth of the inline buckets in it: 1, or 0 where there is none.
+    /// 1 if there are inline buckets in it, otherwise 0: their depth.
     inline_depth: u64,
 }
 
@@ -183,8 +183,8 @@ fn open_children(page: &Page<'_>, depth: u64, pages: &mut Vec<OpenPage>) -> Resu
     Ok(())
 }
 
-/// Finds the root pages of the buckets that a leaf holds. The answer is the depth of those that
-/// are inline: 1, or 0 where none is.
+/// Finds the root pages of the buckets on a leaf. Returns the depth of the inline ones: 1, or 0 if
+/// there are none.
 fn find_buckets(page: &Page<'_>, roots: &mut Vec<u64>) -> Result<u64, AllocError>
     requires { (shown page.now).kind ≡ Kind.Leaf }
     ensures roots { OnOk result (roots.new.items ≡ roots.old.items ++ flat_map root_of (shown page.now).leaves) }
@@ -199,7 +199,7 @@ fn find_buckets(page: &Page<'_>, roots: &mut Vec<u64>) -> Result<u64, AllocError
     Ok(deepest)
 }
 
-/// The depth of the bucket that an element of a leaf is: 1 where it is inline, and else 0.
+/// The depth of an element's bucket: 1 if it is an inline bucket, otherwise 0.
 fn inline_depth(leaf: &Leaf<'_>) -> u64
     requires { IsTrue leaf.now.is_bucket → IsBucketValue leaf.now.value.now }
     ensures { result ≡ inline_depth (leaf_entry (leaf_view leaf.now)) }
@@ -211,7 +211,7 @@ fn inline_depth(leaf: &Leaf<'_>) -> u64
     }
 }
 
-/// Adds the root page of the bucket that an element of a leaf is, if it has one.
+/// Adds the root page of an element's bucket, if it has one.
 fn push_root(leaf: &Leaf<'_>, roots: &mut Vec<u64>) -> Result<(), AllocError>
     requires { IsTrue leaf.now.is_bucket → IsBucketValue leaf.now.value.now }
     ensures { OnOk result (roots.new.items ≡ roots.old.items ++ root_of (leaf_view leaf.now)) }
@@ -225,7 +225,7 @@ fn push_root(leaf: &Leaf<'_>, roots: &mut Vec<u64>) -> Result<(), AllocError>
     Ok(())
 }
 
-/// Opens the buckets with these root pages, and leaves none of them.
+/// Opens the buckets with these root pages, and empties their list.
 fn open_buckets(
     roots: &mut Vec<u64>,
     above: u64,

@@ -10,8 +10,11 @@ use crate::hexadecimal::put_hex;
 use crate::puts::put;
 use bolt_format::{Sink, SinkFault};
 
-/// Puts an item in a form, and a line feed. `Sink` says that the sink failed, and no other fault
-/// comes; the sink then took a beginning of the text.
+/// Writes a key or a value in a form, and a line feed.
+///
+/// # Errors
+///
+/// `Sink` if the sink failed; it has then accepted a prefix of the text. There is no other error.
 pub fn value<S: Sink>(bytes: &[u8], form: Form, sink: &mut S) -> Result<(), ReportFault>
     ensures written { Reports S.taken S.failed sink.old sink.new (value_text form bytes.now) result }
     ensures fault { IfErr result (λ fault. fault ≡ ReportFault.Sink) }
@@ -27,7 +30,7 @@ pub(crate) fn put_value<S: Sink>(bytes: &[u8], form: Form, sink: &mut S) -> Resu
     put(b"\n", sink)
 }
 
-/// Puts an item in a form.
+/// Writes a key or a value in a form.
 fn put_item<S: Sink>(bytes: &[u8], form: Form, sink: &mut S) -> Result<(), SinkFault>
     ensures { Writes S.taken S.failed sink.old sink.new (shown_as form bytes.now) result }
 {

@@ -1,5 +1,5 @@
 -- Ways from bucket to bucket: an address inside a bucket is a way, and so is a bucket among its entries. So each bucket that a path
--- names begins where a bucket of the tree does.
+-- names begins at a place where a bucket of the tree does.
 use Rattle.std.proofs.Common.{◌≡◌, ◌∙◌, inl, inr, Bool, true, false, IsTrue, ℕ, suc, eqb, eqb-true, List, [], ◌∷◌, ◌++◌, map, Option, Some, Result, Ok, slice_get, refl, sym, ap, subst}
 use Rattle.std.specs.List.{Contains}
 use Rattle.bolt_format.specs.Elements.{LeafElement, head_root, inline_elements}

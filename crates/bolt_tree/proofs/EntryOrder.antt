@@ -1,4 +1,4 @@
--- Entries in order: which come first, next and last, and where a key stands among them.
+-- Entries in order: which come first, next and last, and the place of a key among them.
 -- Over a list of elements whose keys rise.
 use Rattle.std.proofs.Common.{◌≡◌, ◌∙◌, ◌⊎◌, ◌≤◌, ◌+◌, inl, inr, Bool, true, false, ℕ, zero, suc, List, [], ◌∷◌, length, cond, not, Some, None, slice_get, refl, sym, ap, subst, arith}
 use Rattle.std.specs.List.{Contains}

@@ -1,4 +1,4 @@
--- A bucket is opened behind the others, and its cursor makes its first move.
+-- A bucket is opened after the others, and its cursor makes its first move.
 use Rattle.std.proofs.Common.{◌≡◌, ◌∙◌, List, [], ◌∷◌, ◌++◌, Option, Some, None, sym, ap, subst}
 use Rattle.bolt_format.specs.Elements.{LeafElement}
 use Rattle.bolt_tree.specs.BucketViews.{entries_of}

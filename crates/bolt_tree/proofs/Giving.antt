@@ -1,4 +1,4 @@
--- Which member of a listing comes next, where a bucket is entered, its cursor moves on, or it has ended.
+-- Which member of a listing comes next if a bucket is entered, if its cursor moves on, or if it has ended.
 -- Rests on the order of paths, and on what a named bucket holds (Named).
 use Rattle.std.proofs.Common.{◌≡◌, ◌∙◌, ◌⊎◌, ◌≤◌, inl, inr, Bool, true, false, not, ℕ, suc, List, [], ◌∷◌, ◌++◌, length, filter, Some, slice_get, refl, sym, ap, subst, append-nil}
 use Rattle.std.specs.List.{Contains}

@@ -1,4 +1,4 @@
--- A loop over a cursor: each call takes the first of the entries that are left, and there are fewer left then.
+-- A loop over a cursor: each call removes the first of the entries that are left, so there are fewer left then.
 -- Rests on that the entries of a bucket in order exist, and are one.
 use Rattle.std.proofs.Common.{◌≡◌, ◌∙◌, ◌<◌, Bool, true, false, ℕ, suc, List, [], ◌∷◌, length, drop, cond, nat_lt, Option, Some, None, slice_get, refl, sym, ap, subst, add-one, arith}
 use Rattle.std.proofs.Math.Logic.{∥∥₁_elim, ∥∥₁_prop}

@@ -1,4 +1,4 @@
--- How open buckets changes: a cursor is taken off and put on again.
+-- How open buckets change: a cursor is removed and added again.
 use Rattle.std.proofs.Common.{◌≡◌, ◌∙◌, ◌-◌, ℕ, suc, List, [], ◌∷◌, ◌++◌, take, Option, Some, None, MatchOption, refl, sym, ap, subst, append_assoc, append-nil, Bor}
 use Rattle.std.specs.Option.{option_to_list}
 use Rattle.bolt_format.specs.Elements.{LeafElement}

@@ -1,4 +1,4 @@
--- The order of paths, part by part: what stands behind a path, and where.
+-- The order of paths, part by part: what comes after a path, and where.
 -- Rests on the order of keys, which is total, and in which only equal keys are tied.
 use Rattle.std.proofs.Common.{◌≡◌, ◌∙◌, ◌⊎◌, inl, inr, Bool, true, false, List, [], ◌∷◌, ◌++◌, refl, sym, ap, ℕ}
 use Rattle.std.specs.Cmp.{IsTotalOrder}

@@ -1,4 +1,4 @@
--- On the way down to the leaf that is nearest to a key, the key stands between what is left and what is right.
+-- On the way down to the leaf that is near a key, the key is between what is left and what is right.
 use Rattle.std.proofs.Common.{◌≡◌, ℕ, zero, suc, ◌+◌, ◌-◌, ◌≤◌, ◌<◌, inl, inr, Bool, true, false, not, List, [], ◌∷◌, ◌++◌, Some, None, Ok, slice_get, length, drop, take, refl, sym, ap, ◌∙◌, subst, arith}
 use Rattle.std.specs.Option.{option_map}
 use Rattle.std.proofs.Math.Logic.{∥∥₁_elim}

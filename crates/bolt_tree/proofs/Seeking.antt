@@ -1,4 +1,4 @@
--- The rest of a listing from a path, as one looks for the path part by part: where a bucket has no entry from a part on, a greater one, or a value.
+-- The rest of a listing from a path, found part by part: if a bucket has no entry from a part on, a greater one, or a value.
 -- Rests on the order of paths, and on what a named bucket holds (Named).
 use Rattle.std.proofs.Common.{◌≡◌, ◌∙◌, ◌≤◌, inl, inr, Bool, true, false, not, List, [], ◌∷◌, ◌++◌, length, Some, slice_get, refl, ap, subst}
 use Rattle.std.specs.List.{Contains}

@@ -1,4 +1,4 @@
--- A listing is one: it rises by the order of paths, which is total.
+-- There is one listing: it rises by the order of paths, which is total.
 use Rattle.std.proofs.Common.{◌≡◌, List}
 use Rattle.std.specs.Cmp.{IsTotalOrder}
 use Rattle.std.proofs.lemmas.Cmp.{on_total}

@@ -1,4 +1,4 @@
--- A bucket as contracts see it: the file, the meta under which it is read, and where the bucket's tree begins.
+-- A bucket as contracts see it: the file, the meta that it is read under, and where the bucket's tree begins.
 use Rattle.std.specs.Prelude.{ℕ, List}
 use Rattle.bolt_format.specs.Elements.{LeafElement}
 use Rattle.bolt_format.specs.declared.meta.Meta.{Meta}

@@ -7,7 +7,7 @@ use Rattle.bolt_tree.specs.Openings.{IsGap, IsNear, IsSeekCount}
 use Rattle.bolt_tree.specs.Pagers.{counted}
 use Rattle.bolt_tree.specs.Places.{Fresh, On, Past, Place}
 
--- it opens the pages after that of the entry before entry i, up to that of entry i or to the bucket's end
+-- it opens the pages after that of the preceding entry, up to that of entry i or to the bucket's end
 abbrev pub OpensGap : BucketView → ℕ → (old new : ℕ) → Type 0
 OpensGap b i old new = (entries : List LeafElement) (gap : ℕ) → AreSorted b entries → IsGap b.file b.meta b.start entries i gap → new ≡ counted old gap
 

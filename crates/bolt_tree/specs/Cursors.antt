@@ -1,4 +1,4 @@
--- What a cursor shows: its file and bucket, where it stands, and its counts.
+-- What a cursor shows: its file and bucket, where it is, and its counts.
 use Rattle.std.specs.Prelude.{ℕ}
 use Rattle.bolt_check.specs.declared.checked_file.Checked.{Checked}
 use Rattle.bolt_tree.specs.BucketViews.{BucketView, bucket_in}
@@ -17,7 +17,7 @@ cursor_checked cursor = pager_checked cursor.trail.pager
 unfoldable pub cursor_start : Cursor → Start
 cursor_start cursor = start_at cursor.trail.at
 
--- where it stands; its place among the entries is `place_in entries` of that
+-- where it is; its place among the entries is `place_in entries` of that
 unfoldable pub cursor_place : Cursor → Place
 cursor_place cursor = place_by cursor.is_past (contents_in (trail_bucket cursor.trail)) (trail_frames cursor.trail)
 

@@ -16,7 +16,7 @@ pub data Start : Type 0 where
   Root_page : ℕ → Start
   Inline_page : List LeafElement → Start
 
--- the bucket that a value gives
+-- the bucket of an element with this value
 abbrev pub start_of : List ℕ → Start
 start_of value = if head_root value == 0 then Inline_page (inline_elements value) else Root_page (head_root value)
 
@@ -35,7 +35,7 @@ IsStart file meta (Root_page root) = IsOnWay file meta root 1
 IsStart file meta (Inline_page elements) =
     (n : ℕ) × (depth : ℕ) × (e : LeafElement) × IsOnWay file meta n depth × ShowsEntry file meta n e × IsTrue e.is_bucket × (start_of e.value ≡ Inline_page elements)
 
--- what stands under a key: a value, or a bucket with its sequence
+-- what is under a key: a value, or a bucket with its sequence
 pub data Item : Type 0 where
   Value : List ℕ → Item
   Bucket : (sequence : ℕ) → Item

@@ -1,5 +1,5 @@
--- What of a bucket's entries is before a cursor: docs/LISTING.md, "A key in a bucket".
--- What is promised of the entries is promised for each list of them in order; there is exactly one (`laws`).
+-- The entries that a cursor has ahead of it: docs/LISTING.md, "A key in a bucket". What is promised of the entries is promised for each
+-- list of them in order; there is exactly one (`laws`).
 use Rattle.std.specs.Prelude.{List, [], drop, suc}
 use Rattle.bolt_format.specs.Elements.{LeafElement}
 use Rattle.bolt_check.specs.declared.checked_file.Checked.{Checked}
@@ -11,7 +11,7 @@ use Rattle.bolt_tree.specs.Places.{Fresh, On, Past, Place}
 abbrev pub ForEntries : Checked → Start → (List LeafElement → Type 0) → Type 0
 ForEntries checked start P = (entries : List LeafElement) → AreEntries (entries_of checked) start entries → P entries
 
--- those behind its place
+-- those after its place
 abbrev pub entries_left : List LeafElement → Place → List LeafElement
 entries_left entries Fresh = entries
 entries_left entries (On i) = drop (suc i) entries

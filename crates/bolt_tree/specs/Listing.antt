@@ -25,6 +25,6 @@ pub record Lists (Entry : Start → LeafElement → Type 0) (from : Start) (list
 abbrev pub IsListing : List ℕ → Meta → List Member → Type 0
 IsListing file meta listing = Lists (IsEntry file meta) (Root_page meta.root) listing
 
--- the members whose path doesn't stand before this one, in order
+-- the members whose paths don't come before this one, in order
 abbrev pub rest_from : Path → List Member → List Member
 rest_from path listing = filter (λ m. not (is_lt (path_cmp m.0 path))) listing

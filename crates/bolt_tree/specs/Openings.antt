@@ -40,25 +40,25 @@ IsAfter file meta start first address = IsAddress file meta start address × Bef
 abbrev pub IsAllPages : List ℕ → Meta → Start → ℕ → Type 0
 IsAllPages file meta start n = HasCount (IsAddress file meta start) n
 
--- the number of pages at or before that of this entry, or of all pages where no entry is left
+-- the number of pages at or before that of this entry, or of all pages if no entry is left
 abbrev pub IsPagesUpTo : List ℕ → Meta → Start → Option LeafElement → ℕ → Type 0
 IsPagesUpTo file meta start (Some e) n = (home : List ℕ) × IsHome file meta start e home × HasCount (IsUpTo file meta start home) n
 IsPagesUpTo file meta start None n = IsAllPages file meta start n
 
--- The number of pages from that of the entry before entry i, which is not counted, to that of entry i, or to the bucket's end where i is
--- the number of entries.
+-- The number of pages from that of the preceding entry, which isn't counted, to that of entry i or, if i is the number of entries, to the
+-- bucket's end.
 abbrev pub IsGap : List ℕ → Meta → Start → List LeafElement → ℕ → ℕ → Type 0
 IsGap file meta start entries zero g = IsPagesUpTo file meta start (slice_get entries 0) g
 IsGap file meta start entries (suc i) g = (here : ℕ) × (before : ℕ) × IsPagesUpTo file meta start (slice_get entries (suc i)) here
     × IsPagesUpTo file meta start (slice_get entries i) before × (g ≡ here - before)
 
--- of a branch, the greatest element with a key at or below this one, or element 0 where there is none
+-- of a branch, the greatest element with a key at or below this one, or element 0 if there is none
 abbrev pub IsNearest : List BranchElement → Key → ℕ → Type 0
 IsNearest elements key i =
     ((e : BranchElement) × (slice_get elements i ≡ Some e) × IsFalse (key_lt key e.key) × ((j : ℕ) (f : BranchElement) → i < j → slice_get elements j ≡ Some f → IsTrue (key_lt key f.key)))
     ⊎ ((i ≡ 0) × ((j : ℕ) (f : BranchElement) → slice_get elements j ≡ Some f → IsTrue (key_lt key f.key)))
 
--- the address of a leaf, each of whose steps takes the nearest element
+-- the address of a leaf, each of whose steps goes to the nearest element
 abbrev pub IsNearFrom : List ℕ → Meta → ℕ → Key → List ℕ → Type 0
 IsNearFrom file meta number key [] = (view : PageView) × (page_at file meta number ≡ Some view) × (view.kind ≡ kind.Leaf)
 IsNearFrom file meta number key (i ∷ address) = (view : PageView) × (e : BranchElement) × (page_at file meta number ≡ Some view) × (view.kind ≡ kind.Branch)
@@ -68,7 +68,7 @@ abbrev pub IsNear : List ℕ → Meta → Start → Key → List ℕ → Type 0
 IsNear file meta (Root_page root) key address = IsNearFrom file meta root key address
 IsNear file meta (Inline_page elements) key address = address ≡ []
 
--- an address after the one near a key, and at or before that of the page of an entry, or any after it where no entry is left
+-- an address after the one near a key, and at or before that of the page of an entry, or any after it if no entry is left
 abbrev pub IsSeekPage : List ℕ → Meta → Start → List ℕ → Option LeafElement → List ℕ → Type 0
 IsSeekPage file meta start near (Some e) address = IsAfter file meta start near address × ((home : List ℕ) × IsHome file meta start e home × ((address ≡ home) ⊎ Before address home))
 IsSeekPage file meta start near None address = IsAfter file meta start near address

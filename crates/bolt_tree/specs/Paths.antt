@@ -11,7 +11,7 @@ use Rattle.bolt_tree.specs.Entries.{AreEntries, Item, Start, item_of, start_of}
 abbrev pub Path : Type 0
 Path = List Key
 
--- part by part in byte order; a path stands before those that it begins
+-- part by part in byte order; a path comes before those that it is a prefix of
 abbrev pub path_cmp : Path → Path → Ordering
 path_cmp = slice_cmp key_cmp
 

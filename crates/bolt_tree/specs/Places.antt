@@ -12,7 +12,7 @@ pub data Place : Type 0 where
   On : (i : ℕ) → Place
   Past : Place
 
--- the place after a call, and its answer
+-- the place after a call, and what it returns
 pub record Move : Type 0 where
   pub place : Place
   pub answer : Option LeafElement
@@ -23,7 +23,7 @@ onto entries i = record { place = On i; answer = slice_get entries i }
 abbrev pub nothing_at : Place → Move
 nothing_at place = record { place = place; answer = None }
 
--- without entries every call answers nothing, and the place stays fresh
+-- without entries every call returns nothing, and the place stays fresh
 abbrev pub first_move : List LeafElement → Move
 first_move [] = nothing_at Fresh
 first_move (e ∷ entries) = onto (e ∷ entries) 0
@@ -39,35 +39,34 @@ next_move entries (On i) = if nat_lt (suc i) (length entries) then onto entries 
 next_move [] Past = nothing_at Fresh
 next_move (e ∷ entries) Past = nothing_at Past
 
--- to the entry before; at the first one nothing, and the place stays
+-- to the preceding entry; at the first one nothing, and the place stays
 abbrev pub prev_move : List LeafElement → Place → Move
 prev_move entries Fresh = last_move entries
 prev_move entries (On zero) = nothing_at (On 0)
 prev_move entries (On (suc i)) = onto entries i
 prev_move entries Past = last_move entries
 
--- the least entry with a key at or above this one, or the number of entries where there is none
+-- the least entry with a key at or above this one, or the number of entries if there is none
 abbrev pub least_from : Key → List LeafElement → ℕ
 least_from key entries = position_or_len (λ (e : LeafElement). not (key_lt e.key key)) entries
 
--- to that entry; past all where there is none
+-- to that entry; past all if there is none
 abbrev pub seek_move : Key → List LeafElement → Move
 seek_move key [] = nothing_at Fresh
 seek_move key (e ∷ entries) =
     if nat_lt (least_from key (e ∷ entries)) (length (e ∷ entries)) then onto (e ∷ entries) (least_from key (e ∷ entries)) else nothing_at Past
 
--- The place of a cursor is where it stands; without entries it is always fresh, wherever the cursor believes to stand.
+-- The place of a cursor is where it is; without entries it is always fresh, wherever the cursor assumes it is.
 abbrev pub place_in : List LeafElement → Place → Place
 place_in [] stand = Fresh
 place_in (e ∷ entries) stand = stand
 
--- A call that moves from where the cursor stood to where it stands, and answers, as the move says, whatever the bucket's entries in
--- order are.
+-- A call moves the cursor, and returns, as the move says, whatever the bucket's entries in order are.
 abbrev pub Moves : (Start → LeafElement → Type 0) → Start → (List LeafElement → Place → Move) → (old new : Place) → Option LeafElement → Type 0
 Moves Entry bucket move old new answer = (entries : List LeafElement) → AreEntries Entry bucket entries
     → (place_in entries new ≡ (move entries (place_in entries old)).place) × (answer ≡ (move entries (place_in entries old)).answer)
 
--- the same, where the answer is shown
+-- the same of what is returned as it is shown
 abbrev pub ShowsMove : (Start → LeafElement → Type 0) → Start → (List LeafElement → Place → Move) → (old new : Place) → Option EntryView → Type 0
 ShowsMove Entry bucket move old new answer = (entries : List LeafElement) → AreEntries Entry bucket entries
     → (place_in entries new ≡ (move entries (place_in entries old)).place) × (answer ≡ option_map entry_view (move entries (place_in entries old)).answer)

@@ -1,5 +1,5 @@
--- A tree of buckets as data, apart from pages, and what it lists: docs/LISTING.md, "The listing".
--- It shows the sorted entries of a bucket, and of each bucket among them; and it is read off its listing.
+-- A tree of buckets as data, apart from pages, and what it lists: docs/LISTING.md, "The listing". It shows the sorted entries of a bucket,
+-- and of each bucket among them; and it can be computed from its listing.
 use Rattle.std.specs.Prelude.{◌≡◌, ℕ, true, false, List, [], ◌∷◌, ◌++◌}
 use Rattle.bolt_format.specs.Elements.{LeafElement, head_sequence}
 use Rattle.bolt_tree.specs.Entries.{AreEntries, Bucket, Item, Start, Value, start_of}
@@ -37,8 +37,8 @@ Shows Entry (with_bucket key sequence inside after) (e ∷ entries) =
 abbrev pub IsTreeOf : (Start → LeafElement → Type 0) → Start → Tree → Type 0
 IsTreeOf Entry bucket tree = (entries : List LeafElement) × AreEntries Entry bucket entries × Shows Entry tree entries
 
--- Back again. The rows of a listing are its entries by depth: those of the outermost bucket, and then, for each bucket further in,
--- those that stand before the next member of a bucket further out.
+-- Back again. The rows of a listing are its entries by depth: those of the outermost bucket, and then, for each bucket further in, those
+-- that come before the next member of a bucket further out.
 abbrev pub first_row : List Tree → Tree
 first_row [] = end
 first_row (row ∷ rows) = row

@@ -1,5 +1,5 @@
--- What is left of a walk, and the path that it tells: docs/LISTING.md, "The walk".
--- A walk has a part of each listing of its file before it; it has not got the list.
+-- What is left of a walk, and its path: docs/LISTING.md, "The walk". A walk has a part of each listing of its file ahead of it; it doesn't
+-- have the list itself.
 use Rattle.std.specs.Prelude.{◌≡◌, List, [], ◌∷◌, Option, Some, None}
 use Rattle.bolt_tree.specs.Entries.{Item}
 use Rattle.bolt_check.specs.declared.checked_file.Checked.{Checked}
@@ -11,15 +11,15 @@ use Rattle.bolt_tree.specs.declared.walk.Walk.{Walk}
 unfoldable pub walk_checked : Walk → Checked
 walk_checked walk = walk.buckets.cursors.checked
 
--- what of a listing is before the walk
+-- the part of a listing that the walk has ahead of it
 unfoldable pub left_of : Walk → List Member → List Member
 left_of walk listing = left_by walk.ahead (open_path walk.buckets) listing
 
--- the path of what it gave last
+-- the path of the last item that it returned
 unfoldable pub walk_path : Walk → Path
 walk_path walk = told_path walk.ahead (open_path walk.buckets)
 
--- The first member of what was left is given, and the others are left; or none was left, none is, and no path is told.
+-- The first member that was left is returned, and the others are left; or none was left, none is, and the path is empty.
 abbrev pub GivesNext : List Member → List Member → Path → Option Item → Type 0
 GivesNext old new path (Some item) = old ≡ (path, item) ∷ new
 GivesNext old new path None = (old ≡ []) × (new ≡ []) × (path ≡ [])

@@ -12,8 +12,8 @@ use crate::cursor::Cursor;
 use crate::pager::Pager;
 use bolt_check::Checked;
 
-/// A bucket of a checked file. None is made but one that a way of the file leads to
-/// (docs/TREE.md, "Buckets").
+/// A bucket of a checked file. It is made only if a way of the file leads to it (docs/TREE.md,
+/// "Buckets").
 #[derive(Clone, Copy)]
 pub struct Bucket<'a> {
     pub(crate) checked: Checked<'a>,
@@ -48,7 +48,7 @@ impl<'a> Bucket<'a> {
         self.sequence
     }
 
-    /// The file that the bucket lies in.
+    /// The file that contains the bucket.
     #[tactic(auto, unfolding(crate::specs::Buckets::bucket_checked))]
     pub fn checked(&self) -> Checked<'a>
         ensures { result ≡ bucket_checked self.now }
@@ -65,7 +65,7 @@ impl<'a> Bucket<'a> {
         self.at
     }
 
-    /// A cursor over the bucket's entries, before the first call. It takes no memory.
+    /// A cursor over the bucket's entries, before the first call. Needs no memory.
     #[tactic(auto, unfolding(crate::specs::Buckets::bucket_checked, crate::specs::Buckets::bucket_start))]
     pub fn cursor(&self) -> Cursor<'a>
         ensures checked { cursor_checked result ≡ bucket_checked self.now }

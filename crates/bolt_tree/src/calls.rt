@@ -1,4 +1,4 @@
-//! The calls of a cursor, each of which answers an entry.
+//! The calls of a cursor that return an entry.
 ghost use Rattle.std.specs.Prelude.{◌≡◌, IsTrue, IfSome};
 ghost use Rattle.std.specs.Option.{option_map};
 ghost use Rattle.bolt_format.specs.ElementPlaces.{leaf_view};
@@ -13,7 +13,7 @@ use crate::cursor::Cursor;
 use crate::entry::Entry;
 use bolt_format::Leaf;
 
-/// The entry that an element is, if there is one.
+/// The entry of an element, if there is one.
 fn entry_of(found: Option<Leaf<'_>>) -> Option<Entry<'_>>
     requires { IfSome found (λ leaf. IsTrue leaf.is_bucket → IsBucketValue leaf.value.now) }
     ensures entry { option_map shown_entry result ≡ option_map entry_view (option_map leaf_view found.entry) }
@@ -28,7 +28,7 @@ fn entry_of(found: Option<Leaf<'_>>) -> Option<Entry<'_>>
 impl<'a> Cursor<'a> {
     ghost use Rattle.bolt_tree.specs.Cursors.{cursor_bucket, cursor_checked, cursor_compared, cursor_opened, cursor_place, cursor_start};
 
-    /// Moves to the first entry, or answers nothing where there is none.
+    /// Moves to the first entry, and returns it. If there are no entries, returns `None`.
     pub fn first(&mut self) -> Option<Entry<'a>>
         ensures checked { cursor_checked self.new ≡ cursor_checked self.old }
         ensures start { cursor_start self.new ≡ cursor_start self.old }
@@ -40,7 +40,7 @@ impl<'a> Cursor<'a> {
         entry_of(self.first_element())
     }
 
-    /// Moves to the last entry, or answers nothing where there is none.
+    /// Moves to the last entry, and returns it. If there are no entries, returns `None`.
     pub fn last(&mut self) -> Option<Entry<'a>>
         ensures checked { cursor_checked self.new ≡ cursor_checked self.old }
         ensures start { cursor_start self.new ≡ cursor_start self.old }
@@ -51,7 +51,8 @@ impl<'a> Cursor<'a> {
         entry_of(self.last_element())
     }
 
-    /// Moves to the next entry. It stays where it is, and answers nothing, if there is none.
+    /// Moves to the next entry, and returns it. If there is none, it stays where it is, and returns
+    /// `None`.
     pub fn next(&mut self) -> Option<Entry<'a>>
         ensures checked { cursor_checked self.new ≡ cursor_checked self.old }
         ensures start { cursor_start self.new ≡ cursor_start self.old }
@@ -63,7 +64,8 @@ impl<'a> Cursor<'a> {
         entry_of(self.next_element())
     }
 
-    /// Moves to the entry before. It stays where it is, and answers nothing, if there is none.
+    /// Moves to the preceding entry, and returns it. If there is none, it stays where it is, and
+    /// returns `None`.
     pub fn prev(&mut self) -> Option<Entry<'a>>
         ensures checked { cursor_checked self.new ≡ cursor_checked self.old }
         ensures start { cursor_start self.new ≡ cursor_start self.old }
@@ -74,8 +76,8 @@ impl<'a> Cursor<'a> {
         entry_of(self.prev_element())
     }
 
-    /// Moves to the first entry whose key is not below `key`, or past the last entry, where it
-    /// answers nothing.
+    /// Moves to the first entry whose key isn't below `key`, and returns it. If there is none,
+    /// moves past the last entry, and returns `None`.
     pub fn seek(&mut self, key: &[u8]) -> Option<Entry<'a>>
         ensures checked { cursor_checked self.new ≡ cursor_checked self.old }
         ensures start { cursor_start self.new ≡ cursor_start self.old }

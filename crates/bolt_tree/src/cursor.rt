@@ -17,9 +17,8 @@ use crate::position::{Position, Stack, set_positions};
 use crate::trail::Trail;
 use bolt_format::Leaf;
 
-/// A cursor over the entries of a bucket, in byte order of their keys. It stands before the first
-/// call, on an entry, or past the last one (docs/TREE.md, "Places"). None of its calls takes
-/// memory.
+/// A cursor over the entries of a bucket, in byte order of their keys. It is before the first call,
+/// on an entry, or past the last one (docs/TREE.md, "Places"). None of its calls needs memory.
 #[derive(Drop)]
 pub struct Cursor<'a> {
     trail: Trail<'a>,
@@ -34,8 +33,8 @@ impl<'a> Cursor<'a> {
     ghost use Rattle.bolt_tree.specs.Cursors.{cursor_bucket, cursor_checked, cursor_compared, cursor_opened, cursor_place, cursor_start};
     ghost use Rattle.bolt_tree.specs.Private.CursorViews.{cursor_view};
 
-    /// A cursor before the first call, over a bucket of the pager's file. It reaches pages with a
-    /// number by its pager alone.
+    /// A cursor before the first call, over a bucket of the pager's file. Only its pager opens
+    /// pages by their numbers.
     #[tactic(auto, unfolding(crate::specs::Cursors::cursor_checked, crate::specs::Cursors::cursor_compared, crate::specs::Cursors::cursor_opened, crate::specs::Cursors::cursor_place, crate::specs::Cursors::cursor_start))]
     pub fn new(pager: Pager<'a>, at: At<'a>) -> Cursor<'a>
         requires { HasStart (pager_checked pager) (start_at at) }
@@ -58,7 +57,7 @@ impl<'a> Cursor<'a> {
         }
     }
 
-    /// Begins anew in a bucket of the same file: it stands before the first call.
+    /// Starts again in a bucket of the same file, before the first call.
     #[tactic(auto, unfolding(crate::specs::Cursors::cursor_checked, crate::specs::Cursors::cursor_place, crate::specs::Cursors::cursor_start))]
     pub(crate) fn begin(&mut self, at: At<'a>)
         requires { HasStart (cursor_checked self.old) (start_at at) }
@@ -71,7 +70,7 @@ impl<'a> Cursor<'a> {
         self.is_past = false;
     }
 
-    /// Goes on where a cursor of the same file stood that had these positions.
+    /// Takes the place of a cursor of the same file that had these positions.
     #[tactic(auto, unfolding(crate::specs::Cursors::cursor_checked, crate::specs::Cursors::cursor_place, crate::specs::Cursors::cursor_start))]
     pub(crate) fn resume(&mut self, at: At<'a>, is_past: bool, positions: &[Position<'a>])
         requires { ∥ IsKept (cursor_checked self.old) at is_past positions.now ∥₁ }
@@ -89,21 +88,21 @@ impl<'a> Cursor<'a> {
         self.trail.at
     }
 
-    /// Whether it stands past the last entry.
+    /// Whether it is past the last entry.
     pub(crate) fn is_past(&self) -> bool
         ensures { result ≡ self.now.is_past }
     {
         self.is_past
     }
 
-    /// The pages from the root page to that on which it stands.
+    /// The pages from the root page to the one that it is on.
     pub(crate) fn positions(&self) -> &[Position<'a>]
         ensures { result.now ≡ self.now.trail.stack.items }
     {
         self.trail.stack.as_slice()
     }
 
-    /// How many pages its pager has opened.
+    /// The number of pages that its pager has opened.
     #[tactic(auto, unfolding(crate::specs::Cursors::cursor_opened))]
     pub fn opened(&self) -> u64
         ensures { result ≡ cursor_opened self.now }
@@ -111,7 +110,7 @@ impl<'a> Cursor<'a> {
         self.trail.pager.opened()
     }
 
-    /// How many keys were compared from the last `first`, `last` or `seek` on, that call
+    /// The number of keys that were compared since the last `first`, `last` or `seek`, that call
     /// included.
     #[tactic(auto, unfolding(crate::specs::Cursors::cursor_compared))]
     pub fn compared(&self) -> u64
@@ -120,7 +119,7 @@ impl<'a> Cursor<'a> {
         self.compared
     }
 
-    /// Moves to the first entry, and answers its element.
+    /// Moves to the first entry, and returns its element.
     #[tactic(auto, unfolding(crate::specs::Cursors::cursor_checked, crate::specs::Cursors::cursor_compared, crate::specs::Cursors::cursor_opened, crate::specs::Cursors::cursor_place, crate::specs::Cursors::cursor_start))]
     pub(crate) fn first_element(&mut self) -> Option<Leaf<'a>>
         ensures checked { cursor_checked self.new ≡ cursor_checked self.old }
@@ -136,7 +135,7 @@ impl<'a> Cursor<'a> {
         self.trail.first()
     }
 
-    /// Moves to the last entry, and answers its element.
+    /// Moves to the last entry, and returns its element.
     #[tactic(auto, unfolding(crate::specs::Cursors::cursor_checked, crate::specs::Cursors::cursor_compared, crate::specs::Cursors::cursor_opened, crate::specs::Cursors::cursor_place, crate::specs::Cursors::cursor_start))]
     pub(crate) fn last_element(&mut self) -> Option<Leaf<'a>>
         ensures checked { cursor_checked self.new ≡ cursor_checked self.old }
@@ -151,7 +150,7 @@ impl<'a> Cursor<'a> {
         self.trail.last()
     }
 
-    /// Moves to the next entry, and answers its element. It stays where it is if there is none.
+    /// Moves to the next entry, and returns its element. If there is none, it stays where it is.
     #[inline(always)]
     #[tactic(auto, unfolding(crate::specs::Cursors::cursor_checked, crate::specs::Cursors::cursor_compared, crate::specs::Cursors::cursor_opened, crate::specs::Cursors::cursor_place, crate::specs::Cursors::cursor_start))]
     pub(crate) fn next_element(&mut self) -> Option<Leaf<'a>>
@@ -175,7 +174,8 @@ impl<'a> Cursor<'a> {
         self.trail.next(&mut self.spare)
     }
 
-    /// Moves to the entry before, and answers its element. It stays where it is if there is none.
+    /// Moves to the preceding entry, and returns its element. If there is none, it stays where it
+    /// is.
     #[tactic(auto, unfolding(crate::specs::Cursors::cursor_checked, crate::specs::Cursors::cursor_compared, crate::specs::Cursors::cursor_opened, crate::specs::Cursors::cursor_place, crate::specs::Cursors::cursor_start))]
     pub(crate) fn prev_element(&mut self) -> Option<Leaf<'a>>
         ensures checked { cursor_checked self.new ≡ cursor_checked self.old }
@@ -198,8 +198,8 @@ impl<'a> Cursor<'a> {
         self.trail.prev(&mut self.spare)
     }
 
-    /// Moves to the first entry whose key is not below `key`, and answers its element, or moves
-    /// past the last entry.
+    /// Moves to the first entry whose key isn't below `key`, and returns its element. If there is
+    /// none, moves past the last entry.
     #[tactic(auto, unfolding(crate::specs::Cursors::cursor_checked, crate::specs::Cursors::cursor_compared, crate::specs::Cursors::cursor_opened, crate::specs::Cursors::cursor_place, crate::specs::Cursors::cursor_start))]
     pub(crate) fn seek_element(&mut self, key: &[u8]) -> Option<Leaf<'a>>
         ensures checked { cursor_checked self.new ≡ cursor_checked self.old }

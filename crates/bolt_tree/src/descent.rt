@@ -1,4 +1,4 @@
-//! The way down to the leaf that is nearest to a key.
+//! The way down to the leaf that is near a key.
 ghost use Rattle.std.specs.Prelude.{◌≡◌, [], ◌≤◌, ◌-◌, ◌*◌, length};
 ghost use Rattle.bolt_tree.specs.Private.BucketPages.{elements_in, root_content};
 ghost use Rattle.bolt_tree.specs.Pagers.{counted, pager_opened};
@@ -13,9 +13,9 @@ use crate::trail::Trail;
 impl<'a> Trail<'a> {
     ghost use Rattle.bolt_tree.specs.Private.Trails.{HasBucket, HasTrail, IsSameBucket, ahead, trail_bucket, trail_frames};
 
-    /// Goes down from the root page to the leaf that is nearest to a key, and stands there before
-    /// the first entry that is not below it. Answers how many keys were compared, at most 16 for
-    /// each page.
+    /// Goes down from the root page to the leaf that is near a key, and stops before its first
+    /// entry that isn't below the key. Returns how many keys were compared, at most 16 for each
+    /// page.
     pub fn descend(&mut self, root: Opened<'a>, key: &[u8]) -> u64
         requires bucket { HasBucket self.old }
         requires empty { trail_frames self.old ≡ [] }

@@ -1,4 +1,4 @@
-//! What a cursor answers.
+//! What a cursor returns.
 ghost use Rattle.std.specs.Prelude.{◌≡◌, IsTrue};
 ghost use Rattle.bolt_format.specs.ElementPlaces.{leaf_view};
 ghost use Rattle.bolt_format.specs.Elements.{IsBucketValue};
@@ -6,7 +6,7 @@ ghost use Rattle.bolt_tree.specs.Entries.{entry_view, item_of};
 
 use bolt_format::{Leaf, head};
 
-/// What stands under a key: a value, or a bucket with its sequence.
+/// What is under a key: a value, or a bucket with its sequence.
 #[derive(Clone, Copy, Debug, PartialEq, Eq)]
 pub enum Item<'a> {
     Value(&'a [u8]),
@@ -23,7 +23,7 @@ pub struct Entry<'a> {
 impl<'a> Item<'a> {
     ghost use Rattle.bolt_tree.specs.ShownEntries.{item_view};
 
-    /// What stands under the key of a leaf element.
+    /// The item under the key of a leaf element.
     pub fn of(leaf: &Leaf<'a>) -> Item<'a>
         requires { IsTrue leaf.now.is_bucket → IsBucketValue leaf.now.value.now }
         ensures { item_view result ≡ item_of (leaf_view leaf.now) }
@@ -42,7 +42,7 @@ impl<'a> Item<'a> {
 impl<'a> Entry<'a> {
     ghost use Rattle.bolt_tree.specs.ShownEntries.{shown_entry};
 
-    /// The entry that a leaf element is.
+    /// The entry of a leaf element.
     pub(crate) fn of(leaf: &Leaf<'a>) -> Entry<'a>
         requires { IsTrue leaf.now.is_bucket → IsBucketValue leaf.now.value.now }
         ensures { shown_entry result ≡ entry_view (leaf_view leaf.now) }

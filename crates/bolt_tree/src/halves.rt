@@ -1,4 +1,4 @@
-//! The search of a page by halves.
+//! Binary search on a page.
 ghost use Rattle.std.specs.Prelude.{◌≡◌, ◌≤◌};
 ghost use Rattle.bolt_check.specs.Keys.{KeysRise};
 ghost use Rattle.bolt_tree.specs.Private.PageKeys.{IsPlaceOf, stands_before};
@@ -7,15 +7,15 @@ ghost use Rattle.bolt_tree.specs.Private.Contents.{content_keys, content_length}
 
 use crate::opened::Opened;
 
-/// Where a search has come to, and how many keys it has compared.
+/// The place that a search has found, and how many keys it has compared.
 #[derive(Clone, Copy)]
 pub(crate) struct Found {
     pub before: u16,
     pub compared: u64,
 }
 
-/// Whether a key stands before the place that is sought: it is below the key, or equal to it where
-/// that is asked.
+/// Whether a key comes before the place that is searched for: it is below `sought` or, if
+/// `or_equal` is set, equal to it.
 fn is_before(key: &[u8], sought: &[u8], or_equal: bool) -> bool
     ensures { result ≡ stands_before or_equal key.now sought.now }
 {
@@ -26,7 +26,8 @@ fn is_before(key: &[u8], sought: &[u8], or_equal: bool) -> bool
     }
 }
 
-/// How many keys of a page are below a key, or not above it. It compares at most 16 keys.
+/// The number of keys of a page that are below a key or, if `or_equal` is set, not above it.
+/// Compares at most 16 keys.
 pub(crate) fn keys_before(page: &Opened<'_>, sought: &[u8], or_equal: bool) -> Found
     requires { KeysRise (content_keys (opened_content page.now)) }
     ensures within { result.before ≤ content_length (opened_content page.now) }

@@ -12,8 +12,8 @@ ghost use Rattle.bolt_tree.specs.Places.{least_from};
 
 use bolt_check::laws::ways_go_on;
 
-/// The root bucket begins at the root page. A bucket on a leaf that a way leads to begins at its own
-/// root page, or in its value if it is inline.
+/// The tree of the root bucket begins at the meta's root page. The tree of a bucket on a leaf that
+/// a way leads to begins at its own root page or, if it is inline, in its value.
 pub fn buckets_begin_on_ways()
     ensures root { (file : List ℕ) (meta : Meta) → IsStart file meta (Root_page meta.root) }
     ensures page { (file : List ℕ) (meta : Meta) (n depth i : ℕ) (view : PageView) (e : LeafElement) → IsOnWay file meta n depth
@@ -31,24 +31,24 @@ pub fn sorted_entries_exist()
     ensures { (file : List ℕ) (meta : Meta) (start : Start) → HasSoundTrees file meta → IsStart file meta start → (entries : List LeafElement) × AreEntries (IsEntry file meta) start entries }
 {}
 
-/// There is at most one such list.
+/// There is at most one list of the entries of a bucket in order.
 pub fn sorted_entries_are_one()
     ensures { (file : List ℕ) (meta : Meta) (start : Start) (a b : List LeafElement) → AreEntries (IsEntry file meta) start a → AreEntries (IsEntry file meta) start b → a ≡ b }
 {}
 
-/// The pages between one entry and the next have a number, from the first page to the last, and
-/// these numbers sum up to that of all pages of the bucket.
+/// The pages between each entry and the next have a number, and so have those before the first and
+/// after the last. These numbers add up to that of all pages of the bucket.
 pub fn gaps_cover_all()
     ensures { (file : List ℕ) (meta : Meta) (start : Start) (entries : List LeafElement) → HasSoundTrees file meta → IsStart file meta start → AreEntries (IsEntry file meta) start entries → GapsCoverAll file meta start entries }
 {}
 
-/// What a seek of a key opens has a number.
+/// There is a number of pages that a seek of a key opens.
 pub fn seeks_are_counted()
     ensures { (file : List ℕ) (meta : Meta) (start : Start) (entries : List LeafElement) (key : List ℕ) → HasSoundTrees file meta → IsStart file meta start → AreEntries (IsEntry file meta) start entries → (n : ℕ) × IsSeekCount file meta start entries key n }
 {}
 
-/// It is at most the 64 pages of the longest way down, and the pages between the entry that the
-/// seek comes to and the one before.
+/// A seek opens at most the 64 pages of the longest way down, and the pages between the entry that
+/// it comes to and the preceding one.
 pub fn seeks_are_bounded()
     ensures { (file : List ℕ) (meta : Meta) (start : Start) (entries : List LeafElement) (key : List ℕ) (n gap : ℕ) → HasSoundTrees file meta → IsStart file meta start → AreEntries (IsEntry file meta) start entries
         → IsSeekCount file meta start entries key n → IsGap file meta start entries (least_from key entries) gap → n ≤ 64 + gap }

@@ -1,7 +1,7 @@
-//! What a sound file holds: its buckets, a cursor over the entries of one, and a walk over all that
-//! the file holds. A cursor keeps the pages that it has opened on a stack, from the bucket's root
-//! page to a leaf, and opens each page by its pager alone. A walk keeps a cursor for the innermost
-//! open bucket, and of the cursors of the others their positions.
+//! What a sound file holds: its buckets, a cursor over the entries of one, and a walk over
+//! everything in the file. A cursor keeps the pages that it has opened on a stack, from the
+//! bucket's root page to a leaf; only its pager opens pages. A walk keeps a cursor for the
+//! innermost open bucket, and the positions of the cursors of the others.
 #![tactic(auto)]
 
 mod at;

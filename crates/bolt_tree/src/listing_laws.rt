@@ -16,7 +16,7 @@ pub fn sound_trees_have_a_listing()
     ensures { (file : List ℕ) (meta : Meta) → HasSoundTrees file meta → (listing : List Member) × IsListing file meta listing }
 {}
 
-/// It is what a tree of buckets lists, which is that of the root bucket.
+/// The listing of a file with sound trees is what the tree of its root bucket lists.
 pub fn listing_is_of_a_tree()
     ensures { (file : List ℕ) (meta : Meta) (listing : List Member) → HasSoundTrees file meta → IsListing file meta listing
         → (tree : Tree) × IsTreeOf (IsEntry file meta) (Root_page meta.root) tree × (listing ≡ listing_of tree) }
@@ -28,12 +28,12 @@ pub fn a_tree_lists_its_bucket()
         → Lists (IsEntry file meta) bucket (listing_of tree) }
 {}
 
-/// A tree is read off its listing.
+/// The tree of a listing can be computed from the listing.
 pub fn a_tree_is_of_its_listing()
     ensures { (tree : Tree) → tree_of (listing_of tree) ≡ tree }
 {}
 
-/// A file's listing is that of the tree that is read off it.
+/// A file's listing is that of the tree that is computed from it.
 pub fn a_listing_is_of_its_tree()
     ensures { (file : List ℕ) (meta : Meta) (listing : List Member) → HasSoundTrees file meta → IsListing file meta listing → listing_of (tree_of listing) ≡ listing }
 {}

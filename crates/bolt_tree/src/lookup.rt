@@ -1,4 +1,4 @@
-//! What a bucket has under a key (docs/LISTING.md, "A key in a bucket").
+//! What is under a key of a bucket (docs/LISTING.md, "A key in a bucket").
 ghost use Rattle.std.specs.Prelude.{◌≡◌, IfSome, IsTrue};
 ghost use Rattle.std.specs.Option.{option_map};
 ghost use Rattle.bolt_format.specs.ElementPlaces.{leaf_view};
@@ -28,7 +28,7 @@ fn at_of(value: &[u8]) -> At<'_>
 }
 
 impl<'a> Bucket<'a> {
-    /// The bucket that a leaf element with this value is.
+    /// The bucket of a leaf element with this value.
     #[tactic(auto, unfolding(crate::specs::Buckets::bucket_checked, crate::specs::Buckets::bucket_start, crate::specs::Buckets::bucket_sequence))]
     pub(crate) fn of(checked: Checked<'a>, value: &'a [u8]) -> Bucket<'a>
         requires value { IsBucketValue value.now }
@@ -45,7 +45,7 @@ impl<'a> Bucket<'a> {
         }
     }
 
-    /// The element with a key, if there is one. It goes down once, as a cursor's `seek` does.
+    /// The element with a key, if there is one. Goes down once, as a cursor's `seek` does.
     fn element(&self, key: &[u8]) -> Option<Leaf<'a>>
         ensures element { IsElementAt (entries_of (bucket_checked self.now)) (bucket_start self.now) key.now (option_map leaf_view result) }
         ensures bucket { IfSome result (λ leaf. IsTrue leaf.is_bucket → IsBucketValue leaf.value.now) }
@@ -60,8 +60,8 @@ impl<'a> Bucket<'a> {
         Some(leaf)
     }
 
-    /// The value under a key: `None` where the bucket has no entry with that key, and where that
-    /// entry is a bucket. It goes down once, as a cursor's `seek` does, and takes no memory.
+    /// The value under a key, or `None` if no entry has that key, or if it is a bucket. Goes down
+    /// once, as a cursor's `seek` does, and needs no memory.
     pub fn get(&self, key: &[u8]) -> Option<&'a [u8]>
         ensures { IsValueAt (entries_of (bucket_checked self.now)) (bucket_start self.now) key.now (option_map (λ value. value.now) result) }
     {
@@ -74,8 +74,8 @@ impl<'a> Bucket<'a> {
         Some(leaf.value)
     }
 
-    /// The bucket under a key: `None` where this bucket has no entry with that key, and where that
-    /// entry is a value. It goes down once, as a cursor's `seek` does, and takes no memory.
+    /// The bucket under a key, or `None` if no entry has that key, or if it is a value. Goes down
+    /// once, as a cursor's `seek` does, and needs no memory.
     pub fn bucket(&self, key: &[u8]) -> Option<Bucket<'a>>
         ensures checked { IfSome result (λ inner. bucket_checked inner ≡ bucket_checked self.now) }
         ensures bucket { IsBucketAt (entries_of (bucket_checked self.now)) (bucket_start self.now) key.now result }

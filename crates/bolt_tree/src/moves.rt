@@ -14,7 +14,7 @@ use crate::position::{Stack, set_positions};
 use crate::trail::Trail;
 use bolt_format::Leaf;
 
-/// What a search found, and how many keys it compared.
+/// The element that a search found, and how many keys it compared.
 #[derive(Clone, Copy)]
 pub(crate) struct Sought<'a> {
     pub found: Option<Leaf<'a>>,
@@ -24,7 +24,7 @@ pub(crate) struct Sought<'a> {
 impl<'a> Trail<'a> {
     ghost use Rattle.bolt_tree.specs.Private.Trails.{HasBucket, HasTrail, IsSameBucket, ahead, behind, right, trail_bucket, trail_frames};
 
-    /// Stands on the first entry, or where there is none, before the first call.
+    /// Goes to the first entry or, if there is none, before the first call.
     pub fn first(&mut self) -> Option<Leaf<'a>>
         requires { HasBucket self.old }
         ensures same { IsSameBucket self.old self.new }
@@ -39,7 +39,7 @@ impl<'a> Trail<'a> {
         self.advance()
     }
 
-    /// Stands on the last entry, or where there is none, before the first call.
+    /// Goes to the last entry or, if there is none, before the first call.
     pub fn last(&mut self) -> Option<Leaf<'a>>
         requires { HasBucket self.old }
         ensures same { IsSameBucket self.old self.new }
@@ -53,7 +53,7 @@ impl<'a> Trail<'a> {
         self.retreat()
     }
 
-    /// Moves on to the next entry. Where there is none, it stays. What lies on `spare` is lost.
+    /// Moves to the next entry. If there is none, it stays. The content of `spare` is lost.
     #[inline(always)]
     pub fn next(&mut self, spare: &mut Stack<'a>) -> Option<Leaf<'a>>
         requires stack { HasTrail self.old }
@@ -76,7 +76,7 @@ impl<'a> Trail<'a> {
         self.next_further(spare)
     }
 
-    /// Moves back to the entry before. Where there is none, it stays. What lies on `spare` is lost.
+    /// Moves to the preceding entry. If there is none, it stays. The content of `spare` is lost.
     pub fn prev(&mut self, spare: &mut Stack<'a>) -> Option<Leaf<'a>>
         requires stack { HasTrail self.old }
         requires rest { IsAtRest (trail_frames self.old) }
@@ -93,8 +93,7 @@ impl<'a> Trail<'a> {
         }
     }
 
-    /// Stands on the first entry whose key is not below `key`. Where there is none, the stack is
-    /// empty.
+    /// Goes to the first entry whose key isn't below `key`. If there is none, the stack is empty.
     pub fn seek(&mut self, key: &[u8]) -> Sought<'a>
         requires { HasBucket self.old }
         ensures same { IsSameBucket self.old self.new }
@@ -113,7 +112,7 @@ impl<'a> Trail<'a> {
         Sought { found, compared }
     }
 
-    /// Moves on to the next entry where it is in the same leaf. Otherwise it stays.
+    /// Moves to the next entry if it is in the same leaf. Otherwise it stays.
     fn next_here(&mut self) -> Option<Leaf<'a>>
         requires stack { HasTrail self.old }
         requires rest { IsAtRest (trail_frames self.old) }
@@ -136,7 +135,7 @@ impl<'a> Trail<'a> {
         Some(leaf)
     }
 
-    /// Moves back to the entry before where it is in the same leaf. Otherwise it stays.
+    /// Moves to the preceding entry if it is in the same leaf. Otherwise it stays.
     fn prev_here(&mut self) -> Option<Leaf<'a>>
         requires stack { HasTrail self.old }
         requires rest { IsAtRest (trail_frames self.old) }
@@ -157,8 +156,7 @@ impl<'a> Trail<'a> {
         None
     }
 
-    /// Moves on to the next entry, over the leaf's end. Where there is none, it puts its stack
-    /// back as it was.
+    /// Moves to the next entry, past the end of the leaf. If there is none, the stack is restored.
     #[inline(never)]
     fn next_further(&mut self, spare: &mut Stack<'a>) -> Option<Leaf<'a>>
         requires stack { HasTrail self.old }
@@ -181,8 +179,8 @@ impl<'a> Trail<'a> {
         }
     }
 
-    /// Moves back to the entry before, over the leaf's beginning. Where there is none, it puts its
-    /// stack back as it was.
+    /// Moves to the preceding entry, before the beginning of the leaf. If there is none, the stack
+    /// is restored.
     fn prev_further(&mut self, spare: &mut Stack<'a>) -> Option<Leaf<'a>>
         requires stack { HasTrail self.old }
         requires rest { IsAtRest (trail_frames self.old) }

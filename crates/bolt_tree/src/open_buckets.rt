@@ -1,5 +1,5 @@
-//! The open buckets of a walk, and the path that it has come to. What is left of a listing is told
-//! by that path alone; the cursors say where to go on.
+//! The open buckets of a walk, and the path that it has come to. That path alone says what is left
+//! of a listing; the cursors say where to go on.
 ghost use Rattle.std.specs.Option.{IfNone};
 ghost use Rattle.std.specs.Prelude.{◌≡◌, ◌∷◌, [], IfSome, IfOk, MatchOption, MatchResult, OnOk, OnErr, IsTrue};
 ghost use Rattle.bolt_format.specs.Elements.{IsBucketValue};
@@ -23,25 +23,25 @@ use std::alloc::Global;
 pub(crate) enum Ahead<'a> {
     /// It enters the root bucket.
     Begin,
-    /// It enters the bucket that its path names, which has this value.
+    /// It enters the bucket that its path names, whose value this is.
     Enter(&'a [u8]),
-    /// It gives the element that its path leads to.
+    /// It returns the element that its path leads to.
     Give(Leaf<'a>),
-    /// It leaves what its path begins.
+    /// It leaves everything that begins with its path.
     Leave,
 }
 
-/// What the search for one part of a path comes to.
+/// The result of searching for one part of a path.
 #[derive(Clone, Copy)]
 pub(crate) enum Sought<'a> {
     /// The part names this bucket, and the path goes on.
     Inside(Bucket<'a>),
-    /// The walk goes on from here.
+    /// The search ends here, and the walk does this next.
     Here(Ahead<'a>),
 }
 
-/// A cursor for each open bucket, from the root on, and the keys that they stand on, which are the
-/// path. Both have the same length.
+/// A cursor for each open bucket, from the root bucket on, and the keys that the cursors are on,
+/// which are the path. Both have the same length.
 #[derive(Drop)]
 pub(crate) struct OpenBuckets<'a> {
     pub cursors: OpenCursors<'a>,
@@ -63,7 +63,7 @@ impl<'a> OpenBuckets<'a> {
         }
     }
 
-    /// Opens the bucket that the path names, and comes to its first entry. Where it has none, or
+    /// Opens the bucket that the path names, and goes to its first entry. If it has none, or if
     /// memory runs out, nothing has changed.
     #[inline(never)]
     fn enter(&mut self, bucket: Bucket<'a>) -> Result<Option<Leaf<'a>>, NoMemory>
@@ -85,7 +85,7 @@ impl<'a> OpenBuckets<'a> {
         Ok(Some(leaf))
     }
 
-    /// Comes to the next entry to be given. Where memory runs out, nothing has changed.
+    /// Goes to the next entry that is to be returned. If memory runs out, nothing has changed.
     #[inline(always)]
     pub fn advance(&mut self, ahead: Ahead<'a>) -> Result<Option<Leaf<'a>>, NoMemory>
         requires placed { IsInPlace self.old }
@@ -110,7 +110,7 @@ impl<'a> OpenBuckets<'a> {
         }
     }
 
-    /// What is to be done after the element that the path leads to was given.
+    /// What is next after the element that the path leads to was returned.
     pub fn after(&self, leaf: &Leaf<'a>) -> Ahead<'a>
         requires placed { IsInPlace self.now }
         requires on { IsAt self.now leaf.now }
@@ -125,7 +125,7 @@ impl<'a> OpenBuckets<'a> {
         }
     }
 
-    /// Comes to the next entry behind all that the path begins, to give it.
+    /// Goes to the next entry after everything that begins with the path, to return it.
     fn come(&mut self) -> Ahead<'a>
         requires { IsInPlace self.old }
         ensures checked { self.new.cursors.checked ≡ self.old.cursors.checked }
@@ -140,7 +140,7 @@ impl<'a> OpenBuckets<'a> {
         }
     }
 
-    /// Seeks one part of a path in the bucket that the parts before it name.
+    /// Searches for one part of a path in the bucket that the preceding parts name.
     fn seek_part(
         &mut self,
         bucket: Bucket<'a>,
@@ -170,7 +170,7 @@ impl<'a> OpenBuckets<'a> {
         Ok(Sought::Here(self.come()))
     }
 
-    /// Seeks a path from the root bucket on.
+    /// Searches for a path, from the root bucket on.
     pub fn seek(&mut self, path: &[&[u8]]) -> Result<Ahead<'a>, NoMemory>
         requires placed { IsInPlace self.old }
         requires empty { open_path self.old ≡ [] }
@@ -190,8 +190,8 @@ impl<'a> OpenBuckets<'a> {
         Ok(Ahead::Begin)
     }
 
-    /// Comes to the next entry behind all that the path begins, and closes the buckets that have
-    /// none.
+    /// Goes to the next entry after everything that begins with the path, and closes the buckets
+    /// that have none.
     #[inline(always)]
     pub fn climb(&mut self) -> Option<Leaf<'a>>
         requires { IsInPlace self.old }

@@ -16,7 +16,7 @@ use bolt_check::{Checked, NoMemory};
 use bolt_format::Leaf;
 use std::alloc::Global;
 
-/// A cursor that waits while a bucket inside its own is open: where its bucket's tree begins, and
+/// A cursor that waits while a bucket within its own is open: where its bucket's tree begins, and
 /// where its positions begin among those of all that wait.
 #[derive(Clone, Copy)]
 pub(crate) struct Waiting<'a> {
@@ -25,8 +25,8 @@ pub(crate) struct Waiting<'a> {
     pub begin: usize,
 }
 
-/// A cursor for each open bucket. A whole one has room for the greatest depth; so of those that
-/// wait, only their positions are kept.
+/// A cursor for each open bucket. A whole cursor has room for the greatest depth, so only the
+/// positions of the waiting ones are kept.
 #[derive(Drop)]
 pub(crate) struct OpenCursors<'a> {
     pub checked: Checked<'a>,
@@ -39,7 +39,7 @@ pub(crate) struct OpenCursors<'a> {
 impl<'a> OpenCursors<'a> {
     ghost use Rattle.bolt_tree.specs.Private.OpenCursors.{cursors_of};
 
-    /// No cursor.
+    /// Without a cursor.
     pub fn new(alloc: Global, checked: Checked<'a>) -> OpenCursors<'a>
         ensures checked { result.checked ≡ checked.entry }
         ensures none { cursors_of result ≡ [] }
@@ -60,8 +60,8 @@ impl<'a> OpenCursors<'a> {
         self.innermost.is_none()
     }
 
-    /// Opens a bucket inside the innermost one. Its cursor stands before the first call. Where memory
-    /// runs out, nothing has changed.
+    /// Opens a bucket within the innermost one. Its cursor is before the first call. If memory runs
+    /// out, nothing has changed.
     fn open(&mut self, bucket: Bucket<'a>) -> Result<(), NoMemory>
         requires { bucket_checked bucket ≡ self.old.checked }
         ensures checked { self.new.checked ≡ self.old.checked }
@@ -84,7 +84,7 @@ impl<'a> OpenCursors<'a> {
         Ok(())
     }
 
-    /// Moves the innermost cursor to the first entry whose key is not below `key`.
+    /// Moves the innermost cursor to the first entry whose key isn't below `key`.
     fn seek_element(&mut self, key: &[u8]) -> Option<Leaf<'a>>
         requires { cursors_of self.old ≡ [] → ⊥ }
         ensures checked { self.new.checked ≡ self.old.checked }
@@ -97,8 +97,8 @@ impl<'a> OpenCursors<'a> {
         }
     }
 
-    /// Opens a bucket inside the innermost one, on its first entry. Where it has none, or memory runs
-    /// out, nothing has changed.
+    /// Opens a bucket within the innermost one, on its first entry. If it has none, or if memory
+    /// runs out, nothing has changed.
     pub fn enter(&mut self, bucket: Bucket<'a>) -> Result<Option<Leaf<'a>>, NoMemory>
         requires { bucket_checked bucket ≡ self.old.checked }
         ensures checked { self.new.checked ≡ self.old.checked }
@@ -116,8 +116,8 @@ impl<'a> OpenCursors<'a> {
         }
     }
 
-    /// Opens a bucket inside the innermost one, on its first entry whose key is not below `key`.
-    /// Where it has none, or memory runs out, nothing has changed.
+    /// Opens a bucket within the innermost one, on its first entry whose key isn't below `key`. If
+    /// it has none, or if memory runs out, nothing has changed.
     pub fn seek(&mut self, bucket: Bucket<'a>, key: &[u8]) -> Result<Option<Leaf<'a>>, NoMemory>
         requires { bucket_checked bucket ≡ self.old.checked }
         ensures checked { self.new.checked ≡ self.old.checked }
@@ -135,7 +135,7 @@ impl<'a> OpenCursors<'a> {
         }
     }
 
-    /// Moves the innermost cursor to its next entry. It stays where it is if there is none.
+    /// Moves the innermost cursor to its next entry. If there is none, it stays where it is.
     #[inline(always)]
     pub fn next_element(&mut self) -> Option<Leaf<'a>>
         requires { cursors_of self.old ≡ [] → ⊥ }
@@ -149,7 +149,7 @@ impl<'a> OpenCursors<'a> {
         }
     }
 
-    /// Drops the innermost cursor. The one around it stands where it stood.
+    /// Drops the innermost cursor, and restores the one around it.
     #[inline(never)]
     pub fn pop(&mut self)
         ensures checked { self.new.checked ≡ self.old.checked }

@@ -22,8 +22,8 @@ pub(crate) struct LeafPage<'a> {
     ghost kind: { (shown page).kind ≡ kind.Leaf } by { Prim.hlevel props },
 }
 
-/// A page that a cursor has opened: a page with a number, or that of an inline bucket. Nothing has
-/// no elements; it fills the places of a stack that hold no position.
+/// A page that a cursor has opened: a page with a number, or that of an inline bucket. `Nothing`
+/// has no elements; it fills the unused places of a stack.
 #[derive(Clone, Copy, Default)]
 pub(crate) enum Opened<'a> {
     #[default]
@@ -71,7 +71,7 @@ impl<'a> Opened<'a> {
         }
     }
 
-    /// How many elements it has.
+    /// The number of its elements.
     pub fn count(&self) -> u16
         ensures { result ≡ content_length (opened_content self.now) }
     {

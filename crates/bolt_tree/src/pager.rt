@@ -8,8 +8,8 @@ ghost use Rattle.bolt_check.specs.OnWays.{IsOnWay};
 use bolt_check::Checked;
 use bolt_format::{Page, known};
 
-/// Opens pages of a sound file, and counts how many it has opened. It can't be copied, and none of
-/// its calls gives the file, so what has no other way to the file can't open a page uncounted.
+/// Opens the pages of a sound file, and counts them. It can't be copied, and none of its calls
+/// returns the file. So code that has nothing else of the file can't open a page uncounted.
 #[derive(Drop)]
 pub struct Pager<'a> {
     checked: Checked<'a>,
@@ -29,7 +29,7 @@ impl<'a> Pager<'a> {
         Pager { checked, opened: 0 }
     }
 
-    /// Opens page `id`, to which a way leads.
+    /// Opens page `id`. A way leads to it.
     #[tactic(auto, unfolding(crate::specs::Pagers::pager_checked, crate::specs::Pagers::pager_opened))]
     pub fn open(&mut self, id: u64) -> Page<'a>
         requires { ∥ ((depth : ℕ) × IsOnWay (bytes_of (pager_checked self.old)) (meta_of (pager_checked self.old)) id depth) ∥₁ }
@@ -41,7 +41,7 @@ impl<'a> Pager<'a> {
         known(self.checked.bytes(), &self.checked.meta(), id)
     }
 
-    /// Counts an inline page, which lies in a value.
+    /// Counts an inline page, which is in a value.
     #[tactic(auto, unfolding(crate::specs::Pagers::pager_checked, crate::specs::Pagers::pager_opened))]
     pub fn note(&mut self)
         ensures checked { pager_checked self.new ≡ pager_checked self.old }
@@ -50,7 +50,7 @@ impl<'a> Pager<'a> {
         self.opened = self.opened.saturating_add(1);
     }
 
-    /// How many pages it has opened, or the greatest number if there were more.
+    /// The number of pages that it has opened. Saturates at 2^64 - 1.
     #[tactic(auto, unfolding(crate::specs::Pagers::pager_opened))]
     pub fn opened(&self) -> u64
         ensures { result ≡ pager_opened self.now }

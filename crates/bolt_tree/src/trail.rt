@@ -1,4 +1,4 @@
-//! A stack of opened pages that goes along the pages of a bucket.
+//! A stack of open pages that moves along the pages of a bucket.
 ghost use Rattle.std.specs.Prelude.{◌≡◌, ◌∷◌, [], ◌<◌, ◌≤◌, ◌+◌, ◌-◌, ◌++◌, IsTrue, IfSome, MatchOption, Some, length, slice_get};
 ghost use Rattle.std.specs.Option.{option_map};
 ghost use Rattle.bolt_format.specs.ElementPlaces.{leaf_view};
@@ -17,8 +17,8 @@ use crate::pager::Pager;
 use crate::position::{Position, Stack};
 use bolt_format::Leaf;
 
-/// The pages that are open in a bucket, from its root page on, each with how many of its elements
-/// are taken.
+/// The open pages of a bucket, from its root page on, each with the number of elements up to where
+/// the cursor is.
 #[derive(Drop)]
 pub(crate) struct Trail<'a> {
     pub pager: Pager<'a>,
@@ -29,7 +29,7 @@ pub(crate) struct Trail<'a> {
 impl<'a> Trail<'a> {
     ghost use Rattle.bolt_tree.specs.Private.Trails.{HasBucket, HasTrail, IsSameBucket, ahead, behind, right, trail_bucket, trail_frames};
 
-    /// Puts a page on the stack.
+    /// Pushes a page onto the stack.
     pub fn push(&mut self, page: Opened<'a>, taken: u32)
         requires { HasStack (trail_bucket self.old) (record { content = opened_content page; taken = taken } ∷ trail_frames self.old) }
         ensures same { IsSameBucket self.old self.new }
@@ -40,7 +40,7 @@ impl<'a> Trail<'a> {
         self.stack.push(Position { page, taken });
     }
 
-    /// Puts a page on the stack, before its first element or behind its last.
+    /// Pushes a page onto the stack, before its first element or past its last.
     fn stand(&mut self, page: Opened<'a>, at_end: bool)
         requires { HasStack (trail_bucket self.old) (record { content = opened_content page; taken = 0 } ∷ trail_frames self.old) }
         ensures same { IsSameBucket self.old self.new }
@@ -55,7 +55,7 @@ impl<'a> Trail<'a> {
         }
     }
 
-    /// Opens the root page of the bucket, or its inline page, which is on no stack yet.
+    /// Opens the root page of the bucket, or its inline page, which isn't on the stack yet.
     pub fn open_root(&mut self) -> Opened<'a>
         requires { HasBucket self.old }
         ensures same { IsSameBucket self.old self.new }
@@ -73,7 +73,7 @@ impl<'a> Trail<'a> {
         }
     }
 
-    /// Opens the root page, and stands before its first element or behind its last.
+    /// Opens the root page, and pushes it before its first element or past its last.
     pub fn begin(&mut self, at_end: bool)
         requires { HasBucket self.old }
         ensures same { IsSameBucket self.old self.new }
@@ -85,7 +85,7 @@ impl<'a> Trail<'a> {
         self.stand(page, at_end);
     }
 
-    /// Opens the page under element `i` of a branch, which is put on the stack.
+    /// Opens the page under element `i` of a branch, and pushes the branch.
     pub fn go_under(&mut self, page: BranchPage<'a>, i: u16) -> Opened<'a>
         requires stack { HasStack (trail_bucket self.old) (record { content = Of_branch (shown page.page).branches; taken = 0 } ∷ trail_frames self.old) }
         requires below { i < length (shown page.page).branches }
@@ -99,9 +99,9 @@ impl<'a> Trail<'a> {
         Opened::of_page(self.pager.open(page.element(i).child))
     }
 
-    /// Takes element `i` of a page, which is put back on the stack: an entry of a leaf, or of a
-    /// branch the page under it, which is opened and put on top, before its first element or
-    /// behind its last.
+    /// Goes to element `i` of a page, and pushes the page again. The element is an entry of a leaf,
+    /// which is returned; or it leads from a branch to a page, which is opened and pushed, before
+    /// its first element or past its last.
     pub fn enter(&mut self, page: Opened<'a>, i: u16, at_end: bool) -> Option<Leaf<'a>>
         requires stack { HasStack (trail_bucket self.old) (record { content = opened_content page; taken = 0 } ∷ trail_frames self.old) }
         requires below { i < content_length (opened_content page) }
@@ -129,7 +129,7 @@ impl<'a> Trail<'a> {
         }
     }
 
-    /// Moves on to the next entry. The stack is empty where there is none.
+    /// Moves to the next entry. If there is none, the stack is empty.
     pub fn advance(&mut self) -> Option<Leaf<'a>>
         requires { HasTrail self.old }
         ensures same { IsSameBucket self.old self.new }
@@ -150,7 +150,7 @@ impl<'a> Trail<'a> {
         None
     }
 
-    /// Moves back to the entry before. The stack is empty where there is none.
+    /// Moves to the preceding entry. If there is none, the stack is empty.
     pub fn retreat(&mut self) -> Option<Leaf<'a>>
         requires { HasTrail self.old }
         ensures same { IsSameBucket self.old self.new }

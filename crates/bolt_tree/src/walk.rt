@@ -1,4 +1,4 @@
-//! A walk over all that a file holds (docs/LISTING.md, "The walk").
+//! A walk over everything in a file (docs/LISTING.md, "The walk").
 ghost use Rattle.std.specs.Option.{option_map};
 ghost use Rattle.std.specs.Prelude.{◌≡◌, [], IfOk, OnErr};
 ghost use Rattle.bolt_tree.specs.ShownEntries.{item_view};
@@ -10,9 +10,8 @@ use crate::open_buckets::{Ahead, OpenBuckets};
 use bolt_check::{Checked, NoMemory};
 use std::alloc::Global;
 
-/// A walk over all that a file holds, in the order of the paths: each value and each bucket once,
-/// a bucket before what it holds. It keeps where it stands in each open bucket, and calls itself
-/// nowhere.
+/// A walk over everything in a file, in the order of paths: each value and each bucket once, a
+/// bucket before everything in it. It keeps its position in each open bucket, and isn't recursive.
 #[derive(Drop)]
 pub struct Walk<'a> {
     buckets: OpenBuckets<'a>,
@@ -25,7 +24,7 @@ impl<'a> Walk<'a> {
     ghost use Rattle.bolt_tree.specs.Paths.{path_of};
     ghost use Rattle.bolt_tree.specs.Walks.{GivesNext, left_of, walk_checked, walk_path};
 
-    /// A walk that has all of the file before it. It takes no memory.
+    /// A walk that has the whole listing ahead of it. Needs no memory.
     #[tactic(auto, unfolding(crate::specs::Walks::left_of, crate::specs::Walks::walk_checked, crate::specs::Walks::walk_path))]
     pub fn new(alloc: Global, checked: Checked<'a>) -> Walk<'a>
         ensures checked { walk_checked result ≡ checked.entry }
@@ -38,12 +37,13 @@ impl<'a> Walk<'a> {
         }
     }
 
-    /// A walk that has the rest of the file from a path on before it: all that doesn't stand before
-    /// that path, which may be in the tree or not. The empty path is that of the beginning.
+    /// A walk that has the rest of the listing from a path on ahead of it: everything that doesn't
+    /// come before that path. The path may be in the tree or not. From the empty path that is the
+    /// whole listing.
     ///
     /// # Errors
     ///
-    /// `NoMemory` where there is no room for the buckets that it opens on the way.
+    /// `NoMemory` if memory runs out for the buckets that it opens on the way.
     #[tactic(auto, unfolding(crate::specs::Walks::left_of, crate::specs::Walks::walk_checked, crate::specs::Walks::walk_path))]
     pub fn from(alloc: Global, checked: Checked<'a>, path: &[&[u8]]) -> Result<Walk<'a>, NoMemory>
         ensures checked { IfOk result (λ walk. walk_checked walk ≡ checked.entry) }
@@ -55,12 +55,12 @@ impl<'a> Walk<'a> {
         Ok(Walk { buckets, ahead })
     }
 
-    /// Gives what comes next, or `None` where nothing is left, then and ever after.
+    /// Returns the next item, or `None` if nothing is left, then and ever after.
     ///
     /// # Errors
     ///
-    /// `NoMemory` where there is no room for one more open bucket. The walk then has the same before
-    /// it and tells the same path, and may be asked again.
+    /// `NoMemory` if memory runs out for one more open bucket. The walk then has the same ahead of
+    /// it and returns the same path, and `next` may be called again.
     #[tactic(auto, unfolding(crate::specs::Walks::left_of, crate::specs::Walks::walk_checked, crate::specs::Walks::walk_path))]
     #[inline(always)]
     pub fn next(&mut self) -> Result<Option<Item<'a>>, NoMemory>
@@ -81,8 +81,8 @@ impl<'a> Walk<'a> {
         }
     }
 
-    /// The path of the item given last, from the root bucket down; empty before the first one and
-    /// after the last.
+    /// The path of the last item that was returned, from the root bucket down. It is empty before
+    /// the first item and after the last.
     #[tactic(auto, unfolding(crate::specs::Walks::walk_path))]
     pub fn path(&self) -> &[&'a [u8]]
         ensures { path_of result.now ≡ walk_path self.now }

@@ -1,5 +1,5 @@
-//! `luntsegi`: inspects and copies bbolt database files. What it does with the words and the bytes
-//! is in `bolt_cli`; here are the words, the files and the streams of the process.
+//! `luntsegi` inspects, checks and copies bbolt database files. `bolt_cli` has what it does with
+//! the words and the bytes. Here are the words, the files and the streams of the process.
 #![tactic(auto)]
 
 use bolt_cli::{Job, Refusal, read_words, run};
@@ -11,15 +11,15 @@ use std::io::{self, BufWriter, Read, Stderr, Stdout, Write};
 use std::os::unix::fs::{MetadataExt, OpenOptionsExt};
 use std::process::ExitCode;
 
-/// The status of a command line that is refused.
+/// The status of a command line that was refused.
 const REFUSED: u8 = 2;
 /// The status of a job that failed.
 const FAILED: u8 = 1;
-/// How many bytes of output are gathered before they are written.
+/// The number of bytes of output that are gathered before they are written.
 const GATHERED: usize = 1 << 16;
-/// How many bytes of a copy are gathered before they are written.
+/// The number of bytes of a copy that are gathered before they are written.
 const COPIED: usize = 1 << 20;
-/// The bits of a file's mode that say who may read, write and run it.
+/// The bits of a file's mode that say who may read, write and execute it.
 const PERMISSIONS: u32 = 0o777;
 
 fn main(rt: HostRuntime) -> ExitCode {
@@ -43,7 +43,7 @@ fn read_job(rt: &HostRuntime) -> Result<Job, Refusal> {
     read_words(rt.alloc(), words)
 }
 
-/// Prints why the words give no job, and answers the status.
+/// Prints why the words are no job, and returns the status.
 fn tell_refusal(rt: &HostRuntime, refusal: Refusal) -> u8 {
     match refusal {
         Refusal::Memory => tell(rt, "out of memory", FAILED),
@@ -59,7 +59,7 @@ fn tell_refusal(rt: &HostRuntime, refusal: Refusal) -> u8 {
     }
 }
 
-/// Prints a fault line, whatever becomes of it, and returns the status.
+/// Prints a fault line, and returns the status, which is the same if the line can't be printed.
 fn tell(rt: &HostRuntime, text: &str, code: u8) -> u8 {
     let _ = eprintln!(rt; "error: {text}");
     code
@@ -74,7 +74,7 @@ fn tell_unwritten(rt: &HostRuntime, error: &io::Error) -> u8 {
     tell(rt, "write failed", FAILED)
 }
 
-/// What was read of FILE.
+/// The bytes of FILE that were read.
 #[derive(Drop)]
 struct Source {
     bytes: Vec<u8>,
@@ -82,7 +82,7 @@ struct Source {
     permissions: u32,
 }
 
-/// Reads FILE, and then makes the job's OUT if it has one, and does the job.
+/// Reads FILE, creates the job's OUT if it has one, and does the job.
 fn run_job(rt: &HostRuntime, job: &Job) -> u8 {
     let Ok(source) = read_source(rt, job) else {
         let name = job.file();
@@ -95,7 +95,7 @@ fn run_job(rt: &HostRuntime, job: &Job) -> u8 {
     }
 }
 
-/// Reads FILE, or only the first bytes of it if the job needs no more.
+/// Reads FILE, or only its first bytes if the job needs no more.
 fn read_source(rt: &HostRuntime, job: &Job) -> io::Result<Source> {
     let mut file = File::open(rt, job.file())?;
     let permissions = file.metadata()?.mode() & PERMISSIONS;
@@ -107,8 +107,8 @@ fn read_source(rt: &HostRuntime, job: &Job) -> io::Result<Source> {
     Ok(Source { bytes, permissions })
 }
 
-/// Makes the file OUT, which must not exist, with the permission bits of FILE, and does the job over
-/// it. The bits are set as OUT is made, so nobody who can't read FILE can open OUT at any time.
+/// Creates OUT, which must not exist, with the permission bits of FILE, and does the job over it.
+/// The bits are set on creation, so at no time can anybody open OUT who can't read FILE.
 fn run_copy(rt: &HostRuntime, job: &Job, source: &Source, name: &str) -> u8 {
     let made = OpenOptions::new()
         .write(true)
@@ -133,7 +133,7 @@ fn run_copy(rt: &HostRuntime, job: &Job, source: &Source, name: &str) -> u8 {
 
 /// What the copy of a job is written to.
 trait Target: Write {
-    /// Ends the writing. `Ok` says that all that was written is on the disk.
+    /// Ends the writing. `Ok` means that everything that was written is on the disk.
     fn finish(self) -> io::Result<()>;
 }
 
@@ -151,7 +151,7 @@ impl Target for BufWriter<File> {
     }
 }
 
-/// Standard output, which notes when its reader has left.
+/// Standard output. It notes when its reader has left.
 #[derive(Drop)]
 struct Output<'a> {
     stdout: Stdout,
@@ -174,7 +174,7 @@ impl Write for Output<'_> {
     }
 }
 
-/// Standard error. Once the reader of standard output has left, it drops what it is given, which can
+/// Standard error. Once the reader of standard output has left, it drops what it gets, which can
 /// only be the line of the failed write.
 #[derive(Drop)]
 struct ErrorOutput<'a> {
@@ -196,7 +196,8 @@ impl Write for ErrorOutput<'_> {
 }
 
 /// Does the job over the streams of the process and the target, with its output gathered. The
-/// output is written only once the target is finished: if that fails, nothing was said.
+/// output is written only after the target is finished. If that fails, nothing is printed on
+/// standard output.
 fn run_over<T: Target + Drop>(rt: &HostRuntime, job: &Job, file: &[u8], target: T) -> u8 {
     let reader_left = Cell::new(false);
     let output = Output {
@@ -216,7 +217,7 @@ fn run_over<T: Target + Drop>(rt: &HostRuntime, job: &Job, file: &[u8], target: 
     match target.into_inner().finish() {
         Ok(()) => write_out(rt, out, status.code),
         Err(_) => {
-            // Letting it go would write what is gathered.
+            // Dropping it would write what is gathered.
             let _unwritten = out.into_inner().into_parts();
             tell_unfinished(rt, status.code)
         }
@@ -224,7 +225,7 @@ fn run_over<T: Target + Drop>(rt: &HostRuntime, job: &Job, file: &[u8], target: 
 }
 
 /// Writes what was gathered, and returns the status. A flush that fails is a fault, whatever the
-/// job found, unless the job told it already; nothing is written then any more.
+/// job found, unless the job reported one already; then nothing more is written.
 fn write_out(rt: &HostRuntime, out: WriteSink<BufWriter<Output<'_>>>, code: u8) -> u8 {
     let is_told = out.failures() > 0;
     let mut gathered = out.into_inner();
@@ -241,7 +242,7 @@ fn write_out(rt: &HostRuntime, out: WriteSink<BufWriter<Output<'_>>>, code: u8) 
     }
 }
 
-/// Tells that the target can't be finished, unless the job told a fault already.
+/// Reports that the target can't be finished, unless the job reported a fault already.
 fn tell_unfinished(rt: &HostRuntime, code: u8) -> u8 {
     match code {
         0 => tell(rt, "write failed", FAILED),

@@ -1,5 +1,5 @@
-//! A file of four pages with each byte changed to each other one, under each command but `keys` and
-//! `get`: 1,044,480 files.
+//! A file of four pages with each byte changed to each other value, under each command except
+//! `keys` and `get`: 1,044,480 files.
 
 use crate::ran::{Ran, check_run, job_of};
 use bolt_cli::{Job, Refusal};
@@ -31,7 +31,7 @@ const SECOND_RECORD_END: usize = 1104;
 
 const ROOT_END: usize = 3157;
 
-/// What `info` prints where the second meta is valid, as in the file itself, and where it isn't.
+/// What `info` prints if the second meta is valid, as in the file itself, and if it isn't.
 const SECOND_META: &[u8] =
     b"page size 1024\nmeta 1\ntxid 1\nroot 3\nsequence 0\nfreelist 2\nhigh water 4\n";
 
@@ -48,7 +48,7 @@ static PAGES: [&'static [u8]; 4] = [
     b"page 3\ntype leaf\nitems 1\noverflow 0\n62 bucket 0 0\n",
 ];
 
-/// What `page` tells of a page that it refuses begins so.
+/// How a text of `page` on a refused page begins.
 static REFUSED_PAGES: [&'static [u8]; 4] = [
     b"error: page 0: ",
     b"error: page 1: ",
@@ -56,8 +56,8 @@ static REFUSED_PAGES: [&'static [u8]; 4] = [
     b"error: page 3: ",
 ];
 
-/// Whether a byte may change what `page` prints of a page: it is of the page's header, or of the
-/// elements of page 3.
+/// Whether a byte may change what `page` prints of a page: it belongs to the page's header, or to
+/// the elements of page 3.
 fn tells_page(at: usize, id: usize) -> bool {
     let first = id.saturating_mul(PAGE_SIZE);
     let end = if id == 3 {
@@ -68,8 +68,8 @@ fn tells_page(at: usize, id: usize) -> bool {
     first <= at && at < end
 }
 
-/// Whether a byte is read by the commands that check the file first, but for a meta, of which the
-/// other one then stands in its place.
+/// Whether a byte is read by the commands that check the file first. The bytes of a meta are not:
+/// if one changes, the other meta is used.
 fn is_read(at: usize) -> bool {
     tells_page(at, 2) || tells_page(at, 3)
 }
@@ -85,7 +85,7 @@ struct Jobs {
     readers: Vec<Job>,
     /// `page` of the pages 0 to 3.
     pages: Vec<Job>,
-    /// `page` of page 4, which there isn't.
+    /// `page` of page 4, which doesn't exist.
     past: Job,
 }
 
@@ -131,7 +131,7 @@ struct Changed<'a> {
     before: &'a [u8],
 }
 
-/// The metas and the pages tell what stands in them.
+/// `info` and `page` print what is in the metas and the pages.
 fn check_tour(
     rt: &impl Abort,
     alloc: Global,
@@ -171,7 +171,7 @@ fn check_tour(
     Ok(())
 }
 
-/// Each command refuses the file for the first finding of `check`.
+/// Each command refuses the file with the first finding of `check`.
 fn check_refused(
     rt: &impl Abort,
     alloc: Global,
@@ -203,7 +203,7 @@ fn check_refused(
     Ok(())
 }
 
-/// Each command reads the file, and its copy is sound and lists the same.
+/// Each command reads the file. Its copy is sound and lists the same.
 fn check_sound(
     rt: &impl Abort,
     alloc: Global,
@@ -268,7 +268,7 @@ fn toggle(file: &mut Vec<u8>, at: usize, bits: u8) {
     }
 }
 
-/// The byte at a place is each other one in turn.
+/// The byte at a place gets each other value in turn.
 fn sweep_byte(
     rt: &impl Abort,
     alloc: Global,
@@ -290,7 +290,7 @@ fn sweep_byte(
     Ok(())
 }
 
-/// Each byte of a page is each other one in turn.
+/// Each byte of a page gets each other value in turn.
 fn sweep_page(rt: &impl Abort, alloc: Global, page: usize) -> Result<(), Fail> {
     let file = make(alloc, &INLINE_FILE)?;
     assert_eq!(rt; file.len(), 4 * PAGE_SIZE);

@@ -1,4 +1,4 @@
-//! How many items a copy holds at one time. The figures come from a program of its own, which goes
+//! How many items a copy holds at one time. The figures come from a separate program, which goes
 //! through the pages of a layout and counts items that join and pages that are written.
 
 use Element::Bucket;
@@ -22,7 +22,7 @@ const EMPTY_BUCKET_ALONE: Sample<'static> = Sample {
     ..FRESH_FILE
 };
 
-/// The copy of the file at this page size holds so many items at the most.
+/// The greatest number of items that the copy of the file at this page size holds at one time.
 fn check_held(
     rt: &impl Abort,
     alloc: Global,

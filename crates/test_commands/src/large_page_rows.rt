@@ -1,4 +1,4 @@
-//! Rows of the greatest pages: as large as a page may be, and with as many elements as it may have.
+//! The greatest pages: as large as a page may be, and with as many elements as it may have.
 
 use crate::ran::{Ran, Wanted, check_run, job_of};
 use Element::Bucket;
@@ -15,7 +15,7 @@ const CHECK: &str = "luntsegi check FILE";
 
 const SOUND: Wanted<'static> = (0, b"OK\n", b"");
 
-/// The line on the file comes to this.
+/// The command line has this result on the file.
 fn check_line(
     alloc: Global,
     name: &str,
@@ -27,7 +27,7 @@ fn check_line(
     check_run(alloc, &job, file, (name, file.len()), want)
 }
 
-/// The copy of the file at this page size is the one that is wanted.
+/// The copy of the file at this page size is this one.
 fn check_copy(
     rt: &impl Abort,
     alloc: Global,
@@ -48,7 +48,7 @@ fn check_copy(
     Ok(())
 }
 
-/// Zeros up to a meta at the greatest page size, alone.
+/// Zeros up to a meta at the greatest page size, and that meta.
 #[test]
 fn greatest_page_size(rt: HostRuntime) -> Result<(), Fail> {
     let alloc = rt.alloc();

@@ -1,6 +1,6 @@
-//! Tests of commands: copies of the greatest pages, copies and outputs whose sink fails at each byte,
-//! and files with each byte changed. Other rows of commands stand in `test_rows`. The crate has
-//! nothing beside its tests.
+//! Tests of commands: copies with the greatest pages, copies and outputs whose sink fails at each
+//! byte, and files with each byte changed. The other test cases of commands are in `test_rows`. The
+//! crate has nothing but tests.
 #![tactic(auto)]
 
 #[cfg(test)]

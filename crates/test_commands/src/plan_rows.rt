@@ -1,4 +1,4 @@
-//! Plans of worked layouts: where a copy has its root page and its mark.
+//! Plans of worked layouts: the root page and the high-water mark of a copy.
 
 use bolt_bulk::{Plan, plan, plan_as};
 use bolt_check::check;

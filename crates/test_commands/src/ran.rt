@@ -1,4 +1,4 @@
-//! What the job of a command line comes to on a file in memory.
+//! Runs the job of a command line on a file in memory.
 
 use bolt_cli::{Job, Refusal, read_words, run};
 use bolt_format::{MemSink, Sink};
@@ -23,11 +23,11 @@ pub struct Ran {
     pub code: u8,
 }
 
-/// A status, and what stands on standard output and on standard error then.
+/// A status, and then standard output and standard error.
 pub type Wanted<'a> = (u8, &'a [u8], &'a [u8]);
 
 impl Ran {
-    /// A run over sinks that take all.
+    /// A run over sinks that accept everything.
     pub fn on(alloc: Global, job: &Job, file: &[u8]) -> Ran {
         let out = MemSink::new(alloc);
         Ran::over(alloc, job, file, out, MemSink::new(alloc))
@@ -45,12 +45,12 @@ impl Ran {
         }
     }
 
-    /// Whether the run came to this.
+    /// Whether the run has this result.
     pub fn is(&self, want: Wanted<'_>) -> bool {
         self.code == want.0 && self.out.bytes() == want.1 && self.err.bytes() == want.2
     }
 
-    /// The run came to this, but for the copy.
+    /// The run has this result; its copy isn't looked at.
     pub fn check(&self, name: &str, at: usize, want: Wanted<'_>) -> Result<(), Fail> {
         if self.is(want) {
             return Ok(());
@@ -64,7 +64,8 @@ impl Ran {
     }
 }
 
-/// The job comes on the file to this, but for the copy. A failed test tells the name and the place.
+/// The job has this result on the file; its copy isn't looked at. A failed test prints the name and
+/// the place.
 pub fn check_run(
     alloc: Global,
     job: &Job,
@@ -75,12 +76,12 @@ pub fn check_run(
     Ran::on(alloc, job, file).check(told.0, told.1, want)
 }
 
-/// The beginning of what was taken, as a failed test shows it.
+/// The first part of an output, as a failed test prints it.
 fn shown(sink: &MemSink) -> &str {
     beginning(sink.bytes())
 }
 
-/// The beginning of bytes, as a failed test shows it.
+/// The first part of bytes, as a failed test prints it.
 fn beginning(bytes: &[u8]) -> &str {
     let front = bytes.get(..200).unwrap_or(bytes);
     std::str::from_utf8(front).unwrap_or("bytes that are no text")

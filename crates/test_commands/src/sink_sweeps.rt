@@ -14,7 +14,7 @@ use test_files::layouts::{forty_on_one_leaf, long_keys_on_one_leaf, long_keys_un
 use test_files::maker::{FRESH, MetaFields};
 use test_files::samples::{FRESH_FILE, Sample, forty_values, make};
 
-/// A copy to be made: of which file, at which page size, and what it is, whole, with its root page.
+/// A copy to be made: its file, its page size, its bytes and its root page.
 #[derive(Clone, Copy)]
 struct Copying<'a> {
     source: &'a [u8],
@@ -23,7 +23,8 @@ struct Copying<'a> {
     root: u64,
 }
 
-/// A beginning of a copy with this root page is refused: for its first meta, or for its root.
+/// A prefix of a copy with this root page is refused: its first meta isn't whole, or its root page
+/// isn't.
 fn check_beginning(rt: &impl Abort, alloc: Global, taken: &[u8], root: u64) {
     let fault = check(alloc, taken).err();
     let is_refused = match &fault {
@@ -40,7 +41,7 @@ fn check_beginning(rt: &impl Abort, alloc: Global, taken: &[u8], root: u64) {
     );
 }
 
-/// The copy over a sink that fails past this many bytes, fewer than the copy has.
+/// The copy to a sink that fails after this many bytes, fewer than the copy has.
 fn check_fuse(
     rt: &impl Abort,
     alloc: Global,
@@ -60,7 +61,7 @@ fn check_fuse(
     check_beginning(rt, alloc, sink.bytes(), copying.root);
 }
 
-/// The copy over a sink that has room for all of it, and for no more.
+/// The copy to a sink that has just enough room for it.
 fn check_room(
     rt: &impl Abort,
     alloc: Global,
@@ -133,7 +134,7 @@ fn fuses_of_long_keys(rt: HostRuntime) -> Result<(), Fail> {
     check_fuses(&rt, alloc, copying)
 }
 
-/// Takes all bytes, and keeps nothing but their number.
+/// Accepts all bytes, and keeps only their number.
 #[derive(Drop)]
 struct Counting {
     taken: u64,
@@ -165,8 +166,8 @@ fn items_held(rt: HostRuntime) -> Result<(), Fail> {
     Ok(())
 }
 
-/// The copy over a writer that takes seven bytes a call and refuses a call; the first is 1, and 0
-/// refuses none. Answers the writer after one more `put`, and whether the copy was made.
+/// The copy to a writer that accepts seven bytes a call and refuses one call; the first is 1, and 0
+/// refuses none. Returns the writer after one more `put`, and whether the copy was made.
 fn copy_by_sevens(
     rt: &impl Abort,
     alloc: Global,
@@ -195,8 +196,8 @@ fn copy_by_sevens(
     (sink.into_inner(), is_made)
 }
 
-/// The copy over writers that each refuse one call more than the last one took: each takes what
-/// the last one did and at least a byte more.
+/// The copy to writers each of which refuses the call after the one that the last writer refused.
+/// Each accepts what the last one did and at least a byte more.
 fn refuse_calls(
     rt: &impl Abort,
     alloc: Global,
@@ -257,8 +258,8 @@ static LINES: [&'static str; 13] = [
 
 const WRITE_FAILED: &[u8] = b"error: write failed\n";
 
-/// Standard output fails at each of its bytes: what fits stays, the failure is told, and a copy is
-/// whole.
+/// Standard output fails at each of its bytes. What fits stays, the failure is reported, and a copy
+/// is whole.
 fn fail_output(
     rt: &impl Abort,
     alloc: Global,
@@ -331,7 +332,7 @@ static FAILURES: [(&'static str, &'static [u8]); 5] = [
     ("luntsegi get FILE b --meta 1", b"error: key not found\n"),
 ];
 
-/// A failing standard error takes what fits of a line, and changes nothing else.
+/// If standard error fails, it has what fits of a line, and nothing else changes.
 #[test]
 fn failing_errors(rt: HostRuntime) -> Result<(), Fail> {
     let alloc = rt.alloc();
@@ -349,7 +350,7 @@ fn failing_errors(rt: HostRuntime) -> Result<(), Fail> {
     Ok(())
 }
 
-/// Where both fail, the status is that of the failed output.
+/// If both fail, the status is that of the failed output.
 #[test]
 fn failing_output_and_error(rt: HostRuntime) -> Result<(), Fail> {
     let alloc = rt.alloc();

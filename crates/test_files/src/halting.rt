@@ -1,4 +1,4 @@
-//! A writer that halts.
+//! A writer that fails.
 
 use std::alloc::Global;
 use std::io::{self, ErrorKind, Write};
@@ -6,20 +6,20 @@ use std::io::{self, ErrorKind, Write};
 /// How a writer refuses a call.
 #[derive(Clone, Copy, Debug)]
 pub enum Refusal {
-    /// It answers an error of a kind.
+    /// It returns an error of a kind.
     Error(ErrorKind),
-    /// It takes no byte.
+    /// It accepts no byte.
     Nothing,
 }
 
-/// Takes at most 7 bytes a call and refuses one call; it would take those after that again.
+/// Accepts at most 7 bytes a call and refuses one call. It would accept those after that again.
 #[derive(Drop)]
 pub struct Halting {
-    /// What it took.
+    /// The bytes that it has accepted.
     pub taken: Vec<u8>,
-    /// How often it was called.
+    /// The number of its calls.
     pub calls: usize,
-    /// The call that is refused; the first is 1.
+    /// The number of the refused call; the first is 1.
     refused: usize,
     refusal: Refusal,
 }

@@ -31,7 +31,7 @@ fn forty_keys(alloc: Global) -> Result<Vec<[u8; 2]>, AllocError> {
     Ok(keys)
 }
 
-/// The forty values of `forty_values` at page size 4,096, where one leaf has room for them.
+/// The forty values of `forty_values` at page size 4,096, where they fit on one leaf.
 pub fn forty_on_one_leaf(alloc: Global) -> Result<Vec<u8>, AllocError> {
     let keys = forty_keys(alloc)?;
     let mut elements = Vec::new(alloc);
@@ -61,7 +61,7 @@ pub fn long_keys_on_one_leaf(alloc: Global) -> Result<Vec<u8>, AllocError> {
     on_one_leaf(alloc, &elements)
 }
 
-/// Bucket `b` with root page 9, in pages of 1,024 bytes: all but the bucket's pages.
+/// Bucket `b` with root page 9, in pages of 1,024 bytes, without the bucket's pages.
 const UNDER_BRANCHES: Sample<'static> = Sample {
     fields: MetaFields {
         page_size: 1024,
@@ -89,7 +89,7 @@ pub fn long_keys_under_branches(alloc: Global) -> Result<Vec<u8>, AllocError> {
     Ok(file)
 }
 
-/// Puts a branch of two long keys, which takes a second page.
+/// Writes a branch of two long keys, which needs a second page.
 fn put_long_branch(
     file: &mut Vec<u8>,
     id: u64,

@@ -1,5 +1,5 @@
-//! What tests of several crates need: a maker of bbolt files, files, and a writer that halts. It
-//! stands on no other crate, and has no tests.
+//! What tests of several crates need: a maker of bbolt files, files, and a writer that fails. It
+//! uses no other crate, and has no tests.
 #![tactic(auto)]
 
 pub mod halting;

@@ -1,5 +1,5 @@
-//! A maker of bbolt files for tests. It places pages exactly as a test lists them: page numbers,
-//! counts and lengths are the caller's, and nothing here decides a layout. It shares no code with
+//! A maker of bbolt files for tests. It places pages exactly as a test lists them. The caller
+//! chooses page numbers, counts and lengths; nothing here decides a layout. It shares no code with
 //! the crates that are tested.
 
 use std::alloc::{AllocError, Global};
@@ -12,7 +12,7 @@ pub const META_FLAGS: u16 = 0x04;
 
 pub const FREELIST_FLAGS: u16 = 0x10;
 
-/// The freelist field of a meta where no freelist was written.
+/// The freelist field of a meta if no freelist was written.
 pub const NO_FREELIST: u64 = u64::MAX;
 
 /// The count of a freelist page in the long form.
@@ -77,7 +77,7 @@ impl<'a> Element<'a> {
         }
     }
 
-    /// Adds what the page's table says of it, with the position of its data.
+    /// Adds the element's row of the page's table, with the position of its data.
     fn add_entry(self, page: &mut Vec<u8>, position: u32) -> Result<(), AllocError> {
         let key = narrow(self.key().len());
         match self {
@@ -94,7 +94,7 @@ impl<'a> Element<'a> {
         }
     }
 
-    /// Adds what stands behind the key.
+    /// Adds what follows the key.
     fn add_stored(self, data: &mut Vec<u8>) -> Result<(), AllocError> {
         match self {
             Element::Value(_, value) => data.extend_from_slice(value),
@@ -105,7 +105,7 @@ impl<'a> Element<'a> {
     }
 }
 
-/// What a meta record says.
+/// The fields of a meta record.
 #[derive(Clone, Copy)]
 pub struct MetaFields {
     pub magic: u32,
@@ -194,8 +194,8 @@ pub fn leaf(alloc: Global, id: u64, elements: &[Element<'_>]) -> Result<Vec<u8>,
     page_with(alloc, header, elements, &[])
 }
 
-/// A page of elements under a given header, with this many zeros before the data of each; none
-/// where the list of gaps ends.
+/// A page of elements under a given header, with this many zeros before the data of each, or none
+/// after the end of the list of gaps.
 pub fn page_with(
     alloc: Global,
     header: PageHeader,
@@ -265,7 +265,7 @@ pub fn freelist(alloc: Global, id: u64, free: &[u64]) -> Result<Vec<u8>, AllocEr
     Ok(page)
 }
 
-/// A freelist page in the long form, which tells this number of ids.
+/// A freelist page in the long form, with this number of ids in its first 8 bytes.
 pub fn long_freelist(
     alloc: Global,
     id: u64,
@@ -315,7 +315,7 @@ pub fn file(
 }
 
 /// A file of this many pages: the given metas at pages 0 and 1, an empty freelist at page 2, and
-/// then what the list places, which may stand over those.
+/// then the listed pages, which may overwrite those.
 pub fn database_of(
     alloc: Global,
     page_size: usize,
@@ -353,7 +353,7 @@ pub fn database(
     database_of(alloc, page_size, pages_held, [&zero, &one], pages)
 }
 
-/// Puts bytes over those at a place. A file that ends before them is made longer.
+/// Overwrites the bytes at a place. A file that ends before them is made longer.
 pub fn patch(file: &mut Vec<u8>, at: usize, bytes: &[u8]) -> Result<(), AllocError> {
     let end = at.saturating_add(bytes.len());
     if file.len() < end {
@@ -367,10 +367,10 @@ pub fn patch(file: &mut Vec<u8>, at: usize, bytes: &[u8]) -> Result<(), AllocErr
     Ok(())
 }
 
-/// Bytes that stand over others from a place on.
+/// Bytes that overwrite others from a place on.
 pub type Patch<'a> = (usize, &'a [u8]);
 
-/// Puts all of them.
+/// Writes all of them.
 pub fn put_patches(file: &mut Vec<u8>, patches: &[Patch<'_>]) -> Result<(), AllocError> {
     for (at, bytes) in patches {
         patch(file, *at, bytes)?;

@@ -1,4 +1,4 @@
-//! Files that the rows of several crates speak of.
+//! Files that the test cases of several crates use.
 
 use crate::maker::{
     Element, FRESH, MetaFields, NO_FREELIST, Patch, branch, database, database_of, freelist,
@@ -8,7 +8,7 @@ use Content::{Branch, Freelist, Inline, Leaf};
 use Element::{Bucket, Paged, Value};
 use std::alloc::{AllocError, Global};
 
-/// What stands on a page.
+/// The content of a page.
 #[derive(Clone, Copy)]
 pub enum Content<'a> {
     /// A leaf of these elements.
@@ -21,8 +21,8 @@ pub enum Content<'a> {
     Freelist(&'a [u64]),
 }
 
-/// A file as data: two metas that are alike, how many pages it holds, what stands on some of them
-/// beside an empty freelist at page 2, and then bytes that stand over those.
+/// A file as data: two metas that are alike, the number of pages, the content of some of them
+/// beside an empty freelist at page 2, and then bytes that overwrite others.
 #[derive(Clone, Copy)]
 pub struct Sample<'a> {
     pub fields: MetaFields,
@@ -108,9 +108,9 @@ const FIVE: &[u8] = &[
     0, 0, 0, 0, 16, 0, 0, 0, 1, 0, 0, 0, 1, 0, 0, 0, b'k', b'v',
 ];
 
-/// A root bucket that holds: `a` with the sequence 3, which holds the value `b`, the inline
-/// bucket `c` with the sequence 5 and one value `k`, and the empty value `d`; `aa`, which is empty
-/// and inline; the value `m`; and `r`, which is empty and has a page of its own.
+/// A root bucket with: `a` with the sequence 3, in which are the value `b`, the inline bucket `c`
+/// with the sequence 5 and one value `k`, and the empty value `d`; `aa`, which is empty and inline;
+/// the value `m`; and `r`, which is empty and has a page of its own.
 pub const NESTED_FILE: Sample<'static> = Sample {
     fields: MetaFields { mark: 6, ..FRESH },
     pages_held: 6,
@@ -133,7 +133,7 @@ pub const NESTED_FILE: Sample<'static> = Sample {
     patches: &[],
 };
 
-/// Puts a page into its place in a file whose pages have 1,024 bytes.
+/// Writes a page into its place in a file whose pages have 1,024 bytes.
 pub fn put_page(file: &mut Vec<u8>, id: u64, page: &[u8]) -> Result<(), AllocError> {
     patch(file, (id as usize).saturating_mul(1024), page)
 }
@@ -148,7 +148,7 @@ fn ten_values(alloc: Global, id: u64, first_digit: u8) -> Result<Vec<u8>, AllocE
     leaf(alloc, id, elements.as_slice())
 }
 
-/// Bucket `b` with the keys `00` to `39` on four leaves of 1,024 bytes, below a branch: all but the
+/// Bucket `b` with the keys `00` to `39` on four leaves of 1,024 bytes, below a branch, without the
 /// leaves.
 const FORTY_KEYS: Sample<'static> = Sample {
     fields: MetaFields {
@@ -176,8 +176,8 @@ pub fn forty_values(alloc: Global) -> Result<Vec<u8>, AllocError> {
     Ok(file)
 }
 
-/// So many buckets `b`, each in the one before: the first on the last page, which is the root, and
-/// the last on page 3, inline and empty.
+/// This many buckets `b`, each in the preceding one: the first on the last page, which is the root,
+/// and the last on page 3, inline and empty.
 pub fn nested_buckets(alloc: Global, count: u64) -> Result<Vec<u8>, AllocError> {
     let root = count.saturating_add(2);
     let fields = MetaFields {
@@ -188,7 +188,7 @@ pub fn nested_buckets(alloc: Global, count: u64) -> Result<Vec<u8>, AllocError> 
     let innermost = leaf(alloc, 3, &[Bucket(b"b", EMPTY_BUCKET)])?;
     let pages = [(3, innermost.as_slice())];
     let mut file = database(alloc, fields.mark as usize, &fields, &pages)?;
-    // One page serves for all others: its number at byte 0, that of the next behind the key.
+    // One page serves for all others: its number is at byte 0, that of the next after the key.
     let mut page = leaf(alloc, 0, &[Paged(b"b", 0, 0)])?;
     for id in 4..fields.mark {
         patch(&mut page, 0, &id.to_le_bytes())?;

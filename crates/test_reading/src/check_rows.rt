@@ -1,4 +1,4 @@
-//! Rows of the call `check`: its faults, and what it shows of a sound file; and of `roles`.
+//! The calls `check` and `roles`: their faults, and what they show of a sound file.
 
 use bolt_check::{CheckFault, Checked, Finding, Role, check, check_slot, roles};
 use bolt_format::{Meta, MetaFault, PageFault, Slot};
@@ -123,7 +123,7 @@ fn each_page_has_its_role(rt: HostRuntime) -> Result<(), Fail> {
     Ok(())
 }
 
-/// The accounts of the file are wrong, which nobody looks at under a slot.
+/// The accounts of the file are wrong, which is ignored under a slot.
 #[test]
 fn a_slot_is_checked_under_its_own_meta(rt: HostRuntime) -> Result<(), Fail> {
     let file = make(rt.alloc(), &UNACCOUNTED)?;

@@ -8,7 +8,7 @@ use test_files::maker::{FRESH, MetaFields};
 use test_files::samples::Content::{Branch, Inline, Leaf};
 use test_files::samples::{BRANCH_ROOT, FRESH_FILE, INLINE_BUCKET, Sample};
 
-/// A path, and what stands there.
+/// A path, and what is there.
 pub type Member<'a> = (&'a [&'a [u8]], Item<'a>);
 
 /// The number of a finding and its page, the path of the bucket, and the two bounds.
@@ -46,7 +46,7 @@ const KEY_PAST_THE_BOUND: Sample<'static> = Sample {
     ..BRANCH_ROOT
 };
 
-/// Each with what docs/RECOVERY.md says of it.
+/// The damaged files, each with what docs/RECOVERY.md says of it.
 pub static ROWS: [Row; 7] = [
     (FRESH_FILE, &[], &[]),
     (

@@ -1,4 +1,4 @@
-//! Rows of the figures of buckets: their text, and their sums.
+//! The figures of buckets: their text, and their sums.
 
 use bolt_format::MemSink;
 use bolt_report::{Stats, add, stats_text};
@@ -45,7 +45,7 @@ fn thirteen_lines(rt: HostRuntime) -> Result<(), Fail> {
     Ok(())
 }
 
-/// All are summed but the depth, and a sum past the greatest number is that number.
+/// All are added up except the depth. A sum above 2^64 - 1 saturates.
 #[test]
 fn figures_added(rt: HostRuntime) {
     let none = Stats::default();

@@ -1,4 +1,5 @@
-//! The free ids of a page, as the call tells them. Rows of freelists stand in `test_rows`.
+//! The free ids of a page, as the call returns them. Other test cases of freelists are in
+//! `test_rows`.
 
 use bolt_format::{FreeIds, choose, free_ids};
 use std::process::Abort;
@@ -7,7 +8,7 @@ use test_files::maker::{MetaFields, NO_FREELIST, database, freelist};
 
 const IDS: [u64; 4] = [9, 9, 0, 1 << 63];
 
-/// All ids are told, in their order.
+/// All ids are returned, in order.
 fn check_ids(rt: &impl Abort, found: FreeIds<'_>, want: &[u64]) {
     assert_eq!(rt; found.len(), want.len());
     assert_eq!(rt; found.is_empty(), want.is_empty());

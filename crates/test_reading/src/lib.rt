@@ -1,6 +1,6 @@
 //! Tests of what is read of a file: its metas and pages, the checker's calls, pagers, walks,
-//! recoveries and texts; and of sinks. Most rows of what is read stand in `test_rows`. The crate has
-//! nothing beside its tests.
+//! recoveries and texts; and of sinks. Most test cases of what is read are in `test_rows`. The
+//! crate has nothing but tests.
 #![tactic(auto)]
 
 #[cfg(test)]

@@ -1,6 +1,6 @@
-//! Rows of calls that want memory, and of calls that want none. `make memory` runs them with one
-//! request for memory refused, the 1000th of each test, and finds the message with which the test
-//! then ends. Where no request is refused, as in the gate, each of them passes.
+//! Calls that need memory, and calls that need none. `make memory` runs them with one request for
+//! memory refused, the 1000th of each test, and looks for the message with which the test then
+//! ends. If no request is refused, as in the gate, each of them passes.
 
 use crate::bucket_at::bucket_at;
 use bolt_check::{Checked, check};
@@ -13,17 +13,17 @@ use test_files::samples::{NESTED_FILE, forty_values, make, nested_buckets};
 /// The request that `make memory` refuses.
 const REFUSED: usize = 1000;
 
-/// How many requests it takes to make and to check the file of the walks.
+/// The number of requests for making and checking the file of the walks.
 const MADE_FOR_WALKS: usize = 34;
 
-/// How many requests it takes to make and to check the files of the calls that want none.
+/// The number of requests for making and checking the files of the calls that need none.
 const MADE_FOR_CALLS: usize = 141;
 
 /// How many buckets are nested in the file of the walks.
 const DEPTH: usize = 6;
 
-/// Behind this many requests makes so many more that the refused one is this one of those that come
-/// next; the first is 1.
+/// Pads the number of requests, so that the refused one is number `request` after this call; the
+/// first is 1.
 fn ask_before(alloc: Global, made: usize, request: usize) -> Result<Vec<Vec<u8>>, AllocError> {
     ask(alloc, REFUSED.saturating_sub(made).saturating_sub(request))
 }
@@ -39,8 +39,8 @@ fn ask(alloc: Global, count: usize) -> Result<Vec<Vec<u8>>, AllocError> {
     Ok(blocks)
 }
 
-/// Asks for the next item, and once more where memory is wanted; the path is then as it was.
-/// Answers whether it was asked once more, too.
+/// Asks for the next item, and once more if memory ran out; the path is then as before. Returns
+/// whether it was asked once more.
 fn ask_for_next<'a>(
     rt: &impl Abort,
     walk: &mut Walk<'a>,
@@ -55,7 +55,7 @@ fn ask_for_next<'a>(
     }
 }
 
-/// The walk gives all nested buckets, and then nothing, though one of its requests be refused.
+/// The walk returns all nested buckets, and then nothing, even if one of its requests is refused.
 fn check_given(rt: &impl Abort, walk: &mut Walk<'_>) -> Result<(), Fail> {
     let mut refused_at = 0;
     for depth in 0..DEPTH {
@@ -85,14 +85,14 @@ fn walk_over(rt: &impl Abort, alloc: Global, request: usize) -> Result<(), Fail>
     check_given(rt, &mut Walk::new(alloc, checked))
 }
 
-/// Whether the walk gives the bucket at this path, and then nothing.
+/// Whether the walk returns the bucket at this path, and then nothing.
 fn gives_the_last(walk: &mut Walk<'_>, path: &[&[u8]]) -> Result<bool, NoMemory> {
     let given = walk.next()?;
     let is_given = given == Some(Item::Bucket { sequence: 0 }) && walk.path() == path;
     Ok(is_given && walk.next()?.is_none())
 }
 
-/// A walk from the last bucket, of whose beginning this request may be refused.
+/// A walk from the last bucket, which starts with a request that may be refused.
 fn walk_from(rt: &impl Abort, alloc: Global, request: usize) -> Result<(), Fail> {
     let file = nested_buckets(alloc, DEPTH as u64)?;
     let checked = check(alloc, file.as_slice())?;
@@ -171,7 +171,7 @@ fn call_cursor(bucket: &Bucket<'_>) {
     }
 }
 
-/// Makes each call that wants no memory, on the bucket at a path.
+/// Makes each call that needs no memory, on the bucket at a path.
 fn call_all(rt: &impl Abort, alloc: Global, checked: Checked<'_>, path: &[&[u8]], key: &[u8]) {
     let bucket = bucket_at(checked, path);
     assert!(rt; bucket.is_some(), "no bucket {path:?}");
@@ -183,8 +183,8 @@ fn call_all(rt: &impl Abort, alloc: Global, checked: Checked<'_>, path: &[&[u8]]
     assert!(rt; walk.path().is_empty(), "no path before the first item");
 }
 
-/// One request stands before the calls and the next one behind them; a request that a call makes
-/// would come between. The one or the other may be refused.
+/// One request is made before the calls, and the next one after them. A request of a call would be
+/// between. The one or the other may be refused.
 fn call_between(rt: &impl Abort, alloc: Global, request: usize) -> Result<(), Fail> {
     let forty = forty_values(alloc)?;
     let several_leaves = check(alloc, forty.as_slice())?;

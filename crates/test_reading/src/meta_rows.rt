@@ -1,5 +1,5 @@
-//! Rows of the checksum, of the accepted page sizes and of meta records. Rows of the choice between
-//! two of them stand in `test_rows`.
+//! The checksum, the accepted page sizes and meta records. The test cases of the choice between two
+//! metas are in `test_rows`.
 
 use bolt_format::{Meta, MetaFault, Slot, choose, fnv1a, meta_at, page_size_ok};
 use std::alloc::{AllocError, Global};
@@ -97,7 +97,7 @@ fn fresh_meta(rt: HostRuntime) -> Result<(), Fail> {
     Ok(())
 }
 
-/// The meta that a reader is to tell.
+/// The meta that must be read.
 fn told(fields: &MetaFields) -> Meta {
     Meta {
         page_size: fields.page_size,
@@ -112,7 +112,7 @@ fn told(fields: &MetaFields) -> Meta {
 /// The length of a meta page up to the end of its record.
 const META_LEN: usize = 80;
 
-/// Zeros before a meta that says this page size, and stands there if that is accepted.
+/// Zeros before a meta with this page size, which is at that byte if the size is accepted.
 fn check_lone(
     rt: &impl Abort,
     alloc: Global,

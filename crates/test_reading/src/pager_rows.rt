@@ -1,5 +1,5 @@
-//! Rows of pagers, and of cursors over a pager of the caller's own. The laws of ways say which pages
-//! such a caller may open, and which buckets it may go over.
+//! Pagers, and cursors over a pager of the caller's own. The laws of ways say which pages such a
+//! caller may open, and which buckets it may go over.
 
 use bolt_check::check;
 use bolt_check::laws::ways_go_on;

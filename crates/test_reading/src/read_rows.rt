@@ -1,5 +1,5 @@
-//! Rows of good pages: what is read back of them is what the maker placed. Rows of pages that are
-//! refused stand in `test_rows`.
+//! Good pages: what is read back is what the maker placed. The test cases of refused pages are in
+//! `test_rows`.
 
 use Element::{Bucket, Value};
 use bolt_format::{
@@ -16,7 +16,7 @@ use test_files::maker::{
 /// Keys and their values.
 type Values<'a> = &'a [(&'a [u8], &'a [u8])];
 
-/// What a leaf page is to show at one place.
+/// What a leaf page must show at one place.
 #[derive(Clone, Copy)]
 enum Shown<'a> {
     /// A key and its value.
@@ -60,7 +60,7 @@ fn check_held(rt: &impl Abort, found: Page<'_>, i: u16, want: (Head, Values<'_>)
     }
 }
 
-/// Element `i` of a leaf page is as wanted.
+/// Element `i` of a leaf page is this one.
 fn check_element(rt: &impl Abort, found: Page<'_>, i: u16, want: Shown<'_>) {
     assert!(rt; found.kind() == Kind::Leaf && i < found.count());
     let leaf = found.leaf(i);
@@ -100,7 +100,7 @@ fn check_branches(rt: &impl Abort, found: Page<'_>, overflow: u32, want: &[(&[u8
     }
 }
 
-/// What is wanted of a page.
+/// What a page must show.
 #[derive(Clone, Copy)]
 enum Want<'a> {
     Leaves(u32, &'a [Shown<'a>]),
@@ -121,7 +121,7 @@ fn check_shown(rt: &impl Abort, found: Page<'_>, want: Want<'_>) {
     }
 }
 
-/// The page is good and shows what is wanted, also when it is known to be good.
+/// The page is good and shows this, also when it is known to be good.
 fn check_page(rt: &impl Abort, file: &[u8], meta: &Meta, id: u64, want: Want<'_>) {
     match page(file, meta, id) {
         Ok(found) => {
@@ -132,7 +132,7 @@ fn check_page(rt: &impl Abort, file: &[u8], meta: &Meta, id: u64, want: Want<'_>
     }
 }
 
-/// The meta in force of a file.
+/// The active meta of a file.
 fn meta_of(rt: &impl Abort, file: &[u8]) -> Meta {
     let (_, meta) = choose(file).expect(rt, "a valid meta");
     meta

@@ -1,4 +1,4 @@
-//! Rows of recoveries: what they give, and what they tell.
+//! Recoveries: what they return, and their losses.
 
 use crate::damaged_samples::{LOST_ROOT, Member, ROWS, Told};
 use bolt_check::{CheckFault, Finding, NoMemory};
@@ -10,7 +10,7 @@ use std::test::Fail;
 use test_files::maker::patch;
 use test_files::samples::{NESTED_FILE, make};
 
-/// The members are exactly these, and then nothing comes, also when asked again.
+/// The members are exactly these, and then there is none, also if asked again.
 fn check_members<'a, M: Members<'a>>(
     rt: &impl Abort,
     members: &mut M,

@@ -1,4 +1,4 @@
-//! Rows of sinks: one over a writer that fails, one over a healthy writer, and one in memory.
+//! Sinks: one over a writer that fails, one over a writer that doesn't, and one in memory.
 
 use bolt_format::{MemSink, Sink, SinkFault, WriteSink};
 use std::alloc::{AllocError, Global};
@@ -7,7 +7,7 @@ use std::process::Abort;
 use std::test::Fail;
 use test_files::halting::{Halting, Refusal};
 
-/// Pieces that a writer of 7 bytes a call takes in 1, 0, 3, 1, 1 and 5 calls.
+/// Pieces that a writer of 7 bytes a call accepts in 1, 0, 3, 1, 1 and 5 calls.
 const PIECES: [&[u8]; 6] = [
     b"first",
     b"",
@@ -17,7 +17,7 @@ const PIECES: [&[u8]; 6] = [
     b"thirty bytes in one long piece",
 ];
 
-/// For each call the number of its piece, and how many bytes were taken before it.
+/// For each call the number of its piece, and how many bytes were accepted before it.
 const CALLS: [(usize, usize); 11] = [
     (0, 0),
     (2, 5),
@@ -35,7 +35,8 @@ const CALLS: [(usize, usize); 11] = [
 /// All pieces in order.
 const WHOLE: &[u8] = b"firsttwenty bytes of textseven771thirty bytes in one long piece";
 
-/// Puts all pieces; those before number `failing` are taken, and neither that nor a later one is.
+/// Writes all pieces. Those before number `failing` are accepted; that one and the later ones are
+/// not.
 fn put_pieces<S: Sink>(rt: &impl Abort, sink: &mut S, failing: usize) {
     for (i, piece) in PIECES.iter().enumerate() {
         let answer = sink.put(piece);
@@ -104,7 +105,7 @@ fn healthy_sinks(rt: HostRuntime) -> Result<(), Fail> {
     Ok(())
 }
 
-/// A piece of 1 MiB, in which each eight bytes tell how many stand before them.
+/// A piece of 1 MiB. Each eight bytes are the number of bytes before them.
 fn long_piece(alloc: Global) -> Result<Vec<u8>, AllocError> {
     let mut piece = Vec::new(alloc);
     for i in 0..131_072_u64 {
@@ -113,7 +114,7 @@ fn long_piece(alloc: Global) -> Result<Vec<u8>, AllocError> {
     Ok(piece)
 }
 
-/// The sink takes the piece whole.
+/// The sink accepts the whole piece.
 fn put_long<S: Sink>(rt: &impl Abort, sink: &mut S, piece: &[u8]) {
     assert_eq!(rt; piece.len(), 1_048_576);
     assert_eq!(rt; sink.put(piece), Ok(()), "1 MiB");

@@ -1,4 +1,4 @@
-//! Rows of texts of what small files hold, on sinks in memory and on sinks that fail.
+//! Texts of small files, on sinks in memory and on sinks that fail.
 
 use crate::texts::{Row, Text, check_halted, check_text};
 use Content::Leaf;
@@ -57,7 +57,7 @@ const KEYS_OF_ALL_KINDS: Sample<'static> = Sample {
     ..FRESH_FILE
 };
 
-/// A file, and texts of what it holds.
+/// A file, and texts of its content.
 type FileRow = (Sample<'static>, &'static [Row<'static>]);
 
 static FILES: [FileRow; 5] = [
@@ -180,7 +180,7 @@ fn texts_of_buckets_in_buckets(rt: HostRuntime) -> Result<(), Fail> {
     Ok(())
 }
 
-/// Values in each form; no file has a say in them.
+/// Values in each form, without a file.
 static VALUES: [Row<'static>; 13] = [
     (Value(b"v1", Printable), b"v1\n"),
     (Value(b"v1", Hex), b"7631\n"),

@@ -1,4 +1,4 @@
-//! Texts of what a file holds, and what sinks take of them.
+//! Texts of a file's content, and what sinks accept of them.
 
 use crate::bucket_at::bucket_at;
 use Text::{Buckets, Keys, List, Value};
@@ -12,7 +12,7 @@ use test_files::halting::{Halting, Refusal};
 /// A text that is asked for.
 #[derive(Clone, Copy, Debug)]
 pub enum Text<'a> {
-    /// What the file holds, from a path on.
+    /// Everything in the file, from a path on.
     List(&'a [&'a [u8]]),
     /// The keys of the bucket at a path.
     Keys(&'a [&'a [u8]], Form),
@@ -25,7 +25,7 @@ pub enum Text<'a> {
 /// A text that is asked for, and its bytes.
 pub type Row<'a> = (Text<'a>, &'a [u8]);
 
-/// Puts a text of the file; `None` where its path names no bucket.
+/// Writes a text of the file, or returns `None` if its path names no bucket.
 fn put_text<S: Sink>(
     alloc: Global,
     checked: Checked<'_>,
@@ -41,7 +41,7 @@ fn put_text<S: Sink>(
     Some(answer)
 }
 
-/// The text as a message tells it: of a long value the beginning.
+/// The text as a message prints it: of a long value only the first part.
 fn told(text: Text<'_>) -> Text<'_> {
     match text {
         Value(bytes, form) => Value(bytes.get(..40).unwrap_or(bytes), form),
@@ -49,7 +49,7 @@ fn told(text: Text<'_>) -> Text<'_> {
     }
 }
 
-/// A sink in memory takes the whole text.
+/// A sink in memory accepts the whole text.
 pub fn check_text(rt: &impl Abort, alloc: Global, checked: Checked<'_>, row: Row<'_>) {
     let (text, want) = row;
     let told = told(text);
@@ -59,8 +59,8 @@ pub fn check_text(rt: &impl Abort, alloc: Global, checked: Checked<'_>, row: Row
     assert!(rt; is_wanted, "{told:?} gives other bytes, or {answer:?}");
 }
 
-/// Whichever of its calls a writer refuses, the answer is that the sink failed, the writer took a
-/// beginning of the text, and it isn't called again. It takes the whole text where it refuses none.
+/// Whichever of its calls a writer refuses, the result is that the sink failed, the writer accepted
+/// a prefix of the text, and it isn't called again. If it refuses none, it accepts the whole text.
 pub fn check_halted(
     rt: &impl Abort,
     alloc: Global,

@@ -1,4 +1,4 @@
-//! The files that rows are on, and how many rows hold.
+//! The files of test cases, and how many of them hold.
 
 use crate::draft::make;
 use crate::row::Want;
@@ -7,7 +7,7 @@ use crate::tokens::{Fault, halves, number};
 use std::alloc::Global;
 use std::mem;
 
-/// The file that rows are on, another one that is kept, and how many rows held.
+/// The file of the next test cases, another one that is kept, and how many test cases held.
 #[derive(Drop)]
 pub struct Bench {
     alloc: Global,
@@ -35,12 +35,12 @@ impl Bench {
     ///
     /// | verb | what |
     /// |---|---|
-    /// | `file` | describes the file that the next rows are on |
+    /// | `file` | describes the file of the next test cases |
     /// | `swap` | exchanges it for the one that is kept |
     /// | `cut` | ends it at a length |
-    /// | `$` | a command line, and what it comes to |
-    /// | `cuts` | the same on each beginning of the file with a length in a range |
-    /// | `?` | a command line, and the files that it names |
+    /// | `$` | a command line and its result |
+    /// | `cuts` | the same on each prefix of the file with a length in a range |
+    /// | `?` | a command line and the files that it names |
     /// | `#` | a comment |
     ///
     /// Other verbs are calls.
@@ -69,7 +69,7 @@ impl Bench {
         Ok(())
     }
 
-    /// `FIRST-LAST` and a command line, which makes no copy of the beginnings with these lengths.
+    /// `FIRST-LAST` and a command line, which makes no copy of the prefixes with these lengths.
     fn try_cuts(&mut self, words: &str, lines: &str) -> Result<(), Fault> {
         let (range, line) = halves(words, ' ');
         let (first, last) = halves(range, '-');

@@ -1,11 +1,11 @@
-//! Scripts of calls on a cursor, and what they come to.
+//! Scripts of calls on a cursor, and their results.
 
 use crate::tokens::{Fault, bytes_of, halves};
 use bolt_check::{Checked, check};
 use bolt_tree::{Bucket, Cursor, Entry};
 use std::alloc::{AllocError, Global};
 
-/// The bucket at a path, of which slashes part the keys; that of the root bucket is `.`.
+/// The bucket at a path, whose keys are separated by slashes; `.` is the root bucket.
 pub fn bucket_at<'a>(alloc: Global, checked: Checked<'a>, path: &str) -> Result<Bucket<'a>, Fault> {
     let mut bucket = Bucket::root(checked);
     if path != "." {
@@ -17,7 +17,7 @@ pub fn bucket_at<'a>(alloc: Global, checked: Checked<'a>, path: &str) -> Result<
     Ok(bucket)
 }
 
-/// What a call answers: `first`, `last`, `next`, `prev`, or `seek=KEY`.
+/// The result of a call: `first`, `last`, `next`, `prev`, or `seek=KEY`.
 fn make_call<'a>(
     alloc: Global,
     cursor: &mut Cursor<'a>,
@@ -35,7 +35,7 @@ fn make_call<'a>(
     }
 }
 
-/// The key of an answer, or `-` for none.
+/// The key of a result, or `-` for none.
 fn key_of<'a>(answer: Option<Entry<'a>>) -> &'a [u8] {
     match answer {
         Some(entry) => entry.key,
@@ -43,10 +43,10 @@ fn key_of<'a>(answer: Option<Entry<'a>>) -> &'a [u8] {
     }
 }
 
-/// What is told of each call on a cursor.
+/// What is printed of each call on a cursor.
 #[derive(Clone, Copy)]
 pub enum Told {
-    /// The key of its answer.
+    /// The key of its result.
     Moves,
     /// The same, and how many pages were opened until then.
     Openings,
@@ -55,7 +55,7 @@ pub enum Told {
     Comparisons,
 }
 
-/// What calls on a new cursor of a bucket come to, one behind another.
+/// The results of calls on a new cursor of a bucket, one after another.
 pub fn run_calls(alloc: Global, file: &[u8], words: &str, told: Told) -> Result<Vec<u8>, Fault> {
     let checked = check(alloc, file).map_err(|_| Fault::Unread)?;
     let (path, calls) = halves(words, ' ');

@@ -10,7 +10,7 @@ use test_files::samples::nested_buckets;
 #[derive(Drop)]
 struct Draft {
     alloc: Global,
-    /// How large pages are, where the metas don't say it.
+    /// The page size, if the metas don't say it.
     page_size: Option<u64>,
     zero: MetaFields,
     one: MetaFields,
@@ -24,13 +24,13 @@ struct Draft {
 /// |---|---|
 /// | `meta root=4 mark=5 ..` | fields of both metas that differ from those of a fresh file; `meta0` and `meta1` of one |
 /// | `size N` | pages have this size, whatever the metas say |
-/// | `pages N` | so many pages, with the metas and an empty freelist at page 2; all behind stands over that |
+/// | `pages N` | this many pages, with the metas and an empty freelist at page 2; later lines may overwrite them |
 /// | `inline SEQUENCE KEY=VALUE ..` | an inline bucket, to which `@0`, `@1` and so on refer |
 /// | `leaf PAGE ELEMENT ..`, `branch PAGE KEY>CHILD ..` | a page; `PAGE+1` is one with overflow 1 |
 /// | `free PAGE 4 7-9 ..`, `long PAGE COUNT 4 7-9 ..` | a freelist in the short form, or in the long one |
 /// | `at OFFSET BYTES` | bytes over those at a place |
 /// | `cut LENGTH` | the file ends there |
-/// | `nested COUNT` | so many buckets, each in the one before |
+/// | `nested COUNT` | this many buckets, each in the preceding one |
 pub fn make(alloc: Global, text: &str) -> Result<Vec<u8>, Fault> {
     let mut draft = Draft {
         alloc,

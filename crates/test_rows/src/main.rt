@@ -1,5 +1,6 @@
-//! Rows of what command lines and calls come to on files, read from the files of rows that the
-//! arguments name (`data`). Prints of each how many rows hold, and before that each row that doesn't.
+//! Runs test cases: command lines and calls on files, and their results. The arguments name the
+//! files of test cases (`data`). Prints how many test cases of each file hold, and before that each
+//! one that doesn't.
 #![tactic(auto)]
 
 mod bench;

@@ -15,8 +15,8 @@ pub struct Held {
     is_bucket: bool,
 }
 
-/// The element `KEY=VALUE`; a bucket `KEY:BYTES` that stores these, `KEY>PAGE/SEQUENCE` with a root
-/// page, or `KEY@N` that is the inline bucket number N of the file.
+/// The element `KEY=VALUE`; a bucket `KEY:BYTES` with these bytes as its value, `KEY>PAGE/SEQUENCE`
+/// with a root page, or `KEY@N`, the inline bucket number N of the file.
 fn element(alloc: Global, inline: &[Vec<u8>], word: &str) -> Result<Held, Fault> {
     let Some(at) = word.find(['=', ':', '>', '@']) else {
         return Err(Fault::Unread);
@@ -46,7 +46,7 @@ fn element(alloc: Global, inline: &[Vec<u8>], word: &str) -> Result<Held, Fault>
     })
 }
 
-/// A page's number, and its overflow behind a `+`.
+/// A page's number, and its overflow after a `+`.
 fn header(word: &str, flags: u16, count: usize) -> Result<PageHeader, Fault> {
     let (id, overflow) = word.split_once('+').unwrap_or((word, "0"));
     Ok(PageHeader {
@@ -139,7 +139,7 @@ pub fn free(alloc: Global, words: &str) -> Result<Placed, Fault> {
     Ok((id, freelist(alloc, id, ids.as_slice())?))
 }
 
-/// A freelist page in the long form: its number, how many ids it tells, and the ids.
+/// A freelist page in the long form: its number, the number of ids that it says, and the ids.
 pub fn long_free(alloc: Global, words: &str) -> Result<Placed, Fault> {
     let (id, rest) = halves(words, ' ');
     let (told, rest) = halves(rest, ' ');

@@ -1,17 +1,17 @@
-//! What a row wants.
+//! What a test case requires.
 
 use crate::runs::Ran;
 use crate::tokens::{Fault, bytes_of, halves, number, push_text};
 use std::alloc::Global;
 
-/// What a run is to write, its status, and what becomes of its copy.
+/// What a run must write, its status, and what its copy must be.
 #[derive(Drop)]
 pub struct Want<'a> {
     out: Vec<u8>,
     err: Vec<u8>,
     status: &'a str,
-    /// What the copy is: `FILE` itself, the file that is `kept`, or a `new` one, on which the next
-    /// rows are. Without a word there is none.
+    /// What the copy is: `FILE` itself, the file that is `kept`, or a `new` one, which is the file
+    /// of the next test cases. Without a word there is none.
     pub copy: &'a str,
 }
 
@@ -35,14 +35,14 @@ impl<'a> Want<'a> {
 
     /// What these lines say:
     ///
-    /// | line | what is wanted |
+    /// | line | what is required |
     /// |---|---|
     /// | `> TEXT`, `! TEXT` | a line of standard output, or of standard error |
     /// | `>* WORD ..` | a line of words, each of which may repeat its text, with nothing between |
     /// | `>> FIRST LAST` | a line for each of these numbers |
     /// | `>x FIRST LAST BEFORE BEHIND` | the same with five digits in hexadecimal, between two texts |
-    /// | `= STATUS` | the status where it isn't 0 |
-    /// | `+ COPY` | what becomes of the copy |
+    /// | `= STATUS` | the status, if it isn't 0 |
+    /// | `+ COPY` | what the copy must be |
     pub fn of(alloc: Global, text: &'a str) -> Result<Want<'a>, Fault> {
         let mut want = Want::nothing(alloc);
         for line in text.lines() {
@@ -69,7 +69,7 @@ impl<'a> Want<'a> {
         push_line(&mut self.out, "")
     }
 
-    /// A line for each number: its five digits in hexadecimal, with a text before and one behind.
+    /// A line for each number: its five digits in hexadecimal, with a text before and one after.
     fn push_digits(&mut self, words: &str) -> Result<(), Fault> {
         let (first, rest) = halves(words, ' ');
         let (last, rest) = halves(rest, ' ');
@@ -95,7 +95,7 @@ impl<'a> Want<'a> {
         Ok(())
     }
 
-    /// Whether the run is as wanted, but for its copy.
+    /// Whether the run is as required; its copy isn't looked at.
     pub fn is_met(&self, ran: &Ran) -> bool {
         self.out.as_slice() == ran.out.as_slice()
             && self.err.as_slice() == ran.err.as_slice()

@@ -1,4 +1,4 @@
-//! What command lines and calls come to on a file.
+//! The results of command lines and calls on a file.
 
 use crate::calls::{Told, run_calls};
 use crate::row::Want;
@@ -9,8 +9,8 @@ use bolt_format::MemSink;
 use std::alloc::{AllocError, Global};
 use std::ops::RangeInclusive;
 
-/// What a run wrote, and its status. That of a refused line has a word behind it: what it is
-/// refused as.
+/// What a run wrote, and its status. The status of a refused line is followed by the kind of its
+/// refusal.
 #[derive(Drop)]
 pub struct Ran {
     pub out: Vec<u8>,
@@ -31,7 +31,7 @@ fn words_of(alloc: Global, line: &str) -> Result<Vec<String>, Fault> {
     Ok(words)
 }
 
-/// What the command line comes to on the file.
+/// The result of the command line on the file.
 pub fn run_line(alloc: Global, file: &[u8], line: &str) -> Result<Ran, Fault> {
     match read_words(alloc, words_of(alloc, line)?) {
         Ok(job) => Ok(run_job(alloc, file, &job)?),
@@ -39,8 +39,8 @@ pub fn run_line(alloc: Global, file: &[u8], line: &str) -> Result<Ran, Fault> {
     }
 }
 
-/// Whether the command line comes to what is wanted, and makes no copy, on the beginnings of the file
-/// with each of these lengths.
+/// Whether the command line has this result, and makes no copy, on the prefixes of the file with
+/// each of these lengths.
 pub fn is_met_by_cuts(
     alloc: Global,
     file: &[u8],
@@ -118,14 +118,14 @@ fn named(alloc: Global, job: &Job) -> Result<Ran, AllocError> {
 
 /// What calls on the file come to:
 ///
-/// | verb and words | what is told |
+/// | verb and words | what is printed |
 /// |---|---|
-/// | `moves PATH CALL ..` | the keys that calls on a cursor answer |
+/// | `moves PATH CALL ..` | the keys that calls on a cursor return |
 /// | `opens PATH CALL ..` | the same, and how many pages were opened |
 /// | `compares PATH CALL ..` | whether keys were compared |
-/// | `under PATH KEY ..` | what stands under the keys |
-/// | `walk`, `walk PATH` | each path of a walk with what stands there |
-/// | `depths`, `depths PATH` | how much a walk gives |
+/// | `under PATH KEY ..` | what is under the keys |
+/// | `walk`, `walk PATH` | each path of a walk with what is there |
+/// | `depths`, `depths PATH` | the numbers of items and keys of a walk |
 pub fn call(alloc: Global, file: &[u8], verb: &str, words: &str) -> Result<Ran, Fault> {
     let mut out = match verb {
         "moves" => run_calls(alloc, file, words, Told::Moves)?,

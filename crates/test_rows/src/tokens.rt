@@ -1,15 +1,15 @@
-//! Words of rows, and the bytes that they stand for.
+//! Words of test cases, and the bytes that they stand for.
 
 use std::alloc::{AllocError, AllocFailed, Global};
 use std::fmt;
 
-/// Why a block of a file of rows wasn't tried, or doesn't hold.
+/// Why a block of a file of test cases wasn't tried, or doesn't hold.
 #[derive(Clone, Copy, Debug)]
 pub enum Fault {
     Memory,
-    /// A word or a line that isn't known.
+    /// An unknown word or line.
     Unread,
-    /// A row that doesn't hold.
+    /// A test case that doesn't hold.
     Differs,
 }
 
@@ -35,7 +35,7 @@ impl fmt::Display for Fault {
     }
 }
 
-/// A text before and behind the first of these characters; all of it and nothing where there is none.
+/// A text before and after the first of these characters; without it, all of the text and nothing.
 pub fn halves(text: &str, mark: char) -> (&str, &str) {
     text.split_once(mark).unwrap_or((text, ""))
 }
@@ -53,7 +53,7 @@ fn digit(byte: u8) -> Result<u8, Fault> {
     }
 }
 
-/// Adds the bytes of a piece of text behind a backslash: `x`, two digits of a byte, and others.
+/// Adds the bytes of a piece of text after a backslash: `x`, two digits of a byte, and others.
 fn push_escaped(bytes: &mut Vec<u8>, piece: &[u8]) -> Result<(), Fault> {
     let [b'x', high, low, rest @ ..] = piece else {
         return Err(Fault::Unread);
@@ -75,7 +75,8 @@ pub fn push_text(bytes: &mut Vec<u8>, text: &str) -> Result<(), Fault> {
     Ok(())
 }
 
-/// The bytes of a word: of its text, so many times over as stands behind a `*`. No bytes are `''`.
+/// The bytes of a word: those of its text, repeated as often as the number after a `*` says. `''`
+/// has no bytes.
 pub fn bytes_of(alloc: Global, word: &str) -> Result<Vec<u8>, Fault> {
     let mut bytes = Vec::new(alloc);
     if word == "''" {
@@ -92,7 +93,7 @@ pub fn bytes_of(alloc: Global, word: &str) -> Result<Vec<u8>, Fault> {
     Ok(bytes)
 }
 
-/// Adds the numbers of a range, as `4-9`, or the one number.
+/// Adds the numbers of a range such as `4-9`, or the one number.
 pub fn push_numbers(numbers: &mut Vec<u64>, word: &str) -> Result<(), Fault> {
     let (first, last) = word.split_once('-').unwrap_or((word, word));
     for n in number(first)?..=number(last)? {

@@ -1,4 +1,4 @@
-//! Walks over what a file holds, and what stands under a key.
+//! Walks over a file, and what is under a key.
 
 use crate::calls::{bucket_at, push_word};
 use crate::tokens::{Fault, bytes_of, halves};
@@ -6,7 +6,7 @@ use bolt_check::check;
 use bolt_tree::{Item, Walk};
 use std::alloc::{AllocError, Global};
 
-/// The keys of a path, of which slashes part the keys; `.` has none.
+/// The keys of a path, separated by slashes; `.` has none.
 fn parts_of(alloc: Global, path: &str) -> Result<Vec<Vec<u8>>, Fault> {
     let mut parts = Vec::new(alloc);
     if path != "." {
@@ -17,7 +17,7 @@ fn parts_of(alloc: Global, path: &str) -> Result<Vec<Vec<u8>>, Fault> {
     Ok(parts)
 }
 
-/// A walk from a path, or from the beginning where there is no word.
+/// A walk from a path, or from the start if there is no word.
 fn walk_from<'a>(alloc: Global, file: &'a [u8], path: &str) -> Result<Walk<'a>, Fault> {
     let checked = check(alloc, file).map_err(|_| Fault::Unread)?;
     if path.is_empty() {
@@ -31,7 +31,7 @@ fn walk_from<'a>(alloc: Global, file: &'a [u8], path: &str) -> Result<Walk<'a>, 
     Walk::from(alloc, checked, keys.as_slice()).map_err(|_| Fault::Memory)
 }
 
-/// The next item of a walk. Where there is none, it has no path, and gives none when asked again.
+/// The next item of a walk. After the last item it has no path, and there is none if asked again.
 fn next_of<'a>(walk: &mut Walk<'a>) -> Result<Option<Item<'a>>, Fault> {
     let given = walk.next().map_err(|_| Fault::Memory)?;
     if given.is_none() {
@@ -43,7 +43,7 @@ fn next_of<'a>(walk: &mut Walk<'a>) -> Result<Option<Item<'a>>, Fault> {
     Ok(given)
 }
 
-/// Adds a value behind `=`, or a bucket's sequence behind `:`.
+/// Adds a value after `=`, or a bucket's sequence after `:`.
 fn push_item(line: &mut Vec<u8>, item: Item<'_>) -> Result<(), AllocError> {
     match item {
         Item::Value(value) => {
@@ -68,7 +68,7 @@ fn push_path(line: &mut Vec<u8>, path: &[&[u8]]) -> Result<(), AllocError> {
     Ok(())
 }
 
-/// Each path that a walk gives, with what stands there.
+/// Each path that a walk returns, with what is there.
 pub fn members(alloc: Global, file: &[u8], path: &str) -> Result<Vec<u8>, Fault> {
     let mut walk = walk_from(alloc, file, path)?;
     let mut lines = Vec::new(alloc);
@@ -88,8 +88,8 @@ pub fn members(alloc: Global, file: &[u8], path: &str) -> Result<Vec<u8>, Fault>
     Ok(lines)
 }
 
-/// How many items a walk gives, how many keys the longest of their paths has, and how many all of
-/// their paths have.
+/// The number of items that a walk returns, the number of keys of the longest of their paths, and
+/// the number of keys of all of them.
 pub fn depths(alloc: Global, file: &[u8], path: &str) -> Result<Vec<u8>, Fault> {
     let mut walk = walk_from(alloc, file, path)?;
     let (mut items, mut longest, mut all) = (0_u64, 0, 0_usize);
@@ -106,7 +106,7 @@ pub fn depths(alloc: Global, file: &[u8], path: &str) -> Result<Vec<u8>, Fault> 
     Ok(text.as_bytes().to_vec(alloc)?)
 }
 
-/// What stands under each of the keys in a bucket, a value or a bucket's sequence, or `-`.
+/// What is under each of the keys in a bucket: a value or a bucket's sequence, or `-`.
 pub fn look_ups(alloc: Global, file: &[u8], words: &str) -> Result<Vec<u8>, Fault> {
     let checked = check(alloc, file).map_err(|_| Fault::Unread)?;
     let (path, keys) = halves(words, ' ');

@@ -1,4 +1,4 @@
--- What the table and the ids past it say together, and what is told of it up to a page.
+-- What the table and the ids past it list together, and what is reported of it up to a page.
 use Rattle.std.specs.Prelude.{◌≡◌, ◌≤◌, ◌<◌, ◌==◌, ◌⊎◌, ◌&&◌, ℕ, suc, ◌+◌, ◌-◌, max, slice_index, Bool, List, [], ◌∷◌, ◌↔◌, All, AllPairs, Contains, length, nat_lt, if◌then◌else◌}
 use Rattle.std.specs.List.Sorted.{IsNonDecreasing}
 use Rattle.bolt_format.specs.declared.meta.Meta.{Meta}
@@ -30,7 +30,7 @@ pub record IsSettled (listing : Listing) : Type 0 where
   pub metas : (n : ℕ) → n < 2 → IsClaimed listing.table.now n
   pub below : length listing.table.now ≤ listing.mark
 
--- the run of lost pages from a page to before another
+-- the run of lost pages from one page up to but not including another
 abbrev pub run_findings : ℕ → ℕ → List Finding
 run_findings from page = if nat_lt from page then record { number = UNREACHABLE; page = from; last = page - 1 } ∷ [] else []
 
@@ -41,7 +41,7 @@ is_repeated ids i = nat_lt (i + 1) (length ids) && (slice_index ids (i + 1) == s
 abbrev pub repeat_findings : List ℕ → ℕ → List Finding
 repeat_findings ids i = if is_repeated ids i then finding FREED_TWICE (slice_index ids i) ∷ [] else []
 
--- what is told of a page in range
+-- what is reported of a page in range
 abbrev pub use_findings : ℕ → PageUse → List Finding
 use_findings page Unused = []
 use_findings page Branch = []
@@ -52,7 +52,7 @@ use_findings page FreeTwice = finding FREED_TWICE page ∷ []
 use_findings page UsedFree = finding REACHED_FREED page ∷ []
 use_findings page UsedFreeTwice = finding FREED_TWICE page ∷ finding REACHED_FREED page ∷ []
 
--- what is told of a meta page
+-- what is reported of a meta page
 abbrev pub meta_findings : ℕ → PageUse → List Finding
 meta_findings page Unused = []
 meta_findings page Branch = []
@@ -73,7 +73,7 @@ module _ (mark : ℕ) (in_use : ℕ → Type 0) (times : ℕ → ℕ) where
     pub below : All (λ x. x.page < next) findings
     pub complete : (x : Finding) → IsAccountFinding mark in_use times x → x.page < next → Contains findings x
     pub rises : AllPairs IsBefore findings
-    -- where there is none, no page is lost
+    -- if there is none, no page is lost
     pub silent : findings ≡ [] → (n : ℕ) → n < next → IsLost mark in_use times n → ⊥
 
   -- A run of lost pages may begin at this page, and goes on to the end.
@@ -87,13 +87,13 @@ module _ (mark : ℕ) (in_use : ℕ → Type 0) (times : ℕ → ℕ) where
     pub rises : AllPairs IsBefore findings
     pub silent : findings ≡ [] → (n : ℕ) → IsLost mark in_use times n → ⊥
 
--- told below a page from which on those up to the end are lost
+-- what is reported below a page, if all from that page up to the end are lost
 pub record HasFindingsTo (listing : Listing) (from end : ℕ) (findings : List Finding) : Type 0 where
   pub told : AreFindingsBelow listing.mark (is_in_use listing) (listed_times listing) from findings
   pub run : IsRun listing.mark (is_in_use listing) (listed_times listing) from end
 
 module _ (listing : Listing) where
-  -- told of the ids past the table and below the mark, as far as place i
+  -- what is reported of the ids past the table and below the mark, up to place i
   pub record IsPastTo (from i : ℕ) (findings : List Finding) : Type 0 where
     pub told : AreFindingsBelow listing.mark (is_in_use listing) (listed_times listing) from findings
     pub begins : (before : ℕ) → suc before ≡ from → IsLost listing.mark (is_in_use listing) (listed_times listing) before → ⊥
@@ -101,12 +101,12 @@ module _ (listing : Listing) where
     pub left : (n : ℕ) → from ≤ n → n < listing.mark → ((k : ℕ) → i ≤ k → k < length listing.past.now → slice_index listing.past.now k ≡ n → ⊥)
         → IsLost listing.mark (is_in_use listing) (listed_times listing) n
 
-  -- told of the ids from the mark on, as far as place i
+  -- what is reported of the ids from the mark on, up to place i
   pub record IsBeyondTo (last i : ℕ) (findings : List Finding) : Type 0 where
     pub told : AreFindingsBelow listing.mark (is_in_use listing) (listed_times listing) (max listing.mark (suc last)) findings
     pub done : (k : ℕ) → k < i → slice_index listing.past.now k < max listing.mark (suc last)
 
--- the table after the freelist's span, of which nothing was claimed, was claimed
+-- the table, after the freelist's span was claimed in one where none of its pages was
 pub record ClaimsFreelist (file : List ℕ) (meta : Meta) (old new : List PageUse) : Type 0 where
   pub apart : (n : ℕ) → IsInFreelist file meta n → IsClaimed old n → ⊥
   pub split : (n : ℕ) → IsClaimed new n → IsClaimed old n ⊎ IsInFreelist file meta n

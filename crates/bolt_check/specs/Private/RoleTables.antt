@@ -20,7 +20,7 @@ pub record AreUses (file : List ℕ) (meta : Meta) (table : List PageUse) : Type
   pub good : freelist_fault_of file meta ≡ None
   pub claimed : (n : ℕ) → IsInUse file meta (IsUsed file meta) n → IsClaimed table n
 
--- the role of a page with this use, which is no meta page and not the freelist's first
+-- the role of a page with this use that isn't a meta page or the freelist's first
 abbrev pub role_from : PageUse → Role
 role_from Unused = role.Free
 role_from Branch = role.Branch

@@ -6,7 +6,7 @@ use Rattle.bolt_check.specs.Ways.{Reach}
 use Rattle.bolt_check.specs.declared.fault.CheckFault.{CheckFault}
 use Rattle.bolt_check.specs.declared.fault.CheckFault.TheVariants.{Accounts, Memory, Open, Structure}
 
--- at the first finding, or for want of memory
+-- at the first finding, or because memory ran out
 abbrev pub IsSearchFault : Nodes → Reach → (ℕ → Type 0) → CheckFault → Type 0
 IsSearchFault nodes reach start (Structure x) = IsFirst nodes reach start x
 IsSearchFault nodes reach start Memory = Unit {0}

@@ -4,7 +4,7 @@ use Rattle.bolt_format.specs.declared.meta.Meta.{Meta}
 use Rattle.bolt_check.specs.declared.table.PageUse.{PageUse}
 use Rattle.bolt_check.specs.declared.table.PageUse.TheVariants.{Unused, Branch, Leaf, Used, Free, FreeTwice, UsedFree, UsedFreeTwice}
 
--- what the table says of page n; behind its end, nothing
+-- what the table says of page n; past its end, no use
 abbrev pub use_at : List PageUse → ℕ → PageUse
 use_at table n = slice_index_or table n Unused
 
@@ -18,7 +18,7 @@ is_used FreeTwice = false
 is_used UsedFree = true
 is_used UsedFreeTwice = true
 
--- how often a page is listed, where 2 stands for any higher number
+-- how often a page is listed; 2 means more than once
 abbrev pub times_of : PageUse → ℕ
 times_of Unused = 0
 times_of Branch = 0

@@ -6,7 +6,7 @@ use Rattle.bolt_check.specs.Ways.{At_inline, At_page, Reach, Spot}
 use Rattle.bolt_check.specs.declared.table.PageUse.{PageUse}
 use Rattle.bolt_check.specs.declared.table.PageUse.TheVariants.{Branch, Leaf, Used}
 
--- what the first page of a node is for
+-- the use of the first page of a node
 abbrev pub use_of : Bool → PageUse
 use_of true = Leaf
 use_of false = Branch

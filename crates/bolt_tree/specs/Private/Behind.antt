@@ -1,5 +1,5 @@
--- What of a listing stands behind a path: all of it, or all but what the path begins: docs/LISTING.md, "The walk".
--- What a walk has left, while its cursors stand on the keys of a path.
+-- The part of a listing after a path: all of it, or all but what begins with the path: docs/LISTING.md, "The walk". That is what a walk has
+-- left while its cursors are on the keys of the path.
 use Rattle.std.specs.Prelude.{Bool, true, false, List, [], ◌∷◌, filter}
 use Rattle.std.specs.Ordering.{is_lt}
 use Rattle.std.specs.declared.cmp.Ordering.{Ordering}
@@ -13,13 +13,13 @@ by_first Less rest = true
 by_first Equal rest = rest
 by_first Greater rest = false
 
--- a path stands behind another, and behind all that the other begins: at the first part where they differ, its own is greater
+-- a path comes after another, and after everything that begins with the other: at the first part where they differ, its own is greater
 abbrev pub is_beyond : Path → Path → Bool
 is_beyond [] q = false
 is_beyond (key ∷ path) [] = false
 is_beyond (key ∷ path) (other ∷ q) = by_first (key_cmp key other) (is_beyond path q)
 
--- the members behind a path: all of them, and those that it does not begin
+-- the members after a path: all of them, and those that don't begin with it
 abbrev pub behind : Path → List Member → List Member
 behind path listing = filter (λ m. is_lt (path_cmp path m.0)) listing
 

@@ -28,7 +28,7 @@ innermost_views (Some cursor) = cursor_view cursor ∷ []
 abbrev pub AreOfFile : Checked → List Waiting → List Position → Option Cursor → Type 0
 AreOfFile checked waiting positions innermost = AreKept checked (reverse waiting) positions × IsInnermost checked waiting innermost
 
--- the last cursor moves in this way, and gives this answer
+-- the last cursor moves in this way, and returns this element
 pub record MovesLast (move : List LeafElement → Place → Move) (old new : List CursorView) (answer : Option LeafElement) : Type 0 where
   pub outer : List CursorView
   pub cursor : CursorView
@@ -43,7 +43,8 @@ pub record MovesLast (move : List LeafElement → Place → Move) (old new : Lis
 abbrev pub fresh_view : Bucket → CursorView
 fresh_view bucket = record { checked = bucket_checked bucket; start = bucket_start bucket; place = Fresh }
 
--- The bucket is opened behind the others, and its cursor makes its first move in this way. Where that gives no entry, it is closed again.
+-- The bucket is opened after the others, and its cursor makes its first move in this way. If that returns no entry, the bucket is closed
+-- again.
 pub record Opens (bucket : Bucket) (move : List LeafElement → Place → Move) (old new : List CursorView) (answer : Option LeafElement) : Type 0 where
   pub moved : CursorView
   pub file : moved.checked ≡ bucket_checked bucket

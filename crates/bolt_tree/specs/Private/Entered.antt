@@ -1,17 +1,17 @@
--- What taking one element of a page does to the frames of a stack.
+-- What entering one element of a page does to the frames of a stack.
 use Rattle.std.specs.Prelude.{◌≡◌, ℕ, suc, ◌+◌, Bool, true, false, List, ◌∷◌, Option, Some, None, slice_get, length}
 use Rattle.bolt_format.specs.Elements.{BranchElement, LeafElement}
 use Rattle.bolt_tree.specs.Private.Contents.{Content, Contents, Of_branch, Of_leaf, content_length}
 use Rattle.bolt_tree.specs.Private.Stacks.{Frame}
 use Rattle.bolt_tree.specs.Private.Tours.{Visit}
 
--- how much of a page is taken before its first element, or behind its last
+-- how much of a page is done before its first element, or past its last
 abbrev pub taken_at : Bool → Content → ℕ
 taken_at false content = 0
 taken_at true content = suc (content_length content)
 
--- Element i of a page is taken, above these frames: an entry of a leaf, or the page under a branch, which stands on top, before its first
--- element or behind its last.
+-- Element i of a page is entered, above these frames: an entry of a leaf, or the page under a branch, which is now on top, before its first
+-- element or past its last.
 abbrev pub IsEntered : Contents → Bool → Content → ℕ → List Frame → List Frame → Option LeafElement → Type 0
 IsEntered contents at_end (Of_leaf elements) i below new (Some e) =
     (slice_get elements i ≡ Some e) × (new ≡ record { content = Of_leaf elements; taken = i + 1 } ∷ below)

@@ -1,4 +1,4 @@
--- What a cursor keeps between its calls, and where it stands.
+-- What a cursor keeps between its calls, and where it is.
 use Rattle.std.specs.Prelude.{◌≡◌, Bool, true, false, List, [], ◌∷◌}
 use Rattle.bolt_tree.specs.Private.Contents.{Contents}
 use Rattle.bolt_tree.specs.Places.{Fresh, On, Past, Place}
@@ -6,7 +6,7 @@ use Rattle.bolt_tree.specs.Private.Stacks.{Frame, IsAtRest, index_of}
 use Rattle.bolt_tree.specs.Private.Trails.{HasTrail, trail_frames}
 use Rattle.bolt_tree.specs.declared.trail.Trail.{Trail}
 
--- It stands on an entry of its bucket, or its stack is empty: before the first call, or past the last entry.
+-- It is on an entry of its bucket, or its stack is empty: before the first call, or past the last entry.
 pub record IsHeld (trail : Trail) (is_past : Bool) : Type 0 where
   pub stack : HasTrail trail
   pub rest : IsAtRest (trail_frames trail)

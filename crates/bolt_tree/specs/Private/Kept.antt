@@ -13,7 +13,7 @@ use Rattle.bolt_tree.specs.declared.at.At.{At}
 use Rattle.bolt_tree.specs.declared.open_cursors.Waiting.{Waiting}
 use Rattle.bolt_tree.specs.declared.position.Position.{Position}
 
--- a cursor without its counts: its file and bucket, and where it stands
+-- a cursor without its counts: its file and bucket, and where it is
 pub record CursorView : Type 0 where
   pub checked : Checked
   pub start : Start
@@ -29,7 +29,7 @@ abbrev pub kept_view : Checked → At → Bool → List Position → CursorView
 kept_view checked at is_past positions =
     record { checked = checked; start = start_at at; place = place_by is_past (contents_in (bucket_in checked (start_at at))) (frames_of positions) }
 
--- The cursors that wait, the innermost of them first: the positions of each stand behind those of the ones around it.
+-- The cursors that wait, the innermost of them first: the positions of each follow those of the ones around it.
 abbrev pub AreKept : Checked → List Waiting → List Position → Type 0
 AreKept checked [] positions = Unit {0}
 AreKept checked (w ∷ outer) positions =

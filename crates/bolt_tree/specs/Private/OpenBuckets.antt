@@ -1,5 +1,5 @@
--- The open buckets of a walk: docs/LISTING.md, "The walk".
--- A cursor for each, and the keys on which they stand: the path of what comes next, or came last.
+-- The open buckets of a walk: docs/LISTING.md, "The walk". A cursor for each, and the keys that the cursors are on: the path of what comes
+-- next, or came last.
 use Rattle.std.specs.Prelude.{◌≡◌, ℕ, Bool, true, false, IsTrue, List, [], ◌∷◌, ◌++◌, Some, slice_get}
 use Rattle.bolt_format.specs.Elements.{IsBucketValue, LeafElement}
 use Rattle.bolt_format.specs.ElementPlaces.{leaf_view}
@@ -26,12 +26,12 @@ use Rattle.bolt_tree.specs.declared.open_buckets.OpenBuckets.{OpenBuckets}
 abbrev pub open_path : OpenBuckets → Path
 open_path buckets = path_of buckets.path.items
 
--- a cursor stands on an entry with this key
+-- a cursor is on an entry with this key
 abbrev pub StandsOn : (Start → LeafElement → Type 0) → CursorView → Key → Type 0
 StandsOn Entry cursor key = (entries : List LeafElement) → AreEntries Entry cursor.start entries
     → (i : ℕ) × (e : LeafElement) × (cursor.place ≡ On i) × (slice_get entries i ≡ Some e) × (e.key ≡ key)
 
--- Each of these cursors is over the bucket that the keys before it name, and stands on the key in its place.
+-- Each of these cursors is over the bucket that the preceding keys name, and is on the key in its place.
 abbrev pub AreOpen : Checked → Path → List CursorView → Path → Type 0
 AreOpen checked before [] [] = Unit {0}
 AreOpen checked before [] (key ∷ keys) = ⊥
@@ -65,14 +65,15 @@ IsAhead buckets (Enter value) = IsBucketValue value.now × IsInside buckets.curs
 IsAhead buckets (Give leaf) = IsAt buckets leaf
 IsAhead buckets Leave = Unit {0}
 
--- what is left of a listing: where a bucket is entered, all behind the path; where an element is given, all from there; else all beyond
+-- what is left of a listing: if a bucket is entered, everything after the path; if an element is returned, everything from there; else
+-- everything beyond
 abbrev pub left_by : Ahead → Path → List Member → List Member
 left_by Begin path listing = behind path listing
 left_by (Enter value) path listing = behind path listing
 left_by (Give leaf) path listing = rest_from path listing
 left_by Leave path listing = beyond path listing
 
--- the path of what was given last
+-- the path of what was returned last
 abbrev pub told_path : Ahead → Path → Path
 told_path Begin path = path
 told_path (Enter value) path = path
@@ -84,8 +85,8 @@ abbrev pub is_end : Path → Bool
 is_end [] = true
 is_end (key ∷ path) = false
 
--- One part of a path was sought, and the path goes on behind it or not: it names a bucket, and the path goes on; or the rest from the path
--- is what is left.
+-- One part of a path was searched for, and the path goes on after it or not: it names a bucket, and the path goes on; or the rest from the
+-- path is what is left.
 abbrev pub IsSought : OpenBuckets → OpenBuckets → Key → Bool → Sought → Type 0
 IsSought old new part is_last (Inside bucket) = (open_path new ≡ open_path old ++ part ∷ []) × IsNamed new bucket × (is_last ≡ false)
 IsSought old new part is_last (Here ahead) =

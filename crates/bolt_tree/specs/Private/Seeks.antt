@@ -1,4 +1,4 @@
--- The way down to the leaf that is nearest to a key.
+-- The way down to the leaf that is near a key.
 use Rattle.std.specs.Prelude.{◌≡◌, ◌+◌, ℕ, Bool, true, false, List, [], ◌∷◌, ◌++◌, Some, length, drop, slice_get}
 use Rattle.bolt_format.specs.Elements.{LeafElement}
 use Rattle.bolt_format.specs.declared.meta.Meta.{Meta}
@@ -21,7 +21,7 @@ pub record IsBetween (contents : Contents) (key : Key) (frames : List Frame) : T
   pub left : AreBelow true key (elements_of (left_of contents frames))
   pub right : AreBelow false key (elements_of (right_of contents frames))
 
--- from a page that shows this, at this address, the way to the nearest leaf goes on
+-- from a page that shows this, at this address, the way to the near leaf goes on
 abbrev pub IsNearTo : List ℕ → Meta → Start → Key → List ℕ → Content → Type 0
 IsNearTo file meta (Root_page root) key address content = (number : ℕ) × (depth : ℕ) × IsOnWay file meta number depth × (content_at file meta number ≡ content)
     × ((rest : List ℕ) → IsNearFrom file meta number key rest → IsNearFrom file meta root key (address ++ rest))

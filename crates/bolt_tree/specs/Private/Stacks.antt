@@ -12,7 +12,7 @@ pub record Frame : Type 0 where
   pub content : Content
   pub taken : ℕ
 
--- the address of the page that stands on a stack
+-- the address of the page that is on a stack
 abbrev pub address_on : List Frame → List ℕ
 address_on [] = []
 address_on (frame ∷ below) = address_on below ++ (frame.taken - 1) ∷ []
@@ -30,7 +30,7 @@ abbrev pub right_of : Contents → List Frame → List Visit
 right_of contents [] = []
 right_of contents (frame ∷ below) = right_under contents (length below) (address_on below) frame.content frame.taken ++ right_of contents below
 
--- the pages to the left of the page that stands on a stack: those on the stack, and those under what was taken before
+-- the pages to the left of the page that is on a stack: those on the stack, and those under what was taken before
 abbrev pub left_under : Contents → ℕ → List ℕ → Content → ℕ → List Visit
 left_under contents height address (Of_leaf elements) taken = []
 left_under contents height address (Of_branch elements) taken = record { address = address; entries = [] } ∷ under_at contents height address 0 (take taken elements)
@@ -87,7 +87,7 @@ abbrev pub IsBranchTop : List Frame → Type 0
 IsBranchTop [] = Unit {0}
 IsBranchTop (frame ∷ below) = IsBranchContent frame.content
 
--- A page stands on a stack where its tour lies between what is left and right of it.
+-- A page is on a stack if its tour lies between what is left and right of it.
 pub record IsOver (b : BucketView) (frame : Frame) (below : List Frame) : Type 0 where
   pub shallow : suc (length below) ≤ 64
   pub good : IsGoodContent b (suc (length below)) frame.content
@@ -105,7 +105,7 @@ IsStack b (frame ∷ below) = IsOver b frame below × IsStack b below
 abbrev pub HasStack : BucketView → List Frame → Type 0
 HasStack b frames = ∥ IsSoundBucket b × IsStack b frames ∥₁
 
--- the number of the entry on which a stack stands
+-- the number of the entry that a stack is on
 abbrev pub index_of : Contents → List Frame → ℕ
 index_of contents [] = 0
 index_of contents (frame ∷ below) = length (elements_of (left_of contents below)) + (frame.taken - 1)
@@ -119,7 +119,7 @@ abbrev pub IsAtRest : List Frame → Type 0
 IsAtRest [] = Unit {0}
 IsAtRest (frame ∷ below) = RestsOn frame.content frame.taken
 
--- the leaf on top stands on this entry
+-- the leaf on top is on this entry
 abbrev pub StandsOn : Content → ℕ → LeafElement → Type 0
 StandsOn (Of_leaf elements) taken e = (1 ≤ taken) × (slice_get elements (taken - 1) ≡ Some e)
 StandsOn (Of_branch elements) taken e = ⊥

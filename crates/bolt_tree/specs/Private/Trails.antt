@@ -42,7 +42,7 @@ ahead trail = ahead_of (contents_in (trail_bucket trail)) (trail_frames trail)
 abbrev pub right : Trail → List Visit
 right trail = right_of (contents_in (trail_bucket trail)) (trail_frames trail)
 
--- the entries behind the stack, and the pages to its left
+-- the entries that precede the stack's, and the pages to its left
 abbrev pub behind : Trail → List LeafElement
 behind trail = behind_of (contents_in (trail_bucket trail)) (trail_frames trail)
 
