@@ -4,7 +4,6 @@ ghost use Rattle.std.specs.List.{AllByRecursion};
 ghost use Rattle.bolt_tree.specs.FileListings.{ForListing};
 ghost use Rattle.bolt_tree.specs.Tree.{listing_of, tree_of};
 ghost use Rattle.bolt_layout.specs.declared.layout.Layout.{Layout};
-ghost use Rattle.bolt_layout.specs.declared.layout.Layout.TheVariants.{Plain};
 ghost use Rattle.bolt_bulk.specs.Private.Endings.{Ends, IsFitMember};
 ghost use Rattle.bolt_bulk.specs.Private.Passes.{FitLimits, Wanted, limits_with};
 
@@ -17,22 +16,24 @@ use bolt_format::Sink;
 use bolt_tree::Walk;
 use std::alloc::Global;
 
-/// Puts the pages of all that a file holds, in the layout whose rows have these limits.
+/// Puts the pages of all that a file holds, in the layout whose rows have these limits. If it tells
+/// limits, and this is the plain layout, they are those of the balanced one.
 pub(crate) fn put_pages<S: Sink>(
     alloc: Global,
     bounds: Bounds,
     limits: &Limits,
+    tells: bool,
     checked: Checked<'_>,
     sink: &mut S,
 ) -> Result<Ended, BulkFault>
     requires room { 3 ≤ bounds.limit }
     requires fit { ForListing checked (λ listing. ∥ AllByRecursion IsFitMember listing ∥₁) }
     requires lists { ForListing checked (λ listing. listing_of (tree_of listing) ≡ listing) }
-    ensures { (which : Layout) → ForListing checked.entry (λ listing. FitLimits (record { which = which; tree = tree_of listing }) bounds.page_size (limits_with limits.now)
-        → Ends (record { which = which; tree = tree_of listing }) S.taken S.failed sink.old sink.new bounds [] result) }
+    ensures { (which : Layout) → ForListing checked.entry (λ listing. FitLimits which (tree_of listing) bounds.page_size (limits_with limits.now)
+        → Ends (record { which = which; tree = tree_of listing; tells = tells }) S.taken S.failed sink.old sink.new bounds [] result) }
 {
     let mut walk = Walk::new(alloc, checked);
-    let mut pass = Pass::new(alloc, bounds, limits);
+    let mut pass = Pass::new(alloc, bounds, limits, tells);
     'members: loop {
         match walk.next() {
             Err(_) => return Err(BulkFault::Memory),
@@ -44,20 +45,4 @@ pub(crate) fn put_pages<S: Sink>(
             }
         }
     }
-}
-
-/// Puts the pages of all that a file holds, in the plain layout.
-pub(crate) fn put_plain_pages<S: Sink>(
-    alloc: Global,
-    bounds: Bounds,
-    checked: Checked<'_>,
-    sink: &mut S,
-) -> Result<Ended, BulkFault>
-    requires room { 3 ≤ bounds.limit }
-    requires fit { ForListing checked (λ listing. ∥ AllByRecursion IsFitMember listing ∥₁) }
-    requires lists { ForListing checked (λ listing. listing_of (tree_of listing) ≡ listing) }
-    ensures { ForListing checked.entry (λ listing. Ends (record { which = Plain; tree = tree_of listing }) S.taken S.failed sink.old sink.new bounds [] result) }
-{
-    let limits = Limits::none(alloc);
-    put_pages(alloc, bounds, &limits, checked, sink)
 }

@@ -1,6 +1,7 @@
 //! Why no plan, or no copy, is made.
 ghost use Rattle.std.specs.Prelude.{◌≡◌};
 ghost use Rattle.bolt_bulk.specs.declared.fault.BulkFault.TheVariants as bulk;
+ghost use Rattle.bolt_bulk.specs.Private.Stops.{stopped_by};
 ghost use Rattle.bolt_bulk.specs.declared.fault.PlanFault.TheVariants as planned;
 
 use bolt_format::SinkFault;
@@ -38,6 +39,17 @@ impl From<SinkFault> for BulkFault {
 
     fn from(_fault: SinkFault) -> Self {
         BulkFault::Sink
+    }
+}
+
+impl From<PlanFault> for BulkFault {
+    ghost from_gives = { λ plan fault. fault ≡ stopped_by plan };
+
+    fn from(fault: PlanFault) -> Self {
+        match fault {
+            PlanFault::Memory => BulkFault::Memory,
+            PlanFault::TooLarge => BulkFault::TooLarge,
+        }
     }
 }
 

@@ -22,7 +22,8 @@ mod pass;
 mod pieces;
 mod row;
 mod steps;
+mod told;
 
-pub use copy::{compact, plan};
+pub use copy::{compact, compact_as, plan, plan_as};
 pub use fault::{BulkFault, PlanFault};
 pub use outcome::{Done, Plan};
