@@ -1,8 +1,8 @@
 //! How many items a copy holds at one time. The figures come from a program of its own, which goes
 //! through the pages of a layout and counts items that join and pages that are written.
 
+use crate::copies::copy_to;
 use Element::Bucket;
-use bolt_bulk::compact;
 use bolt_check::check;
 use bolt_cli::PageSize;
 use bolt_format::MemSink;
@@ -31,7 +31,7 @@ fn check_held(
 ) -> Result<(), Fail> {
     let size = PageSize::new(page_size).ok_or("no page size")?;
     let checked = check(alloc, file)?;
-    let done = compact(alloc, checked, size.bytes, &mut MemSink::new(alloc))?;
+    let done = copy_to(alloc, checked, size, &mut MemSink::new(alloc))?;
     let held = done.held;
     assert!(rt; held == want, "{held} items held in place of {want}");
     Ok(())
