@@ -4,10 +4,11 @@
 
 BBOLT is the program built from main.go beside this file. The files compared are each FILE and some
 that bbolt makes in FOLDER. Of each: bbolt accepts it where the program does, and both list the same
-and count the same pages; of its compact copy, too. Then bbolt makes random transactions on the files
-that it made, N rounds of them, and both accept the file after each round. Last, bbolt has to stop with
-a panic on a copy that has a branch of one child: without that, nothing would show that these
-transactions can find one.
+and count the same pages; of its compact copies in both layouts, too. Then bbolt makes random
+transactions, N rounds of them, on the files that it made and on a copy of each for bbolt, and both
+programs accept the file after each round. Last, bbolt has to stop with a panic on a copy that has a
+branch of one child, and never on the copy of the same file for bbolt: without the first, nothing
+would show that these transactions can find such a branch.
 """
 
 import argparse
@@ -19,7 +20,9 @@ import sys
 KINDS = ["wide", "nested", "inline", "long", "churn"]
 COUNTED = [b"keys", b"branch pages", b"branch overflow", b"leaf pages", b"leaf overflow"]
 PANIC = 3
+FOR_BBOLT = "--for-bbolt"
 STEPS = "60"
+RUNS = 12
 
 
 def want(holds, *what):
@@ -59,12 +62,18 @@ class Programs:
         counted = [line for line in ours.splitlines() if line.rsplit(b" ", 1)[0] in COUNTED]
         want(counted == theirs.splitlines(), file, "bbolt counts other pages")
 
-    def copy(self, file, out):
-        """A compact copy."""
+    def copy(self, file, out, *options):
+        """A compact copy, with these options."""
         if os.path.exists(out):
             os.remove(out)
-        want(ended(self.program, "compact", "-o", out, file)[0] == 0, file, "isn't copied")
+        want(ended(self.program, "compact", *options, "-o", out, file)[0] == 0, file, "isn't copied")
         return out
+
+    def copy_for_bbolt(self, file, out):
+        """A compact copy without a branch of one child."""
+        copy = self.copy(file, out, FOR_BBOLT)
+        want(self.lone_children(copy) == 0, file, "the copy for bbolt has a branch of one child")
+        return copy
 
     def lone_children(self, file):
         """How many branch pages have one child."""
@@ -77,13 +86,14 @@ class Programs:
 
 
 def compare_file(programs, file, folder):
-    """Compares a file and its copy."""
+    """Compares a file and its copies."""
     if not programs.is_sound(file):
         return
     programs.compare(file)
-    copy = programs.copy(file, os.path.join(folder, "copy.db"))
-    want(programs.is_sound(copy), copy, "isn't accepted")
-    programs.compare(copy)
+    out = os.path.join(folder, "copy.db")
+    for copy in programs.copy, programs.copy_for_bbolt:
+        want(programs.is_sound(copy(file, out)), file, "a copy isn't accepted")
+        programs.compare(out)
 
 
 def change_file(programs, file, rounds):
@@ -94,15 +104,24 @@ def change_file(programs, file, rounds):
         programs.compare(file)
 
 
-def panics(programs, file, folder, seeds):
-    """How often bbolt panics on a copy of the file with a branch of one child, by so many seeds."""
-    copy = programs.copy(file, os.path.join(folder, "copy.db"))
-    want(programs.lone_children(copy) > 0, file, "the copy has no branch of one child")
+def panics(programs, copy, folder, seeds):
+    """How often bbolt panics on a copy, by so many seeds."""
     changed = os.path.join(folder, "changed.db")
     count = 0
     for seed in range(seeds):
         shutil.copy(copy, changed)
         count += programs.change(changed, seed) == PANIC
+    return count
+
+
+def compare_panics(programs, file, folder):
+    """How often bbolt panics on the plain copy of a file, which it never does on the copy for bbolt."""
+    copy = programs.copy(file, os.path.join(folder, "copy.db"))
+    want(programs.lone_children(copy) > 0, file, "the copy has no branch of one child")
+    count = panics(programs, copy, folder, RUNS)
+    want(count > 0, "bbolt writes into branches of one child without a panic")
+    copy = programs.copy_for_bbolt(file, copy)
+    want(panics(programs, copy, folder, RUNS) == 0, file, "bbolt panics on the copy for bbolt")
     return count
 
 
@@ -124,12 +143,13 @@ def main():
         want(ended(words.bbolt, "make", kind, file)[0] == 0, "bbolt makes no file", kind)
     for file in words.files + made:
         compare_file(programs, file, words.folder)
-    count = panics(programs, made[KINDS.index("long")], words.folder, 12)
-    want(count > 0, "bbolt writes into branches of one child without a panic")
+    count = compare_panics(programs, made[KINDS.index("long")], words.folder)
     for file in made:
+        change_file(programs, programs.copy_for_bbolt(file, file + ".copy"), words.rounds)
         change_file(programs, file, words.rounds)
-    print(f"{len(words.files) + len(made)} files compared with bbolt, and {len(made)} after each of "
-          f"{words.rounds} rounds of {STEPS} transactions; {count} of 12 runs on a branch of one child panic")
+    print(f"{len(words.files) + len(made)} files compared with bbolt; {len(made)} and their copies for "
+          f"bbolt after each of {words.rounds} rounds of {STEPS} transactions; {count} of {RUNS} runs on a "
+          "branch of one child panic, and none on the copy for bbolt")
 
 
 if __name__ == "__main__":

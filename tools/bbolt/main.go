@@ -268,15 +268,17 @@ func changeOnce(tx *bolt.Tx, random *rand.Rand) error {
 		return tx.DeleteBucket(name)
 	}
 	bucket := tx.Bucket(name)
-	switch random.Intn(4) {
+	switch random.Intn(5) {
 	case 0:
 		return put(bucket, random, 1+random.Intn(60))
 	case 1:
 		return remove(bucket, random, 1+random.Intn(60), bucketKeys(bucket))
 	case 2:
-		return removeEnd(bucket, random, 1+random.Intn(60), (*bolt.Cursor).First, (*bolt.Cursor).Next)
+		return removeRange(bucket, random, 1+random.Intn(60), (*bolt.Cursor).First, (*bolt.Cursor).Next)
+	case 3:
+		return removeRange(bucket, random, 1+random.Intn(200), seekAnywhere(random), (*bolt.Cursor).Next)
 	default:
-		return removeEnd(bucket, random, 1+random.Intn(60), (*bolt.Cursor).Last, (*bolt.Cursor).Prev)
+		return removeRange(bucket, random, 1+random.Intn(60), (*bolt.Cursor).Last, (*bolt.Cursor).Prev)
 	}
 }
 
@@ -318,8 +320,14 @@ func remove(bucket *bolt.Bucket, random *rand.Rand, count int, keys [][]byte) er
 
 type move func(*bolt.Cursor) ([]byte, []byte)
 
-// removeEnd deletes values from one end on, at most so many.
-func removeEnd(bucket *bolt.Bucket, random *rand.Rand, count int, begin, next move) error {
+// seekAnywhere moves to a key at random.
+func seekAnywhere(random *rand.Rand) move {
+	name := key(random.Intn(30000))
+	return func(cursor *bolt.Cursor) ([]byte, []byte) { return cursor.Seek(name) }
+}
+
+// removeRange deletes values from one place on, at most so many.
+func removeRange(bucket *bolt.Bucket, random *rand.Rand, count int, begin, next move) error {
 	var keys [][]byte
 	cursor := bucket.Cursor()
 	for name, value := begin(cursor); name != nil && len(keys) < count; name, value = next(cursor) {
