@@ -104,7 +104,7 @@ fuzz-wrong: $(PROGRAM)
 wrong-bodies:
 	tools/wrong_bodies/try_all.sh $(CRATES)
 
-# How many crates the gate proves side by side: a processor each, and up to 5 GB. rt would otherwise
+# How many crates the gate proves side by side: a processor each, and up to 6.5 GB. rt would otherwise
 # split one crate over several processors, which ends sooner and takes a third more processor time.
 JOBS ?= 2
 
