@@ -1,17 +1,21 @@
-//! Runs the job of a command line on a file in memory.
+//! What a job comes to on a file in memory.
 
-use bolt_cli::{Job, Refusal, read_words, run};
+use bolt_cli::{Job, run};
 use bolt_format::{MemSink, Sink};
 use std::alloc::Global;
 use std::test::Fail;
 
-/// The job that a command line asks for, its words with a space between.
-pub fn job_of(alloc: Global, line: &str) -> Result<Job, Refusal> {
-    let mut words = Vec::new(alloc);
-    for word in line.split_whitespace() {
-        words.push(String::from_str(alloc, word)?)?;
-    }
-    read_words(alloc, words)
+/// The status of a run over these sinks. The proofs of tests don't read the contract of `run` but here,
+/// which is most of what they would take.
+pub fn status_of<O: Sink, T: Sink>(
+    alloc: Global,
+    job: &Job,
+    file: &[u8],
+    out: &mut O,
+    err: &mut MemSink,
+    target: &mut T,
+) -> u8 {
+    run(alloc, job, file, out, err, target).code
 }
 
 /// What a run wrote, and its status.
@@ -36,7 +40,7 @@ impl Ran {
     /// A run over this standard output and this standard error.
     pub fn over(alloc: Global, job: &Job, file: &[u8], mut out: MemSink, mut err: MemSink) -> Ran {
         let mut target = MemSink::new(alloc);
-        let code = run(alloc, job, file, &mut out, &mut err, &mut target).code;
+        let code = status_of(alloc, job, file, &mut out, &mut err, &mut target);
         Ran {
             out,
             err,

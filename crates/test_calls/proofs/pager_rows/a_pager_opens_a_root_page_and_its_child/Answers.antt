@@ -1,7 +1,7 @@
 use Rattle.std.proofs.Common.{◌∙◌, sym}
 use Rattle.bolt_format.specs.ElementPlaces.{branch_view}
 use Rattle.bolt_format.specs.Shown.{shown}
-use Rattle.test_reading.proofs.pager_rows.a_pager_opens_a_root_page_and_its_child.Goals as goal
+use Rattle.test_calls.proofs.pager_rows.a_pager_opens_a_root_page_and_its_child.Goals as goal
 
 pub open-root-requires : goal.open-root-requires
 open-root-requires g c = rw (c.new-pager.ensures.checked, c.meta.ensures) (∣ (1, c.ways_go_on.ensures.root _ _) ∣₁)

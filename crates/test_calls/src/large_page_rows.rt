@@ -1,7 +1,9 @@
 //! The greatest pages: as large as a page may be, and with as many elements as it may have.
 
-use crate::ran::{Ran, Wanted, check_run, job_of};
+use crate::jobs::{Line, compact};
+use crate::ran::{Ran, Wanted, check_run};
 use Element::Bucket;
+use bolt_cli::PageSize;
 use std::alloc::{AllocError, Global};
 use std::process::Abort;
 use std::test::Fail;
@@ -11,20 +13,17 @@ use test_files::maker::{
 
 const GREATEST_PAGE: u32 = 33_554_432;
 
-const CHECK: &str = "luntsegi check FILE";
-
 const SOUND: Wanted<'static> = (0, b"OK\n", b"");
 
-/// The command line has this result on the file.
-fn check_line(
-    alloc: Global,
-    name: &str,
-    file: &[u8],
-    line: &str,
-    want: Wanted<'_>,
-) -> Result<(), Fail> {
-    let job = job_of(alloc, line)?;
-    check_run(alloc, &job, file, (name, file.len()), want)
+/// The file is checked and comes to this.
+fn check_file(alloc: Global, name: &str, file: &[u8], want: Wanted<'_>) -> Result<(), Fail> {
+    check_run(
+        alloc,
+        &Line::Check.job(alloc)?,
+        file,
+        (name, file.len()),
+        want,
+    )
 }
 
 /// The copy of the file at this page size is this one.
@@ -32,15 +31,14 @@ fn check_copy(
     rt: &impl Abort,
     alloc: Global,
     file: &[u8],
-    page_size: &str,
+    page_size: u64,
     want: &[u8],
 ) -> Result<(), Fail> {
-    let line = format!(in alloc; "luntsegi compact FILE -o OUT --page-size {page_size}")?;
-    let job = job_of(alloc, line.as_str())?;
+    let job = compact(alloc, PageSize::new(page_size));
     let ran = Ran::on(alloc, &job, file);
     let (length, copied) = (file.len(), want.len());
     let told = format!(in alloc; "{length} -> {copied} bytes\n")?;
-    ran.check(line.as_str(), length, (0, told.as_bytes(), b""))?;
+    ran.check("compact", length, (0, told.as_bytes(), b""))?;
     assert!(rt;
         ran.target.bytes() == want,
         "the copy of {length} bytes at {page_size}"
@@ -61,9 +59,8 @@ fn greatest_page_size(rt: HostRuntime) -> Result<(), Fail> {
     assert_eq!(rt; bytes.len(), 33_554_512);
     let text = "page size 33554432\nmeta 1\ntxid 1\nroot 3\nsequence 0\nfreelist 2\nhigh water 4\n";
     let want = (0, text.as_bytes(), b"".as_slice());
-    let line = "luntsegi info FILE";
-    check_line(alloc, "a meta alone", bytes.as_slice(), line, want)?;
-    Ok(())
+    let told = ("a meta alone", bytes.len());
+    check_run(alloc, &Line::Info.job(alloc)?, bytes.as_slice(), told, want)
 }
 
 /// All keys of two bytes, in their order.
@@ -137,17 +134,17 @@ fn greatest_leaf(rt: HostRuntime) -> Result<(), Fail> {
     keys.pop();
     assert_eq!(rt; keys.len(), 65_535);
     let bytes = with_keys(alloc, keys.as_slice())?;
-    check_line(alloc, "65,535 elements", bytes.as_slice(), CHECK, SOUND)?;
+    check_file(alloc, "65,535 elements", bytes.as_slice(), SOUND)?;
     if let Some(last) = keys.last_mut() {
         *last = [0xFF, 0xFD];
     }
     let bytes = with_keys(alloc, keys.as_slice())?;
     let (name, file) = ("the last of them twice", bytes.as_slice());
     let text = b"page 3: keys not rising\n1 errors found\n".as_slice();
-    check_line(alloc, name, file, CHECK, (1, text, b""))?;
+    check_file(alloc, name, file, (1, text, b""))?;
     let told = b"error: file refused: page 3: keys not rising\n".as_slice();
-    check_line(alloc, name, file, "luntsegi buckets FILE", (1, b"", told))?;
-    Ok(())
+    let buckets = Line::Buckets.job(alloc)?;
+    check_run(alloc, &buckets, file, (name, file.len()), (1, b"", told))
 }
 
 #[test]
@@ -160,14 +157,14 @@ fn greatest_buckets(rt: HostRuntime) -> Result<(), Fail> {
     let (one, _) = rest.split_at(1);
     let bytes = with_bucket(alloc, 2_097_152, first, rest)?;
     assert_eq!(rt; bytes.len(), 14_680_064);
-    check_line(alloc, "65,536 keys", bytes.as_slice(), CHECK, SOUND)?;
+    check_file(alloc, "65,536 keys", bytes.as_slice(), SOUND)?;
     let bytes = with_bucket(alloc, 8_388_608, first, one)?;
     assert_eq!(rt; bytes.len(), 58_720_256);
-    check_line(alloc, "65,535 keys", bytes.as_slice(), CHECK, SOUND)?;
+    check_file(alloc, "65,535 keys", bytes.as_slice(), SOUND)?;
     let stored = inline(alloc, 0, first)?;
     let bytes = with_leaf(alloc, 8_388_608, &[Bucket(b"b", stored.as_slice())])?;
     assert_eq!(rt; bytes.len(), 33_554_432);
-    check_line(alloc, "65,534 keys inline", bytes.as_slice(), CHECK, SOUND)?;
+    check_file(alloc, "65,534 keys inline", bytes.as_slice(), SOUND)?;
     Ok(())
 }
 
@@ -182,15 +179,15 @@ fn copies_of_greatest_buckets(rt: HostRuntime) -> Result<(), Fail> {
     let (one, _) = rest.split_at(1);
     let file = with_bucket(alloc, 8_388_608, first, rest)?;
     let want = with_bucket(alloc, 2_097_152, first, rest)?;
-    check_copy(&rt, alloc, file.as_slice(), "2097152", want.as_slice())?;
+    check_copy(&rt, alloc, file.as_slice(), 2_097_152, want.as_slice())?;
     let file = with_bucket(alloc, 2_097_152, first, one)?;
     let want = with_bucket(alloc, 8_388_608, first, one)?;
-    check_copy(&rt, alloc, file.as_slice(), "8388608", want.as_slice())?;
+    check_copy(&rt, alloc, file.as_slice(), 8_388_608, want.as_slice())?;
     let stored = inline(alloc, 0, first)?;
     let root = [Bucket(b"b", stored.as_slice())];
     let file = with_leaf(alloc, 2_097_152, &root)?;
     let want = with_leaf(alloc, 8_388_608, &root)?;
     assert_eq!(rt; want.len(), 33_554_432);
-    check_copy(&rt, alloc, file.as_slice(), "8388608", want.as_slice())?;
+    check_copy(&rt, alloc, file.as_slice(), 8_388_608, want.as_slice())?;
     Ok(())
 }

@@ -1,9 +1,10 @@
 //! A file of four pages with each byte changed to each other value, under each command except
 //! `keys` and `get`: 1,044,480 files.
 
-use crate::ran::{Ran, check_run, job_of};
-use bolt_cli::{Job, Refusal};
-use std::alloc::Global;
+use crate::jobs::{Line, compact};
+use crate::ran::{Ran, check_run};
+use bolt_cli::Job;
+use std::alloc::{AllocError, Global};
 use std::process::Abort;
 use std::test::Fail;
 use test_files::maker::{FRESH, MetaFields};
@@ -89,35 +90,26 @@ struct Jobs {
     past: Job,
 }
 
-fn jobs_of(alloc: Global, lines: &[&str]) -> Result<Vec<Job>, Refusal> {
+fn jobs_of(alloc: Global, lines: &[Line]) -> Result<Vec<Job>, AllocError> {
     let mut jobs = Vec::new(alloc);
     for line in lines {
-        jobs.push(job_of(alloc, line)?)?;
+        jobs.push(line.job(alloc)?)?;
     }
     Ok(jobs)
 }
 
 impl Jobs {
-    fn read(alloc: Global) -> Result<Jobs, Refusal> {
-        let readers = [
-            "luntsegi pages FILE",
-            "luntsegi buckets FILE",
-            "luntsegi stats FILE",
-        ];
-        let pages = [
-            "luntsegi page FILE 0",
-            "luntsegi page FILE 1",
-            "luntsegi page FILE 2",
-            "luntsegi page FILE 3",
-        ];
+    fn new(alloc: Global) -> Result<Jobs, AllocError> {
+        let readers = [Line::Pages, Line::Buckets, Line::Stats];
+        let pages = [Line::Page(0), Line::Page(1), Line::Page(2), Line::Page(3)];
         Ok(Jobs {
-            info: job_of(alloc, "luntsegi info FILE")?,
-            check: job_of(alloc, "luntsegi check FILE")?,
-            list: job_of(alloc, "luntsegi list FILE")?,
-            compact: job_of(alloc, "luntsegi compact -o OUT FILE")?,
+            info: Line::Info.job(alloc)?,
+            check: Line::Check.job(alloc)?,
+            list: Line::List.job(alloc)?,
+            compact: compact(alloc, None),
             readers: jobs_of(alloc, &readers)?,
             pages: jobs_of(alloc, &pages)?,
-            past: job_of(alloc, "luntsegi page FILE 4")?,
+            past: Line::Page(4).job(alloc)?,
         })
     }
 }
@@ -294,7 +286,7 @@ fn sweep_byte(
 fn sweep_page(rt: &impl Abort, alloc: Global, page: usize) -> Result<(), Fail> {
     let file = make(alloc, &INLINE_FILE)?;
     assert_eq!(rt; file.len(), 4 * PAGE_SIZE);
-    let jobs = Jobs::read(alloc)?;
+    let jobs = Jobs::new(alloc)?;
     let first = page.saturating_mul(PAGE_SIZE);
     for at in first..first.saturating_add(PAGE_SIZE) {
         sweep_byte(rt, alloc, &jobs, file.as_slice(), at)?;

@@ -1,10 +1,12 @@
 //! Sinks that fail at each of their bytes, or at each call of their writer.
 
-use crate::ran::{Ran, check_run, job_of};
-use bolt_bulk::{BulkFault, Done, compact};
+use crate::copies::copy_to;
+use crate::jobs::{Line, OF_EACH_COMMAND};
+use crate::ran::{Ran, check_run};
+use bolt_bulk::{BulkFault, Done};
 use bolt_check::{CheckFault, Checked, Finding, check};
 use bolt_cli::{Job, PageSize};
-use bolt_format::{MemSink, MetaFault, PageFault, Sink, WriteSink};
+use bolt_format::{MemSink, MetaFault, PageFault, Sink, Slot, WriteSink};
 use std::alloc::Global;
 use std::io::{self, ErrorKind, Write};
 use std::process::Abort;
@@ -51,7 +53,7 @@ fn check_fuse(
     fuse: usize,
 ) {
     let mut sink = MemSink::with_fuse(alloc, fuse);
-    let answer = compact(alloc, checked, size.bytes, &mut sink);
+    let answer = copy_to(alloc, checked, size, &mut sink);
     let is_told = answer == Err(BulkFault::Sink) && sink.failures() > 0;
     let is_taken = Some(sink.bytes()) == copying.whole.get(..fuse);
     assert!(rt;
@@ -71,7 +73,7 @@ fn check_room(
 ) {
     let length = copying.whole.len();
     let mut sink = MemSink::with_fuse(alloc, length);
-    let answer = compact(alloc, checked, size.bytes, &mut sink);
+    let answer = copy_to(alloc, checked, size, &mut sink);
     let is_told = answer.map(|done| done.bytes) == Ok(length as u64) && sink.failures() == 0;
     assert!(rt; is_told, "with room for all");
     let is_whole = sink.bytes() == copying.whole && check(alloc, sink.bytes()).is_ok();
@@ -159,7 +161,7 @@ fn items_held(rt: HostRuntime) -> Result<(), Fail> {
     let checked = check(alloc, file.as_slice())?;
     let size = PageSize::new(1024).expect(&rt, "an accepted page size");
     let mut sink = WriteSink::new(Counting { taken: 0 });
-    let Done { bytes, held } = compact(alloc, checked, size.bytes, &mut sink)?;
+    let Done { bytes, held } = copy_to(alloc, checked, size, &mut sink)?;
     assert_eq!(rt; bytes, 9216);
     assert_eq!(rt; sink.into_inner().taken, 9216);
     assert!(rt; (13..=15).contains(&held), "{held} items are held");
@@ -177,7 +179,7 @@ fn copy_by_sevens(
     refusal: Refusal,
 ) -> (Halting, bool) {
     let mut sink = WriteSink::new(Halting::new(alloc, refused, refusal));
-    let answer = compact(alloc, checked, size.bytes, &mut sink);
+    let answer = copy_to(alloc, checked, size, &mut sink);
     let is_made = answer.is_ok();
     assert!(rt;
         is_made == (sink.failures() == 0),
@@ -239,23 +241,6 @@ fn refused_calls_of_a_writer(rt: HostRuntime) -> Result<(), Fail> {
     Ok(())
 }
 
-/// A line of each command, on the forty values.
-static LINES: [&'static str; 13] = [
-    "luntsegi info FILE",
-    "luntsegi page FILE 0",
-    "luntsegi page FILE 2",
-    "luntsegi page FILE 7",
-    "luntsegi page FILE 8",
-    "luntsegi pages FILE",
-    "luntsegi check FILE",
-    "luntsegi buckets FILE",
-    "luntsegi keys FILE b",
-    "luntsegi get FILE b 17",
-    "luntsegi stats FILE",
-    "luntsegi list FILE",
-    "luntsegi compact -o OUT FILE",
-];
-
 const WRITE_FAILED: &[u8] = b"error: write failed\n";
 
 /// Standard output fails at each of its bytes. What fits stays, the failure is reported, and a copy
@@ -263,7 +248,7 @@ const WRITE_FAILED: &[u8] = b"error: write failed\n";
 fn fail_output(
     rt: &impl Abort,
     alloc: Global,
-    line: &str,
+    name: &str,
     job: &Job,
     file: &[u8],
 ) -> Result<(), Fail> {
@@ -271,16 +256,16 @@ fn fail_output(
     let text = whole.out.bytes();
     assert!(rt;
         !text.is_empty() && whole.err.bytes().is_empty(),
-        "{line} prints"
+        "{name} prints"
     );
     for (fuse, _) in text.iter().enumerate() {
         let out = MemSink::with_fuse(alloc, fuse);
         let ran = Ran::over(alloc, job, file, out, MemSink::new(alloc));
         let (taken, _) = text.split_at(fuse);
-        ran.check(line, fuse, (1, taken, WRITE_FAILED))?;
+        ran.check(name, fuse, (1, taken, WRITE_FAILED))?;
         assert!(rt;
             ran.target.bytes() == whole.target.bytes(),
-            "the copy of {line}"
+            "the copy of {name}"
         );
     }
     Ok(())
@@ -290,9 +275,9 @@ fn fail_output(
 fn failing_outputs(rt: HostRuntime) -> Result<(), Fail> {
     let alloc = rt.alloc();
     let file = forty_values(alloc)?;
-    for line in &LINES {
-        let job = job_of(alloc, line)?;
-        fail_output(&rt, alloc, line, &job, file.as_slice())?;
+    for (name, line) in &OF_EACH_COMMAND {
+        let job = line.job(alloc)?;
+        fail_output(&rt, alloc, name, &job, file.as_slice())?;
     }
     Ok(())
 }
@@ -308,28 +293,29 @@ const LOST_PAGES: Sample<'static> = Sample {
 fn failing_findings(rt: HostRuntime) -> Result<(), Fail> {
     let alloc = rt.alloc();
     let file = make(alloc, &LOST_PAGES)?;
-    let job = job_of(alloc, "luntsegi check FILE")?;
+    let job = Line::Check.job(alloc)?;
     let text = b"pages 4 to 5: unreachable unfreed\n1 errors found\n";
     check_run(alloc, &job, file.as_slice(), ("check", 0), (1, text, b""))?;
     fail_output(&rt, alloc, "check", &job, file.as_slice())
 }
 
-/// Command lines that fail on two lost pages, and the line of each failure.
-static FAILURES: [(&'static str, &'static [u8]); 5] = [
-    ("luntsegi page FILE 6", b"error: page 6: out of range\n"),
+const REFUSED: &[u8] = b"error: file refused: pages 4 to 5: unreachable unfreed\n";
+
+/// Jobs that fail on two lost pages, with names for messages, and the line of each failure.
+static FAILURES: [(&'static str, Line, &'static [u8]); 5] = [
+    ("page 6", Line::Page(6), b"error: page 6: out of range\n"),
+    ("list", Line::List, REFUSED),
+    ("compact", Line::Compact, REFUSED),
     (
-        "luntsegi list FILE",
-        b"error: file refused: pages 4 to 5: unreachable unfreed\n",
-    ),
-    (
-        "luntsegi compact -o OUT FILE",
-        b"error: file refused: pages 4 to 5: unreachable unfreed\n",
-    ),
-    (
-        "luntsegi keys FILE b --meta 1",
+        "keys",
+        Line::Keys(Some(Slot::One), &[b"b"]),
         b"error: bucket not found\n",
     ),
-    ("luntsegi get FILE b --meta 1", b"error: key not found\n"),
+    (
+        "get",
+        Line::Get(Some(Slot::One), &[b"b"]),
+        b"error: key not found\n",
+    ),
 ];
 
 /// If standard error fails, it has what fits of a line, and nothing else changes.
@@ -337,14 +323,14 @@ static FAILURES: [(&'static str, &'static [u8]); 5] = [
 fn failing_errors(rt: HostRuntime) -> Result<(), Fail> {
     let alloc = rt.alloc();
     let file = make(alloc, &LOST_PAGES)?;
-    for (line, text) in &FAILURES {
-        let job = job_of(alloc, line)?;
+    for (name, line, text) in &FAILURES {
+        let job = line.job(alloc)?;
         for fuse in 0..=text.len() {
             let err = MemSink::with_fuse(alloc, fuse);
             let ran = Ran::over(alloc, &job, file.as_slice(), MemSink::new(alloc), err);
             let taken = text.get(..fuse).unwrap_or(b"");
-            ran.check(line, fuse, (1, b"", taken))?;
-            assert!(rt; ran.target.bytes().is_empty(), "the copy of {line}");
+            ran.check(name, fuse, (1, b"", taken))?;
+            assert!(rt; ran.target.bytes().is_empty(), "the copy of {name}");
         }
     }
     Ok(())
@@ -355,12 +341,12 @@ fn failing_errors(rt: HostRuntime) -> Result<(), Fail> {
 fn failing_output_and_error(rt: HostRuntime) -> Result<(), Fail> {
     let alloc = rt.alloc();
     let file = forty_values(alloc)?;
-    for line in &LINES {
-        let job = job_of(alloc, line)?;
+    for (name, line) in &OF_EACH_COMMAND {
+        let job = line.job(alloc)?;
         let (out, err) = (MemSink::with_fuse(alloc, 1), MemSink::with_fuse(alloc, 0));
         let ran = Ran::over(alloc, &job, file.as_slice(), out, err);
-        assert_eq!(rt; ran.code, 1, "{line}");
-        assert_eq!(rt; ran.out.bytes().len(), 1, "{line}");
+        assert_eq!(rt; ran.code, 1, "{name}");
+        assert_eq!(rt; ran.out.bytes().len(), 1, "{name}");
     }
     Ok(())
 }

@@ -1,12 +1,11 @@
 //! How many items a copy holds at one time. The figures come from a separate program, which goes
 //! through the pages of a layout and counts items that join and pages that are written.
 
+use crate::copies::{balanced_copy_to, copy_to};
 use Element::Bucket;
-use bolt_bulk::{compact, compact_as};
 use bolt_check::check;
 use bolt_cli::PageSize;
 use bolt_format::MemSink;
-use bolt_layout::Layout;
 use std::alloc::Global;
 use std::process::Abort;
 use std::test::Fail;
@@ -32,7 +31,7 @@ fn check_held(
 ) -> Result<(), Fail> {
     let size = PageSize::new(page_size).ok_or("no page size")?;
     let checked = check(alloc, file)?;
-    let done = compact(alloc, checked, size.bytes, &mut MemSink::new(alloc))?;
+    let done = copy_to(alloc, checked, size, &mut MemSink::new(alloc))?;
     let held = done.held;
     assert!(rt; held == want, "{held} items held in place of {want}");
     Ok(())
@@ -74,9 +73,10 @@ fn pages_of_three_levels_are_held_beside_each_other(rt: HostRuntime) -> Result<(
 fn a_balanced_copy_holds_the_item_that_joined(rt: HostRuntime) -> Result<(), Fail> {
     let alloc = rt.alloc();
     let file = long_keys_on_one_leaf(alloc)?;
+    let size = PageSize::new(1024).ok_or("no page size")?;
     let checked = check(alloc, file.as_slice())?;
-    let sink = &mut MemSink::new(alloc);
-    let done = compact_as(alloc, checked, Layout::Balanced, 1024, sink)?;
-    assert_eq!(rt; (done.bytes, done.held), (9 * 1024, 3));
+    let done = balanced_copy_to(alloc, checked, size, &mut MemSink::new(alloc))?;
+    let held = done.held;
+    assert!(rt; held == 3, "{held} items held in place of 3");
     Ok(())
 }

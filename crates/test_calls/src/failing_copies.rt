@@ -1,13 +1,11 @@
 //! Copies whose target fails, or whose output does.
 
-use crate::ran::job_of;
-use bolt_cli::run;
+use crate::jobs::compact;
+use crate::ran::status_of;
 use bolt_format::{MemSink, WriteSink};
 use std::test::Fail;
 use test_files::halting::{Halting, Refusal};
 use test_files::samples::{FRESH_FILE, make};
-
-const COPY: &str = "luntsegi compact -o OUT FILE";
 
 const WRITE_FAILED: &[u8] = b"error: write failed\n";
 
@@ -15,12 +13,12 @@ const WRITE_FAILED: &[u8] = b"error: write failed\n";
 fn failing_target(rt: HostRuntime) -> Result<(), Fail> {
     let alloc = rt.alloc();
     let file = make(alloc, &FRESH_FILE)?;
-    let job = job_of(alloc, COPY)?;
+    let job = compact(alloc, None);
     let (mut out, mut err) = (MemSink::new(alloc), MemSink::new(alloc));
     let mut target = WriteSink::new(Halting::new(alloc, 4, Refusal::Nothing));
     let file = file.as_slice();
-    let status = run(alloc, &job, file, &mut out, &mut err, &mut target);
-    assert_eq!(rt; status.code, 1, "the status");
+    let status = status_of(alloc, &job, file, &mut out, &mut err, &mut target);
+    assert_eq!(rt; status, 1, "the status");
     assert!(rt; out.bytes().is_empty(), "standard output");
     assert!(rt; err.bytes() == WRITE_FAILED, "standard error");
     let taken = target.into_inner().taken;
@@ -35,12 +33,12 @@ fn failing_target(rt: HostRuntime) -> Result<(), Fail> {
 fn failing_output(rt: HostRuntime) -> Result<(), Fail> {
     let alloc = rt.alloc();
     let file = make(alloc, &FRESH_FILE)?;
-    let job = job_of(alloc, COPY)?;
+    let job = compact(alloc, None);
     let mut out = WriteSink::new(Halting::new(alloc, 1, Refusal::Nothing));
     let (mut err, mut target) = (MemSink::new(alloc), MemSink::new(alloc));
     let file = file.as_slice();
-    let status = run(alloc, &job, file, &mut out, &mut err, &mut target);
-    assert_eq!(rt; status.code, 1, "the status");
+    let status = status_of(alloc, &job, file, &mut out, &mut err, &mut target);
+    assert_eq!(rt; status, 1, "the status");
     assert!(rt; target.bytes() == file, "the copy");
     assert!(rt; err.bytes() == WRITE_FAILED, "standard error");
     Ok(())
