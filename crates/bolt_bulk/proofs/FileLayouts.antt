@@ -35,9 +35,8 @@ LayoutsHaveLength = (which : Layout) (page_size : ℕ) (tree : Tree) (sequence :
     → length (layout_of which page_size tree sequence) ≡ layout_mark which page_size tree * page_size
 
 abbrev pub CopiesListTheSame : Type 0
-CopiesListTheSame = (which : Layout) (file : List ℕ) (meta : Meta) (listing : List Member) (page_size : ℕ) → IsBytes file → HasSoundTrees file meta → IsListing file meta listing
-    → IsPageSize page_size → meta.root_sequence < 2 ^ 64 → length (layout_of_listing which page_size listing meta.root_sequence) < 2 ^ 63
-    → IsSoundCopy which page_size (tree_of listing) meta.root_sequence listing
+CopiesListTheSame = (which : Layout) (listing : List Member) (page_size : ℕ) (sequence : ℕ) → IsOfOneTree listing → IsPageSize page_size → sequence < 2 ^ 64
+    → length (layout_of_listing which page_size listing sequence) < 2 ^ 63 → IsSoundCopy which page_size (tree_of listing) sequence listing
 
 abbrev pub BeginningsAreRefused : Type 0
 BeginningsAreRefused = (which : Layout) (page_size : ℕ) (tree : Tree) (sequence : ℕ) → IsAsked page_size tree sequence → length (layout_of which page_size tree sequence) < 2 ^ 63
@@ -52,10 +51,9 @@ module _ (checked : Checked) (bytes : IsBytes (bytes_of checked)) where
   has_length law long which page_size size listing lists = ∥∥₁_elim (one_tree law listing lists) (Prim.hlevel props)
       (λ one. long which page_size (tree_of listing) (meta_of checked).root_sequence size one.storable)
 
-  pub accepted : CopiesListTheSame → (which : Layout) (page_size : ℕ) → IsPageSize page_size → (meta_of checked).root_sequence < 2 ^ 64
+  pub accepted : FilesAreOfOneTree → CopiesListTheSame → (which : Layout) (page_size : ℕ) → IsPageSize page_size → (meta_of checked).root_sequence < 2 ^ 64
       → ForListing checked (λ listing. length (layout_for which checked page_size listing) < too_many → ∥ IsSoundCopy which page_size (tree_of listing) (meta_of checked).root_sequence listing ∥₁)
-  accepted law which page_size size fits listing lists short =
-      ∥∥₁_map (checked_trees checked) (λ trees. law which (bytes_of checked) (meta_of checked) listing page_size bytes trees lists size fits short)
+  accepted one law which page_size size fits listing lists short = ∥∥₁_map (one_tree one listing lists) (λ is. law which listing page_size (meta_of checked).root_sequence is size fits short)
 
   pub holds_few : FilesAreOfOneTree → LayoutsHoldFew → (which : Layout) (page_size : ℕ) → IsPageSize page_size
       → ForListing checked (λ listing. length (layout_for which checked page_size listing) < too_many → layout_held which page_size (tree_of listing) ≤ length (layout_for which checked page_size listing))

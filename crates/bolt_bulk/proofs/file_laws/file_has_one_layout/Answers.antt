@@ -10,7 +10,7 @@ returns-clause-length c =
 
 pub returns-clause-accepted : goal.returns-clause-accepted
 returns-clause-accepted c =
-    λ which. accepted c.args.checked.now (rw c.bytes.ensures at c.are_bytes.ensures) c.a_copy_lists_the_same.ensures which c.args.page_size c.requires (rw c.meta.ensures at c.fits.ensures)
+    λ which. accepted c.args.checked.now (rw c.bytes.ensures at c.are_bytes.ensures) c.a_files_listing_is_of_one_tree.ensures c.a_copy_lists_the_same.ensures which c.args.page_size c.requires (rw c.meta.ensures at c.fits.ensures)
 
 pub returns-clause-beginnings : goal.returns-clause-beginnings
 returns-clause-beginnings c =
