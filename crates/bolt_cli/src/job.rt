@@ -22,9 +22,11 @@ pub enum Job {
     Pages {
         file: String,
     },
-    /// Whether the file is sound.
+    /// Whether the file is sound, or each thing that is lost of it.
     Check {
         file: String,
+        slot: Option<Slot>,
+        all: bool,
     },
     /// The names of the root's buckets.
     Buckets {
@@ -51,19 +53,23 @@ pub enum Job {
         path: Vec<Vec<u8>>,
         form: Form,
     },
-    /// The listing from a path on, from its beginning where the path is empty.
+    /// The listing from a path on, from its beginning where the path is empty; of a damaged file
+    /// what is recovered, if that is asked for.
     List {
         file: String,
         slot: Option<Slot>,
         from: Vec<Vec<u8>>,
+        recover: bool,
     },
-    /// A compact copy to another file, at a page size of its own or that of the file, in a layout.
+    /// A compact copy to another file, at a page size of its own or that of the file, in a layout; of
+    /// a damaged file a copy of what is recovered, if that is asked for.
     Compact {
         file: String,
         slot: Option<Slot>,
         target: String,
         page_size: Option<PageSize>,
         layout: Layout,
+        recover: bool,
     },
 }
 
@@ -81,7 +87,11 @@ impl Job {
             Job::Page { file, id: _ } => file.as_str(),
             Job::Pages { file } => file.as_str(),
             Job::Stats { file, slot: _ } => file.as_str(),
-            Job::Check { file } => file.as_str(),
+            Job::Check {
+                file,
+                slot: _,
+                all: _,
+            } => file.as_str(),
             Job::Buckets {
                 file,
                 slot: _,
@@ -103,6 +113,7 @@ impl Job {
                 file,
                 slot: _,
                 from: _,
+                recover: _,
             } => file.as_str(),
             Job::Compact {
                 file,
@@ -110,6 +121,7 @@ impl Job {
                 target: _,
                 page_size: _,
                 layout: _,
+                recover: _,
             } => file.as_str(),
         }
     }
@@ -136,6 +148,7 @@ impl Job {
                 target,
                 page_size: _,
                 layout: _,
+                recover: _,
             } => Some(target.as_str()),
             _ => None,
         }

@@ -50,10 +50,11 @@ impl<T: Drop> From<AllocFailed<T>> for Refusal {
 
 /// Reads the words of a command line, of which the first is the program's name.
 ///
-/// The lines are `info FILE`, `page FILE ID`, `pages FILE`, `check FILE`, `buckets FILE [--form F]`,
-/// `keys FILE PART.. [--form F] [--parts P]`, `get FILE PART.. [--form F] [--parts P]`, `stats FILE`,
-/// `list FILE [--from HEXPATH]` and `compact -o OUT FILE [--page-size N] [--for-bbolt]`; `buckets` and
-/// those behind it also take `--meta M`, with M 0 or 1. Options stand before, between or behind the
+/// The lines are `info FILE`, `page FILE ID`, `pages FILE`, `check FILE [--all]`,
+/// `buckets FILE [--form F]`, `keys FILE PART.. [--form F] [--parts P]`,
+/// `get FILE PART.. [--form F] [--parts P]`, `stats FILE`, `list FILE [--from HEXPATH] [--recover]` and
+/// `compact -o OUT FILE [--page-size N] [--for-bbolt] [--recover]`; `check` and those behind it also
+/// take `--meta M`, with M 0 or 1. Options stand before, between or behind the
 /// operands, once each, as `--form hex` or `--form=hex`, and `-o OUT`, `-oOUT` or `-o=OUT`. A word
 /// that begins with a hyphen and has more is an option, unless `--` stands before it. An ID is
 /// decimal digits, at least one, of a number below 2^64; F is `printable`, `hex` or `bytes`; P is
@@ -154,7 +155,9 @@ fn read_check(alloc: Global, matches: &ArgMatches<'_>) -> Result<Job, Refusal>
     ensures { Gives asked_of (asks_check (values_in (rows_of (found_of matches.now)))) result }
 {
     let file = read_text(alloc, matches, "FILE")?;
-    Ok(Job::Check { file })
+    let slot = read_slot(choice(matches, "meta"))?;
+    let all = choice(matches, "all").is_some();
+    Ok(Job::Check { file, slot, all })
 }
 
 fn read_buckets(alloc: Global, matches: &ArgMatches<'_>) -> Result<Job, Refusal>
@@ -202,7 +205,13 @@ fn read_list(alloc: Global, matches: &ArgMatches<'_>) -> Result<Job, Refusal>
     let file = read_text(alloc, matches, "FILE")?;
     let slot = read_slot(choice(matches, "meta"))?;
     let from = read_from(alloc, choice(matches, "from"))?;
-    Ok(Job::List { file, slot, from })
+    let recover = choice(matches, "recover").is_some();
+    Ok(Job::List {
+        file,
+        slot,
+        from,
+        recover,
+    })
 }
 
 fn read_stats(alloc: Global, matches: &ArgMatches<'_>) -> Result<Job, Refusal>
@@ -221,12 +230,14 @@ fn read_compact(alloc: Global, matches: &ArgMatches<'_>) -> Result<Job, Refusal>
     let target = read_text(alloc, matches, "output")?;
     let page_size = read_page_size(choice(matches, "page-size"))?;
     let layout = read_layout(choice(matches, "for-bbolt"));
+    let recover = choice(matches, "recover").is_some();
     Ok(Job::Compact {
         file,
         slot,
         target,
         page_size,
         layout,
+        recover,
     })
 }
 

@@ -29,6 +29,6 @@ pub use bolt_check::NoMemory;
 pub use bucket::Bucket;
 pub use cursor::Cursor;
 pub use entry::{Entry, Item};
-pub use members::Members;
+pub use members::{Listed, Members};
 pub use pager::Pager;
 pub use walk::Walk;

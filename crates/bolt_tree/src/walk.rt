@@ -81,6 +81,14 @@ impl<'a> Walk<'a> {
         }
     }
 
+    /// The file that it goes along.
+    #[tactic(auto, unfolding(crate::specs::Walks::walk_checked))]
+    pub fn checked(&self) -> Checked<'a>
+        ensures { result ≡ walk_checked self.now }
+    {
+        self.buckets.cursors.checked
+    }
+
     /// The path of the item given last, from the root bucket down; empty before the first one and
     /// after the last.
     #[tactic(auto, unfolding(crate::specs::Walks::walk_path))]
