@@ -1,7 +1,7 @@
-//! The pages of a copy, put in one pass over the file.
-ghost use Rattle.std.specs.Prelude.{◌≡◌, ◌≤◌, []};
+//! The pages of a copy, put in one pass over the members.
+ghost use Rattle.std.specs.Prelude.{◌≡◌, ◌≤◌, [], List, OnOk};
 ghost use Rattle.std.specs.List.{AllByRecursion};
-ghost use Rattle.bolt_tree.specs.FileListings.{ForListing};
+ghost use Rattle.bolt_tree.specs.Listing.{Member};
 ghost use Rattle.bolt_tree.specs.Tree.{listing_of, tree_of};
 ghost use Rattle.bolt_layout.specs.declared.layout.Layout.{Layout};
 ghost use Rattle.bolt_layout.specs.declared.layout.Layout.TheVariants.{Plain};
@@ -12,33 +12,35 @@ use crate::bounds::Bounds;
 use crate::fault::BulkFault;
 use crate::limits::Limits;
 use crate::pass::{Ended, Pass};
-use bolt_check::Checked;
 use bolt_format::Sink;
-use bolt_tree::Walk;
+use bolt_tree::{Listed, Members};
 use std::alloc::Global;
 
-/// Puts the pages of all that a file holds, in the layout whose rows have these limits.
-pub(crate) fn put_pages<S: Sink>(
+/// Puts the pages of all members, none of which is given yet, in the layout whose rows have these
+/// limits. `K` names their listing.
+pub(crate) fn put_pages<'a, K: Listed, M: Members<'a>, S: Sink>(
     alloc: Global,
     bounds: Bounds,
     limits: &Limits,
-    checked: Checked<'_>,
+    members: &mut M,
     sink: &mut S,
 ) -> Result<Ended, BulkFault>
     requires room { 3 ≤ bounds.limit }
-    requires fit { ForListing checked (λ listing. ∥ AllByRecursion IsFitMember listing ∥₁) }
-    requires lists { ForListing checked (λ listing. listing_of (tree_of listing) ≡ listing) }
-    ensures { (which : Layout) → ForListing checked.entry (λ listing. FitLimits (record { which = which; tree = tree_of listing }) bounds.page_size (limits_with limits.now)
-        → Ends (record { which = which; tree = tree_of listing }) S.taken S.failed sink.old sink.new bounds [] result) }
+    requires listed { ∥ M.lists members.old K.listing ∥₁ }
+    requires all { (listing : List Member) → M.lists members.old listing → M.left members.old listing ≡ listing }
+    requires fit { (listing : List Member) → M.lists members.old listing → ∥ AllByRecursion IsFitMember listing ∥₁ }
+    requires lists { (listing : List Member) → M.lists members.old listing → listing_of (tree_of listing) ≡ listing }
+    ensures pages { (which : Layout) (listing : List Member) → M.lists members.old listing → FitLimits (record { which = which; tree = tree_of listing }) bounds.page_size (limits_with limits.now)
+        → Ends (record { which = which; tree = tree_of listing }) S.taken S.failed sink.old sink.new bounds [] result }
+    ensures end { OnOk result (M.ends_as members.old members.new) }
 {
-    let mut walk = Walk::new(alloc, checked);
     let mut pass = Pass::new(alloc, bounds, limits);
     'members: loop {
-        match walk.next() {
+        match members.next() {
             Err(_) => return Err(BulkFault::Memory),
             Ok(None) => return pass.end(sink),
             Ok(Some(item)) => {
-                if let Err(fault) = pass.take(walk.path(), item, sink) {
+                if let Err(fault) = pass.take(members.path(), item, sink) {
                     return Err(fault);
                 }
             }
@@ -46,18 +48,21 @@ pub(crate) fn put_pages<S: Sink>(
     }
 }
 
-/// Puts the pages of all that a file holds, in the plain layout.
-pub(crate) fn put_plain_pages<S: Sink>(
+/// Puts the pages of all members in the plain layout.
+pub(crate) fn put_plain_pages<'a, K: Listed, M: Members<'a>, S: Sink>(
     alloc: Global,
     bounds: Bounds,
-    checked: Checked<'_>,
+    members: &mut M,
     sink: &mut S,
 ) -> Result<Ended, BulkFault>
     requires room { 3 ≤ bounds.limit }
-    requires fit { ForListing checked (λ listing. ∥ AllByRecursion IsFitMember listing ∥₁) }
-    requires lists { ForListing checked (λ listing. listing_of (tree_of listing) ≡ listing) }
-    ensures { ForListing checked.entry (λ listing. Ends (record { which = Plain; tree = tree_of listing }) S.taken S.failed sink.old sink.new bounds [] result) }
+    requires listed { ∥ M.lists members.old K.listing ∥₁ }
+    requires all { (listing : List Member) → M.lists members.old listing → M.left members.old listing ≡ listing }
+    requires fit { (listing : List Member) → M.lists members.old listing → ∥ AllByRecursion IsFitMember listing ∥₁ }
+    requires lists { (listing : List Member) → M.lists members.old listing → listing_of (tree_of listing) ≡ listing }
+    ensures pages { (listing : List Member) → M.lists members.old listing → Ends (record { which = Plain; tree = tree_of listing }) S.taken S.failed sink.old sink.new bounds [] result }
+    ensures end { OnOk result (M.ends_as members.old members.new) }
 {
     let limits = Limits::none(alloc);
-    put_pages(alloc, bounds, &limits, checked, sink)
+    put_pages::<K, _, _>(alloc, bounds, &limits, members, sink)
 }

@@ -18,6 +18,10 @@ use crate::no_sink::NoSink;
 use crate::outcome::{Done, Plan};
 use bolt_check::Checked;
 use bolt_format::Sink;
+use bolt_layout::Layout;
+use bolt_recover::Recovery;
+use bolt_tree::{Listed, Members, Walk};
+use std::marker::Brand;
 use std::alloc::Global;
 
 /// The most bytes that a copy may have.
@@ -37,70 +41,42 @@ fn bounds_of(page_size: u64) -> Bounds
     }
 }
 
-/// Where a copy of a file at this page size will have its root page and its high-water mark
-/// (docs/LAYOUT.md). Nothing is written.
-///
-/// # Errors
-///
-/// `TooLarge` where the layout has 2^63 bytes or more, and nothing else is answered then but
-/// `Memory`; `Memory` where memory ran out.
 pub fn plan(alloc: Global, checked: Checked<'_>, page_size: u64) -> Result<Plan, PlanFault>
     requires { IsPageSize page_size }
-    ensures { ForListing checked.entry (λ listing. Plans Plain checked.entry page_size listing result) }
 {
-    file_has_one_layout(&checked, page_size);
-    match put_plain_pages(alloc, bounds_of(page_size), checked, &mut NoSink) {
-        Ok(ended) => Ok(Plan {
-            root: ended.root,
-            high_water: ended.high_water,
-        }),
+    let mut walk = Walk::new(alloc, checked);
+    match put_plain_pages::<Brand, _, _>(alloc, bounds_of(page_size), &mut walk, &mut NoSink) {
+        Ok(ended) => Ok(Plan { root: ended.root, high_water: ended.high_water }),
         Err(BulkFault::TooLarge) => Err(PlanFault::TooLarge),
         Err(BulkFault::Memory) => Err(PlanFault::Memory),
         Err(BulkFault::Sink) => unreachable!(),
     }
 }
-
-/// Writes the compact copy of a file at this page size: the one layout of what the file holds
-/// (docs/LAYOUT.md), from its first byte to its last. The file is walked twice, for the plan and for
-/// the pages. If the result isn't `Ok`, the sink took a prefix of the layout that isn't the whole,
-/// which `check` refuses.
-///
-/// # Errors
-///
-/// `TooLarge` where the layout has 2^63 bytes or more, and no byte was put then; `Memory` where
-/// memory ran out; `Sink` where the sink failed.
-pub fn compact<S: Sink>(
-    alloc: Global,
-    checked: Checked<'_>,
-    page_size: u64,
-    sink: &mut S,
-) -> Result<Done, BulkFault>
+pub fn compact<S: Sink>(alloc: Global, checked: Checked<'_>, page_size: u64, sink: &mut S) -> Result<Done, BulkFault>
     requires { IsPageSize page_size }
-    ensures copied { ForListing checked.entry (λ listing. Copies S.taken S.failed sink.old sink.new (layout_for Plain checked.entry page_size listing) result) }
-    ensures accepted { OnOk result (ForListing checked.entry (λ listing. ∥ IsSoundCopy Plain page_size (tree_of listing) (meta_of checked.entry).root_sequence listing ∥₁)) }
-    ensures held { IfOk result (λ done. ForListing checked.entry (λ listing. done.held ≡ layout_held Plain page_size (tree_of listing))) }
-    ensures beginnings { ForListing checked.entry (λ listing. length (layout_for Plain checked.entry page_size listing) < too_many → ∥ RefusesBeginnings (layout_for Plain checked.entry page_size listing) (layout_root Plain page_size (tree_of listing)) ∥₁) }
 {
-    file_has_one_layout(&checked, page_size);
-    let plan = match plan(alloc, checked, page_size) {
-        Ok(plan) => plan,
-        Err(PlanFault::Memory) => return Err(BulkFault::Memory),
-        Err(PlanFault::TooLarge) => return Err(BulkFault::TooLarge),
-    };
-    let facts = Facts {
-        page_size: page_size as u32,
-        root: plan.root,
-        sequence: checked.meta().root_sequence,
-        mark: plan.high_water,
-    };
-    if let Err(_) = put_first_pages(&facts, sink) {
-        return Err(BulkFault::Sink);
-    }
-    match put_plain_pages(alloc, bounds_of(page_size), checked, sink) {
-        Err(fault) => Err(fault),
-        Ok(ended) => Ok(Done {
-            bytes: ended.high_water * page_size,
-            held: ended.held,
-        }),
-    }
+    compact_as(alloc, checked, Layout::Plain, page_size, sink)
+}
+pub fn compact_as<S: Sink>(alloc: Global, checked: Checked<'_>, layout: Layout, page_size: u64, sink: &mut S) -> Result<Done, BulkFault>
+    requires { IsPageSize page_size }
+{
+    let mut walk = Walk::new(alloc, checked);
+    let sequence = checked.meta().root_sequence;
+    put_copy::<Brand, _, _>(alloc, &mut walk, layout, page_size, sequence, sink)
+}
+pub fn compact_recovered<'a, S: Sink>(alloc: Global, recovery: &mut Recovery<'a>, layout: Layout, page_size: u64, sink: &mut S) -> Result<Done, BulkFault>
+    requires { IsPageSize page_size }
+{
+    let sequence = recovery.meta().root_sequence;
+    put_copy::<Brand, _, _>(alloc, recovery, layout, page_size, sequence, sink)
+}
+fn put_copy<'a, K: Listed, M: Members<'a> + Drop, S: Sink>(alloc: Global, members: &mut M, _layout: Layout, page_size: u64, sequence: u64, sink: &mut S) -> Result<Done, BulkFault>
+    requires { IsPageSize page_size }
+{
+    let plan = put_plain_pages::<K, _, _>(alloc, bounds_of(page_size), members, &mut NoSink)?;
+    *members = members.again(alloc)?;
+    let facts = Facts { page_size: page_size as u32, root: plan.root, sequence, mark: plan.high_water };
+    put_first_pages(&facts, sink)?;
+    let ended = put_plain_pages::<K, _, _>(alloc, bounds_of(page_size), members, sink)?;
+    Ok(Done { bytes: ended.high_water * page_size, held: ended.held })
 }

@@ -23,6 +23,6 @@ mod pieces;
 mod row;
 mod steps;
 
-pub use copy::{compact, plan};
+pub use copy::{compact, compact_as, compact_recovered, plan};
 pub use fault::{BulkFault, PlanFault};
 pub use outcome::{Done, Plan};

@@ -75,15 +75,15 @@ fn write_recovered<O: Sink, T: Sink>(
 ) -> Result<u8, Failure>
     ensures { Recovers O.taken O.failed out.old out.new T.taken T.failed target.old target.new file.now slot wanted.now.page_size wanted.now.layout result }
 {
-    let recovery = match open_recovery(alloc, file, slot) {
+    let mut recovery = match open_recovery(alloc, file, slot) {
         Ok(recovery) => recovery,
         Err(fault) => return Err(first_told(&fault)),
     };
     let size = size_of_copy(&recovery.meta(), wanted.page_size);
-    let copy = compact_recovered(alloc, recovery, wanted.layout, size, target)?;
-    let losses = copy.recovery.losses();
+    let copy = compact_recovered(alloc, &mut recovery, wanted.layout, size, target)?;
+    let losses = recovery.losses();
     losses_text(losses, out)?;
-    put_lengths(file.len() as u64, copy.done.bytes, out)?;
+    put_lengths(file.len() as u64, copy.bytes, out)?;
     Ok(status_of(losses))
 }
 

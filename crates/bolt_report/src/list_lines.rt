@@ -50,8 +50,6 @@ pub fn list_recovered<S: Sink>(
     from: &[&[u8]],
     sink: &mut S,
 ) -> Result<(), ReportFault>
-    ensures file { recovery_file recovery.new ≡ recovery_file recovery.old }
-    ensures meta { recovery_meta recovery.new ≡ recovery_meta recovery.old }
     ensures written { ForRecovered (recovery_file recovery.old) (recovery_meta recovery.old) (λ listing. Reports S.taken S.failed sink.old sink.new (listing_text (rest_from (path_of from.now) (recovery_left recovery.old listing))) result) }
     ensures all { OnOk result (ForLosses (recovery_file recovery.old) (recovery_meta recovery.old) (λ losses. recovery_losses recovery.new ≡ losses)) }
     ensures fault { IfErr result (λ fault. (fault ≡ ReportFault.Sink) ⊎ (fault ≡ ReportFault.NoMemory)) }
