@@ -1,6 +1,6 @@
 -- The first pages and those of all buckets are the layout, and so a copy is put whole, or stops short.
-use Rattle.std.proofs.Common.{◌≡◌, ◌∙◌, ℕ, ◌≤◌, ◌<◌, List, ◌++◌, length, Option, Ok, Err, refl, sym, ap, subst, arith, append_assoc}
-use Rattle.std.proofs.KnownBytes.{Appends-trans}
+use Rattle.std.proofs.Common.{◌≡◌, ◌≢◌, ◌∙◌, ℕ, [], Result, ◌≤◌, ◌<◌, List, ◌++◌, length, Option, Ok, Err, refl, sym, ap, subst, arith, append_assoc}
+use Rattle.std.proofs.KnownBytes.{Appends-trans, Keeps-refl}
 use Rattle.std.specs.Io.KnownBytes.{Appends}
 use Rattle.bolt_format.specs.Sinks.{AppendsProperBeginning}
 use Rattle.bolt_tree.specs.Tree.{Tree}
@@ -11,7 +11,11 @@ use Rattle.bolt_bulk.specs.Private.FirstPages.{first_pages}
 use Rattle.bolt_bulk.specs.Puts.{Puts, PutsWhole}
 use Rattle.bolt_bulk.specs.declared.fault.BulkFault.{BulkFault}
 use Rattle.bolt_bulk.specs.declared.fault.BulkFault.TheVariants as bulk
-use Rattle.bolt_bulk.proofs.PutsLemmas.{proper_first, proper_same, proper_second}
+use Rattle.bolt_bulk.specs.declared.fault.PlanFault.{PlanFault}
+use Rattle.bolt_bulk.specs.declared.fault.PlanFault.TheVariants as planned
+use Rattle.bolt_bulk.specs.declared.outcome.Done.{Done}
+use Rattle.bolt_bulk.specs.Private.Stops.{stopped_by}
+use Rattle.bolt_bulk.proofs.PutsLemmas.{proper_first, proper_none, proper_same, proper_second}
 use Rattle.bolt_layout.specs.declared.layout.Layout.{Layout}
 
 pub layout_parts : (which : Layout) (page_size : ℕ) (tree : Tree) (sequence root mark : ℕ) → root ≡ layout_root which page_size tree → mark ≡ layout_mark which page_size tree
@@ -27,6 +31,33 @@ layout_parts which page_size tree sequence root mark root_is mark_is =
 
 never : {X : Type 0} (bytes : ℕ) → bytes < too_many → too_many ≤ bytes → X
 never bytes fits large = absurd (omega arith)
+
+-- what stops before a byte is put
+module _ {S : Type 0} (taken : S → Option (List ℕ)) (failed : S → ℕ) (old : S) (layout : List ℕ) where
+  pub stops_unplanned : (plan : PlanFault) (result : Result Done BulkFault) → result ≡ Err (stopped_by plan) → layout ≢ [] → (plan ≡ planned.TooLarge → too_many ≤ length layout)
+      → Copies taken failed old old layout result
+  stops_unplanned planned.Memory result stop some large = rw stop (record {
+    all = tt;
+    bytes = tt;
+    sound = tt;
+    short = proper_none (taken old) layout some;
+    failure = λ e. absurd cc;
+    other = λ _. refl;
+    large = λ e. absurd cc;
+    refuses = λ _. (refl, Keeps-refl (taken old), refl);
+    untouched = λ _ e. cc;
+  })
+  stops_unplanned planned.TooLarge result stop some large = rw stop (record {
+    all = tt;
+    bytes = tt;
+    sound = tt;
+    short = proper_none (taken old) layout some;
+    failure = λ e. absurd cc;
+    other = λ _. refl;
+    large = λ _. large refl;
+    refuses = λ _. (refl, Keeps-refl (taken old), refl);
+    untouched = λ _ e. cc;
+  })
 
 module _ {S : Type 0} (taken : S → Option (List ℕ)) (failed : S → ℕ) (old new : S) (layout first pages : List ℕ) (same : layout ≡ first ++ pages) (fits : length layout < too_many) where
   pub copied : {A B E : Type 0} (mid : S) (x : A) (y : B) (bytes held : ℕ) → PutsWhole {A = A} {E = E} taken failed old mid first (Ok x) → Puts {A = B} taken failed mid new pages (Ok y) → bytes ≡ length layout

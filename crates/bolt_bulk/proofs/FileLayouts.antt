@@ -1,5 +1,5 @@
 -- What the laws say of the layout of a checked file. Its trees are sound, but that is only known to be, so what follows of it is too.
-use Rattle.std.proofs.Common.{◌≡◌, ◌≢◌, ◌<◌, ◌≤◌, ◌+◌, ◌*◌, ◌^◌, ℕ, List, [], length, ap, subst, arith, ◌/◌}
+use Rattle.std.proofs.Common.{◌≡◌, ◌≢◌, ◌<◌, ◌≤◌, ◌+◌, ◌*◌, ◌/◌, ◌^◌, ℕ, List, [], length, refl, ap, subst, arith}
 use Rattle.std.proofs.Math.Logic.{∥∥₁_elim, ∥∥₁_map}
 use Rattle.std.proofs.Math.Nat.{div-lt_iff_lt-mul, div-mul-le_self, mul-le-mul_right}
 use Rattle.std.specs.List.{AllByRecursion}
@@ -22,6 +22,9 @@ use Rattle.bolt_layout.specs.Storable.{IsStorable}
 use Rattle.bolt_layout.proofs.MetaLemmas.{size_bounds}
 use Rattle.bolt_bulk.proofs.PassEnds.{members_fit}
 use Rattle.bolt_layout.specs.declared.layout.Layout.{Layout}
+use Rattle.bolt_layout.specs.declared.layout.Layout.TheVariants.{Balanced, Plain}
+use Rattle.bolt_layout.specs.Items.{root_of}
+use Rattle.bolt_layout.proofs.NotMuchLarger.{plain_not_much_larger}
 
 abbrev pub FilesAreOfOneTree : Type 0
 FilesAreOfOneTree = (file : List ℕ) (meta : Meta) (listing : List Member) → IsBytes file → HasSoundTrees file meta → IsListing file meta listing → IsOfOneTree listing
@@ -95,3 +98,12 @@ within_limit page_size limit mark bytes limit_is within bytes_are =
     let most : 9223372036854775807 / page_size * page_size ≤ 9223372036854775807 = div-mul-le_self 9223372036854775807 page_size in
     let same : mark * page_size ≤ 9223372036854775807 / page_size * page_size = mul-le-mul_right page_size (omega arith) in
     omega arith
+
+-- The balanced layout is too large where the plain one is beyond 28 times the limit.
+pub balanced_too_large : (page_size : ℕ) (listing : List Member) (bytes : ℕ) → IsPageSize page_size → ∥ IsOfOneTree listing ∥₁
+    → 28 * (9223372036854775807 / page_size) < layout_mark Plain page_size (tree_of listing) → bytes ≡ layout_mark Balanced page_size (tree_of listing) * page_size → too_many ≤ bytes
+balanced_too_large page_size listing bytes size one above bytes_are =
+    let tree : Tree = tree_of listing in
+    let low = (size_bounds page_size size).0 in
+    let times : (root_of Plain page_size tree).numbers ≤ 28 * (root_of Balanced page_size tree).numbers = ∥∥₁_elim one (hlevel props) (λ is. plain_not_much_larger page_size tree size is.storable) in
+    too_large page_size (9223372036854775807 / page_size) (layout_mark Balanced page_size tree) bytes (omega arith) refl (omega arith) bytes_are

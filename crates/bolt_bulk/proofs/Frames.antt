@@ -1,5 +1,5 @@
 -- A forward pass over a tree, with a frame for each bucket that waits: what comes of them is the root page, and what was put are its pages.
-use Rattle.std.proofs.Common.{◌≡◌, ◌∙◌, ℕ, Option, List, [], ◌∷◌, ◌++◌, refl, sym, ap, subst, append_assoc}
+use Rattle.std.proofs.Common.{◌≡◌, ◌∙◌, ℕ, List, [], ◌∷◌, ◌++◌, refl, sym, ap, subst, append_assoc}
 use Rattle.std.proofs.lemmas.List.{append-nil}
 use Rattle.bolt_format.specs.Elements.{BranchElement, LeafElement}
 use Rattle.bolt_tree.specs.Tree.{Tree}
@@ -8,7 +8,8 @@ use Rattle.bolt_layout.specs.Laid.{Laid, Placed}
 use Rattle.bolt_layout.specs.Levels.{root_over}
 use Rattle.bolt_layout.specs.Limits.{HaveRightLimits}
 use Rattle.bolt_layout.specs.Layout.{first_page, layout_pages}
-use Rattle.bolt_bulk.specs.Private.OpenRuns.{Frame, Open, all_put, base_in, end_of, end_puts, frames_put, making_room, next_number, nothing_open, pages_put, pushing, room_puts, taking}
+use Rattle.bolt_bulk.specs.Private.RowLimits.{bucket_limit}
+use Rattle.bolt_bulk.specs.Private.OpenRuns.{all_put, base_in, end_of, end_puts, Frame, frames_put, Known, making_room, next_number, nothing_open, Open, pages_put, pushing, room_puts, taking}
 use Rattle.bolt_bulk.specs.Private.Coming.{HasBegun, IsPass, IsStack, held_item, leaves_coming}
 use Rattle.bolt_bulk.proofs.OpenRunLemmas.{ends, ends_put, opens, pushed_put, room_put, takes}
 use Rattle.bolt_layout.specs.declared.layout.Layout.{Layout}
@@ -22,12 +23,13 @@ pushed_begun : (state : Open) (item : Laid LeafElement) → HasBegun (pushing st
 pushed_begun state item none = absurd (no_push state.run item none)
 
 -- The beginning: nothing is open, nothing was put.
-pub pass_begins : (which : Layout) (page_size : ℕ) (limits : ℕ → Option ℕ) (tree : Tree) → HaveRightLimits which page_size limits (leaves_coming page_size [] (items_of which page_size tree))
-    → IsPass which page_size [] (nothing_open limits) (items_of which page_size tree) (root_of which page_size tree)
+pub pass_begins : (which : Layout) (page_size : ℕ) (known : Known) (tree : Tree) → known.leaves ≡ leaves_coming page_size [] (items_of which page_size tree)
+    → HaveRightLimits which page_size (bucket_limit known.limits) (leaves_coming page_size [] (items_of which page_size tree))
+    → IsPass which page_size [] (nothing_open known) (items_of which page_size tree) (root_of which page_size tree)
 unfolding root_of
-pass_begins which page_size limits tree right = record {
+pass_begins which page_size known tree leaves right = record {
   root = root_over which page_size (items_of which page_size tree);
-  current = opens which page_size limits (items_of which page_size tree) right;
+  current = opens which page_size known (items_of which page_size tree) leaves right;
   begun = λ none. refl;
   stack = refl;
 }
@@ -56,23 +58,23 @@ abbrev pub waiting : ℕ → Open → List ℕ → ℕ → Laid BranchElement �
 waiting page_size state key sequence root after =
     record { state = making_room page_size state key (bucket_item key sequence root).size; key = key; sequence = sequence; after = after }
 
-pub pass_enters : (which : Layout) (page_size : ℕ) (limits : ℕ → Option ℕ) (frames : List Frame) (state : Open) (key : List ℕ) (sequence : ℕ) (inner : List (Laid LeafElement)) (after : Tree) (whole : Laid BranchElement)
-    → HaveRightLimits which page_size limits (leaves_coming page_size [] inner)
+pub pass_enters : (which : Layout) (page_size : ℕ) (known : Known) (frames : List Frame) (state : Open) (key : List ℕ) (sequence : ℕ) (inner : List (Laid LeafElement)) (after : Tree) (whole : Laid BranchElement)
+    → known.leaves ≡ leaves_coming page_size [] inner → HaveRightLimits which page_size (bucket_limit known.limits) (leaves_coming page_size [] inner)
     → IsPass which page_size frames state (bucket_item key sequence (root_over which page_size inner) ∷ items_of which page_size after) whole
-    → IsPass which page_size (waiting page_size state key sequence (root_over which page_size inner) after ∷ frames) (nothing_open limits) inner whole
-pass_enters which page_size limits frames state key sequence inner after whole right pass =
+    → IsPass which page_size (waiting page_size state key sequence (root_over which page_size inner) after ∷ frames) (nothing_open known) inner whole
+pass_enters which page_size known frames state key sequence inner after whole leaves right pass =
     let item : Laid LeafElement = bucket_item key sequence (root_over which page_size inner) in
     record {
       root = root_over which page_size inner;
-      current = opens which page_size limits inner right;
+      current = opens which page_size known inner leaves right;
       begun = λ none. refl;
       stack = (pass.root, takes which page_size state item (items_of which page_size after) pass.root pass.current, pass.stack);
     }
 
-pub put_enters : (page_size : ℕ) (limits : ℕ → Option ℕ) (frames : List Frame) (state : Open) (key : List ℕ) (sequence : ℕ) (root : Laid BranchElement) (after : Tree)
-    → all_put (waiting page_size state key sequence root after ∷ frames) (nothing_open limits)
+pub put_enters : (page_size : ℕ) (known : Known) (frames : List Frame) (state : Open) (key : List ℕ) (sequence : ℕ) (root : Laid BranchElement) (after : Tree)
+    → all_put (waiting page_size state key sequence root after ∷ frames) (nothing_open known)
     ≡ all_put frames state ++ room_puts page_size state key (bucket_item key sequence root).size (base_in frames)
-put_enters page_size limits frames state key sequence root after =
+put_enters page_size known frames state key sequence root after =
     let size : ℕ = (bucket_item key sequence root).size in
     append-nil (frames_put (waiting page_size state key sequence root after ∷ frames))
     ∙ (ap (λ (ps : List Placed). frames_put frames ++ ps) (room_put page_size state key size (base_in frames))

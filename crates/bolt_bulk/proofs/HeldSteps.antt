@@ -6,6 +6,7 @@ use Rattle.bolt_format.specs.ElementPlaces.{branch_view}
 use Rattle.bolt_format.specs.Elements.{BranchElement, LeafElement}
 use Rattle.bolt_layout.specs.Laid.{Laid, elements_of, held_in}
 use Rattle.bolt_layout.specs.Levels as levels
+use Rattle.bolt_bulk.specs.Private.RowLimits.{bucket_limit}
 use Rattle.bolt_bulk.specs.Private.BranchRuns.{row_of, rows_above}
 use Rattle.bolt_bulk.specs.Private.Coming.{held_item}
 use Rattle.bolt_bulk.specs.Private.HeldCounts.{capped, items_above, items_around, items_in}
@@ -13,7 +14,7 @@ use Rattle.bolt_bulk.specs.Private.HeldItems.{held_view}
 use Rattle.bolt_bulk.specs.Private.HeldSoFar.{held_frames, held_on, held_open, held_over, held_so_far, length_frames, length_open, length_over}
 use Rattle.bolt_bulk.specs.Private.OpenBuckets.{rows_of}
 use Rattle.bolt_bulk.specs.Private.OpenRows.{AreRows, IsOpenRows}
-use Rattle.bolt_bulk.specs.Private.OpenRuns.{Frame, Open, Upper, climb, close, end_of, has_room, key_size, making_room, numbers_in, pushed_on, pushing, stays_open, taking}
+use Rattle.bolt_bulk.specs.Private.OpenRuns.{climb, close, end_of, Frame, has_room, key_size, Known, making_room, numbers_in, Open, pushed_on, pushing, stays_open, taking, Upper}
 use Rattle.bolt_bulk.specs.Private.Passes.{AreWaiting}
 use Rattle.bolt_bulk.specs.declared.branch_runs.BranchRun.{BranchRun}
 use Rattle.bolt_bulk.specs.declared.open_bucket.OpenBucket.{OpenBucket}
@@ -88,7 +89,7 @@ made page_size state key size false room =
     let q : Laid BranchElement = levels.page_over levels.leaf_view page_size state.run in
     let same : q.held ≡ held_on state.run 0 = on_page state.run in
     let some = room_first page_size state.run size room in
-    rw room (climbed page_size (state.limits (length state.uppers)) key q state.uppers (omega arith) ∙ ap (λ (n : ℕ). held_over state.uppers n) same)
+    rw room (climbed page_size (bucket_limit state.known.limits (length state.uppers)) key q state.uppers (omega arith) ∙ ap (λ (n : ℕ). held_over state.uppers n) same)
 
 -- and so does the end of a bucket
 closed : (page_size : ℕ) (q : Laid BranchElement) (uppers : List Upper) → 1 ≤ q.held → (close page_size q uppers).held ≡ held_over uppers q.held
@@ -151,10 +152,10 @@ leaves_held page_size frame frames state before after begun old counted =
 flat_run : {E : Type 0} (run : List (Laid E)) → held_in run ≤ length run → held_on run 0 ≡ length run
 flat_run run flat = let e = on_page run in let m = on_max run 0 in omega arith
 
-pub enters_held : (page_size : ℕ) (limits : ℕ → Option ℕ) (frame : Frame) (frames : List Frame) (state : Open) (key : List ℕ) (size : ℕ) (run : List (Laid LeafElement)) (before after : ℕ) → frame.state ≡ making_room page_size state key size
+pub enters_held : (page_size : ℕ) (known : Known) (frame : Frame) (frames : List Frame) (state : Open) (key : List ℕ) (size : ℕ) (run : List (Laid LeafElement)) (before after : ℕ) → frame.state ≡ making_room page_size state key size
     → held_in run ≤ length run → before ≡ capped (held_so_far frames state)
-    → after ≡ max before (capped (length_frames (frame ∷ frames) + length_open (record { uppers = []; run = run; limits = limits }))) → after ≡ capped (held_so_far (frame ∷ frames) (record { uppers = []; run = run; limits = limits }))
-enters_held page_size limits frame frames state key size run before after room flat old counted =
+    → after ≡ max before (capped (length_frames (frame ∷ frames) + length_open (record { uppers = []; run = run; known = known }))) → after ≡ capped (held_so_far (frame ∷ frames) (record { uppers = []; run = run; known = known }))
+enters_held page_size known frame frames state key size run before after room flat old counted =
     let same = ap (λ (s : Open). held_open s 0) room ∙ made page_size state key size (has_room page_size 1 state.run size) refl in
     let values = flat_run run flat in
     let inner = ap (λ (n : ℕ). held_frames frames (held_open frame.state n)) values in
@@ -166,7 +167,7 @@ enters_held page_size limits frame frames state key size run before after room f
 
 -- ---- what code counts
 
-run_length : (run : BranchRun) (pages : List (Laid BranchElement)) (n : ℕ) → (row_of run).elements ≡ elements_of pages n → length run.elements.items ≡ length pages
+pub run_length : (run : BranchRun) (pages : List (Laid BranchElement)) (n : ℕ) → (row_of run).elements ≡ elements_of pages n → length run.elements.items ≡ length pages
 run_length run pages n same =
     let l = length-map run.elements.items branch_view in
     let e = ap (λ (es : List BranchElement). length es) same in

@@ -30,6 +30,7 @@ mod PutParts
 mod PutsLemmas
 mod RowLemmas
 mod RunLemmas
+mod Tables
 mod ToldRuns
 mod WalkLeft
 mod WholePuts

@@ -1,5 +1,5 @@
 -- The limits of rows: those of other rows stay, and those of a bucket are told row by row.
-use Rattle.std.proofs.Common.{◌≡◌, ◌≢◌, ◌∙◌, ◌⊎◌, ◌==◌, ◌<◌, ◌≤◌, ◌+◌, ◌-◌, ℕ, suc, Bool, true, false, Option, Some, None, List, [], ◌∷◌, length, drop, refl, sym, ap, inl, inr, arith}
+use Rattle.std.proofs.Common.{◌≡◌, ◌≢◌, ◌∙◌, ◌==◌, ◌<◌, ◌≤◌, ◌+◌, ◌-◌, ℕ, suc, Bool, true, false, Option, Some, None, List, [], ◌∷◌, length, drop, refl, sym, ap, inl, inr, arith}
 use Rattle.std.proofs.lemmas.Bool.{cases_Bool, cases_lt}
 use Rattle.std.proofs.lemmas.List.{drop_all}
 use Rattle.std.proofs.lemmas.Bool.Decides.{eqb_tells}
@@ -46,7 +46,6 @@ pub told_step : (rows : List (ℕ × ℕ)) (lost loses : Bool) (i : ℕ) (row : 
     → ((k : ℕ) → limit_at (limits_told false rows) (i + k) ≡ limit_at (limits_told lost (drop i rows)) k)
     → new i ≡ limit → ((k : ℕ) → (k ≡ i → ⊥) → new k ≡ old k)
     → ((k : ℕ) → k < i + 1 → new k ≡ limit_at (limits_told false rows) k) × ((k : ℕ) → i + 1 ≤ k → new k ≡ None)
-    × ((k : ℕ) → limit_at (limits_told false rows) (i + 1 + k) ≡ limit_at (limits_told loses (drop (i + 1) rows)) k)
 told_step rows lost loses i row limit old new at step below above rest here others =
     let T : List (Option ℕ) = limits_told false rows in
     let next : limits_told lost (drop i rows) ≡ limit ∷ limits_told loses (drop (i + 1) rows) =
@@ -58,8 +57,17 @@ told_step rows lost loses i row limit old new at step below above rest here othe
         | inr after ↦ (let same : k ≡ i = omega arith in ap new same ∙ (here ∙ (sym own ∙ ap (λ (n : ℕ). limit_at T n) (sym same))))
       ]),
       (λ k more. others k (λ e. omega arith) ∙ above k (omega arith)),
-      (λ k. (let shift : i + 1 + k ≡ i + suc k = omega arith in ap (λ (n : ℕ). limit_at T n) shift ∙ (rest (suc k) ∙ ap (λ (ls : List (Option ℕ)). limit_at ls (suc k)) next))),
     )
+
+pub told_rest : (rows : List (ℕ × ℕ)) (lost loses : Bool) (i : ℕ) (row : ℕ × ℕ) (limit : Option ℕ) → drop i rows ≡ row ∷ drop (i + 1) rows
+    → ((rest : List (ℕ × ℕ)) → limits_told lost (row ∷ rest) ≡ limit ∷ limits_told loses rest)
+    → ((k : ℕ) → limit_at (limits_told false rows) (i + k) ≡ limit_at (limits_told lost (drop i rows)) k)
+    → (k : ℕ) → limit_at (limits_told false rows) (i + 1 + k) ≡ limit_at (limits_told loses (drop (i + 1) rows)) k
+told_rest rows lost loses i row limit at step rest k =
+    let next : limits_told lost (drop i rows) ≡ limit ∷ limits_told loses (drop (i + 1) rows) =
+    ap (λ (rs : List (ℕ × ℕ)). limits_told lost rs) at ∙ step (drop (i + 1) rows) in
+    let shift : i + 1 + k ≡ i + suc k = omega arith in
+    ap (λ (n : ℕ). limit_at (limits_told false rows) n) shift ∙ (rest (suc k) ∙ ap (λ (ls : List (Option ℕ)). limit_at ls (suc k)) next)
 
 none_at : (lost : Bool) (k : ℕ) → limit_at (limits_told lost []) k ≡ None
 none_at lost k = refl

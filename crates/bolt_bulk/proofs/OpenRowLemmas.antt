@@ -7,7 +7,9 @@ use Rattle.bolt_format.specs.Elements.{BranchElement, LeafElement}
 use Rattle.bolt_layout.specs.Cut.{run_size}
 use Rattle.bolt_layout.specs.Laid.{Laid, Placed, elements_of, first_key, numbers_of, size_of}
 use Rattle.bolt_layout.specs.Levels.{branch_view, leaf_view, overflow_of, page_over, run_overflow}
-use Rattle.bolt_bulk.specs.Private.OpenRuns.{Open, Upper, climb, close, close_puts, end_of, end_puts, has_room, key_size, making_room, nothing_open, numbers_in, own_page, pushed_on, pushing, put_in, room_puts, stays_open}
+use Rattle.bolt_bulk.specs.declared.limits.BucketLimits.{BucketLimits}
+use Rattle.bolt_bulk.specs.Private.RowLimits.{bucket_limit}
+use Rattle.bolt_bulk.specs.Private.OpenRuns.{climb, close, close_puts, end_of, end_puts, has_room, key_size, Known, making_room, nothing_open, numbers_in, Open, own_page, pushed_on, pushing, put_in, room_puts, stays_open, Upper}
 use Rattle.bolt_bulk.specs.Private.Rows.{BranchRow, OpenRows, leaf_key, leaf_page, leaves_have_room, no_leaves, row_key, row_push, row_stays, rows_climb, rows_close_put, rows_end, rows_end_put, rows_next, rows_root, rows_push, rows_put, rows_room, rows_room_put}
 use Rattle.bolt_bulk.specs.Private.OpenRows.{AreRows, IsKeyed, IsKeyedItem, IsOpenRows}
 use Rattle.bolt_layout.proofs.ListLemmas.{all_append}
@@ -41,8 +43,8 @@ rows_nexted page_size new key e next b q (row ∷ rows) (upper ∷ uppers) are k
       | inr f ↦ (let u : row_stays page_size (row_push row e) (key_size key) ≡ false = test ∙ f in rw (f, u) (ih ∙ omega arith))
     ]
 
-pub nothing_rows : (limits : ℕ → Option ℕ) (b : ℕ) → IsOpenRows (record { leaves = no_leaves; uppers = []; limits = limits; next = b }) (nothing_open limits) b
-nothing_rows limits b = record { same = refl; size_is = refl; keyed = tt; above = tt; next_is = omega arith; limits_are = refl }
+pub nothing_rows : (known : Known) (b : ℕ) → IsOpenRows (record { leaves = no_leaves; uppers = []; limits = known.limits; next = b }) (nothing_open known) b
+nothing_rows known b = record { same = refl; size_is = refl; keyed = tt; above = tt; next_is = omega arith; limits_are = refl }
 
 pub leaf_key_same : (run : List (Laid LeafElement)) (n : ℕ) → AllByRecursion IsKeyedItem run → leaf_key (elements_of run n) ≡ first_key run
 leaf_key_same [] n keyed = refl
@@ -67,8 +69,8 @@ rows_have_room page_size rows state b key size is =
     let over : overflow_of page_size rows.leaves.size ≡ run_overflow page_size state.run = ap (overflow_of page_size) is.size_is in
     let named : closed ≡ q.element m = same_element closed (q.element m) (ap leaf_key is.same ∙ leaf_key_same state.run m is.keyed) is.next_is in
     let n = is.next_is in
-    let new : Option ℕ = state.limits (length state.uppers) in
-    let level : rows.limits (length rows.uppers) ≡ new = ap (λ (f : ℕ → Option ℕ). f (length rows.uppers)) is.limits_are ∙ ap (λ (k : ℕ). state.limits k) (as_many rows.uppers state.uppers b is.above) in
+    let new : Option ℕ = bucket_limit state.known.limits (length state.uppers) in
+    let level : bucket_limit rows.limits (length rows.uppers) ≡ new = ap (λ (limits : BucketLimits). bucket_limit limits (length rows.uppers)) is.limits_are ∙ ap (λ (k : ℕ). bucket_limit state.known.limits k) (as_many rows.uppers state.uppers b is.above) in
     let number : after ≡ m + q.numbers = omega arith in
     let climbed = rows_climbed page_size new key closed after b q rows.uppers state.uppers is.above (refl, λ k. refl) named number in
     let nexted = rows_nexted page_size new key closed after b q rows.uppers state.uppers is.above (refl, λ k. refl) named number in
@@ -81,7 +83,7 @@ rows_have_room page_size rows state b key size is =
       | inr g ↦
           (let u : leaves_have_room page_size rows.leaves size ≡ false = test ∙ g in
           let made : IsOpenRows (record { leaves = no_leaves; uppers = rows_climb page_size new key closed after rows.uppers; limits = rows.limits; next = rows_next page_size key closed after rows.uppers })
-          (record { uppers = climb page_size new key q state.uppers; run = []; limits = state.limits }) b = record { same = refl; size_is = refl; keyed = tt; above = climbed.0; next_is = nexted ∙ omega arith; limits_are = is.limits_are } in
+          (record { uppers = climb page_size new key q state.uppers; run = []; known = state.known }) b = record { same = refl; size_is = refl; keyed = tt; above = climbed.0; next_is = nexted ∙ omega arith; limits_are = is.limits_are } in
           rw (g, u, level) (made, ap (λ (p : Placed). p ∷ rows_put page_size key closed after rows.uppers) own ∙ ap (λ (ps : List Placed). own_page leaf_view page_size state.run m ∷ ps) climbed.1))
     ]
 

@@ -7,7 +7,8 @@ use Rattle.bolt_format.specs.Elements.{BranchElement, LeafElement}
 use Rattle.bolt_layout.specs.Cut.{branch_cut, cut_from, joins, max_items, run_size}
 use Rattle.bolt_layout.specs.Laid.{Laid, Placed, numbers_of, pages_of, size_of}
 use Rattle.bolt_layout.specs.Levels.{branch_view, leaf_view, page_over, root_over}
-use Rattle.bolt_bulk.specs.Private.OpenRuns.{Open, Upper, climb, climb_puts, close, close_puts, end_of, end_puts, has_room, kept, key_size, next_number, nothing_open, numbers_in, own_page, making_room, pages_put, pushed_on, pushing, put_in, room_puts, stays_open, taking}
+use Rattle.bolt_bulk.specs.Private.RowLimits.{bucket_limit}
+use Rattle.bolt_bulk.specs.Private.OpenRuns.{climb, climb_puts, close, close_puts, end_of, end_puts, has_room, kept, key_size, Known, making_room, next_number, nothing_open, numbers_in, Open, own_page, pages_put, pushed_on, pushing, put_in, room_puts, stays_open, taking, Upper}
 use Rattle.bolt_bulk.specs.Private.Coming.{Comes, IsOpen, IsSized, IsUnder, leaves_coming}
 use Rattle.bolt_layout.specs.Limits.{HaveRightLimits, cut_left, is_out, one_less}
 use Rattle.bolt_layout.proofs.Tops.{top_above}
@@ -197,11 +198,12 @@ close_put page_size q (upper ∷ uppers) b =
     close_put page_size q2 uppers b ∙ over_put page_size b run q uppers (close_puts page_size q2 uppers b)
 
 -- One item.
-pub opens : (which : Layout) (page_size : ℕ) (limits : ℕ → Option ℕ) (items : List (Laid LeafElement)) → HaveRightLimits which page_size limits (leaves_coming page_size [] items)
-    → IsOpen which page_size (nothing_open limits) items (root_over which page_size items)
+pub opens : (which : Layout) (page_size : ℕ) (known : Known) (items : List (Laid LeafElement)) → known.leaves ≡ leaves_coming page_size [] items
+    → HaveRightLimits which page_size (bucket_limit known.limits) (leaves_coming page_size [] items)
+    → IsOpen which page_size (nothing_open known) items (root_over which page_size items)
 unfolding root_over
-opens which page_size limits [] right = record { all = leaves_coming page_size [] []; comes = (refl, record { top = refl; right = right }) }
-opens which page_size limits (item ∷ items) right = record { all = leaves_coming page_size [] (item ∷ items); comes = (refl, record { top = refl; right = right }) }
+opens which page_size known [] leaves right = record { comes = (sym leaves, record { top = refl; right = right }) }
+opens which page_size known (item ∷ items) leaves right = record { comes = (sym leaves, record { top = refl; right = right }) }
 
 leaves_first : (page_size : ℕ) (first : Laid LeafElement) (run items : List (Laid LeafElement))
     → (p : Laid BranchElement) × (rest : List (Laid BranchElement)) × (map (page_over leaf_view page_size) (cut_from page_size 1 size_of (first ∷ run) items) ≡ p ∷ rest)
@@ -221,18 +223,17 @@ pub takes : (which : Layout) (page_size : ℕ) (state : Open) (item : Laid LeafE
 takes which page_size state item items root is =
     let same = room_joins page_size 1 state.run item item.size refl in
     let M : List (List (Laid LeafElement)) → List (Laid BranchElement) = λ runs. map (page_over leaf_view page_size) runs in
-    let C : List (List (Laid LeafElement)) → Type 0 = λ runs. Comes which page_size state.limits state.uppers is.all (M runs) root in
+    let C : List (List (Laid LeafElement)) → Type 0 = λ runs. Comes which page_size (bucket_limit state.known.limits) state.uppers state.known.leaves (M runs) root in
     elim (cases_Bool (has_room page_size 1 state.run item.size)) [
-      | inl t ↦ rw t (record { all = is.all; comes = subst C (cut_joined page_size 1 state.run item items (sym same ∙ t)) is.comes })
+      | inl t ↦ rw t (record { comes = subst C (cut_joined page_size 1 state.run item items (sym same ∙ t)) is.comes })
       | inr f ↦
           let q : Laid BranchElement = page_over leaf_view page_size state.run in
           let (p, rest, e, k, s) = leaves_first page_size item [] items in
           let split = subst C (cut_begun page_size 1 state.run item items (sym same ∙ f)) is.comes in
-          let whole = subst (λ (ps : List (Laid BranchElement)). Comes which page_size state.limits state.uppers is.all (q ∷ ps) root) e split in
+          let whole = subst (λ (ps : List (Laid BranchElement)). Comes which page_size (bucket_limit state.known.limits) state.uppers state.known.leaves (q ∷ ps) root) e split in
           rw f (record {
-            all = is.all;
-            comes = subst (λ (ps : List (Laid BranchElement)). Comes which page_size state.limits (climb page_size (state.limits (length state.uppers)) item.key q state.uppers) is.all ps root) (sym e)
-                (climb_same which page_size state.limits item.key q state.uppers p rest is.all root k s whole);
+            comes = subst (λ (ps : List (Laid BranchElement)). Comes which page_size (bucket_limit state.known.limits) (climb page_size (bucket_limit state.known.limits (length state.uppers)) item.key q state.uppers) state.known.leaves ps root) (sym e)
+                (climb_same which page_size (bucket_limit state.known.limits) item.key q state.uppers p rest state.known.leaves root k s whole);
           })
     ]
 
@@ -248,8 +249,8 @@ room_put page_size state key size b = elim (cases_Bool (has_room page_size 1 sta
       let ys : List Placed = pages_of state.run m in
       let own : Placed = own_page leaf_view page_size state.run m in
       let cs : List Placed = climb_puts page_size key q state.uppers b in
-      rw f (append-nil (pages_of (put_in (climb page_size (state.limits (length state.uppers)) key q state.uppers)) b)
-      ∙ (climb_put page_size (state.limits (length state.uppers)) key q state.uppers b ∙ (ap (λ (ps : List Placed). xs ++ ps) (append_assoc ys (own ∷ []) cs) ∙ sym (append_assoc xs ys (own ∷ cs)))))
+      rw f (append-nil (pages_of (put_in (climb page_size (bucket_limit state.known.limits (length state.uppers)) key q state.uppers)) b)
+      ∙ (climb_put page_size (bucket_limit state.known.limits (length state.uppers)) key q state.uppers b ∙ (ap (λ (ps : List Placed). xs ++ ps) (append_assoc ys (own ∷ []) cs) ∙ sym (append_assoc xs ys (own ∷ cs)))))
 ]
 
 pub pushed_put : (state : Open) (item : Laid LeafElement) (b : ℕ) → pages_put (pushing state item) b ≡ pages_put state b ++ item.pages (next_number state b)
@@ -260,7 +261,7 @@ pushed_put state item b =
 
 -- The end.
 pub ends : (which : Layout) (page_size : ℕ) (state : Open) (root : Laid BranchElement) → IsOpen which page_size state [] root → end_of page_size state ≡ root
-ends which page_size state root is = close_same which page_size state.limits (page_over leaf_view page_size state.run) state.uppers is.all root is.comes
+ends which page_size state root is = close_same which page_size (bucket_limit state.known.limits) (page_over leaf_view page_size state.run) state.uppers state.known.leaves root is.comes
 
 pub ends_put : (page_size : ℕ) (state : Open) (b : ℕ) → (end_of page_size state).pages b ≡ pages_put state b ++ end_puts page_size state b
 ends_put page_size state b =

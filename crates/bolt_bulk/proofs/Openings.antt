@@ -1,24 +1,25 @@
--- Limits that are right for the buckets of a tree are so for those that are still to come.
-use Rattle.std.proofs.Common.{◌≡◌, ℕ, suc, true, false, List, [], ◌∷◌, Option, None, refl, subst}
-use Rattle.bolt_format.specs.Elements.{LeafElement}
-use Rattle.bolt_tree.specs.Tree.{Tree}
-use Rattle.bolt_layout.specs.Items.{is_inline, items_of}
-use Rattle.bolt_layout.specs.Openings.{AreRight, leaf_pages, opened_by, opened_in}
+-- What is known of the buckets of a tree is known of those that are still to come.
+use Rattle.std.proofs.Common.{◌≡◌, ◌∙◌, ◌+◌, ◌≤◌, ℕ, suc, Bool, true, false, List, [], ◌∷◌, Option, None, refl, sym, ap, subst, arith}
+use Rattle.bolt_format.specs.Elements.{BranchElement, LeafElement}
+use Rattle.bolt_tree.specs.Tree.{Tree, end, with_bucket, with_value}
+use Rattle.bolt_layout.specs.Items.{is_inline, items_of, root_of}
+use Rattle.bolt_layout.specs.Laid.{Laid, numbers_of}
+use Rattle.bolt_layout.specs.Layout.{layout_mark}
+use Rattle.bolt_layout.specs.Limits.{limit_at, limits_told}
+use Rattle.bolt_layout.specs.Openings.{AreRight, AreTellings, leaf_pages, limits_for, opened_by, opened_in, told_of}
 use Rattle.bolt_layout.specs.declared.layout.Layout.{Layout}
-use Rattle.bolt_layout.specs.declared.layout.Layout.TheVariants.{Plain}
+use Rattle.bolt_layout.specs.declared.layout.Layout.TheVariants.{Balanced, Plain}
+use Rattle.bolt_layout.proofs.OpenedBuckets.{items_below, leaves_few}
 use Rattle.bolt_layout.proofs.PlainRows.{plain_right, plain_rows}
+use Rattle.bolt_layout.proofs.Tellings.{root_tellings, tellings_are}
 use Rattle.bolt_bulk.specs.Private.HeldCounts.{capped}
 use Rattle.bolt_bulk.specs.Private.RowLimits.{limit_in}
 use Rattle.bolt_bulk.specs.declared.limits.Limits.{Limits}
 use Rattle.bolt_bulk.specs.Private.OpenRuns.{Frame}
-use Rattle.bolt_bulk.specs.Private.Passes.{AreRightAround, FitLimits, limits_with, onto}
+use Rattle.bolt_bulk.specs.Private.Passes.{AreComing, AreComingAround, FitLimits, Tells, Wanted, limits_with, onto}
 
-module _ (which : Layout) (page_size : ℕ) (limits : ℕ → ℕ → Option ℕ) where
+module _ (which : Layout) (page_size : ℕ) where
   -- entries that are values change nothing
-  pub right_onto : (n : ℕ) (entries : List LeafElement) (tree : Tree) → AreRight which page_size limits n (onto entries tree) → AreRight which page_size limits n tree
-  right_onto n [] tree right = right
-  right_onto n (e ∷ entries) tree right = right_onto n entries tree right
-
   pub opened_onto : (entries : List LeafElement) (tree : Tree) → opened_in which page_size (onto entries tree) ≡ opened_in which page_size tree
   opened_onto [] tree = refl
   opened_onto (e ∷ entries) tree = opened_onto entries tree
@@ -30,15 +31,72 @@ module _ (which : Layout) (page_size : ℕ) (limits : ℕ → ℕ → Option ℕ
   pub opened_rooted : (inside : Tree) → is_inline page_size inside (items_of which page_size inside) ≡ false → opened_by which page_size inside ≡ suc (opened_in which page_size inside)
   opened_rooted inside rooted = rw rooted refl
 
-  pub right_at : (m n : ℕ) (tree : Tree) → m ≡ n → AreRight which page_size limits m tree → AreRight which page_size limits n tree
-  right_at m n tree same right = subst (λ (k : ℕ). AreRight which page_size limits k tree) same right
+module _ (wanted : Wanted) (page_size : ℕ) (limits : ℕ → ℕ → Option ℕ) where
+  pub coming_onto : (n : ℕ) (entries : List LeafElement) (tree : Tree) → AreComing wanted page_size limits n (onto entries tree) → AreComing wanted page_size limits n tree
+  coming_onto n [] tree are = are
+  coming_onto n (e ∷ entries) tree are = coming_onto n entries tree are
 
-  pub around_at : (m n : ℕ) (frames : List Frame) → m ≡ n → AreRightAround which page_size limits m frames → AreRightAround which page_size limits n frames
-  around_at m n frames same right = subst (λ (k : ℕ). AreRightAround which page_size limits k frames) same right
+  pub coming_at : (m n : ℕ) (tree : Tree) → m ≡ n → AreComing wanted page_size limits m tree → AreComing wanted page_size limits n tree
+  coming_at m n tree same are = subst (λ (k : ℕ). AreComing wanted page_size limits k tree) same are
+
+  pub around_at : (m n : ℕ) (frames : List Frame) → m ≡ n → AreComingAround wanted page_size limits m frames → AreComingAround wanted page_size limits n frames
+  around_at m n frames same are = subst (λ (k : ℕ). AreComingAround wanted page_size limits k frames) same are
 
 -- no limits are right for the plain layout
-pub fit_plain : (page_size : ℕ) (limits : Limits) (tree : Tree) → ((bucket level : ℕ) → limit_in limits bucket level ≡ None) → FitLimits (record { which = Plain; tree = tree }) page_size (limits_with limits)
+pub fit_plain : (page_size : ℕ) (limits : Limits) (tree : Tree) → ((bucket level : ℕ) → limit_in limits bucket level ≡ None) → FitLimits Plain tree page_size (limits_with limits)
 fit_plain page_size limits tree none = record {
   root = plain_rows page_size (limits_with limits) (λ bucket level. none (capped bucket) level) 0 (leaf_pages page_size (items_of Plain page_size tree));
   others = plain_right page_size (limits_with limits) (λ bucket level. none (capped bucket) level) 1 tree;
 }
+
+-- At the beginning it is known of all.
+module _ (page_size : ℕ) (tree : Tree) (tells : Bool) (limits : ℕ → ℕ → Option ℕ) where
+  abbrev plain : Wanted
+  plain = record { which = Plain; tree = tree; tells = tells }
+
+  abbrev balanced : Wanted
+  balanced = record { which = Balanced; tree = tree; tells = tells }
+
+  plain_coming : (n : ℕ) (below : Tree) → AreRight Plain page_size limits n below → AreTellings page_size (limits_for page_size tree) n below
+      → numbers_of (items_of Plain page_size below) ≤ layout_mark Plain page_size tree → AreComing plain page_size limits n below
+  plain_coming n end right tell few = tt
+  plain_coming n (with_value key value after) right tell few = plain_coming n after right tell (omega arith)
+  plain_coming n (with_bucket key sequence inside after) right tell few =
+      let (one, rest) = items_below Plain page_size key sequence inside after in (
+        λ rooted. (let leaves = leaves_few Plain page_size inside in
+            let own = one rooted in
+            (record { right = (right.0 rooted).0; tells = record { told = λ e. (tell.0 rooted).0; few = omega arith } }, plain_coming (suc n) inside (right.0 rooted).1 (tell.0 rooted).1 (omega arith))),
+        plain_coming (n + opened_by Plain page_size inside) after right.1 tell.1 (omega arith),
+      )
+
+  balanced_coming : (n : ℕ) (below : Tree) → AreRight Balanced page_size limits n below
+      → numbers_of (items_of Balanced page_size below) ≤ layout_mark Balanced page_size tree → AreComing balanced page_size limits n below
+  balanced_coming n end right few = tt
+  balanced_coming n (with_value key value after) right few = balanced_coming n after right (omega arith)
+  balanced_coming n (with_bucket key sequence inside after) right few =
+      let (one, rest) = items_below Balanced page_size key sequence inside after in (
+        λ rooted. (let leaves = leaves_few Balanced page_size inside in
+            let own = one rooted in
+            (record { right = (right.0 rooted).0; tells = record { told = λ e. absurd cc; few = omega arith } }, balanced_coming (suc n) inside (right.0 rooted).1 (omega arith))),
+        balanced_coming (n + opened_by Balanced page_size inside) after right.1 (omega arith),
+      )
+
+-- the root bucket is opened as number 0
+pub root_tells : (wanted : Wanted) (page_size : ℕ) → Tells wanted page_size 0 (leaf_pages page_size (items_of wanted.which page_size wanted.tree))
+unfolding root_of
+root_tells wanted page_size =
+    let leaves = leaves_few wanted.which page_size wanted.tree in
+    record {
+      told = λ plain level. (let same = ap (λ (w : Layout). leaf_pages page_size (items_of w page_size wanted.tree)) plain in
+          root_tellings page_size wanted.tree level ∙ sym (ap (λ (pages : List (Laid BranchElement)). limit_at (limits_told false (told_of page_size pages)) level) same));
+      few = omega arith;
+    }
+
+coming_in : (which : Layout) (tree : Tree) (tells : Bool) (page_size : ℕ) (limits : ℕ → ℕ → Option ℕ) → AreRight which page_size limits 1 tree
+    → AreComing (record { which = which; tree = tree; tells = tells }) page_size limits 1 tree
+unfolding root_of
+coming_in Plain tree tells page_size limits right = let leaves = leaves_few Plain page_size tree in plain_coming page_size tree tells limits 1 tree right (tellings_are page_size tree) (omega arith)
+coming_in Balanced tree tells page_size limits right = let leaves = leaves_few Balanced page_size tree in balanced_coming page_size tree tells limits 1 tree right (omega arith)
+
+pub all_coming : (wanted : Wanted) (page_size : ℕ) (limits : ℕ → ℕ → Option ℕ) → AreRight wanted.which page_size limits 1 wanted.tree → AreComing wanted page_size limits 1 wanted.tree
+all_coming wanted page_size limits right = coming_in wanted.which wanted.tree wanted.tells page_size limits right

@@ -20,8 +20,8 @@ use Rattle.bolt_bulk.specs.Private.HeldCounts.{Counts, capped, items_around, ite
 use Rattle.bolt_bulk.specs.Private.HeldSoFar.{held_so_far, length_frames, length_open}
 use Rattle.bolt_bulk.specs.Private.OpenBuckets.{bucket_end_next, rows_of}
 use Rattle.bolt_bulk.specs.Private.OpenRows.{IsOpenRows}
-use Rattle.bolt_bulk.specs.Private.OpenRuns.{Frame, Open, base_in, end_of, making_room, next_number, pushing, taking}
-use Rattle.bolt_bulk.specs.Private.Passes.{AreRightAround, Wanted, limits_by, AreWaiting, HasRoot, IsAt, IsPending, IsSmall, StandsBefore, Steps, level_of, onto}
+use Rattle.bolt_bulk.specs.Private.OpenRuns.{Frame, Known, Open, base_in, end_of, making_room, next_number, pushing, taking}
+use Rattle.bolt_bulk.specs.Private.Passes.{AreComing, AreComingAround, AreNumbered, Tells, Wanted, open_in, limits_by, AreWaiting, HasRoot, IsAt, IsPending, IsSmall, StandsBefore, Steps, level_of, onto}
 use Rattle.bolt_bulk.specs.Private.Rows.{OpenRows, rows_end, rows_end_put, rows_push, rows_room, rows_room_put}
 use Rattle.bolt_bulk.specs.Private.TakenItems.{inline_element, root_element, rows_taking, value_element}
 use Rattle.bolt_bulk.specs.Puts.{Puts}
@@ -37,9 +37,12 @@ use Rattle.bolt_bulk.proofs.HeldPasses.{around_reverse}
 use Rattle.bolt_bulk.proofs.HeldSteps.{around_length, enters_held, items_length, leaves_held, takes_held}
 use Rattle.bolt_bulk.proofs.Ontos.{IsValue, ends_inline, onto_items, onto_push, value_items, values_held}
 use Rattle.bolt_layout.specs.Limits.{HaveRightLimits}
-use Rattle.bolt_layout.specs.Openings.{AreRight, leaf_pages, opened_by, opened_in}
-use Rattle.bolt_bulk.specs.Private.RowLimits.{limit_in}
-use Rattle.bolt_bulk.proofs.Openings.{around_at, opened_inline, opened_onto, opened_rooted, right_at, right_onto}
+use Rattle.bolt_layout.specs.Openings.{leaf_pages, opened_by, opened_in}
+use Rattle.bolt_bulk.specs.Private.RowLimits.{bucket_limit, limit_in}
+use Rattle.bolt_bulk.specs.declared.limits.BucketLimits.{BucketLimits}
+use Rattle.bolt_bulk.specs.declared.told.Told.{Told}
+use Rattle.bolt_bulk.proofs.Tables.{BucketEnds, numbered_same, opened_most, room_known, told_enters, told_leaves}
+use Rattle.bolt_bulk.proofs.Openings.{around_at, coming_at, coming_onto, opened_inline, opened_onto, opened_rooted}
 use Rattle.bolt_bulk.proofs.PassSteps.{IsOn, inline_item, on_before, on_enters, on_leaves, on_numbers, on_takes, open_values, pass_takes_all, root_item, values_put, values_rows}
 use Rattle.bolt_bulk.proofs.PutBefore.{bytes-append}
 use Rattle.bolt_bulk.proofs.PutsLemmas.{puts_then}
@@ -123,35 +126,35 @@ module _ {S : Type 0} (wanted : Wanted) (taken : S → Option (List ℕ)) (faile
 -- ---- what stands in a pass
 
 -- the limits are right for the buckets that are still to come
-abbrev pub IsRightFor : Wanted → Pass → (n : ℕ) → Tree → List Frame → Type 0
-IsRightFor wanted pass n left frames = AreRight wanted.which pass.bounds.page_size (limits_by pass) n left
-    × AreRightAround wanted.which pass.bounds.page_size (limits_by pass) (n + opened_in wanted.which pass.bounds.page_size left) frames
+abbrev pub IsComingFor : Wanted → Pass → (n : ℕ) → Tree → List Frame → Type 0
+IsComingFor wanted pass n left frames = AreComing wanted pass.bounds.page_size (limits_by pass) n left
+    × AreComingAround wanted pass.bounds.page_size (limits_by pass) (n + opened_in wanted.which pass.bounds.page_size left) frames
 
-right_for : (wanted : Wanted) (pass : Pass) (n : ℕ) (rest left : Tree) (frames : List Frame) → rest ≡ left → AreRight wanted.which pass.bounds.page_size (limits_by pass) n rest
-    → AreRightAround wanted.which pass.bounds.page_size (limits_by pass) (n + opened_in wanted.which pass.bounds.page_size rest) frames → IsRightFor wanted pass n left frames
-right_for wanted pass n rest left frames same right around = subst (λ (t : Tree). IsRightFor wanted pass n t frames) same (right, around)
+coming_for : (wanted : Wanted) (pass : Pass) (n : ℕ) (rest left : Tree) (frames : List Frame) → rest ≡ left → AreComing wanted pass.bounds.page_size (limits_by pass) n rest
+    → AreComingAround wanted pass.bounds.page_size (limits_by pass) (n + opened_in wanted.which pass.bounds.page_size rest) frames → IsComingFor wanted pass n left frames
+coming_for wanted pass n rest left frames same right around = subst (λ (t : Tree). IsComingFor wanted pass n t frames) same (right, around)
 
 -- with nothing that may be inline
 pub on_of : (wanted : Wanted) (pass : Pass) (levels : List Level) (left : Tree) (put : List Placed) (is : IsAt wanted pass levels left put) → pass.pending ≡ None
     → (levels ≡ map level_of is.frames) × IsOn wanted.which pass.bounds.page_size wanted.tree is.frames is.state (items_of wanted.which pass.bounds.page_size left) (rows_of pass.bucket pass.next) put
-    × IsRightFor wanted pass is.opened left is.frames
+    × IsComingFor wanted pass is.opened left is.frames
 on_of wanted pass levels left put is none =
     let (same, rest) = subst (λ (p : Option Pending). IsPending p pass.entries.items (map level_of is.frames) is.rest levels left) none is.pends in
     let under = subst (λ (t : Tree). IsPass wanted.which pass.bounds.page_size is.frames is.state (items_of wanted.which pass.bounds.page_size t) (root_of wanted.which pass.bounds.page_size wanted.tree)) rest is.under in
-    (same, record { under = under; rows_are = is.rows; put_is = is.put_is }, right_for wanted pass is.opened is.rest left is.frames rest is.right is.right_around)
+    (same, record { under = under; rows_are = is.rows; put_is = is.put_is }, coming_for wanted pass is.opened is.rest left is.frames rest is.coming is.around)
 
 -- with a bucket that may be inline
 abbrev pub HasPending : (wanted : Wanted) (pass : Pass) (levels : List Level) (left : Tree) (put : List Placed) (is : IsAt wanted pass levels left put) → Pending → Type 0
 HasPending wanted pass levels left put is p = (after : Tree)
     × (levels ≡ record { key = p.key.now; after = after } ∷ map level_of is.frames)
     × IsOn wanted.which pass.bounds.page_size wanted.tree is.frames is.state (items_of wanted.which pass.bounds.page_size (with_bucket p.key.now p.sequence (onto (map leaf_view pass.entries.items) left) after)) (rows_of pass.bucket pass.next) put
-    × IsRightFor wanted pass is.opened (with_bucket p.key.now p.sequence (onto (map leaf_view pass.entries.items) left) after) is.frames
+    × IsComingFor wanted pass is.opened (with_bucket p.key.now p.sequence (onto (map leaf_view pass.entries.items) left) after) is.frames
 
 pending_of : (wanted : Wanted) (pass : Pass) (levels : List Level) (left : Tree) (put : List Placed) (p : Pending) (is : IsAt wanted pass levels left put) → pass.pending ≡ Some p → HasPending wanted pass levels left put is p
 pending_of wanted pass levels left put p is some =
     let (after, same, rest) = subst (λ (q : Option Pending). IsPending q pass.entries.items (map level_of is.frames) is.rest levels left) some is.pends in
     let under = subst (λ (t : Tree). IsPass wanted.which pass.bounds.page_size is.frames is.state (items_of wanted.which pass.bounds.page_size t) (root_of wanted.which pass.bounds.page_size wanted.tree)) rest is.under in
-    (after, same, record { under = under; rows_are = is.rows; put_is = is.put_is }, right_for wanted pass is.opened is.rest _ is.frames rest is.right is.right_around)
+    (after, same, record { under = under; rows_are = is.rows; put_is = is.put_is }, coming_for wanted pass is.opened is.rest _ is.frames rest is.coming is.around)
 
 -- what was put stands before the rest, at any time
 pub at_before : (wanted : Wanted) (pass : Pass) (levels : List Level) (left : Tree) (put : List Placed) → IsAt wanted pass levels left put → StandsBefore put (layout_pages wanted.which pass.bounds.page_size wanted.tree)
@@ -211,7 +214,7 @@ module _ {S : Type 0} (taken : S → Option (List ℕ)) (failed : S → ℕ) (wa
       → Puts taken failed old new (placed_bytes P (rows_room_put P rows_now key (16 + (length key + length value)))) result
       → OnOk result (rows_of bucket next ≡ rows_taking P rows_now (value_element key value) (16 + (length key + length value)))
       → IfErr result (λ e. e ≡ fault.TooLarge → pass.bounds.limit < (rows_room P rows_now key (16 + (length key + length value))).next)
-      → OnOk result (Counts (record { alloc = pass.alloc; bounds = pass.bounds; limits = pass.limits; waiting = pass.waiting; bucket = bucket; pending = pass.pending; entries = pass.entries; next = next; opened = pass.opened; around = pass.around; most = pass.most }) counted)
+      → OnOk result (Counts (record { alloc = pass.alloc; bounds = pass.bounds; limits = pass.limits; waiting = pass.waiting; bucket = bucket; pending = pass.pending; entries = pass.entries; next = next; opened = pass.opened; around = pass.around; most = pass.most; told = pass.told }) counted)
       → Steps wanted taken failed old new pass.bounds put (IsAt wanted counted levels after) result
   value_steps levels key value after old new bucket next counted result is none puts rows large counts =
       let (same, on, right) = on_of wanted pass levels (with_value key value after) put is none in
@@ -236,8 +239,11 @@ module _ {S : Type 0} (taken : S → Option (List ℕ)) (failed : S → ℕ) (wa
               pends = subst (λ (p : Option Pending). IsPending p pass.entries.items (map level_of is.frames) after levels after) (sym none) (same, refl);
               opened = is.opened;
               opened_is = is.opened_is;
-              right = right.0;
-              right_around = right.1;
+              coming = right.0;
+              around = right.1;
+              numbers = is.numbers;
+              numbered = numbered_same wanted P is.opened is.numbers is.state made (map (λ (f : Frame). f.state) is.frames) (room_known P is.state (leaf_item key value false).key (leaf_item key value false).size) is.numbered;
+              has_told = is.has_told;
             }));
         before = on_before wanted.which P wanted.tree is.frames made _ _ _ then;
         large = if_err_map result large (λ e l h. let m = l h in omega (arith, m, few));
@@ -249,7 +255,7 @@ module _ {S : Type 0} (taken : S → Option (List ℕ)) (failed : S → ℕ) (wa
       → Puts taken failed old new (placed_bytes P (rows_room_put P rows_now p.key.now (16 + (length p.key.now + size)))) result
       → OnOk result (rows_of bucket next ≡ rows_taking P rows_now (inline_element p.key.now p.sequence (map leaf_view pass.entries.items)) (16 + (length p.key.now + size)))
       → IfErr result (λ e. e ≡ fault.TooLarge → pass.bounds.limit < (rows_room P rows_now p.key.now (16 + (length p.key.now + size))).next)
-      → OnOk result (Counts (record { alloc = pass.alloc; bounds = pass.bounds; limits = pass.limits; waiting = pass.waiting; bucket = bucket; pending = None; entries = entries; next = next; opened = pass.opened; around = pass.around; most = pass.most }) counted)
+      → OnOk result (Counts (record { alloc = pass.alloc; bounds = pass.bounds; limits = pass.limits; waiting = pass.waiting; bucket = bucket; pending = None; entries = entries; next = next; opened = pass.opened; around = pass.around; most = pass.most; told = pass.told }) counted)
       → Steps wanted taken failed old new pass.bounds put (IsAt wanted counted levels level.after) result
   inline_steps level levels p size old new bucket entries next counted result is some small sized puts rows large counts =
       let (after, same, on, right) = pending_of wanted pass (level ∷ levels) end put p is some in
@@ -261,7 +267,7 @@ module _ {S : Type 0} (taken : S → Option (List ℕ)) (failed : S → ℕ) (wa
       let sizes = small.sized in
       let fits = small.small in
       let item = inline_item wanted.which P p.key.now p.sequence shown values (omega arith) (omega arith) in
-      let unopened = opened_inline wanted.which P (limits_by pass) (onto shown end) (ends_inline wanted.which P shown (omega arith) (omega arith)) in
+      let unopened = opened_inline wanted.which P (onto shown end) (ends_inline wanted.which P shown (omega arith) (omega arith)) in
       let on2 = subst (λ (i : Laid LeafElement). IsOn wanted.which P wanted.tree is.frames is.state (i ∷ items_of wanted.which P after) rows_now put) item on in
       let then0 = on_takes wanted.which P wanted.tree is.frames is.state p.key.now value true (items_of wanted.which P after) rows_now put on2 in
       let made : Open = taking P is.state (leaf_item p.key.now value true) in
@@ -289,8 +295,11 @@ module _ {S : Type 0} (taken : S → Option (List ℕ)) (failed : S → ℕ) (wa
               pends = (others, behind);
               opened = is.opened;
               opened_is = is.opened_is;
-              right = right_at wanted.which P (limits_by pass) (is.opened + opened_by wanted.which P (onto shown end)) is.opened after (omega arith) right.0.1;
-              right_around = around_at wanted.which P (limits_by pass) (is.opened + (opened_by wanted.which P (onto shown end) + opened_in wanted.which P after)) (is.opened + opened_in wanted.which P after) is.frames (omega arith) right.1;
+              coming = coming_at wanted P (limits_by pass) (is.opened + opened_by wanted.which P (onto shown end)) is.opened after (omega arith) right.0.1;
+              around = around_at wanted P (limits_by pass) (is.opened + (opened_by wanted.which P (onto shown end) + opened_in wanted.which P after)) (is.opened + opened_in wanted.which P after) is.frames (omega arith) right.1;
+              numbers = is.numbers;
+              numbered = numbered_same wanted P is.opened is.numbers is.state made (map (λ (f : Frame). f.state) is.frames) (room_known P is.state (leaf_item p.key.now value true).key (leaf_item p.key.now value true).size) is.numbered;
+              has_told = is.has_told;
             }));
         before = on_before wanted.which P wanted.tree is.frames made _ _ _ then;
         large = if_err_map result large (λ e l h. let m = l h in omega (arith, m, numbers));
@@ -298,9 +307,12 @@ module _ {S : Type 0} (taken : S → Option (List ℕ)) (failed : S → ℕ) (wa
 
   -- ---- a bucket that has a root page is opened, and the one around it waits
 
-  -- the limits of its rows
-  abbrev limits_now : ℕ → Option ℕ
-  limits_now = limit_in pass.limits.now pass.opened
+  -- the limits of its rows, and what is known of it
+  abbrev limits_now : BucketLimits
+  limits_now = record { all = pass.limits; bucket = pass.opened }
+
+  abbrev known_now : Tree → Known
+  known_now left = record { limits = limits_now; leaves = leaf_pages P (items_of wanted.which P (onto (map leaf_view pass.entries.items) left)) }
 
   abbrev opened_rows : Pending → ℕ → OpenRows
   opened_rows p next = record { leaves = record { elements = map leaf_view pass.entries.items; size = p.size }; uppers = []; limits = limits_now; next = next }
@@ -318,9 +330,10 @@ module _ {S : Type 0} (taken : S → Option (List ℕ)) (failed : S → ℕ) (wa
     outer : IsOpenRows (room_for p) (making_room P is.state p.key.now (32 + length p.key.now)) (base_in is.frames)
     base : (room_for p).next ≡ base_in (frame_of p left after is.state ∷ is.frames)
     values : AllByRecursion IsValue (map leaf_view pass.entries.items)
-    right : AreRight wanted.which P (limits_by pass) (suc is.opened) left
-    right_around : AreRightAround wanted.which P (limits_by pass) (suc is.opened + opened_in wanted.which P left) (frame_of p left after is.state ∷ is.frames)
-    on : IsOn wanted.which P wanted.tree (frame_of p left after is.state ∷ is.frames) (open_values limits_now (value_items (map leaf_view pass.entries.items))) (items_of wanted.which P left) (opened_rows p (room_for p).next)
+    coming : AreComing wanted P (limits_by pass) (suc is.opened) left
+    around : AreComingAround wanted P (limits_by pass) (suc is.opened + opened_in wanted.which P left) (frame_of p left after is.state ∷ is.frames)
+    tells : Tells wanted P is.opened (known_now left).leaves
+    on : IsOn wanted.which P wanted.tree (frame_of p left after is.state ∷ is.frames) (open_values (known_now left) (value_items (map leaf_view pass.entries.items))) (items_of wanted.which P left) (opened_rows p (room_for p).next)
         (put ++ rows_room_put P rows_now p.key.now (32 + length p.key.now))
 
   has_opened : (levels : List Level) (left : Tree) (p : Pending) (is : IsAt wanted pass levels left put) → pass.pending ≡ Some p → IsSmall P p pass.entries.items → HasRoot wanted.which P (onto (map leaf_view pass.entries.items) left)
@@ -336,14 +349,14 @@ module _ {S : Type 0} (taken : S → Option (List ℕ)) (failed : S → ℕ) (wa
       let inner : List (Laid LeafElement) = items_of wanted.which P (onto shown left) in
       let item = root_item wanted.which P p.key.now p.sequence (onto shown left) rooted in
       let on2 = subst (λ (i : Laid LeafElement). IsOn wanted.which P wanted.tree is.frames is.state (i ∷ items_of wanted.which P after) rows_now put) item on in
-      let own : HaveRightLimits wanted.which P limits_now (leaf_pages P inner) =
-      subst (λ (n : ℕ). HaveRightLimits wanted.which P (limit_in pass.limits.now n) (leaf_pages P inner)) (sym is.opened_is) (right.0.0 rooted).0 in
-      let (entered, made, placed) = on_enters wanted.which P wanted.tree limits_now is.frames is.state p.key.now p.sequence inner after rows_now put own on2 in
+      let own : HaveRightLimits wanted.which P (bucket_limit limits_now) (leaf_pages P inner) =
+      subst (λ (n : ℕ). HaveRightLimits wanted.which P (limit_in pass.limits.now n) (leaf_pages P inner)) (sym is.opened_is) (right.0.0 rooted).0.right in
+      let (entered, made, placed) = on_enters wanted.which P wanted.tree (known_now left) is.frames is.state p.key.now p.sequence inner after rows_now put refl own on2 in
       let frames : List Frame = frame_of p left after is.state ∷ is.frames in
-      let begun = subst (λ (items : List (Laid LeafElement)). IsPass wanted.which P frames (open_values limits_now []) items (root_of wanted.which P wanted.tree)) (onto_items wanted.which P shown left) entered in
-      let under = pass_takes_all wanted.which P limits_now frames [] shown (items_of wanted.which P left) (root_of wanted.which P wanted.tree) (omega arith) (omega arith) begun in
-      let by = opened_rooted wanted.which P (limits_by pass) (onto shown left) rooted in
-      let same_opened = opened_onto wanted.which P (limits_by pass) shown left in
+      let begun = subst (λ (items : List (Laid LeafElement)). IsPass wanted.which P frames (open_values (known_now left) []) items (root_of wanted.which P wanted.tree)) (onto_items wanted.which P shown left) entered in
+      let under = pass_takes_all wanted.which P (known_now left) frames [] shown (items_of wanted.which P left) (root_of wanted.which P wanted.tree) (omega arith) (omega arith) begun in
+      let by = opened_rooted wanted.which P (onto shown left) rooted in
+      let same_opened = opened_onto wanted.which P shown left in
       let room_is : 32 + length p.key.now ≡ 16 + (length p.key.now + 16) = omega arith in
       let base : (room_for p).next ≡ base_in frames = made.next_is ∙ ap (λ (n : ℕ). next_number (making_room P is.state p.key.now n) (base_in is.frames)) room_is in
       record {
@@ -352,12 +365,13 @@ module _ {S : Type 0} (taken : S → Option (List ℕ)) (failed : S → ℕ) (wa
         outer = made;
         base = base;
         values = values;
-        right = right_onto wanted.which P (limits_by pass) (suc is.opened) shown left (right.0.0 rooted).1;
-        right_around = (
-          right_at wanted.which P (limits_by pass) (is.opened + opened_by wanted.which P (onto shown left)) (suc is.opened + opened_in wanted.which P left) after (omega arith) right.0.1,
-          around_at wanted.which P (limits_by pass) (is.opened + (opened_by wanted.which P (onto shown left) + opened_in wanted.which P after)) (suc is.opened + opened_in wanted.which P left + opened_in wanted.which P after) is.frames (omega arith) right.1,
+        coming = coming_onto wanted P (limits_by pass) (suc is.opened) shown left (right.0.0 rooted).1;
+        around = (
+          coming_at wanted P (limits_by pass) (is.opened + opened_by wanted.which P (onto shown left)) (suc is.opened + opened_in wanted.which P left) after (omega arith) right.0.1,
+          around_at wanted P (limits_by pass) (is.opened + (opened_by wanted.which P (onto shown left) + opened_in wanted.which P after)) (suc is.opened + opened_in wanted.which P left + opened_in wanted.which P after) is.frames (omega arith) right.1,
         );
-        on = record { under = under; rows_are = values_rows limits_now shown p.size (base_in frames) (room_for p).next values sizes base; put_is = placed ∙ values_put limits_now frames shown };
+        tells = (right.0.0 rooted).0.tells;
+        on = record { under = under; rows_are = values_rows (known_now left) shown p.size (base_in frames) (room_for p).next values sizes base; put_is = placed ∙ values_put (known_now left) frames shown };
       }
 
   -- a fault on the way
@@ -383,18 +397,18 @@ module _ {S : Type 0} (taken : S → Option (List ℕ)) (failed : S → ℕ) (wa
       → Puts {A = ⊤} taken failed old new (placed_bytes P (rows_room_put P rows_now p.key.now (32 + length p.key.now))) (Ok tt)
       → around.items ≡ pass.waiting.items ++ w ∷ [] → rows_of w.bucket next ≡ room_for p → w.key.now ≡ p.key.now → w.sequence ≡ p.sequence → rows_of bucket next ≡ opened_rows p next
       → opened ≡ min (pass.opened + 1) 18446744073709551615
-      → Counts (record { alloc = pass.alloc; bounds = pass.bounds; limits = pass.limits; waiting = around; bucket = bucket; pending = None; entries = entries; next = next; opened = opened; around = held; most = pass.most }) counted
+      → Counts (record { alloc = pass.alloc; bounds = pass.bounds; limits = pass.limits; waiting = around; bucket = bucket; pending = None; entries = entries; next = next; opened = opened; around = held; most = pass.most; told = pass.told }) counted
       → Steps {A = ⊤} wanted taken failed old new pass.bounds put (IsAt wanted counted levels left) (Ok tt)
   open_steps levels left p old new bucket w around entries next opened held counted is some small rooted puts items rows key sequence values_are one_more k =
       let then = has_opened levels left p is some small rooted in
       let frame : Frame = frame_of p left then.after is.state in
       let frames : List Frame = frame ∷ is.frames in
-      let state : Open = open_values limits_now (value_items (map leaf_view pass.entries.items)) in
+      let state : Open = open_values (known_now left) (value_items (map leaf_view pass.entries.items)) in
       let next_is : next ≡ (room_for p).next = ap (λ (r : OpenRows). r.next) rows in
       let room_is : 32 + length p.key.now ≡ 16 + (length p.key.now + 16) = omega arith in
       let values : List (Laid LeafElement) = value_items (map leaf_view pass.entries.items) in
       let here : IsOpenRows (rows_of bucket next) state (base_in frames) = subst (λ (r : OpenRows). IsOpenRows r state (base_in frames)) (sym values_are)
-      (values_rows limits_now (map leaf_view pass.entries.items) p.size (base_in frames) next then.values small.sized (next_is ∙ then.base)) in
+      (values_rows (known_now left) (map leaf_view pass.entries.items) p.size (base_in frames) next then.values small.sized (next_is ∙ then.base)) in
       let waits : AreWaiting (reverse around.items) frames = subst (λ (ws : List Waiting). AreWaiting ws frames) (sym (ap reverse items ∙ reverse-append pass.waiting.items (w ∷ []))) (
         subst (λ (n : ℕ). IsOpenRows (rows_of w.bucket n) frame.state (base_in is.frames)) (next_is ∙ then.base)
             (subst (λ (n : ℕ). IsOpenRows (rows_of w.bucket next) (making_room P is.state p.key.now n) (base_in is.frames)) room_is
@@ -415,34 +429,47 @@ module _ {S : Type 0} (taken : S → Option (List ℕ)) (failed : S → ℕ) (wa
           rows = here;
           waits = waits;
           put_is = then.on.put_is;
-          held = enters_held P limits_now frame is.frames is.state p.key.now (16 + (length p.key.now + 16)) values pass.most counted.most refl (values_held (map leaf_view pass.entries.items)) is.held
+          held = enters_held P (known_now left) frame is.frames is.state p.key.now (16 + (length p.key.now + 16)) values pass.most counted.most refl (values_held (map leaf_view pass.entries.items)) is.held
               (k.most ∙ ap (λ (n : ℕ). max pass.most (capped n)) count);
           pends = (then.same, refl);
           opened = suc is.opened;
           opened_is = (let o = is.opened_is in omega arith);
-          right = then.right;
-          right_around = then.right_around;
+          coming = then.coming;
+          around = then.around;
+          numbers = is.opened ∷ is.numbers;
+          numbered = (
+            record { earlier = omega arith; number_is = is.opened_is; tells = then.tells },
+            numbered_same wanted P is.opened is.numbers is.state frame.state (map (λ (f : Frame). f.state) is.frames) (room_known P is.state p.key.now (16 + (length p.key.now + 16))) is.numbered,
+          );
+          has_told = told_enters wanted P pass.told is.opened is.numbers is.has_told;
         });
         before = on_before wanted.which P wanted.tree _ _ _ _ _ then.on;
         large = tt;
       }
 
   -- ---- the open bucket ends, and the one around it goes on
-  pub leave_steps : {A : Type 0} (level : Level) (levels : List Level) (w : Waiting) (old new : S) (bucket : OpenBucket) (around : Vec Waiting Global) (next held : ℕ) (counted : Pass) (result : Result A BulkFault)
+  pub leave_steps : {A : Type 0} (level : Level) (levels : List Level) (w : Waiting) (old new : S) (bucket : OpenBucket) (around : Vec Waiting Global) (next held : ℕ) (told : Told) (counted : Pass) (result : Result A BulkFault)
       → IsAt wanted pass (level ∷ levels) end put → pass.pending ≡ None → pass.waiting.items ≡ around.items ++ w ∷ []
+      → BucketEnds pass.told told pass.bucket.limits.bucket pass.bucket.uppers.items
       → Puts taken failed old new (placed_bytes P (rows_end_put P rows_now)) result
       → OnOk result ((before : ℕ) → rows_of bucket next ≡ rows_push (rows_of w.bucket before) (root_element w.key.now (rows_end P rows_now) w.sequence) (32 + length w.key.now) (bucket_end_next P rows_now))
       → IfErr result (λ e. e ≡ fault.TooLarge → pass.bounds.limit < bucket_end_next P rows_now)
-      → OnOk result (Counts (record { alloc = pass.alloc; bounds = pass.bounds; limits = pass.limits; waiting = around; bucket = bucket; pending = pass.pending; entries = pass.entries; next = next; opened = pass.opened; around = held; most = pass.most }) counted)
+      → OnOk result (Counts (record { alloc = pass.alloc; bounds = pass.bounds; limits = pass.limits; waiting = around; bucket = bucket; pending = pass.pending; entries = pass.entries; next = next; opened = pass.opened; around = held; most = pass.most; told = told }) counted)
       → Steps wanted taken failed old new pass.bounds put (IsAt wanted counted levels level.after) result
-  leave_steps level levels w old new bucket around next held counted result is none popped puts rows large counts =
+  leave_steps level levels w old new bucket around next held told counted result is none popped ended puts rows large counts =
       let (same, on, right) = on_of wanted pass (level ∷ levels) end put is none in
       let (frame, frames, more_frames, top) = first_frame level levels is.frames same in
       let ws : reverse pass.waiting.items ≡ w ∷ reverse around.items = ap reverse popped ∙ reverse-append around.items (w ∷ []) in
       let waits = subst (λ (fs : List Frame). AreWaiting (reverse pass.waiting.items) fs) more_frames is.waits in
       let (outer, key, sequence, others) = subst (λ (l : List Waiting). AreWaiting l (frame ∷ frames)) ws waits in
       let on2 = subst (λ (fs : List Frame). IsOn wanted.which P wanted.tree fs is.state [] rows_now put) more_frames on in
-      let behind = subst (λ (fs : List Frame). AreRightAround wanted.which P (limits_by pass) (is.opened + 0) fs) more_frames right.1 in
+      let behind = subst (λ (fs : List Frame). AreComingAround wanted P (limits_by pass) (is.opened + 0) fs) more_frames right.1 in
+      let states : List Open = map (λ (f : Frame). f.state) frames in
+      let numbered = subst (λ (fs : List Frame). AreNumbered wanted P is.opened is.numbers (open_in is.state fs)) more_frames is.numbered in
+      let most = opened_most wanted P (limits_by pass) (is.opened + 0) is.frames right.1 in
+      let number : pass.bucket.limits.bucket ≡ is.state.known.limits.bucket = ap (λ (l : BucketLimits). l.bucket) is.rows.limits_are in
+      let has = told_leaves wanted P pass.told told is.opened (base_in is.frames) is.numbers is.state (frame.state ∷ states) pass.bucket.uppers.items on.under.root is.has_told numbered (omega arith) is.rows.above on.under.current
+      (subst (λ (n : ℕ). BucketEnds pass.told told n pass.bucket.uppers.items) number ended) in
       let made : Open = pushing frame.state (held_item frame (end_of P is.state)) in
       let base : ℕ = base_in (frame ∷ frames) in
       let then = on_leaves wanted.which P wanted.tree frame frames is.state rows_now (rows_of w.bucket base) put on2 outer refl in
@@ -470,8 +497,11 @@ module _ {S : Type 0} (taken : S → Option (List ℕ)) (failed : S → ℕ) (wa
               pends = subst (λ (p : Option Pending). IsPending p pass.entries.items (map level_of frames) frame.after levels level.after) (sym none) top;
               opened = is.opened;
               opened_is = is.opened_is;
-              right = right_at wanted.which P (limits_by pass) (is.opened + 0) is.opened frame.after (omega arith) behind.0;
-              right_around = around_at wanted.which P (limits_by pass) (is.opened + 0 + opened_in wanted.which P frame.after) (is.opened + opened_in wanted.which P frame.after) frames (omega arith) behind.1;
+              coming = coming_at wanted P (limits_by pass) (is.opened + 0) is.opened frame.after (omega arith) behind.0;
+              around = around_at wanted P (limits_by pass) (is.opened + 0 + opened_in wanted.which P frame.after) (is.opened + opened_in wanted.which P frame.after) frames (omega arith) behind.1;
+              numbers = has.numbers;
+              numbered = numbered_same wanted P is.opened has.numbers frame.state made states refl has.numbered;
+              has_told = has.has_told;
             }));
         before = on_before wanted.which P wanted.tree frames made _ _ _ then;
         large = if_err_map result large (λ e l h. let m = l h in omega (arith, m, numbers));
@@ -483,7 +513,7 @@ module _ (wanted : Wanted) (pass : Pass) (levels : List Level) (put : List Place
   -- a value of a bucket that may be inline
   pub keep_at : (key value : List ℕ) (after : Tree) (p : Pending) (entry : Leaf) (size : ℕ) (entries : Vec Leaf Global) → IsAt wanted pass levels (with_value key value after) put → pass.pending ≡ Some p
       → entries.items ≡ pass.entries.items ++ entry ∷ [] → leaf_view entry ≡ value_element key value
-      → IsAt wanted (record { alloc = pass.alloc; bounds = pass.bounds; limits = pass.limits; waiting = pass.waiting; bucket = pass.bucket; pending = Some (record { key = p.key; sequence = p.sequence; size = size }); entries = entries; next = pass.next; opened = pass.opened; around = pass.around; most = pass.most }) levels after put
+      → IsAt wanted (record { alloc = pass.alloc; bounds = pass.bounds; limits = pass.limits; waiting = pass.waiting; bucket = pass.bucket; pending = Some (record { key = p.key; sequence = p.sequence; size = size }); entries = entries; next = pass.next; opened = pass.opened; around = pass.around; most = pass.most; told = pass.told }) levels after put
   keep_at key value after p entry size entries is some pushed view =
       let (behind, same, rest) = subst (λ (q : Option Pending). IsPending q pass.entries.items (map level_of is.frames) is.rest levels (with_value key value after)) some is.pends in
       let shown : List LeafElement = map leaf_view pass.entries.items in
@@ -502,14 +532,17 @@ module _ (wanted : Wanted) (pass : Pass) (levels : List Level) (put : List Place
         held = is.held;
         opened = is.opened;
         opened_is = is.opened_is;
-        right = is.right;
-        right_around = is.right_around;
+        coming = is.coming;
+        around = is.around;
+        numbers = is.numbers;
+        numbered = is.numbered;
+        has_told = is.has_told;
         pends = (behind, same, rest ∙ ap (λ (t : Tree). with_bucket p.key.now p.sequence t behind) (sym onto_is));
       }
 
   -- a bucket that may be inline
   pub begin_at : (key : Bor (List ℕ)) (sequence : ℕ) (inside after : Tree) → IsAt wanted pass levels (with_bucket key.now sequence inside after) put → pass.pending ≡ None → pass.entries.items ≡ []
-      → IsAt wanted (record { alloc = pass.alloc; bounds = pass.bounds; limits = pass.limits; waiting = pass.waiting; bucket = pass.bucket; pending = Some (record { key = key; sequence = sequence; size = 16 }); entries = pass.entries; next = pass.next; opened = pass.opened; around = pass.around; most = pass.most })
+      → IsAt wanted (record { alloc = pass.alloc; bounds = pass.bounds; limits = pass.limits; waiting = pass.waiting; bucket = pass.bucket; pending = Some (record { key = key; sequence = sequence; size = 16 }); entries = pass.entries; next = pass.next; opened = pass.opened; around = pass.around; most = pass.most; told = pass.told })
       (record { key = key.now; after = after } ∷ levels) inside put
   begin_at key sequence inside after is none empty =
       let (same, rest) = subst (λ (q : Option Pending). IsPending q pass.entries.items (map level_of is.frames) is.rest levels (with_bucket key.now sequence inside after)) none is.pends in
@@ -524,8 +557,11 @@ module _ (wanted : Wanted) (pass : Pass) (levels : List Level) (put : List Place
         held = is.held;
         opened = is.opened;
         opened_is = is.opened_is;
-        right = is.right;
-        right_around = is.right_around;
+        coming = is.coming;
+        around = is.around;
+        numbers = is.numbers;
+        numbered = is.numbered;
+        has_told = is.has_told;
         pends = (
           after,
           ap (λ (ls : List Level). record { key = key.now; after = after } ∷ ls) same,

@@ -1,5 +1,5 @@
 -- The next member of a listing in a pass, the beginning of a pass, and its end.
-use Rattle.std.proofs.Common.{◌≡◌, ◌≢◌, ◌∙◌, ℕ, suc, ◌+◌, ◌≤◌, List, [], ◌∷◌, ◌++◌, length, map, Option, Some, None, Result, Ok, Err, OnErr, refl, sym, ap, subst, arith, append_assoc}
+use Rattle.std.proofs.Common.{◌≡◌, ◌≢◌, ◌∙◌, ℕ, suc, true, ◌+◌, ◌≤◌, List, [], ◌∷◌, ◌++◌, length, map, Option, Some, None, Result, Ok, Err, OnErr, refl, sym, ap, subst, arith, append_assoc}
 use Rattle.std.specs.List.{AllByRecursion}
 use Rattle.std.proofs.lemmas.List.{length-append}
 use Rattle.bolt_check.specs.Keys.{Key}
@@ -19,27 +19,33 @@ use Rattle.bolt_bulk.specs.Private.HeldCounts.{capped}
 use Rattle.bolt_bulk.specs.Private.HeldSoFar.{held_so_far}
 use Rattle.bolt_bulk.specs.Private.OpenBuckets.{bucket_end_next, rows_of}
 use Rattle.bolt_bulk.specs.Private.OpenRows.{IsOpenRows}
-use Rattle.bolt_layout.specs.Limits.{HaveRightLimits}
-use Rattle.bolt_layout.specs.Openings.{AreRight, leaf_pages}
+use Rattle.bolt_layout.specs.Openings.{leaf_pages, opened_in}
+use Rattle.bolt_layout.specs.declared.layout.Layout.{Layout}
+use Rattle.bolt_layout.specs.declared.layout.Layout.TheVariants.{Balanced, Plain}
 use Rattle.bolt_layout.specs.Items.{items_of}
-use Rattle.bolt_bulk.specs.Private.OpenRuns.{Frame, Open, all_put, end_of, nothing_open}
-use Rattle.bolt_bulk.specs.Private.Passes.{Wanted, limits_by, HasLeft, IsAt, Steps, depth_of, level_of, pending_depth}
+use Rattle.bolt_bulk.specs.Private.OpenRuns.{Frame, Known, Open, all_put, base_in, end_of, nothing_open}
+use Rattle.bolt_bulk.specs.Private.Passes.{AreComingAround, AreNumbered, FitLimits, HasLeft, IsAt, IsTable, Steps, Wanted, depth_of, level_of, limits_by, limits_with, open_in, pending_depth}
 use Rattle.bolt_bulk.specs.Private.Rows.{OpenRows, no_leaves, rows_end, rows_end_put}
 use Rattle.bolt_bulk.specs.Puts.{Puts}
 use Rattle.bolt_bulk.specs.declared.bounds.Bounds.{Bounds}
 use Rattle.bolt_bulk.specs.declared.fault.BulkFault.{BulkFault}
 use Rattle.bolt_bulk.specs.declared.pass.Ended.{Ended}
 use Rattle.bolt_bulk.specs.declared.pass.Pass.{Pass}
+use Rattle.bolt_bulk.specs.Private.RowLimits.{limit_in}
+use Rattle.bolt_bulk.specs.declared.limits.BucketLimits.{BucketLimits}
 use Rattle.bolt_bulk.specs.declared.pass.Pending.{Pending}
+use Rattle.bolt_bulk.specs.declared.told.Told.{Told}
 use Rattle.bolt_bulk.proofs.Frames.{pass_begins, pass_ends}
 use Rattle.bolt_bulk.proofs.HeldSteps.{end_held}
 use Rattle.bolt_bulk.proofs.Members.{all_left, next_bucket, next_short, next_value, none_at_all}
 use Rattle.bolt_bulk.proofs.OpenRowLemmas.{nothing_rows, rows_ended}
 use Rattle.bolt_bulk.proofs.OpenRunLemmas.{ends}
+use Rattle.bolt_bulk.proofs.Openings.{all_coming, root_tells}
 use Rattle.bolt_bulk.proofs.PassAt.{on_of}
 use Rattle.bolt_bulk.proofs.PassLeft.{depth_levels}
 use Rattle.bolt_bulk.proofs.PassRows.{end_numbered}
 use Rattle.bolt_bulk.proofs.PassSteps.{IsOn}
+use Rattle.bolt_bulk.proofs.Tables.{BucketEnds, no_numbers, none_told, opened_most, table_fits, told_leaves}
 use Rattle.bolt_bulk.proofs.PutsLemmas.{bytes-append, pages_some, puts_first, puts_then, short_then}
 
 -- ---- the next member
@@ -113,29 +119,36 @@ members_fit path (with_bucket key sequence inside after) (key_fits, sequence_fit
 -- ---- the beginning
 
 pub has_begun : (wanted : Wanted) (pass : Pass) → pass.waiting.items ≡ [] → pass.pending ≡ None
-    → rows_of pass.bucket pass.next ≡ record { leaves = no_leaves; uppers = []; limits = limits_by pass 0; next = first_page } → pass.most ≡ 0 → pass.opened ≡ 1
-    → HaveRightLimits wanted.which pass.bounds.page_size (limits_by pass 0) (leaf_pages pass.bounds.page_size (items_of wanted.which pass.bounds.page_size wanted.tree))
-    → AreRight wanted.which pass.bounds.page_size (limits_by pass) 1 wanted.tree → HasLeft wanted pass (listing_of wanted.tree) []
-has_begun wanted pass none nothing rows fresh first own others = record {
-  levels = [];
-  left = wanted.tree;
-  at = record {
-    frames = [];
-    state = nothing_open (limits_by pass 0);
-    rest = wanted.tree;
-    under = pass_begins wanted.which pass.bounds.page_size (limits_by pass 0) wanted.tree own;
-    rows = subst (λ (r : OpenRows). IsOpenRows r (nothing_open (limits_by pass 0)) first_page) (sym rows) (nothing_rows (limits_by pass 0) first_page);
-    waits = rw none tt;
-    put_is = refl;
-    held = omega arith;
-    pends = rw nothing (refl, refl);
-    opened = 1;
-    opened_is = omega arith;
-    right = others;
-    right_around = tt;
-  };
-  members_are = all_left wanted.tree;
-}
+    → rows_of pass.bucket pass.next ≡ record { leaves = no_leaves; uppers = []; limits = record { all = pass.limits; bucket = 0 }; next = first_page } → pass.most ≡ 0 → pass.opened ≡ 1
+    → pass.told.tells ≡ wanted.tells → ((bucket level : ℕ) → limit_in pass.told.limits bucket level ≡ None)
+    → FitLimits wanted.which wanted.tree pass.bounds.page_size (limits_by pass) → HasLeft wanted pass (listing_of wanted.tree) []
+has_begun wanted pass none nothing rows fresh first asked untold fit =
+    let P : ℕ = pass.bounds.page_size in
+    let leaves : List (Laid BranchElement) = leaf_pages P (items_of wanted.which P wanted.tree) in
+    let known : Known = record { limits = record { all = pass.limits; bucket = 0 }; leaves = leaves } in
+    record {
+      levels = [];
+      left = wanted.tree;
+      at = record {
+        frames = [];
+        state = nothing_open known;
+        rest = wanted.tree;
+        under = pass_begins wanted.which P known wanted.tree refl fit.root;
+        rows = subst (λ (r : OpenRows). IsOpenRows r (nothing_open known) first_page) (sym rows) (nothing_rows known first_page);
+        waits = rw none tt;
+        put_is = refl;
+        held = omega arith;
+        pends = rw nothing (refl, refl);
+        opened = 1;
+        opened_is = omega arith;
+        coming = all_coming wanted P (limits_by pass) fit.others;
+        around = omega arith;
+        numbers = 0 ∷ [];
+        numbered = (record { earlier = omega arith; number_is = refl; tells = root_tells wanted P }, tt);
+        has_told = record { asked = asked; table = λ _ _ _. none_told P wanted.tree pass.told.limits untold };
+      };
+      members_are = all_left wanted.tree;
+    }
 
 -- ---- the end
 
@@ -159,6 +172,8 @@ pub record HasEnd (wanted : Wanted) (pass : Pass) (put : List Placed) : Type 0 w
   pub root : rows_end pass.bounds.page_size (rows_of pass.bucket pass.next) ≡ layout_root wanted.which pass.bounds.page_size wanted.tree
   pub mark : bucket_end_next pass.bounds.page_size (rows_of pass.bucket pass.next) ≡ layout_mark wanted.which pass.bounds.page_size wanted.tree
   pub held : pass.most ≡ capped (layout_held wanted.which pass.bounds.page_size wanted.tree)
+  pub told : (told : Told) → BucketEnds pass.told told pass.bucket.limits.bucket pass.bucket.uppers.items → wanted.tells ≡ true → wanted.which ≡ Plain
+      → layout_mark wanted.which pass.bounds.page_size wanted.tree ≤ 18446744073709551615 → FitLimits Balanced wanted.tree pass.bounds.page_size (limits_with told.limits)
 
 root_ended : (page_size : ℕ) (wanted : Wanted) (state : Open) (rows : OpenRows) (put : List Placed) → IsOn wanted.which page_size wanted.tree [] state [] rows put
     → (layout_pages wanted.which page_size wanted.tree ≡ put ++ rows_end_put page_size rows) × (rows_end page_size rows ≡ layout_root wanted.which page_size wanted.tree) × (bucket_end_next page_size rows ≡ layout_mark wanted.which page_size wanted.tree)
@@ -182,7 +197,23 @@ has_end wanted pass put has shallow =
     let frames = no_frames at.frames same in
     let on2 = subst (λ (fs : List Frame). IsOn wanted.which pass.bounds.page_size wanted.tree fs at.state [] (rows_of pass.bucket pass.next) put) frames on in
     let (pages, root, mark, held) = root_ended pass.bounds.page_size wanted at.state (rows_of pass.bucket pass.next) put on2 in
-    record { pages = pages; root = root; mark = mark; held = at.held ∙ ap capped (ap (λ (fs : List Frame). held_so_far fs at.state) frames ∙ held) }
+    record {
+      pages = pages;
+      root = root;
+      mark = mark;
+      held = at.held ∙ ap capped (ap (λ (fs : List Frame). held_so_far fs at.state) frames ∙ held);
+      told = λ told ended asked which fits.
+          let P : ℕ = pass.bounds.page_size in
+          let numbered = subst (λ (fs : List Frame). AreNumbered wanted P at.opened at.numbers (open_in at.state fs)) frames at.numbered in
+          let around = subst (λ (fs : List Frame). AreComingAround wanted P (limits_by pass) (at.opened + 0) fs) frames right.1 in
+          let most = opened_most wanted P (limits_by pass) (at.opened + 0) at.frames right.1 in
+          let number : pass.bucket.limits.bucket ≡ at.state.known.limits.bucket = ap (λ (l : BucketLimits). l.bucket) at.rows.limits_are in
+          let last = told_leaves wanted P pass.told told at.opened (base_in at.frames) at.numbers at.state [] pass.bucket.uppers.items on.under.root at.has_told numbered (omega arith) at.rows.above on.under.current
+          (subst (λ (n : ℕ). BucketEnds pass.told told n pass.bucket.uppers.items) number ended) in
+          let table = subst (λ (ns : List ℕ). IsTable P wanted.tree told.limits at.opened ns) (no_numbers wanted P at.opened last.numbers last.numbered) (last.has_told.table asked which fits) in
+          let count : suc (opened_in wanted.which P wanted.tree) ≡ suc (opened_in Plain P wanted.tree) = ap (λ (w : Layout). suc (opened_in w P wanted.tree)) which in
+          table_fits P wanted.tree told.limits at.opened table (omega arith) (omega arith);
+    }
 
 -- A beginning of a text isn't the whole of a longer one.
 some_more : (xs ys : List ℕ) → ys ≢ [] → (xs ++ ys) ≢ []
@@ -218,6 +249,7 @@ module _ {S : Type 0} (wanted : Wanted) (taken : S → Option (List ℕ)) (faile
         root = tt;
         mark = tt;
         within = tt;
+        told = tt;
         held = tt;
         large = steps.large;
       }
@@ -239,6 +271,7 @@ module _ {S : Type 0} (wanted : Wanted) (taken : S → Option (List ℕ)) (faile
         root = then.root;
         mark = then.mark;
         within = then.within;
+        told = then.told;
         held = then.held;
         large = then.large;
       }

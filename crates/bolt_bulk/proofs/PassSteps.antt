@@ -1,5 +1,5 @@
 -- The steps of a pass, over the open runs and the rows that code keeps of them.
-use Rattle.std.proofs.Common.{◌≡◌, ◌∙◌, ℕ, ◌+◌, ◌/◌, ◌≤◌, ◌<◌, ◌||◌, ◌&&◌, nat_le, nat_lt, Bool, true, false, Option, List, [], ◌∷◌, ◌++◌, length, refl, sym, ap, subst, arith, append_assoc}
+use Rattle.std.proofs.Common.{◌≡◌, ◌∙◌, ℕ, ◌+◌, ◌/◌, ◌≤◌, ◌<◌, ◌||◌, ◌&&◌, nat_le, nat_lt, Bool, true, false, List, [], ◌∷◌, ◌++◌, length, refl, sym, ap, subst, arith, append_assoc}
 use Rattle.std.specs.List.{AllByRecursion}
 use Rattle.std.proofs.lemmas.Bool.{le-leb, lt-ltb}
 use Rattle.std.proofs.lemmas.List.{append-nil, length-append}
@@ -13,10 +13,11 @@ use Rattle.bolt_layout.specs.Layout.{layout_mark, layout_pages}
 use Rattle.bolt_layout.specs.Limits.{HaveRightLimits}
 use Rattle.bolt_layout.specs.Levels.{root_over}
 use Rattle.bolt_layout.specs.PageBytes.{inline_value, leaf_data}
+use Rattle.bolt_bulk.specs.Private.RowLimits.{bucket_limit}
 use Rattle.bolt_bulk.specs.Private.Coming.{IsPass, held_item, leaves_coming}
 use Rattle.bolt_bulk.specs.Private.OpenBuckets.{bucket_end_next}
 use Rattle.bolt_bulk.specs.Private.OpenRows.{IsOpenRows}
-use Rattle.bolt_bulk.specs.Private.OpenRuns.{Frame, Open, all_put, base_in, end_of, frames_put, has_room, making_room, nothing_open, pushing, room_puts, taking}
+use Rattle.bolt_bulk.specs.Private.OpenRuns.{all_put, base_in, end_of, Frame, frames_put, has_room, Known, making_room, nothing_open, Open, pushing, room_puts, taking}
 use Rattle.bolt_bulk.specs.Private.Passes.{HasRoot, StandsBefore, onto}
 use Rattle.bolt_bulk.specs.Private.Rows.{OpenRows, rows_end, rows_end_put, rows_push, rows_room, rows_room_put}
 use Rattle.bolt_bulk.specs.Private.TakenItems.{entries_size, root_element, rows_taking}
@@ -63,21 +64,21 @@ module _ (which : Layout) (page_size : ℕ) (tree : Tree) where
       }
 
   -- a bucket with a root page is entered
-  pub on_enters : (limits : ℕ → Option ℕ) (frames : List Frame) (state : Open) (key : List ℕ) (sequence : ℕ) (inner : List (Laid LeafElement)) (after : Tree) (rows : OpenRows) (put : List Placed)
-      → HaveRightLimits which page_size limits (leaves_coming page_size [] inner)
+  pub on_enters : (known : Known) (frames : List Frame) (state : Open) (key : List ℕ) (sequence : ℕ) (inner : List (Laid LeafElement)) (after : Tree) (rows : OpenRows) (put : List Placed)
+      → known.leaves ≡ leaves_coming page_size [] inner → HaveRightLimits which page_size (bucket_limit known.limits) (leaves_coming page_size [] inner)
       → IsOn which page_size tree frames state (bucket_item key sequence (root_over which page_size inner) ∷ items_of which page_size after) rows put
-      → IsPass which page_size (waiting page_size state key sequence (root_over which page_size inner) after ∷ frames) (nothing_open limits) inner (root_of which page_size tree)
+      → IsPass which page_size (waiting page_size state key sequence (root_over which page_size inner) after ∷ frames) (nothing_open known) inner (root_of which page_size tree)
       × IsOpenRows (rows_room page_size rows key (32 + length key)) (making_room page_size state key (32 + length key)) (base_in frames)
-      × (put ++ rows_room_put page_size rows key (32 + length key) ≡ all_put (waiting page_size state key sequence (root_over which page_size inner) after ∷ frames) (nothing_open limits))
-  on_enters limits frames state key sequence inner after rows put right on =
+      × (put ++ rows_room_put page_size rows key (32 + length key) ≡ all_put (waiting page_size state key sequence (root_over which page_size inner) after ∷ frames) (nothing_open known))
+  on_enters known frames state key sequence inner after rows put leaves right on =
       let made = enter_is page_size rows state (base_in frames) key on.rows_are in
       let size : 32 + length key ≡ 16 + (length key + 16) = omega arith in
       let root : Laid LeafElement = bucket_item key sequence (root_over which page_size inner) in (
-        pass_enters which page_size limits frames state key sequence inner after (root_of which page_size tree) right on.under,
+        pass_enters which page_size known frames state key sequence inner after (root_of which page_size tree) leaves right on.under,
         made.0,
         ap (λ (ps : List Placed). ps ++ rows_room_put page_size rows key (32 + length key)) on.put_is
             ∙ (ap (λ (ps : List Placed). all_put frames state ++ ps) (made.1 ∙ ap (λ (n : ℕ). room_puts page_size state key n (base_in frames)) size)
-            ∙ sym (put_enters page_size limits frames state key sequence (root_over which page_size inner) after)),
+            ∙ sym (put_enters page_size known frames state key sequence (root_over which page_size inner) after)),
       )
 
   -- it ends, and the bucket around it goes on
@@ -96,44 +97,44 @@ module _ (which : Layout) (page_size : ℕ) (tree : Tree) where
       }
 
 -- Values are taken as long as their page has room.
-abbrev pub open_values : (limits : ℕ → Option ℕ) → List (Laid LeafElement) → Open
-open_values limits run = record { uppers = []; run = run; limits = limits }
+abbrev pub open_values : Known → List (Laid LeafElement) → Open
+open_values known run = record { uppers = []; run = run; known = known }
 
 either : (a : Bool) → (a || (true && true)) ≡ true
 either true = refl
 either false = refl
 
-room_left : (page_size : ℕ) (limits : ℕ → Option ℕ) (run : List (Laid LeafElement)) (item : Laid LeafElement) → run_size size_of run + item.size ≤ page_size → length run < 65534
-    → taking page_size (open_values limits run) item ≡ open_values limits (run ++ item ∷ [])
-room_left page_size limits run item fits few =
+room_left : (page_size : ℕ) (known : Known) (run : List (Laid LeafElement)) (item : Laid LeafElement) → run_size size_of run + item.size ≤ page_size → length run < 65534
+    → taking page_size (open_values known run) item ≡ open_values known (run ++ item ∷ [])
+room_left page_size known run item fits few =
     let size : nat_le (run_size size_of run + item.size) page_size ≡ true = le-leb _ _ fits in
     let cap : nat_lt (length run) max_items ≡ true = lt-ltb _ _ few in
     let room : has_room page_size 1 run item.size ≡ true = rw (size, cap) (either (nat_lt (length run) 1)) in
     rw room refl
 
-pub pass_takes_all : (which : Layout) (page_size : ℕ) (limits : ℕ → Option ℕ) (frames : List Frame) (run : List (Laid LeafElement)) (entries : List LeafElement) (items : List (Laid LeafElement)) (whole : Laid BranchElement)
+pub pass_takes_all : (which : Layout) (page_size : ℕ) (known : Known) (frames : List Frame) (run : List (Laid LeafElement)) (entries : List LeafElement) (items : List (Laid LeafElement)) (whole : Laid BranchElement)
     → run_size size_of run + entries_size entries ≤ page_size + 16 → length run + length entries ≤ 65534
-    → IsPass which page_size frames (open_values limits run) (value_items entries ++ items) whole → IsPass which page_size frames (open_values limits (run ++ value_items entries)) items whole
-pass_takes_all which page_size limits frames run [] items whole fits few pass = subst (λ (r : List (Laid LeafElement)). IsPass which page_size frames (open_values limits r) items whole) (sym (append-nil run)) pass
-pass_takes_all which page_size limits frames run (e ∷ entries) items whole fits few pass =
+    → IsPass which page_size frames (open_values known run) (value_items entries ++ items) whole → IsPass which page_size frames (open_values known (run ++ value_items entries)) items whole
+pass_takes_all which page_size known frames run [] items whole fits few pass = subst (λ (r : List (Laid LeafElement)). IsPass which page_size frames (open_values known r) items whole) (sym (append-nil run)) pass
+pass_takes_all which page_size known frames run (e ∷ entries) items whole fits few pass =
     let item : Laid LeafElement = leaf_item e.key e.value false in
     let a = length-append e.key (e.value ++ leaf_data entries) in
     let b = length-append e.value (leaf_data entries) in
     let c = sum_by_push (size_of {E = LeafElement}) run item in
     let l = length-append run (item ∷ []) in
-    let one = pass_takes which page_size frames (open_values limits run) item (value_items entries ++ items) whole pass in
-    let next = subst (λ (s : Open). IsPass which page_size frames s (value_items entries ++ items) whole) (room_left page_size limits run item (omega arith) (omega arith)) one in
-    let all = pass_takes_all which page_size limits frames (run ++ item ∷ []) entries items whole (omega arith) (omega arith) next in
-    subst (λ (r : List (Laid LeafElement)). IsPass which page_size frames (open_values limits r) items whole) (append_assoc run (item ∷ []) (value_items entries)) all
+    let one = pass_takes which page_size frames (open_values known run) item (value_items entries ++ items) whole pass in
+    let next = subst (λ (s : Open). IsPass which page_size frames s (value_items entries ++ items) whole) (room_left page_size known run item (omega arith) (omega arith)) one in
+    let all = pass_takes_all which page_size known frames (run ++ item ∷ []) entries items whole (omega arith) (omega arith) next in
+    subst (λ (r : List (Laid LeafElement)). IsPass which page_size frames (open_values known r) items whole) (append_assoc run (item ∷ []) (value_items entries)) all
 
 -- they put nothing
-pub values_put : (limits : ℕ → Option ℕ) (frames : List Frame) (entries : List LeafElement) → all_put frames (nothing_open limits) ≡ all_put frames (open_values limits (value_items entries))
-values_put limits frames entries = ap (λ (ps : List Placed). frames_put frames ++ ps) (sym (values_pages entries (base_in frames + 0)))
+pub values_put : (known : Known) (frames : List Frame) (entries : List LeafElement) → all_put frames (nothing_open known) ≡ all_put frames (open_values known (value_items entries))
+values_put known frames entries = ap (λ (ps : List Placed). frames_put frames ++ ps) (sym (values_pages entries (base_in frames + 0)))
 
 -- and stand in the first row
-pub values_rows : (limits : ℕ → Option ℕ) (entries : List LeafElement) (size base next : ℕ) → AllByRecursion IsValue entries → size ≡ entries_size entries → next ≡ base
-    → IsOpenRows (record { leaves = record { elements = entries; size = size }; uppers = []; limits = limits; next = next }) (open_values limits (value_items entries)) base
-values_rows limits entries size base next values sized at =
+pub values_rows : (known : Known) (entries : List LeafElement) (size base next : ℕ) → AllByRecursion IsValue entries → size ≡ entries_size entries → next ≡ base
+    → IsOpenRows (record { leaves = record { elements = entries; size = size }; uppers = []; limits = known.limits; next = next }) (open_values known (value_items entries)) base
+values_rows known entries size base next values sized at =
     let none = values_numbers entries in
     record {
       same = sym (values_elements entries (base + 0) values);

@@ -11,6 +11,7 @@ use Rattle.bolt_layout.specs.Laid.{Laid, Placed, numbers_of, pages_of, size_of}
 use Rattle.bolt_layout.specs.Levels.{branch_view, leaf_view, next_level, page_over, top_in}
 use Rattle.bolt_layout.specs.Layout.{first_page, placed_bytes}
 use Rattle.bolt_layout.specs.PageBytes.{page_bytes}
+use Rattle.bolt_bulk.specs.Private.RowLimits.{bucket_limit}
 use Rattle.bolt_bulk.specs.Private.OpenRuns.{Frame, Open, Upper, all_put, base_in, frames_put, next_number, numbers_in, own_page, pages_put, pushing, put_in}
 use Rattle.bolt_layout.proofs.OverRows.{numbers-append}
 use Rattle.bolt_bulk.specs.Private.Coming.{Comes, IsOpen, IsPass, IsStack, held_item}
@@ -144,8 +145,8 @@ put_before which page_size state items root b is =
     let (more, rest, e) = cut_begins page_size 1 state.run items in
     let p : Laid BranchElement = page_over leaf_view page_size (state.run ++ more) in
     let m : ℕ = b + numbers_in state.uppers in
-    let comes = subst (λ (rs : List (List (Laid LeafElement))). Comes which page_size state.limits state.uppers is.all (map (page_over leaf_view page_size) rs) root) e is.comes in
-    let one = coming_begins which page_size state.limits state.uppers p (map (page_over leaf_view page_size) rest) is.all root comes b in
+    let comes = subst (λ (rs : List (List (Laid LeafElement))). Comes which page_size (bucket_limit state.known.limits) state.uppers state.known.leaves (map (page_over leaf_view page_size) rs) root) e is.comes in
+    let one = coming_begins which page_size (bucket_limit state.known.limits) state.uppers p (map (page_over leaf_view page_size) rest) state.known.leaves root comes b in
     let two = before_behind (pages_of (put_in state.uppers) b) (pages_of state.run m) (numbers_in state.uppers) (numbers_of state.run) (p.pages m) p.numbers (over_before leaf_view page_size state.run more m) in
     before_by _ _ _ _ _ _ two one
 

@@ -1,11 +1,12 @@
 -- At a bucket's end its open runs tell of each row how many runs it has, and how many items the last one has.
-use Rattle.std.proofs.Common.{◌≡◌, ◌∙◌, ◌≤◌, ℕ, suc, ◌+◌, Option, List, [], ◌∷◌, ◌++◌, length, map, refl, sym, ap, subst, arith}
+use Rattle.std.proofs.Common.{◌≡◌, ◌∙◌, ℕ, suc, Option, List, [], ◌∷◌, ◌++◌, length, map, refl, ap, arith}
 use Rattle.std.proofs.lemmas.List.{length-append}
 use Rattle.bolt_format.specs.Elements.{BranchElement}
-use Rattle.bolt_layout.specs.Laid.{Laid, size_of}
+use Rattle.bolt_layout.specs.Laid.{Laid}
 use Rattle.bolt_layout.specs.Levels.{branch_view, leaf_view, page_over}
 use Rattle.bolt_layout.specs.Limits.{AreTold, last_length}
 use Rattle.bolt_layout.specs.declared.layout.Layout.TheVariants.{Plain}
+use Rattle.bolt_bulk.specs.Private.RowLimits.{bucket_limit}
 use Rattle.bolt_bulk.specs.Private.Coming.{Comes, IsOpen}
 use Rattle.bolt_bulk.specs.Private.OpenRuns.{Open, Upper, told_by}
 
@@ -25,5 +26,5 @@ rows_tell page_size limits (upper ∷ uppers) q all root (stands, is) =
     let long = length-append upper.run (q ∷ []) in
     (stands.some, omega arith, omega arith, rows_tell page_size (λ k. limits (suc k)) uppers (page_over branch_view page_size last) _ root is)
 
-pub ends_tell : (page_size : ℕ) (state : Open) (root : Laid BranchElement) (is : IsOpen Plain page_size state [] root) → AreTold page_size is.all (map told_by state.uppers)
-ends_tell page_size state root is = rows_tell page_size state.limits state.uppers (page_over leaf_view page_size state.run) is.all root is.comes
+pub ends_tell : (page_size : ℕ) (state : Open) (root : Laid BranchElement) → IsOpen Plain page_size state [] root → AreTold page_size state.known.leaves (map told_by state.uppers)
+ends_tell page_size state root is = rows_tell page_size (bucket_limit state.known.limits) state.uppers (page_over leaf_view page_size state.run) state.known.leaves root is.comes

@@ -14,5 +14,7 @@ pub mod OpenRuns
 pub mod Passes
 pub mod RowLimits
 pub mod Rows
+pub mod Stops
 pub mod TakenItems
 pub mod Waiting
+pub mod WholeListings

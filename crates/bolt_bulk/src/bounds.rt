@@ -15,6 +15,7 @@ pub(crate) struct Bounds {
     pub limit: u64,
     ghost low: { 1024 ≤ page_size },
     ghost high: { page_size ≤ 33554432 },
+    ghost counted: { limit ≤ 18446744073709551615 },
 }
 
 /// How many further pages a page of this size takes.

@@ -1,82 +1,138 @@
-//! The compact copy of a checked file, written from its first byte to its last.
-ghost use Rattle.std.specs.Prelude.{◌≡◌, ◌*◌, ◌≤◌, ◌<◌, ◌/◌, IfOk, OnOk, length};
+//! The compact copy of a sound file, or of what a damaged one still holds.
+ghost use Rattle.std.specs.Prelude.{◌≡◌, ◌<◌, IfOk, OnOk, length};
 ghost use Rattle.bolt_check.specs.CheckedFiles.{meta_of};
 ghost use Rattle.bolt_format.specs.Metas.{IsPageSize};
+ghost use Rattle.bolt_recover.specs.Recovered.{ForRecovered};
+ghost use Rattle.bolt_recover.specs.Recoveries.{ForLosses, recovery_file, recovery_left, recovery_losses, recovery_meta};
 ghost use Rattle.bolt_tree.specs.FileListings.{ForListing};
 ghost use Rattle.bolt_tree.specs.Tree.{tree_of};
-ghost use Rattle.bolt_bulk.specs.Compacting.{Copies, Plans, layout_for, too_many};
+ghost use Rattle.bolt_bulk.specs.Compacting.{Copies, Plans, layout_for, layout_recovered, too_many};
 ghost use Rattle.bolt_layout.specs.Copies.{IsSoundCopy, RefusesBeginnings};
 ghost use Rattle.bolt_layout.specs.Layout.{layout_held, layout_root};
 ghost use Rattle.bolt_layout.specs.declared.layout.Layout.TheVariants.{Plain};
 
-use crate::all_pages::put_plain_pages;
-use crate::bounds::Bounds;
 use crate::fault::{BulkFault, PlanFault};
-use crate::file_laws::file_has_one_layout;
-use crate::first_pages::{Facts, put_first_pages};
-use crate::no_sink::NoSink;
+use crate::file_laws::{file_is_of_one_tree, recovered_is_of_one_tree};
+use crate::members_copy::{Shape, plan_members, put_members};
 use crate::outcome::{Done, Plan};
 use bolt_check::Checked;
 use bolt_format::Sink;
 use bolt_layout::Layout;
 use bolt_recover::Recovery;
-use bolt_tree::{Listed, Members, Walk};
-use std::marker::Brand;
+use bolt_tree::Walk;
 use std::alloc::Global;
+use std::marker::Brand;
 
-/// The most bytes that a copy may have.
-const MAX_LEN: u64 = 0x7FFF_FFFF_FFFF_FFFF;
-
-/// How large the pages of a copy are, and how many it may have.
-fn bounds_of(page_size: u64) -> Bounds
+/// Where a copy of a file at this page size will have its root page and its high-water mark, in this
+/// layout (docs/LAYOUT.md). Nothing is written. Beside what `compact_as` needs no memory is asked
+/// for.
+///
+/// # Errors
+///
+/// `TooLarge` where the layout has 2^63 bytes or more, and nothing else is answered then but
+/// `Memory`; `Memory` where memory ran out.
+pub fn plan_as(
+    alloc: Global,
+    checked: Checked<'_>,
+    layout: Layout,
+    page_size: u64,
+) -> Result<Plan, PlanFault>
     requires { IsPageSize page_size }
-    ensures page_size { result.page_size ≡ page_size }
-    ensures limit { result.limit ≡ 9223372036854775807 / page_size }
-    ensures room { 3 ≤ result.limit }
-    ensures bytes { result.limit * result.page_size < 9223372036854775808 }
+    ensures { ForListing checked.entry (λ listing. Plans layout page_size (meta_of checked.entry).root_sequence listing result) }
 {
-    Bounds {
-        page_size: page_size as usize,
-        limit: MAX_LEN / page_size,
-    }
+    file_is_of_one_tree(&checked);
+    let shape = Shape {
+        layout,
+        page_size,
+        sequence: checked.meta().root_sequence,
+    };
+    plan_members::<Brand, _>(alloc, &Walk::new(alloc, checked), &shape)
 }
 
+/// Where a copy in the plain layout will have its root page and its high-water mark: `plan_as` for
+/// that layout, with its errors.
 pub fn plan(alloc: Global, checked: Checked<'_>, page_size: u64) -> Result<Plan, PlanFault>
     requires { IsPageSize page_size }
+    ensures { ForListing checked.entry (λ listing. Plans Plain page_size (meta_of checked.entry).root_sequence listing result) }
 {
-    let mut walk = Walk::new(alloc, checked);
-    match put_plain_pages::<Brand, _, _>(alloc, bounds_of(page_size), &mut walk, &mut NoSink) {
-        Ok(ended) => Ok(Plan { root: ended.root, high_water: ended.high_water }),
-        Err(BulkFault::TooLarge) => Err(PlanFault::TooLarge),
-        Err(BulkFault::Memory) => Err(PlanFault::Memory),
-        Err(BulkFault::Sink) => unreachable!(),
-    }
+    plan_as(alloc, checked, Layout::Plain, page_size)
 }
-pub fn compact<S: Sink>(alloc: Global, checked: Checked<'_>, page_size: u64, sink: &mut S) -> Result<Done, BulkFault>
+
+/// Writes the compact copy of a file at this page size: the one layout of what the file holds
+/// (docs/LAYOUT.md), plain or balanced, from its first byte to its last. The file is walked twice,
+/// for the plan and for the pages; before that, for a balanced copy, once more for the limits of its
+/// rows, of which one number is kept for each row that would end in a page of one child. If the
+/// result isn't `Ok`, the sink took a prefix of the layout that isn't the whole, which `check`
+/// refuses.
+///
+/// # Errors
+///
+/// `TooLarge` where the layout has 2^63 bytes or more, and no byte was put then; `Memory` where
+/// memory ran out; `Sink` where the sink failed.
+pub fn compact_as<S: Sink>(
+    alloc: Global,
+    checked: Checked<'_>,
+    layout: Layout,
+    page_size: u64,
+    sink: &mut S,
+) -> Result<Done, BulkFault>
     requires { IsPageSize page_size }
+    ensures copied { ForListing checked.entry (λ listing. Copies S.taken S.failed sink.old sink.new (layout_for layout checked.entry page_size listing) result) }
+    ensures accepted { OnOk result (ForListing checked.entry (λ listing. ∥ IsSoundCopy layout page_size (tree_of listing) (meta_of checked.entry).root_sequence listing ∥₁)) }
+    ensures held { IfOk result (λ done. ForListing checked.entry (λ listing. done.held ≡ layout_held layout page_size (tree_of listing))) }
+    ensures beginnings { ForListing checked.entry (λ listing. length (layout_for layout checked.entry page_size listing) < too_many → ∥ RefusesBeginnings (layout_for layout checked.entry page_size listing) (layout_root layout page_size (tree_of listing)) ∥₁) }
+{
+    file_is_of_one_tree(&checked);
+    let shape = Shape {
+        layout,
+        page_size,
+        sequence: checked.meta().root_sequence,
+    };
+    put_members::<Brand, _, _>(alloc, &mut Walk::new(alloc, checked), &shape, sink)
+}
+
+/// Writes the compact copy of a file in the plain layout: `compact_as` for that layout, with its
+/// errors.
+pub fn compact<S: Sink>(
+    alloc: Global,
+    checked: Checked<'_>,
+    page_size: u64,
+    sink: &mut S,
+) -> Result<Done, BulkFault>
+    requires { IsPageSize page_size }
+    ensures copied { ForListing checked.entry (λ listing. Copies S.taken S.failed sink.old sink.new (layout_for Plain checked.entry page_size listing) result) }
+    ensures accepted { OnOk result (ForListing checked.entry (λ listing. ∥ IsSoundCopy Plain page_size (tree_of listing) (meta_of checked.entry).root_sequence listing ∥₁)) }
+    ensures held { IfOk result (λ done. ForListing checked.entry (λ listing. done.held ≡ layout_held Plain page_size (tree_of listing))) }
+    ensures beginnings { ForListing checked.entry (λ listing. length (layout_for Plain checked.entry page_size listing) < too_many → ∥ RefusesBeginnings (layout_for Plain checked.entry page_size listing) (layout_root Plain page_size (tree_of listing)) ∥₁) }
 {
     compact_as(alloc, checked, Layout::Plain, page_size, sink)
 }
-pub fn compact_as<S: Sink>(alloc: Global, checked: Checked<'_>, layout: Layout, page_size: u64, sink: &mut S) -> Result<Done, BulkFault>
-    requires { IsPageSize page_size }
+
+/// Writes the compact copy of what is recovered of a file, of which nothing is given yet: the one
+/// layout of the recovered listing (docs/RECOVERY.md), as `compact_as` writes that of a sound file,
+/// with its errors. Each pass over the file is a recovery of its own, and the last is the one that is
+/// passed: after `Ok` it has all losses.
+pub fn compact_recovered<S: Sink>(
+    alloc: Global,
+    recovery: &mut Recovery<'_>,
+    layout: Layout,
+    page_size: u64,
+    sink: &mut S,
+) -> Result<Done, BulkFault>
+    requires size { IsPageSize page_size }
+    requires fresh { ForRecovered (recovery_file recovery.old) (recovery_meta recovery.old) (λ listing. recovery_left recovery.old listing ≡ listing) }
+    ensures copied { ForRecovered (recovery_file recovery.old) (recovery_meta recovery.old) (λ listing. Copies S.taken S.failed sink.old sink.new (layout_recovered layout recovery.old page_size listing) result) }
+    ensures accepted { OnOk result (ForRecovered (recovery_file recovery.old) (recovery_meta recovery.old) (λ listing. ∥ IsSoundCopy layout page_size (tree_of listing) (recovery_meta recovery.old).root_sequence listing ∥₁)) }
+    ensures held { IfOk result (λ done. ForRecovered (recovery_file recovery.old) (recovery_meta recovery.old) (λ listing. done.held ≡ layout_held layout page_size (tree_of listing))) }
+    ensures losses { OnOk result (ForLosses (recovery_file recovery.old) (recovery_meta recovery.old) (λ losses. recovery_losses recovery.new ≡ losses)) }
+    ensures beginnings { ForRecovered (recovery_file recovery.old) (recovery_meta recovery.old) (λ listing. length (layout_recovered layout recovery.old page_size listing) < too_many
+        → ∥ RefusesBeginnings (layout_recovered layout recovery.old page_size listing) (layout_root layout page_size (tree_of listing)) ∥₁) }
 {
-    let mut walk = Walk::new(alloc, checked);
-    let sequence = checked.meta().root_sequence;
-    put_copy::<Brand, _, _>(alloc, &mut walk, layout, page_size, sequence, sink)
-}
-pub fn compact_recovered<'a, S: Sink>(alloc: Global, recovery: &mut Recovery<'a>, layout: Layout, page_size: u64, sink: &mut S) -> Result<Done, BulkFault>
-    requires { IsPageSize page_size }
-{
-    let sequence = recovery.meta().root_sequence;
-    put_copy::<Brand, _, _>(alloc, recovery, layout, page_size, sequence, sink)
-}
-fn put_copy<'a, K: Listed, M: Members<'a> + Drop, S: Sink>(alloc: Global, members: &mut M, _layout: Layout, page_size: u64, sequence: u64, sink: &mut S) -> Result<Done, BulkFault>
-    requires { IsPageSize page_size }
-{
-    let plan = put_plain_pages::<K, _, _>(alloc, bounds_of(page_size), members, &mut NoSink)?;
-    *members = members.again(alloc)?;
-    let facts = Facts { page_size: page_size as u32, root: plan.root, sequence, mark: plan.high_water };
-    put_first_pages(&facts, sink)?;
-    let ended = put_plain_pages::<K, _, _>(alloc, bounds_of(page_size), members, sink)?;
-    Ok(Done { bytes: ended.high_water * page_size, held: ended.held })
+    recovered_is_of_one_tree(recovery);
+    let shape = Shape {
+        layout,
+        page_size,
+        sequence: recovery.meta().root_sequence,
+    };
+    put_members::<Brand, _, _>(alloc, recovery, &shape, sink)
 }

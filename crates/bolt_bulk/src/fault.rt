@@ -1,6 +1,7 @@
 //! Why no plan, or no copy, is made.
 ghost use Rattle.std.specs.Prelude.{◌≡◌};
 ghost use Rattle.bolt_bulk.specs.declared.fault.BulkFault.TheVariants as bulk;
+ghost use Rattle.bolt_bulk.specs.Private.Stops.{stopped_by};
 ghost use Rattle.bolt_bulk.specs.declared.fault.PlanFault.TheVariants as planned;
 
 use bolt_format::SinkFault;
@@ -17,6 +18,14 @@ pub enum PlanFault {
     /// The layout would have 2^63 bytes or more.
     #[error("layout too large")]
     TooLarge,
+}
+
+impl From<NoMemory> for PlanFault {
+    ghost from_gives = { λ _ fault. fault ≡ planned.Memory };
+
+    fn from(_fault: NoMemory) -> Self {
+        PlanFault::Memory
+    }
 }
 
 /// Why a copy isn't written whole.
@@ -38,6 +47,17 @@ impl From<SinkFault> for BulkFault {
 
     fn from(_fault: SinkFault) -> Self {
         BulkFault::Sink
+    }
+}
+
+impl From<PlanFault> for BulkFault {
+    ghost from_gives = { λ plan fault. fault ≡ stopped_by plan };
+
+    fn from(fault: PlanFault) -> Self {
+        match fault {
+            PlanFault::Memory => BulkFault::Memory,
+            PlanFault::TooLarge => BulkFault::TooLarge,
+        }
     }
 }
 

@@ -63,13 +63,8 @@ impl Limits {
     /// Notes the limits of a bucket that ends, by what its open runs tell of the plain layout's rows:
     /// a row that would end in a single item behind another run has one run less, and the row above
     /// it loses its last item.
-    pub(crate) fn tell(
-        &mut self,
-        bucket: u64,
-        runs: &[BranchRun<'_>],
-    ) -> Result<(), BulkFault>
-        requires fresh { (level : ℕ) → limit_in self.old bucket level ≡ None }
-        ensures told { OnOk result ((level : ℕ) → limit_in self.new bucket level ≡ limit_at (limits_told false (map run_told runs.now)) level) }
+    pub(crate) fn tell(&mut self, bucket: u64, runs: &[BranchRun<'_>]) -> Result<(), BulkFault>
+        ensures told { OnOk result (((level : ℕ) → limit_in self.old bucket level ≡ None) → (level : ℕ) → limit_in self.new bucket level ≡ limit_at (limits_told false (map run_told runs.now)) level) }
         ensures others { OnOk result ((b l : ℕ) → (b ≡ bucket → ⊥) → limit_in self.new b l ≡ limit_in self.old b l) }
         ensures fault { IfErr result (λ e. e ≡ fault.Memory) }
     {

@@ -11,7 +11,6 @@ ghost use Rattle.bolt_layout.specs.PageBytes.{leaf_data, page_bytes};
 ghost use Rattle.bolt_bulk.specs.Private.HeldCounts.{items_in};
 ghost use Rattle.bolt_bulk.specs.Private.HeldItems.{IsHeld, held_view, inlined_by, stored_value, value_item};
 ghost use Rattle.bolt_bulk.specs.Private.OpenBuckets.{HasRoomFor, IsLeafRun, IsOpenBucket, bucket_end_next, leaf_closed, leaves_of, rows_of};
-ghost use Rattle.bolt_bulk.specs.Private.RowLimits.{bucket_limit};
 ghost use Rattle.bolt_bulk.specs.Private.Rows.{leaf_page, leaves_have_room, no_leaves, rows_end, rows_end_put, rows_push, rows_room, rows_room_put};
 ghost use Rattle.bolt_bulk.specs.Private.TakenItems.{entries_size, inline_element, inline_size};
 ghost use Rattle.bolt_bulk.specs.Puts.{Puts, PutsWhole};
@@ -127,7 +126,7 @@ impl<'a> OpenBucket<'a> {
     /// A bucket of which nothing is open.
     pub(crate) fn new(alloc: Global, limits: BucketLimits<'a>) -> OpenBucket<'a>
         ensures open { IsOpenBucket result }
-        ensures rows { (next : ℕ) → rows_of result next ≡ record { leaves = no_leaves; uppers = []; limits = bucket_limit limits.entry; next = next } }
+        ensures rows { (next : ℕ) → rows_of result next ≡ record { leaves = no_leaves; uppers = []; limits = limits.entry; next = next } }
     {
         OpenBucket {
             leaves: LeafRun {
@@ -153,7 +152,7 @@ impl<'a> OpenBucket<'a> {
         requires keys { AllByRecursion (λ (entry : Leaf). length entry.key.now ≤ 1073741824) entries.now }
         requires values { AllByRecursion (λ (entry : Leaf). entry.is_bucket ≡ false) entries.now }
         ensures open { IfOk result (λ bucket. IsOpenBucket bucket) }
-        ensures rows { IfOk result (λ bucket. (next : ℕ) → rows_of bucket next ≡ record { leaves = record { elements = map leaf_view entries.now; size = size }; uppers = []; limits = bucket_limit limits.entry; next = next }) }
+        ensures rows { IfOk result (λ bucket. (next : ℕ) → rows_of bucket next ≡ record { leaves = record { elements = map leaf_view entries.now; size = size }; uppers = []; limits = limits.entry; next = next }) }
         ensures fault { IfErr result (λ e. e ≡ fault.Memory) }
     {
         let items = value_items(alloc, entries)?;

@@ -7,6 +7,7 @@ use crate::fault::BulkFault;
 use crate::limits::{BucketLimits, Limits};
 use crate::open_bucket::OpenBucket;
 use crate::steps::{Waiting, enter, leave, take_inline, take_value};
+use crate::told::Told;
 use bolt_format::{Leaf, Sink};
 use bolt_tree::Item;
 use std::alloc::Global;
@@ -23,7 +24,7 @@ pub(crate) struct Pending<'a> {
 }
 
 /// What a pass comes to.
-#[derive(Clone, Copy)]
+#[derive(Drop)]
 pub(crate) struct Ended {
     /// The page number of the root page.
     pub root: u64,
@@ -31,6 +32,8 @@ pub(crate) struct Ended {
     pub high_water: u64,
     /// The greatest number of items that stood in open runs at one time.
     pub held: u64,
+    /// The limits of the rows of all buckets, if they were asked for.
+    pub told: Limits,
 }
 
 /// What is open in a pass.
@@ -53,6 +56,8 @@ pub(crate) struct Pass<'a> {
     pub around: u64,
     /// The most items that stood in open runs at one time so far; 2^64 - 1 if there were more.
     pub most: u64,
+    /// The limits that a pass over the plain layout tells.
+    pub told: Told,
 }
 
 impl<'a> Pass<'a> {
@@ -66,12 +71,13 @@ impl<'a> Pass<'a> {
     ghost use Rattle.bolt_tree.specs.Paths.{path_of};
     ghost use Rattle.bolt_tree.specs.ShownEntries.{item_view};
 
-    /// A pass before the first page.
-    pub(crate) fn new(alloc: Global, bounds: Bounds, limits: &'a Limits) -> Pass<'a>
+    /// A pass before the first page. If it tells limits, these are of the rows of the balanced
+    /// layout.
+    pub(crate) fn new(alloc: Global, bounds: Bounds, limits: &'a Limits, tells: bool) -> Pass<'a>
         requires { 3 ≤ bounds.limit }
         ensures bounds { result.bounds ≡ bounds }
         ensures ready { IsReady result }
-        ensures at { (wanted : Wanted) → FitLimits wanted bounds.page_size (limits_with limits.now) → HasLeft wanted result (listing_of wanted.tree) [] }
+        ensures at { (wanted : Wanted) → wanted.tells ≡ tells → FitLimits wanted.which wanted.tree bounds.page_size (limits_with limits.now) → HasLeft wanted result (listing_of wanted.tree) [] }
     {
         Pass {
             alloc,
@@ -91,6 +97,7 @@ impl<'a> Pass<'a> {
             opened: 1,
             around: 0,
             most: 0,
+            told: Told::new(alloc, tells),
         }
     }
 
@@ -358,6 +365,12 @@ impl<'a> Pass<'a> {
         ensures steps { (wanted : Wanted) (level : Level) (levels : List Level) (put : List Placed) → IsAt wanted self.old (level ∷ levels) end put
             → Steps wanted S.taken S.failed sink.old sink.new self.old.bounds put (IsAt wanted self.new levels level.after) result }
     {
+        let ended = self
+            .told
+            .bucket_ends(self.bucket.limits.bucket, self.bucket.uppers.as_slice());
+        if let Err(fault) = ended {
+            return Err(fault);
+        }
         let Some(waiting) = self.waiting.pop() else {
             unreachable!()
         };
@@ -430,12 +443,19 @@ impl<'a> Pass<'a> {
         if let Err(fault) = self.leave_to(1, sink) {
             return Err(fault);
         }
+        let ended = self
+            .told
+            .bucket_ends(self.bucket.limits.bucket, self.bucket.uppers.as_slice());
+        if let Err(fault) = ended {
+            return Err(fault);
+        }
         match self.bucket.end(&self.bounds, &mut self.next, sink) {
             Err(fault) => Err(fault),
             Ok(root) => Ok(Ended {
                 root,
                 high_water: self.next,
                 held: self.most,
+                told: self.told.take(self.alloc),
             }),
         }
     }

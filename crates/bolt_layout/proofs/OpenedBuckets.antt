@@ -1,13 +1,14 @@
 -- How many buckets a pass opens: as many in both layouts, and no more than there are page numbers.
-use Rattle.std.proofs.Common.{◌≡◌, ◌≤◌, ℕ, suc, List, [], ◌∷◌, length, refl, inl, inr, arith}
+use Rattle.std.proofs.Common.{◌≡◌, ◌≤◌, ◌+◌, ℕ, suc, false, List, [], ◌∷◌, length, refl, inl, inr, arith}
 use Rattle.std.proofs.lemmas.Bool.{cases_Bool}
+use Rattle.std.proofs.lemmas.List.{length-map}
 use Rattle.bolt_format.specs.Elements.{LeafElement}
 use Rattle.bolt_tree.specs.Tree.{Tree, end, with_bucket, with_value}
 use Rattle.bolt_layout.specs.Cut.{cut_of}
 use Rattle.bolt_layout.specs.Items.{is_inline, items_of, root_of, stored_bucket}
 use Rattle.bolt_layout.specs.Laid.{Laid, numbers_of, size_of}
-use Rattle.bolt_layout.specs.Levels.{root_over}
-use Rattle.bolt_layout.specs.Openings.{opened_by, opened_in}
+use Rattle.bolt_layout.specs.Levels.{leaf_view, page_over, root_over}
+use Rattle.bolt_layout.specs.Openings.{leaf_pages, opened_by, opened_in}
 use Rattle.bolt_layout.specs.declared.layout.Layout.{Layout}
 use Rattle.bolt_layout.specs.declared.layout.Layout.TheVariants.{Plain, Balanced}
 use Rattle.bolt_layout.proofs.HeldBounds.{level_numbers}
@@ -43,6 +44,32 @@ root_some which page_size (item ∷ items) =
     let numbers = leaves_numbers page_size all in
     let some = own_some page_size (cut_of page_size 1 size_of all) (some_runs page_size 1 size_of (item ∷ []) items) in
     let level = level_numbers which page_size all in omega arith
+
+-- A bucket with a root page has no more leaf pages than it has page numbers,
+own_count : {E : Type 0} (page_size : ℕ) (runs : List (List (Laid E))) → length runs ≤ own_numbers page_size runs
+own_count page_size [] = omega arith
+own_count page_size (run ∷ runs) = let rest = own_count page_size runs in omega arith
+
+pub items_leaves : (which : Layout) (page_size : ℕ) (items : List (Laid LeafElement)) → length (leaf_pages page_size items) + numbers_of items ≤ (root_over which page_size items).numbers
+unfolding root_over
+items_leaves which page_size [] = omega arith
+items_leaves which page_size (item ∷ items) =
+    let all : List (Laid LeafElement) = item ∷ items in
+    let numbers = leaves_numbers page_size all in
+    let count = own_count page_size (cut_of page_size 1 size_of all) in
+    let same = length-map (cut_of page_size 1 size_of all) (page_over leaf_view page_size) in
+    let level = level_numbers which page_size all in omega arith
+
+pub leaves_few : (which : Layout) (page_size : ℕ) (inside : Tree)
+    → length (leaf_pages page_size (items_of which page_size inside)) + numbers_of (items_of which page_size inside) ≤ (root_over which page_size (items_of which page_size inside)).numbers
+leaves_few which page_size inside = items_leaves which page_size (items_of which page_size inside)
+
+-- and no more than the bucket around it has below its items.
+pub items_below : (which : Layout) (page_size : ℕ) (key : List ℕ) (sequence : ℕ) (inside after : Tree)
+    → (is_inline page_size inside (items_of which page_size inside) ≡ false
+    → (root_over which page_size (items_of which page_size inside)).numbers ≤ numbers_of (items_of which page_size (with_bucket key sequence inside after)))
+    × (numbers_of (items_of which page_size after) ≤ numbers_of (items_of which page_size (with_bucket key sequence inside after)))
+items_below which page_size key sequence inside after = ((λ rooted. rw rooted (omega arith)), omega arith)
 
 stored_few : (which : Layout) (page_size : ℕ) (key : List ℕ) (sequence : ℕ) (inside : Tree) → opened_in which page_size inside ≤ numbers_of (items_of which page_size inside)
     → opened_by which page_size inside ≤ (stored_bucket which page_size key sequence inside (items_of which page_size inside)).numbers

@@ -68,8 +68,13 @@ later_bucket : (page_size : ℕ) (tree : Tree) (bucket level : ℕ) → 1 ≤ bu
 later_bucket page_size tree zero level some = absurd (omega arith)
 later_bucket page_size tree (suc bucket) level some = refl
 
+pub tellings_by : (page_size : ℕ) (tree : Tree) (limits : ℕ → ℕ → Option ℕ) → ((bucket level : ℕ) → bucket < suc (opened_in Plain page_size tree) → limits bucket level ≡ limits_for page_size tree bucket level)
+    → AreTellings page_size limits 1 tree
+tellings_by page_size tree limits same =
+    below_tellings page_size limits 1 tree (λ bucket level some few. same bucket level (omega arith) ∙ later_bucket page_size tree bucket level some)
+
 pub tellings_are : (page_size : ℕ) (tree : Tree) → AreTellings page_size (limits_for page_size tree) 1 tree
-tellings_are page_size tree = below_tellings page_size (limits_for page_size tree) 1 tree (λ bucket level some few. later_bucket page_size tree bucket level some)
+tellings_are page_size tree = tellings_by page_size tree (limits_for page_size tree) (λ bucket level few. refl)
 
 -- The root bucket is number 0.
 pub root_tellings : (page_size : ℕ) (tree : Tree) (level : ℕ)

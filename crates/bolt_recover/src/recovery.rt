@@ -111,6 +111,14 @@ impl<'a> Recovery<'a> {
         }
     }
 
+    /// The file that is read.
+    #[tactic(auto, unfolding(crate::specs::Recoveries::recovery_file))]
+    pub fn file(&self) -> &'a [u8]
+        ensures { result.now ≡ recovery_file self.now }
+    {
+        self.steps.claims.file()
+    }
+
     /// The meta under which the file is read.
     #[tactic(auto, unfolding(crate::specs::Recoveries::recovery_meta))]
     pub fn meta(&self) -> Meta

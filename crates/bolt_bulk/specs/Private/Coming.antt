@@ -8,6 +8,7 @@ use Rattle.bolt_layout.specs.Levels.{branch_view, leaf_view, page_over, top_of}
 use Rattle.bolt_layout.specs.Limits.{HaveRightLimits, cut_left}
 use Rattle.bolt_layout.specs.declared.layout.Layout.{Layout}
 use Rattle.bolt_bulk.specs.Private.OpenRuns.{Frame, Open, Upper, key_size, pushing}
+use Rattle.bolt_bulk.specs.Private.RowLimits.{bucket_limit}
 
 -- These are all pages of a level. This is the page at the top over them, and the limits give the rows above as the layout has them.
 pub record IsUnder (which : Layout) (page_size : ℕ) (limits : ℕ → Option ℕ) (pages : List (Laid BranchElement)) (root : Laid BranchElement) : Type 0 where
@@ -35,8 +36,7 @@ leaves_coming page_size run items = map (page_over leaf_view page_size) (cut_fro
 
 -- this root page comes of an open bucket
 pub record IsOpen (which : Layout) (page_size : ℕ) (state : Open) (items : List (Laid LeafElement)) (root : Laid BranchElement) : Type 0 where
-  pub all : List (Laid BranchElement)
-  pub comes : Comes which page_size state.limits state.uppers all (leaves_coming page_size state.run items) root
+  pub comes : Comes which page_size (bucket_limit state.known.limits) state.uppers state.known.leaves (leaves_coming page_size state.run items) root
 
 -- only a bucket of which nothing is open yet has an empty run
 abbrev pub HasBegun : Open → Type 0

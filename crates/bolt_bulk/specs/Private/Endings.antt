@@ -1,5 +1,5 @@
 -- What the end of a pass leaves, and what is known of the members of a listing.
-use Rattle.std.specs.Prelude.{◌≡◌, ◌<◌, ◌≤◌, ℕ, List, [], ◌∷◌, ◌++◌, length, Option, Result, IfErr, IfOk, OnErr}
+use Rattle.std.specs.Prelude.{◌≡◌, ◌<◌, ◌≤◌, ℕ, List, [], ◌∷◌, ◌++◌, length, true, Option, Result, IfErr, IfOk, OnErr}
 use Rattle.bolt_check.specs.Keys.{Key}
 use Rattle.bolt_format.specs.ElementLengths.{IsValueLength}
 use Rattle.bolt_format.specs.Sinks.{AppendsProperBeginning}
@@ -9,7 +9,8 @@ use Rattle.bolt_tree.specs.Paths.{Path}
 use Rattle.bolt_layout.specs.Laid.{Placed}
 use Rattle.bolt_layout.specs.Layout.{layout_held, layout_mark, layout_pages, layout_root, placed_bytes}
 use Rattle.bolt_bulk.specs.Private.HeldCounts.{capped}
-use Rattle.bolt_bulk.specs.Private.Passes.{Wanted}
+use Rattle.bolt_bulk.specs.Private.Passes.{FitLimits, Wanted, limits_with}
+use Rattle.bolt_layout.specs.declared.layout.Layout.TheVariants.{Balanced, Plain}
 use Rattle.bolt_bulk.specs.Puts.{Puts}
 use Rattle.bolt_bulk.specs.declared.bounds.Bounds.{Bounds}
 use Rattle.bolt_bulk.specs.declared.fault.BulkFault.{BulkFault}
@@ -17,7 +18,7 @@ use Rattle.bolt_bulk.specs.declared.fault.BulkFault.TheVariants as fault
 use Rattle.bolt_bulk.specs.declared.pass.Ended.{Ended}
 
 -- These pages were put before; the others of the layout are put, or a beginning of their bytes that isn't the whole. The root page, the
--- high-water mark and how many items were held are told.
+-- high-water mark and how many items were held are told, and if they are asked for the limits that give the balanced layout.
 pub record Ends {S : Type 0} (wanted : Wanted) (taken : S → Option (List ℕ)) (failed : S → ℕ) (old new : S) (bounds : Bounds) (put : List Placed) (result : Result Ended BulkFault) : Type 0 where
   pub others : List Placed
   pub all : layout_pages wanted.which bounds.page_size wanted.tree ≡ put ++ others
@@ -26,6 +27,7 @@ pub record Ends {S : Type 0} (wanted : Wanted) (taken : S → Option (List ℕ))
   pub root : IfOk result (λ ended. ended.root ≡ layout_root wanted.which bounds.page_size wanted.tree)
   pub mark : IfOk result (λ ended. ended.high_water ≡ layout_mark wanted.which bounds.page_size wanted.tree)
   pub within : IfOk result (λ ended. ended.high_water ≤ bounds.limit)
+  pub told : IfOk result (λ ended. wanted.tells ≡ true → wanted.which ≡ Plain → FitLimits Balanced wanted.tree bounds.page_size (limits_with ended.told))
   pub held : IfOk result (λ ended. ended.held ≡ capped (layout_held wanted.which bounds.page_size wanted.tree))
   pub large : IfErr result (λ e. e ≡ fault.TooLarge → bounds.limit < layout_mark wanted.which bounds.page_size wanted.tree)
 

@@ -5,7 +5,6 @@ use Rattle.bolt_format.specs.Elements.{BranchElement}
 use Rattle.bolt_layout.specs.Levels.{overflow_of}
 use Rattle.bolt_bulk.specs.Private.BranchRuns.{IsStanding, rows_above, rows_end_next}
 use Rattle.bolt_bulk.specs.Private.HeldItems.{AreHeld, held_views, inlined_in, page_size_of}
-use Rattle.bolt_bulk.specs.Private.RowLimits.{bucket_limit}
 use Rattle.bolt_bulk.specs.Private.Rows.{LeafRow, OpenRows, leaf_key}
 use Rattle.bolt_bulk.specs.declared.open_bucket.LeafRun.{LeafRun}
 use Rattle.bolt_bulk.specs.declared.open_bucket.OpenBucket.{OpenBucket}
@@ -29,7 +28,7 @@ pub record HasRoomFor (run : LeafRun) (size : ℕ) : Type 0 where
 
 -- what is open of a bucket, with the number of the next page
 abbrev pub rows_of : OpenBucket → ℕ → OpenRows
-rows_of bucket next = record { leaves = leaves_of bucket.leaves; uppers = rows_above bucket.uppers.items; limits = bucket_limit bucket.limits; next = next }
+rows_of bucket next = record { leaves = leaves_of bucket.leaves; uppers = rows_above bucket.uppers.items; limits = bucket.limits; next = next }
 
 pub record IsOpenBucket (bucket : OpenBucket) : Type 0 where
   pub leaves : IsLeafRun bucket.leaves

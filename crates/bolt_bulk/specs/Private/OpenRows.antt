@@ -34,4 +34,4 @@ pub record IsOpenRows (rows : OpenRows) (state : Open) (b : ℕ) : Type 0 where
   pub keyed : AllByRecursion IsKeyedItem state.run
   pub above : AreRows rows.uppers state.uppers b
   pub next_is : rows.next ≡ next_number state b
-  pub limits_are : rows.limits ≡ state.limits
+  pub limits_are : rows.limits ≡ state.known.limits

@@ -10,6 +10,8 @@ use Rattle.bolt_layout.specs.Cut.{max_items, run_size}
 use Rattle.bolt_layout.specs.Laid.{Laid, Placed, elements_of, numbers_of, pages_of, size_of}
 use Rattle.bolt_layout.specs.Limits.{is_out, one_less}
 use Rattle.bolt_layout.specs.Levels.{branch_view, leaf_view, page_over, run_overflow}
+use Rattle.bolt_bulk.specs.Private.RowLimits.{bucket_limit}
+use Rattle.bolt_bulk.specs.declared.limits.BucketLimits.{BucketLimits}
 
 -- an item of this size joins the run
 abbrev pub has_room : {E : Type 0} → ℕ → ℕ → List (Laid E) → ℕ → Bool
@@ -83,14 +85,19 @@ close_puts page_size q [] number = []
 close_puts page_size q (upper ∷ uppers) number =
     own_page branch_view page_size (upper.run ++ q ∷ []) (number + numbers_in uppers) ∷ close_puts page_size (page_over branch_view page_size (upper.run ++ q ∷ [])) uppers number
 
--- A bucket that is open: its upper runs, the run of leaf items, and how many runs may begin after the first of each row above.
+-- What a bucket is known by before its pages are put: the limits of its rows, with its number, and all its leaf pages.
+pub record Known : Type 0 where
+  pub limits : BucketLimits
+  pub leaves : List (Laid BranchElement)
+
+-- A bucket that is open: its upper runs and the run of leaf items.
 pub record Open : Type 0 where
   pub uppers : List Upper
   pub run : List (Laid LeafElement)
-  pub limits : ℕ → Option ℕ
+  pub known : Known
 
-abbrev pub nothing_open : (limits : ℕ → Option ℕ) → Open
-nothing_open limits = record { uppers = []; run = []; limits = limits }
+abbrev pub nothing_open : Known → Open
+nothing_open known = record { uppers = []; run = []; known = known }
 
 -- the pages of an open bucket that were put, where they begin at a number; and the number of the next one
 abbrev pub pages_put : Open → ℕ → List Placed
@@ -102,7 +109,7 @@ next_number state number = number + numbers_in state.uppers + numbers_of state.r
 -- Room for the next item, by its key and size: it is there, or the run closes before any of the item's pages is put.
 abbrev pub making_room : ℕ → Open → List ℕ → ℕ → Open
 making_room page_size state key size =
-    let closed : Open = record { uppers = climb page_size (state.limits (length state.uppers)) key (page_over leaf_view page_size state.run) state.uppers; run = []; limits = state.limits } in
+    let closed : Open = record { uppers = climb page_size (bucket_limit state.known.limits (length state.uppers)) key (page_over leaf_view page_size state.run) state.uppers; run = []; known = state.known } in
     if has_room page_size 1 state.run size then state else closed
 
 abbrev pub room_puts : ℕ → Open → List ℕ → ℕ → ℕ → List Placed
@@ -111,7 +118,7 @@ room_puts page_size state key size number =
     if has_room page_size 1 state.run size then [] else closed
 
 abbrev pub pushing : Open → Laid LeafElement → Open
-pushing state item = record { uppers = state.uppers; run = state.run ++ item ∷ []; limits = state.limits }
+pushing state item = record { uppers = state.uppers; run = state.run ++ item ∷ []; known = state.known }
 
 abbrev pub taking : ℕ → Open → Laid LeafElement → Open
 taking page_size state item = pushing (making_room page_size state item.key item.size) item

@@ -1,16 +1,17 @@
 -- Where a pass stands in the tree that it goes along, as code keeps it, and what a step of it leaves.
-use Rattle.std.specs.Prelude.{◌≡◌, ◌<◌, ◌≤◌, ℕ, suc, ◌+◌, ◌/◌, false, List, [], ◌∷◌, ◌++◌, length, map, reverse, Option, Some, None, Result, IfErr, OnOk}
+use Rattle.std.specs.Prelude.{◌≡◌, ◌<◌, ◌≤◌, ℕ, suc, ◌+◌, ◌/◌, Bool, true, false, List, [], ◌∷◌, ◌++◌, length, map, reverse, Option, Some, None, Result, IfErr, OnOk}
 use Rattle.std.specs.List.{AllByRecursion}
 use Rattle.bolt_format.specs.ElementPlaces.{leaf_view}
-use Rattle.bolt_format.specs.Elements.{LeafElement}
+use Rattle.bolt_format.specs.Elements.{BranchElement, LeafElement}
 use Rattle.bolt_format.specs.declared.element.Leaf.{Leaf}
 use Rattle.bolt_tree.specs.Listing.{Member}
-use Rattle.bolt_tree.specs.Tree.{Tree, with_bucket, with_value}
+use Rattle.bolt_tree.specs.Tree.{Tree, end, with_bucket, with_value}
 use Rattle.bolt_layout.specs.Items.{is_inline, items_of, root_of}
-use Rattle.bolt_layout.specs.Laid.{Placed}
+use Rattle.bolt_layout.specs.Laid.{Laid, Placed}
 use Rattle.bolt_layout.specs.Layout.{layout_mark, layout_pages, placed_bytes}
-use Rattle.bolt_layout.specs.Limits.{HaveRightLimits}
-use Rattle.bolt_layout.specs.Openings.{AreRight, leaf_pages, opened_in}
+use Rattle.bolt_layout.specs.Limits.{HaveRightLimits, limit_at, limits_told}
+use Rattle.bolt_layout.specs.Openings.{AreRight, leaf_pages, limits_for, opened_by, opened_in, told_of}
+use Rattle.bolt_layout.specs.declared.layout.Layout.TheVariants.{Plain}
 use Rattle.bolt_bulk.specs.declared.limits.Limits.{Limits}
 use Rattle.bolt_bulk.specs.Private.Coming.{IsPass}
 use Rattle.bolt_bulk.specs.Private.RowLimits.{limit_in}
@@ -29,6 +30,7 @@ use Rattle.bolt_bulk.specs.declared.fault.BulkFault.TheVariants as fault
 use Rattle.bolt_bulk.specs.declared.pass.Pass.{Pass}
 use Rattle.bolt_bulk.specs.declared.pass.Pending.{Pending}
 use Rattle.bolt_bulk.specs.declared.steps.Waiting.{Waiting}
+use Rattle.bolt_bulk.specs.declared.told.Told.{Told}
 use Rattle.bolt_layout.specs.declared.layout.Layout.{Layout}
 
 -- entries that are values, in front of a tree
@@ -55,10 +57,11 @@ IsPending (Some pending) entries outer rest levels left = (after : Tree)
     × (levels ≡ record { key = pending.key.now; after = after } ∷ outer)
     × (rest ≡ with_bucket pending.key.now pending.sequence (onto (map leaf_view entries) left) after)
 
--- what a pass goes for: the layout of a tree
+-- what a pass goes for: the layout of a tree, and whether the limits of its rows are asked for
 pub record Wanted : Type 0 where
   pub which : Layout
   pub tree : Tree
+  pub tells : Bool
 
 -- the limits of a bucket's rows, as a pass looks them up by the bucket's number
 abbrev pub limits_with : Limits → (bucket level : ℕ) → Option ℕ
@@ -68,15 +71,61 @@ abbrev pub limits_by : Pass → (bucket level : ℕ) → Option ℕ
 limits_by pass = limits_with pass.limits.now
 
 -- limits are right for all buckets of a tree, of which the root bucket is number 0
-pub record FitLimits (wanted : Wanted) (page_size : ℕ) (limits : ℕ → ℕ → Option ℕ) : Type 0 where
-  pub root : HaveRightLimits wanted.which page_size (limits 0) (leaf_pages page_size (items_of wanted.which page_size wanted.tree))
-  pub others : AreRight wanted.which page_size limits 1 wanted.tree
+pub record FitLimits (which : Layout) (tree : Tree) (page_size : ℕ) (limits : ℕ → ℕ → Option ℕ) : Type 0 where
+  pub root : HaveRightLimits which page_size (limits 0) (leaf_pages page_size (items_of which page_size tree))
+  pub others : AreRight which page_size limits 1 tree
 
--- they are right for the buckets behind those that wait
-abbrev pub AreRightAround : Layout → (page_size : ℕ) → (limits : ℕ → ℕ → Option ℕ) → (n : ℕ) → List Frame → Type 0
-AreRightAround which page_size limits n [] = Unit {0}
-AreRightAround which page_size limits n (frame ∷ frames) =
-    AreRight which page_size limits n frame.after × AreRightAround which page_size limits (n + opened_in which page_size frame.after) frames
+-- What a bucket with these leaf pages, which is opened as number n, tells of its rows. It has no more leaf pages than the layout has pages.
+pub record Tells (wanted : Wanted) (page_size n : ℕ) (leaves : List (Laid BranchElement)) : Type 0 where
+  pub told : wanted.which ≡ Plain → (level : ℕ) → limits_for page_size wanted.tree n level ≡ limit_at (limits_told false (told_of page_size leaves)) level
+  pub few : length leaves ≤ layout_mark wanted.which page_size wanted.tree
+
+-- This is known of the buckets of a tree that are still to come, where the first of them that has a root page is opened as number n.
+pub record IsComing (wanted : Wanted) (page_size : ℕ) (limits : ℕ → ℕ → Option ℕ) (n : ℕ) (inside : Tree) : Type 0 where
+  pub right : HaveRightLimits wanted.which page_size (limits n) (leaf_pages page_size (items_of wanted.which page_size inside))
+  pub tells : Tells wanted page_size n (leaf_pages page_size (items_of wanted.which page_size inside))
+
+abbrev pub AreComing : (wanted : Wanted) → (page_size : ℕ) → (limits : ℕ → ℕ → Option ℕ) → (n : ℕ) → Tree → Type 0
+AreComing wanted page_size limits n end = Unit {0}
+AreComing wanted page_size limits n (with_value key value after) = AreComing wanted page_size limits n after
+AreComing wanted page_size limits n (with_bucket key sequence inside after) =
+    (is_inline page_size inside (items_of wanted.which page_size inside) ≡ false
+    → IsComing wanted page_size limits n inside × AreComing wanted page_size limits (suc n) inside)
+    × AreComing wanted page_size limits (n + opened_by wanted.which page_size inside) after
+
+-- and of those behind the buckets that wait, up to the last of all
+abbrev pub AreComingAround : (wanted : Wanted) → (page_size : ℕ) → (limits : ℕ → ℕ → Option ℕ) → (n : ℕ) → List Frame → Type 0
+AreComingAround wanted page_size limits n [] = n ≡ suc (opened_in wanted.which page_size wanted.tree)
+AreComingAround wanted page_size limits n (frame ∷ frames) =
+    AreComing wanted page_size limits n frame.after × AreComingAround wanted page_size limits (n + opened_in wanted.which page_size frame.after) frames
+
+-- The open buckets, the innermost first, have these numbers, which fall.
+pub record IsNumbered (wanted : Wanted) (page_size below n : ℕ) (state : Open) : Type 0 where
+  pub earlier : n < below
+  pub number_is : state.known.limits.bucket ≡ capped n
+  pub tells : Tells wanted page_size n state.known.leaves
+
+abbrev pub AreNumbered : (wanted : Wanted) → (page_size below : ℕ) → (numbers : List ℕ) → List Open → Type 0
+AreNumbered wanted page_size below [] [] = Unit {0}
+AreNumbered wanted page_size below [] (state ∷ states) = ⊥
+AreNumbered wanted page_size below (n ∷ numbers) [] = ⊥
+AreNumbered wanted page_size below (n ∷ numbers) (state ∷ states) = IsNumbered wanted page_size below n state × AreNumbered wanted page_size n numbers states
+
+-- Of the buckets that have ended, the limits are those that the plain layout tells; of those that are open, by these numbers, or not yet
+-- opened, there are none.
+pub record IsTable (page_size : ℕ) (tree : Tree) (limits : Limits) (opened : ℕ) (numbers : List ℕ) : Type 0 where
+  pub still_open : AllByRecursion (λ (n : ℕ). (level : ℕ) → limit_in limits n level ≡ None) numbers
+  pub later : (n level : ℕ) → opened ≤ n → limit_in limits n level ≡ None
+  pub ended : (n level : ℕ) → n < opened → AllByRecursion (λ (m : ℕ). n ≡ m → ⊥) numbers → limit_in limits n level ≡ limits_for page_size tree n level
+
+-- A pass over the plain layout that tells limits has told these, unless there are more page numbers than code counts.
+pub record HasTold (wanted : Wanted) (page_size : ℕ) (told : Told) (opened : ℕ) (numbers : List ℕ) : Type 0 where
+  pub asked : told.tells ≡ wanted.tells
+  pub table : wanted.tells ≡ true → wanted.which ≡ Plain → layout_mark wanted.which page_size wanted.tree ≤ 18446744073709551615
+      → IsTable page_size wanted.tree told.limits opened numbers
+
+abbrev pub open_in : Open → List Frame → List Open
+open_in state frames = state ∷ map (λ (frame : Frame). frame.state) frames
 
 -- The pass has put these pages, and of the innermost bucket these entries are left.
 pub record IsAt (wanted : Wanted) (pass : Pass) (levels : List Level) (left : Tree) (put : List Placed) : Type 0 where
@@ -91,8 +140,11 @@ pub record IsAt (wanted : Wanted) (pass : Pass) (levels : List Level) (left : Tr
   pub held : pass.most ≡ capped (held_so_far frames state)
   pub opened : ℕ
   pub opened_is : pass.opened ≡ capped opened
-  pub right : AreRight wanted.which pass.bounds.page_size (limits_by pass) opened rest
-  pub right_around : AreRightAround wanted.which pass.bounds.page_size (limits_by pass) (opened + opened_in wanted.which pass.bounds.page_size rest) frames
+  pub coming : AreComing wanted pass.bounds.page_size (limits_by pass) opened rest
+  pub around : AreComingAround wanted pass.bounds.page_size (limits_by pass) (opened + opened_in wanted.which pass.bounds.page_size rest) frames
+  pub numbers : List ℕ
+  pub numbered : AreNumbered wanted pass.bounds.page_size opened numbers (open_in state frames)
+  pub has_told : HasTold wanted pass.bounds.page_size pass.told opened numbers
 
 -- What is known of it without the tree. A bucket that may be inline has values alone, which take at most a quarter of a page.
 pub record IsSmall (page_size : ℕ) (pending : Pending) (entries : List Leaf) : Type 0 where

@@ -7,6 +7,8 @@ use Rattle.bolt_layout.specs.Laid.{Placed}
 use Rattle.bolt_layout.specs.Limits.{is_out, one_less}
 use Rattle.bolt_layout.specs.Levels.{branch_view, leaf_view, overflow_of}
 use Rattle.bolt_bulk.specs.Private.OpenRuns.{key_size}
+use Rattle.bolt_bulk.specs.Private.RowLimits.{bucket_limit}
+use Rattle.bolt_bulk.specs.declared.limits.BucketLimits.{BucketLimits}
 
 pub record BranchRow : Type 0 where
   pub elements : List BranchElement
@@ -75,7 +77,7 @@ no_leaves = record { elements = []; size = 16 }
 pub record OpenRows : Type 0 where
   pub leaves : LeafRow
   pub uppers : List BranchRow
-  pub limits : ℕ → Option ℕ
+  pub limits : BucketLimits
   pub next : ℕ
 
 abbrev pub leaves_have_room : ℕ → LeafRow → ℕ → Bool
@@ -95,7 +97,7 @@ rows_room page_size rows key size =
     let after = rows.next + (1 + overflow_of page_size rows.leaves.size) in
     let made : OpenRows = record {
       leaves = no_leaves;
-      uppers = rows_climb page_size (rows.limits (length rows.uppers)) key closed after rows.uppers;
+      uppers = rows_climb page_size (bucket_limit rows.limits (length rows.uppers)) key closed after rows.uppers;
       limits = rows.limits;
       next = rows_next page_size key closed after rows.uppers;
     } in

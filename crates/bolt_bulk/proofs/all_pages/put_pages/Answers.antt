@@ -30,16 +30,16 @@ members-init g c = record {
   ready = c.new-pass.ensures.ready;
   fit = λ listing lists. subst (λ (ms : List Member). ∥ AllByRecursion IsFitMember ms ∥₁) (sym (c.new-walk.ensures.all listing lists)) (c.requires.fit listing lists);
   steps = λ which listing lists fit.
-      let wanted : Wanted = record { which = which; tree = tree_of listing } in
+      let wanted : Wanted = record { which = which; tree = tree_of listing; tells = c.args.tells } in
       let all = c.requires.lists listing lists ∙ sym (c.new-walk.ensures.all listing lists) in
       steps_begun wanted c.new-pass.result (left_of c.new-walk.result listing) [] c.args.sink.now
-      (subst (λ (ms : List Member). HasLeft wanted c.new-pass.result ms []) all (c.new-pass.ensures.at wanted (subst (λ (n : ℕ). FitLimits wanted n (limits_with c.args.limits.now)) (ap (λ (b : Bounds). b.page_size) c.new-pass.ensures.bounds) fit)));
+      (subst (λ (ms : List Member). HasLeft wanted c.new-pass.result ms []) all (c.new-pass.ensures.at wanted refl (subst (λ (n : ℕ). FitLimits which (tree_of listing) n (limits_with c.args.limits.now)) (ap (λ (b : Bounds). b.page_size) c.new-pass.ensures.bounds) fit)));
 }
 
 pub returns-in-Err : goal.returns-in-Err
 returns-in-Err g c = λ which listing lists fit0.
-    let wanted : Wanted = record { which = which; tree = tree_of listing } in
-    let fit = subst (λ (b : Bounds). FitLimits wanted b.page_size (limits_with c.args.limits.now)) (sym c.new-pass.ensures.bounds) fit0 in
+    let wanted : Wanted = record { which = which; tree = tree_of listing; tells = c.args.tells } in
+    let fit = subst (λ (b : Bounds). FitLimits which (tree_of listing) b.page_size (limits_with c.args.limits.now)) (sym c.new-pass.ensures.bounds) fit0 in
     let steps = c.members.invariant.steps which listing lists fit in
     subst (λ (b : Bounds). Ends wanted g.S.Sink.taken g.S.Sink.failed c.args.sink.now c.members.sink b [] (Err fault.Memory)) c.new-pass.ensures.bounds
     (ends_early wanted g.S.Sink.taken g.S.Sink.failed c.new-pass.result.bounds c.args.sink.now c.members.sink [] (HasLeft wanted c.members.pass (left_of c.members.walk listing)) fault.Memory
@@ -50,8 +50,8 @@ end-requires g c = c.members.invariant.ready
 
 pub returns-in-Ok-None : goal.returns-in-Ok-None
 returns-in-Ok-None g c = λ which listing lists fit0.
-    let wanted : Wanted = record { which = which; tree = tree_of listing } in
-    let fit = subst (λ (b : Bounds). FitLimits wanted b.page_size (limits_with c.args.limits.now)) (sym c.new-pass.ensures.bounds) fit0 in
+    let wanted : Wanted = record { which = which; tree = tree_of listing; tells = c.args.tells } in
+    let fit = subst (λ (b : Bounds). FitLimits which (tree_of listing) b.page_size (limits_with c.args.limits.now)) (sym c.new-pass.ensures.bounds) fit0 in
     let given = rw c.in-Ok-None.field-0-is at c.in-Ok-None.ensures.given in
     let here = listed_same (walk_checked c.members.walk) c.args.checked listing c.members.invariant.checked lists in
     let none : left_of c.members.walk listing ≡ [] = (given listing here).0 in
@@ -74,8 +74,8 @@ take-requires-clause-fit g c =
 
 pub returns-in-Err-take : goal.returns-in-Err-take
 returns-in-Err-take g c = λ which listing lists fit0.
-    let wanted : Wanted = record { which = which; tree = tree_of listing } in
-    let fit = subst (λ (b : Bounds). FitLimits wanted b.page_size (limits_with c.args.limits.now)) (sym c.new-pass.ensures.bounds) fit0 in
+    let wanted : Wanted = record { which = which; tree = tree_of listing; tells = c.args.tells } in
+    let fit = subst (λ (b : Bounds). FitLimits which (tree_of listing) b.page_size (limits_with c.args.limits.now)) (sym c.new-pass.ensures.bounds) fit0 in
     let given = rw c.in-Ok-Some.field-0-is at c.in-Ok-Some.ensures.given in
     let path : walk_path c.next.new.self ≡ path_of c.path.result.now = sym c.path.ensures in
     let member : Member = (path_of c.path.result.now, item_view c.in-Ok-Some.item) in
@@ -104,10 +104,10 @@ members-preserved g c =
     given listing (listed_same (walk_checked c.members.walk) c.args.checked listing c.members.invariant.checked lists)
     ∙ ap (λ (p : Path). (p, item_view c.in-Ok-Some.item) ∷ left_of c.next.new.self listing) path in
     let taken : (which : Layout) (listing : List Member) (lists : IsListing (bytes_of c.args.checked) (meta_of c.args.checked) listing)
-    → FitLimits (record { which = which; tree = tree_of listing }) c.new-pass.result.bounds.page_size (limits_with c.args.limits.now)
-    → Steps {A = ⊤} (record { which = which; tree = tree_of listing }) g.S.Sink.taken g.S.Sink.failed c.args.sink.now c.take.new.sink c.new-pass.result.bounds []
-    (HasLeft (record { which = which; tree = tree_of listing }) c.take.new.self (left_of c.next.new.self listing)) (Ok tt) = λ which listing lists fit.
-    let wanted : Wanted = record { which = which; tree = tree_of listing } in
+    → FitLimits which (tree_of listing) c.new-pass.result.bounds.page_size (limits_with c.args.limits.now)
+    → Steps {A = ⊤} (record { which = which; tree = tree_of listing; tells = c.args.tells }) g.S.Sink.taken g.S.Sink.failed c.args.sink.now c.take.new.sink c.new-pass.result.bounds []
+    (HasLeft (record { which = which; tree = tree_of listing; tells = c.args.tells }) c.take.new.self (left_of c.next.new.self listing)) (Ok tt) = λ which listing lists fit.
+    let wanted : Wanted = record { which = which; tree = tree_of listing; tells = c.args.tells } in
     let well : Result ⊤ BulkFault = Ok tt in
     let At : List Placed → Type 0 = HasLeft wanted c.take.new.self (left_of c.next.new.self listing) in
     steps_then wanted g.S.Sink.taken g.S.Sink.failed c.new-pass.result.bounds c.args.sink.now c.members.sink c.take.new.sink [] (HasLeft wanted c.members.pass (left_of c.members.walk listing)) At tt well

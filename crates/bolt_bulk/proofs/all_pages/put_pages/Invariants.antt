@@ -17,9 +17,9 @@ invariant-members g l = record {
   bounds : l.pass.bounds ≡ l.initial.pass.bounds;
   ready : IsReady l.pass;
   fit : ForListing l.checked (λ listing. ∥ AllByRecursion IsFitMember (left_of l.walk listing) ∥₁);
-  steps : (which : Layout) → ForListing l.checked (λ listing. FitLimits (record { which = which; tree = tree_of listing }) l.initial.pass.bounds.page_size (limits_with l.limits)
-      → Steps {A = ⊤} (record { which = which; tree = tree_of listing }) g.S.Sink.taken g.S.Sink.failed l.initial.sink l.sink l.initial.pass.bounds []
-      (HasLeft (record { which = which; tree = tree_of listing }) l.pass (left_of l.walk listing)) (Ok tt));
+  steps : (which : Layout) → ForListing l.checked (λ listing. FitLimits which (tree_of listing) l.initial.pass.bounds.page_size (limits_with l.limits)
+      → Steps {A = ⊤} (record { which = which; tree = tree_of listing; tells = l.tells }) g.S.Sink.taken g.S.Sink.failed l.initial.sink l.sink l.initial.pass.bounds []
+      (HasLeft (record { which = which; tree = tree_of listing; tells = l.tells }) l.pass (left_of l.walk listing)) (Ok tt));
 }
 
 abbrev pub decreases-members : goal.decreases-members

@@ -1,10 +1,10 @@
 -- One row after another gets its limit.
-use Rattle.std.proofs.Common.{◌≡◌, ◌∙◌, ◌∷◌, ◌+◌, ◌<◌, ◌≤◌, ℕ, List, drop, get_or, length, map, refl, sym, ap, inl, inr, arith}
+use Rattle.std.proofs.Common.{◌≡◌, ◌∙◌, ◌∷◌, ◌+◌, ◌<◌, ◌≤◌, ℕ, List, None, drop, get_or, length, map, refl, sym, ap, inl, inr, arith}
 use Rattle.std.proofs.lemmas.List.{drop_more, length-map}
 use Rattle.std.proofs.Math.ListN.{get_or-map}
 use Rattle.bolt_bulk.specs.Private.RowLimits.{limit_in, run_told}
 use Rattle.bolt_bulk.specs.declared.limits.Limits.{Limits}
-use Rattle.bolt_bulk.proofs.LimitLemmas.{told_all, told_step}
+use Rattle.bolt_bulk.proofs.LimitLemmas.{told_all, told_rest, told_step}
 use Rattle.bolt_bulk.proofs.limits.Limits.tell.Goals as goal
 use Rattle.bolt_bulk.proofs.limits.Limits.tell.Goals.{in-Some+in_ok-set, in_default}
 
@@ -21,21 +21,21 @@ loop-level-preserved c =
     elim c.match-limit.branch [
       | in-Some+in_ok-set w ↦
           let set = w.in_ok-set.ensures in
-          let step = told_step rows c.loop-level.lost c.row_limit-limit.result.1 i row c.row_limit-limit.result.0 (limit_in c.loop-level.self c.args.bucket) (limit_in w.set.new.self c.args.bucket) at c.row_limit-limit.ensures
-          before.below before.above before.rest (set.row ∙ sym w.in-Some.is) (λ k other. set.others c.args.bucket k (inr other)) in
+          let step = λ (fresh : (k : ℕ) → limit_in c.args.self.now c.args.bucket k ≡ None). told_step rows c.loop-level.lost c.row_limit-limit.result.1 i row c.row_limit-limit.result.0 (limit_in c.loop-level.self c.args.bucket) (limit_in w.set.new.self c.args.bucket) at c.row_limit-limit.ensures
+          (before.below fresh) (before.above fresh) before.rest (set.row ∙ sym w.in-Some.is) (λ k other. set.others c.args.bucket k (inr other)) in
           record {
-            below = λ k less. ap (λ (l : Limits). limit_in l c.args.bucket k) w.self-is ∙ step.0 k less;
-            above = λ k more. ap (λ (l : Limits). limit_in l c.args.bucket k) w.self-is ∙ step.1 k more;
-            rest = step.2;
+            below = λ fresh k less. ap (λ (l : Limits). limit_in l c.args.bucket k) w.self-is ∙ (step fresh).0 k less;
+            above = λ fresh k more. ap (λ (l : Limits). limit_in l c.args.bucket k) w.self-is ∙ (step fresh).1 k more;
+            rest = told_rest rows c.loop-level.lost c.row_limit-limit.result.1 i row c.row_limit-limit.result.0 at c.row_limit-limit.ensures before.rest;
             others = λ b k other. ap (λ (l : Limits). limit_in l b k) w.self-is ∙ (set.others b k (inl other) ∙ before.others b k other);
           }
       | in_default w ↦
-          let step = told_step rows c.loop-level.lost c.row_limit-limit.result.1 i row c.row_limit-limit.result.0 (limit_in c.loop-level.self c.args.bucket) (limit_in c.loop-level.self c.args.bucket) at c.row_limit-limit.ensures
-          before.below before.above before.rest (before.above i (omega arith) ∙ sym w.in_default.is) (λ k other. refl) in
+          let step = λ (fresh : (k : ℕ) → limit_in c.args.self.now c.args.bucket k ≡ None). told_step rows c.loop-level.lost c.row_limit-limit.result.1 i row c.row_limit-limit.result.0 (limit_in c.loop-level.self c.args.bucket) (limit_in c.loop-level.self c.args.bucket) at c.row_limit-limit.ensures
+          (before.below fresh) (before.above fresh) before.rest (before.above fresh i (omega arith) ∙ sym w.in_default.is) (λ k other. refl) in
           record {
-            below = λ k less. ap (λ (l : Limits). limit_in l c.args.bucket k) w.self-is ∙ step.0 k less;
-            above = λ k more. ap (λ (l : Limits). limit_in l c.args.bucket k) w.self-is ∙ step.1 k more;
-            rest = step.2;
+            below = λ fresh k less. ap (λ (l : Limits). limit_in l c.args.bucket k) w.self-is ∙ (step fresh).0 k less;
+            above = λ fresh k more. ap (λ (l : Limits). limit_in l c.args.bucket k) w.self-is ∙ (step fresh).1 k more;
+            rest = told_rest rows c.loop-level.lost c.row_limit-limit.result.1 i row c.row_limit-limit.result.0 at c.row_limit-limit.ensures before.rest;
             others = λ b k other. ap (λ (l : Limits). limit_in l b k) w.self-is ∙ before.others b k other;
           }
     ]
@@ -44,4 +44,4 @@ pub returns-clause-told : goal.returns-clause-told
 returns-clause-told c =
     let count = length-map c.args.runs.now run_told in
     let past : length (map run_told c.args.runs.now) ≤ c.loop-level.level = (let t = c.loop-level-test.false in let e = c.loop-level.auto.level-end in omega arith) in
-    told_all (map run_told c.args.runs.now) c.loop-level.lost c.loop-level.level (limit_in c.loop-level.self c.args.bucket) past c.loop-level.invariant.below c.loop-level.invariant.above c.loop-level.invariant.rest
+    λ fresh. told_all (map run_told c.args.runs.now) c.loop-level.lost c.loop-level.level (limit_in c.loop-level.self c.args.bucket) past (c.loop-level.invariant.below fresh) (c.loop-level.invariant.above fresh) c.loop-level.invariant.rest

@@ -6,8 +6,8 @@ use Rattle.bolt_bulk.proofs.limits.Limits.tell.Given as goal
 
 abbrev pub invariant-loop-level : goal.invariant-loop-level
 invariant-loop-level l = record {
-  below : (k : ℕ) → k < l.level → limit_in l.self l.bucket k ≡ limit_at (limits_told false (map run_told l.runs)) k;
-  above : (k : ℕ) → l.level ≤ k → limit_in l.self l.bucket k ≡ None;
+  below : ((k : ℕ) → limit_in l.initial.self l.bucket k ≡ None) → (k : ℕ) → k < l.level → limit_in l.self l.bucket k ≡ limit_at (limits_told false (map run_told l.runs)) k;
+  above : ((k : ℕ) → limit_in l.initial.self l.bucket k ≡ None) → (k : ℕ) → l.level ≤ k → limit_in l.self l.bucket k ≡ None;
   rest : (k : ℕ) → limit_at (limits_told false (map run_told l.runs)) (l.level + k) ≡ limit_at (limits_told l.lost (drop l.level (map run_told l.runs))) k;
   others : (b k : ℕ) → (b ≡ l.bucket → ⊥) → limit_in l.self b k ≡ limit_in l.initial.self b k;
 }

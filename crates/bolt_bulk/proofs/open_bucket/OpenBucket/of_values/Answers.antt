@@ -6,7 +6,6 @@ use Rattle.bolt_format.specs.Elements.{LeafElement}
 use Rattle.bolt_format.specs.declared.element.Leaf.{Leaf}
 use Rattle.bolt_bulk.specs.Private.BranchRuns.{IsStanding, rows_above}
 use Rattle.bolt_bulk.specs.Private.HeldItems.{held_views, inlined_in}
-use Rattle.bolt_bulk.specs.Private.RowLimits.{bucket_limit}
 use Rattle.bolt_bulk.specs.Private.Rows.{BranchRow, OpenRows}
 use Rattle.bolt_bulk.specs.declared.branch_runs.BranchRun.{BranchRun}
 use Rattle.bolt_bulk.specs.declared.held.Held.{Held}
@@ -28,7 +27,7 @@ returns-clause-open c =
 
 pub returns-clause-rows : goal.returns-clause-rows
 returns-clause-rows c = λ next.
-    let rows : List LeafElement → List BranchRow → OpenRows = λ elements uppers. record { leaves = record { elements = elements; size = c.args.size }; uppers = uppers; limits = bucket_limit c.args.limits; next = next } in
+    let rows : List LeafElement → List BranchRow → OpenRows = λ elements uppers. record { leaves = record { elements = elements; size = c.args.size }; uppers = uppers; limits = c.args.limits; next = next } in
     let elements : held_views c.new.result.items c.in_ok-items.items.items ≡ map leaf_view c.args.entries.now =
     ap (λ (row : List Leaf). held_views row c.in_ok-items.items.items) c.new.ensures.items
     ∙ (ap (λ (items : List Held). held_views [] items) c.in_ok-items.ensures.items ∙ values_view c.args.entries.now c.requires.values) in

@@ -4,7 +4,6 @@ use Rattle.std.proofs.lemmas.List.{length-append}
 use Rattle.bolt_format.specs.Elements.{LeafElement}
 use Rattle.bolt_format.specs.declared.element.Leaf.{Leaf}
 use Rattle.bolt_bulk.specs.Private.BranchRuns.{rows_above}
-use Rattle.bolt_bulk.specs.Private.RowLimits.{bucket_limit}
 use Rattle.bolt_bulk.specs.Private.Rows.{OpenRows}
 use Rattle.bolt_bulk.specs.declared.held.Held.{Held}
 use Rattle.bolt_bulk.specs.declared.held.Stored.TheVariants as stored
@@ -43,5 +42,5 @@ returns-clause-rows c = λ before next.
     let first : c.len-first.result ≡ length leaves.inlined.items = search rules in
     let items : c.push.new.self.items ≡ leaves.items.items ++ held ∷ [] = search rules in
     let rows : List LeafElement → OpenRows = λ elements.
-    record { leaves = record { elements = elements; size = leaves.size + (16 + (length c.args.key.now + c.args.size)) }; uppers = rows_above c.args.self.now.uppers.items; limits = bucket_limit c.args.self.now.limits; next = next } in
+    record { leaves = record { elements = elements; size = leaves.size + (16 + (length c.args.key.now + c.args.size)) }; uppers = rows_above c.args.self.now.uppers.items; limits = c.args.self.now.limits; next = next } in
     ap rows (added_views leaves.inlined.items entries c.extend_from_slice.new.self.items c.len-first.result c.args.sequence c.args.key.now leaves.items.items c.push.new.self.items held behind first c.requires.open.leaves.held items refl)

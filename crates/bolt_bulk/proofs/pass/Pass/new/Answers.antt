@@ -1,7 +1,7 @@
 -- Nothing is open, and all is left.
-use Rattle.std.proofs.Common.{refl}
+use Rattle.std.proofs.Common.{◌∙◌, refl, sym}
 use Rattle.bolt_bulk.proofs.PassEnds.{has_begun}
 use Rattle.bolt_bulk.proofs.pass.Pass.new.Goals as goal
 
 pub returns-clause-at : goal.returns-clause-at
-returns-clause-at c = λ wanted fit. has_begun wanted _ c.new.ensures.items refl (c.new-2.ensures.rows 3) refl refl fit.root fit.others
+returns-clause-at c = λ wanted asked fit. has_begun wanted _ c.new.ensures.items refl (c.new-2.ensures.rows 3) refl refl (c.new-4.ensures.tells ∙ sym asked) c.new-4.ensures.none fit

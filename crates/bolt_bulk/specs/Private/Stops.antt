@@ -1,0 +1,9 @@
+-- A copy stops as its plan does.
+use Rattle.bolt_bulk.specs.declared.fault.BulkFault.{BulkFault}
+use Rattle.bolt_bulk.specs.declared.fault.BulkFault.TheVariants as bulk
+use Rattle.bolt_bulk.specs.declared.fault.PlanFault.{PlanFault}
+use Rattle.bolt_bulk.specs.declared.fault.PlanFault.TheVariants.{Memory, TooLarge}
+
+abbrev pub stopped_by : PlanFault → BulkFault
+stopped_by Memory = bulk.Memory
+stopped_by TooLarge = bulk.TooLarge

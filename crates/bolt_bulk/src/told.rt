@@ -1,0 +1,56 @@
+//! The limits of rows that a pass over the plain layout tells.
+ghost use Rattle.std.specs.Prelude.{◌≡◌, ℕ, true, false, map, IfErr, None, OnOk};
+ghost use Rattle.bolt_layout.specs.Limits.{limit_at, limits_told};
+ghost use Rattle.bolt_bulk.specs.Private.RowLimits.{limit_in, run_told};
+ghost use Rattle.bolt_bulk.specs.declared.fault.BulkFault.TheVariants as fault;
+
+use crate::branch_runs::BranchRun;
+use crate::fault::BulkFault;
+use crate::limits::Limits;
+use std::alloc::Global;
+use std::mem;
+
+/// The limits of the rows of the buckets that have ended, if they are asked for.
+#[derive(Drop)]
+pub(crate) struct Told {
+    pub tells: bool,
+    pub limits: Limits,
+}
+
+impl Told {
+    /// Nothing is told yet.
+    pub(crate) fn new(alloc: Global, tells: bool) -> Told
+        ensures tells { result.tells ≡ tells }
+        ensures none { (bucket level : ℕ) → limit_in result.limits bucket level ≡ None }
+    {
+        Told {
+            tells,
+            limits: Limits::none(alloc),
+        }
+    }
+
+    /// A bucket ends, with these open runs: if limits are asked for, it tells those of its rows.
+    pub(crate) fn bucket_ends(
+        &mut self,
+        bucket: u64,
+        runs: &[BranchRun<'_>],
+    ) -> Result<(), BulkFault>
+        ensures same { OnOk result (self.new.tells ≡ self.old.tells) }
+        ensures told { OnOk result (self.old.tells ≡ true → ((level : ℕ) → limit_in self.old.limits bucket level ≡ None)
+            → (level : ℕ) → limit_in self.new.limits bucket level ≡ limit_at (limits_told false (map run_told runs.now)) level) }
+        ensures others { OnOk result ((b l : ℕ) → (b ≡ bucket → ⊥) → limit_in self.new.limits b l ≡ limit_in self.old.limits b l) }
+        ensures fault { IfErr result (λ e. e ≡ fault.Memory) }
+    {
+        if !self.tells {
+            return Ok(());
+        }
+        self.limits.tell(bucket, runs)
+    }
+
+    /// Takes the limits out.
+    pub(crate) fn take(&mut self, alloc: Global) -> Limits
+        ensures { result ≡ self.old.limits }
+    {
+        mem::replace(&mut self.limits, Limits::none(alloc))
+    }
+}
