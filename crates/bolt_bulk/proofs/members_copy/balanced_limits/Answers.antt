@@ -11,8 +11,8 @@ use Rattle.bolt_bulk.proofs.Openings.{fit_plain}
 use Rattle.bolt_bulk.proofs.WalkLeft.{whole_again}
 use Rattle.bolt_bulk.proofs.members_copy.balanced_limits.Goals as goal
 
-pub put_pages-requires-clause-whole : goal.put_pages-requires-clause-whole
-put_pages-requires-clause-whole g c =
+pub put_pages-requires : goal.put_pages-requires
+put_pages-requires g c =
     whole_again g.M.Members.lists g.M.Members.left g.K.Listed.listing c.args.members.now c.in_ok-again.again c.in_ok-again.ensures.listing c.in_ok-again.ensures.all c.requires
 
 pub returns-in-Ok-clause-fit : goal.returns-in-Ok-clause-fit
