@@ -34,30 +34,23 @@ never bytes fits large = absurd (omega arith)
 
 -- what stops before a byte is put
 module _ {S : Type 0} (taken : S → Option (List ℕ)) (failed : S → ℕ) (old : S) (layout : List ℕ) where
+  stops_early : (e : BulkFault) → (e ≡ bulk.Sink → ⊥) → layout ≢ [] → (e ≡ bulk.TooLarge → too_many ≤ length layout) → Copies taken failed old old layout (Err e)
+  stops_early e other some large = record {
+    all = tt;
+    bytes = tt;
+    sound = tt;
+    short = proper_none (taken old) layout some;
+    failure = λ s. absurd (other s);
+    other = λ _. refl;
+    large = large;
+    refuses = λ _. (refl, Keeps-refl (taken old), refl);
+    untouched = λ _. other;
+  }
+
   pub stops_unplanned : (plan : PlanFault) (result : Result Done BulkFault) → result ≡ Err (stopped_by plan) → layout ≢ [] → (plan ≡ planned.TooLarge → too_many ≤ length layout)
       → Copies taken failed old old layout result
-  stops_unplanned planned.Memory result stop some large = rw stop (record {
-    all = tt;
-    bytes = tt;
-    sound = tt;
-    short = proper_none (taken old) layout some;
-    failure = λ e. absurd cc;
-    other = λ _. refl;
-    large = λ e. absurd cc;
-    refuses = λ _. (refl, Keeps-refl (taken old), refl);
-    untouched = λ _ e. cc;
-  })
-  stops_unplanned planned.TooLarge result stop some large = rw stop (record {
-    all = tt;
-    bytes = tt;
-    sound = tt;
-    short = proper_none (taken old) layout some;
-    failure = λ e. absurd cc;
-    other = λ _. refl;
-    large = λ _. large refl;
-    refuses = λ _. (refl, Keeps-refl (taken old), refl);
-    untouched = λ _ e. cc;
-  })
+  stops_unplanned planned.Memory result stop some large = rw stop (stops_early bulk.Memory (λ e. cc) some (λ e. absurd cc))
+  stops_unplanned planned.TooLarge result stop some large = rw stop (stops_early bulk.TooLarge (λ e. cc) some (λ _. large refl))
 
 module _ {S : Type 0} (taken : S → Option (List ℕ)) (failed : S → ℕ) (old new : S) (layout first pages : List ℕ) (same : layout ≡ first ++ pages) (fits : length layout < too_many) where
   pub copied : {A B E : Type 0} (mid : S) (x : A) (y : B) (bytes held : ℕ) → PutsWhole {A = A} {E = E} taken failed old mid first (Ok x) → Puts {A = B} taken failed mid new pages (Ok y) → bytes ≡ length layout
