@@ -4,17 +4,10 @@ use Rattle.std.proofs.Math.Logic.{∥∥₁_elim, ∥∥₁_map}
 use Rattle.std.proofs.Math.Nat.{div-lt_iff_lt-mul, div-mul-le_self, mul-le-mul_right}
 use Rattle.std.specs.List.{AllByRecursion}
 use Rattle.std.proofs.Props.{props}
-use Rattle.bolt_format.specs.Bytes.{IsBytes}
 use Rattle.bolt_format.specs.Metas.{IsPageSize}
-use Rattle.bolt_format.specs.declared.meta.Meta.{Meta}
-use Rattle.bolt_check.proofs.CheckedLemmas.{checked_trees}
-use Rattle.bolt_check.specs.CheckedFiles.{bytes_of, meta_of}
-use Rattle.bolt_check.specs.Sound.{HasSoundTrees}
-use Rattle.bolt_check.specs.declared.checked_file.Checked.{Checked}
-use Rattle.bolt_tree.specs.FileListings.{ForListing}
-use Rattle.bolt_tree.specs.Listing.{IsListing, Member}
+use Rattle.bolt_tree.specs.Listing.{Member}
 use Rattle.bolt_tree.specs.Tree.{Tree, listing_of, tree_of}
-use Rattle.bolt_bulk.specs.Compacting.{layout_for, too_many}
+use Rattle.bolt_bulk.specs.Compacting.{too_many}
 use Rattle.bolt_layout.specs.Copies.{IsAsked, IsOfOneTree, IsSoundCopy, RefusesBeginnings, layout_of_listing}
 use Rattle.bolt_layout.specs.Layout.{layout_held, layout_mark, layout_of, layout_root}
 use Rattle.bolt_bulk.specs.Private.Endings.{IsFitMember}
@@ -26,9 +19,6 @@ use Rattle.bolt_layout.specs.declared.layout.Layout.TheVariants.{Balanced, Plain
 use Rattle.bolt_layout.specs.Items.{root_of}
 use Rattle.bolt_layout.proofs.NotMuchLarger.{plain_not_much_larger}
 
-abbrev pub FilesAreOfOneTree : Type 0
-FilesAreOfOneTree = (file : List ℕ) (meta : Meta) (listing : List Member) → IsBytes file → HasSoundTrees file meta → IsListing file meta listing → IsOfOneTree listing
-
 abbrev pub LayoutsHoldFew : Type 0
 LayoutsHoldFew = (which : Layout) (page_size : ℕ) (tree : Tree) (sequence : ℕ) → IsPageSize page_size → IsStorable tree → length (layout_of which page_size tree sequence) < 2 ^ 63
     → layout_held which page_size tree ≤ length (layout_of which page_size tree sequence)
@@ -38,38 +28,31 @@ LayoutsHaveLength = (which : Layout) (page_size : ℕ) (tree : Tree) (sequence :
     → length (layout_of which page_size tree sequence) ≡ layout_mark which page_size tree * page_size
 
 abbrev pub CopiesListTheSame : Type 0
-CopiesListTheSame = (which : Layout) (file : List ℕ) (meta : Meta) (listing : List Member) (page_size : ℕ) → IsBytes file → HasSoundTrees file meta → IsListing file meta listing
-    → IsPageSize page_size → meta.root_sequence < 2 ^ 64 → length (layout_of_listing which page_size listing meta.root_sequence) < 2 ^ 63
-    → IsSoundCopy which page_size (tree_of listing) meta.root_sequence listing
+CopiesListTheSame = (which : Layout) (listing : List Member) (page_size : ℕ) (sequence : ℕ) → IsOfOneTree listing → IsPageSize page_size → sequence < 2 ^ 64
+    → length (layout_of_listing which page_size listing sequence) < 2 ^ 63 → IsSoundCopy which page_size (tree_of listing) sequence listing
 
 abbrev pub BeginningsAreRefused : Type 0
 BeginningsAreRefused = (which : Layout) (page_size : ℕ) (tree : Tree) (sequence : ℕ) → IsAsked page_size tree sequence → length (layout_of which page_size tree sequence) < 2 ^ 63
     → RefusesBeginnings (layout_of which page_size tree sequence) (layout_root which page_size tree)
 
-module _ (checked : Checked) (bytes : IsBytes (bytes_of checked)) where
-  pub one_tree : FilesAreOfOneTree → ForListing checked (λ listing. ∥ IsOfOneTree listing ∥₁)
-  one_tree law listing lists = ∥∥₁_map (checked_trees checked) (λ trees. law (bytes_of checked) (meta_of checked) listing bytes trees lists)
+-- What the laws say of a listing of one tree holds where it is only known to be one.
+module _ (page_size sequence : ℕ) (size : IsPageSize page_size) where
+  pub has_length : LayoutsHaveLength → (which : Layout) (listing : List Member) → ∥ IsOfOneTree listing ∥₁
+      → length (layout_of_listing which page_size listing sequence) ≡ layout_mark which page_size (tree_of listing) * page_size
+  has_length long which listing one = ∥∥₁_elim one (Prim.hlevel props) (λ is. long which page_size (tree_of listing) sequence size is.storable)
 
-  pub has_length : FilesAreOfOneTree → LayoutsHaveLength → (which : Layout) (page_size : ℕ) → IsPageSize page_size
-      → ForListing checked (λ listing. length (layout_for which checked page_size listing) ≡ layout_mark which page_size (tree_of listing) * page_size)
-  has_length law long which page_size size listing lists = ∥∥₁_elim (one_tree law listing lists) (Prim.hlevel props)
-      (λ one. long which page_size (tree_of listing) (meta_of checked).root_sequence size one.storable)
+  pub accepted : CopiesListTheSame → sequence < 2 ^ 64 → (which : Layout) (listing : List Member) → ∥ IsOfOneTree listing ∥₁ → length (layout_of_listing which page_size listing sequence) < too_many
+      → ∥ IsSoundCopy which page_size (tree_of listing) sequence listing ∥₁
+  accepted law fits which listing one short = ∥∥₁_map one (λ is. law which listing page_size sequence is size fits short)
 
-  pub accepted : CopiesListTheSame → (which : Layout) (page_size : ℕ) → IsPageSize page_size → (meta_of checked).root_sequence < 2 ^ 64
-      → ForListing checked (λ listing. length (layout_for which checked page_size listing) < too_many → ∥ IsSoundCopy which page_size (tree_of listing) (meta_of checked).root_sequence listing ∥₁)
-  accepted law which page_size size fits listing lists short =
-      ∥∥₁_map (checked_trees checked) (λ trees. law which (bytes_of checked) (meta_of checked) listing page_size bytes trees lists size fits short)
+  pub holds_few : LayoutsHoldFew → (which : Layout) (listing : List Member) → ∥ IsOfOneTree listing ∥₁ → length (layout_of_listing which page_size listing sequence) < too_many
+      → layout_held which page_size (tree_of listing) ≤ length (layout_of_listing which page_size listing sequence)
+  holds_few few which listing one short = ∥∥₁_elim one (Prim.hlevel props) (λ is. few which page_size (tree_of listing) sequence size is.storable short)
 
-  pub holds_few : FilesAreOfOneTree → LayoutsHoldFew → (which : Layout) (page_size : ℕ) → IsPageSize page_size
-      → ForListing checked (λ listing. length (layout_for which checked page_size listing) < too_many → layout_held which page_size (tree_of listing) ≤ length (layout_for which checked page_size listing))
-  holds_few law few which page_size size listing lists short = ∥∥₁_elim (one_tree law listing lists) (Prim.hlevel props)
-      (λ one. few which page_size (tree_of listing) (meta_of checked).root_sequence size one.storable short)
-
-  pub refused : FilesAreOfOneTree → BeginningsAreRefused → (which : Layout) (page_size : ℕ) → IsPageSize page_size → (meta_of checked).root_sequence < 2 ^ 64
-      → ForListing checked (λ listing. length (layout_for which checked page_size listing) < too_many
-      → ∥ RefusesBeginnings (layout_for which checked page_size listing) (layout_root which page_size (tree_of listing)) ∥₁)
-  refused one law which page_size size fits listing lists short = ∥∥₁_map (one_tree one listing lists)
-      (λ is. law which page_size (tree_of listing) (meta_of checked).root_sequence (record { size = size; storable = is.storable; sequence_fits = fits }) short)
+  pub refused : BeginningsAreRefused → sequence < 2 ^ 64 → (which : Layout) (listing : List Member) → ∥ IsOfOneTree listing ∥₁ → length (layout_of_listing which page_size listing sequence) < too_many
+      → ∥ RefusesBeginnings (layout_of_listing which page_size listing sequence) (layout_root which page_size (tree_of listing)) ∥₁
+  refused law fits which listing one short =
+      ∥∥₁_map one (λ is. law which page_size (tree_of listing) sequence (record { size = size; storable = is.storable; sequence_fits = fits }) short)
 
 -- it has a byte
 pub some_bytes : (bytes : List ℕ) (mark page_size : ℕ) → length bytes ≡ (3 + mark) * page_size → IsPageSize page_size → bytes ≢ []

@@ -33,4 +33,5 @@ mod RunLemmas
 mod Tables
 mod ToldRuns
 mod WalkLeft
+mod WholeWalks
 mod WholePuts

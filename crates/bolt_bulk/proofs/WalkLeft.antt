@@ -1,34 +1,46 @@
--- A pass goes along a walk: the members that are left to both are the same.
-use Rattle.std.proofs.Common.{◌≡◌, ◌≤◌, List, ◌∷◌, length, subst, sym}
+-- A pass goes along members: those that are left to both are the same.
+use Rattle.std.proofs.Common.{◌≡◌, ◌↔◌, ◌≤◌, List, ◌∷◌, length, subst, sym}
 use Rattle.std.specs.List.{AllByRecursion}
 use Rattle.std.proofs.Math.Logic.{∥∥₁_elim, ∥∥₁_map}
 use Rattle.std.proofs.Props.{props}
-use Rattle.bolt_check.specs.CheckedFiles.{bytes_of, meta_of}
-use Rattle.bolt_check.specs.declared.checked_file.Checked.{Checked}
 use Rattle.bolt_tree.specs.Entries.{Bucket, Item, Value}
-use Rattle.bolt_tree.specs.FileListings.{ForListing}
-use Rattle.bolt_tree.specs.Listing.{IsListing, Member}
+use Rattle.bolt_tree.specs.Listing.{Member}
 use Rattle.bolt_tree.specs.Paths.{Path}
-use Rattle.bolt_tree.proofs.Measured.{the_listing}
 use Rattle.bolt_bulk.specs.Private.Endings.{IsFitItem, IsFitMember, last_part}
-
--- a listing of one checked file is that of the same
-pub listed_same : (a b : Checked) (listing : List Member) → a ≡ b → IsListing (bytes_of b) (meta_of b) listing → IsListing (bytes_of a) (meta_of a) listing
-listed_same a b listing same lists = subst (λ (c : Checked). IsListing (bytes_of c) (meta_of c) listing) (sym same) lists
+use Rattle.bolt_bulk.specs.Private.WholeListings.{IsWhole}
+use Rattle.bolt_bulk.proofs.FileLayouts.{listing_fits}
 
 fit_prop : (path : Path) (item : Item) → IsProp ((1 ≤ length path) × (length (last_part path) ≤ 1073741824) × IsFitItem item)
 fit_prop path (Value value) = Prim.hlevel props
 fit_prop path (Bucket sequence) = Prim.hlevel props
 
--- the first of the members that are left fits
-pub first_fits : (checked : Checked) (left : List Member → List Member) (rest : List Member → List Member) (path : Path) (item : Item)
-    → ForListing checked (λ listing. ∥ AllByRecursion IsFitMember (left listing) ∥₁) → ForListing checked (λ listing. left listing ≡ (path, item) ∷ rest listing)
-    → (1 ≤ length path) × (length (last_part path) ≤ 1073741824) × IsFitItem item
-first_fits checked left rest path item fit next =
-    let listing : List Member = (the_listing checked).0 in
-    ∥∥₁_elim (the_listing checked).1 (fit_prop path item) (λ is. ∥∥₁_elim (fit listing is) (fit_prop path item) (λ all. (subst (AllByRecursion IsFitMember) (next listing is) all).0))
+module _ {M : Type 0} (lists : M → List Member → Type 0) (left : M → List Member → List Member) where
+  abbrev AllFit : M → M → Type 0
+  AllFit first members = (listing : List Member) → lists first listing → ∥ AllByRecursion IsFitMember (left members listing) ∥₁
 
-pub others_fit : (checked : Checked) (left rest : List Member → List Member) (path : Path) (item : Item)
-    → ForListing checked (λ listing. ∥ AllByRecursion IsFitMember (left listing) ∥₁) → ForListing checked (λ listing. left listing ≡ (path, item) ∷ rest listing)
-    → ForListing checked (λ listing. ∥ AllByRecursion IsFitMember (rest listing) ∥₁)
-others_fit checked left rest path item fit next listing is = ∥∥₁_map (fit listing is) (λ all. (subst (AllByRecursion IsFitMember) (next listing is) all).1)
+  abbrev GivesFirst : M → M → M → Path → Item → Type 0
+  GivesFirst first old new path item = (listing : List Member) → lists first listing → left old listing ≡ (path, item) ∷ left new listing
+
+  -- The first of the members that are left fits,
+  pub first_fits : (first old new : M) (path : Path) (item : Item) → ∥ ((listing : List Member) × lists first listing) ∥₁ → AllFit first old → GivesFirst first old new path item
+      → (1 ≤ length path) × (length (last_part path) ≤ 1073741824) × IsFitItem item
+  first_fits first old new path item some fit next = ∥∥₁_elim some (fit_prop path item) (λ is.
+      ∥∥₁_elim (fit is.0 is.1) (fit_prop path item) (λ all. (subst (AllByRecursion IsFitMember) (next is.0 is.1) all).0))
+
+  -- and so do the others.
+  pub others_fit : (first old new : M) (path : Path) (item : Item) → AllFit first old → GivesFirst first old new path item → AllFit first new
+  others_fit first old new path item fit next listing is = ∥∥₁_map (fit listing is) (λ all. (subst (AllByRecursion IsFitMember) (next listing is) all).1)
+
+  -- where nothing is given yet, all fit
+  pub whole_fits : (members : M) → IsWhole lists left members → AllFit members members
+  whole_fits members whole listing is =
+      subst (λ (ms : List Member). ∥ AllByRecursion IsFitMember ms ∥₁) (sym (whole.all listing is)) (listing_fits listing (whole.one listing is))
+
+  -- the same members from their beginning
+  pub whole_again : (old again : M) → ((listing : List Member) → lists again listing ↔ lists old listing)
+      → ((listing : List Member) → lists old listing → left again listing ≡ listing) → IsWhole lists left old → IsWhole lists left again
+  whole_again old again same all whole = record {
+    some = ∥∥₁_map whole.some (λ is. (is.0, (same is.0).1 is.1));
+    all = λ listing is. all listing ((same listing).0 is);
+    one = λ listing is. whole.one listing ((same listing).0 is);
+  }

@@ -8,6 +8,8 @@ use Rattle.bolt_check.specs.declared.checked_file.Checked.{Checked}
 use Rattle.bolt_tree.specs.Listing.{Member}
 use Rattle.bolt_tree.specs.Tree.{tree_of}
 use Rattle.bolt_layout.specs.Copies.{layout_of_listing}
+use Rattle.bolt_recover.specs.Recoveries.{recovery_meta}
+use Rattle.bolt_recover.specs.declared.recovery.Recovery.{Recovery}
 use Rattle.bolt_layout.specs.Layout.{layout_mark, layout_root}
 use Rattle.bolt_bulk.specs.declared.fault.BulkFault.{BulkFault}
 use Rattle.bolt_bulk.specs.declared.fault.BulkFault.TheVariants as bulk
@@ -21,16 +23,20 @@ use Rattle.bolt_layout.specs.declared.layout.Layout.{Layout}
 abbrev pub layout_for : Layout → Checked → (page_size : ℕ) → List Member → List ℕ
 layout_for which checked page_size listing = layout_of_listing which page_size listing (meta_of checked).root_sequence
 
+-- and a copy of what is recovered of a file
+abbrev pub layout_recovered : Layout → Recovery → (page_size : ℕ) → List Member → List ℕ
+layout_recovered which recovery page_size listing = layout_of_listing which page_size listing (recovery_meta recovery).root_sequence
+
 -- a layout has fewer bytes than this
 abbrev pub too_many : ℕ
 too_many = 2 ^ 63
 
 -- the plan is the layout's root page and high-water mark, which has fewer than 2^63 bytes; or it has no fewer, or memory ran out
-pub record Plans (which : Layout) (checked : Checked) (page_size : ℕ) (listing : List Member) (result : Result Plan PlanFault) : Type 0 where
+pub record Plans (which : Layout) (page_size sequence : ℕ) (listing : List Member) (result : Result Plan PlanFault) : Type 0 where
   pub root : IfOk result (λ plan. plan.root ≡ layout_root which page_size (tree_of listing))
   pub high_water : IfOk result (λ plan. plan.high_water ≡ layout_mark which page_size (tree_of listing))
-  pub fits : OnOk result (length (layout_for which checked page_size listing) < too_many)
-  pub large : IfErr result (λ fault. fault ≡ planned.TooLarge → too_many ≤ length (layout_for which checked page_size listing))
+  pub fits : OnOk result (length (layout_of_listing which page_size listing sequence) < too_many)
+  pub large : IfErr result (λ fault. fault ≡ planned.TooLarge → too_many ≤ length (layout_of_listing which page_size listing sequence))
 
 -- The sink took the whole layout, with no failure, exactly where the answer is Ok, and then the number of its bytes is told; and else a
 -- beginning of it that isn't the whole. The fault Sink comes only with a failure of the sink, and any other without one. TooLarge comes

@@ -17,3 +17,4 @@ pub mod Rows
 pub mod Stops
 pub mod TakenItems
 pub mod Waiting
+pub mod WholeListings

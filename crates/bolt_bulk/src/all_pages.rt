@@ -1,45 +1,43 @@
-//! The pages of a copy, put in one pass over the file.
-ghost use Rattle.std.specs.Prelude.{◌≡◌, ◌≤◌, []};
-ghost use Rattle.std.specs.List.{AllByRecursion};
-ghost use Rattle.bolt_tree.specs.FileListings.{ForListing};
-ghost use Rattle.bolt_tree.specs.Tree.{listing_of, tree_of};
+//! The pages of a copy, put in one pass over the members.
+ghost use Rattle.std.specs.Prelude.{◌≡◌, ◌≤◌, [], List, OnOk};
+ghost use Rattle.bolt_tree.specs.Listing.{Member};
+ghost use Rattle.bolt_tree.specs.Tree.{tree_of};
 ghost use Rattle.bolt_layout.specs.declared.layout.Layout.{Layout};
-ghost use Rattle.bolt_bulk.specs.Private.Endings.{Ends, IsFitMember};
+ghost use Rattle.bolt_bulk.specs.Private.Endings.{Ends};
 ghost use Rattle.bolt_bulk.specs.Private.Passes.{FitLimits, Wanted, limits_with};
+ghost use Rattle.bolt_bulk.specs.Private.WholeListings.{IsWhole};
 
 use crate::bounds::Bounds;
 use crate::fault::BulkFault;
 use crate::limits::Limits;
 use crate::pass::{Ended, Pass};
-use bolt_check::Checked;
 use bolt_format::Sink;
-use bolt_tree::Walk;
+use bolt_recover::Members;
 use std::alloc::Global;
 
-/// Puts the pages of all that a file holds, in the layout whose rows have these limits. If it tells
-/// limits, and this is the plain layout, they are those of the balanced one.
-pub(crate) fn put_pages<S: Sink>(
+/// Puts the pages of all members, in the layout whose rows have these limits. If it tells limits,
+/// and this is the plain layout, they are those of the balanced one.
+pub(crate) fn put_pages<'a, M: Members<'a>, S: Sink>(
     alloc: Global,
     bounds: Bounds,
     limits: &Limits,
     tells: bool,
-    checked: Checked<'_>,
+    members: &mut M,
     sink: &mut S,
 ) -> Result<Ended, BulkFault>
     requires room { 3 ≤ bounds.limit }
-    requires fit { ForListing checked (λ listing. ∥ AllByRecursion IsFitMember listing ∥₁) }
-    requires lists { ForListing checked (λ listing. listing_of (tree_of listing) ≡ listing) }
-    ensures { (which : Layout) → ForListing checked.entry (λ listing. FitLimits which (tree_of listing) bounds.page_size (limits_with limits.now)
-        → Ends (record { which = which; tree = tree_of listing; tells = tells }) S.taken S.failed sink.old sink.new bounds [] result) }
+    requires whole { IsWhole M.lists M.left members.old }
+    ensures pages { (which : Layout) (listing : List Member) → M.lists members.old listing → FitLimits which (tree_of listing) bounds.page_size (limits_with limits.now)
+        → Ends (record { which = which; tree = tree_of listing; tells = tells }) S.taken S.failed sink.old sink.new bounds [] result }
+    ensures end { OnOk result (M.ends_as members.old members.new) }
 {
-    let mut walk = Walk::new(alloc, checked);
     let mut pass = Pass::new(alloc, bounds, limits, tells);
     'members: loop {
-        match walk.next() {
+        match members.next() {
             Err(_) => return Err(BulkFault::Memory),
             Ok(None) => return pass.end(sink),
             Ok(Some(item)) => {
-                if let Err(fault) = pass.take(walk.path(), item, sink) {
+                if let Err(fault) = pass.take(members.path(), item, sink) {
                     return Err(fault);
                 }
             }

@@ -1,130 +1,26 @@
-//! The compact copy of a checked file, written from its first byte to its last.
-ghost use Rattle.std.specs.Prelude.{◌≡◌, ◌*◌, ◌≤◌, ◌<◌, ◌/◌, IfErr, IfOk, OnOk, length};
+//! The compact copy of a sound file, or of what a damaged one still holds.
+ghost use Rattle.std.specs.Prelude.{◌≡◌, ◌<◌, IfOk, OnOk, length};
 ghost use Rattle.bolt_check.specs.CheckedFiles.{meta_of};
 ghost use Rattle.bolt_format.specs.Metas.{IsPageSize};
+ghost use Rattle.bolt_recover.specs.Recovered.{ForRecovered};
+ghost use Rattle.bolt_recover.specs.Recoveries.{ForLosses, recovery_file, recovery_left, recovery_losses, recovery_meta};
 ghost use Rattle.bolt_tree.specs.FileListings.{ForListing};
 ghost use Rattle.bolt_tree.specs.Tree.{tree_of};
-ghost use Rattle.bolt_bulk.specs.Compacting.{Copies, Plans, layout_for, too_many};
+ghost use Rattle.bolt_bulk.specs.Compacting.{Copies, Plans, layout_for, layout_recovered, too_many};
 ghost use Rattle.bolt_layout.specs.Copies.{IsSoundCopy, RefusesBeginnings};
 ghost use Rattle.bolt_layout.specs.Layout.{layout_held, layout_root};
-ghost use Rattle.bolt_layout.specs.declared.layout.Layout.{Layout};
-ghost use Rattle.bolt_layout.specs.declared.layout.Layout.TheVariants.{Balanced, Plain};
-ghost use Rattle.bolt_bulk.specs.Private.Passes.{FitLimits, limits_with};
-ghost use Rattle.bolt_bulk.specs.declared.fault.PlanFault.TheVariants as planned;
+ghost use Rattle.bolt_layout.specs.declared.layout.Layout.TheVariants.{Plain};
 
-use crate::all_pages::put_pages;
-use crate::bounds::Bounds;
 use crate::fault::{BulkFault, PlanFault};
-use crate::file_laws::file_has_one_layout;
-use crate::first_pages::{Facts, put_first_pages};
-use crate::limits::Limits;
-use crate::no_sink::NoSink;
+use crate::file_laws::{file_is_of_one_tree, recovered_is_of_one_tree};
+use crate::members_copy::{Shape, plan_members, put_members};
 use crate::outcome::{Done, Plan};
 use bolt_check::Checked;
 use bolt_format::Sink;
 use bolt_layout::Layout;
+use bolt_recover::Recovery;
+use bolt_tree::Walk;
 use std::alloc::Global;
-
-/// The most bytes that a copy may have.
-const MAX_LEN: u64 = 0x7FFF_FFFF_FFFF_FFFF;
-
-/// How large the pages of a copy are, and how many it may have.
-fn bounds_of(page_size: u64) -> Bounds
-    requires { IsPageSize page_size }
-    ensures page_size { result.page_size ≡ page_size }
-    ensures limit { result.limit ≡ 9223372036854775807 / page_size }
-    ensures room { 3 ≤ result.limit }
-    ensures bytes { result.limit * result.page_size < 9223372036854775808 }
-{
-    Bounds {
-        page_size: page_size as usize,
-        limit: MAX_LEN / page_size,
-    }
-}
-
-/// The same for a pass over the plain layout that tells the limits of the balanced one, which is
-/// never 28 times smaller.
-fn telling_bounds_of(page_size: u64) -> Bounds
-    requires { IsPageSize page_size }
-    ensures page_size { result.page_size ≡ page_size }
-    ensures limit { result.limit ≡ 28 * (9223372036854775807 / page_size) }
-    ensures room { 3 ≤ result.limit }
-{
-    Bounds {
-        page_size: page_size as usize,
-        limit: 28 * (MAX_LEN / page_size),
-    }
-}
-
-/// The limits of rows that give the balanced layout, as a pass over the plain one tells them.
-fn balanced_limits(alloc: Global, checked: Checked<'_>, page_size: u64) -> Result<Limits, PlanFault>
-    requires { IsPageSize page_size }
-    ensures fit { IfOk result (λ limits. ForListing checked.entry (λ listing. FitLimits Balanced (tree_of listing) page_size (limits_with limits))) }
-    ensures large { IfErr result (λ fault. fault ≡ planned.TooLarge → ForListing checked.entry (λ listing. too_many ≤ length (layout_for Balanced checked.entry page_size listing))) }
-{
-    file_has_one_layout(&checked, page_size);
-    let none = Limits::none(alloc);
-    match put_pages(
-        alloc,
-        telling_bounds_of(page_size),
-        &none,
-        true,
-        checked,
-        &mut NoSink,
-    ) {
-        Ok(ended) => Ok(ended.told),
-        Err(BulkFault::TooLarge) => Err(PlanFault::TooLarge),
-        Err(BulkFault::Memory) => Err(PlanFault::Memory),
-        Err(BulkFault::Sink) => unreachable!(),
-    }
-}
-
-/// The limits of rows that give this layout.
-fn limits_of(
-    alloc: Global,
-    checked: Checked<'_>,
-    layout: Layout,
-    page_size: u64,
-) -> Result<Limits, PlanFault>
-    requires { IsPageSize page_size }
-    ensures fit { IfOk result (λ limits. ForListing checked.entry (λ listing. FitLimits layout (tree_of listing) page_size (limits_with limits))) }
-    ensures large { IfErr result (λ fault. fault ≡ planned.TooLarge → ForListing checked.entry (λ listing. too_many ≤ length (layout_for layout checked.entry page_size listing))) }
-{
-    match layout {
-        Layout::Plain => Ok(Limits::none(alloc)),
-        Layout::Balanced => balanced_limits(alloc, checked, page_size),
-    }
-}
-
-/// The plan of the layout whose rows have these limits.
-fn plan_within(
-    alloc: Global,
-    checked: Checked<'_>,
-    limits: &Limits,
-    page_size: u64,
-) -> Result<Plan, PlanFault>
-    requires size { IsPageSize page_size }
-    requires fit { (which : Layout) × ForListing checked (λ listing. FitLimits which (tree_of listing) page_size (limits_with limits.now)) }
-    ensures { (which : Layout) → ForListing checked.entry (λ listing. FitLimits which (tree_of listing) page_size (limits_with limits.now) → Plans which checked.entry page_size listing result) }
-{
-    file_has_one_layout(&checked, page_size);
-    match put_pages(
-        alloc,
-        bounds_of(page_size),
-        limits,
-        false,
-        checked,
-        &mut NoSink,
-    ) {
-        Ok(ended) => Ok(Plan {
-            root: ended.root,
-            high_water: ended.high_water,
-        }),
-        Err(BulkFault::TooLarge) => Err(PlanFault::TooLarge),
-        Err(BulkFault::Memory) => Err(PlanFault::Memory),
-        Err(BulkFault::Sink) => unreachable!(),
-    }
-}
 
 /// Where a copy of a file at this page size will have its root page and its high-water mark, in this
 /// layout (docs/LAYOUT.md). Nothing is written. Beside what `compact_as` needs no memory is asked
@@ -141,17 +37,22 @@ pub fn plan_as(
     page_size: u64,
 ) -> Result<Plan, PlanFault>
     requires { IsPageSize page_size }
-    ensures { ForListing checked.entry (λ listing. Plans layout checked.entry page_size listing result) }
+    ensures { ForListing checked.entry (λ listing. Plans layout page_size (meta_of checked.entry).root_sequence listing result) }
 {
-    let limits = limits_of(alloc, checked, layout, page_size)?;
-    plan_within(alloc, checked, &limits, page_size)
+    file_is_of_one_tree(&checked);
+    let shape = Shape {
+        layout,
+        page_size,
+        sequence: checked.meta().root_sequence,
+    };
+    plan_members(alloc, &Walk::new(alloc, checked), &shape)
 }
 
 /// Where a copy in the plain layout will have its root page and its high-water mark: `plan_as` for
 /// that layout, with its errors.
 pub fn plan(alloc: Global, checked: Checked<'_>, page_size: u64) -> Result<Plan, PlanFault>
     requires { IsPageSize page_size }
-    ensures { ForListing checked.entry (λ listing. Plans Plain checked.entry page_size listing result) }
+    ensures { ForListing checked.entry (λ listing. Plans Plain page_size (meta_of checked.entry).root_sequence listing result) }
 {
     plan_as(alloc, checked, Layout::Plain, page_size)
 }
@@ -180,25 +81,13 @@ pub fn compact_as<S: Sink>(
     ensures held { IfOk result (λ done. ForListing checked.entry (λ listing. done.held ≡ layout_held layout page_size (tree_of listing))) }
     ensures beginnings { ForListing checked.entry (λ listing. length (layout_for layout checked.entry page_size listing) < too_many → ∥ RefusesBeginnings (layout_for layout checked.entry page_size listing) (layout_root layout page_size (tree_of listing)) ∥₁) }
 {
-    file_has_one_layout(&checked, page_size);
-    let limits = limits_of(alloc, checked, layout, page_size)?;
-    let plan = plan_within(alloc, checked, &limits, page_size)?;
-    let facts = Facts {
-        page_size: page_size as u32,
-        root: plan.root,
+    file_is_of_one_tree(&checked);
+    let shape = Shape {
+        layout,
+        page_size,
         sequence: checked.meta().root_sequence,
-        mark: plan.high_water,
     };
-    if let Err(_) = put_first_pages(&facts, sink) {
-        return Err(BulkFault::Sink);
-    }
-    match put_pages(alloc, bounds_of(page_size), &limits, false, checked, sink) {
-        Err(fault) => Err(fault),
-        Ok(ended) => Ok(Done {
-            bytes: ended.high_water * page_size,
-            held: ended.held,
-        }),
-    }
+    put_members(alloc, &mut Walk::new(alloc, checked), &shape, sink)
 }
 
 /// Writes the compact copy of a file in the plain layout: `compact_as` for that layout, with its
@@ -216,4 +105,33 @@ pub fn compact<S: Sink>(
     ensures beginnings { ForListing checked.entry (λ listing. length (layout_for Plain checked.entry page_size listing) < too_many → ∥ RefusesBeginnings (layout_for Plain checked.entry page_size listing) (layout_root Plain page_size (tree_of listing)) ∥₁) }
 {
     compact_as(alloc, checked, Layout::Plain, page_size, sink)
+}
+
+/// Writes the compact copy of what is recovered of a file, of which nothing is given yet: the one
+/// layout of the recovered listing (docs/RECOVERY.md), as `compact_as` writes that of a sound file,
+/// with its errors. Each pass over the file is a recovery of its own, and the last is the one that is
+/// passed: after `Ok` it has all losses.
+pub fn compact_recovered<S: Sink>(
+    alloc: Global,
+    recovery: &mut Recovery<'_>,
+    layout: Layout,
+    page_size: u64,
+    sink: &mut S,
+) -> Result<Done, BulkFault>
+    requires size { IsPageSize page_size }
+    requires fresh { ForRecovered (recovery_file recovery.old) (recovery_meta recovery.old) (λ listing. recovery_left recovery.old listing ≡ listing) }
+    ensures copied { ForRecovered (recovery_file recovery.old) (recovery_meta recovery.old) (λ listing. Copies S.taken S.failed sink.old sink.new (layout_recovered layout recovery.old page_size listing) result) }
+    ensures accepted { OnOk result (ForRecovered (recovery_file recovery.old) (recovery_meta recovery.old) (λ listing. ∥ IsSoundCopy layout page_size (tree_of listing) (recovery_meta recovery.old).root_sequence listing ∥₁)) }
+    ensures held { IfOk result (λ done. ForRecovered (recovery_file recovery.old) (recovery_meta recovery.old) (λ listing. done.held ≡ layout_held layout page_size (tree_of listing))) }
+    ensures losses { OnOk result (ForLosses (recovery_file recovery.old) (recovery_meta recovery.old) (λ losses. recovery_losses recovery.new ≡ losses)) }
+    ensures beginnings { ForRecovered (recovery_file recovery.old) (recovery_meta recovery.old) (λ listing. length (layout_recovered layout recovery.old page_size listing) < too_many
+        → ∥ RefusesBeginnings (layout_recovered layout recovery.old page_size listing) (layout_root layout page_size (tree_of listing)) ∥₁) }
+{
+    recovered_is_of_one_tree(recovery);
+    let shape = Shape {
+        layout,
+        page_size,
+        sequence: recovery.meta().root_sequence,
+    };
+    put_members(alloc, recovery, &shape, sink)
 }

@@ -20,6 +20,14 @@ pub enum PlanFault {
     TooLarge,
 }
 
+impl From<NoMemory> for PlanFault {
+    ghost from_gives = { λ _ fault. fault ≡ planned.Memory };
+
+    fn from(_fault: NoMemory) -> Self {
+        PlanFault::Memory
+    }
+}
+
 /// Why a copy isn't written whole.
 #[derive(Clone, Copy, Debug, PartialEq, Eq, Error)]
 pub enum BulkFault {

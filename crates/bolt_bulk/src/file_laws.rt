@@ -1,19 +1,25 @@
-//! What holds of the layout of a checked file.
-ghost use Rattle.std.specs.Prelude.{◌≡◌, ◌≤◌, ◌<◌, ◌*◌, ◌^◌, length};
-ghost use Rattle.bolt_check.specs.CheckedFiles.{bytes_of, meta_of};
+//! What holds of the layout of a listing, and of which listings it holds.
+ghost use Rattle.std.specs.Prelude.{◌≡◌, ◌≤◌, ◌<◌, ◌*◌, ◌^◌, List, length};
 ghost use Rattle.bolt_format.specs.Bytes.{IsBytes};
 ghost use Rattle.bolt_format.specs.Metas.{IsPageSize};
+ghost use Rattle.bolt_recover.specs.Recovered.{ForRecovered, IsRecovered};
+ghost use Rattle.bolt_recover.specs.Recoveries.{recovery_file, recovery_meta};
 ghost use Rattle.bolt_tree.specs.FileListings.{ForListing};
-ghost use Rattle.bolt_tree.specs.Tree.{listing_of, tree_of};
-ghost use Rattle.bolt_bulk.specs.Compacting.{layout_for, too_many};
-ghost use Rattle.bolt_layout.specs.Copies.{IsOfOneTree, IsSoundCopy, RefusesBeginnings};
+ghost use Rattle.bolt_tree.specs.Listing.{Member};
+ghost use Rattle.bolt_tree.specs.Tree.{tree_of};
+ghost use Rattle.bolt_bulk.specs.Compacting.{too_many};
+ghost use Rattle.bolt_layout.specs.Copies.{IsOfOneTree, IsSoundCopy, RefusesBeginnings, layout_of_listing};
 ghost use Rattle.bolt_layout.specs.Layout.{layout_held, layout_mark, layout_root};
 ghost use Rattle.bolt_layout.specs.declared.layout.Layout.{Layout};
 
 use bolt_check::Checked;
 use bolt_layout::laws::{
-    a_copy_lists_the_same, a_files_listing_is_of_one_tree, beginnings_are_refused, held_is_small,
-    layout_has_length,
+    a_copy_lists_the_same, a_files_listing_is_of_one_tree, a_held_listing_is_of_one_tree,
+    beginnings_are_refused, held_is_small, layout_has_length,
+};
+use bolt_recover::Recovery;
+use bolt_recover::laws::{
+    each_file_has_a_recovered_listing, recovered_listing_is_of_a_tree, recovered_members_are_held,
 };
 
 /// A slice of bytes has none above 255.
@@ -30,23 +36,41 @@ fn fits(n: u64)
     let _ = n;
 }
 
-/// The listing of a file is that of one tree, and the layout has as many bytes as its pages. If
-/// these are fewer than 2^63, it is a sound copy, its beginnings are refused, and no more items are
-/// held at one time than it has bytes.
-pub(crate) fn file_has_one_layout(checked: &Checked<'_>, page_size: u64)
-    requires { IsPageSize page_size }
-    ensures tree { ForListing checked.now (λ listing. ∥ IsOfOneTree listing ∥₁) }
-    ensures length { (which : Layout) → ForListing checked.now (λ listing. length (layout_for which checked.now page_size listing) ≡ layout_mark which page_size (tree_of listing) * page_size) }
-    ensures accepted { (which : Layout) → ForListing checked.now (λ listing. length (layout_for which checked.now page_size listing) < too_many
-        → ∥ IsSoundCopy which page_size (tree_of listing) (meta_of checked.now).root_sequence listing ∥₁) }
-    ensures held { (which : Layout) → ForListing checked.now (λ listing. length (layout_for which checked.now page_size listing) < too_many
-        → layout_held which page_size (tree_of listing) ≤ length (layout_for which checked.now page_size listing)) }
-    ensures beginnings { (which : Layout) → ForListing checked.now (λ listing. length (layout_for which checked.now page_size listing) < too_many
-        → ∥ RefusesBeginnings (layout_for which checked.now page_size listing) (layout_root which page_size (tree_of listing)) ∥₁) }
+/// The listing of a sound file is that of one tree.
+pub(crate) fn file_is_of_one_tree(checked: &Checked<'_>)
+    ensures { ForListing checked.now (λ listing. ∥ IsOfOneTree listing ∥₁) }
 {
     are_bytes(checked.bytes());
-    fits(checked.meta().root_sequence);
     a_files_listing_is_of_one_tree();
+}
+
+/// What is recovered of a damaged file has a listing, which is that of one tree.
+pub(crate) fn recovered_is_of_one_tree(recovery: &Recovery<'_>)
+    ensures some { ∥ ((listing : List Member) × IsRecovered (recovery_file recovery.now) (recovery_meta recovery.now) listing) ∥₁ }
+    ensures tree { ForRecovered (recovery_file recovery.now) (recovery_meta recovery.now) (λ listing. ∥ IsOfOneTree listing ∥₁) }
+{
+    are_bytes(recovery.file());
+    recovered_listing_is_of_a_tree();
+    recovered_members_are_held();
+    each_file_has_a_recovered_listing();
+    a_held_listing_is_of_one_tree();
+}
+
+/// The layout of such a listing has as many bytes as its pages. If these are fewer than 2^63, it is
+/// a sound copy, its beginnings are refused, and no more items are held at one time than it has
+/// bytes.
+pub(crate) fn a_listing_has_one_layout(page_size: u64, sequence: u64)
+    requires { IsPageSize page_size }
+    ensures length { (which : Layout) (listing : List Member) → ∥ IsOfOneTree listing ∥₁
+        → length (layout_of_listing which page_size listing sequence) ≡ layout_mark which page_size (tree_of listing) * page_size }
+    ensures accepted { (which : Layout) (listing : List Member) → ∥ IsOfOneTree listing ∥₁ → length (layout_of_listing which page_size listing sequence) < too_many
+        → ∥ IsSoundCopy which page_size (tree_of listing) sequence listing ∥₁ }
+    ensures held { (which : Layout) (listing : List Member) → ∥ IsOfOneTree listing ∥₁ → length (layout_of_listing which page_size listing sequence) < too_many
+        → layout_held which page_size (tree_of listing) ≤ length (layout_of_listing which page_size listing sequence) }
+    ensures beginnings { (which : Layout) (listing : List Member) → ∥ IsOfOneTree listing ∥₁ → length (layout_of_listing which page_size listing sequence) < too_many
+        → ∥ RefusesBeginnings (layout_of_listing which page_size listing sequence) (layout_root which page_size (tree_of listing)) ∥₁ }
+{
+    fits(sequence);
     layout_has_length();
     a_copy_lists_the_same();
     beginnings_are_refused();

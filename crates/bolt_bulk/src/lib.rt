@@ -1,4 +1,5 @@
-//! The compact copy of a sound file: the calls that plan it and write it, page after page. The
+//! The compact copy of a sound file, or of what a damaged one still holds: the calls that plan it
+//! and write it, page after page. The
 //! layout that it has is defined in `bolt_layout`.
 #![tactic(auto)]
 
@@ -15,6 +16,7 @@ mod held;
 mod held_count;
 mod leaf_page;
 mod limits;
+mod members_copy;
 mod no_sink;
 mod open_bucket;
 mod outcome;
@@ -24,6 +26,6 @@ mod row;
 mod steps;
 mod told;
 
-pub use copy::{compact, compact_as, plan, plan_as};
+pub use copy::{compact, compact_as, compact_recovered, plan, plan_as};
 pub use fault::{BulkFault, PlanFault};
 pub use outcome::{Done, Plan};

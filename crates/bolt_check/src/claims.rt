@@ -50,6 +50,14 @@ impl<'a> Claims<'a> {
         Ok(Claims { file, meta, table })
     }
 
+    /// The file whose pages they are.
+    #[tactic(auto, unfolding(crate::specs::Claims::claims_file))]
+    pub fn file(&self) -> &'a [u8]
+        ensures { result.now ≡ claims_file self.now }
+    {
+        self.file
+    }
+
     /// Tests a page that a way leads to, and claims its span if the tests find nothing. If they
     /// find something, no page is claimed.
     #[tactic(auto, unfolding(crate::specs::Claims::claims_file, crate::specs::Claims::claims_meta, crate::specs::Claims::is_claimed, crate::specs::Claims::pages_left))]

@@ -1,13 +1,18 @@
--- The answer of `compact`.
-use Rattle.std.proofs.Common.{◌≡◌, ◌≤◌, ◌<◌, ℕ, List, length, Option, Result, Ok, Err, inl, inr, ap, refl, subst, sym, rules}
+-- The answers of `compact`.
+use Rattle.std.proofs.Common.{◌≡◌, ◌≤◌, ◌<◌, ◌++◌, ℕ, List, length, Option, Result, Ok, Err, inl, inr, ap, refl, subst, sym, rules}
 use Rattle.std.proofs.Math.Logic.{∥∥₁_map}
 use Rattle.std.proofs.lemmas.Bool.{cases_lt}
 use Rattle.std.specs.Result.{IsErrAnd}
 use Rattle.bolt_format.specs.Writes.{Writes}
+use Rattle.bolt_format.specs.declared.meta.Meta.{Meta}
 use Rattle.bolt_format.specs.declared.meta.Slot.{Slot}
 use Rattle.bolt_format.specs.declared.meta.Slot.TheVariants.{One}
 use Rattle.bolt_check.specs.CheckedFiles.{bytes_of, meta_of}
 use Rattle.bolt_check.specs.declared.checked_file.Checked.{Checked}
+use Rattle.bolt_recover.specs.Losses.{AreLosses, LossView}
+use Rattle.bolt_recover.specs.Recovered.{ForRecovered, IsRecovered}
+use Rattle.bolt_recover.proofs.Existing.{has_losses, has_recovered}
+use Rattle.bolt_report.specs.LossLines.{losses_text}
 use Rattle.bolt_tree.specs.FileListings.{ForListing}
 use Rattle.bolt_tree.specs.Listing.{IsListing, Member}
 use Rattle.bolt_tree.proofs.Existing.{has_listing}
@@ -18,7 +23,7 @@ use Rattle.bolt_layout.specs.Layout.{layout_meta}
 use Rattle.bolt_bulk.specs.declared.fault.BulkFault.{BulkFault}
 use Rattle.bolt_bulk.specs.declared.fault.BulkFault.TheVariants as bulk
 use Rattle.bolt_bulk.specs.declared.outcome.Done.{Done}
-use Rattle.bolt_cli.specs.Answers.{AcceptsListing, Compacts, Ending, IsReadUnder, StopsShort, copy_page_size, lengths_line}
+use Rattle.bolt_cli.specs.Answers.{Answer, Compacts, Does, Ending, IsReadUnder, IsRecoveredUnder, Recovers, StopsShort, WritesCopy, copy_page_size, done, lengths_line, lost_status}
 use Rattle.bolt_cli.specs.Failures.{copied}
 use Rattle.bolt_cli.specs.declared.failure.Failure.TheVariants as failure
 use Rattle.bolt_cli.specs.declared.page_size.PageSize.{PageSize}
@@ -40,69 +45,158 @@ module _ {T : Type 0} {taken : T → Option (List ℕ)} {failed : T → ℕ} (ol
   small : (done : Done) → Copies taken failed old new layout (Ok done) → length layout < too_many
   small done a = below (length layout) too_many (λ h. search (rules, (a.refuses h).0))
 
--- ---- the copy of a file that is read
+-- ---- the copy of a listing, and what is then written to standard output
+
+module _ {T O : Type 0} (taken : T → Option (List ℕ)) (failed : T → ℕ) (old new : T) (out_taken : O → Option (List ℕ)) (out_failed : O → ℕ) (out : O)
+    (which : Layout) (page_size sequence : ℕ) (listing : List Member) where
+  abbrev Ends : O → Answer → Ending → Type 0
+  Ends out_after answer ending = WritesCopy out_taken out_failed out out_after taken failed old new listing (layout_of_listing which page_size listing sequence) answer ending
+
+  abbrev Copied : Result Done BulkFault → Type 0
+  Copied result = Copies taken failed old new (layout_of_listing which page_size listing sequence) result
+
+  abbrev IsSound : Type 0
+  IsSound = ∥ IsSoundCopy which page_size (tree_of listing) sequence listing ∥₁
+
+  stopped : (e : BulkFault) (answer : Answer) (ending : Ending) → Copied (Err e) → IsErrAnd ending (λ reason. reason ≡ copied e) → Ends out answer ending
+  stopped e answer (Ok x) copies told = absurd told
+  stopped e answer (Err reason) copies told = inr (copied e, stops old new (layout_of_listing which page_size listing sequence) e copies, refl, ap Err told)
+
+  written : (done : Done) (out_after : O) (answer : Answer) (ending : Ending) → Copied (Ok done) → IsSound → Does out_taken out_failed out out_after answer ending → Ends out_after answer ending
+  written done out_after answer ending copies sound does =
+      inl (
+        small old new (layout_of_listing which page_size listing sequence) done copies,
+        ∥∥₁_map sound (λ copy. (One, layout_meta which page_size (tree_of listing) sequence 1, copy.chosen, copy.sound, copy.lists)),
+        copies.all,
+        copies.sound,
+        does,
+      )
+
+-- a text that was written whole, or not
+whole_text : {O E : Type 0} (taken : O → Option (List ℕ)) (failed : O → ℕ) (old new : O) (answer : Answer) (x : Unit {0}) → Writes {E = E} taken failed old new answer.out (Ok x) → Does taken failed old new answer answer.ending
+whole_text taken failed old new answer x line = inl (line.all, line.sound, refl)
+
+part_text : {O A E : Type 0} (taken : O → Option (List ℕ)) (failed : O → ℕ) (old new : O) (answer : Answer) (e : E) (ending : Ending) → Writes {A = A} taken failed old new answer.out (Err e)
+    → IsErrAnd ending (λ reason. reason ≡ failure.Write) → Does taken failed old new answer ending
+part_text taken failed old new answer e (Ok x) line reason = absurd reason
+part_text taken failed old new answer e (Err why) line reason = inr (line.failure, line.beginning, ap Err reason)
+
+-- ---- the copy of a sound file
 
 module _ (file : List ℕ) (slot : Option Slot) (size : Option PageSize) (which : Layout) (checked : Checked) (same : bytes_of checked ≡ file) (under : IsReadUnder file slot (meta_of checked)) where
-  abbrev Listed : Type 0
-  Listed = (listing : List Member) × IsListing file (meta_of checked) listing
-
-  own_listing : Listed
+  own_listing : (listing : List Member) × IsListing file (meta_of checked) listing
   own_listing = has_listing file (meta_of checked) (read_trees file slot (meta_of checked) under)
 
-  abbrev copy_of : Listed → List ℕ
-  copy_of listed = layout_of_listing which (copy_page_size size (meta_of checked)) listed.0 (meta_of checked).root_sequence
+  -- what is promised of each listing holds of the one that there is
+  here : {P : List Member → Type 0} → ForListing checked P → P own_listing.0
+  here promised = promised own_listing.0 (subst (λ (f : List ℕ). IsListing f (meta_of checked) own_listing.0) (sym same) own_listing.1)
 
   module _ {T : Type 0} (taken : T → Option (List ℕ)) (failed : T → ℕ) (old new : T) (page_size : ℕ) (is : page_size ≡ copy_page_size size (meta_of checked)) where
     abbrev Promised : Result Done BulkFault → Type 0
     Promised result = ForListing checked (λ listing. Copies taken failed old new (layout_for which checked page_size listing) result)
 
-    -- what is promised of each listing holds of the one that there is
-    own_copy : (result : Result Done BulkFault) → Promised result → Copies taken failed old new (copy_of own_listing) result
-    own_copy result promised =
-        let listing = own_listing.0 in
-        subst (λ n. Copies taken failed old new (layout_for which checked n listing) result) is
-        (promised listing (subst (λ (f : List ℕ). IsListing f (meta_of checked) listing) (sym same) own_listing.1))
-
-    -- It is sound, and lists the same.
     abbrev IsAccepted : Type 0
     IsAccepted = ForListing checked (λ listing. ∥ IsSoundCopy which page_size (tree_of listing) (meta_of checked).root_sequence listing ∥₁)
 
-    own_accepted : IsAccepted → ∥ AcceptsListing (copy_of own_listing) own_listing.0 ∥₁
-    own_accepted accepted =
-        let listing = own_listing.0 in
-        let here = accepted listing (subst (λ (f : List ℕ). IsListing f (meta_of checked) listing) (sym same) own_listing.1) in
-        subst (λ (n : ℕ). ∥ AcceptsListing (layout_of_listing which n listing (meta_of checked).root_sequence) listing ∥₁) is
-        (∥∥₁_map here (λ copy. (One, layout_meta which page_size (tree_of listing) (meta_of checked).root_sequence 1, copy.chosen, copy.sound, copy.lists)))
-
     module _ {O : Type 0} (out_taken : O → Option (List ℕ)) (out_failed : O → ℕ) (out : O) where
-      abbrev Ends : O → Ending → Type 0
-      Ends out_after ending = Compacts out_taken out_failed out out_after taken failed old new file slot size which ending
+      abbrev SoundEnds : O → Ending → Type 0
+      SoundEnds out_after ending = Compacts out_taken out_failed out out_after taken failed old new file slot size which ending
 
-      pub copy_stopped : (e : BulkFault) (ending : Ending) → Promised (Err e) → IsErrAnd ending (λ reason. reason ≡ copied e) → Ends out ending
-      copy_stopped e (Ok x) promised told = absurd told
-      copy_stopped e (Err reason) promised told =
-          inl (meta_of checked, own_listing.0, under, own_listing.1, inr (copied e, stops old new (copy_of own_listing) e (own_copy (Err e) promised), refl, ap Err told))
+      abbrev text_at : ℕ → List ℕ
+      text_at n = lengths_line (length file) (length (layout_of_listing which n own_listing.0 (meta_of checked).root_sequence))
+
+      abbrev EndsAt : ℕ → O → Ending → Type 0
+      EndsAt n out_after ending = Ends taken failed old new out_taken out_failed out which n (meta_of checked).root_sequence own_listing.0 out_after (done (text_at n)) ending
+
+      as_sound : (out_after : O) (ending : Ending) → EndsAt page_size out_after ending → SoundEnds out_after ending
+      as_sound out_after ending ends = inl (meta_of checked, own_listing.0, under, own_listing.1, subst (λ (n : ℕ). EndsAt n out_after ending) is ends)
+
+      pub copy_stopped : (e : BulkFault) (ending : Ending) → Promised (Err e) → IsErrAnd ending (λ reason. reason ≡ copied e) → SoundEnds out ending
+      copy_stopped e ending promised told =
+          as_sound out ending (stopped taken failed old new out_taken out_failed out which page_size (meta_of checked).root_sequence own_listing.0 e (done (text_at page_size)) ending (here promised) told)
 
       abbrev Line : {E : Type 0} → Done → O → Result (Unit {0}) E → Type 0
       Line done out_after result = Writes out_taken out_failed out out_after (lengths_line (length file) done.bytes) result
 
       own_line : {E : Type 0} (done : Done) (out_after : O) (result : Result (Unit {0}) E) → Promised (Ok done) → Line done out_after result
-          → Writes out_taken out_failed out out_after (lengths_line (length file) (length (copy_of own_listing))) result
+          → Writes out_taken out_failed out out_after (text_at page_size) result
       own_line done out_after result promised line =
-          subst (λ (n : ℕ). Writes out_taken out_failed out out_after (lengths_line (length file) n) result) (own_copy (Ok done) promised).bytes line
+          subst (λ (n : ℕ). Writes out_taken out_failed out out_after (lengths_line (length file) n) result) (here promised).bytes line
+
+      told : (d : Done) (out_after : O) (ending : Ending) → Promised (Ok d) → IsAccepted → Does out_taken out_failed out out_after (done (text_at page_size)) ending → SoundEnds out_after ending
+      told d out_after ending promised accepted does =
+          as_sound out_after ending
+          (written taken failed old new out_taken out_failed out which page_size (meta_of checked).root_sequence own_listing.0 d out_after (done (text_at page_size)) ending (here promised) (here accepted) does)
 
       -- the copy was written whole
-      pub copy_whole : {E : Type 0} (done : Done) (out_after : O) (x : Unit {0}) → Promised (Ok done) → IsAccepted → Line {E = E} done out_after (Ok x) → Ends out_after (Ok 0)
-      copy_whole {E} done out_after x promised accepted line =
-          let a = own_copy (Ok done) promised in
-          let told = own_line {E = E} done out_after (Ok x) promised line in
-          inl (meta_of checked, own_listing.0, under, own_listing.1, inl (small old new (copy_of own_listing) done a, own_accepted accepted, a.all, a.sound, inl (told.all, told.sound, refl)))
+      pub copy_whole : {E : Type 0} (d : Done) (out_after : O) (x : Unit {0}) → Promised (Ok d) → IsAccepted → Line {E = E} d out_after (Ok x) → SoundEnds out_after (Ok 0)
+      copy_whole {E} d out_after x promised accepted line =
+          told d out_after (Ok 0) promised accepted (whole_text {E = E} out_taken out_failed out out_after (done (text_at page_size)) x (own_line {E = E} d out_after (Ok x) promised line))
 
       -- the copy was written whole, and the line wasn't
-      pub copy_untold : {E : Type 0} (done : Done) (out_after : O) (e : E) (ending : Ending) → Promised (Ok done) → IsAccepted → Line done out_after (Err e)
-          → IsErrAnd ending (λ reason. reason ≡ failure.Write) → Ends out_after ending
-      copy_untold done out_after e (Ok x) promised accepted line reason = absurd reason
-      copy_untold done out_after e (Err why) promised accepted line reason =
-          let a = own_copy (Ok done) promised in
-          let told = own_line done out_after (Err e) promised line in
-          inl (meta_of checked, own_listing.0, under, own_listing.1, inl (small old new (copy_of own_listing) done a, own_accepted accepted, a.all, a.sound, inr (told.failure, told.beginning, ap Err reason)))
+      pub copy_untold : {E : Type 0} (d : Done) (out_after : O) (e : E) (ending : Ending) → Promised (Ok d) → IsAccepted → Line d out_after (Err e)
+          → IsErrAnd ending (λ reason. reason ≡ failure.Write) → SoundEnds out_after ending
+      copy_untold d out_after e ending promised accepted line reason =
+          told d out_after ending promised accepted (part_text out_taken out_failed out out_after (done (text_at page_size)) e ending (own_line d out_after (Err e) promised line) reason)
+
+-- ---- the copy of what is recovered
+
+module _ (file : List ℕ) (slot : Option Slot) (size : Option PageSize) (which : Layout) (meta : Meta) (under : IsRecoveredUnder file slot meta) where
+  recovered : (listing : List Member) × IsRecovered file meta listing
+  recovered = has_recovered file meta
+
+  lost : (losses : List LossView) × AreLosses file meta losses
+  lost = has_losses file meta
+
+  module _ {T : Type 0} (taken : T → Option (List ℕ)) (failed : T → ℕ) (old new : T) (page_size : ℕ) (is : page_size ≡ copy_page_size size meta) where
+    abbrev PromisedRest : Result Done BulkFault → Type 0
+    PromisedRest result = ForRecovered file meta (λ listing. Copies taken failed old new (layout_of_listing which page_size listing meta.root_sequence) result)
+
+    abbrev IsAcceptedRest : Type 0
+    IsAcceptedRest = ForRecovered file meta (λ listing. ∥ IsSoundCopy which page_size (tree_of listing) meta.root_sequence listing ∥₁)
+
+    module _ {O : Type 0} (out_taken : O → Option (List ℕ)) (out_failed : O → ℕ) (out : O) where
+      abbrev RestEnds : O → Ending → Type 0
+      RestEnds out_after ending = Recovers out_taken out_failed out out_after taken failed old new file slot size which ending
+
+      abbrev rest_text : ℕ → List ℕ
+      rest_text n = losses_text lost.0 ++ lengths_line (length file) (length (layout_of_listing which n recovered.0 meta.root_sequence))
+
+      abbrev rest_answer : ℕ → Answer
+      rest_answer n = record { out = rest_text n; ending = Ok (lost_status lost.0) }
+
+      abbrev RestEndsAt : ℕ → O → Ending → Type 0
+      RestEndsAt n out_after ending = Ends taken failed old new out_taken out_failed out which n meta.root_sequence recovered.0 out_after (rest_answer n) ending
+
+      as_rest : (out_after : O) (ending : Ending) → RestEndsAt page_size out_after ending → RestEnds out_after ending
+      as_rest out_after ending ends = inl (meta, recovered.0, lost.0, under, recovered.1, lost.1, subst (λ (n : ℕ). RestEndsAt n out_after ending) is ends)
+
+      pub rest_stopped : (e : BulkFault) (ending : Ending) → PromisedRest (Err e) → IsErrAnd ending (λ reason. reason ≡ copied e) → RestEnds out ending
+      rest_stopped e ending promised told =
+          as_rest out ending (stopped taken failed old new out_taken out_failed out which page_size meta.root_sequence recovered.0 e (rest_answer page_size) ending (promised recovered.0 recovered.1) told)
+
+      abbrev RestText : {E : Type 0} → Done → O → Result (Unit {0}) E → Type 0
+      RestText d out_after result = Writes out_taken out_failed out out_after (losses_text lost.0 ++ lengths_line (length file) d.bytes) result
+
+      own_text : {E : Type 0} (d : Done) (out_after : O) (result : Result (Unit {0}) E) → PromisedRest (Ok d) → RestText d out_after result
+          → Writes out_taken out_failed out out_after (rest_text page_size) result
+      own_text d out_after result promised text =
+          subst (λ (n : ℕ). Writes out_taken out_failed out out_after (losses_text lost.0 ++ lengths_line (length file) n) result) (promised recovered.0 recovered.1).bytes text
+
+      rest_told : (d : Done) (out_after : O) (ending : Ending) → PromisedRest (Ok d) → IsAcceptedRest → Does out_taken out_failed out out_after (rest_answer page_size) ending → RestEnds out_after ending
+      rest_told d out_after ending promised accepted does =
+          as_rest out_after ending
+          (written taken failed old new out_taken out_failed out which page_size meta.root_sequence recovered.0 d out_after (rest_answer page_size) ending (promised recovered.0 recovered.1) (accepted recovered.0 recovered.1) does)
+
+      -- the copy was written whole, and so was the text
+      pub rest_whole : {E : Type 0} (d : Done) (out_after : O) (x : Unit {0}) (ending : Ending) → PromisedRest (Ok d) → IsAcceptedRest → RestText {E = E} d out_after (Ok x) → ending ≡ Ok (lost_status lost.0)
+          → RestEnds out_after ending
+      rest_whole {E} d out_after x ending promised accepted text same =
+          subst (RestEnds out_after) (sym same)
+          (rest_told d out_after (Ok (lost_status lost.0)) promised accepted (whole_text {E = E} out_taken out_failed out out_after (rest_answer page_size) x (own_text {E = E} d out_after (Ok x) promised text)))
+
+      -- the copy was written whole, and the text wasn't
+      pub rest_untold : {E : Type 0} (d : Done) (out_after : O) (e : E) (ending : Ending) → PromisedRest (Ok d) → IsAcceptedRest → RestText d out_after (Err e)
+          → IsErrAnd ending (λ reason. reason ≡ failure.Write) → RestEnds out_after ending
+      rest_untold d out_after e ending promised accepted text reason =
+          rest_told d out_after ending promised accepted (part_text out_taken out_failed out out_after (rest_answer page_size) e ending (own_text d out_after (Err e) promised text) reason)

@@ -15,6 +15,7 @@ pub mod PageAnswers
 pub mod PagesAnswers
 pub mod PathReading
 pub mod ReadFiles
+pub mod RestAnswers
 pub mod RootEntries
 pub mod StatsAnswers
 pub mod WholeLines

@@ -9,7 +9,10 @@ use Rattle.bolt_format.specs.declared.meta.Slot.TheVariants.{One, Zero}
 use Rattle.bolt_check.specs.Sound.{HasSoundTrees}
 use Rattle.bolt_format.specs.declared.meta.Meta.{Meta}
 use Rattle.bolt_format.specs.declared.meta.Slot.{Slot}
-use Rattle.bolt_cli.specs.Answers.{IsReadUnder}
+use Rattle.bolt_check.specs.declared.fault.CheckFault.{CheckFault}
+use Rattle.bolt_check.specs.declared.fault.CheckFault.TheVariants as check
+use Rattle.bolt_cli.specs.Answers.{IsReadUnder, IsRecoveredUnder, IsUnrecoverableUnder}
+use Rattle.bolt_cli.specs.Failures.{TellsSome}
 
 pub read_trees : (file : List ℕ) (slot : Option Slot) (meta : Meta) → IsReadUnder file slot meta → HasSoundTrees file meta
 read_trees file None meta (slot, chosen, sound) = sound.trees
@@ -28,3 +31,16 @@ slot_page_size file One meta (inr is) = meta_page_size file is.1.at meta is.1.va
 pub checked_page_size : (checked : Checked) → IsPageSize (meta_of checked).page_size
 unfolding meta_of
 checked_page_size checked = ∥∥₁_elim checked.sound (hlevel props) (λ sound. slot_page_size checked.bytes.now sound.slot checked.meta sound.valid)
+
+pub recovered_page_size : (file : List ℕ) (slot : Option Slot) (meta : Meta) → IsRecoveredUnder file slot meta → IsPageSize meta.page_size
+recovered_page_size file None meta (slot, chosen, keeps) = slot_page_size file slot meta chosen.valid
+recovered_page_size file (Some slot) meta (valid, keeps) = slot_page_size file slot meta valid
+
+-- ---- why nothing is recovered
+
+pub unrecoverable_tells : (file : List ℕ) (slot : Option Slot) (fault : CheckFault) → IsUnrecoverableUnder file slot fault → TellsSome fault
+unrecoverable_tells file slot (check.Open fault) is = tt
+unrecoverable_tells file slot (check.Structure x) is = tt
+unrecoverable_tells file None (check.Accounts told) is = absurd is
+unrecoverable_tells file (Some slot) (check.Accounts told) is = absurd is
+unrecoverable_tells file slot check.Memory is = tt

@@ -1,5 +1,5 @@
 -- The words for a job are read as it.
-use Rattle.std.proofs.Common.{◌≡◌, ◌∙◌, ◌<◌, ◌^◌, ℕ, List, [], ◌∷◌, ◌++◌, Option, Some, None, Result, Ok, Err, true, false, codes, map, refl, sym, subst, ap, append_assoc, append-nil, rules}
+use Rattle.std.proofs.Common.{◌≡◌, ◌∙◌, ◌<◌, ◌^◌, ℕ, Bool, List, [], ◌∷◌, ◌++◌, Option, Some, None, Result, Ok, Err, true, false, codes, map, refl, sym, subst, ap, append_assoc, append-nil, rules}
 use Rattle.std.specs.Prelude.{All, MatchResult, fold, if◌then◌else◌}
 use Rattle.std.specs.Fmt.{decimal}
 use Rattle.std.proofs.lemmas.Fmt.{decimal_nonempty, digits_decimal, digits_value-decimal}
@@ -17,10 +17,10 @@ use Rattle.bolt_cli.specs.CommandLine.{IsRefusalOf}
 use Rattle.bolt_cli.specs.declared.job.Job.{Job}
 use Rattle.bolt_cli.specs.declared.words.Refusal.{Refusal}
 use Rattle.bolt_cli.specs.declared.words.Refusal.TheVariants.{Memory, Help, Version, Usage, Word}
-use Rattle.bolt_cli.specs.LineWords.{Known, Syntax, Text, after, give, refuse, values_of}
+use Rattle.bolt_cli.specs.LineWords.{Known, Syntax, Text, after, give, given_word, refuse, values_of}
 use Rattle.bolt_cli.specs.PathWords.{each_part, part_of, result_and_then}
 use Rattle.bolt_cli.specs.declared.parts.Parts.TheVariants as parts
-use Rattle.bolt_cli.specs.PlainWords.{Asked, IsInRange, IsPart, Reading, asked_of, asks, asks_at, buckets, check, compact, file_operand, first_of, form_of, form_option, form_word, from_option, get, info, keys, line_of, list, meta_option, page, page_size_of, pages, part_operand, parts_option, reading_in, reading_of, refused, slot_by, stats, unread, words_for}
+use Rattle.bolt_cli.specs.PlainWords.{Asked, IsInRange, IsPart, Reading, asked_of, asks, asks_at, buckets, check, compact, file_operand, first_of, form_of, form_option, form_word, from_option, get, info, keys, line_of, list, meta_option, page, page_size_of, pages, part_operand, parts_option, reading_in, reading_of, recover_option, refused, slot_by, stats, unread, words_for}
 use Rattle.bolt_cli.proofs.GivenRows.{Given}
 use Rattle.bolt_cli.proofs.Numbers.{decimal_numerals, good_number, size_written}
 use Rattle.bolt_cli.proofs.WordSteps.{known}
@@ -86,7 +86,7 @@ abbrev get_line : Syntax
 get_line = record { name = codes "get"; operands = file_operand ∷ part_operand ∷ []; options = form_option ∷ parts_option ∷ meta_option ∷ [] }
 
 abbrev list_line : Syntax
-list_line = record { name = codes "list"; operands = file_operand ∷ []; options = from_option ∷ meta_option ∷ [] }
+list_line = record { name = codes "list"; operands = file_operand ∷ []; options = from_option ∷ recover_option ∷ meta_option ∷ [] }
 
 -- the words of the parts, behind those of the rest
 abbrev PathRead : Syntax → (Text → Option Slot → Path → Form → Asked) → Option Slot → Form → Type 0
@@ -110,25 +110,39 @@ get_read (Some Zero) form file part path bytes =
 get_read (Some One) form file part path bytes =
     ap (reading_in get_line) (parts_taken get_line (path_given (Some One) file form []) (hex_words (part ∷ path))) ∙ ap reading_of (path_asked get file part path form bytes (Some One))
 
-abbrev from_place : Option Slot → Known
-from_place slot = known (slot_given slot) (Some (codes "from")) (file_operand ∷ []) false
+abbrev recover_given : Bool → Given
+recover_given false = []
+recover_given true = (codes "recover", given_word) ∷ []
 
-list_read : (slot : Option Slot) (file : Text) (part : Key) (path : Path) → All IsPart (part ∷ path)
-    → reading_in list_line (fold (after list_line) (after list_line (from_place slot) (one_word (part ∷ path))) (codes "--" ∷ file ∷ [])) ≡ asks (list file slot (part ∷ path))
-list_read None file part path parts =
-    ap (λ b. reading_in list_line (fold (after list_line) (if b then refuse (from_place None) else give (codes "from") (one_word (part ∷ path)) (from_place None)) (codes "--" ∷ file ∷ []))) (is_no_option part path parts)
-    ∙ ap (λ r. reading_of (result_and_then (λ path. Ok (list file None path)) r)) (word_read part path parts)
-list_read (Some Zero) file part path parts =
-    ap (λ b. reading_in list_line (fold (after list_line) (if b then refuse (from_place (Some Zero)) else give (codes "from") (one_word (part ∷ path)) (from_place (Some Zero))) (codes "--" ∷ file ∷ []))) (is_no_option part path parts)
-    ∙ ap (λ r. reading_of (result_and_then (λ path. Ok (list file (Some Zero) path)) r)) (word_read part path parts)
-list_read (Some One) file part path parts =
-    ap (λ b. reading_in list_line (fold (after list_line) (if b then refuse (from_place (Some One)) else give (codes "from") (one_word (part ∷ path)) (from_place (Some One))) (codes "--" ∷ file ∷ []))) (is_no_option part path parts)
-    ∙ ap (λ r. reading_of (result_and_then (λ path. Ok (list file (Some One) path)) r)) (word_read part path parts)
+abbrev from_place : Option Slot → Bool → Known
+from_place slot recover = known (slot_given slot ++ recover_given recover) (Some (codes "from")) (file_operand ∷ []) false
+
+list_read : (slot : Option Slot) (recover : Bool) (file : Text) (part : Key) (path : Path) → All IsPart (part ∷ path)
+    → reading_in list_line (fold (after list_line) (after list_line (from_place slot recover) (one_word (part ∷ path))) (codes "--" ∷ file ∷ [])) ≡ asks (list file slot (part ∷ path) recover)
+list_read None false file part path parts =
+    ap (λ b. reading_in list_line (fold (after list_line) (if b then refuse (from_place None false) else give (codes "from") (one_word (part ∷ path)) (from_place None false)) (codes "--" ∷ file ∷ []))) (is_no_option part path parts)
+    ∙ ap (λ r. reading_of (result_and_then (λ path. Ok (list file None path false)) r)) (word_read part path parts)
+list_read (Some Zero) false file part path parts =
+    ap (λ b. reading_in list_line (fold (after list_line) (if b then refuse (from_place (Some Zero) false) else give (codes "from") (one_word (part ∷ path)) (from_place (Some Zero) false)) (codes "--" ∷ file ∷ []))) (is_no_option part path parts)
+    ∙ ap (λ r. reading_of (result_and_then (λ path. Ok (list file (Some Zero) path false)) r)) (word_read part path parts)
+list_read (Some One) false file part path parts =
+    ap (λ b. reading_in list_line (fold (after list_line) (if b then refuse (from_place (Some One) false) else give (codes "from") (one_word (part ∷ path)) (from_place (Some One) false)) (codes "--" ∷ file ∷ []))) (is_no_option part path parts)
+    ∙ ap (λ r. reading_of (result_and_then (λ path. Ok (list file (Some One) path false)) r)) (word_read part path parts)
+list_read None true file part path parts =
+    ap (λ b. reading_in list_line (fold (after list_line) (if b then refuse (from_place None true) else give (codes "from") (one_word (part ∷ path)) (from_place None true)) (codes "--" ∷ file ∷ []))) (is_no_option part path parts)
+    ∙ ap (λ r. reading_of (result_and_then (λ path. Ok (list file None path true)) r)) (word_read part path parts)
+list_read (Some Zero) true file part path parts =
+    ap (λ b. reading_in list_line (fold (after list_line) (if b then refuse (from_place (Some Zero) true) else give (codes "from") (one_word (part ∷ path)) (from_place (Some Zero) true)) (codes "--" ∷ file ∷ []))) (is_no_option part path parts)
+    ∙ ap (λ r. reading_of (result_and_then (λ path. Ok (list file (Some Zero) path true)) r)) (word_read part path parts)
+list_read (Some One) true file part path parts =
+    ap (λ b. reading_in list_line (fold (after list_line) (if b then refuse (from_place (Some One) true) else give (codes "from") (one_word (part ∷ path)) (from_place (Some One) true)) (codes "--" ∷ file ∷ []))) (is_no_option part path parts)
+    ∙ ap (λ r. reading_of (result_and_then (λ path. Ok (list file (Some One) path true)) r)) (word_read part path parts)
 
 -- a page size that is read
-copy_read : (slot : Option Slot) (file target : Text) (size : ℕ) (which : Layout) → IsPageSize size
-    → reading_of (result_and_then (λ (n : Option ℕ). Ok (compact file slot target n which)) (page_size_of (decimal size))) ≡ asks (compact file slot target (Some size) which)
-copy_read slot file target size which accepted = ap (λ (r : Result (Option ℕ) Text). reading_of (result_and_then (λ (n : Option ℕ). Ok (compact file slot target n which)) r)) (size_written size accepted)
+copy_read : (slot : Option Slot) (file target : Text) (size : ℕ) (which : Layout) (recover : Bool) → IsPageSize size
+    → reading_of (result_and_then (λ (n : Option ℕ). Ok (compact file slot target n which recover)) (page_size_of (decimal size))) ≡ asks (compact file slot target (Some size) which recover)
+copy_read slot file target size which recover accepted =
+    ap (λ (r : Result (Option ℕ) Text). reading_of (result_and_then (λ (n : Option ℕ). Ok (compact file slot target n which recover)) r)) (size_written size accepted)
 
 line_of-words_for : (name : Text) (wanted : Asked) → IsInRange wanted → line_of (words_for name wanted) ≡ asks wanted
 line_of-words_for name (info file) in_range = refl
@@ -138,7 +152,12 @@ line_of-words_for name (page file id) in_range =
     (let Fits : ℕ → Type 0 = λ n. n < 2 ^ 64 in subst Fits (sym value) in_range) in
     rw (good, value) refl
 line_of-words_for name (pages file) in_range = refl
-line_of-words_for name (check file) in_range = refl
+line_of-words_for name (check file None false) in_range = refl
+line_of-words_for name (check file None true) in_range = refl
+line_of-words_for name (check file (Some Zero) false) in_range = refl
+line_of-words_for name (check file (Some Zero) true) in_range = refl
+line_of-words_for name (check file (Some One) false) in_range = refl
+line_of-words_for name (check file (Some One) true) in_range = refl
 line_of-words_for name (buckets file None Printable) in_range = refl
 line_of-words_for name (buckets file None Hex) in_range = refl
 line_of-words_for name (buckets file None Bytes) in_range = refl
@@ -171,24 +190,42 @@ line_of-words_for name (get file (Some One) (part ∷ path) Bytes) in_range = ge
 line_of-words_for name (stats file None) in_range = refl
 line_of-words_for name (stats file (Some Zero)) in_range = refl
 line_of-words_for name (stats file (Some One)) in_range = refl
-line_of-words_for name (list file None []) in_range = refl
-line_of-words_for name (list file (Some Zero) []) in_range = refl
-line_of-words_for name (list file (Some One) []) in_range = refl
-line_of-words_for name (list file None (part ∷ path)) in_range = list_read None file part path in_range
-line_of-words_for name (list file (Some Zero) (part ∷ path)) in_range = list_read (Some Zero) file part path in_range
-line_of-words_for name (list file (Some One) (part ∷ path)) in_range = list_read (Some One) file part path in_range
-line_of-words_for name (compact file None target None Plain) in_range = refl
-line_of-words_for name (compact file None target None Balanced) in_range = refl
-line_of-words_for name (compact file (Some Zero) target None Plain) in_range = refl
-line_of-words_for name (compact file (Some Zero) target None Balanced) in_range = refl
-line_of-words_for name (compact file (Some One) target None Plain) in_range = refl
-line_of-words_for name (compact file (Some One) target None Balanced) in_range = refl
-line_of-words_for name (compact file None target (Some size) Plain) in_range = copy_read None file target size Plain in_range
-line_of-words_for name (compact file None target (Some size) Balanced) in_range = copy_read None file target size Balanced in_range
-line_of-words_for name (compact file (Some Zero) target (Some size) Plain) in_range = copy_read (Some Zero) file target size Plain in_range
-line_of-words_for name (compact file (Some Zero) target (Some size) Balanced) in_range = copy_read (Some Zero) file target size Balanced in_range
-line_of-words_for name (compact file (Some One) target (Some size) Plain) in_range = copy_read (Some One) file target size Plain in_range
-line_of-words_for name (compact file (Some One) target (Some size) Balanced) in_range = copy_read (Some One) file target size Balanced in_range
+line_of-words_for name (list file None [] false) in_range = refl
+line_of-words_for name (list file (Some Zero) [] false) in_range = refl
+line_of-words_for name (list file (Some One) [] false) in_range = refl
+line_of-words_for name (list file None [] true) in_range = refl
+line_of-words_for name (list file (Some Zero) [] true) in_range = refl
+line_of-words_for name (list file (Some One) [] true) in_range = refl
+line_of-words_for name (list file None (part ∷ path) false) in_range = list_read None false file part path in_range
+line_of-words_for name (list file (Some Zero) (part ∷ path) false) in_range = list_read (Some Zero) false file part path in_range
+line_of-words_for name (list file (Some One) (part ∷ path) false) in_range = list_read (Some One) false file part path in_range
+line_of-words_for name (list file None (part ∷ path) true) in_range = list_read None true file part path in_range
+line_of-words_for name (list file (Some Zero) (part ∷ path) true) in_range = list_read (Some Zero) true file part path in_range
+line_of-words_for name (list file (Some One) (part ∷ path) true) in_range = list_read (Some One) true file part path in_range
+line_of-words_for name (compact file None target None Plain false) in_range = refl
+line_of-words_for name (compact file None target None Balanced false) in_range = refl
+line_of-words_for name (compact file (Some Zero) target None Plain false) in_range = refl
+line_of-words_for name (compact file (Some Zero) target None Balanced false) in_range = refl
+line_of-words_for name (compact file (Some One) target None Plain false) in_range = refl
+line_of-words_for name (compact file (Some One) target None Balanced false) in_range = refl
+line_of-words_for name (compact file None target None Plain true) in_range = refl
+line_of-words_for name (compact file None target None Balanced true) in_range = refl
+line_of-words_for name (compact file (Some Zero) target None Plain true) in_range = refl
+line_of-words_for name (compact file (Some Zero) target None Balanced true) in_range = refl
+line_of-words_for name (compact file (Some One) target None Plain true) in_range = refl
+line_of-words_for name (compact file (Some One) target None Balanced true) in_range = refl
+line_of-words_for name (compact file None target (Some size) Plain false) in_range = copy_read None file target size Plain false in_range
+line_of-words_for name (compact file None target (Some size) Balanced false) in_range = copy_read None file target size Balanced false in_range
+line_of-words_for name (compact file (Some Zero) target (Some size) Plain false) in_range = copy_read (Some Zero) file target size Plain false in_range
+line_of-words_for name (compact file (Some Zero) target (Some size) Balanced false) in_range = copy_read (Some Zero) file target size Balanced false in_range
+line_of-words_for name (compact file (Some One) target (Some size) Plain false) in_range = copy_read (Some One) file target size Plain false in_range
+line_of-words_for name (compact file (Some One) target (Some size) Balanced false) in_range = copy_read (Some One) file target size Balanced false in_range
+line_of-words_for name (compact file None target (Some size) Plain true) in_range = copy_read None file target size Plain true in_range
+line_of-words_for name (compact file None target (Some size) Balanced true) in_range = copy_read None file target size Balanced true in_range
+line_of-words_for name (compact file (Some Zero) target (Some size) Plain true) in_range = copy_read (Some Zero) file target size Plain true in_range
+line_of-words_for name (compact file (Some Zero) target (Some size) Balanced true) in_range = copy_read (Some Zero) file target size Balanced true in_range
+line_of-words_for name (compact file (Some One) target (Some size) Plain true) in_range = copy_read (Some One) file target size Plain true in_range
+line_of-words_for name (compact file (Some One) target (Some size) Balanced true) in_range = copy_read (Some One) file target size Balanced true in_range
 
 abbrev asked_in : Asked → Reading → Asked
 asked_in other (asks job) = job

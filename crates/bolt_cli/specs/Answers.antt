@@ -16,11 +16,15 @@ use Rattle.bolt_format.specs.declared.fault.PageFault.{PageFault}
 use Rattle.bolt_format.specs.declared.meta.Meta.{Meta}
 use Rattle.bolt_format.specs.declared.meta.MetaFault.{MetaFault}
 use Rattle.bolt_format.specs.declared.meta.Slot.{Slot}
+use Rattle.bolt_recover.specs.Losses.{AreLosses, LossView}
+use Rattle.bolt_recover.specs.Recovered.{IsRecovered}
+use Rattle.bolt_recover.specs.Refusals.{IsSlotUnrecoverable, IsUnrecoverable, KeepsRoot}
 use Rattle.bolt_report.specs.FaultWords.{findings_text}
 use Rattle.bolt_report.specs.Forms.{value_text}
 use Rattle.bolt_report.specs.Figures.{add_stats, stats_text}
 use Rattle.bolt_report.specs.KeyLines.{buckets_text, keys_text}
 use Rattle.bolt_report.specs.ListLines.{listing_text}
+use Rattle.bolt_report.specs.LossLines.{all_lost_text, counted_losses_text, losses_text}
 use Rattle.bolt_report.specs.MetaLines.{info_text}
 use Rattle.bolt_report.specs.PageTables.{pages_text}
 use Rattle.bolt_report.specs.PageTexts.{page_text, page_text_fault}
@@ -89,11 +93,14 @@ HoldsIn file meta path item = Holds (IsEntry file meta) (Root_page meta.root) pa
 abbrev pub parents_of : Path → Path
 parents_of path = take (length path - 1) path
 
--- the whole text; or a prefix of it, if memory ran out
-abbrev pub IsWholeOrCut : List ℕ → Answer → Type 0
-IsWholeOrCut text answer =
-    (answer ≡ done text)
+-- the whole text, and this ending; or a prefix of it, if memory ran out
+abbrev pub IsEndedOrCut : List ℕ → Ending → Answer → Type 0
+IsEndedOrCut text ending answer =
+    (answer ≡ record { out = text; ending = ending })
     ⊎ ((front rest : List ℕ) × (text ≡ front ++ rest) × (answer ≡ record { out = front; ending = Err failure.Memory }))
+
+abbrev pub IsWholeOrCut : List ℕ → Answer → Type 0
+IsWholeOrCut text answer = IsEndedOrCut text (Ok 0) answer
 
 -- the names of the root's buckets, in the order of its entries
 abbrev pub IsBucketsAnswer : List ℕ → Form → Meta → Answer → Type 0
@@ -188,6 +195,63 @@ IsReadAnswer file slot IsAccepted answer =
     ((meta : Meta) × IsReadUnder file slot meta × IsAccepted meta answer)
     ⊎ ((fault : CheckFault) × IsRefusedUnder file slot fault × IsFileRefusal fault answer)
 
+-- ---- `check`, under the active meta or that of a slot
+
+abbrev pub IsFoundAnswer : List ℕ → Option Slot → Answer → Type 0
+IsFoundAnswer file slot answer =
+    ((meta : Meta) × IsReadUnder file slot meta × (answer ≡ done (codes "OK\n")))
+    ⊎ ((fault : CheckFault) × IsRefusedUnder file slot fault × (answer ≡ check_refusal fault))
+
+-- ---- what is recovered of a damaged file
+
+-- the meta under which it is read, where its root page is kept; or why nothing is recovered
+abbrev pub IsRecoveredUnder : List ℕ → Option Slot → Meta → Type 0
+IsRecoveredUnder file None meta = (slot : Slot) × IsChosen file slot meta × KeepsRoot file meta
+IsRecoveredUnder file (Some slot) meta = IsInSlot file slot meta × KeepsRoot file meta
+
+abbrev pub IsUnrecoverableUnder : List ℕ → Option Slot → CheckFault → Type 0
+IsUnrecoverableUnder file None fault = IsUnrecoverable file fault
+IsUnrecoverableUnder file (Some slot) fault = IsSlotUnrecoverable file slot fault
+
+abbrev pub IsRecoveredAnswer : List ℕ → Option Slot → (Meta → Answer → Type 0) → (CheckFault → Answer → Type 0) → Answer → Type 0
+IsRecoveredAnswer file slot IsAccepted IsRefusal answer =
+    ((meta : Meta) × IsRecoveredUnder file slot meta × IsAccepted meta answer)
+    ⊎ ((fault : CheckFault) × IsUnrecoverableUnder file slot fault × IsRefusal fault answer)
+
+-- if something was lost, the number of losses is reported on standard error
+abbrev pub lost_ending : List LossView → Ending
+lost_ending [] = Ok 0
+lost_ending (loss ∷ losses) = Err (failure.Lost (length (loss ∷ losses)))
+
+-- the recovered listing from a path on; or a prefix of it, if memory ran out
+abbrev pub IsRecoveredList : List ℕ → Path → Meta → Answer → Type 0
+IsRecoveredList file from meta answer =
+    (listing : List Member) × (losses : List LossView) × IsRecovered file meta listing × AreLosses file meta losses
+    × IsEndedOrCut (listing_text (rest_from from listing)) (lost_ending losses) answer
+
+-- each loss; if nothing is lost, what `check` writes; or nothing, if memory ran out
+abbrev pub AnswersLosses : List ℕ → Option Slot → List LossView → Answer → Type 0
+AnswersLosses file slot [] answer = IsFoundAnswer file slot answer
+AnswersLosses file slot (loss ∷ losses) answer = answer ≡ record { out = counted_losses_text (loss ∷ losses); ending = Ok 1 }
+
+abbrev pub IsLossesAnswer : List ℕ → Option Slot → Meta → Answer → Type 0
+IsLossesAnswer file slot meta answer = ((losses : List LossView) × AreLosses file meta losses × AnswersLosses file slot losses answer) ⊎ (answer ≡ refused failure.Memory)
+
+abbrev pub all_refusal : CheckFault → Answer
+all_refusal (check.Structure x) = record { out = all_lost_text x; ending = Ok 1 }
+all_refusal (check.Open fault) = check_refusal (check.Open fault)
+all_refusal (check.Accounts told) = check_refusal (check.Accounts told)
+all_refusal check.Memory = check_refusal check.Memory
+
+-- `check` and `check --all`, `list` and `list --recover`
+abbrev pub IsCheckAnswer : Bool → List ℕ → Option Slot → Answer → Type 0
+IsCheckAnswer false file slot answer = IsFoundAnswer file slot answer
+IsCheckAnswer true file slot answer = IsRecoveredAnswer file slot (IsLossesAnswer file slot) (λ fault answer. answer ≡ all_refusal fault) answer
+
+abbrev pub IsListedAnswer : Bool → List ℕ → Option Slot → Path → Answer → Type 0
+IsListedAnswer false file slot from answer = IsReadAnswer file slot (IsListAnswer file from) answer
+IsListedAnswer true file slot from answer = IsRecoveredAnswer file slot (IsRecoveredList file from) IsFileRefusal answer
+
 -- From its state `old` to `new` standard output accepted the text of the answer without a failure, and the job ends so; or it failed,
 -- accepted a prefix, and the job ends with that.
 abbrev pub Does : {S : Type 0} → (taken : S → Option (List ℕ)) (failed : S → ℕ) (old new : S) → Answer → Ending → Type 0
@@ -220,6 +284,11 @@ pub record StopsShort {T : Type 0} (taken : T → Option (List ℕ)) (failed : T
   pub why : StopsCopy failed old new layout failure
   pub large : too_many ≤ length layout → Keeps (taken old) (taken new)
 
+-- the status of a copy if these losses are reported beside it
+abbrev pub lost_status : List LossView → ℕ
+lost_status [] = 0
+lost_status (loss ∷ losses) = 1
+
 -- `check` accepts a file that holds these bytes, and its listing is this one
 abbrev pub AcceptsListing : List ℕ → List Member → Type 0
 AcceptsListing file listing = (slot : Slot) × (meta : Meta) × IsChosen file slot meta × IsSound file meta true × IsListing file meta listing
@@ -234,12 +303,13 @@ module _ {O T : Type 0} (out_taken : O → Option (List ℕ)) (out_failed : O �
   Prints IsWanted ending = (answer : Answer) × IsWanted answer × Does out_taken out_failed out_old out_new answer ending × (target_new ≡ target_old)
 
   -- The target accepted the whole layout without a failure, which has fewer than 2^63 bytes, is sound and has this listing; and then
-  -- standard output is to accept the line. Or the target stopped short, standard output isn't touched, and the job ends with the failure.
-  abbrev pub WritesCopy : (listing : List Member) → (layout line : List ℕ) → Ending → Type 0
-  WritesCopy listing layout line ending =
+  -- standard output is to accept the text of the answer. Or the target stopped short, standard output isn't touched, and the job ends with
+  -- the failure.
+  abbrev pub WritesCopy : (listing : List Member) → (layout : List ℕ) → Answer → Ending → Type 0
+  WritesCopy listing layout answer ending =
       ((length layout < too_many) × ∥ AcceptsListing layout listing ∥₁
       × Appends (target_taken target_old) (target_taken target_new) layout × (target_failed target_new ≡ target_failed target_old)
-      × Does out_taken out_failed out_old out_new (done line) ending)
+      × Does out_taken out_failed out_old out_new answer ending)
       ⊎ ((failure : Failure) × StopsShort target_taken target_failed target_old target_new layout failure × (out_new ≡ out_old) × (ending ≡ Err failure))
 
   -- The target accepts the layout that is asked for of the file's listing, at the copy's page size, which is sound and has the same
@@ -247,22 +317,36 @@ module _ {O T : Type 0} (out_taken : O → Option (List ℕ)) (out_failed : O �
   abbrev pub Compacts : List ℕ → Option Slot → Option PageSize → Layout → Ending → Type 0
   Compacts file slot size which ending =
       ((meta : Meta) × (listing : List Member) × IsReadUnder file slot meta × IsListing file meta listing
-      × (let layout = layout_of_listing which (copy_page_size size meta) listing meta.root_sequence in WritesCopy listing layout (lengths_line (length file) (length layout)) ending))
+      × (let layout = layout_of_listing which (copy_page_size size meta) listing meta.root_sequence in WritesCopy listing layout (done (lengths_line (length file) (length layout))) ending))
       ⊎ ((fault : CheckFault) × (failure : Failure) × IsRefusedUnder file slot fault × IsToldAs fault failure
       × (out_new ≡ out_old) × (target_new ≡ target_old) × (ending ≡ Err failure))
+
+  -- the same of the recovered listing, and each loss is reported; or nothing is recovered
+  abbrev pub Recovers : List ℕ → Option Slot → Option PageSize → Layout → Ending → Type 0
+  Recovers file slot size which ending =
+      ((meta : Meta) × (listing : List Member) × (losses : List LossView) × IsRecoveredUnder file slot meta × IsRecovered file meta listing × AreLosses file meta losses
+      × (let layout = layout_of_listing which (copy_page_size size meta) listing meta.root_sequence in
+      WritesCopy listing layout (record { out = losses_text losses ++ lengths_line (length file) (length layout); ending = Ok (lost_status losses) }) ending))
+      ⊎ ((fault : CheckFault) × (failure : Failure) × IsUnrecoverableUnder file slot fault × IsToldAs fault failure
+      × (out_new ≡ out_old) × (target_new ≡ target_old) × (ending ≡ Err failure))
+
+  -- `compact` and `compact --recover`
+  abbrev pub MakesCopy : List ℕ → Option Slot → Option PageSize → Layout → Bool → Ending → Type 0
+  MakesCopy file slot size which false ending = Compacts file slot size which ending
+  MakesCopy file slot size which true ending = Recovers file slot size which ending
 
   -- what a job does, and how it ends
   abbrev pub DoesJob : List ℕ → Job → Ending → Type 0
   DoesJob file (job.Info name) = Prints (IsOpenAnswer file (λ slot meta. done (info_text slot meta)))
   DoesJob file (job.Page name id) = Prints (IsOpenAnswer file (λ slot meta. page_answer (page_text_fault file meta id) (page_text file meta id)))
   DoesJob file (job.Pages name) = Prints (IsCheckedAnswer file (IsPagesAnswer file) IsFileRefusal)
-  DoesJob file (job.Check name) = Prints (IsCheckedAnswer file (λ meta answer. answer ≡ done (codes "OK\n")) (λ fault answer. answer ≡ check_refusal fault))
+  DoesJob file (job.Check name slot all) = Prints (IsCheckAnswer all file slot)
   DoesJob file (job.Buckets name slot form) = Prints (IsReadAnswer file slot (IsBucketsAnswer file form))
   DoesJob file (job.Stats name slot) = Prints (IsReadAnswer file slot (IsStatsAnswer file))
   DoesJob file (job.Keys name slot path form) = Prints (IsReadAnswer file slot (IsKeysAnswer file (path_in path.items) form))
   DoesJob file (job.Get name slot path form) = Prints (IsReadAnswer file slot (IsGetAnswer file (path_in path.items) form))
-  DoesJob file (job.List name slot from) = Prints (IsReadAnswer file slot (IsListAnswer file (path_in from.items)))
-  DoesJob file (job.Compact name slot out size which) = Compacts file slot size which
+  DoesJob file (job.List name slot from recover) = Prints (IsListedAnswer recover file slot (path_in from.items))
+  DoesJob file (job.Compact name slot out size which recover) = MakesCopy file slot size which recover
 
 -- ---- the end of a run
 

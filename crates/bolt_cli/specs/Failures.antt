@@ -1,5 +1,5 @@
 -- Why a job isn't done, and what is reported of it: docs/COMMANDS.md, "What a run writes".
-use Rattle.std.specs.Prelude.{◌≡◌, ◌≢◌, ℕ, List, [], ◌∷◌, ◌++◌, codes}
+use Rattle.std.specs.Prelude.{◌≡◌, ◌≢◌, ℕ, List, [], ◌∷◌, ◌++◌, codes, decimal}
 use Rattle.bolt_bulk.specs.declared.fault.BulkFault.{BulkFault}
 use Rattle.bolt_bulk.specs.declared.fault.BulkFault.TheVariants as bulk
 use Rattle.bolt_check.specs.declared.fault.CheckFault.{CheckFault}
@@ -9,7 +9,7 @@ use Rattle.bolt_report.specs.FaultWords.{finding_text, meta_fault_text, page_fau
 use Rattle.bolt_report.specs.declared.fault.ReportFault.{ReportFault}
 use Rattle.bolt_report.specs.declared.fault.ReportFault.TheVariants as report
 use Rattle.bolt_cli.specs.declared.failure.Failure.{Failure}
-use Rattle.bolt_cli.specs.declared.failure.Failure.TheVariants.{Metas, File, Page, NoBucket, NoKey, Memory, TooLarge, Write}
+use Rattle.bolt_cli.specs.declared.failure.Failure.TheVariants.{Metas, File, Page, NoBucket, NoKey, Memory, TooLarge, Write, Lost}
 
 abbrev pub failure_text : Failure → List ℕ
 failure_text (Metas fault) = meta_fault_text fault
@@ -20,6 +20,7 @@ failure_text NoKey = codes "key not found\n"
 failure_text Memory = codes "out of memory\n"
 failure_text TooLarge = codes "layout too large\n"
 failure_text Write = codes "write failed\n"
+failure_text (Lost count) = codes "pages lost: " ++ (decimal count ++ codes "\n")
 
 -- a failure is one line on standard error
 abbrev pub failure_line : Failure → List ℕ

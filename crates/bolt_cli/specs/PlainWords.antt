@@ -51,19 +51,25 @@ page_size_option = record { name = codes "page-size"; flag = long (codes "page-s
 abbrev pub for_bbolt_option : Choice
 for_bbolt_option = record { name = codes "for-bbolt"; flag = long (codes "for-bbolt"); has_value = false; required = false }
 
+abbrev pub all_option : Choice
+all_option = record { name = codes "all"; flag = long (codes "all"); has_value = false; required = false }
+
+abbrev pub recover_option : Choice
+recover_option = record { name = codes "recover"; flag = long (codes "recover"); has_value = false; required = false }
+
 -- all commands
 abbrev pub syntaxes : List Syntax
 syntaxes =
     record { name = codes "info"; operands = file_operand ∷ []; options = [] }
     ∷ record { name = codes "page"; operands = file_operand ∷ id_operand ∷ []; options = [] }
     ∷ record { name = codes "pages"; operands = file_operand ∷ []; options = [] }
-    ∷ record { name = codes "check"; operands = file_operand ∷ []; options = [] }
+    ∷ record { name = codes "check"; operands = file_operand ∷ []; options = all_option ∷ meta_option ∷ [] }
     ∷ record { name = codes "buckets"; operands = file_operand ∷ []; options = form_option ∷ meta_option ∷ [] }
     ∷ record { name = codes "keys"; operands = file_operand ∷ part_operand ∷ []; options = form_option ∷ parts_option ∷ meta_option ∷ [] }
     ∷ record { name = codes "get"; operands = file_operand ∷ part_operand ∷ []; options = form_option ∷ parts_option ∷ meta_option ∷ [] }
     ∷ record { name = codes "stats"; operands = file_operand ∷ []; options = meta_option ∷ [] }
-    ∷ record { name = codes "list"; operands = file_operand ∷ []; options = from_option ∷ meta_option ∷ [] }
-    ∷ record { name = codes "compact"; operands = file_operand ∷ []; options = output_option ∷ page_size_option ∷ for_bbolt_option ∷ meta_option ∷ [] }
+    ∷ record { name = codes "list"; operands = file_operand ∷ []; options = from_option ∷ recover_option ∷ meta_option ∷ [] }
+    ∷ record { name = codes "compact"; operands = file_operand ∷ []; options = output_option ∷ page_size_option ∷ for_bbolt_option ∷ recover_option ∷ meta_option ∷ [] }
     ∷ []
 
 -- ---- what a line asks for
@@ -73,13 +79,13 @@ pub data Asked : Type 0 where
   info : Text → Asked
   page : Text → ℕ → Asked
   pages : Text → Asked
-  check : Text → Asked
+  check : Text → Option Slot → (all : Bool) → Asked
   buckets : Text → Option Slot → Form → Asked
   keys : Text → Option Slot → Path → Form → Asked
   get : Text → Option Slot → Path → Form → Asked
   stats : Text → Option Slot → Asked
-  list : Text → Option Slot → Path → Asked
-  compact : (file : Text) → Option Slot → (target : Text) → (page_size : Option ℕ) → Layout → Asked
+  list : Text → Option Slot → Path → (recover : Bool) → Asked
+  compact : (file : Text) → Option Slot → (target : Text) → (page_size : Option ℕ) → Layout → (recover : Bool) → Asked
 
 -- the path that the code owns
 abbrev pub path_in : {Z : Type 0} → List (Vec ℕ Z) → Path
@@ -93,30 +99,30 @@ abbrev pub asked_of : Job → Asked
 asked_of (job.Info file) = info (string_bytes file)
 asked_of (job.Page file id) = page (string_bytes file) id
 asked_of (job.Pages file) = pages (string_bytes file)
-asked_of (job.Check file) = check (string_bytes file)
+asked_of (job.Check file slot all) = check (string_bytes file) slot all
 asked_of (job.Buckets file slot form) = buckets (string_bytes file) slot form
 asked_of (job.Keys file slot path form) = keys (string_bytes file) slot (path_in path.items) form
 asked_of (job.Get file slot path form) = get (string_bytes file) slot (path_in path.items) form
 asked_of (job.Stats file slot) = stats (string_bytes file) slot
-asked_of (job.List file slot from) = list (string_bytes file) slot (path_in from.items)
-asked_of (job.Compact file slot target size which) = compact (string_bytes file) slot (string_bytes target) (size_in size) which
+asked_of (job.List file slot from recover) = list (string_bytes file) slot (path_in from.items) recover
+asked_of (job.Compact file slot target size which recover) = compact (string_bytes file) slot (string_bytes target) (size_in size) which recover
 
 -- the FILE of a job
 abbrev pub file_name : Job → Text
 file_name (job.Info file) = string_bytes file
 file_name (job.Page file id) = string_bytes file
 file_name (job.Pages file) = string_bytes file
-file_name (job.Check file) = string_bytes file
+file_name (job.Check file slot all) = string_bytes file
 file_name (job.Buckets file slot form) = string_bytes file
 file_name (job.Keys file slot path form) = string_bytes file
 file_name (job.Get file slot path form) = string_bytes file
 file_name (job.Stats file slot) = string_bytes file
-file_name (job.List file slot from) = string_bytes file
-file_name (job.Compact file slot target size which) = string_bytes file
+file_name (job.List file slot from recover) = string_bytes file
+file_name (job.Compact file slot target size which recover) = string_bytes file
 
 -- the OUT of a job that has one
 abbrev pub target_name : Job → Option Text
-target_name (job.Compact file slot target size which) = Some (string_bytes target)
+target_name (job.Compact file slot target size which recover) = Some (string_bytes target)
 target_name _ = None
 
 -- the words that a line gives by each name
@@ -166,6 +172,11 @@ abbrev pub layout_by : Option Text → Layout
 layout_by (Some word) = Balanced
 layout_by None = Plain
 
+-- whether an option without a value is given
+abbrev pub is_given : Option Text → Bool
+is_given (Some word) = true
+is_given None = false
+
 -- a form by its word; without one names are printable
 abbrev pub form_of : Text → Result Form Text
 form_of word =
@@ -200,7 +211,8 @@ abbrev pub asks_pages : Values → Result Asked Text
 asks_pages values = result_and_then (λ file. Ok (pages file)) (text_by (codes "FILE") values)
 
 abbrev pub asks_check : Values → Result Asked Text
-asks_check values = result_and_then (λ file. Ok (check file)) (text_by (codes "FILE") values)
+asks_check values = result_and_then (λ file. result_and_then (λ slot. Ok (check file slot (is_given (first_of (values (codes "all"))))))
+    (slot_by (first_of (values (codes "meta"))))) (text_by (codes "FILE") values)
 
 abbrev pub asks_buckets : Values → Result Asked Text
 asks_buckets values = result_and_then (λ file. result_and_then (λ slot. result_and_then (λ form. Ok (buckets file slot form))
@@ -225,11 +237,12 @@ asks_stats values = result_and_then (λ file. result_and_then (λ slot. Ok (stat
     (slot_by (first_of (values (codes "meta"))))) (text_by (codes "FILE") values)
 
 abbrev pub asks_list : Values → Result Asked Text
-asks_list values = result_and_then (λ file. result_and_then (λ slot. result_and_then (λ from. Ok (list file slot from))
+asks_list values = result_and_then (λ file. result_and_then (λ slot. result_and_then (λ from. Ok (list file slot from (is_given (first_of (values (codes "recover"))))))
     (hex_path_by (first_of (values (codes "from"))))) (slot_by (first_of (values (codes "meta"))))) (text_by (codes "FILE") values)
 
 abbrev pub asks_compact : Values → Result Asked Text
-asks_compact values = result_and_then (λ file. result_and_then (λ slot. result_and_then (λ target. result_and_then (λ size. Ok (compact file slot target size (layout_by (first_of (values (codes "for-bbolt"))))))
+asks_compact values = result_and_then (λ file. result_and_then (λ slot. result_and_then (λ target. result_and_then (λ size.
+    Ok (compact file slot target size (layout_by (first_of (values (codes "for-bbolt")))) (is_given (first_of (values (codes "recover"))))))
     (page_size_by (first_of (values (codes "page-size"))))) (text_by (codes "output") values)) (slot_by (first_of (values (codes "meta"))))) (text_by (codes "FILE") values)
 
 -- what a command asks for, or which word can't be read and why
@@ -303,6 +316,10 @@ abbrev pub layout_words : Layout → List Text → List Text
 layout_words Plain words = words
 layout_words Balanced words = codes "--for-bbolt" ∷ words
 
+abbrev pub flag_words : Text → Bool → List Text → List Text
+flag_words flag false words = words
+flag_words flag true words = flag ∷ words
+
 abbrev pub target_word : Text → Text
 target_word target = codes "-o=" ++ target
 
@@ -311,13 +328,14 @@ abbrev pub words_for : Text → Asked → List Text
 words_for name (info file) = name ∷ codes "info" ∷ codes "--" ∷ file ∷ []
 words_for name (page file id) = name ∷ codes "page" ∷ codes "--" ∷ file ∷ decimal id ∷ []
 words_for name (pages file) = name ∷ codes "pages" ∷ codes "--" ∷ file ∷ []
-words_for name (check file) = name ∷ codes "check" ∷ codes "--" ∷ file ∷ []
+words_for name (check file slot all) = name ∷ codes "check" ∷ slot_words slot (flag_words (codes "--all") all (codes "--" ∷ file ∷ []))
 words_for name (buckets file slot form) = name ∷ codes "buckets" ∷ slot_words slot (codes "--form" ∷ form_word form ∷ codes "--" ∷ file ∷ [])
 words_for name (keys file slot path form) = name ∷ codes "keys" ∷ slot_words slot (path_words file path form)
 words_for name (get file slot path form) = name ∷ codes "get" ∷ slot_words slot (path_words file path form)
 words_for name (stats file slot) = name ∷ codes "stats" ∷ slot_words slot (codes "--" ∷ file ∷ [])
-words_for name (list file slot from) = name ∷ codes "list" ∷ slot_words slot (from_words from (codes "--" ∷ file ∷ []))
-words_for name (compact file slot target size which) = name ∷ codes "compact" ∷ slot_words slot (size_words size (layout_words which (target_word target ∷ codes "--" ∷ file ∷ [])))
+words_for name (list file slot from recover) = name ∷ codes "list" ∷ slot_words slot (flag_words (codes "--recover") recover (from_words from (codes "--" ∷ file ∷ [])))
+words_for name (compact file slot target size which recover) =
+    name ∷ codes "compact" ∷ slot_words slot (size_words size (layout_words which (flag_words (codes "--recover") recover (target_word target ∷ codes "--" ∷ file ∷ []))))
 
 abbrev pub IsPath : Path → Type 0
 IsPath [] = ⊥
@@ -337,6 +355,6 @@ abbrev pub IsInRange : Asked → Type 0
 IsInRange (page file id) = id < 2 ^ 64
 IsInRange (keys file slot path form) = IsPath path
 IsInRange (get file slot path form) = IsPath path
-IsInRange (list file slot from) = All IsPart from
-IsInRange (compact file slot target size which) = IsSize size
+IsInRange (list file slot from recover) = All IsPart from
+IsInRange (compact file slot target size which recover) = IsSize size
 IsInRange _ = Unit {0}

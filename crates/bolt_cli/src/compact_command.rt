@@ -1,48 +1,104 @@
 //! The command `compact`.
-ghost use Rattle.std.specs.Prelude.{◌≡◌, ◌++◌, decimal};
-ghost use Rattle.bolt_check.specs.CheckedFiles.{meta_of};
+ghost use Rattle.std.specs.Prelude.{◌≡◌, map};
 ghost use Rattle.bolt_format.specs.Metas.{IsPageSize};
 ghost use Rattle.bolt_format.specs.Writes.{Writes};
-ghost use Rattle.bolt_cli.specs.Answers.{Compacts, copy_page_size, lengths_line};
+ghost use Rattle.bolt_recover.specs.ShownLosses.{loss_view};
+ghost use Rattle.bolt_cli.specs.Answers.{Compacts, MakesCopy, Recovers, copy_page_size, lengths_line, lost_status};
 
+use crate::decimals::put_number;
 use crate::failure::Failure;
 use crate::open_read::open_read;
+use crate::open_recovery::open_recovery;
 use crate::page_size::PageSize;
-use bolt_bulk::compact_as;
-use bolt_check::Checked;
-use bolt_format::{Sink, SinkFault, Slot};
+use bolt_bulk::{compact_as, compact_recovered};
+use bolt_format::{Meta, Sink, SinkFault, Slot};
 use bolt_layout::Layout;
-use itoa::Buffer;
+use bolt_recover::Loss;
+use bolt_report::losses_text;
 use std::alloc::Global;
 
-/// Writes the compact copy in this layout to `target`, and then the lengths of the file and of the
-/// copy to `out`.
+/// The copy that is asked for.
+#[derive(Clone, Copy, Debug)]
+pub(crate) struct WantedCopy {
+    /// Its page size. Without one it has that of the file.
+    pub page_size: Option<PageSize>,
+    pub layout: Layout,
+    /// Whether it is of what a damaged file still holds.
+    pub recover: bool,
+}
+
+/// Writes the compact copy that is asked for to `target`, and then what is reported of it to `out`.
 pub(crate) fn write_copy<O: Sink, T: Sink>(
     alloc: Global,
     file: &[u8],
     slot: Option<Slot>,
-    page_size: Option<PageSize>,
-    layout: Layout,
+    wanted: &WantedCopy,
     out: &mut O,
     target: &mut T,
 ) -> Result<u8, Failure>
-    ensures { Compacts O.taken O.failed out.old out.new T.taken T.failed target.old target.new file.now slot page_size layout result }
+    ensures { MakesCopy O.taken O.failed out.old out.new T.taken T.failed target.old target.new file.now slot wanted.now.page_size wanted.now.layout wanted.now.recover result }
+{
+    if wanted.recover {
+        write_recovered(alloc, file, slot, wanted, out, target)
+    } else {
+        write_sound(alloc, file, slot, wanted, out, target)
+    }
+}
+
+/// Writes the copy of a sound file, and then the lengths of the file and of the copy.
+fn write_sound<O: Sink, T: Sink>(
+    alloc: Global,
+    file: &[u8],
+    slot: Option<Slot>,
+    wanted: &WantedCopy,
+    out: &mut O,
+    target: &mut T,
+) -> Result<u8, Failure>
+    ensures { Compacts O.taken O.failed out.old out.new T.taken T.failed target.old target.new file.now slot wanted.now.page_size wanted.now.layout result }
 {
     let checked = open_read(alloc, file, slot)?;
-    let size = size_of_copy(&checked, page_size);
-    let copy = compact_as(alloc, checked, layout, size, target)?;
+    let size = size_of_copy(&checked.meta(), wanted.page_size);
+    let copy = compact_as(alloc, checked, wanted.layout, size, target)?;
     put_lengths(file.len() as u64, copy.bytes, out)?;
     Ok(0)
 }
 
+/// Writes the copy of what a damaged file still holds, then the line of each loss, and the lengths.
+fn write_recovered<O: Sink, T: Sink>(
+    alloc: Global,
+    file: &[u8],
+    slot: Option<Slot>,
+    wanted: &WantedCopy,
+    out: &mut O,
+    target: &mut T,
+) -> Result<u8, Failure>
+    ensures { Recovers O.taken O.failed out.old out.new T.taken T.failed target.old target.new file.now slot wanted.now.page_size wanted.now.layout result }
+{
+    let mut recovery = open_recovery(alloc, file, slot)?;
+    let size = size_of_copy(&recovery.meta(), wanted.page_size);
+    let copy = compact_recovered(alloc, &mut recovery, wanted.layout, size, target)?;
+    let losses = recovery.losses();
+    losses_text(losses, out)?;
+    put_lengths(file.len() as u64, copy.bytes, out)?;
+    Ok(status_of(losses))
+}
+
+/// The status after these losses.
+fn status_of(losses: &[Loss<'_>]) -> u8
+    ensures { result ≡ lost_status (map loss_view losses.now) }
+{
+    if losses.is_empty() { 0 } else { 1 }
+}
+
 /// The page size that is asked for, or that of the file if none is.
-fn size_of_copy(checked: &Checked<'_>, page_size: Option<PageSize>) -> u64
-    ensures size { result ≡ copy_page_size page_size (meta_of checked.now) }
+fn size_of_copy(meta: &Meta, page_size: Option<PageSize>) -> u64
+    requires { IsPageSize meta.now.page_size }
+    ensures size { result ≡ copy_page_size page_size meta.now }
     ensures accepted { IsPageSize result }
 {
     match page_size {
         Some(size) => size.bytes,
-        None => u64::from(checked.meta().page_size),
+        None => u64::from(meta.page_size),
     }
 }
 
@@ -52,19 +108,4 @@ fn put_lengths<O: Sink>(source: u64, copy: u64, out: &mut O) -> Result<(), SinkF
 {
     put_number(source, b" -> ", out)?;
     put_number(copy, b" bytes\n", out)
-}
-
-/// Writes a number and the words after it.
-fn put_number<O: Sink>(number: u64, words: &[u8], out: &mut O) -> Result<(), SinkFault>
-    ensures { Writes O.taken O.failed out.old out.new (decimal number ++ words.now) result }
-{
-    put_digits(number, out)?;
-    out.put(words)
-}
-
-fn put_digits<O: Sink>(number: u64, out: &mut O) -> Result<(), SinkFault>
-    ensures { Writes O.taken O.failed out.old out.new (decimal number) result }
-{
-    let mut digits = Buffer::new();
-    out.put(digits.format(number).as_bytes())
 }

@@ -1,10 +1,11 @@
 //! Why a job isn't done, and the line that says so.
-ghost use Rattle.std.specs.Prelude.{◌≡◌, ◌++◌, codes};
+ghost use Rattle.std.specs.Prelude.{◌≡◌, ◌++◌, codes, decimal};
 ghost use Rattle.bolt_format.specs.Writes.{Writes};
 ghost use Rattle.bolt_report.specs.FaultWords.{finding_text};
 ghost use Rattle.bolt_cli.specs.Failures.{copied, failure_line, failure_text, reported};
 ghost use Rattle.bolt_cli.specs.declared.failure.Failure.TheVariants as failure;
 
+use crate::decimals::put_number;
 use bolt_bulk::BulkFault;
 use bolt_check::{Finding, NoMemory};
 use bolt_format::{MetaFault, PageFault, Sink, SinkFault};
@@ -30,6 +31,8 @@ pub enum Failure {
     TooLarge,
     /// Standard output or the copy couldn't be written.
     Write,
+    /// What is recovered was listed, and this many pages were lost.
+    Lost(u64),
 }
 
 impl<T: Drop> From<AllocFailed<T>> for Failure {
@@ -108,6 +111,7 @@ fn put_text<E: Sink>(failure: &Failure, err: &mut E) -> Result<(), ReportFault>
         Failure::Memory => put_words(b"out of memory\n", err),
         Failure::TooLarge => put_words(b"layout too large\n", err),
         Failure::Write => put_words(b"write failed\n", err),
+        Failure::Lost(count) => put_pages_lost(*count, err),
     }
 }
 
@@ -116,6 +120,14 @@ fn put_file_refused<E: Sink>(finding: &Finding, err: &mut E) -> Result<(), Repor
 {
     put_words(b"file refused: ", err)?;
     finding_text(finding, err)
+}
+
+fn put_pages_lost<E: Sink>(count: u64, err: &mut E) -> Result<(), ReportFault>
+    ensures { Writes E.taken E.failed err.old err.new (codes "pages lost: " ++ (decimal count ++ codes "\n")) result }
+{
+    put_words(b"pages lost: ", err)?;
+    put_number(count, b"\n", err)?;
+    Ok(())
 }
 
 fn put_words<E: Sink>(words: &[u8], err: &mut E) -> Result<(), ReportFault>

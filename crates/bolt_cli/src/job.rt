@@ -22,9 +22,11 @@ pub enum Job {
     Pages {
         file: String,
     },
-    /// Check whether the file is sound.
+    /// Check whether the file is sound; with `all`, find everything that is lost of it.
     Check {
         file: String,
+        slot: Option<Slot>,
+        all: bool,
     },
     /// Print the names of the buckets in the root bucket.
     Buckets {
@@ -51,20 +53,23 @@ pub enum Job {
         path: Vec<Vec<u8>>,
         form: Form,
     },
-    /// Print the listing from a path on. From the empty path that is the whole listing.
+    /// Print the listing from a path on. From the empty path that is the whole listing. With
+    /// `recover` it is that of what is recovered of a damaged file.
     List {
         file: String,
         slot: Option<Slot>,
         from: Vec<Vec<u8>>,
+        recover: bool,
     },
     /// Write a compact copy in a layout to another file. Without a page size it has that of the
-    /// file.
+    /// file. With `recover` it is a copy of what is recovered of a damaged file.
     Compact {
         file: String,
         slot: Option<Slot>,
         target: String,
         page_size: Option<PageSize>,
         layout: Layout,
+        recover: bool,
     },
 }
 
@@ -82,7 +87,11 @@ impl Job {
             Job::Page { file, id: _ } => file.as_str(),
             Job::Pages { file } => file.as_str(),
             Job::Stats { file, slot: _ } => file.as_str(),
-            Job::Check { file } => file.as_str(),
+            Job::Check {
+                file,
+                slot: _,
+                all: _,
+            } => file.as_str(),
             Job::Buckets {
                 file,
                 slot: _,
@@ -104,6 +113,7 @@ impl Job {
                 file,
                 slot: _,
                 from: _,
+                recover: _,
             } => file.as_str(),
             Job::Compact {
                 file,
@@ -111,6 +121,7 @@ impl Job {
                 target: _,
                 page_size: _,
                 layout: _,
+                recover: _,
             } => file.as_str(),
         }
     }
@@ -137,6 +148,7 @@ impl Job {
                 target,
                 page_size: _,
                 layout: _,
+                recover: _,
             } => Some(target.as_str()),
             _ => None,
         }

@@ -4,7 +4,7 @@ ghost use Rattle.bolt_cli.specs.Answers.{DoesJob, Ending, Takes, status_of, told
 
 use crate::buckets_command::print_buckets;
 use crate::check_command::print_check;
-use crate::compact_command::write_copy;
+use crate::compact_command::{WantedCopy, write_copy};
 use crate::failure::{Failure, put_failure};
 use crate::get_command::print_value;
 use crate::info_command::print_info;
@@ -63,7 +63,7 @@ fn do_job<O: Sink, T: Sink>(
         Job::Page { file: _, id } => print_page(file, *id, out),
         Job::Pages { file: _ } => print_pages(alloc, file, out),
         Job::Stats { file: _, slot } => print_stats(alloc, file, *slot, out),
-        Job::Check { file: _ } => print_check(alloc, file, out),
+        Job::Check { file: _, slot, all } => print_check(alloc, file, *slot, *all, out),
         Job::Buckets {
             file: _,
             slot,
@@ -85,13 +85,22 @@ fn do_job<O: Sink, T: Sink>(
             file: _,
             slot,
             from,
-        } => print_list(alloc, file, *slot, from.as_slice(), out),
+            recover,
+        } => print_list(alloc, file, *slot, from.as_slice(), *recover, out),
         Job::Compact {
             file: _,
             slot,
             target: _,
             page_size,
             layout,
-        } => write_copy(alloc, file, *slot, *page_size, *layout, out, target),
+            recover,
+        } => {
+            let wanted = WantedCopy {
+                page_size: *page_size,
+                layout: *layout,
+                recover: *recover,
+            };
+            write_copy(alloc, file, *slot, &wanted, out, target)
+        }
     }
 }

@@ -121,6 +121,22 @@ const FOR_BBOLT: Choice = Choice {
     required: false,
 };
 
+const ALL: Choice = Choice {
+    name: "all",
+    flag: Flag::Long("all"),
+    value: None,
+    help: "Go on after the first error of the trees, and say what is lost with each",
+    required: false,
+};
+
+const RECOVER: Choice = Choice {
+    name: "recover",
+    flag: Flag::Long("recover"),
+    value: None,
+    help: "Read everything that a damaged file still holds, and say what is lost",
+    required: false,
+};
+
 const COPY_NOTE: &str = "Use --for-bbolt if bbolt or etcd will write to the copy. bbolt assumes \
     that each branch page has at least two children, and can panic when it deletes below one that \
     has a single child. A plain copy may have such pages.";
@@ -155,7 +171,7 @@ pub(crate) static SYNTAXES: [Syntax; 10] = [
         name: "check",
         about: "Check whether the file is sound; if it isn't, print what is wrong",
         operands: &[FILE],
-        options: &[],
+        options: &[ALL, META],
         note: None,
     },
     Syntax {
@@ -190,14 +206,14 @@ pub(crate) static SYNTAXES: [Syntax; 10] = [
         name: "list",
         about: "Print everything in the file, one line for each path, in hex",
         operands: &[FILE],
-        options: &[FROM, META],
+        options: &[FROM, RECOVER, META],
         note: None,
     },
     Syntax {
         name: "compact",
         about: "Write a compact copy: everything in the file, and no free pages",
         operands: &[FILE],
-        options: &[OUTPUT, PAGE_SIZE, FOR_BBOLT, META],
+        options: &[OUTPUT, PAGE_SIZE, FOR_BBOLT, RECOVER, META],
         note: Some(COPY_NOTE),
     },
 ];

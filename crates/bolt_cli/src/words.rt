@@ -147,7 +147,9 @@ fn read_check(alloc: Global, matches: &ArgMatches<'_>) -> Result<Job, Refusal>
     ensures { Gives asked_of (asks_check (values_in (rows_of (found_of matches.now)))) result }
 {
     let file = read_text(alloc, matches, "FILE")?;
-    Ok(Job::Check { file })
+    let slot = read_slot(choice(matches, "meta"))?;
+    let all = choice(matches, "all").is_some();
+    Ok(Job::Check { file, slot, all })
 }
 
 fn read_buckets(alloc: Global, matches: &ArgMatches<'_>) -> Result<Job, Refusal>
@@ -195,7 +197,13 @@ fn read_list(alloc: Global, matches: &ArgMatches<'_>) -> Result<Job, Refusal>
     let file = read_text(alloc, matches, "FILE")?;
     let slot = read_slot(choice(matches, "meta"))?;
     let from = read_from(alloc, choice(matches, "from"))?;
-    Ok(Job::List { file, slot, from })
+    let recover = choice(matches, "recover").is_some();
+    Ok(Job::List {
+        file,
+        slot,
+        from,
+        recover,
+    })
 }
 
 fn read_stats(alloc: Global, matches: &ArgMatches<'_>) -> Result<Job, Refusal>
@@ -214,12 +222,14 @@ fn read_compact(alloc: Global, matches: &ArgMatches<'_>) -> Result<Job, Refusal>
     let target = read_text(alloc, matches, "output")?;
     let page_size = read_page_size(choice(matches, "page-size"))?;
     let layout = read_layout(choice(matches, "for-bbolt"));
+    let recover = choice(matches, "recover").is_some();
     Ok(Job::Compact {
         file,
         slot,
         target,
         page_size,
         layout,
+        recover,
     })
 }
 

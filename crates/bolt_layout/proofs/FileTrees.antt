@@ -1,8 +1,11 @@
--- The tree of a file can be stored.
-use Rattle.std.proofs.Common.{◌≡◌, ◌∙◌, ℕ, ◌^◌, ◌<◌, ◌==◌, Bool, true, false, List, [], ◌∷◌, length, map, drop, refl, sym, ap, subst, inl, inr, arith}
+-- What a file holds can be stored: the tree of a listing that rises, and whose members are held under their paths.
+use Rattle.std.proofs.Common.{◌≡◌, ◌∙◌, ℕ, ◌^◌, ◌<◌, ◌==◌, Bool, true, false, IsTrue, List, [], ◌∷◌, ◌++◌, length, drop, refl, sym, ap, subst, inl, inr, arith}
 use Rattle.std.specs.List.{Contains}
-use Rattle.std.specs.declared.cmp.Ordering.TheVariants.{Less}
+use Rattle.std.specs.Ordering.{ordering_then}
+use Rattle.std.specs.declared.cmp.Ordering.{Ordering}
+use Rattle.std.specs.declared.cmp.Ordering.TheVariants.{Less, Equal, Greater}
 use Rattle.std.proofs.lemmas.Bool.{cases_Bool, eqb-true}
+use Rattle.std.proofs.lemmas.List.Elements.{Contains-append_left, Contains-append_right}
 use Rattle.byteorder.specs.Numbers.{little_from-lt}
 use Rattle.bolt_format.specs.Bytes.{IsBytes, number_at}
 use Rattle.bolt_format.specs.ElementLengths.{HasFitLengths, IsKeyLength, IsValueLength}
@@ -11,56 +14,98 @@ use Rattle.bolt_format.specs.declared.meta.Meta.{Meta}
 use Rattle.bolt_format.proofs.ElementFacts.{drop_bytes, entry_fits, inline_fits, value_bytes}
 use Rattle.bolt_format.proofs.PageFacts.{bucket_value, flat_inline}
 use Rattle.bolt_check.specs.Keys.{Key, key_cmp}
-use Rattle.bolt_tree.specs.Entries.{Inline_page, IsEntry, Root_page, Start, entry_cmp, start_of}
-use Rattle.bolt_tree.specs.Order.{IsBelow, Rises}
-use Rattle.bolt_tree.specs.Tree.{IsTreeOf, Shows, Tree, end, listing_of, tree_of, with_bucket, with_value}
-use Rattle.bolt_tree.specs.Listing.{IsListing, Member}
 use Rattle.bolt_check.specs.Sound.{HasSoundTrees}
-use Rattle.bolt_layout.specs.Copies.{IsOfOneTree}
+use Rattle.bolt_tree.specs.Entries.{Bucket, Inline_page, IsEntry, Item, Root_page, Start, Value, item_of, start_of}
+use Rattle.bolt_tree.specs.Listing.{IsListing, Member, member_cmp}
+use Rattle.bolt_tree.specs.Order.{IsBelow, Rises}
+use Rattle.bolt_tree.specs.Paths.{Holds, Path, path_cmp}
+use Rattle.bolt_tree.specs.Tree.{IsTreeOf, Tree, end, listing_below, listing_of, tree_of, with_bucket, with_value}
 use Rattle.bolt_tree.proofs.Lists.{contains_cases, contains_head, contains_none, contains_tail}
-use Rattle.bolt_layout.specs.Storable.{HasLengths, IsStorable, RisesInside, keys_in}
+use Rattle.bolt_tree.proofs.PathOrder.{same_front}
+use Rattle.bolt_layout.specs.Copies.{IsOfOneTree}
+use Rattle.bolt_layout.specs.Storable.{HasLengths, IsHeldListing, IsStorable, RisesInside, keys_in}
+use Rattle.bolt_layout.proofs.SoundCopies.{TreeLists}
 
 -- the sequence of a bucket's value has 64 bits
 sequence_fits : (value : List ℕ) → IsBytes value → head_sequence value < 2 ^ 64
 unfolding number_at
 sequence_fits value bytes = let h = little_from-lt 0 8 (drop 8 value) (drop_bytes value 8 bytes) in omega (arith, h)
 
--- Keys that rise.
-abbrev key_of : LeafElement → Key
-key_of e = e.key
+-- Keys rise where paths do.
+rises_left : {A : Type 0} (cmp : A → A → Ordering) (xs ys : List A) → Rises cmp (xs ++ ys) → Rises cmp xs
+rises_left cmp [] ys r = tt
+rises_left cmp (x ∷ xs) ys r = (λ y h. r.0 y (Contains-append_left xs ys y h), rises_left cmp xs ys r.1)
 
-keys_below : (e : LeafElement) (entries : List LeafElement) → IsBelow entry_cmp e entries → IsBelow key_cmp e.key (map key_of entries)
-keys_below e [] below k has = absurd (contains_none k has)
-keys_below e (x ∷ entries) below k has = elim (contains_cases x.key k (map key_of entries) has) [
-  | inl same ↦ subst (λ (j : Key). key_cmp e.key j ≡ Less) same (below x (contains_head x entries))
-  | inr more ↦ keys_below e entries (λ y h. below y (contains_tail x y entries h)) k more
+rises_right : {A : Type 0} (cmp : A → A → Ordering) (xs ys : List A) → Rises cmp (xs ++ ys) → Rises cmp ys
+rises_right cmp [] ys r = r
+rises_right cmp (x ∷ xs) ys r = rises_right cmp xs ys r.1
+
+only_less : (o : Ordering) → ordering_then o Equal ≡ Less → o ≡ Less
+only_less Less e = refl
+only_less Equal e = absurd (let f : Equal ≡ Less = e in cc)
+only_less Greater e = absurd (let f : Greater ≡ Less = e in cc)
+
+last_less : (front : Path) (j k : Key) → path_cmp (front ++ j ∷ []) (front ++ k ∷ []) ≡ Less → key_cmp j k ≡ Less
+last_less front j k less = only_less (key_cmp j k) (sym (same_front front (j ∷ []) (k ∷ [])) ∙ less)
+
+-- each key of the outermost bucket is the last part of a path
+key_listed : (tree : Tree) (front : Path) (k : Key) → Contains (keys_in tree) k → (item : Item) × Contains (listing_below front tree) (front ++ k ∷ [], item)
+key_listed end front k has = absurd (contains_none k has)
+key_listed (with_value key value after) front k has = elim (contains_cases key k (keys_in after) has) [
+  | inl same ↦ (
+    Value value,
+    subst (λ (j : Key). Contains (listing_below front (with_value key value after)) (front ++ j ∷ [], Value value)) same (contains_head (front ++ key ∷ [], Value value) (listing_below front after)),
+  )
+  | inr more ↦ let (item, there) = key_listed after front k more in (item, contains_tail (front ++ key ∷ [], Value value) (front ++ k ∷ [], item) (listing_below front after) there)
 ]
+key_listed (with_bucket key sequence inside after) front k has =
+    let deep : List Member = listing_below (front ++ key ∷ []) inside in
+    let behind : List Member = listing_below front after in
+    elim (contains_cases key k (keys_in after) has) [
+      | inl same ↦ (
+        Bucket sequence,
+        subst (λ (j : Key). Contains ((front ++ key ∷ [], Bucket sequence) ∷ (deep ++ behind)) (front ++ j ∷ [], Bucket sequence)) same (contains_head (front ++ key ∷ [], Bucket sequence) (deep ++ behind)),
+      )
+      | inr more ↦ let (item, there) = key_listed after front k more in
+          (item, contains_tail (front ++ key ∷ [], Bucket sequence) (front ++ k ∷ [], item) (deep ++ behind) (Contains-append_right deep behind (front ++ k ∷ [], item) there))
+    ]
 
-rises_keys : (entries : List LeafElement) → Rises entry_cmp entries → Rises key_cmp (map key_of entries)
-rises_keys [] rises = tt
-rises_keys (e ∷ entries) rises = (keys_below e entries rises.0, rises_keys entries rises.1)
+below_keys : (front : Path) (key : Key) (item : Item) (after : Tree) → IsBelow member_cmp (front ++ key ∷ [], item) (listing_below front after) → IsBelow key_cmp key (keys_in after)
+below_keys front key item after below k has = let (other, there) = key_listed after front k has in last_less front key k (below (front ++ k ∷ [], other) there)
 
-module _ (Entry : Start → LeafElement → Type 0) where
-  shown_keys : (tree : Tree) (entries : List LeafElement) → Shows Entry tree entries → keys_in tree ≡ map key_of entries
-  shown_keys end [] shows = refl
-  shown_keys end (e ∷ entries) shows = absurd shows
-  shown_keys (with_value key value after) [] shows = absurd shows
-  shown_keys (with_value key value after) (e ∷ entries) (b, k, v, more) =
-      ap (λ (j : Key). j ∷ keys_in after) (sym k) ∙ ap (λ (ks : List Key). e.key ∷ ks) (shown_keys after entries more)
-  shown_keys (with_bucket key sequence inside after) [] shows = absurd shows
-  shown_keys (with_bucket key sequence inside after) (e ∷ entries) (b, k, q, own, more) =
-      ap (λ (j : Key). j ∷ keys_in after) (sym k) ∙ ap (λ (ks : List Key). e.key ∷ ks) (shown_keys after entries more)
+keys_rise : (tree : Tree) (front : Path) → Rises member_cmp (listing_below front tree) → Rises key_cmp (keys_in tree)
+keys_rise end front r = tt
+keys_rise (with_value key value after) front r = (below_keys front key (Value value) after r.0, keys_rise after front r.1)
+keys_rise (with_bucket key sequence inside after) front r =
+    let deep : List Member = listing_below (front ++ key ∷ []) inside in
+    let behind : List Member = listing_below front after in (
+      below_keys front key (Bucket sequence) after (λ m h. r.0 m (Contains-append_right deep behind m h)),
+      keys_rise after front (rises_right member_cmp deep behind r.1),
+    )
 
-  tree_rises : (tree : Tree) (entries : List LeafElement) → Shows Entry tree entries → Rises entry_cmp entries → Rises key_cmp (keys_in tree)
-  tree_rises tree entries shows rises = subst (Rises key_cmp) (sym (shown_keys tree entries shows)) (rises_keys entries rises)
+inside_rises : (tree : Tree) (front : Path) → Rises member_cmp (listing_below front tree) → RisesInside tree
+inside_rises end front r = tt
+inside_rises (with_value key value after) front r = inside_rises after front r.1
+inside_rises (with_bucket key sequence inside after) front r =
+    let deep : List Member = listing_below (front ++ key ∷ []) inside in
+    let behind : List Member = listing_below front after in
+    let within = rises_left member_cmp deep behind r.1 in
+    (keys_rise inside (front ++ key ∷ []) within, inside_rises inside (front ++ key ∷ []) within, inside_rises after front (rises_right member_cmp deep behind r.1))
 
-  rises_inside : (tree : Tree) (entries : List LeafElement) → Shows Entry tree entries → RisesInside tree
-  rises_inside end entries shows = tt
-  rises_inside (with_value key value after) [] shows = absurd shows
-  rises_inside (with_value key value after) (e ∷ entries) (b, k, v, more) = rises_inside after entries more
-  rises_inside (with_bucket key sequence inside after) [] shows = absurd shows
-  rises_inside (with_bucket key sequence inside after) (e ∷ entries) (b, k, q, (own, are, shows), more) =
-      (tree_rises inside own shows are.rises, rises_inside inside own shows, rises_inside after entries more)
+-- What an item says of its element.
+value_is : (e : LeafElement) (value : List ℕ) → item_of e ≡ Value value → e.value ≡ value
+value_is e value is = by e.is_bucket refl
+  where
+    by : (b : Bool) → e.is_bucket ≡ b → e.value ≡ value
+    by true h = absurd (let bad : Bucket (head_sequence e.value) ≡ Value value = (rw h at is) in cc)
+    by false h = let same : Value e.value ≡ Value value = (rw h at is) in cc
+
+sequence_is : (e : LeafElement) (sequence : ℕ) → item_of e ≡ Bucket sequence → (e.is_bucket ≡ true) × (head_sequence e.value ≡ sequence)
+sequence_is e sequence is = by e.is_bucket refl
+  where
+    by : (b : Bool) → e.is_bucket ≡ b → (e.is_bucket ≡ true) × (head_sequence e.value ≡ sequence)
+    by true h = let same : Bucket (head_sequence e.value) ≡ Bucket sequence = (rw h at is) in (h, cc)
+    by false h = absurd (let bad : Value e.value ≡ Bucket sequence = (rw h at is) in cc)
 
 -- A bucket begins at a root page, or in a good value.
 abbrev IsGoodStart : Start → Type 0
@@ -94,47 +139,74 @@ module _ (file : List ℕ) (meta : Meta) (bytes : IsBytes file) where
       let flat = flat_inline value e good root within in
       record { lengths = inline_fits value e good root within; value = λ b. absurd (not_both e.is_bucket flat b); sequence = λ b. absurd (not_both e.is_bucket flat b) }
 
-  tree_lengths : (tree : Tree) (bucket : Start) (entries : List LeafElement) → IsGoodStart bucket → ((e : LeafElement) → Contains entries e → IsEntry file meta bucket e)
-      → Shows (IsEntry file meta) tree entries → HasLengths tree
-  tree_lengths end bucket entries good are shows = tt
-  tree_lengths (with_value key value after) bucket [] good are shows = absurd shows
-  tree_lengths (with_value key value after) bucket (e ∷ entries) good are (b, k, v, more) =
-      let fits = (good_entry bucket e good (are e (contains_head e entries))).lengths in (
-        subst (λ (j : Key). IsKeyLength (length j)) k fits.key,
-        subst (λ (j : List ℕ). IsValueLength (length j)) v fits.value,
-        tree_lengths after bucket entries good (λ x h. are x (contains_tail e x entries h)) more,
+  -- what is held below a first key is held by the bucket of that key
+  held_inside : (front : Path) (f key : Key) (item : Item) (from : Start) → Holds (IsEntry file meta) from (f ∷ (front ++ key ∷ [])) item
+      → (e : LeafElement) × IsEntry file meta from e × IsTrue e.is_bucket × Holds (IsEntry file meta) (start_of e.value) (front ++ key ∷ []) item
+  held_inside [] f key item from (e, is, same, b, more) = (e, is, b, more)
+  held_inside (g ∷ front) f key item from (e, is, same, b, more) = (e, is, b, more)
+
+  -- a member that is held is of a good entry
+  last_good : (front : Path) (key : Key) (item : Item) (from : Start) → IsGoodStart from → Holds (IsEntry file meta) from (front ++ key ∷ []) item
+      → (e : LeafElement) × IsGoodEntry e × (e.key ≡ key) × (item_of e ≡ item)
+  last_good [] key item from good (e, is, same, of) = (e, good_entry from e good is, same, of)
+  last_good (f ∷ front) key item from good held =
+      let (e, is, b, more) = held_inside front f key item from held in last_good front key item (start_of e.value) (start_good e.value ((good_entry from e good is).value b)) more
+
+  abbrev AreHeld : ℕ → List Member → Type 0
+  AreHeld root members = (path : Path) (item : Item) → Contains members (path, item) → Holds (IsEntry file meta) (Root_page root) path item
+
+  lengths_fit : (root : ℕ) (tree : Tree) (front : Path) → AreHeld root (listing_below front tree) → HasLengths tree
+  lengths_fit root end front held = tt
+  lengths_fit root (with_value key value after) front held =
+      let behind : List Member = listing_below front after in
+      let first : Member = (front ++ key ∷ [], Value value) in
+      let (e, good, k, item) = last_good front key (Value value) (Root_page root) tt (held (front ++ key ∷ []) (Value value) (contains_head first behind)) in (
+        subst (λ (j : Key). IsKeyLength (length j)) k good.lengths.key,
+        subst (λ (j : List ℕ). IsValueLength (length j)) (value_is e value item) good.lengths.value,
+        lengths_fit root after front (λ path i h. held path i (contains_tail first (path, i) behind h)),
       )
-  tree_lengths (with_bucket key sequence inside after) bucket [] good are shows = absurd shows
-  tree_lengths (with_bucket key sequence inside after) bucket (e ∷ entries) good are (b, k, q, (own, own_are, own_shows), more) =
-      let entry = good_entry bucket e good (are e (contains_head e entries)) in (
-        subst (λ (j : Key). IsKeyLength (length j)) k entry.lengths.key,
-        subst (λ (s : ℕ). s < 2 ^ 64) q (sequence_fits e.value (entry.sequence b)),
-        tree_lengths inside (start_of e.value) own (start_good e.value (entry.value b)) (λ x h. (own_are.exact x).0 h) own_shows,
-        tree_lengths after bucket entries good (λ x h. are x (contains_tail e x entries h)) more,
+  lengths_fit root (with_bucket key sequence inside after) front held =
+      let deep : List Member = listing_below (front ++ key ∷ []) inside in
+      let behind : List Member = listing_below front after in
+      let first : Member = (front ++ key ∷ [], Bucket sequence) in
+      let (e, good, k, item) = last_good front key (Bucket sequence) (Root_page root) tt (held (front ++ key ∷ []) (Bucket sequence) (contains_head first (deep ++ behind))) in
+      let (b, q) = sequence_is e sequence item in (
+        subst (λ (j : Key). IsKeyLength (length j)) k good.lengths.key,
+        subst (λ (s : ℕ). s < 2 ^ 64) q (sequence_fits e.value (good.sequence b)),
+        lengths_fit root inside (front ++ key ∷ []) (λ path i h. held path i (contains_tail first (path, i) (deep ++ behind) (Contains-append_left deep behind (path, i) h))),
+        lengths_fit root after front (λ path i h. held path i (contains_tail first (path, i) (deep ++ behind) (Contains-append_right deep behind (path, i) h))),
       )
 
-  pub tree_storable : (root : ℕ) (tree : Tree) → IsTreeOf (IsEntry file meta) (Root_page root) tree → IsStorable tree
-  tree_storable root tree (entries, are, shows) = record {
-    lengths = tree_lengths tree (Root_page root) entries tt (λ e h. (are.exact e).0 h) shows;
-    rising = tree_rises (IsEntry file meta) tree entries shows are.rises;
-    rising_inside = rises_inside (IsEntry file meta) tree entries shows;
+  held_storable : (root : ℕ) (tree : Tree) → Rises member_cmp (listing_of tree) → AreHeld root (listing_of tree) → IsStorable tree
+  held_storable root tree rises held = record {
+    lengths = lengths_fit root tree [] held;
+    rising = keys_rise tree [] rises;
+    rising_inside = inside_rises tree [] rises;
   }
 
--- what a listing is of, and that a tree is read off it
+pub tree_storable : TreeLists → (file : List ℕ) (meta : Meta) (tree : Tree) → IsBytes file → IsTreeOf (IsEntry file meta) (Root_page meta.root) tree → IsStorable tree
+tree_storable lists file meta tree bytes is =
+    let listed = lists file meta (Root_page meta.root) tree is in held_storable file meta bytes meta.root tree listed.rises (λ path item h. (listed.exact path item).0 h)
+
+-- that a tree is read off its listing, and what a listing is of
+abbrev pub TreeIsOfItsListing : Type 0
+TreeIsOfItsListing = (tree : Tree) → tree_of (listing_of tree) ≡ tree
+
+pub one_tree : TreeIsOfItsListing → (file : List ℕ) (meta : Meta) (listing : List Member) → IsBytes file → IsHeldListing file meta listing → IsOfOneTree listing
+one_tree back file meta listing bytes is =
+    let read : tree_of listing ≡ is.tree = ap tree_of is.lists ∙ back is.tree in
+    let storable = held_storable file meta bytes meta.root is.tree (subst (Rises member_cmp) is.lists is.rises) (λ path item h. is.held path item (subst (λ (ms : List Member). Contains ms (path, item)) (sym is.lists) h)) in
+    record {
+      storable = subst IsStorable (sym read) storable;
+      lists = ap listing_of read ∙ sym is.lists;
+      one = λ other e. sym (back other) ∙ ap tree_of e;
+    }
+
 abbrev pub ListingIsOfATree : Type 0
 ListingIsOfATree = (file : List ℕ) (meta : Meta) (listing : List Member) → HasSoundTrees file meta → IsListing file meta listing
     → (tree : Tree) × IsTreeOf (IsEntry file meta) (Root_page meta.root) tree × (listing ≡ listing_of tree)
 
-abbrev pub TreeIsOfItsListing : Type 0
-TreeIsOfItsListing = (tree : Tree) → tree_of (listing_of tree) ≡ tree
-
-pub one_tree : ListingIsOfATree → TreeIsOfItsListing → (file : List ℕ) (meta : Meta) (listing : List Member) → IsBytes file → HasSoundTrees file meta → IsListing file meta listing
-    → IsOfOneTree listing
-one_tree of_a_tree back file meta listing bytes sound lists =
-    let (tree, is, same) = of_a_tree file meta listing sound lists in
-    let read : tree_of listing ≡ tree = ap tree_of same ∙ back tree in
-    record {
-      storable = subst IsStorable (sym read) (tree_storable file meta bytes meta.root tree is);
-      lists = ap listing_of read ∙ sym same;
-      one = λ other e. sym (back other) ∙ ap tree_of e;
-    }
+-- the listing of sound trees is held
+pub sound_held : ListingIsOfATree → (file : List ℕ) (meta : Meta) (listing : List Member) → HasSoundTrees file meta → IsListing file meta listing → IsHeldListing file meta listing
+sound_held of_a_tree file meta listing sound lists =
+    let (tree, is, same) = of_a_tree file meta listing sound lists in record { tree = tree; lists = same; rises = lists.rises; held = λ path item h. (lists.exact path item).0 h }

@@ -1,9 +1,13 @@
 -- Trees that a file can hold: docs/LAYOUT.md, "Trees that can be stored".
-use Rattle.std.specs.Prelude.{◌<◌, ◌^◌, List, [], ◌∷◌, length}
+use Rattle.std.specs.Prelude.{◌≡◌, ◌<◌, ◌^◌, ℕ, List, [], ◌∷◌, Contains, length}
 use Rattle.bolt_format.specs.ElementLengths.{IsKeyLength, IsValueLength}
+use Rattle.bolt_format.specs.declared.meta.Meta.{Meta}
 use Rattle.bolt_check.specs.Keys.{Key, key_cmp}
+use Rattle.bolt_tree.specs.Entries.{IsEntry, Item, Root_page}
+use Rattle.bolt_tree.specs.Listing.{Member, member_cmp}
 use Rattle.bolt_tree.specs.Order.{Rises}
-use Rattle.bolt_tree.specs.Tree.{Tree, end, with_value, with_bucket}
+use Rattle.bolt_tree.specs.Paths.{Holds, Path}
+use Rattle.bolt_tree.specs.Tree.{Tree, end, listing_of, with_value, with_bucket}
 
 -- the keys of the outermost bucket
 abbrev pub keys_in : Tree → List Key
@@ -27,3 +31,10 @@ pub record IsStorable (tree : Tree) : Type 0 where
   pub lengths : HasLengths tree
   pub rising : Rises key_cmp (keys_in tree)
   pub rising_inside : RisesInside tree
+
+-- What a file holds, all of it or a part: what a tree lists, each member once, in the order of paths, and under the path that holds it.
+pub record IsHeldListing (file : List ℕ) (meta : Meta) (listing : List Member) : Type 0 where
+  pub tree : Tree
+  pub lists : listing ≡ listing_of tree
+  pub rises : Rises member_cmp listing
+  pub held : (path : Path) (item : Item) → Contains listing (path, item) → Holds (IsEntry file meta) (Root_page meta.root) path item

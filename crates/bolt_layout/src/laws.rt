@@ -15,7 +15,7 @@ ghost use Rattle.bolt_layout.specs.Laid.{Laid};
 ghost use Rattle.bolt_layout.specs.Held.{most_held};
 ghost use Rattle.bolt_layout.specs.Layout.{HasTwoIfBranch, layout_held, layout_mark, layout_of, layout_pages, layout_root};
 ghost use Rattle.bolt_layout.specs.Levels.{IsOverflow, TopIsAbove, overflow_of};
-ghost use Rattle.bolt_layout.specs.Storable.{IsStorable};
+ghost use Rattle.bolt_layout.specs.Storable.{IsHeldListing, IsStorable};
 ghost use Rattle.bolt_layout.specs.declared.layout.Layout.{Layout};
 ghost use Rattle.bolt_layout.specs.declared.layout.Layout.TheVariants.{Balanced};
 
@@ -90,27 +90,35 @@ pub fn overflow_is_least()
 pub fn a_files_tree_can_be_stored()
     ensures { (file : List ℕ) (meta : Meta) (tree : Tree) → IsBytes file
         → IsTreeOf (IsEntry file meta) (Root_page meta.root) tree → IsStorable tree }
-{}
+{
+    a_tree_lists_its_bucket();
+}
 
-/// The listing of a file with sound trees is that of exactly one tree, and that tree can be stored.
-/// So the listing has one layout at each page size.
+/// A listing of what a file holds, or of a part of it, is that of one tree, which can be stored. So
+/// it has one layout at each page size.
+pub fn a_held_listing_is_of_one_tree()
+    ensures { (file : List ℕ) (meta : Meta) (listing : List Member) → IsBytes file
+        → IsHeldListing file meta listing → IsOfOneTree listing }
+{
+    a_tree_is_of_its_listing();
+}
+
+/// The listing of a file with sound trees is such a listing.
 pub fn a_files_listing_is_of_one_tree()
     ensures { (file : List ℕ) (meta : Meta) (listing : List Member) → IsBytes file → HasSoundTrees file meta
         → IsListing file meta listing → IsOfOneTree listing }
 {
     listing_is_of_a_tree();
-    a_tree_is_of_its_listing();
+    a_held_listing_is_of_one_tree();
 }
 
-/// The layout of a listing is a sound file that has the same listing, if it has fewer than 2^63
+/// The layout of such a listing is a sound file, and has the same listing, if it has fewer than 2^63
 /// bytes.
 pub fn a_copy_lists_the_same()
-    ensures { (which : Layout) (file : List ℕ) (meta : Meta) (listing : List Member) (page_size : ℕ)
-        → IsBytes file → HasSoundTrees file meta → IsListing file meta listing
-        → IsPageSize page_size → meta.root_sequence < 2 ^ 64
-        → length (layout_of_listing which page_size listing meta.root_sequence) < 2 ^ 63
-        → IsSoundCopy which page_size (tree_of listing) meta.root_sequence listing }
+    ensures { (which : Layout) (listing : List Member) (page_size : ℕ) (sequence : ℕ) → IsOfOneTree listing
+        → IsPageSize page_size → sequence < 2 ^ 64
+        → length (layout_of_listing which page_size listing sequence) < 2 ^ 63
+        → IsSoundCopy which page_size (tree_of listing) sequence listing }
 {
     layout_is_sound();
-    a_files_listing_is_of_one_tree();
 }

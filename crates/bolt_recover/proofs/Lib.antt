@@ -1,4 +1,5 @@
 mod ElementLists
+pub mod Existing
 mod FirstLoss
 mod HeldMembers
 mod Leading

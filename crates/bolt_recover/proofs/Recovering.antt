@@ -15,13 +15,9 @@ use Rattle.bolt_format.specs.declared.element.Leaf.{Leaf}
 use Rattle.bolt_format.specs.declared.meta.Meta.{Meta}
 use Rattle.bolt_check.specs.Keys.{Key}
 use Rattle.bolt_check.specs.Nodes.{node_at}
-use Rattle.bolt_check.specs.Findings.{IsClaimedBefore, IsMetaPage, Tests}
-use Rattle.bolt_check.specs.Sound.{IsFirstFinding, IsRefused, IsSlotRefused}
-use Rattle.bolt_check.specs.Ways.{At_page, reached, start_of}
+use Rattle.bolt_check.specs.Ways.{reached}
 use Rattle.bolt_check.specs.declared.fault.CheckFault.{CheckFault}
 use Rattle.bolt_check.specs.declared.fault.CheckFault.TheVariants.{Accounts, Memory, Open, Structure}
-use Rattle.bolt_check.specs.declared.finding.Finding.{Finding}
-use Rattle.bolt_check.proofs.Judging.{tests_same}
 use Rattle.bolt_format.specs.Metas.{IsChosen, IsInSlot}
 use Rattle.bolt_format.specs.declared.meta.Slot.{Slot}
 use Rattle.bolt_tree.specs.Entries.{item_of}
@@ -38,6 +34,7 @@ use Rattle.bolt_recover.specs.Private.Frames.{Advances, AreOpen, ComesTo, Ends, 
 use Rattle.bolt_recover.specs.Private.Runs.{Runs, RunsAll, Task, Visited, losses_in}
 use Rattle.bolt_recover.specs.Recovered.{IsRecovered}
 use Rattle.bolt_recover.specs.Recoveries.{AreFirst}
+use Rattle.bolt_recover.specs.Refusals.{IsSlotUnrecoverable, IsUnrecoverable}
 use Rattle.bolt_recover.specs.declared.open_page.Content.{Content}
 use Rattle.bolt_recover.specs.declared.open_page.Content.TheVariants.{Bucket, Page}
 use Rattle.bolt_recover.specs.declared.open_page.OpenPage.{OpenPage}
@@ -268,6 +265,12 @@ module _ (old new : State) (meta : Meta) (on : IsOn old meta) where
   on_advanced (Ok None) given same = on_ended given
   on_advanced (Err e) given same = on_same same
 
+-- the file is the same
+pub file_advanced : {E : Type 0} (old new : State) (result : Result (Option Leaf) E) → IfOk result (Advances old new) → OnErr result (GoesOn old new) → new.file ≡ old.file
+file_advanced old new (Ok (Some leaf)) given same = given.on.file
+file_advanced old new (Ok None) given same = given.on.file
+file_advanced old new (Err e) given same = same.on.file
+
 -- what was told so far are the first of all losses
 pub told_first : (s : State) (meta : Meta) → IsOn s meta → (losses : List LossView) → AreLosses s.file meta losses → AreFirst s.losses losses
 told_first s meta on losses told =
@@ -276,32 +279,22 @@ told_first s meta on losses told =
     let short : length s.losses ≤ length s.losses = omega arith in
     sym (ap (take (length s.losses)) comes.all ∙ take-append-le (length s.losses) s.losses (losses_in comes.visits) short ∙ take_all (length s.losses) s.losses short)
 
--- a root page that is lost has the first finding
-pub first_at_root : (file : List ℕ) (meta : Meta) (x : Finding) → Tests (node_at file meta) IsMetaPage (At_page (start_of meta.root)) x → IsFirstFinding file meta x
-first_at_root file meta x tests =
-    let nodes = node_at file meta in
-    let reach = reached nodes meta.root in
-    record {
-      way = [];
-      spot = At_page (start_of meta.root);
-      leads = refl;
-      told = tests_same nodes IsMetaPage (IsClaimedBefore nodes reach IsMetaPage []) (At_page (start_of meta.root)) x
-          (λ n is. inl is) (λ n is. elim is [ inl is ↦ is | inr (v, (before, span)) ↦ absurd before ]) tests;
-      none_before = λ v s y before leads test. absurd before;
-    }
-
 pub if_err : {X E : Type 0} {P Q : E → Type 0} (result : Result X E) → ((e : E) → P e → Q e) → IfErr result P → IfErr result Q
 if_err (Ok x) to h = h
 if_err (Err e) to h = to e h
 
-pub refused_chosen : (file : List ℕ) (slot : Slot) (meta : Meta) → IsChosen file slot meta → (fault : CheckFault) → IsRefusedRoot file meta fault → IsRefused file fault
-refused_chosen file slot meta chosen (Structure x) h = (slot, meta, chosen, first_at_root file meta x h)
+pub both_ok : {X E : Type 0} {P Q R : X → Type 0} (result : Result X E) → ((x : X) → P x → Q x → R x) → IfOk result P → IfOk result Q → IfOk result R
+both_ok (Ok x) to h k = to x h k
+both_ok (Err e) to h k = h
+
+pub refused_chosen : (file : List ℕ) (slot : Slot) (meta : Meta) → IsChosen file slot meta → (fault : CheckFault) → IsRefusedRoot file meta fault → IsUnrecoverable file fault
+refused_chosen file slot meta chosen (Structure x) h = (slot, meta, chosen, h)
 refused_chosen file slot meta chosen Memory h = tt
 refused_chosen file slot meta chosen (Open fault) h = absurd h
 refused_chosen file slot meta chosen (Accounts findings) h = absurd h
 
-pub refused_in_slot : (file : List ℕ) (slot : Slot) (meta : Meta) → IsInSlot file slot meta → (fault : CheckFault) → IsRefusedRoot file meta fault → IsSlotRefused file slot fault
-refused_in_slot file slot meta valid (Structure x) h = (meta, valid, first_at_root file meta x h)
+pub refused_in_slot : (file : List ℕ) (slot : Slot) (meta : Meta) → IsInSlot file slot meta → (fault : CheckFault) → IsRefusedRoot file meta fault → IsSlotUnrecoverable file slot fault
+refused_in_slot file slot meta valid (Structure x) h = (meta, valid, h)
 refused_in_slot file slot meta valid Memory h = tt
 refused_in_slot file slot meta valid (Open fault) h = absurd h
 refused_in_slot file slot meta valid (Accounts findings) h = absurd h

@@ -7,7 +7,7 @@ use Rattle.bolt_format.specs.Pages.{page_at}
 use Rattle.bolt_format.specs.declared.meta.Meta.{Meta}
 use Rattle.bolt_check.specs.Claims.{claims_file, claims_meta, is_claimed}
 use Rattle.bolt_check.specs.declared.claims.Claims.{Claims}
-use Rattle.bolt_check.proofs.Judging.{tests_same}
+use Rattle.bolt_check.proofs.Judging.{passes_fewer, tests_same}
 use Rattle.bolt_check.specs.Findings.{IsMetaPage, Passes, Tests}
 use Rattle.bolt_check.specs.Nodes.{node_at}
 use Rattle.bolt_check.specs.Stops.{page_spot, spot_at}
@@ -380,6 +380,13 @@ pub root_refused : (claims : Claims) (file : List ℕ) (meta : Meta) (x : Findin
 root_refused claims file meta x f m metas h =
     tests_same (node_at file meta) (λ n. is_claimed claims n ≡ true) IsMetaPage (At_page (start_of meta.root)) x (λ n. (metas n).0) (λ n. (metas n).1)
     (subst₂ (λ (a : List ℕ) (b : Meta). Tests (node_at a b) (λ n. is_claimed claims n ≡ true) (At_page (start_of meta.root)) x) f m h)
+
+pub root_kept : (claims : Claims) (file : List ℕ) (meta : Meta) → claims_file claims ≡ file → claims_meta claims ≡ meta
+    → ((n : ℕ) → (is_claimed claims n ≡ true) ↔ IsMetaPage n) → Passes (claims_nodes claims) (λ n. is_claimed claims n ≡ true) (At_page (start_of meta.root))
+    → Passes (node_at file meta) IsMetaPage (At_page (start_of meta.root))
+root_kept claims file meta f m metas h =
+    passes_fewer (node_at file meta) (λ n. is_claimed claims n ≡ true) IsMetaPage (At_page (start_of meta.root)) (λ n. (metas n).1)
+    (subst₂ (λ (a : List ℕ) (b : Meta). Passes (node_at a b) (λ n. is_claimed claims n ≡ true) (At_page (start_of meta.root))) f m h)
 
 pub either : {A X E P Q : Type 0} (result : Result X E) → OnOk result P → OnErr result Q → (P → A) → (Q → A) → A
 either (Ok x) p q f g = f p

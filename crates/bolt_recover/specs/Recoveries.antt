@@ -4,7 +4,7 @@ use Rattle.bolt_format.specs.declared.meta.Meta.{Meta}
 use Rattle.bolt_tree.specs.Listing.{Member}
 use Rattle.bolt_tree.specs.Paths.{Path}
 use Rattle.bolt_recover.specs.Losses.{AreLosses, LossView}
-use Rattle.bolt_recover.specs.Private.Frames.{left_by, state_of}
+use Rattle.bolt_recover.specs.Private.Frames.{left_by, state_of, steps_weight}
 use Rattle.bolt_recover.specs.declared.recovery.Recovery.{Recovery}
 
 unfoldable pub recovery_file : Recovery → List ℕ
@@ -16,6 +16,10 @@ recovery_meta recovery = recovery.meta
 -- the part of a recovered listing that is left
 unfoldable pub recovery_left : Recovery → List Member → List Member
 recovery_left recovery listing = left_by (state_of recovery.steps) listing
+
+-- how much it has to do at most, until it has returned everything
+unfoldable pub recovery_work : Recovery → ℕ
+recovery_work recovery = steps_weight recovery.steps
 
 -- the path of the last item that it returned
 unfoldable pub recovery_path : Recovery → Path

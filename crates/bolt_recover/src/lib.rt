@@ -4,9 +4,11 @@
 
 pub mod laws;
 mod loss;
+mod members;
 mod open_page;
 mod recovery;
 mod steps;
 
 pub use loss::Loss;
+pub use members::Members;
 pub use recovery::Recovery;

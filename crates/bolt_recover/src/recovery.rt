@@ -1,7 +1,7 @@
 //! A walk over everything that is kept of a damaged file.
 ghost use Rattle.std.specs.Option.{IfNone, option_map};
-ghost use Rattle.std.specs.Prelude.{◌≡◌, ◌↔◌, ◌<◌, List, [], IfErr, IfOk, OnErr, map};
-ghost use Rattle.bolt_check.specs.Sound.{IsRefused, IsSlotRefused};
+ghost use Rattle.std.specs.Prelude.{◌≡◌, ◌↔◌, ◌<◌, List, [], IfErr, IfOk, IfSome, OnErr, OnOk, map};
+ghost use Rattle.bolt_check.specs.Claims.{claims_file};
 ghost use Rattle.bolt_format.specs.Metas.{IsChosen, IsInSlot};
 ghost use Rattle.bolt_tree.specs.Listing.{Member};
 ghost use Rattle.bolt_tree.specs.Paths.{path_of};
@@ -9,13 +9,15 @@ ghost use Rattle.bolt_tree.specs.ShownEntries.{item_view};
 ghost use Rattle.bolt_tree.specs.Walks.{GivesNext};
 ghost use Rattle.bolt_recover.specs.Private.Frames.{IsOn, IsRefusedRoot, state_of};
 ghost use Rattle.bolt_recover.specs.Recovered.{ForRecovered, IsRecovered};
+ghost use Rattle.bolt_recover.specs.Refusals.{IsSlotUnrecoverable, IsUnrecoverable, KeepsRoot};
 ghost use Rattle.bolt_recover.specs.ShownLosses.{loss_view};
 
 use crate::loss::Loss;
+use crate::members::Members;
 use crate::steps::Steps;
 use bolt_check::{CheckFault, NoMemory};
 use bolt_format::{Meta, Slot, choose, slot_meta};
-use bolt_tree::{Item, Members};
+use bolt_tree::Item;
 use std::alloc::Global;
 
 /// A walk over everything that is kept of a file, in the order of paths (docs/RECOVERY.md): each
@@ -26,25 +28,28 @@ use std::alloc::Global;
 pub struct Recovery<'a> {
     steps: Steps<'a>,
     meta: Meta,
+    ghost sized: { 0 < meta.page_size },
     ghost on: { ∥ IsOn (state_of steps) meta ∥₁ },
+    ghost root: { ∥ KeepsRoot (claims_file steps.claims) meta ∥₁ },
 }
 
 impl<'a> Recovery<'a> {
-    ghost use Rattle.bolt_recover.specs.Recoveries.{AreFirst, ForLosses, recovery_file, recovery_left, recovery_losses, recovery_meta, recovery_path};
+    ghost use Rattle.bolt_recover.specs.Recoveries.{AreFirst, ForLosses, recovery_file, recovery_left, recovery_losses, recovery_meta, recovery_path, recovery_work};
 
     /// A walk under the active meta.
     ///
     /// # Errors
     ///
-    /// `Open` if no meta is valid; `Structure` with the finding of the root page if that is lost;
-    /// `Memory` if memory runs out. Never `Accounts`.
+    /// `Open` if no meta is valid; `Structure` with the finding of the root page if that is lost,
+    /// and nothing is recovered; `Memory` if memory runs out. Never `Accounts`.
     pub fn new(alloc: Global, file: &'a [u8]) -> Result<Recovery<'a>, CheckFault>
         ensures file { IfOk result (λ recovery. recovery_file recovery ≡ file.now) }
         ensures meta { IfOk result (λ recovery. (slot : _) × IsChosen file.now slot (recovery_meta recovery)) }
         ensures all { IfOk result (λ recovery. ForRecovered file.now (recovery_meta recovery) (λ listing. recovery_left recovery listing ≡ listing)) }
         ensures path { IfOk result (λ recovery. recovery_path recovery ≡ []) }
         ensures losses { IfOk result (λ recovery. recovery_losses recovery ≡ []) }
-        ensures refused { IfErr result (IsRefused file.now) }
+        ensures root { IfOk result (λ recovery. KeepsRoot file.now (recovery_meta recovery)) }
+        ensures refused { IfErr result (IsUnrecoverable file.now) }
     {
         match choose(file) {
             Ok((_, meta)) => Recovery::under(alloc, file, meta),
@@ -63,7 +68,8 @@ impl<'a> Recovery<'a> {
         ensures all { IfOk result (λ recovery. ForRecovered file.now (recovery_meta recovery) (λ listing. recovery_left recovery listing ≡ listing)) }
         ensures path { IfOk result (λ recovery. recovery_path recovery ≡ []) }
         ensures losses { IfOk result (λ recovery. recovery_losses recovery ≡ []) }
-        ensures refused { IfErr result (IsSlotRefused file.now slot) }
+        ensures root { IfOk result (λ recovery. KeepsRoot file.now (recovery_meta recovery)) }
+        ensures refused { IfErr result (IsSlotUnrecoverable file.now slot) }
     {
         match slot_meta(file, slot) {
             Ok(meta) => Recovery::under(alloc, file, meta),
@@ -80,10 +86,41 @@ impl<'a> Recovery<'a> {
         ensures all { IfOk result (λ recovery. ForRecovered file.now meta (λ listing. recovery_left recovery listing ≡ listing)) }
         ensures path { IfOk result (λ recovery. recovery_path recovery ≡ []) }
         ensures losses { IfOk result (λ recovery. recovery_losses recovery ≡ []) }
+        ensures root { OnOk result (KeepsRoot file.now meta) }
         ensures refused { IfErr result (IsRefusedRoot file.now meta) }
     {
         let steps = Steps::new(alloc, file, meta)?;
         Ok(Recovery { steps, meta })
+    }
+
+    /// The same recovery before its first item: everything is left, and no loss was reported.
+    ///
+    /// # Errors
+    ///
+    /// `NoMemory` if memory runs out.
+    #[tactic(auto, unfolding(crate::specs::Recoveries::recovery_file, crate::specs::Recoveries::recovery_meta))]
+    pub fn again(&self, alloc: Global) -> Result<Recovery<'a>, NoMemory>
+        ensures file { IfOk result (λ again. recovery_file again ≡ recovery_file self.now) }
+        ensures meta { IfOk result (λ again. recovery_meta again ≡ recovery_meta self.now) }
+        ensures all { IfOk result (λ again. ForRecovered (recovery_file self.now) (recovery_meta self.now) (λ listing. recovery_left again listing ≡ listing)) }
+        ensures path { IfOk result (λ again. recovery_path again ≡ []) }
+        ensures losses { IfOk result (λ again. recovery_losses again ≡ []) }
+    {
+        match Recovery::under(alloc, self.steps.claims.file(), self.meta) {
+            Ok(again) => Ok(again),
+            Err(CheckFault::Memory) => Err(NoMemory),
+            Err(CheckFault::Structure(_)) => unreachable!(),
+            Err(CheckFault::Open(_)) => unreachable!(),
+            Err(CheckFault::Accounts(_)) => unreachable!(),
+        }
+    }
+
+    /// The file that is read.
+    #[tactic(auto, unfolding(crate::specs::Recoveries::recovery_file))]
+    pub fn file(&self) -> &'a [u8]
+        ensures { result.now ≡ recovery_file self.now }
+    {
+        self.steps.claims.file()
     }
 
     /// The meta that the file is read under.
@@ -101,11 +138,12 @@ impl<'a> Recovery<'a> {
     ///
     /// `NoMemory` if there is no memory for one more open page or one more loss. The same is left
     /// then, the path is the same, and `next` may be called again.
-    #[tactic(auto, unfolding(crate::specs::Recoveries::recovery_file, crate::specs::Recoveries::recovery_left, crate::specs::Recoveries::recovery_losses, crate::specs::Recoveries::recovery_meta, crate::specs::Recoveries::recovery_path))]
+    #[tactic(auto, unfolding(crate::specs::Recoveries::recovery_file, crate::specs::Recoveries::recovery_left, crate::specs::Recoveries::recovery_losses, crate::specs::Recoveries::recovery_meta, crate::specs::Recoveries::recovery_path, crate::specs::Recoveries::recovery_work))]
     pub fn next(&mut self) -> Result<Option<Item<'a>>, NoMemory>
         ensures file { recovery_file self.new ≡ recovery_file self.old }
         ensures meta { recovery_meta self.new ≡ recovery_meta self.old }
         ensures given { IfOk result (λ given. ForRecovered (recovery_file self.old) (recovery_meta self.old) (λ listing. GivesNext (recovery_left self.old listing) (recovery_left self.new listing) (recovery_path self.new) (option_map item_view given))) }
+        ensures fewer { IfOk result (λ given. IfSome given (λ _. recovery_work self.new < recovery_work self.old)) }
         ensures all { IfOk result (λ given. IfNone given (ForLosses (recovery_file self.old) (recovery_meta self.old) (λ losses. recovery_losses self.new ≡ losses))) }
         ensures same { OnErr result (ForRecovered (recovery_file self.old) (recovery_meta self.old) (λ listing. recovery_left self.new listing ≡ recovery_left self.old listing)) }
         ensures same_path { OnErr result (recovery_path self.new ≡ recovery_path self.old) }
@@ -137,13 +175,17 @@ impl<'a> Recovery<'a> {
 }
 
 impl<'a> Members<'a> for Recovery<'a> {
-    ghost use Rattle.bolt_recover.specs.Recoveries.{recovery_file, recovery_left, recovery_meta, recovery_path};
+    ghost use Rattle.bolt_recover.specs.Recoveries.{ForLosses, recovery_file, recovery_left, recovery_losses, recovery_meta, recovery_path, recovery_work};
 
     ghost lists = { λ recovery listing. IsRecovered (recovery_file recovery) (recovery_meta recovery) listing };
 
     ghost left = { λ recovery listing. recovery_left recovery listing };
 
+    ghost work_left = { λ recovery. recovery_work recovery };
+
     ghost last_path = { λ recovery. recovery_path recovery };
+
+    ghost ends_as = { λ recovery end. ForLosses (recovery_file recovery) (recovery_meta recovery) (λ losses. recovery_losses end ≡ losses) };
 
     fn next(&mut self) -> Result<Option<Item<'a>>, NoMemory> {
         Recovery::next(self)
@@ -151,5 +193,9 @@ impl<'a> Members<'a> for Recovery<'a> {
 
     fn path(&self) -> &[&'a [u8]] {
         Recovery::path(self)
+    }
+
+    fn again(&self, alloc: Global) -> Result<Recovery<'a>, NoMemory> {
+        Recovery::again(self, alloc)
     }
 }

@@ -8,6 +8,7 @@ ghost use Rattle.bolt_format.specs.Elements.{IsBucketValue};
 ghost use Rattle.bolt_tree.specs.Listing.{Member};
 ghost use Rattle.bolt_tree.specs.Paths.{path_of};
 ghost use Rattle.bolt_recover.specs.Private.Frames.{Advances, ComesTo, GoesOn, HasOpen, IsRefusedRoot, NoWay, Takes, TakesBucket, is_over, lost_state, state_of, stay, steps_weight, taken_weight};
+ghost use Rattle.bolt_recover.specs.Refusals.{KeepsRoot};
 ghost use Rattle.bolt_recover.specs.Private.Runs.{RunsAll, Visited, losses_in};
 
 use crate::loss::Loss;
@@ -74,6 +75,7 @@ impl<'a> Steps<'a> {
         ensures placed { IfOk result (λ steps. HasOpen (state_of steps)) }
         ensures more { IfOk result (λ steps. is_over (state_of steps) ≡ false) }
         ensures losses { IfOk result (λ steps. (state_of steps).losses ≡ []) }
+        ensures root { OnOk result (KeepsRoot file.now meta) }
         ensures all { IfOk result (λ steps. (visits : List (Visited NoWay)) (members : List Member) → RunsAll file.now meta stay tt visits members → ComesTo (state_of steps) members (losses_in visits)) }
         ensures refused { IfErr result (IsRefusedRoot file.now meta) }
     {
@@ -187,6 +189,7 @@ impl<'a> Steps<'a> {
         requires { HasOpen (state_of self.old) }
         ensures given { IfOk result (Advances (state_of self.old) (state_of self.new)) }
         ensures bucket { IfOk result (λ given. IfSome given (λ leaf. IsTrue leaf.is_bucket → IsBucketValue leaf.value.now)) }
+        ensures weight { IfOk result (λ given. IfSome given (λ _. steps_weight self.new < steps_weight self.old)) }
         ensures same { OnErr result (GoesOn (state_of self.old) (state_of self.new)) }
     {
         loop {

@@ -1,6 +1,7 @@
 -- The text of a listing, written member by member: what was written, and then the text of what is left.
 -- Rests on one text after another on a sink.
-use Rattle.std.proofs.Common.{◌≡◌, ◌∙◌, ℕ, List, [], ◌∷◌, ◌++◌, Bor, Option, Result, Ok, Err, flat_map, sym, ap, subst, append-nil, append_assoc}
+use Rattle.std.proofs.Common.{◌≡◌, ◌∙◌, ℕ, List, [], ◌∷◌, ◌++◌, Bor, Option, Result, Ok, Err, flat_map, false, not, refl, sym, true, ap, subst, append-nil, append_assoc}
+use Rattle.std.specs.Ordering.{is_lt}
 use Rattle.std.specs.Prelude.{⊤, IsErr}
 use Rattle.hex.specs.Hex.{encode_lower}
 use Rattle.bolt_format.specs.Writes.{Writes}
@@ -9,8 +10,9 @@ use Rattle.bolt_format.proofs.WriteLemmas.{Writes-same, Writes-stop, Writes-then
 use Rattle.bolt_check.specs.CheckedFiles.{bytes_of, meta_of}
 use Rattle.bolt_check.specs.declared.checked_file.Checked.{Checked}
 use Rattle.bolt_tree.specs.Entries.{Item}
-use Rattle.bolt_tree.specs.Listing.{IsListing, Member}
-use Rattle.bolt_tree.specs.Paths.{Path, path_of}
+use Rattle.bolt_tree.proofs.Filters.{filter_all}
+use Rattle.bolt_tree.specs.Listing.{IsListing, Member, rest_from}
+use Rattle.bolt_tree.specs.Paths.{Path, path_cmp, path_of}
 use Rattle.bolt_report.specs.ListLines.{hex_path, listing_text, member_line}
 use Rattle.bolt_report.specs.Reports.{Reports}
 use Rattle.bolt_report.specs.declared.fault.ReportFault.{ReportFault}
@@ -22,9 +24,29 @@ pub hex_path-parts : (first : Bor (List ℕ)) (rest : List (Bor (List ℕ)))
 hex_path-parts first [] = sym (append-nil (encode_lower first.now))
 hex_path-parts first (next ∷ rest) = ap (λ (text : List ℕ). encode_lower first.now ++ (0x2F ∷ text)) (hex_path-parts next rest)
 
--- the text of what is left, where its first member is given
-pub next_text : (old new : List Member) (path told : Path) (item : Item) → old ≡ (path, item) ∷ new → told ≡ path → listing_text old ≡ member_line (told, item) ++ listing_text new
-next_text old new path told item given same = ap listing_text given ∙ ap (λ (p : Path). member_line (p, item) ++ listing_text new) (sym same)
+-- no path comes before the empty one
+never_before : (path : Path) → is_lt (path_cmp path []) ≡ false
+never_before [] = refl
+never_before (part ∷ path) = refl
+
+pub from_the_root : (members : List Member) → rest_from [] members ≡ members
+from_the_root members = filter_all (λ (m : Member). not (is_lt (path_cmp m.0 []))) members (λ m has. ap not (never_before m.0))
+
+-- The text of what is left from a path on, where its first member is returned: the line of a member that doesn't come before that path,
+pub next_text : (from : Path) (old new : List Member) (path told : Path) (item : Item) → old ≡ (path, item) ∷ new → told ≡ path → is_lt (path_cmp told from) ≡ false
+    → listing_text (rest_from from old) ≡ member_line (told, item) ++ listing_text (rest_from from new)
+next_text from old new path told item given same after =
+    let first : old ≡ (told, item) ∷ new = given ∙ ap (λ (p : Path). (p, item) ∷ new) (sym same) in
+    let kept : rest_from from ((told, item) ∷ new) ≡ (told, item) ∷ rest_from from new = (rw after refl) in
+    ap (λ (ms : List Member). listing_text (rest_from from ms)) first ∙ ap listing_text kept
+
+-- and nothing of one that does.
+pub next_hidden : (from : Path) (old new : List Member) (path told : Path) (item : Item) → old ≡ (path, item) ∷ new → told ≡ path → is_lt (path_cmp told from) ≡ true
+    → rest_from from old ≡ rest_from from new
+next_hidden from old new path told item given same before =
+    let first : old ≡ (told, item) ∷ new = given ∙ ap (λ (p : Path). (p, item) ∷ new) (sym same) in
+    let dropped : rest_from from ((told, item) ∷ new) ≡ rest_from from new = (rw before refl) in
+    ap (rest_from from) first ∙ dropped
 
 -- the listing of the same file
 pub same_listing : (a b : Checked) (listing : List Member) → a ≡ b → IsListing (bytes_of b) (meta_of b) listing → IsListing (bytes_of a) (meta_of a) listing

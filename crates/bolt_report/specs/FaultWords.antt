@@ -75,8 +75,11 @@ finding_words number = words_in finding_table number
 unfoldable pub pages_words : ℕ → ℕ → List ℕ
 pages_words page last = if page == last then codes "page " ++ decimal page else codes "pages " ++ decimal page ++ codes " to " ++ decimal last
 
+abbrev pub finding_sentence : Finding → List ℕ
+finding_sentence finding = pages_words finding.page finding.last ++ codes ": " ++ finding_words finding.number
+
 abbrev pub finding_text : Finding → List ℕ
-finding_text finding = line (pages_words finding.page finding.last ++ codes ": " ++ finding_words finding.number)
+finding_text finding = line (finding_sentence finding)
 
 -- how many findings there are
 abbrev pub count_line : ℕ → List ℕ

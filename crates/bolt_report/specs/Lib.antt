@@ -6,6 +6,7 @@ pub mod Forms
 pub mod KeyLines
 pub mod Lines
 pub mod ListLines
+pub mod LossLines
 pub mod MetaLines
 pub mod PageLines
 pub mod PageTables

@@ -1,7 +1,7 @@
 //! The lines of faults and findings.
 ghost use Rattle.std.specs.Prelude.{◌≡◌, ◌≤◌, ◌+◌, ◌++◌, IfErr, flat_map, length};
 ghost use Rattle.bolt_format.specs.Writes.{Writes};
-ghost use Rattle.bolt_report.specs.FaultWords.{count_line, finding_text, finding_words, findings_text, meta_fault_text, page_fault_text, page_fault_words, pages_words};
+ghost use Rattle.bolt_report.specs.FaultWords.{count_line, finding_sentence, finding_text, finding_words, findings_text, meta_fault_text, page_fault_text, page_fault_words, pages_words};
 ghost use Rattle.bolt_report.specs.Reports.{Reports};
 
 use crate::fault::ReportFault;
@@ -78,7 +78,7 @@ fn put_finding_lines<S: Sink>(findings: &[Finding], sink: &mut S) -> Result<(), 
     Ok(())
 }
 
-fn count_line(count: u64) -> Text
+pub(crate) fn count_line(count: u64) -> Text
     ensures { result.items ≡ count_line count }
 {
     let mut text = Text::new();
@@ -137,11 +137,20 @@ fn page_fault_words(number: u8) -> &'static [u8]
 fn finding_line(finding: &Finding) -> Text
     ensures { result.items ≡ finding_text finding.now }
 {
+    let mut text = finding_sentence(finding);
+    push_bytes(&mut text, b"\n");
+    text
+}
+
+/// The line of a finding without its end.
+pub(crate) fn finding_sentence(finding: &Finding) -> Text
+    ensures sentence { result.items ≡ finding_sentence finding.now }
+    ensures short { length result.items ≤ 200 }
+{
     let mut text = Text::new();
     push_pages(&mut text, finding.page, finding.last);
     push_bytes(&mut text, b": ");
     push_bytes(&mut text, finding_words(finding.number));
-    push_bytes(&mut text, b"\n");
     text
 }
 

@@ -11,6 +11,7 @@ mod hexadecimal;
 mod key_lines;
 pub mod laws;
 mod list_lines;
+mod loss_lines;
 pub mod metas;
 mod page_figures;
 pub mod page_lines;
@@ -26,7 +27,8 @@ pub use fault_lines::{finding_text, findings_text, meta_fault_text, page_fault_t
 pub use figures::{Stats, add, stats_text};
 pub use form::Form;
 pub use key_lines::{buckets, keys};
-pub use list_lines::list;
+pub use list_lines::{list, list_recovered};
+pub use loss_lines::{all_lost_text, counted_losses_text, losses_text};
 pub use metas::info;
 pub use page_lines::page_text;
 pub use page_table::pages;

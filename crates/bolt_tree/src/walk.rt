@@ -81,6 +81,14 @@ impl<'a> Walk<'a> {
         }
     }
 
+    /// The file that is walked.
+    #[tactic(auto, unfolding(crate::specs::Walks::walk_checked))]
+    pub fn checked(&self) -> Checked<'a>
+        ensures { result ≡ walk_checked self.now }
+    {
+        self.buckets.cursors.checked
+    }
+
     /// The path of the last item that was returned, from the root bucket down. It is empty before
     /// the first item and after the last.
     #[tactic(auto, unfolding(crate::specs::Walks::walk_path))]

@@ -17,7 +17,9 @@ const REFUSED: u8 = 2;
 const FAILED: u8 = 1;
 /// The number of bytes of output that are gathered before they are written.
 const GATHERED: usize = 1 << 16;
-/// The number of bytes of a copy that are gathered before they are written.
+/// How many bytes the line of a failure may have.
+const LINE: usize = 1 << 8;
+/// How many bytes of a copy are gathered before they are written.
 const COPIED: usize = 1 << 20;
 /// The bits of a file's mode that say who may read, write and execute it.
 const PERMISSIONS: u32 = 0o777;
@@ -174,30 +176,9 @@ impl Write for Output<'_> {
     }
 }
 
-/// Standard error. Once the reader of standard output has left, it drops what it gets, which can
-/// only be the line of the failed write.
-#[derive(Drop)]
-struct ErrorOutput<'a> {
-    stderr: Stderr,
-    reader_left: &'a Cell<bool>,
-}
-
-impl Write for ErrorOutput<'_> {
-    fn write(&mut self, bytes: &[u8]) -> io::Result<usize> {
-        if self.reader_left.get() {
-            return Ok(bytes.len());
-        }
-        self.stderr.write(bytes)
-    }
-
-    fn flush(&mut self) -> io::Result<()> {
-        self.stderr.flush()
-    }
-}
-
 /// Does the job over the streams of the process and the target, with its output gathered. The
-/// output is written only after the target is finished. If that fails, nothing is printed on
-/// standard output.
+/// output is written only once the target is finished: if that fails, nothing was said. The line of
+/// a failure comes last.
 fn run_over<T: Target + Drop>(rt: &HostRuntime, job: &Job, file: &[u8], target: T) -> u8 {
     let reader_left = Cell::new(false);
     let output = Output {
@@ -207,45 +188,66 @@ fn run_over<T: Target + Drop>(rt: &HostRuntime, job: &Job, file: &[u8], target: 
     let Ok(gathered) = BufWriter::with_capacity(rt.alloc(), GATHERED, output) else {
         return tell(rt, "out of memory", FAILED);
     };
+    let Ok(line) = BufWriter::with_capacity(rt.alloc(), LINE, rt.stderr()) else {
+        return tell(rt, "out of memory", FAILED);
+    };
     let mut out = WriteSink::new(gathered);
-    let mut err = WriteSink::new(ErrorOutput {
-        stderr: rt.stderr(),
-        reader_left: &reader_left,
-    });
+    let mut err = WriteSink::new(line);
     let mut target = WriteSink::new(target);
     let status = run(rt.alloc(), job, file, &mut out, &mut err, &mut target);
+    let line = err.into_inner();
     match target.into_inner().finish() {
-        Ok(()) => write_out(rt, out, status.code),
+        Ok(()) => write_out(rt, out, line, &reader_left, status.code),
         Err(_) => {
             // Dropping it would write what is gathered.
             let _unwritten = out.into_inner().into_parts();
-            tell_unfinished(rt, status.code)
+            tell_unfinished(rt, line)
         }
     }
 }
 
-/// Writes what was gathered, and returns the status. A flush that fails is a fault, whatever the
-/// job found, unless the job reported one already; then nothing more is written.
-fn write_out(rt: &HostRuntime, out: WriteSink<BufWriter<Output<'_>>>, code: u8) -> u8 {
+/// Writes what was gathered, and then the line of a failure, and returns the status. If the output
+/// can't be written, that is the failure, and nothing is printed of it if its reader has left.
+fn write_out(
+    rt: &HostRuntime,
+    out: WriteSink<BufWriter<Output<'_>>>,
+    line: BufWriter<Stderr>,
+    reader_left: &Cell<bool>,
+    code: u8,
+) -> u8 {
     let is_told = out.failures() > 0;
     let mut gathered = out.into_inner();
-    match gathered.flush() {
-        Ok(()) => code,
-        Err(error) => {
-            let _unwritten = gathered.into_parts();
-            if is_told {
-                code
-            } else {
-                tell_unwritten(rt, &error)
-            }
+    let flushed = gathered.flush();
+    if flushed.is_err() {
+        let _unwritten = gathered.into_parts();
+    }
+    match flushed {
+        Err(error) if !is_told => {
+            let _untold = line.into_parts();
+            tell_unwritten(rt, &error)
+        }
+        _ => {
+            tell_line(line, reader_left);
+            code
         }
     }
 }
 
-/// Reports that the target can't be finished, unless the job reported a fault already.
-fn tell_unfinished(rt: &HostRuntime, code: u8) -> u8 {
-    match code {
-        0 => tell(rt, "write failed", FAILED),
-        _ => code,
+/// Prints the line of a failure, if there is one. If the reader of standard output has left, the
+/// line can only be that of the failed write, and is dropped.
+fn tell_line(mut line: BufWriter<Stderr>, reader_left: &Cell<bool>) {
+    if reader_left.get() {
+        let _untold = line.into_parts();
+    } else {
+        let _ = line.flush();
     }
+}
+
+/// Prints that the target can't be finished, unless the job has a failure of its own.
+fn tell_unfinished(rt: &HostRuntime, mut line: BufWriter<Stderr>) -> u8 {
+    if line.buffer().is_empty() {
+        return tell(rt, "write failed", FAILED);
+    }
+    let _ = line.flush();
+    FAILED
 }

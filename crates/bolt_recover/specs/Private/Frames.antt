@@ -8,11 +8,10 @@ use Rattle.bolt_format.specs.Shown.{shown}
 use Rattle.bolt_format.specs.ShownInline.{shown_inline}
 use Rattle.bolt_format.specs.declared.meta.Meta.{Meta}
 use Rattle.bolt_check.specs.Claims.{claims_file, claims_meta, is_claimed, pages_left}
-use Rattle.bolt_check.specs.Findings.{IsMetaPage, Tests}
 use Rattle.bolt_check.specs.Nodes.{Nodes, node_at}
 use Rattle.bolt_check.specs.ShownNodes.{shown_node}
 use Rattle.bolt_check.specs.Stops.{inline_keys, page_spot, spot_at}
-use Rattle.bolt_check.specs.Ways.{At_inline, At_page, Spot, start_of}
+use Rattle.bolt_check.specs.Ways.{At_inline, At_page, Spot}
 use Rattle.bolt_check.specs.declared.fault.CheckFault.{CheckFault}
 use Rattle.bolt_check.specs.declared.fault.CheckFault.TheVariants.{Accounts, Memory, Open, Structure}
 use Rattle.bolt_check.specs.declared.claims.Claims.{Claims}
@@ -26,6 +25,7 @@ use Rattle.bolt_recover.specs.Losses.{AreLosses, LossView, loss_of}
 use Rattle.bolt_recover.specs.Places.{Place, leaves_of}
 use Rattle.bolt_recover.specs.Private.Runs.{Runs, Task, To_visit, Visited, losses_in, tasks_from}
 use Rattle.bolt_recover.specs.Recovered.{IsRecovered}
+use Rattle.bolt_recover.specs.Refusals.{LosesRoot}
 use Rattle.bolt_tree.specs.Private.Behind.{behind}
 use Rattle.bolt_recover.specs.ShownLosses.{loss_view}
 use Rattle.bolt_recover.specs.declared.open_page.Content.{Content}
@@ -222,7 +222,7 @@ Advances old new None = Ends old new
 
 -- the finding of the root page, where the meta pages alone are claimed, or want of memory
 abbrev pub IsRefusedRoot : List ℕ → Meta → CheckFault → Type 0
-IsRefusedRoot file meta (Structure x) = Tests (node_at file meta) IsMetaPage (At_page (start_of meta.root)) x
+IsRefusedRoot file meta (Structure x) = LosesRoot file meta x
 IsRefusedRoot file meta Memory = Unit {0}
 IsRefusedRoot file meta (Open fault) = ⊥
 IsRefusedRoot file meta (Accounts findings) = ⊥
@@ -251,6 +251,6 @@ abbrev pub steps_weight : Steps → ℕ
 steps_weight steps = pages_left steps.claims * 4295163904 + ahead_weight steps.ahead + sum_by page_weight steps.open.items
 
 abbrev pub taken_weight : (old new : ℕ) → Taken → Type 0
-taken_weight old new (Leaf leaf) = Unit {0}
+taken_weight old new (Leaf leaf) = new < old
 taken_weight old new Nothing = new < old
 taken_weight old new End = Unit {0}

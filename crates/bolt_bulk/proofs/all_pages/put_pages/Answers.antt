@@ -1,17 +1,12 @@
--- Each member of the walk is taken, and then the root bucket ends.
+-- Each member is taken, and then the root bucket ends.
 use Rattle.std.proofs.Common.{◌≡◌, ◌∙◌, ℕ, ◌∷◌, [], List, Result, Ok, Err, refl, sym, ap, subst}
-use Rattle.std.specs.List.{AllByRecursion}
 use Rattle.std.specs.Prelude.{⊤}
-use Rattle.bolt_check.specs.CheckedFiles.{bytes_of, meta_of}
-use Rattle.bolt_tree.specs.FileListings.{ForListing}
-use Rattle.bolt_tree.specs.Listing.{IsListing, Member}
+use Rattle.bolt_tree.specs.Listing.{Member}
 use Rattle.bolt_tree.specs.Paths.{Path, path_of}
 use Rattle.bolt_tree.specs.ShownEntries.{item_view}
 use Rattle.bolt_tree.specs.Tree.{tree_of}
-use Rattle.bolt_tree.specs.Walks.{left_of, walk_checked, walk_path}
-use Rattle.bolt_tree.proofs.Measured.{number_falls}
 use Rattle.bolt_layout.specs.Laid.{Placed}
-use Rattle.bolt_bulk.specs.Private.Endings.{Ends, IsFitMember}
+use Rattle.bolt_bulk.specs.Private.Endings.{Ends}
 use Rattle.bolt_bulk.specs.Private.Passes.{FitLimits, HasLeft, Steps, Wanted, limits_with}
 use Rattle.bolt_layout.specs.declared.layout.Layout.{Layout}
 use Rattle.bolt_bulk.specs.declared.bounds.Bounds.{Bounds}
@@ -20,44 +15,46 @@ use Rattle.bolt_bulk.specs.declared.fault.BulkFault.TheVariants as fault
 use Rattle.bolt_bulk.proofs.PassAt.{steps_failed, steps_then}
 use Rattle.bolt_bulk.proofs.PassEnds.{ends_after, ends_early}
 use Rattle.bolt_bulk.proofs.PassLeft.{steps_begun}
-use Rattle.bolt_bulk.proofs.WalkLeft.{first_fits, listed_same, others_fit}
+use Rattle.bolt_bulk.proofs.FileLayouts.{listing_is_back}
+use Rattle.bolt_bulk.proofs.WalkLeft.{first_fits, others_fit, whole_fits}
 use Rattle.bolt_bulk.proofs.all_pages.put_pages.Goals as goal
 
 pub members-init : goal.members-init
 members-init g c = record {
-  checked = c.new-walk.ensures.checked;
+  same = λ listing. (λ is. is, λ is. is);
+  end = λ end is. is;
   bounds = refl;
   ready = c.new-pass.ensures.ready;
-  fit = λ listing lists. subst (λ (ms : List Member). ∥ AllByRecursion IsFitMember ms ∥₁) (sym (c.new-walk.ensures.all listing lists)) (c.requires.fit listing lists);
+  fit = whole_fits g.M.Members.lists g.M.Members.left c.args.members.now c.requires.whole;
   steps = λ which listing lists fit.
       let wanted : Wanted = record { which = which; tree = tree_of listing; tells = c.args.tells } in
-      let all = c.requires.lists listing lists ∙ sym (c.new-walk.ensures.all listing lists) in
-      steps_begun wanted c.new-pass.result (left_of c.new-walk.result listing) [] c.args.sink.now
+      let all = listing_is_back listing (c.requires.whole.one listing lists) ∙ sym (c.requires.whole.all listing lists) in
+      steps_begun wanted c.new-pass.result (g.M.Members.left c.args.members.now listing) [] c.args.sink.now
       (subst (λ (ms : List Member). HasLeft wanted c.new-pass.result ms []) all (c.new-pass.ensures.at wanted refl (subst (λ (n : ℕ). FitLimits which (tree_of listing) n (limits_with c.args.limits.now)) (ap (λ (b : Bounds). b.page_size) c.new-pass.ensures.bounds) fit)));
 }
 
-pub returns-in-Err : goal.returns-in-Err
-returns-in-Err g c = λ which listing lists fit0.
+pub returns-in-Err-clause-pages : goal.returns-in-Err-clause-pages
+returns-in-Err-clause-pages g c = λ which listing lists fit0.
     let wanted : Wanted = record { which = which; tree = tree_of listing; tells = c.args.tells } in
     let fit = subst (λ (b : Bounds). FitLimits which (tree_of listing) b.page_size (limits_with c.args.limits.now)) (sym c.new-pass.ensures.bounds) fit0 in
     let steps = c.members.invariant.steps which listing lists fit in
     subst (λ (b : Bounds). Ends wanted g.S.Sink.taken g.S.Sink.failed c.args.sink.now c.members.sink b [] (Err fault.Memory)) c.new-pass.ensures.bounds
-    (ends_early wanted g.S.Sink.taken g.S.Sink.failed c.new-pass.result.bounds c.args.sink.now c.members.sink [] (HasLeft wanted c.members.pass (left_of c.members.walk listing)) fault.Memory
+    (ends_early wanted g.S.Sink.taken g.S.Sink.failed c.new-pass.result.bounds c.args.sink.now c.members.sink [] (HasLeft wanted c.members.pass (g.M.Members.left c.members.members listing)) fault.Memory
     (steps_failed wanted g.S.Sink.taken g.S.Sink.failed c.new-pass.result.bounds {B = ⊤} c.args.sink.now c.members.sink [] _ tt steps))
 
 pub end-requires : goal.end-requires
 end-requires g c = c.members.invariant.ready
 
-pub returns-in-Ok-None : goal.returns-in-Ok-None
-returns-in-Ok-None g c = λ which listing lists fit0.
+pub returns-in-Ok-None-clause-pages : goal.returns-in-Ok-None-clause-pages
+returns-in-Ok-None-clause-pages g c = λ which listing lists fit0.
     let wanted : Wanted = record { which = which; tree = tree_of listing; tells = c.args.tells } in
     let fit = subst (λ (b : Bounds). FitLimits which (tree_of listing) b.page_size (limits_with c.args.limits.now)) (sym c.new-pass.ensures.bounds) fit0 in
     let given = rw c.in-Ok-None.field-0-is at c.in-Ok-None.ensures.given in
-    let here = listed_same (walk_checked c.members.walk) c.args.checked listing c.members.invariant.checked lists in
-    let none : left_of c.members.walk listing ≡ [] = (given listing here).0 in
+    let here = (c.members.invariant.same listing).1 lists in
+    let none : g.M.Members.left c.members.members listing ≡ [] = (given listing here).0 in
     let steps = c.members.invariant.steps which listing lists fit in
     subst (λ (b : Bounds). Ends wanted g.S.Sink.taken g.S.Sink.failed c.args.sink.now c.end.new.sink b [] c.end.result) c.new-pass.ensures.bounds
-    (ends_after wanted g.S.Sink.taken g.S.Sink.failed c.new-pass.result.bounds c.args.sink.now c.members.sink c.end.new.sink [] (HasLeft wanted c.members.pass (left_of c.members.walk listing)) tt c.end.result steps
+    (ends_after wanted g.S.Sink.taken g.S.Sink.failed c.new-pass.result.bounds c.args.sink.now c.members.sink c.end.new.sink [] (HasLeft wanted c.members.pass (g.M.Members.left c.members.members listing)) tt c.end.result steps
     (λ all mid. subst (λ (b : Bounds). Ends wanted g.S.Sink.taken g.S.Sink.failed c.members.sink c.end.new.sink b all c.end.result) c.members.invariant.bounds
     (c.end.ensures wanted all (subst (λ (ms : List Member). HasLeft wanted c.members.pass ms all) none mid))))
 
@@ -67,57 +64,59 @@ take-requires-clause-ready g c = c.members.invariant.ready
 pub take-requires-clause-fit : goal.take-requires-clause-fit
 take-requires-clause-fit g c =
     let given = rw c.in-Ok-Some.field-0-is at c.in-Ok-Some.ensures.given in
-    let path : walk_path c.next.new.self ≡ path_of c.path.result.now = sym c.path.ensures in
-    first_fits c.args.checked (left_of c.members.walk) (left_of c.next.new.self) (path_of c.path.result.now) (item_view c.in-Ok-Some.item) c.members.invariant.fit
-    (λ listing lists. given listing (listed_same (walk_checked c.members.walk) c.args.checked listing c.members.invariant.checked lists)
-    ∙ ap (λ (p : Path). (p, item_view c.in-Ok-Some.item) ∷ left_of c.next.new.self listing) path)
+    let path : g.M.Members.last_path c.next.new.self ≡ path_of c.path.result.now = sym c.path.ensures in
+    first_fits g.M.Members.lists g.M.Members.left c.args.members.now c.members.members c.next.new.self (path_of c.path.result.now) (item_view c.in-Ok-Some.item)
+    c.requires.whole.some c.members.invariant.fit
+    (λ listing is. given listing ((c.members.invariant.same listing).1 is) ∙ ap (λ (p : Path). (p, item_view c.in-Ok-Some.item) ∷ g.M.Members.left c.next.new.self listing) path)
 
-pub returns-in-Err-take : goal.returns-in-Err-take
-returns-in-Err-take g c = λ which listing lists fit0.
+pub returns-in-Err-take-clause-pages : goal.returns-in-Err-take-clause-pages
+returns-in-Err-take-clause-pages g c = λ which listing lists fit0.
     let wanted : Wanted = record { which = which; tree = tree_of listing; tells = c.args.tells } in
     let fit = subst (λ (b : Bounds). FitLimits which (tree_of listing) b.page_size (limits_with c.args.limits.now)) (sym c.new-pass.ensures.bounds) fit0 in
     let given = rw c.in-Ok-Some.field-0-is at c.in-Ok-Some.ensures.given in
-    let path : walk_path c.next.new.self ≡ path_of c.path.result.now = sym c.path.ensures in
+    let path : g.M.Members.last_path c.next.new.self ≡ path_of c.path.result.now = sym c.path.ensures in
     let member : Member = (path_of c.path.result.now, item_view c.in-Ok-Some.item) in
-    let next : left_of c.members.walk listing ≡ member ∷ left_of c.next.new.self listing = given listing (listed_same (walk_checked c.members.walk) c.args.checked listing c.members.invariant.checked lists)
-    ∙ ap (λ (p : Path). (p, item_view c.in-Ok-Some.item) ∷ left_of c.next.new.self listing) path in
+    let next : g.M.Members.left c.members.members listing ≡ member ∷ g.M.Members.left c.next.new.self listing = given listing ((c.members.invariant.same listing).1 lists)
+    ∙ ap (λ (p : Path). (p, item_view c.in-Ok-Some.item) ∷ g.M.Members.left c.next.new.self listing) path in
     let stop : Result ⊤ BulkFault = Err c.in-Err-take.fault in
-    let At : List Placed → Type 0 = HasLeft wanted c.take.new.self (left_of c.next.new.self listing) in
+    let At : List Placed → Type 0 = HasLeft wanted c.take.new.self (g.M.Members.left c.next.new.self listing) in
     let steps = c.members.invariant.steps which listing lists fit in
     subst (λ (b : Bounds). Ends wanted g.S.Sink.taken g.S.Sink.failed c.args.sink.now c.take.new.sink b [] (Err c.in-Err-take.fault)) c.new-pass.ensures.bounds
     (ends_early wanted g.S.Sink.taken g.S.Sink.failed c.new-pass.result.bounds c.args.sink.now c.take.new.sink [] At c.in-Err-take.fault
-    (steps_then wanted g.S.Sink.taken g.S.Sink.failed c.new-pass.result.bounds c.args.sink.now c.members.sink c.take.new.sink [] (HasLeft wanted c.members.pass (left_of c.members.walk listing)) At tt stop steps
+    (steps_then wanted g.S.Sink.taken g.S.Sink.failed c.new-pass.result.bounds c.args.sink.now c.members.sink c.take.new.sink [] (HasLeft wanted c.members.pass (g.M.Members.left c.members.members listing)) At tt stop steps
     (λ all mid. subst (λ (b : Bounds). Steps wanted g.S.Sink.taken g.S.Sink.failed c.members.sink c.take.new.sink b all At stop) c.members.invariant.bounds
-    (c.in-Err-take.ensures.steps wanted (left_of c.next.new.self listing) all (subst (λ (ms : List Member). HasLeft wanted c.members.pass ms all) next mid)))))
+    (c.in-Err-take.ensures.steps wanted (g.M.Members.left c.next.new.self listing) all (subst (λ (ms : List Member). HasLeft wanted c.members.pass ms all) next mid)))))
 
 pub members-smaller : goal.members-smaller
-members-smaller g c =
-    let given = rw c.in-Ok-Some.field-0-is at c.in-Ok-Some.ensures.given in
-    number_falls c.members.walk c.next.new.self (walk_path c.next.new.self, item_view c.in-Ok-Some.item) c.in-Ok-Some.ensures.checked given
+members-smaller g c = rw c.in-Ok-Some.field-0-is at c.in-Ok-Some.ensures.fewer
 
 pub members-preserved : goal.members-preserved
 members-preserved g c =
     let given = rw c.in-Ok-Some.field-0-is at c.in-Ok-Some.ensures.given in
-    let path : walk_path c.next.new.self ≡ path_of c.path.result.now = sym c.path.ensures in
+    let path : g.M.Members.last_path c.next.new.self ≡ path_of c.path.result.now = sym c.path.ensures in
     let member : Member = (path_of c.path.result.now, item_view c.in-Ok-Some.item) in
-    let next : ForListing c.args.checked (λ listing. left_of c.members.walk listing ≡ member ∷ left_of c.next.new.self listing) = λ listing lists.
-    given listing (listed_same (walk_checked c.members.walk) c.args.checked listing c.members.invariant.checked lists)
-    ∙ ap (λ (p : Path). (p, item_view c.in-Ok-Some.item) ∷ left_of c.next.new.self listing) path in
-    let taken : (which : Layout) (listing : List Member) (lists : IsListing (bytes_of c.args.checked) (meta_of c.args.checked) listing)
+    let next : (listing : List Member) → g.M.Members.lists c.members.members listing → g.M.Members.left c.members.members listing ≡ member ∷ g.M.Members.left c.next.new.self listing = λ listing is.
+    given listing is ∙ ap (λ (p : Path). (p, item_view c.in-Ok-Some.item) ∷ g.M.Members.left c.next.new.self listing) path in
+    let taken : (which : Layout) (listing : List Member) (lists : g.M.Members.lists c.args.members.now listing)
     → FitLimits which (tree_of listing) c.new-pass.result.bounds.page_size (limits_with c.args.limits.now)
     → Steps {A = ⊤} (record { which = which; tree = tree_of listing; tells = c.args.tells }) g.S.Sink.taken g.S.Sink.failed c.args.sink.now c.take.new.sink c.new-pass.result.bounds []
-    (HasLeft (record { which = which; tree = tree_of listing; tells = c.args.tells }) c.take.new.self (left_of c.next.new.self listing)) (Ok tt) = λ which listing lists fit.
+    (HasLeft (record { which = which; tree = tree_of listing; tells = c.args.tells }) c.take.new.self (g.M.Members.left c.next.new.self listing)) (Ok tt) = λ which listing lists fit.
     let wanted : Wanted = record { which = which; tree = tree_of listing; tells = c.args.tells } in
     let well : Result ⊤ BulkFault = Ok tt in
-    let At : List Placed → Type 0 = HasLeft wanted c.take.new.self (left_of c.next.new.self listing) in
-    steps_then wanted g.S.Sink.taken g.S.Sink.failed c.new-pass.result.bounds c.args.sink.now c.members.sink c.take.new.sink [] (HasLeft wanted c.members.pass (left_of c.members.walk listing)) At tt well
+    let At : List Placed → Type 0 = HasLeft wanted c.take.new.self (g.M.Members.left c.next.new.self listing) in
+    steps_then wanted g.S.Sink.taken g.S.Sink.failed c.new-pass.result.bounds c.args.sink.now c.members.sink c.take.new.sink [] (HasLeft wanted c.members.pass (g.M.Members.left c.members.members listing)) At tt well
     (c.members.invariant.steps which listing lists fit)
     (λ all mid. subst (λ (b : Bounds). Steps wanted g.S.Sink.taken g.S.Sink.failed c.members.sink c.take.new.sink b all At well) c.members.invariant.bounds
-    (c.in_default.ensures.steps wanted (left_of c.next.new.self listing) all (subst (λ (ms : List Member). HasLeft wanted c.members.pass ms all) (next listing lists) mid))) in
+    (c.in_default.ensures.steps wanted (g.M.Members.left c.next.new.self listing) all (subst (λ (ms : List Member). HasLeft wanted c.members.pass ms all) (next listing ((c.members.invariant.same listing).1 lists)) mid))) in
     record {
-      checked = c.in-Ok-Some.ensures.checked ∙ c.members.invariant.checked;
+      same = λ listing. (
+        λ is. (c.members.invariant.same listing).0 ((c.next.ensures.listing listing).0 is),
+        λ is. (c.next.ensures.listing listing).1 ((c.members.invariant.same listing).1 is),
+      );
+      end = λ end is. c.members.invariant.end end (c.next.ensures.same_end end is);
       bounds = c.in_default.ensures.bounds ∙ c.members.invariant.bounds;
       ready = c.in_default.ensures.ready;
-      fit = others_fit c.args.checked (left_of c.members.walk) (left_of c.next.new.self) (path_of c.path.result.now) (item_view c.in-Ok-Some.item) c.members.invariant.fit next;
+      fit = others_fit g.M.Members.lists g.M.Members.left c.args.members.now c.members.members c.next.new.self (path_of c.path.result.now) (item_view c.in-Ok-Some.item)
+          c.members.invariant.fit (λ listing is. next listing ((c.members.invariant.same listing).1 is));
       steps = taken;
     }

@@ -1,97 +1,40 @@
--- The plan, the first pages, and the pages of all buckets, which are the layout.
-use Rattle.std.proofs.Common.{Err, rules, subst, ◌≡◌, ◌∙◌, ◌*◌, ◌++◌, ℕ, List, refl, sym, ap, arith}
-use Rattle.std.proofs.Math.Logic.{∥∥₁_elim}
-use Rattle.std.proofs.Props.{props}
-use Rattle.bolt_check.specs.CheckedFiles.{meta_of}
+-- The members are those of the file's listing.
+use Rattle.std.proofs.Common.{◌≡◌, ◌<◌, IfOk, List, OnOk, length, refl, subst, subst₂}
+use Rattle.bolt_check.specs.CheckedFiles.{bytes_of, meta_of}
+use Rattle.bolt_check.specs.declared.checked_file.Checked.{Checked}
+use Rattle.bolt_format.specs.declared.meta.Meta.{Meta}
+use Rattle.bolt_layout.specs.Copies.{IsSoundCopy, RefusesBeginnings, layout_of_listing}
+use Rattle.bolt_layout.specs.Layout.{layout_held, layout_root}
+use Rattle.bolt_tree.specs.Listing.{IsListing, Member}
 use Rattle.bolt_tree.specs.Tree.{tree_of}
-use Rattle.bolt_tree.proofs.Measured.{the_listing}
-use Rattle.bolt_bulk.specs.Compacting.{layout_for}
-use Rattle.bolt_layout.specs.Layout.{layout_held, layout_mark, layout_pages, placed_bytes}
-use Rattle.bolt_bulk.specs.Private.FirstPages.{first_pages}
-use Rattle.bolt_bulk.specs.declared.first_pages.Facts.{Facts}
-use Rattle.bolt_bulk.proofs.CopyLemmas.{copied, layout_parts, stops_first, stops_later, stops_unplanned}
-use Rattle.bolt_bulk.specs.Private.Passes.{FitLimits, limits_with}
-use Rattle.bolt_bulk.specs.Private.Stops.{stopped_by}
-use Rattle.bolt_bulk.proofs.FileLayouts.{listing_fits, listing_is_back, some_bytes, too_large, within_limit}
-use Rattle.bolt_layout.proofs.MetaLemmas.{size_bounds}
+use Rattle.bolt_bulk.specs.Compacting.{Copies, too_many}
+use Rattle.bolt_bulk.proofs.WholeWalks.{walk_whole}
 use Rattle.bolt_bulk.proofs.copy.compact_as.Goals as goal
 
-pub returns-in_err-limits-clause-copied : goal.returns-in_err-limits-clause-copied
-returns-in_err-limits-clause-copied g c = λ listing lists.
-    let stop : c.from_residual.result ≡ Err (stopped_by c.in_err-limits.field-0.0) = search rules in
-    stops_unplanned g.S.Sink.taken g.S.Sink.failed c.args.sink.now _ c.in_err-limits.field-0.0 c.from_residual.result stop
-    (some_bytes _ _ c.args.page_size (c.file_has_one_layout.ensures.length c.args.layout listing lists) c.requires) (λ e. c.in_err-limits.ensures.large e listing lists)
-
-pub returns-in_err-plan-clause-copied : goal.returns-in_err-plan-clause-copied
-returns-in_err-plan-clause-copied g c = λ listing lists.
-    let stop : c.from_residual-in_err-plan.result ≡ Err (stopped_by c.in_err-plan.field-0.0) = search rules in
-    let planned = c.in_err-plan.ensures c.args.layout listing lists (c.in_ok-limits.ensures.fit listing lists) in
-    stops_unplanned g.S.Sink.taken g.S.Sink.failed c.args.sink.now _ c.in_err-plan.field-0.0 c.from_residual-in_err-plan.result stop
-    (some_bytes _ _ c.args.page_size (c.file_has_one_layout.ensures.length c.args.layout listing lists) c.requires) planned.large
-
-pub plan_within-requires-clause-fit : goal.plan_within-requires-clause-fit
-plan_within-requires-clause-fit g c = (c.args.layout, c.in_ok-limits.ensures.fit)
-
-pub returns-in-Err-clause-copied : goal.returns-in-Err-clause-copied
-returns-in-Err-clause-copied g c = λ listing lists.
-    let planned = c.in_ok-plan.ensures c.args.layout listing lists (c.in_ok-limits.ensures.fit listing lists) in
-    let tree = tree_of listing in
-    let sequence : ℕ = (meta_of c.args.checked).root_sequence in
-    let facts : Facts = record { page_size = c.args.page_size; root = c.in_ok-plan.plan.root; sequence = c.meta.result.root_sequence; mark = c.in_ok-plan.plan.high_water } in
-    let parts : layout_for c.args.layout c.args.checked c.args.page_size listing ≡ first_pages facts ++ placed_bytes c.args.page_size (layout_pages c.args.layout c.args.page_size tree) =
-    rw (sym c.meta.ensures) (layout_parts c.args.layout c.args.page_size tree c.meta.result.root_sequence c.in_ok-plan.plan.root c.in_ok-plan.plan.high_water planned.root planned.high_water) in
-    stops_first g.S.Sink.taken g.S.Sink.failed c.args.sink.now c.put_first_pages.new.sink _ _ _ parts planned.fits c.in-Err.field-0 c.in-Err.ensures
-
-pub put_pages-requires-clause-fit : goal.put_pages-requires-clause-fit
-put_pages-requires-clause-fit g c = λ listing lists. listing_fits listing (c.file_has_one_layout.ensures.tree listing lists)
-
-pub put_pages-requires-clause-lists : goal.put_pages-requires-clause-lists
-put_pages-requires-clause-lists g c = λ listing lists. listing_is_back listing (c.file_has_one_layout.ensures.tree listing lists)
-
-pub overflow_mul-result : goal.overflow_mul-result
-overflow_mul-result g c = ∥∥₁_elim (the_listing c.args.checked).1 (Prim.hlevel props) (λ lists.
-    let ends = c.in-Ok.ensures c.args.layout (the_listing c.args.checked).0 lists (subst (λ (n : ℕ). FitLimits c.args.layout (tree_of (the_listing c.args.checked).0) n (limits_with c.in_ok-limits.limits)) (sym c.bounds_of.ensures.page_size) (c.in_ok-limits.ensures.fit (the_listing c.args.checked).0 lists)) in
-    let few = within_limit c.args.page_size c.bounds_of.result.limit c.in-Ok.ended.high_water (c.in-Ok.ended.high_water * c.args.page_size) c.bounds_of.ensures.limit ends.within refl in omega arith)
-
-pub returns-in-Err-put_pages-clause-copied : goal.returns-in-Err-put_pages-clause-copied
-returns-in-Err-put_pages-clause-copied g c = λ listing lists.
-    let planned = c.in_ok-plan.ensures c.args.layout listing lists (c.in_ok-limits.ensures.fit listing lists) in
-    let tree = tree_of listing in
-    let P : ℕ = c.bounds_of.result.page_size in
-    let ends = c.in-Err-put_pages.ensures c.args.layout listing lists (subst (λ (n : ℕ). FitLimits c.args.layout (tree_of listing) n (limits_with c.in_ok-limits.limits)) (sym c.bounds_of.ensures.page_size) (c.in_ok-limits.ensures.fit listing lists)) in
-    let facts : Facts = record { page_size = c.args.page_size; root = c.in_ok-plan.plan.root; sequence = c.meta.result.root_sequence; mark = c.in_ok-plan.plan.high_water } in
-    let parts : layout_for c.args.layout c.args.checked c.args.page_size listing ≡ first_pages facts ++ placed_bytes c.args.page_size (layout_pages c.args.layout c.args.page_size tree) =
-    rw (sym c.meta.ensures) (layout_parts c.args.layout c.args.page_size tree c.meta.result.root_sequence c.in_ok-plan.plan.root c.in_ok-plan.plan.high_water planned.root planned.high_water) in
-    let others : placed_bytes c.args.page_size (layout_pages c.args.layout c.args.page_size tree) ≡ placed_bytes P ends.others =
-    ap (λ (n : ℕ). placed_bytes n (layout_pages c.args.layout n tree)) (sym c.bounds_of.ensures.page_size) ∙ ap (placed_bytes P) ends.all in
-    let whole = parts ∙ ap (λ (bytes : List ℕ). first_pages facts ++ bytes) others in
-    let low = (size_bounds c.args.page_size c.requires).0 in
-    let mark : layout_mark c.args.layout P tree ≡ layout_mark c.args.layout c.args.page_size tree = ap (λ (n : ℕ). layout_mark c.args.layout n tree) c.bounds_of.ensures.page_size in
-    stops_later g.S.Sink.taken g.S.Sink.failed c.args.sink.now c.put_pages.new.sink _ (first_pages facts) (placed_bytes P ends.others) whole planned.fits c.put_first_pages.new.sink tt c.in-Err-put_pages.fault
-    c.in_default.ensures ends.puts ends.short
-    (λ e. let above = ends.large e in too_large c.args.page_size c.bounds_of.result.limit (layout_mark c.args.layout c.args.page_size tree) _ (omega arith) c.bounds_of.ensures.limit (omega arith) (c.file_has_one_layout.ensures.length c.args.layout listing lists))
+pub put_members-requires : goal.put_members-requires
+put_members-requires g c κs = ((refl, tt), walk_whole c.args.checked c.new.result c.new.ensures.checked c.new.ensures.all c.file_is_of_one_tree.ensures)
 
 pub returns-clause-copied : goal.returns-clause-copied
-returns-clause-copied g c = λ listing lists.
-    let planned = c.in_ok-plan.ensures c.args.layout listing lists (c.in_ok-limits.ensures.fit listing lists) in
-    let tree = tree_of listing in
-    let P : ℕ = c.bounds_of.result.page_size in
-    let ends = c.in-Ok.ensures c.args.layout listing lists (subst (λ (n : ℕ). FitLimits c.args.layout (tree_of listing) n (limits_with c.in_ok-limits.limits)) (sym c.bounds_of.ensures.page_size) (c.in_ok-limits.ensures.fit listing lists)) in
-    let facts : Facts = record { page_size = c.args.page_size; root = c.in_ok-plan.plan.root; sequence = c.meta.result.root_sequence; mark = c.in_ok-plan.plan.high_water } in
-    let parts : layout_for c.args.layout c.args.checked c.args.page_size listing ≡ first_pages facts ++ placed_bytes c.args.page_size (layout_pages c.args.layout c.args.page_size tree) =
-    rw (sym c.meta.ensures) (layout_parts c.args.layout c.args.page_size tree c.meta.result.root_sequence c.in_ok-plan.plan.root c.in_ok-plan.plan.high_water planned.root planned.high_water) in
-    let others : placed_bytes c.args.page_size (layout_pages c.args.layout c.args.page_size tree) ≡ placed_bytes P ends.others =
-    ap (λ (n : ℕ). placed_bytes n (layout_pages c.args.layout n tree)) (sym c.bounds_of.ensures.page_size) ∙ ap (placed_bytes P) ends.all in
-    let whole = parts ∙ ap (λ (bytes : List ℕ). first_pages facts ++ bytes) others in
-    let mark : c.in-Ok.ended.high_water ≡ layout_mark c.args.layout c.args.page_size tree = ends.mark ∙ ap (λ (n : ℕ). layout_mark c.args.layout n tree) c.bounds_of.ensures.page_size in
-    copied g.S.Sink.taken g.S.Sink.failed c.args.sink.now c.put_pages.new.sink _ (first_pages facts) (placed_bytes P ends.others) whole planned.fits c.put_first_pages.new.sink tt c.in-Ok.ended _ _
-    c.in_default.ensures ends.puts (ap (λ (n : ℕ). n * c.args.page_size) mark ∙ sym (c.file_has_one_layout.ensures.length c.args.layout listing lists))
+returns-clause-copied g c = subst₂
+    (λ (file : Checked) (meta : Meta). (listing : List Member) → IsListing (bytes_of file) (meta_of file) listing
+    → Copies g.S.Sink.taken g.S.Sink.failed c.args.sink.now c.put_members.new.sink (layout_of_listing c.args.layout c.args.page_size listing meta.root_sequence) c.put_members.result)
+    c.new.ensures.checked c.meta.ensures c.put_members.ensures.copied
+
+pub returns-clause-accepted : goal.returns-clause-accepted
+returns-clause-accepted g c = subst₂
+    (λ (file : Checked) (meta : Meta). OnOk c.put_members.result ((listing : List Member) → IsListing (bytes_of file) (meta_of file) listing
+    → ∥ IsSoundCopy c.args.layout c.args.page_size (tree_of listing) meta.root_sequence listing ∥₁))
+    c.new.ensures.checked c.meta.ensures c.put_members.ensures.accepted
 
 pub returns-clause-held : goal.returns-clause-held
-returns-clause-held g c = λ listing lists.
-    let ends = c.in-Ok.ensures c.args.layout listing lists (subst (λ (n : ℕ). FitLimits c.args.layout (tree_of listing) n (limits_with c.in_ok-limits.limits)) (sym c.bounds_of.ensures.page_size) (c.in_ok-limits.ensures.fit listing lists)) in
-    let planned = c.in_ok-plan.ensures c.args.layout listing lists (c.in_ok-limits.ensures.fit listing lists) in
-    let small = c.file_has_one_layout.ensures.held c.args.layout listing lists planned.fits in
-    let fits = planned.fits in
-    let size = ap (λ (n : ℕ). layout_held c.args.layout n (tree_of listing)) c.bounds_of.ensures.page_size in
-    let held = ends.held in omega (arith, small, fits, size, held)
+returns-clause-held g c = subst
+    (λ (file : Checked). IfOk c.put_members.result (λ done. (listing : List Member) → IsListing (bytes_of file) (meta_of file) listing
+    → done.held ≡ layout_held c.args.layout c.args.page_size (tree_of listing)))
+    c.new.ensures.checked c.put_members.ensures.held
+
+pub returns-clause-beginnings : goal.returns-clause-beginnings
+returns-clause-beginnings g c = subst₂
+    (λ (file : Checked) (meta : Meta). (listing : List Member) → IsListing (bytes_of file) (meta_of file) listing
+    → length (layout_of_listing c.args.layout c.args.page_size listing meta.root_sequence) < too_many
+    → ∥ RefusesBeginnings (layout_of_listing c.args.layout c.args.page_size listing meta.root_sequence) (layout_root c.args.layout c.args.page_size (tree_of listing)) ∥₁)
+    c.new.ensures.checked c.meta.ensures c.put_members.ensures.beginnings

@@ -1,5 +1,17 @@
--- A layout whose limits can't be told is too large itself.
+-- The members are those of the file's listing.
+use Rattle.std.proofs.Common.{List, refl, subst₂}
+use Rattle.bolt_check.specs.CheckedFiles.{bytes_of, meta_of}
+use Rattle.bolt_check.specs.declared.checked_file.Checked.{Checked}
+use Rattle.bolt_format.specs.declared.meta.Meta.{Meta}
+use Rattle.bolt_tree.specs.Listing.{IsListing, Member}
+use Rattle.bolt_bulk.specs.Compacting.{Plans}
+use Rattle.bolt_bulk.proofs.WholeWalks.{walk_whole}
 use Rattle.bolt_bulk.proofs.copy.plan_as.Goals as goal
 
-pub plan_within-requires-clause-fit : goal.plan_within-requires-clause-fit
-plan_within-requires-clause-fit c = (c.args.layout, c.in_ok-limits.ensures.fit)
+pub plan_members-requires : goal.plan_members-requires
+plan_members-requires c κs = ((refl, tt), walk_whole c.args.checked c.new.result c.new.ensures.checked c.new.ensures.all c.file_is_of_one_tree.ensures)
+
+pub returns : goal.returns
+returns c = subst₂
+    (λ (file : Checked) (meta : Meta). (listing : List Member) → IsListing (bytes_of file) (meta_of file) listing → Plans c.args.layout c.args.page_size meta.root_sequence listing c.plan_members.result)
+    c.new.ensures.checked c.meta.ensures c.plan_members.ensures

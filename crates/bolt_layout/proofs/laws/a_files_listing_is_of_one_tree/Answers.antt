@@ -1,5 +1,6 @@
-use Rattle.bolt_layout.proofs.FileTrees.{one_tree}
+use Rattle.bolt_layout.proofs.FileTrees.{sound_held}
 use Rattle.bolt_layout.proofs.laws.a_files_listing_is_of_one_tree.Goals as goal
 
 pub returns : goal.returns
-returns c = one_tree c.listing_is_of_a_tree.ensures c.a_tree_is_of_its_listing.ensures
+returns c = λ file meta listing bytes sound lists.
+    c.a_held_listing_is_of_one_tree.ensures file meta listing bytes (sound_held c.listing_is_of_a_tree.ensures file meta listing sound lists)

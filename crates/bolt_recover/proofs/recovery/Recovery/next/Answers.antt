@@ -1,13 +1,14 @@
-use Rattle.std.proofs.Common.{◌≡◌, ◌∙◌, ◌∷◌, List, ap, sym}
+use Rattle.std.proofs.Common.{◌≡◌, ◌∙◌, ◌∷◌, List, ap, subst, sym, ℕ}
 use Rattle.std.proofs.Math.Logic.{∥∥₁_elim, ∥∥₁_map}
 use Rattle.std.proofs.Props.{props}
 use Rattle.bolt_format.specs.ElementPlaces.{leaf_view}
 use Rattle.bolt_tree.specs.Entries.{Item}
 use Rattle.bolt_tree.specs.Listing.{Member}
 use Rattle.bolt_recover.specs.Recovered.{IsRecovered}
+use Rattle.bolt_recover.specs.Refusals.{KeepsRoot}
 use Rattle.bolt_recover.specs.Private.Frames.{left_by, state_of}
-use Rattle.bolt_recover.specs.Recoveries.{recovery_file, recovery_left, recovery_losses, recovery_meta, recovery_path}
-use Rattle.bolt_recover.proofs.Recovering.{has_open_prop, left_next, left_none, left_same, on_advanced, told_ended}
+use Rattle.bolt_recover.specs.Recoveries.{recovery_file, recovery_left, recovery_losses, recovery_meta, recovery_path, recovery_work}
+use Rattle.bolt_recover.proofs.Recovering.{file_advanced, has_open_prop, left_next, left_none, left_same, on_advanced, told_ended}
 use Rattle.bolt_recover.proofs.StepLemmas.{when_err}
 use Rattle.bolt_recover.proofs.recovery.Recovery.next.Goals as goal
 
@@ -18,7 +19,11 @@ pub invariant_of-self : goal.invariant_of-self
 invariant_of-self c =
     let old = state_of c.args.self.now.steps in
     let new = state_of c.advance.new.self in
-    record { on = ∥∥₁_map c.args.self.now.on (λ on. on_advanced old new c.args.self.now.meta on c.advance.result c.advance.ensures.given c.advance.ensures.same) }
+    record {
+      sized = c.args.self.now.sized;
+      on = ∥∥₁_map c.args.self.now.on (λ on. on_advanced old new c.args.self.now.meta on c.advance.result c.advance.ensures.given c.advance.ensures.same);
+      root = subst (λ (file : List ℕ). ∥ KeepsRoot file c.args.self.now.meta ∥₁) (sym (file_advanced old new c.advance.result c.advance.ensures.given c.advance.ensures.same)) c.args.self.now.root;
+    }
 
 pub returns-in_err-leaf-clause-same : goal.returns-in_err-leaf-clause-same
 unfolding recovery_file recovery_left recovery_meta
@@ -54,3 +59,7 @@ returns-in-None-clause-all c = λ losses told.
     let new = state_of c.advance.new.self in
     let ended = rw c.in-None.is at c.in_ok-leaf.ensures.given in
     ∥∥₁_elim c.args.self.now.on (hlevel props) (λ on. told_ended old new c.args.self.now.meta on ended losses told)
+
+pub returns-in-Some-clause-fewer : goal.returns-in-Some-clause-fewer
+unfolding recovery_work
+returns-in-Some-clause-fewer c = rw c.in-Some.is at c.in_ok-leaf.ensures.weight

@@ -6,7 +6,7 @@ use Rattle.bolt_recover.specs.Private.Frames.{ComesTo, State}
 use Rattle.bolt_recover.specs.Private.Runs.{losses_in}
 use Rattle.bolt_recover.specs.ShownLosses.{loss_view}
 use Rattle.bolt_recover.specs.declared.open_page.OpenPage.{OpenPage}
-use Rattle.bolt_recover.proofs.StepLemmas.{as_state, begins, of_metas, root_refused}
+use Rattle.bolt_recover.proofs.StepLemmas.{as_state, begins, of_metas, root_kept, root_refused}
 use Rattle.bolt_recover.proofs.steps.Steps.new.Goals as goal
 
 pub returns-in-Err-clause-refused : goal.returns-in-Err-clause-refused
@@ -28,3 +28,6 @@ returns-clause-all c = λ visits members run.
     (begins c.args.file.now (claims_file c.in-Ok.claims) c.args.meta (claims_meta c.in-Ok.claims) before claimed root c.in-Ok-visit.content c.count.result
     c.in-Ok.ensures.file c.in-Ok.ensures.meta (of_metas before c.in-Ok.ensures.metas) refl refl
     c.in-Ok-visit.ensures.passes c.in-Ok-visit.ensures.content c.in-Ok-visit.ensures.claims c.count.ensures (omega arith) visits members run)
+
+pub returns-clause-root : goal.returns-clause-root
+returns-clause-root c = root_kept c.in-Ok.claims c.args.file.now c.args.meta c.in-Ok.ensures.file c.in-Ok.ensures.meta c.in-Ok.ensures.metas c.in-Ok-visit.ensures.passes

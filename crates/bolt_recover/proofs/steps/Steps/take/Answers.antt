@@ -125,3 +125,20 @@ returns-clause-taken c =
     refl refl (sym c.of-self-2.ensures) (sym c.push_reserved.ensures.items) (sym put) refl
     (took_leaf s front top c.requires.placed c.requires.ahead pages c.if-top.false e c.stop-stop.result some
     (c.stop-stop.ensures s.file s.meta path inner.good.content ∙ ap (λ (o : Option LeafElement). option_map (stop_place s.file s.meta (step_path path o)) c.stop-stop.result) some))
+
+pub returns-clause-weight : goal.returns-clause-weight
+returns-clause-weight c =
+    let s : State = state_of c.args.self.now in
+    let front = c.pop.new.self.items in
+    let top = c.in-Some.top in
+    let pages = c.pop.ensures.items ∙ ap (λ (o : Option OpenPage). front ++ option_to_list o) c.in-Some.is in
+    let inner = top_of s front top c.requires.placed c.requires.ahead pages in
+    let path : Path = take top.level s.path in
+    let moved : OpenPage = record { content = top.content; level = top.level; count = top.count; next = top.next + 1 } in
+    let more : top.next + 1 ≤ top.count = (let taken = inner.good.taken in let unlike = c.if-top.false in omega arith) in
+    let less = moved_weight s.file s.meta path _ top.content top.level (top.level + 1) top.count top.next c.stop-stop.result (c.stop-stop.ensures s.file s.meta path inner.good.content) more in
+    let old = ap (sum_by page_weight) pages ∙ sum_by-append page_weight front (top ∷ []) in
+    let new = ap (sum_by page_weight) c.push_reserved.ensures.items ∙ sum_by-append page_weight front (moved ∷ []) in
+    let ahead = ap ahead_weight c.of-self-2.ensures in
+    let none = ap ahead_weight c.requires.ahead in
+    omega (arith, less, old, new, ahead, none)

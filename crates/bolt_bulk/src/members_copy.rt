@@ -1,0 +1,182 @@
+//! The copy of all members that are given one after another, in a few passes over them.
+ghost use Rattle.std.specs.Prelude.{◌≡◌, ◌*◌, ◌≤◌, ◌<◌, ◌/◌, IfErr, IfOk, List, OnOk, length};
+ghost use Rattle.bolt_format.specs.Metas.{IsPageSize};
+ghost use Rattle.bolt_tree.specs.Listing.{Member};
+ghost use Rattle.bolt_tree.specs.Tree.{tree_of};
+ghost use Rattle.bolt_bulk.specs.Compacting.{Copies, Plans, too_many};
+ghost use Rattle.bolt_layout.specs.Copies.{IsSoundCopy, RefusesBeginnings, layout_of_listing};
+ghost use Rattle.bolt_layout.specs.Layout.{layout_held, layout_root};
+ghost use Rattle.bolt_layout.specs.declared.layout.Layout.{Layout};
+ghost use Rattle.bolt_layout.specs.declared.layout.Layout.TheVariants.{Balanced};
+ghost use Rattle.bolt_bulk.specs.Private.Passes.{FitLimits, limits_with};
+ghost use Rattle.bolt_bulk.specs.Private.WholeListings.{IsWhole};
+ghost use Rattle.bolt_bulk.specs.declared.fault.PlanFault.TheVariants as planned;
+
+use crate::all_pages::put_pages;
+use crate::bounds::Bounds;
+use crate::fault::{BulkFault, PlanFault};
+use crate::file_laws::a_listing_has_one_layout;
+use crate::first_pages::{Facts, put_first_pages};
+use crate::limits::Limits;
+use crate::no_sink::NoSink;
+use crate::outcome::{Done, Plan};
+use bolt_format::Sink;
+use bolt_layout::Layout;
+use bolt_recover::Members;
+use std::alloc::Global;
+
+/// What a copy looks like, apart from its members.
+#[derive(Clone, Copy)]
+pub(crate) struct Shape {
+    pub layout: Layout,
+    pub page_size: u64,
+    /// The sequence of the root bucket.
+    pub sequence: u64,
+    pub ghost accepted: { IsPageSize page_size },
+}
+
+/// The most bytes that a copy may have.
+const MAX_LEN: u64 = 0x7FFF_FFFF_FFFF_FFFF;
+
+/// How large the pages of a copy are, and how many it may have.
+fn bounds_of(page_size: u64) -> Bounds
+    requires { IsPageSize page_size }
+    ensures page_size { result.page_size ≡ page_size }
+    ensures limit { result.limit ≡ 9223372036854775807 / page_size }
+    ensures room { 3 ≤ result.limit }
+    ensures bytes { result.limit * result.page_size < 9223372036854775808 }
+{
+    Bounds {
+        page_size: page_size as usize,
+        limit: MAX_LEN / page_size,
+    }
+}
+
+/// The same for a pass over the plain layout that tells the limits of the balanced one, which is
+/// never 28 times smaller.
+fn telling_bounds_of(page_size: u64) -> Bounds
+    requires { IsPageSize page_size }
+    ensures page_size { result.page_size ≡ page_size }
+    ensures limit { result.limit ≡ 28 * (9223372036854775807 / page_size) }
+    ensures room { 3 ≤ result.limit }
+{
+    Bounds {
+        page_size: page_size as usize,
+        limit: 28 * (MAX_LEN / page_size),
+    }
+}
+
+/// The limits of rows that give the balanced layout, as a pass over the plain one tells them.
+fn balanced_limits<'a, M: Members<'a> + Drop>(
+    alloc: Global,
+    members: &M,
+    shape: &Shape,
+) -> Result<Limits, PlanFault>
+    requires { IsWhole M.lists M.left members.now }
+    ensures fit { IfOk result (λ limits. (listing : List Member) → M.lists members.now listing → FitLimits Balanced (tree_of listing) shape.now.page_size (limits_with limits)) }
+    ensures large { IfErr result (λ fault. fault ≡ planned.TooLarge → (listing : List Member) → M.lists members.now listing
+        → too_many ≤ length (layout_of_listing Balanced shape.now.page_size listing shape.now.sequence)) }
+{
+    a_listing_has_one_layout(shape.page_size, shape.sequence);
+    let none = Limits::none(alloc);
+    let bounds = telling_bounds_of(shape.page_size);
+    let mut again = members.again(alloc)?;
+    match put_pages(alloc, bounds, &none, true, &mut again, &mut NoSink) {
+        Ok(ended) => Ok(ended.told),
+        Err(BulkFault::TooLarge) => Err(PlanFault::TooLarge),
+        Err(BulkFault::Memory) => Err(PlanFault::Memory),
+        Err(BulkFault::Sink) => unreachable!(),
+    }
+}
+
+/// The limits of rows that give the layout.
+fn limits_of<'a, M: Members<'a> + Drop>(
+    alloc: Global,
+    members: &M,
+    shape: &Shape,
+) -> Result<Limits, PlanFault>
+    requires { IsWhole M.lists M.left members.now }
+    ensures fit { IfOk result (λ limits. (listing : List Member) → M.lists members.now listing → FitLimits shape.now.layout (tree_of listing) shape.now.page_size (limits_with limits)) }
+    ensures large { IfErr result (λ fault. fault ≡ planned.TooLarge → (listing : List Member) → M.lists members.now listing
+        → too_many ≤ length (layout_of_listing shape.now.layout shape.now.page_size listing shape.now.sequence)) }
+{
+    match shape.layout {
+        Layout::Plain => Ok(Limits::none(alloc)),
+        Layout::Balanced => balanced_limits(alloc, members, shape),
+    }
+}
+
+/// The plan of the layout whose rows have these limits.
+fn plan_within<'a, M: Members<'a> + Drop>(
+    alloc: Global,
+    members: &M,
+    limits: &Limits,
+    shape: &Shape,
+) -> Result<Plan, PlanFault>
+    requires whole { IsWhole M.lists M.left members.now }
+    requires fit { (listing : List Member) → M.lists members.now listing → FitLimits shape.now.layout (tree_of listing) shape.now.page_size (limits_with limits.now) }
+    ensures { (listing : List Member) → M.lists members.now listing → Plans shape.now.layout shape.now.page_size shape.now.sequence listing result }
+{
+    a_listing_has_one_layout(shape.page_size, shape.sequence);
+    let bounds = bounds_of(shape.page_size);
+    let mut again = members.again(alloc)?;
+    match put_pages(alloc, bounds, limits, false, &mut again, &mut NoSink) {
+        Ok(ended) => Ok(Plan {
+            root: ended.root,
+            high_water: ended.high_water,
+        }),
+        Err(BulkFault::TooLarge) => Err(PlanFault::TooLarge),
+        Err(BulkFault::Memory) => Err(PlanFault::Memory),
+        Err(BulkFault::Sink) => unreachable!(),
+    }
+}
+
+/// The plan of a copy of all members.
+pub(crate) fn plan_members<'a, M: Members<'a> + Drop>(
+    alloc: Global,
+    members: &M,
+    shape: &Shape,
+) -> Result<Plan, PlanFault>
+    requires { IsWhole M.lists M.left members.now }
+    ensures { (listing : List Member) → M.lists members.now listing → Plans shape.now.layout shape.now.page_size shape.now.sequence listing result }
+{
+    let limits = limits_of(alloc, members, shape)?;
+    plan_within(alloc, members, &limits, shape)
+}
+
+/// Writes the copy of all members. The last pass, which writes the pages, takes them away.
+pub(crate) fn put_members<'a, M: Members<'a> + Drop, S: Sink>(
+    alloc: Global,
+    members: &mut M,
+    shape: &Shape,
+    sink: &mut S,
+) -> Result<Done, BulkFault>
+    requires { IsWhole M.lists M.left members.old }
+    ensures copied { (listing : List Member) → M.lists members.old listing → Copies S.taken S.failed sink.old sink.new (layout_of_listing shape.now.layout shape.now.page_size listing shape.now.sequence) result }
+    ensures accepted { OnOk result ((listing : List Member) → M.lists members.old listing → ∥ IsSoundCopy shape.now.layout shape.now.page_size (tree_of listing) shape.now.sequence listing ∥₁) }
+    ensures held { IfOk result (λ done. (listing : List Member) → M.lists members.old listing → done.held ≡ layout_held shape.now.layout shape.now.page_size (tree_of listing)) }
+    ensures end { OnOk result (M.ends_as members.old members.new) }
+    ensures beginnings { (listing : List Member) → M.lists members.old listing → length (layout_of_listing shape.now.layout shape.now.page_size listing shape.now.sequence) < too_many
+        → ∥ RefusesBeginnings (layout_of_listing shape.now.layout shape.now.page_size listing shape.now.sequence) (layout_root shape.now.layout shape.now.page_size (tree_of listing)) ∥₁ }
+{
+    a_listing_has_one_layout(shape.page_size, shape.sequence);
+    let limits = limits_of(alloc, members, shape)?;
+    let plan = plan_within(alloc, members, &limits, shape)?;
+    let facts = Facts {
+        page_size: shape.page_size as u32,
+        root: plan.root,
+        sequence: shape.sequence,
+        mark: plan.high_water,
+    };
+    if let Err(_) = put_first_pages(&facts, sink) {
+        return Err(BulkFault::Sink);
+    }
+    let bounds = bounds_of(shape.page_size);
+    match put_pages(alloc, bounds, &limits, false, members, sink) {
+        Err(fault) => Err(fault),
+        Ok(ended) => Ok(Done {
+            bytes: ended.high_water * shape.page_size,
+            held: ended.held,
+        }),
+    }
+}

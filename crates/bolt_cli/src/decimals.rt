@@ -1,0 +1,21 @@
+//! Numbers in decimal.
+ghost use Rattle.std.specs.Prelude.{◌++◌, decimal};
+ghost use Rattle.bolt_format.specs.Writes.{Writes};
+
+use bolt_format::{Sink, SinkFault};
+use itoa::Buffer;
+
+/// Writes a number and the words after it.
+pub(crate) fn put_number<O: Sink>(number: u64, words: &[u8], out: &mut O) -> Result<(), SinkFault>
+    ensures { Writes O.taken O.failed out.old out.new (decimal number ++ words.now) result }
+{
+    put_digits(number, out)?;
+    out.put(words)
+}
+
+fn put_digits<O: Sink>(number: u64, out: &mut O) -> Result<(), SinkFault>
+    ensures { Writes O.taken O.failed out.old out.new (decimal number) result }
+{
+    let mut digits = Buffer::new();
+    out.put(digits.format(number).as_bytes())
+}

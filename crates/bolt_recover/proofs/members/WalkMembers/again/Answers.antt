@@ -1,0 +1,12 @@
+use Rattle.std.proofs.Common.{◌∙◌, subst, sym}
+use Rattle.bolt_check.specs.CheckedFiles.{bytes_of, meta_of}
+use Rattle.bolt_check.specs.declared.checked_file.Checked.{Checked}
+use Rattle.bolt_tree.specs.Listing.{IsListing}
+use Rattle.bolt_recover.proofs.members.WalkMembers.again.Goals as goal
+
+-- the walk is over the same file
+pub returns-clause-listing : goal.returns-clause-listing
+returns-clause-listing c = λ listing. rw (c.new.ensures.checked ∙ c.checked.ensures) (λ h. h, λ h. h)
+
+pub returns-clause-all : goal.returns-clause-all
+returns-clause-all c = λ listing lists. c.new.ensures.all listing (subst (λ (file : Checked). IsListing (bytes_of file) (meta_of file) listing) (sym c.checked.ensures) lists)

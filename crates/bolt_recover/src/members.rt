@@ -1,0 +1,90 @@
+//! A trait for what returns the members of a listing in the order of their paths, so that a sound
+//! file and what is kept of a damaged one are read by the same code.
+ghost use Rattle.std.specs.Option.{IfNone, option_map};
+ghost use Rattle.std.specs.Prelude.{◌≡◌, ◌↔◌, ◌<◌, ℕ, IfOk, IfSome, List, OnErr};
+ghost use Rattle.bolt_check.specs.CheckedFiles.{bytes_of, meta_of};
+ghost use Rattle.bolt_tree.specs.Listing.{IsListing, Member};
+ghost use Rattle.bolt_tree.specs.Paths.{Path, path_of};
+ghost use Rattle.bolt_tree.specs.ShownEntries.{item_view};
+ghost use Rattle.bolt_tree.specs.Walks.{GivesNext, left_of, walk_checked, walk_path};
+ghost use Rattle.bolt_tree.proofs.Measured.{left_number};
+
+use bolt_check::NoMemory;
+use bolt_tree::{Item, Walk};
+use std::alloc::Global;
+
+/// Returns the members of a listing in the order of their paths, each once. A bucket comes before
+/// everything in it.
+pub trait Members<'a> {
+    /// The listing whose members it returns.
+    ghost lists: { Self → List Member → Type 0 };
+
+    /// The part of the listing that is left.
+    ghost left: { Self → List Member → List Member };
+
+    /// A number that falls with each member, so that loops over members end.
+    ghost work_left: { Self → ℕ };
+
+    /// The path of the last member that was returned.
+    ghost last_path: { Self → Path };
+
+    /// Whether the second can be what the first is once nothing is left.
+    ghost ends_as: { Self → Self → Type 0 };
+
+    /// Returns the first member that is left, or `None` if nothing is left, then and ever after.
+    ///
+    /// # Errors
+    ///
+    /// `NoMemory` if memory runs out. Then the same members are left, the path is the same, and
+    /// `next` may be called again.
+    fn next(&mut self) -> Result<Option<Item<'a>>, NoMemory>
+        ensures listing { (listing : List Member) → lists self.new listing ↔ lists self.old listing }
+        ensures given { IfOk result (λ given. (listing : List Member) → lists self.old listing → GivesNext (left self.old listing) (left self.new listing) (last_path self.new) (option_map item_view given)) }
+        ensures fewer { IfOk result (λ given. IfSome given (λ _. work_left self.new < work_left self.old)) }
+        ensures ended { IfOk result (λ given. IfNone given (ends_as self.old self.new)) }
+        ensures same_end { (end : Self) → ends_as self.new end → ends_as self.old end }
+        ensures same { OnErr result ((listing : List Member) → lists self.old listing → left self.new listing ≡ left self.old listing) }
+        ensures same_path { OnErr result (last_path self.new ≡ last_path self.old) };
+
+    /// The path of the last member that was returned, from the root bucket down. It is empty before
+    /// the first member and after the last.
+    fn path(&self) -> &[&'a [u8]]
+        ensures { path_of result.now ≡ last_path self.now };
+
+    /// The same before its first member.
+    ///
+    /// # Errors
+    ///
+    /// `NoMemory` if memory runs out.
+    fn again(&self, alloc: Global) -> Result<Self, NoMemory>
+    where
+        Self: Sized,
+        ensures listing { IfOk result (λ again. (listing : List Member) → lists again listing ↔ lists self.now listing) }
+        ensures all { IfOk result (λ again. (listing : List Member) → lists self.now listing → left again listing ≡ listing) }
+        ensures same_end { IfOk result (λ again. (end : Self) → ends_as again end → ends_as self.now end) };
+}
+
+impl<'a> Members<'a> for Walk<'a> {
+    ghost lists = { λ walk listing. IsListing (bytes_of (walk_checked walk)) (meta_of (walk_checked walk)) listing };
+
+    ghost left = { λ walk listing. left_of walk listing };
+
+    ghost work_left = { λ walk. left_number walk };
+
+    ghost last_path = { λ walk. walk_path walk };
+
+    ghost ends_as = { λ walk end. Unit {0} };
+
+    #[inline(always)]
+    fn next(&mut self) -> Result<Option<Item<'a>>, NoMemory> {
+        Walk::next(self)
+    }
+
+    fn path(&self) -> &[&'a [u8]] {
+        Walk::path(self)
+    }
+
+    fn again(&self, alloc: Global) -> Result<Walk<'a>, NoMemory> {
+        Ok(Walk::new(alloc, self.checked()))
+    }
+}

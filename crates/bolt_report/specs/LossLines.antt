@@ -1,0 +1,43 @@
+-- The lines of losses: docs/COMMANDS.md, "What is printed".
+use Rattle.std.specs.Prelude.{ℕ, List, [], ◌∷◌, ◌++◌, Option, Some, None, codes, flat_map, length}
+use Rattle.hex.specs.Hex.{encode_lower}
+use Rattle.bolt_check.specs.Keys.{Key}
+use Rattle.bolt_check.specs.declared.finding.Finding.{Finding}
+use Rattle.bolt_tree.specs.Paths.{Path}
+use Rattle.bolt_recover.specs.Losses.{LossView}
+use Rattle.bolt_report.specs.FaultWords.{count_line, finding_sentence}
+use Rattle.bolt_report.specs.Lines.{line}
+use Rattle.bolt_report.specs.ListLines.{hex_path}
+
+-- the bucket that a lost page belongs to
+abbrev pub bucket_words : Path → List ℕ
+bucket_words [] = codes "root bucket"
+bucket_words (part ∷ path) = codes "bucket " ++ hex_path (part ∷ path)
+
+-- the bounds of its keys, where it lies below a branch
+abbrev pub upper_words : Option Key → List ℕ
+upper_words None = []
+upper_words (Some key) = codes " to below " ++ encode_lower key
+
+abbrev pub bounds_words : Option Key → Option Key → List ℕ
+bounds_words None upper = []
+bounds_words (Some key) upper = codes ", keys from " ++ (encode_lower key ++ upper_words upper)
+
+-- the line of a finding, and what is lost with it
+abbrev pub lost_line : Finding → List ℕ → List ℕ
+lost_line finding lost = (finding_sentence finding ++ codes "; lost: ") ++ line lost
+
+unfoldable pub loss_text : LossView → List ℕ
+loss_text loss = lost_line loss.finding (bucket_words loss.bucket ++ bounds_words loss.lower loss.upper)
+
+-- the line of each loss
+abbrev pub losses_text : List LossView → List ℕ
+losses_text losses = flat_map loss_text losses
+
+-- and then how many there are
+abbrev pub counted_losses_text : List LossView → List ℕ
+counted_losses_text losses = losses_text losses ++ count_line (length losses)
+
+-- where the root page is lost, everything is
+abbrev pub all_lost_text : Finding → List ℕ
+all_lost_text finding = lost_line finding (codes "everything") ++ count_line 1
