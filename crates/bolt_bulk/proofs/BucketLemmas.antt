@@ -17,7 +17,7 @@ use Rattle.bolt_bulk.specs.Private.TakenItems.{rows_taking}
 use Rattle.bolt_bulk.specs.Puts.{Puts}
 use Rattle.bolt_bulk.specs.declared.fault.BulkFault.{BulkFault}
 use Rattle.bolt_bulk.specs.declared.held.Held.{Held}
-use Rattle.bolt_bulk.specs.declared.open_bucket.LeafRun.{LeafRun}
+use Rattle.bolt_bulk.specs.declared.leaf_run.LeafRun.{LeafRun}
 use Rattle.bolt_bulk.proofs.ClimbLemmas.{next_grows}
 use Rattle.bolt_bulk.proofs.CloseLemmas.{end_grows}
 use Rattle.bolt_bulk.proofs.HeldRuns.{none_small}

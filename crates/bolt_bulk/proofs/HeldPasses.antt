@@ -2,7 +2,7 @@
 use Rattle.std.proofs.Common.{◌≡◌, ◌∙◌, ℕ, ◌+◌, List, [], ◌∷◌, ◌++◌, reverse, min, refl, sym, ap, subst, arith}
 use Rattle.std.proofs.lemmas.List.{reverse-append}
 use Rattle.bolt_bulk.specs.Private.HeldCounts.{AreCounted, capped, items_around, items_in}
-use Rattle.bolt_bulk.specs.declared.steps.Waiting.{Waiting}
+use Rattle.bolt_bulk.specs.declared.waiting.Waiting.{Waiting}
 
 pub around_push : (others : List Waiting) (w : Waiting) → items_around (others ++ w ∷ []) ≡ items_around others + items_in w.bucket
 around_push [] w = omega arith

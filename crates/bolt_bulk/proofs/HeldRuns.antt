@@ -13,7 +13,7 @@ use Rattle.bolt_bulk.specs.Private.TakenItems.{entries_size, inline_element, inl
 use Rattle.bolt_bulk.specs.declared.held.Held.{Held}
 use Rattle.bolt_bulk.specs.declared.held.Stored.{Stored}
 use Rattle.bolt_bulk.specs.declared.held.Stored.TheVariants as stored
-use Rattle.bolt_bulk.specs.declared.open_bucket.LeafRun.{LeafRun}
+use Rattle.bolt_bulk.specs.declared.leaf_run.LeafRun.{LeafRun}
 use Rattle.bolt_layout.proofs.ListLemmas.{all_append}
 use Rattle.bolt_layout.proofs.PageLemmas.{length-header_bytes, length-root_value}
 use Rattle.bolt_layout.proofs.SpanLemmas.{length-leaf_bytes}

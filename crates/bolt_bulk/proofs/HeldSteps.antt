@@ -18,7 +18,7 @@ use Rattle.bolt_bulk.specs.Private.OpenRuns.{climb, close, end_of, Frame, has_ro
 use Rattle.bolt_bulk.specs.Private.Passes.{AreWaiting}
 use Rattle.bolt_bulk.specs.declared.branch_runs.BranchRun.{BranchRun}
 use Rattle.bolt_bulk.specs.declared.open_bucket.OpenBucket.{OpenBucket}
-use Rattle.bolt_bulk.specs.declared.steps.Waiting.{Waiting}
+use Rattle.bolt_bulk.specs.declared.waiting.Waiting.{Waiting}
 use Rattle.bolt_bulk.proofs.RowLemmas.{length-elements}
 
 -- ---- runs

@@ -8,7 +8,7 @@ use Rattle.bolt_format.specs.declared.element.Leaf.{Leaf}
 use Rattle.bolt_layout.specs.PageBytes.{inline_value, leaf_data}
 use Rattle.bolt_bulk.specs.Private.Passes.{IsPendingSmall, IsSmall}
 use Rattle.bolt_bulk.specs.Private.TakenItems.{entries_size, inline_size}
-use Rattle.bolt_bulk.specs.declared.pass.Pending.{Pending}
+use Rattle.bolt_bulk.specs.declared.pending.Pending.{Pending}
 use Rattle.bolt_bulk.proofs.LeafPuts.{length-inline_value}
 use Rattle.bolt_layout.proofs.ListLemmas.{all_append}
 

@@ -13,7 +13,7 @@ ghost use Rattle.bolt_bulk.specs.Private.Passes.{FitLimits, limits_with};
 ghost use Rattle.bolt_bulk.specs.declared.fault.PlanFault.TheVariants as planned;
 
 use crate::all_pages::put_pages;
-use crate::bounds::Bounds;
+use crate::page_setup::PageSetup;
 use crate::fault::{BulkFault, PlanFault};
 use crate::file_laws::file_has_one_layout;
 use crate::first_pages::{Facts, put_first_pages};
@@ -29,14 +29,15 @@ use std::alloc::Global;
 const MAX_LEN: u64 = 0x7FFF_FFFF_FFFF_FFFF;
 
 /// How large the pages of a copy are, and how many it may have.
-fn bounds_of(page_size: u64) -> Bounds
+fn setup_of(alloc: Global, page_size: u64) -> PageSetup
     requires { IsPageSize page_size }
     ensures page_size { result.page_size ≡ page_size }
     ensures limit { result.limit ≡ 9223372036854775807 / page_size }
     ensures room { 3 ≤ result.limit }
     ensures bytes { result.limit * result.page_size < 9223372036854775808 }
 {
-    Bounds {
+    PageSetup {
+        alloc,
         page_size: page_size as usize,
         limit: MAX_LEN / page_size,
     }
@@ -44,13 +45,14 @@ fn bounds_of(page_size: u64) -> Bounds
 
 /// The same for a pass over the plain layout that tells the limits of the balanced one, which is
 /// never 28 times smaller.
-fn telling_bounds_of(page_size: u64) -> Bounds
+fn telling_setup_of(alloc: Global, page_size: u64) -> PageSetup
     requires { IsPageSize page_size }
     ensures page_size { result.page_size ≡ page_size }
     ensures limit { result.limit ≡ 28 * (9223372036854775807 / page_size) }
     ensures room { 3 ≤ result.limit }
 {
-    Bounds {
+    PageSetup {
+        alloc,
         page_size: page_size as usize,
         limit: 28 * (MAX_LEN / page_size),
     }
@@ -65,8 +67,7 @@ fn balanced_limits(alloc: Global, checked: Checked<'_>, page_size: u64) -> Resul
     file_has_one_layout(&checked, page_size);
     let none = Limits::none(alloc);
     match put_pages(
-        alloc,
-        telling_bounds_of(page_size),
+        telling_setup_of(alloc, page_size),
         &none,
         true,
         checked,
@@ -109,8 +110,7 @@ fn plan_within(
 {
     file_has_one_layout(&checked, page_size);
     match put_pages(
-        alloc,
-        bounds_of(page_size),
+        setup_of(alloc, page_size),
         limits,
         false,
         checked,
@@ -192,7 +192,7 @@ pub fn compact_as<S: Sink>(
     if let Err(_) = put_first_pages(&facts, sink) {
         return Err(BulkFault::Sink);
     }
-    match put_pages(alloc, bounds_of(page_size), &limits, false, checked, sink) {
+    match put_pages(setup_of(alloc, page_size), &limits, false, checked, sink) {
         Err(fault) => Err(fault),
         Ok(ended) => Ok(Done {
             bytes: ended.high_water * page_size,

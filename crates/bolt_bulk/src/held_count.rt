@@ -20,7 +20,7 @@ impl<'a> Pass<'a> {
     pub(crate) fn count(&mut self)
         requires { IsReady self.old }
         ensures counts { Counts self.old self.new }
-        ensures bounds { self.new.bounds ≡ self.old.bounds }
+        ensures setup { self.new.setup ≡ self.old.setup }
         ensures ready { IsReady self.new }
         ensures depth { depth_of self.new ≡ depth_of self.old }
     {

@@ -3,7 +3,6 @@
 #![tactic(auto)]
 
 mod all_pages;
-mod bounds;
 mod branch_page;
 mod branch_runs;
 mod bucket_value;
@@ -14,15 +13,18 @@ mod first_pages;
 mod held;
 mod held_count;
 mod leaf_page;
+mod leaf_run;
 mod limits;
 mod no_sink;
 mod open_bucket;
 mod outcome;
+mod page_setup;
 mod pass;
+mod pending;
 mod pieces;
 mod row;
-mod steps;
 mod told;
+mod waiting;
 
 pub use copy::{compact, compact_as, plan, plan_as};
 pub use fault::{BulkFault, PlanFault};

@@ -2,26 +2,16 @@
 //! they are known.
 ghost use Rattle.std.specs.Prelude.{[], ◌≡◌, ◌+◌, ◌/◌, ◌<◌, ◌≤◌, ◌∷◌, ◌++◌, ℕ, Some, None, IfErr, IfOk, List, OnErr, OnOk, length, map};
 
-use crate::bounds::{Bounds, MAX_ITEMS};
 use crate::fault::BulkFault;
 use crate::limits::{BucketLimits, Limits};
 use crate::open_bucket::OpenBucket;
-use crate::steps::{Waiting, enter, leave, take_inline, take_value};
+use crate::page_setup::{MAX_ITEMS, PageSetup};
+use crate::pending::Pending;
 use crate::told::Told;
+use crate::waiting::Waiting;
 use bolt_format::{Leaf, Sink};
 use bolt_tree::Item;
-use std::alloc::Global;
 use std::mem;
-
-/// A bucket that has only values so far, which take at most a quarter of a page. Whether it is
-/// inline is known at its end, or when it has more.
-#[derive(Clone, Copy)]
-pub(crate) struct Pending<'a> {
-    pub key: &'a [u8],
-    pub sequence: u64,
-    /// The size of the leaf page over its entries so far.
-    pub size: usize,
-}
 
 /// What a pass comes to.
 #[derive(Drop)]
@@ -39,8 +29,7 @@ pub(crate) struct Ended {
 /// What is open in a pass.
 #[derive(Drop)]
 pub(crate) struct Pass<'a> {
-    pub alloc: Global,
-    pub bounds: Bounds,
+    pub setup: PageSetup,
     pub limits: &'a Limits,
     /// The buckets around the one that is open, the innermost last.
     pub waiting: Vec<Waiting<'a>>,
@@ -73,15 +62,15 @@ impl<'a> Pass<'a> {
 
     /// A pass before the first page. If it tells limits, these are of the rows of the balanced
     /// layout.
-    pub(crate) fn new(alloc: Global, bounds: Bounds, limits: &'a Limits, tells: bool) -> Pass<'a>
-        requires { 3 ≤ bounds.limit }
-        ensures bounds { result.bounds ≡ bounds }
+    pub(crate) fn new(setup: PageSetup, limits: &'a Limits, tells: bool) -> Pass<'a>
+        requires { 3 ≤ setup.limit }
+        ensures setup { result.setup ≡ setup }
         ensures ready { IsReady result }
-        ensures at { (wanted : Wanted) → wanted.tells ≡ tells → FitLimits wanted.which wanted.tree bounds.page_size (limits_with limits.now) → HasLeft wanted result (listing_of wanted.tree) [] }
+        ensures at { (wanted : Wanted) → wanted.tells ≡ tells → FitLimits wanted.which wanted.tree setup.page_size (limits_with limits.now) → HasLeft wanted result (listing_of wanted.tree) [] }
     {
+        let alloc = setup.alloc;
         Pass {
-            alloc,
-            bounds,
+            setup,
             limits,
             waiting: Vec::new(alloc),
             bucket: OpenBucket::new(
@@ -121,17 +110,17 @@ impl<'a> Pass<'a> {
         requires ready { IsReady self.old }
         requires key { length key.now ≤ 1073741824 }
         requires value { length value.now < 2147483647 }
-        ensures bounds { OnOk result (self.new.bounds ≡ self.old.bounds) }
+        ensures setup { OnOk result (self.new.setup ≡ self.old.setup) }
         ensures ready { OnOk result (IsReady self.new) }
         ensures depth { OnOk result (depth_of self.new ≡ depth_of self.old) }
         ensures steps { (wanted : Wanted) (after : Tree) (levels : List Level) (put : List Placed) → IsAt wanted self.old levels (with_value key.now value.now after) put
-            → Steps wanted S.taken S.failed sink.old sink.new self.old.bounds put (IsAt wanted self.new levels after) result }
+            → Steps wanted S.taken S.failed sink.old sink.new self.old.setup put (IsAt wanted self.new levels after) result }
     {
         let Some(pending) = self.pending else {
             return self.put_value(key, value, sink);
         };
         let size = pending.size + (16 + (key.len() + value.len()));
-        if size <= self.bounds.page_size / 4 && self.entries.len() < MAX_ITEMS {
+        if size <= self.setup.page_size / 4 && self.entries.len() < MAX_ITEMS {
             return self.keep_value(pending, key, value, size);
         }
         match self.open_pending(pending, sink) {
@@ -152,9 +141,9 @@ impl<'a> Pass<'a> {
         requires pending { self.old.pending ≡ Some pending }
         requires key { length key.now ≤ 1073741824 }
         requires size { size ≡ pending.size + (16 + (length key.now + length value.now)) }
-        requires small { size ≤ self.old.bounds.page_size / 4 }
+        requires small { size ≤ self.old.setup.page_size / 4 }
         requires few { length self.old.entries.items < 65534 }
-        ensures bounds { OnOk result (self.new.bounds ≡ self.old.bounds) }
+        ensures setup { OnOk result (self.new.setup ≡ self.old.setup) }
         ensures ready { OnOk result (IsReady self.new) }
         ensures depth { OnOk result (depth_of self.new ≡ depth_of self.old) }
         ensures at { (wanted : Wanted) (after : Tree) (levels : List Level) (put : List Placed) → IsAt wanted self.old levels (with_value key.now value.now after) put
@@ -185,21 +174,15 @@ impl<'a> Pass<'a> {
         requires pending { self.old.pending ≡ None }
         requires key { length key.now ≤ 1073741824 }
         requires value { length value.now < 2147483647 }
-        ensures bounds { OnOk result (self.new.bounds ≡ self.old.bounds) }
+        ensures setup { OnOk result (self.new.setup ≡ self.old.setup) }
         ensures ready { OnOk result (IsReady self.new) }
         ensures depth { OnOk result (depth_of self.new ≡ depth_of self.old) }
         ensures steps { (wanted : Wanted) (after : Tree) (levels : List Level) (put : List Placed) → IsAt wanted self.old levels (with_value key.now value.now after) put
-            → Steps wanted S.taken S.failed sink.old sink.new self.old.bounds put (IsAt wanted self.new levels after) result }
+            → Steps wanted S.taken S.failed sink.old sink.new self.old.setup put (IsAt wanted self.new levels after) result }
     {
-        let taken = take_value(
-            self.alloc,
-            &self.bounds,
-            &mut self.bucket,
-            key,
-            value,
-            &mut self.next,
-            sink,
-        );
+        let taken = self
+            .bucket
+            .take_value(&self.setup, key, value, &mut self.next, sink);
         if let Err(fault) = taken {
             return Err(fault);
         }
@@ -216,11 +199,11 @@ impl<'a> Pass<'a> {
     ) -> Result<(), BulkFault>
         requires ready { IsReady self.old }
         requires key { length key.now ≤ 1073741824 }
-        ensures bounds { OnOk result (self.new.bounds ≡ self.old.bounds) }
+        ensures setup { OnOk result (self.new.setup ≡ self.old.setup) }
         ensures ready { OnOk result (IsReady self.new) }
         ensures depth { OnOk result (depth_of self.new ≡ depth_of self.old + 1) }
         ensures steps { (wanted : Wanted) (inside after : Tree) (levels : List Level) (put : List Placed) → IsAt wanted self.old levels (with_bucket key.now sequence inside after) put
-            → Steps wanted S.taken S.failed sink.old sink.new self.old.bounds put (IsAt wanted self.new (record { key = key.now; after = after } ∷ levels) inside) result }
+            → Steps wanted S.taken S.failed sink.old sink.new self.old.setup put (IsAt wanted self.new (record { key = key.now; after = after } ∷ levels) inside) result }
     {
         let Some(pending) = self.pending else {
             self.begin(key, sequence);
@@ -240,7 +223,7 @@ impl<'a> Pass<'a> {
         requires ready { IsReady self.old }
         requires pending { self.old.pending ≡ None }
         requires key { length key.now ≤ 1073741824 }
-        ensures bounds { self.new.bounds ≡ self.old.bounds }
+        ensures setup { self.new.setup ≡ self.old.setup }
         ensures ready { IsReady self.new }
         ensures depth { depth_of self.new ≡ depth_of self.old + 1 }
         ensures at { (wanted : Wanted) (inside after : Tree) (levels : List Level) (put : List Placed) → IsAt wanted self.old levels (with_bucket key.now sequence inside after) put
@@ -258,20 +241,20 @@ impl<'a> Pass<'a> {
     fn open_pending<S: Sink>(&mut self, pending: Pending<'a>, sink: &mut S) -> Result<(), BulkFault>
         requires ready { IsReady self.old }
         requires pending { self.old.pending ≡ Some pending }
-        ensures bounds { OnOk result (self.new.bounds ≡ self.old.bounds) }
+        ensures setup { OnOk result (self.new.setup ≡ self.old.setup) }
         ensures ready { OnOk result (IsReady self.new) }
         ensures depth { OnOk result (depth_of self.new ≡ depth_of self.old) }
         ensures pending { OnOk result (self.new.pending ≡ None) }
         ensures steps { (wanted : Wanted) (left : Tree) (levels : List Level) (put : List Placed) → IsAt wanted self.old levels left put
-            → HasRoot wanted.which self.old.bounds.page_size (onto (map leaf_view self.old.entries.items) left)
-            → Steps wanted S.taken S.failed sink.old sink.new self.old.bounds put (IsAt wanted self.new levels left) result }
+            → HasRoot wanted.which self.old.setup.page_size (onto (map leaf_view self.old.entries.items) left)
+            → Steps wanted S.taken S.failed sink.old sink.new self.old.setup put (IsAt wanted self.new levels left) result }
     {
         let limits = BucketLimits {
             all: self.limits,
             bucket: self.opened,
         };
         let inner = OpenBucket::of_values(
-            self.alloc,
+            self.setup.alloc,
             self.entries.as_slice(),
             pending.size,
             limits,
@@ -281,17 +264,7 @@ impl<'a> Pass<'a> {
             Ok(inner) => inner,
         };
         let outer = mem::replace(&mut self.bucket, inner);
-        let waiting = enter(
-            self.alloc,
-            &self.bounds,
-            outer,
-            pending.key,
-            pending.sequence,
-            self.around,
-            &mut self.next,
-            sink,
-        );
-        let waiting = match waiting {
+        let waiting = match outer.enter(&self.setup, pending, self.around, &mut self.next, sink) {
             Err(fault) => return Err(fault),
             Ok(waiting) => waiting,
         };
@@ -312,11 +285,11 @@ impl<'a> Pass<'a> {
     fn leave<S: Sink>(&mut self, sink: &mut S) -> Result<(), BulkFault>
         requires ready { IsReady self.old }
         requires within { 1 < depth_of self.old }
-        ensures bounds { OnOk result (self.new.bounds ≡ self.old.bounds) }
+        ensures setup { OnOk result (self.new.setup ≡ self.old.setup) }
         ensures ready { OnOk result (IsReady self.new) }
         ensures depth { OnOk result (depth_of self.new + 1 ≡ depth_of self.old) }
         ensures steps { (wanted : Wanted) (level : Level) (levels : List Level) (put : List Placed) → IsAt wanted self.old (level ∷ levels) end put
-            → Steps wanted S.taken S.failed sink.old sink.new self.old.bounds put (IsAt wanted self.new levels level.after) result }
+            → Steps wanted S.taken S.failed sink.old sink.new self.old.setup put (IsAt wanted self.new levels level.after) result }
     {
         match self.pending {
             Some(pending) => self.end_inline(pending, sink),
@@ -328,20 +301,16 @@ impl<'a> Pass<'a> {
     fn end_inline<S: Sink>(&mut self, pending: Pending<'a>, sink: &mut S) -> Result<(), BulkFault>
         requires ready { IsReady self.old }
         requires pending { self.old.pending ≡ Some pending }
-        ensures bounds { OnOk result (self.new.bounds ≡ self.old.bounds) }
+        ensures setup { OnOk result (self.new.setup ≡ self.old.setup) }
         ensures ready { OnOk result (IsReady self.new) }
         ensures depth { OnOk result (depth_of self.new + 1 ≡ depth_of self.old) }
         ensures steps { (wanted : Wanted) (level : Level) (levels : List Level) (put : List Placed) → IsAt wanted self.old (level ∷ levels) end put
-            → Steps wanted S.taken S.failed sink.old sink.new self.old.bounds put (IsAt wanted self.new levels level.after) result }
+            → Steps wanted S.taken S.failed sink.old sink.new self.old.setup put (IsAt wanted self.new levels level.after) result }
     {
-        let taken = take_inline(
-            self.alloc,
-            &self.bounds,
-            &mut self.bucket,
-            pending.key,
-            pending.sequence,
+        let taken = self.bucket.take_inline(
+            &self.setup,
+            pending,
             self.entries.as_slice(),
-            pending.size + 16,
             &mut self.next,
             sink,
         );
@@ -359,11 +328,11 @@ impl<'a> Pass<'a> {
         requires ready { IsReady self.old }
         requires pending { self.old.pending ≡ None }
         requires waiting { 0 < length self.old.waiting.items }
-        ensures bounds { OnOk result (self.new.bounds ≡ self.old.bounds) }
+        ensures setup { OnOk result (self.new.setup ≡ self.old.setup) }
         ensures ready { OnOk result (IsReady self.new) }
         ensures depth { OnOk result (depth_of self.new + 1 ≡ depth_of self.old) }
         ensures steps { (wanted : Wanted) (level : Level) (levels : List Level) (put : List Placed) → IsAt wanted self.old (level ∷ levels) end put
-            → Steps wanted S.taken S.failed sink.old sink.new self.old.bounds put (IsAt wanted self.new levels level.after) result }
+            → Steps wanted S.taken S.failed sink.old sink.new self.old.setup put (IsAt wanted self.new levels level.after) result }
     {
         let ended = self
             .told
@@ -377,9 +346,9 @@ impl<'a> Pass<'a> {
         let around = waiting.around;
         let inner = mem::replace(
             &mut self.bucket,
-            OpenBucket::new(self.alloc, waiting.bucket.limits),
+            OpenBucket::new(self.setup.alloc, waiting.bucket.limits),
         );
-        match leave(&self.bounds, inner, waiting, &mut self.next, sink) {
+        match waiting.leave(&self.setup, inner, &mut self.next, sink) {
             Err(fault) => Err(fault),
             Ok(outer) => {
                 self.bucket = outer;
@@ -394,11 +363,11 @@ impl<'a> Pass<'a> {
     fn leave_to<S: Sink>(&mut self, depth: usize, sink: &mut S) -> Result<(), BulkFault>
         requires ready { IsReady self.old }
         requires some { 1 ≤ depth }
-        ensures bounds { OnOk result (self.new.bounds ≡ self.old.bounds) }
+        ensures setup { OnOk result (self.new.setup ≡ self.old.setup) }
         ensures ready { OnOk result (IsReady self.new) }
         ensures depth { OnOk result (depth_of self.new ≤ depth) }
         ensures steps { (wanted : Wanted) (members : List Member) (put : List Placed) → HasLeft wanted self.old members put → IsNoDeeper depth members
-            → Steps wanted S.taken S.failed sink.old sink.new self.old.bounds put (HasLeft wanted self.new members) result }
+            → Steps wanted S.taken S.failed sink.old sink.new self.old.setup put (HasLeft wanted self.new members) result }
     {
         'levels: while self.depth() > depth {
             if let Err(fault) = self.leave(sink) {
@@ -417,11 +386,11 @@ impl<'a> Pass<'a> {
     ) -> Result<(), BulkFault>
         requires ready { IsReady self.old }
         requires fit { IsFitMember (path_of path.now, item_view item) }
-        ensures bounds { OnOk result (self.new.bounds ≡ self.old.bounds) }
+        ensures setup { OnOk result (self.new.setup ≡ self.old.setup) }
         ensures ready { OnOk result (IsReady self.new) }
         ensures depth { OnOk result (depth_of self.new ≤ 1 + length path.now) }
         ensures steps { (wanted : Wanted) (members : List Member) (put : List Placed) → HasLeft wanted self.old ((path_of path.now, item_view item.entry) ∷ members) put
-            → Steps wanted S.taken S.failed sink.old sink.new self.old.bounds put (HasLeft wanted self.new members) result }
+            → Steps wanted S.taken S.failed sink.old sink.new self.old.setup put (HasLeft wanted self.new members) result }
     {
         let Some((key, _)) = path.split_last() else {
             unreachable!()
@@ -438,7 +407,7 @@ impl<'a> Pass<'a> {
     /// Ends all that is open, up to the root page of the root bucket.
     pub(crate) fn end<S: Sink>(&mut self, sink: &mut S) -> Result<Ended, BulkFault>
         requires { IsReady self.old }
-        ensures { (wanted : Wanted) (put : List Placed) → HasLeft wanted self.old [] put → Ends wanted S.taken S.failed sink.old sink.new self.old.bounds put result }
+        ensures { (wanted : Wanted) (put : List Placed) → HasLeft wanted self.old [] put → Ends wanted S.taken S.failed sink.old sink.new self.old.setup put result }
     {
         if let Err(fault) = self.leave_to(1, sink) {
             return Err(fault);
@@ -449,13 +418,13 @@ impl<'a> Pass<'a> {
         if let Err(fault) = ended {
             return Err(fault);
         }
-        match self.bucket.end(&self.bounds, &mut self.next, sink) {
+        match self.bucket.end(&self.setup, &mut self.next, sink) {
             Err(fault) => Err(fault),
             Ok(root) => Ok(Ended {
                 root,
                 high_water: self.next,
                 held: self.most,
-                told: self.told.take(self.alloc),
+                told: self.told.take(self.setup.alloc),
             }),
         }
     }

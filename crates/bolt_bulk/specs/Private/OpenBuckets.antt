@@ -6,7 +6,7 @@ use Rattle.bolt_layout.specs.Levels.{overflow_of}
 use Rattle.bolt_bulk.specs.Private.BranchRuns.{IsStanding, rows_above, rows_end_next}
 use Rattle.bolt_bulk.specs.Private.HeldItems.{AreHeld, held_views, inlined_in, page_size_of}
 use Rattle.bolt_bulk.specs.Private.Rows.{LeafRow, OpenRows, leaf_key}
-use Rattle.bolt_bulk.specs.declared.open_bucket.LeafRun.{LeafRun}
+use Rattle.bolt_bulk.specs.declared.leaf_run.LeafRun.{LeafRun}
 use Rattle.bolt_bulk.specs.declared.open_bucket.OpenBucket.{OpenBucket}
 
 -- a run of items as the row that it is,

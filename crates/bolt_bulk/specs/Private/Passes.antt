@@ -24,12 +24,12 @@ use Rattle.bolt_bulk.specs.Private.OpenRuns.{Frame, Open, all_put, base_in}
 use Rattle.bolt_bulk.specs.Private.TakenItems.{entries_size}
 use Rattle.bolt_bulk.specs.Private.Waiting.{IsWaiting}
 use Rattle.bolt_bulk.specs.Puts.{Puts}
-use Rattle.bolt_bulk.specs.declared.bounds.Bounds.{Bounds}
+use Rattle.bolt_bulk.specs.declared.page_setup.PageSetup.{PageSetup}
 use Rattle.bolt_bulk.specs.declared.fault.BulkFault.{BulkFault}
 use Rattle.bolt_bulk.specs.declared.fault.BulkFault.TheVariants as fault
 use Rattle.bolt_bulk.specs.declared.pass.Pass.{Pass}
-use Rattle.bolt_bulk.specs.declared.pass.Pending.{Pending}
-use Rattle.bolt_bulk.specs.declared.steps.Waiting.{Waiting}
+use Rattle.bolt_bulk.specs.declared.pending.Pending.{Pending}
+use Rattle.bolt_bulk.specs.declared.waiting.Waiting.{Waiting}
 use Rattle.bolt_bulk.specs.declared.told.Told.{Told}
 use Rattle.bolt_layout.specs.declared.layout.Layout.{Layout}
 
@@ -132,7 +132,7 @@ pub record IsAt (wanted : Wanted) (pass : Pass) (levels : List Level) (left : Tr
   pub frames : List Frame
   pub state : Open
   pub rest : Tree
-  pub under : IsPass wanted.which pass.bounds.page_size frames state (items_of wanted.which pass.bounds.page_size rest) (root_of wanted.which pass.bounds.page_size wanted.tree)
+  pub under : IsPass wanted.which pass.setup.page_size frames state (items_of wanted.which pass.setup.page_size rest) (root_of wanted.which pass.setup.page_size wanted.tree)
   pub rows : IsOpenRows (rows_of pass.bucket pass.next) state (base_in frames)
   pub waits : AreWaiting (reverse pass.waiting.items) frames
   pub put_is : put ≡ all_put frames state
@@ -140,11 +140,11 @@ pub record IsAt (wanted : Wanted) (pass : Pass) (levels : List Level) (left : Tr
   pub held : pass.most ≡ capped (held_so_far frames state)
   pub opened : ℕ
   pub opened_is : pass.opened ≡ capped opened
-  pub coming : AreComing wanted pass.bounds.page_size (limits_by pass) opened rest
-  pub around : AreComingAround wanted pass.bounds.page_size (limits_by pass) (opened + opened_in wanted.which pass.bounds.page_size rest) frames
+  pub coming : AreComing wanted pass.setup.page_size (limits_by pass) opened rest
+  pub around : AreComingAround wanted pass.setup.page_size (limits_by pass) (opened + opened_in wanted.which pass.setup.page_size rest) frames
   pub numbers : List ℕ
-  pub numbered : AreNumbered wanted pass.bounds.page_size opened numbers (open_in state frames)
-  pub has_told : HasTold wanted pass.bounds.page_size pass.told opened numbers
+  pub numbered : AreNumbered wanted pass.setup.page_size opened numbers (open_in state frames)
+  pub has_told : HasTold wanted pass.setup.page_size pass.told opened numbers
 
 -- What is known of it without the tree. A bucket that may be inline has values alone, which take at most a quarter of a page.
 pub record IsSmall (page_size : ℕ) (pending : Pending) (entries : List Leaf) : Type 0 where
@@ -161,9 +161,9 @@ IsPendingSmall page_size (Some pending) entries = IsSmall page_size pending entr
 
 pub record IsReady (pass : Pass) : Type 0 where
   pub bucket : IsOpenBucket pass.bucket
-  pub next : pass.next ≤ pass.bounds.limit
-  pub waiting : AllByRecursion (IsWaiting pass.bounds.page_size) pass.waiting.items
-  pub pending : IsPendingSmall pass.bounds.page_size pass.pending pass.entries.items
+  pub next : pass.next ≤ pass.setup.limit
+  pub waiting : AllByRecursion (IsWaiting pass.setup.page_size) pass.waiting.items
+  pub pending : IsPendingSmall pass.setup.page_size pass.pending pass.entries.items
   pub counted : AreCounted 0 pass.waiting.items
   pub around : pass.around ≡ capped (items_around pass.waiting.items)
 
@@ -187,12 +187,12 @@ pub record StandsBefore (front whole : List Placed) : Type 0 where
 
 -- A step puts further pages, of which others of the layout come behind, or a beginning of their bytes where it fails. It is too large a
 -- layout where a step says so.
-pub record Steps {S A : Type 0} (wanted : Wanted) (taken : S → Option (List ℕ)) (failed : S → ℕ) (old new : S) (bounds : Bounds) (put : List Placed) (At : List Placed → Type 0) (result : Result A BulkFault) : Type 0 where
+pub record Steps {S A : Type 0} (wanted : Wanted) (taken : S → Option (List ℕ)) (failed : S → ℕ) (old new : S) (setup : PageSetup) (put : List Placed) (At : List Placed → Type 0) (result : Result A BulkFault) : Type 0 where
   pub more : List Placed
-  pub puts : Puts taken failed old new (placed_bytes bounds.page_size more) result
+  pub puts : Puts taken failed old new (placed_bytes setup.page_size more) result
   pub at : OnOk result (At (put ++ more))
-  pub before : StandsBefore (put ++ more) (layout_pages wanted.which bounds.page_size wanted.tree)
-  pub large : IfErr result (λ e. e ≡ fault.TooLarge → bounds.limit < layout_mark wanted.which bounds.page_size wanted.tree)
+  pub before : StandsBefore (put ++ more) (layout_pages wanted.which setup.page_size wanted.tree)
+  pub large : IfErr result (λ e. e ≡ fault.TooLarge → setup.limit < layout_mark wanted.which setup.page_size wanted.tree)
 
 -- no path of the next member is longer
 abbrev pub IsNoDeeper : ℕ → List Member → Type 0

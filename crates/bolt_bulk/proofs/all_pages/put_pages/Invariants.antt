@@ -14,11 +14,11 @@ use Rattle.bolt_bulk.proofs.all_pages.put_pages.Given as goal
 abbrev pub invariant-members : goal.invariant-members
 invariant-members g l = record {
   checked : walk_checked l.walk ≡ l.checked;
-  bounds : l.pass.bounds ≡ l.initial.pass.bounds;
+  setup : l.pass.setup ≡ l.initial.pass.setup;
   ready : IsReady l.pass;
   fit : ForListing l.checked (λ listing. ∥ AllByRecursion IsFitMember (left_of l.walk listing) ∥₁);
-  steps : (which : Layout) → ForListing l.checked (λ listing. FitLimits which (tree_of listing) l.initial.pass.bounds.page_size (limits_with l.limits)
-      → Steps {A = ⊤} (record { which = which; tree = tree_of listing; tells = l.tells }) g.S.Sink.taken g.S.Sink.failed l.initial.sink l.sink l.initial.pass.bounds []
+  steps : (which : Layout) → ForListing l.checked (λ listing. FitLimits which (tree_of listing) l.initial.pass.setup.page_size (limits_with l.limits)
+      → Steps {A = ⊤} (record { which = which; tree = tree_of listing; tells = l.tells }) g.S.Sink.taken g.S.Sink.failed l.initial.sink l.sink l.initial.pass.setup []
       (HasLeft (record { which = which; tree = tree_of listing; tells = l.tells }) l.pass (left_of l.walk listing)) (Ok tt));
 }
 

@@ -19,19 +19,19 @@ put_pages-requires-clause-lists c = λ listing lists. listing_is_back listing (c
 
 pub returns-in-Ok-clause-fit : goal.returns-in-Ok-clause-fit
 returns-in-Ok-clause-fit c = λ listing lists.
-    let ends = c.in-Ok.ensures Plain listing lists (fit_plain c.telling_bounds_of.result.page_size c.none-none.result (tree_of listing) c.none-none.ensures) in
-    subst (λ (n : ℕ). FitLimits Balanced (tree_of listing) n (limits_with c.in-Ok.ended.told)) c.telling_bounds_of.ensures.page_size (ends.told refl refl)
+    let ends = c.in-Ok.ensures Plain listing lists (fit_plain c.telling_setup_of.result.page_size c.none-none.result (tree_of listing) c.none-none.ensures) in
+    subst (λ (n : ℕ). FitLimits Balanced (tree_of listing) n (limits_with c.in-Ok.ended.told)) c.telling_setup_of.ensures.page_size (ends.told refl refl)
 
 pub returns-in-Err-TooLarge-clause-large : goal.returns-in-Err-TooLarge-clause-large
 returns-in-Err-TooLarge-clause-large c = λ _ listing lists.
-    let ends = c.in-Err-TooLarge.ensures Plain listing lists (fit_plain c.telling_bounds_of.result.page_size c.none-none.result (tree_of listing) c.none-none.ensures) in
+    let ends = c.in-Err-TooLarge.ensures Plain listing lists (fit_plain c.telling_setup_of.result.page_size c.none-none.result (tree_of listing) c.none-none.ensures) in
     let above = ends.large c.in-Err-TooLarge.field-0-is in
-    let size = ap (λ (n : ℕ). layout_mark Plain n (tree_of listing)) c.telling_bounds_of.ensures.page_size in
-    let limit = c.telling_bounds_of.ensures.limit in
+    let size = ap (λ (n : ℕ). layout_mark Plain n (tree_of listing)) c.telling_setup_of.ensures.page_size in
+    let limit = c.telling_setup_of.ensures.limit in
     balanced_too_large c.args.page_size listing _ c.requires (c.file_has_one_layout.ensures.tree listing lists) (omega arith) (c.file_has_one_layout.ensures.length Balanced listing lists)
 
 pub unreachable-requires : goal.unreachable-requires
 unreachable-requires c = ∥∥₁_elim (the_listing c.args.checked).1 (Prim.hlevel props) (λ lists.
     let listing = (the_listing c.args.checked).0 in
-    let ends = c.in-Err-Sink.ensures Plain listing lists (fit_plain c.telling_bounds_of.result.page_size c.none-none.result (tree_of listing) c.none-none.ensures) in
+    let ends = c.in-Err-Sink.ensures Plain listing lists (fit_plain c.telling_setup_of.result.page_size c.none-none.result (tree_of listing) c.none-none.ensures) in
     let none : 0 < 0 = ends.puts.failure c.in-Err-Sink.field-0-is in omega arith)

@@ -50,48 +50,48 @@ put_pages-requires-clause-lists g c = λ listing lists. listing_is_back listing 
 
 pub overflow_mul-result : goal.overflow_mul-result
 overflow_mul-result g c = ∥∥₁_elim (the_listing c.args.checked).1 (Prim.hlevel props) (λ lists.
-    let ends = c.in-Ok.ensures c.args.layout (the_listing c.args.checked).0 lists (subst (λ (n : ℕ). FitLimits c.args.layout (tree_of (the_listing c.args.checked).0) n (limits_with c.in_ok-limits.limits)) (sym c.bounds_of.ensures.page_size) (c.in_ok-limits.ensures.fit (the_listing c.args.checked).0 lists)) in
-    let few = within_limit c.args.page_size c.bounds_of.result.limit c.in-Ok.ended.high_water (c.in-Ok.ended.high_water * c.args.page_size) c.bounds_of.ensures.limit ends.within refl in omega arith)
+    let ends = c.in-Ok.ensures c.args.layout (the_listing c.args.checked).0 lists (subst (λ (n : ℕ). FitLimits c.args.layout (tree_of (the_listing c.args.checked).0) n (limits_with c.in_ok-limits.limits)) (sym c.setup_of.ensures.page_size) (c.in_ok-limits.ensures.fit (the_listing c.args.checked).0 lists)) in
+    let few = within_limit c.args.page_size c.setup_of.result.limit c.in-Ok.ended.high_water (c.in-Ok.ended.high_water * c.args.page_size) c.setup_of.ensures.limit ends.within refl in omega arith)
 
 pub returns-in-Err-put_pages-clause-copied : goal.returns-in-Err-put_pages-clause-copied
 returns-in-Err-put_pages-clause-copied g c = λ listing lists.
     let planned = c.in_ok-plan.ensures c.args.layout listing lists (c.in_ok-limits.ensures.fit listing lists) in
     let tree = tree_of listing in
-    let P : ℕ = c.bounds_of.result.page_size in
-    let ends = c.in-Err-put_pages.ensures c.args.layout listing lists (subst (λ (n : ℕ). FitLimits c.args.layout (tree_of listing) n (limits_with c.in_ok-limits.limits)) (sym c.bounds_of.ensures.page_size) (c.in_ok-limits.ensures.fit listing lists)) in
+    let P : ℕ = c.setup_of.result.page_size in
+    let ends = c.in-Err-put_pages.ensures c.args.layout listing lists (subst (λ (n : ℕ). FitLimits c.args.layout (tree_of listing) n (limits_with c.in_ok-limits.limits)) (sym c.setup_of.ensures.page_size) (c.in_ok-limits.ensures.fit listing lists)) in
     let facts : Facts = record { page_size = c.args.page_size; root = c.in_ok-plan.plan.root; sequence = c.meta.result.root_sequence; mark = c.in_ok-plan.plan.high_water } in
     let parts : layout_for c.args.layout c.args.checked c.args.page_size listing ≡ first_pages facts ++ placed_bytes c.args.page_size (layout_pages c.args.layout c.args.page_size tree) =
     rw (sym c.meta.ensures) (layout_parts c.args.layout c.args.page_size tree c.meta.result.root_sequence c.in_ok-plan.plan.root c.in_ok-plan.plan.high_water planned.root planned.high_water) in
     let others : placed_bytes c.args.page_size (layout_pages c.args.layout c.args.page_size tree) ≡ placed_bytes P ends.others =
-    ap (λ (n : ℕ). placed_bytes n (layout_pages c.args.layout n tree)) (sym c.bounds_of.ensures.page_size) ∙ ap (placed_bytes P) ends.all in
+    ap (λ (n : ℕ). placed_bytes n (layout_pages c.args.layout n tree)) (sym c.setup_of.ensures.page_size) ∙ ap (placed_bytes P) ends.all in
     let whole = parts ∙ ap (λ (bytes : List ℕ). first_pages facts ++ bytes) others in
     let low = (size_bounds c.args.page_size c.requires).0 in
-    let mark : layout_mark c.args.layout P tree ≡ layout_mark c.args.layout c.args.page_size tree = ap (λ (n : ℕ). layout_mark c.args.layout n tree) c.bounds_of.ensures.page_size in
+    let mark : layout_mark c.args.layout P tree ≡ layout_mark c.args.layout c.args.page_size tree = ap (λ (n : ℕ). layout_mark c.args.layout n tree) c.setup_of.ensures.page_size in
     stops_later g.S.Sink.taken g.S.Sink.failed c.args.sink.now c.put_pages.new.sink _ (first_pages facts) (placed_bytes P ends.others) whole planned.fits c.put_first_pages.new.sink tt c.in-Err-put_pages.fault
     c.in_default.ensures ends.puts ends.short
-    (λ e. let above = ends.large e in too_large c.args.page_size c.bounds_of.result.limit (layout_mark c.args.layout c.args.page_size tree) _ (omega arith) c.bounds_of.ensures.limit (omega arith) (c.file_has_one_layout.ensures.length c.args.layout listing lists))
+    (λ e. let above = ends.large e in too_large c.args.page_size c.setup_of.result.limit (layout_mark c.args.layout c.args.page_size tree) _ (omega arith) c.setup_of.ensures.limit (omega arith) (c.file_has_one_layout.ensures.length c.args.layout listing lists))
 
 pub returns-clause-copied : goal.returns-clause-copied
 returns-clause-copied g c = λ listing lists.
     let planned = c.in_ok-plan.ensures c.args.layout listing lists (c.in_ok-limits.ensures.fit listing lists) in
     let tree = tree_of listing in
-    let P : ℕ = c.bounds_of.result.page_size in
-    let ends = c.in-Ok.ensures c.args.layout listing lists (subst (λ (n : ℕ). FitLimits c.args.layout (tree_of listing) n (limits_with c.in_ok-limits.limits)) (sym c.bounds_of.ensures.page_size) (c.in_ok-limits.ensures.fit listing lists)) in
+    let P : ℕ = c.setup_of.result.page_size in
+    let ends = c.in-Ok.ensures c.args.layout listing lists (subst (λ (n : ℕ). FitLimits c.args.layout (tree_of listing) n (limits_with c.in_ok-limits.limits)) (sym c.setup_of.ensures.page_size) (c.in_ok-limits.ensures.fit listing lists)) in
     let facts : Facts = record { page_size = c.args.page_size; root = c.in_ok-plan.plan.root; sequence = c.meta.result.root_sequence; mark = c.in_ok-plan.plan.high_water } in
     let parts : layout_for c.args.layout c.args.checked c.args.page_size listing ≡ first_pages facts ++ placed_bytes c.args.page_size (layout_pages c.args.layout c.args.page_size tree) =
     rw (sym c.meta.ensures) (layout_parts c.args.layout c.args.page_size tree c.meta.result.root_sequence c.in_ok-plan.plan.root c.in_ok-plan.plan.high_water planned.root planned.high_water) in
     let others : placed_bytes c.args.page_size (layout_pages c.args.layout c.args.page_size tree) ≡ placed_bytes P ends.others =
-    ap (λ (n : ℕ). placed_bytes n (layout_pages c.args.layout n tree)) (sym c.bounds_of.ensures.page_size) ∙ ap (placed_bytes P) ends.all in
+    ap (λ (n : ℕ). placed_bytes n (layout_pages c.args.layout n tree)) (sym c.setup_of.ensures.page_size) ∙ ap (placed_bytes P) ends.all in
     let whole = parts ∙ ap (λ (bytes : List ℕ). first_pages facts ++ bytes) others in
-    let mark : c.in-Ok.ended.high_water ≡ layout_mark c.args.layout c.args.page_size tree = ends.mark ∙ ap (λ (n : ℕ). layout_mark c.args.layout n tree) c.bounds_of.ensures.page_size in
+    let mark : c.in-Ok.ended.high_water ≡ layout_mark c.args.layout c.args.page_size tree = ends.mark ∙ ap (λ (n : ℕ). layout_mark c.args.layout n tree) c.setup_of.ensures.page_size in
     copied g.S.Sink.taken g.S.Sink.failed c.args.sink.now c.put_pages.new.sink _ (first_pages facts) (placed_bytes P ends.others) whole planned.fits c.put_first_pages.new.sink tt c.in-Ok.ended _ _
     c.in_default.ensures ends.puts (ap (λ (n : ℕ). n * c.args.page_size) mark ∙ sym (c.file_has_one_layout.ensures.length c.args.layout listing lists))
 
 pub returns-clause-held : goal.returns-clause-held
 returns-clause-held g c = λ listing lists.
-    let ends = c.in-Ok.ensures c.args.layout listing lists (subst (λ (n : ℕ). FitLimits c.args.layout (tree_of listing) n (limits_with c.in_ok-limits.limits)) (sym c.bounds_of.ensures.page_size) (c.in_ok-limits.ensures.fit listing lists)) in
+    let ends = c.in-Ok.ensures c.args.layout listing lists (subst (λ (n : ℕ). FitLimits c.args.layout (tree_of listing) n (limits_with c.in_ok-limits.limits)) (sym c.setup_of.ensures.page_size) (c.in_ok-limits.ensures.fit listing lists)) in
     let planned = c.in_ok-plan.ensures c.args.layout listing lists (c.in_ok-limits.ensures.fit listing lists) in
     let small = c.file_has_one_layout.ensures.held c.args.layout listing lists planned.fits in
     let fits = planned.fits in
-    let size = ap (λ (n : ℕ). layout_held c.args.layout n (tree_of listing)) c.bounds_of.ensures.page_size in
+    let size = ap (λ (n : ℕ). layout_held c.args.layout n (tree_of listing)) c.setup_of.ensures.page_size in
     let held = ends.held in omega (arith, small, fits, size, held)

@@ -18,6 +18,6 @@ pub unreachable-requires : goal.unreachable-requires
 unreachable-requires c = ∥∥₁_elim (the_listing c.args.checked).1 (Prim.hlevel props) (λ lists.
     let listing = (the_listing c.args.checked).0 in
     let (which, fits) = c.requires.fit in
-    let fit = subst (λ (n : ℕ). FitLimits which (tree_of listing) n (limits_with c.args.limits.now)) (sym c.bounds_of.ensures.page_size) (fits listing lists) in
+    let fit = subst (λ (n : ℕ). FitLimits which (tree_of listing) n (limits_with c.args.limits.now)) (sym c.setup_of.ensures.page_size) (fits listing lists) in
     let ends = c.in-Err-Sink.ensures which listing lists fit in
     let none : 0 < 0 = ends.puts.failure c.in-Err-Sink.field-0-is in omega arith)

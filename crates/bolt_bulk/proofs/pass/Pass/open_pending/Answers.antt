@@ -5,7 +5,7 @@ use Rattle.bolt_bulk.specs.Private.OpenBuckets.{IsOpenBucket}
 use Rattle.bolt_bulk.specs.declared.fault.BulkFault.TheVariants as fault
 use Rattle.bolt_bulk.specs.Private.Waiting.{IsWaiting}
 use Rattle.bolt_bulk.specs.declared.open_bucket.OpenBucket.{OpenBucket}
-use Rattle.bolt_bulk.specs.declared.steps.Waiting.{Waiting}
+use Rattle.bolt_bulk.specs.declared.waiting.Waiting.{Waiting}
 use Rattle.bolt_bulk.proofs.HeldPasses.{more_around, waits_more}
 use Rattle.bolt_layout.proofs.ListLemmas.{all_append}
 use Rattle.bolt_bulk.proofs.PassAt.{open_steps, open_stops, puts_failed, puts_fault, puts_well, steps_none}
@@ -18,19 +18,19 @@ returns-in-Err-clause-steps g c = λ wanted left levels put is rooted.
 
 pub returns-in-Err-waiting-clause-steps : goal.returns-in-Err-waiting-clause-steps
 returns-in-Err-waiting-clause-steps g c = λ wanted left levels put is rooted.
-    let small = small_of c.args.self.now.bounds.page_size c.args.self.now.pending c.args.pending c.args.self.now.entries.items c.requires.pending c.requires.ready.pending in
+    let small = small_of c.args.self.now.setup.page_size c.args.self.now.pending c.args.pending c.args.self.now.entries.items c.requires.pending c.requires.ready.pending in
     open_stops g.S.Sink.taken g.S.Sink.failed wanted c.args.self.now put levels left c.args.pending c.args.sink.now c.enter-waiting.new.sink _ c.in-Err-waiting.fault is c.requires.pending small rooted
     (puts_fault _ _ _ c.in-Err-waiting.fault (rw c.replace-outer.ensures.value at c.in-Err-waiting.ensures.pages)) (rw c.replace-outer.ensures.value at c.in-Err-waiting.ensures.large)
 
 pub returns-then-is_err-clause-steps : goal.returns-then-is_err-clause-steps
 returns-then-is_err-clause-steps g c = λ wanted left levels put is rooted.
-    let small = small_of c.args.self.now.bounds.page_size c.args.self.now.pending c.args.pending c.args.self.now.entries.items c.requires.pending c.requires.ready.pending in
+    let small = small_of c.args.self.now.setup.page_size c.args.self.now.pending c.args.pending c.args.self.now.entries.items c.requires.pending c.requires.ready.pending in
     open_stops g.S.Sink.taken g.S.Sink.failed wanted c.args.self.now put levels left c.args.pending c.args.sink.now c.enter-waiting.new.sink _ fault.Memory is c.requires.pending small rooted
     (puts_failed _ _ _ c.in-Ok-waiting.waiting (rw c.replace-outer.ensures.value at c.in-Ok-waiting.ensures.pages)) (λ e. absurd cc)
 
 pub returns-clause-steps : goal.returns-clause-steps
 returns-clause-steps g c = λ wanted left levels put is rooted.
-    let small = small_of c.args.self.now.bounds.page_size c.args.self.now.pending c.args.pending c.args.self.now.entries.items c.requires.pending c.requires.ready.pending in
+    let small = small_of c.args.self.now.setup.page_size c.args.self.now.pending c.args.pending c.args.self.now.entries.items c.requires.pending c.requires.ready.pending in
     let items : c.push.new.self.items ≡ c.args.self.now.waiting.items ++ c.in-Ok-waiting.waiting ∷ [] = search rules in
     let values = rw (c.as_slice.ensures.value, sym c.replace-outer.ensures.after) at (c.in-Ok.ensures.rows c.enter-waiting.new.next) in
     open_steps g.S.Sink.taken g.S.Sink.failed wanted c.args.self.now put levels left c.args.pending c.args.sink.now c.enter-waiting.new.sink c.replace-outer.new.dest c.in-Ok-waiting.waiting c.push.new.self c.clear.new.self
@@ -46,8 +46,8 @@ count-requires g c =
     record {
       bucket = subst (λ (bucket : OpenBucket). IsOpenBucket bucket) (sym c.replace-outer.ensures.after) c.in-Ok.ensures.open;
       next = c.in-Ok-waiting.ensures.within;
-      waiting = subst (λ (ws : List Waiting). AllByRecursion (IsWaiting c.args.self.now.bounds.page_size) ws) (sym items)
-          (all_append (IsWaiting c.args.self.now.bounds.page_size) waiting (w ∷ []) ready.waiting (c.in-Ok-waiting.ensures.waits, tt));
+      waiting = subst (λ (ws : List Waiting). AllByRecursion (IsWaiting c.args.self.now.setup.page_size) ws) (sym items)
+          (all_append (IsWaiting c.args.self.now.setup.page_size) waiting (w ∷ []) ready.waiting (c.in-Ok-waiting.ensures.waits, tt));
       pending = c.clear.ensures.items;
       counted = waits_more waiting c.push.new.self.items w c.args.self.now.around ready.counted c.in-Ok-waiting.ensures.around ready.around items;
       around = more_around c.args.self.now.around c.saturating_add-around.result c.held.result waiting c.push.new.self.items w ready.around c.held.ensures c.saturating_add-around.ensures items;
