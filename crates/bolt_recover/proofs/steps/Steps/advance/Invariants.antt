@@ -1,7 +1,7 @@
 use Rattle.bolt_recover.specs.Private.Frames.{GoesOn, state_of, steps_weight}
 use Rattle.bolt_recover.proofs.steps.Steps.advance.Given as goal
 
--- nothing was given yet
+-- nothing was returned yet
 abbrev pub invariant-loop-self : goal.invariant-loop-self
 invariant-loop-self l = GoesOn (state_of l.fn.self) (state_of l.self)
 
