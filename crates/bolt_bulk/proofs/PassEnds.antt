@@ -215,7 +215,7 @@ has_end wanted pass put has shallow =
           table_fits P wanted.tree told.limits at.opened table (omega arith) (omega arith);
     }
 
--- A beginning of a text isn't the whole of a longer one.
+-- A prefix of a text isn't the whole of a longer one.
 some_more : (xs ys : List ℕ) → ys ≢ [] → (xs ++ ys) ≢ []
 some_more [] ys some = some
 some_more (x ∷ xs) ys some = λ e. cc

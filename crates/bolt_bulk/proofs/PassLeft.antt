@@ -17,7 +17,7 @@ use Rattle.bolt_bulk.specs.declared.waiting.Waiting.{Waiting}
 use Rattle.bolt_bulk.proofs.Members.{none_at_all, none_further}
 use Rattle.bolt_bulk.proofs.PassAt.{on_ok_map, steps_none}
 
--- The depth that code counts is that of the levels.
+-- The depth that the code counts is that of the levels.
 waiting_frames : (waiting : List Waiting) (frames : List Frame) → AreWaiting waiting frames → length waiting ≡ length frames
 waiting_frames [] [] are = refl
 waiting_frames [] (frame ∷ frames) are = absurd are

@@ -27,7 +27,7 @@ data_push (x ∷ es) e =
 pub small_of : (page_size : ℕ) (pending : Option Pending) (p : Pending) (entries : List Leaf) → pending ≡ Some p → IsPendingSmall page_size pending entries → IsSmall page_size p entries
 small_of page_size pending p entries some small = subst (λ (q : Option Pending). IsPendingSmall page_size q entries) some small
 
--- a value more
+-- one more value
 pub small_push : (page_size size : ℕ) (p : Pending) (entries more : List Leaf) (entry : Leaf) → IsSmall page_size p entries → length entry.key.now ≤ 1073741824 → entry.is_bucket ≡ false
     → size ≡ p.size + (16 + (length entry.key.now + length entry.value.now)) → size ≤ page_size / 4 → length entries < 65534 → more ≡ entries ++ entry ∷ []
     → IsSmall page_size (record { key = p.key; sequence = p.sequence; size = size }) more

@@ -1,4 +1,4 @@
--- A pass goes along a walk: the members that are left to both are the same.
+-- A pass follows a walk: the members that are left to both are the same.
 use Rattle.std.proofs.Common.{◌≡◌, ◌≤◌, List, ◌∷◌, length, subst, sym}
 use Rattle.std.specs.List.{AllByRecursion}
 use Rattle.std.proofs.Math.Logic.{∥∥₁_elim, ∥∥₁_map}

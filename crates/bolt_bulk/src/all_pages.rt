@@ -7,9 +7,9 @@ ghost use Rattle.bolt_layout.specs.declared.layout.Layout.{Layout};
 ghost use Rattle.bolt_bulk.specs.Private.Endings.{Ends, IsFitMember};
 ghost use Rattle.bolt_bulk.specs.Private.Passes.{FitLimits, Wanted, limits_with};
 
-use crate::page_setup::PageSetup;
 use crate::fault::BulkFault;
 use crate::limits::Limits;
+use crate::page_setup::PageSetup;
 use crate::pass::{Ended, Pass};
 use bolt_check::Checked;
 use bolt_format::Sink;

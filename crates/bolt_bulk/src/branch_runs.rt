@@ -1,4 +1,4 @@
-//! The runs of pages that stand open above a bucket's leaves.
+//! The open runs of pages above a bucket's leaves.
 ghost use Rattle.std.specs.Prelude.{◌≡◌, ◌+◌, ◌<◌, ◌≤◌, true, false, [], ◌∷◌, IfErr, IfOk, OnErr, OnOk, length, option_map};
 ghost use Rattle.std.specs.List.{AllByRecursion};
 ghost use Rattle.bolt_format.specs.ElementPlaces.{branch_view};
@@ -13,21 +13,21 @@ ghost use Rattle.bolt_bulk.specs.Private.Rows.{no_row, one_closed, row_has_room,
 ghost use Rattle.bolt_bulk.specs.Puts.{Puts, PutsWhole};
 ghost use Rattle.bolt_bulk.specs.declared.fault.BulkFault.TheVariants as fault;
 
-use crate::page_setup::{PageSetup, MAX_ITEMS, number_after, overflow};
 use crate::branch_page::put_branch_page;
 use crate::fault::BulkFault;
 use crate::limits::BucketLimits;
+use crate::page_setup::{MAX_ITEMS, PageSetup, number_after, overflow};
 use bolt_format::{Branch, Sink, SinkFault};
 use std::alloc::Global;
 
-/// A run of pages that is open, the size of the page over it, and how many runs may come after it.
+/// An open run of pages, the size of the page over it, and how many runs may come after it.
 #[derive(Drop)]
 pub(crate) struct BranchRun<'a> {
     pub elements: Vec<Branch<'a>>,
     pub size: usize,
-    /// How many runs may still begin in its row; `None` if there may be any number.
+    /// How many runs may still begin in its row. `None` if any number may.
     pub left: Option<u64>,
-    /// How many runs of its row have closed; 2^64 - 1 if there were more.
+    /// How many runs of its row have closed. Saturates at 2^64 - 1.
     pub closed: u64,
 }
 
@@ -57,7 +57,7 @@ impl<'a> BranchRun<'a> {
         Ok(())
     }
 
-    /// Whether the element of a page with this first key joins.
+    /// Whether the element of a page with this first key joins the run.
     fn has_room(&self, page_size: usize, key: &[u8]) -> bool
         requires { self.now.size + length key.now < 9223372036854775808 }
         ensures { result ≡ row_has_room page_size (row_of self.now) (key_size key.now) }
@@ -66,8 +66,8 @@ impl<'a> BranchRun<'a> {
             || (self.size + (16 + key.len()) <= page_size && self.elements.len() < MAX_ITEMS)
     }
 
-    /// Whether it stays open for the page with this first key, which comes next: it joins, or it is
-    /// the last of a row that may have no further run.
+    /// Whether the run stays open for the next page, which has this first key: the run has room for
+    /// it, or no further run may begin in the row.
     fn stays(&mut self, page_size: usize, key: &[u8]) -> bool
         requires { self.old.size + length key.now < 9223372036854775808 }
         ensures stays { result ≡ row_stays page_size (row_of self.old) (key_size key.now) }
@@ -84,8 +84,9 @@ impl<'a> BranchRun<'a> {
         false
     }
 
-    /// Takes the element of a page that has closed, where a page with this first key comes next.
-    /// A run that this one doesn't join closes: its page is put, and its element given.
+    /// Takes the element of a page that has closed. The next page has this first key. If that page
+    /// doesn't join the run, the run closes: its page is written, and the element of that page is
+    /// returned.
     fn take<S: Sink>(
         &mut self,
         setup: &PageSetup,
@@ -114,8 +115,8 @@ impl<'a> BranchRun<'a> {
         Ok(Some(up))
     }
 
-    /// Takes the element of the last page below, and closes: the run's page is put, and its
-    /// element given.
+    /// Takes the element of the last page below, and closes the run: its page is written, and the
+    /// element of that page is returned.
     fn end<S: Sink>(
         &mut self,
         setup: &PageSetup,
@@ -138,7 +139,7 @@ impl<'a> BranchRun<'a> {
         self.close(setup, next, sink)
     }
 
-    /// Puts the page over the run, and begins the next run. Gives the page's element.
+    /// Writes the page over the run, and begins the next run. Returns the page's element.
     fn close<S: Sink>(
         &mut self,
         setup: &PageSetup,
@@ -173,7 +174,7 @@ impl<'a> BranchRun<'a> {
         Ok(up)
     }
 
-    /// Puts the page over the run.
+    /// Writes the page over the run.
     fn put<S: Sink>(&self, setup: &PageSetup, number: u64, sink: &mut S) -> Result<(), SinkFault>
         requires sized { IsSizedRow (row_of self.now) }
         requires small { self.now.size < 4294967296 }
@@ -192,8 +193,9 @@ impl<'a> BranchRun<'a> {
     }
 }
 
-/// A page has closed, and a page with this first key comes next. Each run takes the page below it
-/// that closed, and closes where the next one won't join it. Above them a run of the next level begins.
+/// A page has closed, and the next page has this first key. The lowest run takes the page that has
+/// closed. If the next page doesn't join it, it closes too, and the run above it takes its page;
+/// and so on. If all runs close, a run of the next level begins above them.
 pub(crate) fn climb<'a, S: Sink>(
     setup: &PageSetup,
     limits: BucketLimits<'_>,
@@ -230,7 +232,7 @@ pub(crate) fn climb<'a, S: Sink>(
     Ok(())
 }
 
-/// Closes each run in turn, up to the root page, and gives its number.
+/// Closes each run in turn, up to the root page, and returns the number of that page.
 pub(crate) fn close_all<'a, S: Sink>(
     setup: &PageSetup,
     closed: Branch<'a>,

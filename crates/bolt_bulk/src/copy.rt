@@ -13,13 +13,13 @@ ghost use Rattle.bolt_bulk.specs.Private.Passes.{FitLimits, limits_with};
 ghost use Rattle.bolt_bulk.specs.declared.fault.PlanFault.TheVariants as planned;
 
 use crate::all_pages::put_pages;
-use crate::page_setup::PageSetup;
 use crate::fault::{BulkFault, PlanFault};
 use crate::file_laws::file_has_one_layout;
 use crate::first_pages::{Facts, put_first_pages};
 use crate::limits::Limits;
 use crate::no_sink::NoSink;
 use crate::outcome::{Done, Plan};
+use crate::page_setup::PageSetup;
 use bolt_check::Checked;
 use bolt_format::Sink;
 use bolt_layout::Layout;

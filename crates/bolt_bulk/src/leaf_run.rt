@@ -15,8 +15,8 @@ use crate::leaf_page::put_leaf_page;
 use crate::page_setup::{MAX_ITEMS, PageSetup, number_after, overflow};
 use bolt_format::{Branch, Leaf, Sink, SinkFault};
 
-/// A run of items that is open, the entries of the inline buckets among them, and the size of the
-/// page over it.
+/// An open run of items, the entries of the inline buckets among them, and the size of the page
+/// over it.
 #[derive(Drop)]
 pub(crate) struct LeafRun<'a> {
     pub items: Vec<Held<'a>>,
@@ -25,7 +25,7 @@ pub(crate) struct LeafRun<'a> {
 }
 
 impl<'a> LeafRun<'a> {
-    /// Whether an item of this size joins.
+    /// Whether an item of this size joins the run.
     pub(crate) fn has_room(&self, page_size: usize, size: usize) -> bool
         requires { self.now.size + size < 18446744073709551616 }
         ensures { result ≡ leaves_have_room page_size (leaves_of self.now) size }
@@ -33,7 +33,7 @@ impl<'a> LeafRun<'a> {
         self.items.len() < 1 || (self.size + size <= page_size && self.items.len() < MAX_ITEMS)
     }
 
-    /// Puts the page over the run.
+    /// Writes the page over the run.
     fn put<S: Sink>(&self, setup: &PageSetup, number: u64, sink: &mut S) -> Result<(), SinkFault>
         requires run { IsLeafRun self.now }
         ensures { PutsWhole S.taken S.failed sink.old sink.new (page_bytes setup.now.page_size number (leaf_page setup.now.page_size (leaves_of self.now) number).view) result }
@@ -50,7 +50,7 @@ impl<'a> LeafRun<'a> {
         )
     }
 
-    /// Puts the page over the run, and begins the next run. Gives the page's element.
+    /// Writes the page over the run, and begins the next run. Returns the page's element.
     #[inline(never)]
     pub(crate) fn close<S: Sink>(
         &mut self,

@@ -1,5 +1,5 @@
-//! The compact copy of a sound file: the calls that plan it and write it, page after page. The
-//! layout that it has is defined in `bolt_layout`.
+//! The compact copy of a sound file: the calls that plan it, and those that write it page by page.
+//! `bolt_layout` defines its layout.
 #![tactic(auto)]
 
 mod all_pages;

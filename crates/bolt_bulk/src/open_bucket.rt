@@ -1,19 +1,17 @@
-//! All that is open of a bucket: the run of items of its leaf under way, and the runs of pages
-//! above.
-ghost use Rattle.std.specs.Prelude.{◌≡◌, ◌+◌, ◌*◌, ◌<◌, ◌≤◌, true, false, ℕ, [], IfErr, IfOk, OnErr, OnOk, length, map, min, vec_capacity, vec_len};
+//! An open bucket: the run of items of its leaf under way, and the runs of pages above.
+ghost use Rattle.std.specs.Prelude.{◌≡◌, ◌+◌, ◌<◌, ◌≤◌, true, false, ℕ, [], IfErr, IfOk, OnErr, OnOk, length, map, min, vec_capacity, vec_len};
 ghost use Rattle.std.specs.List.{AllByRecursion};
-ghost use Rattle.bolt_format.specs.ElementPlaces.{branch_view, leaf_view};
+ghost use Rattle.bolt_format.specs.ElementPlaces.{leaf_view};
 ghost use Rattle.bolt_format.specs.Sinks.{AppendsProperBeginning};
 ghost use Rattle.bolt_format.specs.declared.element.Leaf.{Leaf};
 ghost use Rattle.bolt_layout.specs.Layout.{placed_bytes};
-ghost use Rattle.bolt_layout.specs.Levels.{overflow_of};
-ghost use Rattle.bolt_layout.specs.PageBytes.{leaf_data, page_bytes};
 ghost use Rattle.bolt_bulk.specs.Private.HeldCounts.{items_in};
 ghost use Rattle.bolt_bulk.specs.Private.HeldItems.{IsHeld, held_view, inlined_by, stored_value, value_item};
-ghost use Rattle.bolt_bulk.specs.Private.OpenBuckets.{HasRoomFor, IsLeafRun, IsOpenBucket, bucket_end_next, leaf_closed, leaves_of, rows_of};
-ghost use Rattle.bolt_bulk.specs.Private.Rows.{leaf_page, leaves_have_room, no_leaves, rows_end, rows_end_put, rows_push, rows_room, rows_room_put};
-ghost use Rattle.bolt_bulk.specs.Private.TakenItems.{entries_size, inline_element, inline_size};
-ghost use Rattle.bolt_bulk.specs.Puts.{Puts, PutsWhole};
+ghost use Rattle.bolt_bulk.specs.Private.OpenBuckets.{HasRoomFor, IsOpenBucket, bucket_end_next, leaves_of, rows_of};
+ghost use Rattle.bolt_bulk.specs.Private.Rows.{leaves_have_room, no_leaves, rows_end, rows_end_put, rows_push, rows_room, rows_room_put};
+ghost use Rattle.bolt_bulk.specs.Private.TakenItems.{entries_size, inline_element, inline_size, rows_taking, value_element};
+ghost use Rattle.bolt_bulk.specs.Private.Waiting.{IsWaiting};
+ghost use Rattle.bolt_bulk.specs.Puts.{Puts};
 ghost use Rattle.bolt_bulk.specs.declared.fault.BulkFault.TheVariants as fault;
 
 use crate::branch_runs::{BranchRun, climb, close_all};
@@ -27,7 +25,7 @@ use crate::waiting::Waiting;
 use bolt_format::{Leaf, Sink};
 use std::alloc::Global;
 
-/// A bucket that is open.
+/// An open bucket.
 #[derive(Drop)]
 pub(crate) struct OpenBucket<'a> {
     pub leaves: LeafRun<'a>,
@@ -56,7 +54,7 @@ fn value_items<'a>(alloc: Global, entries: &[Leaf<'a>]) -> Result<Vec<Held<'a>>,
 }
 
 impl<'a> OpenBucket<'a> {
-    /// A bucket of which nothing is open.
+    /// A bucket that has taken no item yet.
     pub(crate) fn new(alloc: Global, limits: BucketLimits<'a>) -> OpenBucket<'a>
         ensures open { IsOpenBucket result }
         ensures rows { (next : ℕ) → rows_of result next ≡ record { leaves = no_leaves; uppers = []; limits = limits.entry; next = next } }
@@ -72,7 +70,8 @@ impl<'a> OpenBucket<'a> {
         }
     }
 
-    /// A bucket in which these values are the run so far. The page over them has this size.
+    /// A bucket that has taken these values so far, in its first run. The page over them has `size`
+    /// bytes.
     pub(crate) fn of_values(
         alloc: Global,
         entries: &[Leaf<'a>],
@@ -101,8 +100,8 @@ impl<'a> OpenBucket<'a> {
         })
     }
 
-    /// Room for the next item, by its key and size: it is there, or the leaf closes before any of
-    /// the item's pages is put.
+    /// Makes room for the next item, which has this key and size. If there is none, the leaf
+    /// closes, before any page of the item is written.
     #[inline(always)]
     pub(crate) fn make_room<S: Sink>(
         &mut self,
@@ -140,7 +139,7 @@ impl<'a> OpenBucket<'a> {
         }
     }
 
-    /// Memory for one more item. What is open stays.
+    /// Reserves memory for one more item. The open runs stay the same.
     pub(crate) fn reserve(&mut self) -> Result<(), BulkFault>
         requires open { IsOpenBucket self.old }
         ensures rows { (next : ℕ) → rows_of self.new next ≡ rows_of self.old next }
@@ -187,7 +186,8 @@ impl<'a> OpenBucket<'a> {
         Ok(())
     }
 
-    /// Adds an inline bucket of these entries, for which there is room. Its value has this size.
+    /// Adds an inline bucket with these entries, for which there is room. Its value has `size`
+    /// bytes.
     pub(crate) fn push_inline(
         &mut self,
         key: &'a [u8],
@@ -263,11 +263,11 @@ impl<'a> OpenBucket<'a> {
         requires size { pending.size + 16 ≡ inline_size (map leaf_view entries.now) }
         requires small { pending.size < 2147483632 }
         requires next { next.old ≤ setup.now.limit }
-        ensures pages { Puts S.taken S.failed sink.old sink.new (placed_bytes setup.now.page_size (rows_room_put setup.now.page_size (rows_of self.old next.old) pending.key.now (16 + (length pending.key.now + (pending.size + 16))))) result }
-        ensures rows { OnOk result (rows_of self.new next.new ≡ rows_taking setup.now.page_size (rows_of self.old next.old) (inline_element pending.key.now pending.sequence (map leaf_view entries.now)) (16 + (length pending.key.now + (pending.size + 16)))) }
+        ensures pages { Puts S.taken S.failed sink.old sink.new (placed_bytes setup.now.page_size (rows_room_put setup.now.page_size (rows_of self.old next.old) pending.entry.key.now (16 + (length pending.entry.key.now + (pending.entry.size + 16))))) result }
+        ensures rows { OnOk result (rows_of self.new next.new ≡ rows_taking setup.now.page_size (rows_of self.old next.old) (inline_element pending.entry.key.now pending.entry.sequence (map leaf_view entries.now)) (16 + (length pending.entry.key.now + (pending.entry.size + 16)))) }
         ensures open { OnOk result (IsOpenBucket self.new) }
         ensures within { OnOk result (next.new ≤ setup.now.limit) }
-        ensures large { IfErr result (λ e. e ≡ fault.TooLarge → setup.now.limit < (rows_room setup.now.page_size (rows_of self.old next.old) pending.key.now (16 + (length pending.key.now + (pending.size + 16)))).next) }
+        ensures large { IfErr result (λ e. e ≡ fault.TooLarge → setup.now.limit < (rows_room setup.now.page_size (rows_of self.old next.old) pending.entry.key.now (16 + (length pending.entry.key.now + (pending.entry.size + 16)))).next) }
     {
         let key = pending.key;
         let size = pending.size + 16;
@@ -288,14 +288,14 @@ impl<'a> OpenBucket<'a> {
         requires open { IsOpenBucket self }
         requires key { length pending.key.now ≤ 1073741824 }
         requires next { next.old ≤ setup.now.limit }
-        ensures pages { Puts S.taken S.failed sink.old sink.new (placed_bytes setup.now.page_size (rows_room_put setup.now.page_size (rows_of self.entry next.old) pending.key.now (32 + length pending.key.now))) result }
-        ensures rows { IfOk result (λ waiting. rows_of waiting.bucket next.new ≡ rows_room setup.now.page_size (rows_of self.entry next.old) pending.key.now (32 + length pending.key.now)) }
+        ensures pages { Puts S.taken S.failed sink.old sink.new (placed_bytes setup.now.page_size (rows_room_put setup.now.page_size (rows_of self.entry next.old) pending.entry.key.now (32 + length pending.entry.key.now))) result }
+        ensures rows { IfOk result (λ waiting. rows_of waiting.bucket next.new ≡ rows_room setup.now.page_size (rows_of self.entry next.old) pending.entry.key.now (32 + length pending.entry.key.now)) }
         ensures waits { IfOk result (λ waiting. IsWaiting setup.now.page_size waiting) }
-        ensures key { IfOk result (λ waiting. waiting.key.now ≡ pending.key.now) }
-        ensures sequence { IfOk result (λ waiting. waiting.sequence ≡ pending.sequence) }
+        ensures key { IfOk result (λ waiting. waiting.key.now ≡ pending.entry.key.now) }
+        ensures sequence { IfOk result (λ waiting. waiting.sequence ≡ pending.entry.sequence) }
         ensures around { IfOk result (λ waiting. waiting.around ≡ around) }
         ensures within { OnOk result (next.new ≤ setup.now.limit) }
-        ensures large { IfErr result (λ e. e ≡ fault.TooLarge → setup.now.limit < (rows_room setup.now.page_size (rows_of self.entry next.old) pending.key.now (32 + length pending.key.now)).next) }
+        ensures large { IfErr result (λ e. e ≡ fault.TooLarge → setup.now.limit < (rows_room setup.now.page_size (rows_of self.entry next.old) pending.entry.key.now (32 + length pending.entry.key.now)).next) }
     {
         let mut bucket = self;
         let key = pending.key;
@@ -308,7 +308,7 @@ impl<'a> OpenBucket<'a> {
         })
     }
 
-    /// Closes all that is open, up to the root page, and gives its number.
+    /// Closes all runs, up to the root page, and returns the number of that page.
     pub(crate) fn end<S: Sink>(
         &mut self,
         setup: &PageSetup,
@@ -330,7 +330,7 @@ impl<'a> OpenBucket<'a> {
         }
     }
 
-    /// How many items stand in its runs; 2^64 - 1 where there are more.
+    /// How many items its runs hold. Saturates at 2^64 - 1.
     pub(crate) fn held(&self) -> u64
         ensures { result ≡ min (items_in self.now) 18446744073709551615 }
     {

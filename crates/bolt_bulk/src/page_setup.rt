@@ -6,7 +6,7 @@ ghost use Rattle.bolt_bulk.specs.declared.fault.BulkFault.TheVariants as fault;
 use crate::fault::BulkFault;
 use std::alloc::Global;
 
-/// The most items that a page may have.
+/// The number of items at which a page is full, whatever its size.
 pub(crate) const MAX_ITEMS: usize = 65534;
 
 /// What stays the same for all pages of a copy.
@@ -32,7 +32,8 @@ pub(crate) fn overflow(page_size: usize, size: usize) -> usize
     (size - 1) / page_size
 }
 
-/// The number after a page of this size that has the next number.
+/// The number after a page of this size, which has the number `next`. `TooLarge` if it would be
+/// above the highest mark allowed.
 pub(crate) fn number_after(setup: &PageSetup, size: usize, next: u64) -> Result<u64, BulkFault>
     requires size { 0 < size }
     requires next { next ≤ setup.now.limit }

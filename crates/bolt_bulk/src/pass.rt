@@ -1,6 +1,6 @@
-//! The pass over what a file holds. It goes along a walk, and puts the pages of the copy as soon as
-//! they are known.
-ghost use Rattle.std.specs.Prelude.{[], ◌≡◌, ◌+◌, ◌/◌, ◌<◌, ◌≤◌, ◌∷◌, ◌++◌, ℕ, Some, None, IfErr, IfOk, List, OnErr, OnOk, length, map};
+//! The pass over everything that a file holds. It follows a walk, and writes each page of the copy
+//! as soon as the page is known.
+ghost use Rattle.std.specs.Prelude.{[], ◌≡◌, ◌+◌, ◌/◌, ◌<◌, ◌≤◌, ◌∷◌, Some, None, IfErr, List, OnOk, length, map};
 
 use crate::fault::BulkFault;
 use crate::limits::{BucketLimits, Limits};
@@ -13,20 +13,20 @@ use bolt_format::{Leaf, Sink};
 use bolt_tree::Item;
 use std::mem;
 
-/// What a pass comes to.
+/// What a pass returns.
 #[derive(Drop)]
 pub(crate) struct Ended {
     /// The page number of the root page.
     pub root: u64,
-    /// The number behind the last page.
+    /// The number after the last page.
     pub high_water: u64,
-    /// The greatest number of items that stood in open runs at one time.
+    /// The greatest number of items that the open runs held at one time.
     pub held: u64,
     /// The limits of the rows of all buckets, if they were asked for.
     pub told: Limits,
 }
 
-/// What is open in a pass.
+/// The state of a pass.
 #[derive(Drop)]
 pub(crate) struct Pass<'a> {
     pub setup: PageSetup,
@@ -39,13 +39,14 @@ pub(crate) struct Pass<'a> {
     pub entries: Vec<Leaf<'a>>,
     /// The number of the next page.
     pub next: u64,
-    /// How many buckets were opened, the root bucket first; 2^64 - 1 if there were more.
+    /// How many buckets were opened, the root bucket included. Saturates at 2^64 - 1.
     pub opened: u64,
-    /// How many items stand in open runs of the buckets that wait; 2^64 - 1 if there are more.
+    /// How many items the open runs of the waiting buckets hold. Saturates at 2^64 - 1.
     pub around: u64,
-    /// The most items that stood in open runs at one time so far; 2^64 - 1 if there were more.
+    /// The greatest number of items that all open runs held at one time so far. Saturates at 2^64 -
+    /// 1.
     pub most: u64,
-    /// The limits that a pass over the plain layout tells.
+    /// The limits that a pass over the plain layout notes.
     pub told: Told,
 }
 
@@ -60,8 +61,8 @@ impl<'a> Pass<'a> {
     ghost use Rattle.bolt_tree.specs.Paths.{path_of};
     ghost use Rattle.bolt_tree.specs.ShownEntries.{item_view};
 
-    /// A pass before the first page. If it tells limits, these are of the rows of the balanced
-    /// layout.
+    /// A pass before the first page. If `tells` is set, it notes the limits of the balanced
+    /// layout's rows.
     pub(crate) fn new(setup: PageSetup, limits: &'a Limits, tells: bool) -> Pass<'a>
         requires { 3 ≤ setup.limit }
         ensures setup { result.setup ≡ setup }
@@ -90,7 +91,7 @@ impl<'a> Pass<'a> {
         }
     }
 
-    /// How many buckets stand around the next entry.
+    /// How many buckets are around the next entry.
     fn depth(&self) -> usize
         ensures { result ≡ depth_of self.now }
     {
@@ -129,7 +130,7 @@ impl<'a> Pass<'a> {
         }
     }
 
-    /// Takes a value of the bucket that may be inline, which has room for it.
+    /// Takes a value of the pending bucket, which may still be inline with it.
     fn keep_value(
         &mut self,
         pending: Pending<'a>,
@@ -190,7 +191,7 @@ impl<'a> Pass<'a> {
         Ok(())
     }
 
-    /// Enters a bucket of the innermost one.
+    /// Enters a bucket within the innermost one.
     fn take_bucket<S: Sink>(
         &mut self,
         key: &'a [u8],
@@ -218,7 +219,7 @@ impl<'a> Pass<'a> {
         }
     }
 
-    /// Begins a bucket of the open one, which may be inline.
+    /// Begins a bucket within the open one. It may be inline.
     fn begin(&mut self, key: &'a [u8], sequence: u64)
         requires ready { IsReady self.old }
         requires pending { self.old.pending ≡ None }
@@ -236,8 +237,8 @@ impl<'a> Pass<'a> {
         });
     }
 
-    /// Opens the bucket that turns out to have a root page, with its entries so far. The one around
-    /// it waits.
+    /// Opens the pending bucket with its entries so far, as it turns out to have a root page. The
+    /// bucket around it waits.
     fn open_pending<S: Sink>(&mut self, pending: Pending<'a>, sink: &mut S) -> Result<(), BulkFault>
         requires ready { IsReady self.old }
         requires pending { self.old.pending ≡ Some pending }
@@ -297,7 +298,7 @@ impl<'a> Pass<'a> {
         }
     }
 
-    /// Ends the bucket that may be inline, which is so.
+    /// Ends the pending bucket, which is inline.
     fn end_inline<S: Sink>(&mut self, pending: Pending<'a>, sink: &mut S) -> Result<(), BulkFault>
         requires ready { IsReady self.old }
         requires pending { self.old.pending ≡ Some pending }
@@ -359,7 +360,7 @@ impl<'a> Pass<'a> {
         }
     }
 
-    /// Ends buckets until so many are open.
+    /// Ends buckets until at most `depth` are left.
     fn leave_to<S: Sink>(&mut self, depth: usize, sink: &mut S) -> Result<(), BulkFault>
         requires ready { IsReady self.old }
         requires some { 1 ≤ depth }
@@ -404,7 +405,7 @@ impl<'a> Pass<'a> {
         }
     }
 
-    /// Ends all that is open, up to the root page of the root bucket.
+    /// Ends all buckets, up to the root page of the root bucket.
     pub(crate) fn end<S: Sink>(&mut self, sink: &mut S) -> Result<Ended, BulkFault>
         requires { IsReady self.old }
         ensures { (wanted : Wanted) (put : List Placed) → HasLeft wanted self.old [] put → Ends wanted S.taken S.failed sink.old sink.new self.old.setup put result }

@@ -1,7 +1,7 @@
-//! A bucket of which it is open yet whether it is inline.
+//! A bucket that may turn out to be inline.
 
-/// A bucket that has only values so far, which take at most a quarter of a page. Whether it is
-/// inline is known at its end, or when it has more.
+/// A bucket that has only values so far, which take at most a quarter of a page. If it ends so, it
+/// is inline; if it has more, it has a root page.
 #[derive(Clone, Copy)]
 pub(crate) struct Pending<'a> {
     pub key: &'a [u8],

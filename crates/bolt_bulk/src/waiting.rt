@@ -15,13 +15,13 @@ use crate::open_bucket::OpenBucket;
 use crate::page_setup::PageSetup;
 use bolt_format::Sink;
 
-/// A bucket that waits for the one of this key and sequence within it.
+/// A bucket that waits for a bucket within it, which has this key and sequence.
 #[derive(Drop)]
 pub(crate) struct Waiting<'a> {
     pub bucket: OpenBucket<'a>,
     pub key: &'a [u8],
     pub sequence: u64,
-    /// How many items the buckets around it hold; 2^64 - 1 where there are more.
+    /// How many items the buckets around it hold. Saturates at 2^64 - 1.
     pub around: u64,
 }
 

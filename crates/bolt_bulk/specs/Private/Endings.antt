@@ -17,8 +17,8 @@ use Rattle.bolt_bulk.specs.declared.fault.BulkFault.{BulkFault}
 use Rattle.bolt_bulk.specs.declared.fault.BulkFault.TheVariants as fault
 use Rattle.bolt_bulk.specs.declared.pass.Ended.{Ended}
 
--- These pages were put before; the others of the layout are put, or a beginning of their bytes that isn't the whole. The root page, the
--- high-water mark and how many items were held are told, and if they are asked for the limits that give the balanced layout.
+-- The pages `put` were written earlier. The others of the layout are written, or a proper prefix of their bytes. The root page, the high-water
+-- mark and the number of items held are returned and, if they are asked for, the limits that yield the balanced layout.
 pub record Ends {S : Type 0} (wanted : Wanted) (taken : S → Option (List ℕ)) (failed : S → ℕ) (old new : S) (setup : PageSetup) (put : List Placed) (result : Result Ended BulkFault) : Type 0 where
   pub others : List Placed
   pub all : layout_pages wanted.which setup.page_size wanted.tree ≡ put ++ others

@@ -1,4 +1,4 @@
--- The buckets that wait while one within them is open, as code keeps them.
+-- The buckets that wait while one within them is open, as the code keeps them.
 use Rattle.std.specs.Prelude.{◌≡◌, ◌≤◌, ◌+◌, ℕ, true, length}
 use Rattle.bolt_bulk.specs.Private.OpenBuckets.{IsOpenBucket, leaves_of}
 use Rattle.bolt_bulk.specs.Private.Rows.{leaves_have_room}

@@ -10,7 +10,7 @@ use Rattle.bolt_bulk.specs.Private.Passes.{FitLimits, HasLeft, IsReady, Steps, l
 use Rattle.bolt_layout.specs.declared.layout.Layout.{Layout}
 use Rattle.bolt_bulk.proofs.all_pages.put_pages.Given as goal
 
--- the members that are left to the walk are left to the pass, which has put pages of the layout
+-- the members that are left to the walk are left to the pass, which has written pages of the layout
 abbrev pub invariant-members : goal.invariant-members
 invariant-members g l = record {
   checked : walk_checked l.walk ≡ l.checked;

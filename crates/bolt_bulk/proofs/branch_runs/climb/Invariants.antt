@@ -1,4 +1,4 @@
--- The climb over the runs that are left gives what the whole climb gives.
+-- The climb over the runs that are left comes to the same as the whole climb.
 use Rattle.std.proofs.Common.{◌≡◌, ◌≤◌, length}
 use Rattle.std.specs.List.{AllByRecursion}
 use Rattle.bolt_format.specs.ElementPlaces.{branch_view}

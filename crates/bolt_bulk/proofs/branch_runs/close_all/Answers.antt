@@ -1,4 +1,4 @@
--- The runs that are left give what all of them give: each that closes is one step on, and a fault leaves something out.
+-- The runs that are left come to the same as all of them: each that closes is one step on, and a fault leaves something out.
 use Rattle.std.proofs.Common.{◌∙◌, ◌+◌, ◌<◌, arith, ap, List, subst, sym, map, length}
 use Rattle.std.specs.List.{AllByRecursion}
 use Rattle.std.proofs.lemmas.List.{map-set, length-set}

@@ -1,4 +1,4 @@
--- The runs that are left give what all of them give.
+-- The runs that are left come to the same as all of them.
 use Rattle.std.proofs.Common.{◌≡◌, ◌≤◌, length}
 use Rattle.std.specs.List.{AllByRecursion}
 use Rattle.bolt_format.specs.ElementPlaces.{branch_view}

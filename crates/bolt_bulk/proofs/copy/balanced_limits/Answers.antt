@@ -1,4 +1,4 @@
--- The plain layout is never 28 times larger than the balanced one, so a pass over it that finds no room tells that neither has any.
+-- The plain layout is never 28 times larger than the balanced one, so if a pass over it finds it too large, the balanced one is too.
 use Rattle.std.proofs.Common.{◌<◌, ℕ, refl, ap, subst, arith}
 use Rattle.std.proofs.Math.Logic.{∥∥₁_elim}
 use Rattle.std.proofs.Props.{props}

@@ -1,4 +1,4 @@
--- A layout whose limits can't be told is too large itself.
+-- If the limits of a layout can't be noted, it is too large itself.
 use Rattle.bolt_bulk.proofs.copy.plan_as.Goals as goal
 
 pub plan_within-requires-clause-fit : goal.plan_within-requires-clause-fit

@@ -1,4 +1,4 @@
--- Where the numbers run out the page is left out.
+-- If the numbers run out, the page is left out.
 use Rattle.std.proofs.Common.{[]}
 use Rattle.bolt_bulk.specs.Private.BranchRuns.{row_of}
 use Rattle.bolt_bulk.specs.Private.Rows.{row_page}

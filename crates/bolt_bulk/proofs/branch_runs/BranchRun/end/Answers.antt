@@ -1,4 +1,4 @@
--- A run that took one more can close; where there is no memory for that, its page is left out.
+-- A run that took one more can close; if memory runs out, its page is left out.
 use Rattle.std.proofs.Common.{[], subst, sym}
 use Rattle.bolt_format.specs.ElementPlaces.{branch_view}
 use Rattle.bolt_bulk.specs.Private.BranchRuns.{IsPushed, row_of}

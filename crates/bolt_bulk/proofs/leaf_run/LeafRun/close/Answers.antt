@@ -1,4 +1,4 @@
--- Where the numbers run out the page is left out.
+-- If the numbers run out, the page is left out.
 use Rattle.bolt_bulk.specs.Private.OpenBuckets.{leaves_of}
 use Rattle.bolt_bulk.specs.Private.Rows.{leaf_page}
 use Rattle.bolt_bulk.proofs.PutsLemmas.{after_error, page_some, proper_none}

@@ -1,4 +1,4 @@
--- Where there is no room the leaf closes, and its element climbs.
+-- If there is no room, the leaf closes, and its element climbs.
 use Rattle.std.proofs.Common.{◌∙◌, sym}
 use Rattle.bolt_format.specs.ElementPlaces.{branch_view}
 use Rattle.bolt_bulk.specs.Private.OpenBuckets.{rows_of}

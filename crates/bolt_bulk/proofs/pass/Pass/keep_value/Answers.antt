@@ -1,4 +1,4 @@
--- The value stands behind the others, and none has taken a step in the layout.
+-- The value comes after the others, and none has taken a step in the layout.
 use Rattle.std.proofs.Common.{rules, ◌≡◌, ◌++◌, [], ◌∷◌, false, refl}
 use Rattle.bolt_format.specs.declared.element.Leaf.{Leaf}
 use Rattle.bolt_bulk.proofs.PassAt.{keep_at}

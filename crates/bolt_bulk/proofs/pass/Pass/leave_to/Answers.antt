@@ -1,4 +1,4 @@
--- One bucket more has ended, and so on until as many are open as there should be.
+-- One more bucket has ended, and so on until at most `depth` are left.
 use Rattle.std.proofs.Common.{◌∙◌, List, Result, Ok, Err, refl, subst, arith}
 use Rattle.std.specs.Prelude.{⊤}
 use Rattle.bolt_layout.specs.Laid.{Placed}

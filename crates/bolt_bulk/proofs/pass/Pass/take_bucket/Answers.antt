@@ -1,4 +1,4 @@
--- The bucket may be inline; where one around it might have been, that one has a root page, as it holds a bucket.
+-- The bucket may be inline; if one around it might have been, that one has a root page, as it holds a bucket.
 use Rattle.std.proofs.Common.{◌∷◌, List, Result, Ok, map, subst}
 use Rattle.std.specs.Prelude.{⊤}
 use Rattle.bolt_format.specs.ElementPlaces.{leaf_view}

@@ -1,4 +1,4 @@
--- Memory for the item is there before anything is put, and what is open of the outer bucket stays until then.
+-- Memory for the item is there before anything is written, and what is open of the outer bucket stays until then.
 use Rattle.std.proofs.Common.{rules, Err, ◌≡◌, ◌∙◌, ◌+◌, ap, arith, ℕ, length}
 use Rattle.bolt_bulk.specs.Private.OpenBuckets.{rows_of}
 use Rattle.bolt_bulk.specs.Private.Rows.{OpenRows, leaves_have_room, rows_end, rows_push}
