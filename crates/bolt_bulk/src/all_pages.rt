@@ -1,4 +1,4 @@
-//! The pages of a copy, put in one pass over the file.
+//! The pages of a copy, written in one pass over the file.
 ghost use Rattle.std.specs.Prelude.{◌≡◌, ◌≤◌, []};
 ghost use Rattle.std.specs.List.{AllByRecursion};
 ghost use Rattle.bolt_tree.specs.FileListings.{ForListing};
@@ -15,8 +15,8 @@ use bolt_check::Checked;
 use bolt_format::Sink;
 use bolt_tree::Walk;
 
-/// Puts the pages of all that a file holds, in the layout whose rows have these limits. If it tells
-/// limits, and this is the plain layout, they are those of the balanced one.
+/// Writes the pages of all that a file holds, in the layout whose rows have these limits. If
+/// `tells` is set and this is the plain layout, it returns the limits of the balanced one.
 pub(crate) fn put_pages<S: Sink>(
     setup: PageSetup,
     limits: &Limits,

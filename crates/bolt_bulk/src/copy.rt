@@ -28,7 +28,7 @@ use std::alloc::Global;
 /// The most bytes that a copy may have.
 const MAX_LEN: u64 = 0x7FFF_FFFF_FFFF_FFFF;
 
-/// How large the pages of a copy are, and how many it may have.
+/// What stays the same for all pages of a copy.
 fn setup_of(alloc: Global, page_size: u64) -> PageSetup
     requires { IsPageSize page_size }
     ensures page_size { result.page_size ≡ page_size }
@@ -43,7 +43,7 @@ fn setup_of(alloc: Global, page_size: u64) -> PageSetup
     }
 }
 
-/// The same for a pass over the plain layout that tells the limits of the balanced one, which is
+/// The same for a pass over the plain layout that notes the limits of the balanced one, which is
 /// never 28 times smaller.
 fn telling_setup_of(alloc: Global, page_size: u64) -> PageSetup
     requires { IsPageSize page_size }
@@ -58,7 +58,8 @@ fn telling_setup_of(alloc: Global, page_size: u64) -> PageSetup
     }
 }
 
-/// The limits of rows that give the balanced layout, as a pass over the plain one tells them.
+/// The limits of rows that yield the balanced layout, which a pass over the plain one notes.
+/// `TooLarge` only if the balanced layout has 2^63 bytes or more.
 fn balanced_limits(alloc: Global, checked: Checked<'_>, page_size: u64) -> Result<Limits, PlanFault>
     requires { IsPageSize page_size }
     ensures fit { IfOk result (λ limits. ForListing checked.entry (λ listing. FitLimits Balanced (tree_of listing) page_size (limits_with limits))) }
@@ -80,7 +81,7 @@ fn balanced_limits(alloc: Global, checked: Checked<'_>, page_size: u64) -> Resul
     }
 }
 
-/// The limits of rows that give this layout.
+/// The limits of rows that yield this layout.
 fn limits_of(
     alloc: Global,
     checked: Checked<'_>,
@@ -126,14 +127,14 @@ fn plan_within(
     }
 }
 
-/// Where a copy of a file at this page size will have its root page and its high-water mark, in this
-/// layout (docs/LAYOUT.md). Nothing is written. Beside what `compact_as` needs no memory is asked
-/// for.
+/// Returns where a copy of a file in this layout, at this page size, will have its root page and
+/// its high-water mark (docs/LAYOUT.md). Nothing is written. It needs memory only for what
+/// `compact_as` needs it for too.
 ///
 /// # Errors
 ///
-/// `TooLarge` where the layout has 2^63 bytes or more, and nothing else is answered then but
-/// `Memory`; `Memory` where memory ran out.
+/// `TooLarge` if the layout has 2^63 bytes or more; `Memory` if memory runs out. A layout of that
+/// size has no plan: the error is one of these two.
 pub fn plan_as(
     alloc: Global,
     checked: Checked<'_>,
@@ -147,8 +148,8 @@ pub fn plan_as(
     plan_within(alloc, checked, &limits, page_size)
 }
 
-/// Where a copy in the plain layout will have its root page and its high-water mark: `plan_as` for
-/// that layout, with its errors.
+/// Returns where a copy in the plain layout will have its root page and its high-water mark:
+/// `plan_as` for that layout, with its errors.
 pub fn plan(alloc: Global, checked: Checked<'_>, page_size: u64) -> Result<Plan, PlanFault>
     requires { IsPageSize page_size }
     ensures { ForListing checked.entry (λ listing. Plans Plain checked.entry page_size listing result) }
@@ -156,17 +157,17 @@ pub fn plan(alloc: Global, checked: Checked<'_>, page_size: u64) -> Result<Plan,
     plan_as(alloc, checked, Layout::Plain, page_size)
 }
 
-/// Writes the compact copy of a file at this page size: the one layout of what the file holds
-/// (docs/LAYOUT.md), plain or balanced, from its first byte to its last. The file is walked twice,
-/// for the plan and for the pages; before that, for a balanced copy, once more for the limits of its
-/// rows, of which one number is kept for each row that would end in a page of one child. If the
-/// result isn't `Ok`, the sink took a prefix of the layout that isn't the whole, which `check`
+/// Writes the compact copy of a file at this page size, from its first byte to its last: the one
+/// plain or balanced layout of what the file holds (docs/LAYOUT.md). The file is walked twice, for
+/// the plan and for the pages. For a balanced copy it is walked once more before that, for the
+/// limits of the rows; one number is kept for each row that would end in a page with one child. If
+/// the result isn't `Ok`, the sink has accepted a proper prefix of the layout, which `check`
 /// refuses.
 ///
 /// # Errors
 ///
-/// `TooLarge` where the layout has 2^63 bytes or more, and no byte was put then; `Memory` where
-/// memory ran out; `Sink` where the sink failed.
+/// `TooLarge` if the layout has 2^63 bytes or more, and then no byte was written; `Memory` if
+/// memory runs out; `Sink` if the sink fails.
 pub fn compact_as<S: Sink>(
     alloc: Global,
     checked: Checked<'_>,

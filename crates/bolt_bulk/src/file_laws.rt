@@ -31,8 +31,8 @@ fn fits(n: u64)
 }
 
 /// The listing of a file is that of one tree, and the layout has as many bytes as its pages. If
-/// these are fewer than 2^63, it is a sound copy, its beginnings are refused, and no more items are
-/// held at one time than it has bytes.
+/// these are fewer than 2^63, it is a sound copy, its proper prefixes are refused, and no more
+/// items are held at one time than it has bytes.
 pub(crate) fn file_has_one_layout(checked: &Checked<'_>, page_size: u64)
     requires { IsPageSize page_size }
     ensures tree { ForListing checked.now (λ listing. ∥ IsOfOneTree listing ∥₁) }
