@@ -43,8 +43,8 @@ pub(crate) struct Pass<'a> {
     pub opened: u64,
     /// How many items the open runs of the waiting buckets hold. Saturates at 2^64 - 1.
     pub around: u64,
-    /// The greatest number of items that all open runs held at one time so far. Saturates at 2^64 -
-    /// 1.
+    /// The greatest number of items that all open runs held at one time so far.
+    /// Saturates at 2^64 - 1.
     pub most: u64,
     /// The limits that a pass over the plain layout notes.
     pub told: Told,

@@ -26,8 +26,8 @@ pub(crate) struct Waiting<'a> {
 }
 
 impl<'a> Waiting<'a> {
-    /// Ends the bucket within, and takes its item. Memory for that is taken first, so that a failure
-    /// leaves some page out.
+    /// Ends the bucket within, and takes its item. Memory for the item is reserved first, so any
+    /// failure leaves some page out.
     pub(crate) fn leave<S: Sink>(
         self,
         setup: &PageSetup,
