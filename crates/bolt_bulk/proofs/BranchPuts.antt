@@ -1,4 +1,4 @@
--- A branch page put piece by piece.
+-- A branch page, written piece by piece.
 use Rattle.std.proofs.Common.{◌≡◌, ◌∙◌, ℕ, suc, ◌+◌, ◌-◌, ◌*◌, ◌<◌, ◌≤◌, List, [], ◌∷◌, ◌++◌, length, map, get_or, Option, refl, sym, ap, arith}
 use Rattle.std.proofs.lemmas.List.{length-map}
 use Rattle.bolt_format.specs.Elements.{BranchElement}
@@ -45,7 +45,7 @@ branch_page_pieces page_size number further size xs same =
     ap (λ (m : ℕ). header_bytes number 1 m further ++ (branch_headers 0 es ++ (branch_data es ++ zeros (n - size)))) count
     ∙ filled_pieces n size (header_bytes number 1 (length es) further) (branch_headers 0 es) (branch_data es) (omega arith)
 
--- what is known of the next header, where all headers and keys are small
+-- what is known of the next header, if all headers and keys are small
 pub record NextBranch (x : Branch) (pos : ℕ) : Type 0 where
   pub low : 16 ≤ pos
   pub fits : pos + length x.key.now < 4294967296

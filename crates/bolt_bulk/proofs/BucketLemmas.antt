@@ -17,14 +17,14 @@ use Rattle.bolt_bulk.specs.Private.TakenItems.{rows_taking}
 use Rattle.bolt_bulk.specs.Puts.{Puts}
 use Rattle.bolt_bulk.specs.declared.fault.BulkFault.{BulkFault}
 use Rattle.bolt_bulk.specs.declared.held.Held.{Held}
-use Rattle.bolt_bulk.specs.declared.open_bucket.LeafRun.{LeafRun}
+use Rattle.bolt_bulk.specs.declared.leaf_run.LeafRun.{LeafRun}
 use Rattle.bolt_bulk.proofs.ClimbLemmas.{next_grows}
 use Rattle.bolt_bulk.proofs.CloseLemmas.{end_grows}
 use Rattle.bolt_bulk.proofs.HeldRuns.{none_small}
 use Rattle.bolt_bulk.proofs.PutsLemmas.{pages_some, proper_same, puts_same, puts_then, short_then}
 use Rattle.bolt_bulk.proofs.RunLemmas.{few_or_fits}
 
--- where a run has room on its page an item can be added
+-- if a run has room on its page, an item can be added
 pub room_fits : (page_size size : ℕ) (run : LeafRun) → page_size ≤ 33554432 → IsLeafRun run → size < 4294967280 → leaves_have_room page_size (leaves_of run) size ≡ true → HasRoomFor run size
 room_fits page_size size run high is small room =
     let views : List LeafElement = held_views run.inlined.items run.items.items in

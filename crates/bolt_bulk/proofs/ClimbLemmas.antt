@@ -32,7 +32,7 @@ pub climb_begins : {S : Type 0} {taken : S → Option (List ℕ)} {failed : S �
     → Climbing page_size fresh key e next rows taken failed old old rows 0 e next
 climb_begins page_size fresh key e next rows old = record { climbs = refl; nexts = refl; front = front_none old (placed_bytes page_size (rows_put page_size key e next rows)) }
 
--- what the next run puts, and what is put after it
+-- what the next run writes, and what is written after it
 abbrev after_put : ℕ → List ℕ → BranchElement → ℕ → BranchRow → List BranchRow → List Placed
 after_put page_size key e next row rows =
     if row_stays page_size (row_push row e) (key_size key) then []

@@ -25,7 +25,7 @@ close_begins page_size e next rows old = record { roots = refl; nexts = refl; fr
 at_row : (rows : List BranchRow) (i : ℕ) (none row : BranchRow) → i < length rows → get_or rows i none ≡ row → drop i rows ≡ row ∷ drop (i + 1) rows
 at_row rows i none row h same = drop_more rows i none h ∙ ap (λ (r : BranchRow). r ∷ drop (i + 1) rows) same
 
--- what the next run puts, and what is put after it
+-- what the next run writes, and what is written after it
 close_left : (page_size : ℕ) (e : BranchElement) (next : ℕ) (row : BranchRow) (rows left : List BranchRow) → left ≡ row ∷ rows
     → placed_bytes page_size (rows_close_put page_size e next left)
     ≡ placed_bytes page_size (row_page page_size (row_push row e) next ∷ []) ++ placed_bytes page_size (rows_close_put page_size (element_up e next row) (next + (1 + overflow_of page_size (row_push row e).size)) rows)
@@ -80,7 +80,7 @@ close_large page_size limit e0 n0 rows0 old mid rows i e next none row h same c 
     let n = c.nexts ∙ ap (λ (rs : List BranchRow). rows_end_next page_size e next rs) (at_row rows i none row h same) in
     let g = end_grows page_size (element_up e next row) (next + (1 + overflow_of page_size (row_push row e).size)) (drop (i + 1) rows) in omega arith
 
--- past the last run all is closed
+-- after the last run all is closed
 pub close_ends : {S B : Type 0} {taken : S → Option (List ℕ)} {failed : S → ℕ} (page_size : ℕ) (e0 : BranchElement) (n0 : ℕ) (rows0 : List BranchRow) (old new : S) (rows : List BranchRow) (i : ℕ)
     (e : BranchElement) (next : ℕ) (b : B) → length rows ≤ i → Closing page_size e0 n0 rows0 taken failed old new rows i e next
     → (e.child ≡ rows_root page_size e0 n0 rows0) × (next ≡ rows_end_next page_size e0 n0 rows0) × Puts taken failed old new (placed_bytes page_size (rows_close_put page_size e0 n0 rows0)) (Ok b)

@@ -1,4 +1,4 @@
--- The first pages and those of all buckets are the layout, and so a copy is put whole, or stops short.
+-- The first pages and those of all buckets are the layout, and so a copy is written whole, or stops short.
 use Rattle.std.proofs.Common.{◌≡◌, ◌≢◌, ◌∙◌, ℕ, [], Result, ◌≤◌, ◌<◌, List, ◌++◌, length, Option, Ok, Err, refl, sym, ap, subst, arith, append_assoc}
 use Rattle.std.proofs.KnownBytes.{Appends-trans, Keeps-refl}
 use Rattle.std.specs.Io.KnownBytes.{Appends}
@@ -32,7 +32,7 @@ layout_parts which page_size tree sequence root mark root_is mark_is =
 never : {X : Type 0} (bytes : ℕ) → bytes < too_many → too_many ≤ bytes → X
 never bytes fits large = absurd (omega arith)
 
--- what stops before a byte is put
+-- what stops before a byte is written
 module _ {S : Type 0} (taken : S → Option (List ℕ)) (failed : S → ℕ) (old : S) (layout : List ℕ) where
   stops_early : (e : BulkFault) → (e ≡ bulk.Sink → ⊥) → layout ≢ [] → (e ≡ bulk.TooLarge → too_many ≤ length layout) → Copies taken failed old old layout (Err e)
   stops_early e other some large = record {

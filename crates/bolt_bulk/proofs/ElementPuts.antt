@@ -1,4 +1,5 @@
--- The headers and the data of a page's elements, put one after another: the same for branch and leaf elements, whatever the code keeps of them.
+-- The headers and the data of a page's elements, written one after another: the same for branch and leaf elements, whatever the code keeps
+-- of them.
 use Rattle.std.proofs.Common.{◌≡◌, ◌∙◌, ℕ, suc, ◌+◌, ◌*◌, ◌<◌, ◌≤◌, List, [], ◌∷◌, ◌++◌, length, drop, get_or, Option, Result, Ok, Err, ap, arith, append_assoc, append-nil, sym}
 use Rattle.std.specs.Prelude.{IsErr}
 use Rattle.std.proofs.lemmas.List.{drop_all, drop_more, length-append, length-drop}
@@ -15,7 +16,7 @@ abbrev pub data_of : {X : Type 0} → (X → List ℕ) → List X → List ℕ
 data_of datum [] = []
 data_of datum (x ∷ xs) = datum x ++ data_of datum xs
 
--- The headers up to number i, of which the last stand in the row yet: where a key lies is known by how much data there was before.
+-- The headers up to number i, of which the last are still in the row: where a key is follows from how much data came before it.
 pub record HeadsPut {S X : Type 0} (header : ℕ → X → List ℕ) (datum : X → List ℕ) (taken : S → Option (List ℕ)) (failed : S → ℕ) (old new : S) (row : List ℕ) (xs : List X) (i pos : ℕ) : Type 0 where
   pub before : ℕ
   pub front : PutFront taken failed old new (headers_of header datum 0 xs) (row ++ headers_of header datum before (drop i xs))
@@ -58,7 +59,7 @@ heads_left {X = X} {header = header} {datum = datum} old new row xs i pos none x
     ap (λ (ys : List X). headers_of header datum put.before ys) at
     ∙ ap (λ (n : ℕ). header n x ++ headers_of header datum (put.before + length (datum x)) (drop (i + 1) xs)) same
 
--- the row loses at its front what is put, and what is left of the text with it
+-- the row loses at its front what is written, and so does the text that is left
 gathered_left : (row kept put rest : List ℕ) → row ≡ put ++ kept → row ++ rest ≡ put ++ (kept ++ rest)
 gathered_left row kept put rest parts = ap (λ (r : List ℕ). r ++ rest) parts ∙ append_assoc put kept rest
 
@@ -89,7 +90,7 @@ pub heads_stop : {S X A E B F : Type 0} {header : ℕ → X → List ℕ} {datum
 heads_stop {header = header} {datum = datum} old mid new row kept xs i pos e result heads gathers err =
     front_stop old mid new _ gathers.put _ _ e result (gathered_left row kept gathers.put (headers_of header datum heads.before (drop i xs)) gathers.parts) heads.front gathers.puts err
 
--- where all headers stand in the row or are put, the row is what is left
+-- if all headers are in the row or were written, the row is what is left
 pub heads_all : {S X A E : Type 0} {header : ℕ → X → List ℕ} {datum : X → List ℕ} {taken : S → Option (List ℕ)} {failed : S → ℕ} (old mid new : S) (row : List ℕ) (xs : List X) (i pos : ℕ) (result : Result A E) → length xs ≤ i
     → HeadsPut header datum taken failed old mid row xs i pos → PutsWhole taken failed mid new row result → PutsWhole taken failed old new (headers_of header datum 0 xs) result
 heads_all {X = X} {header = header} {datum = datum} old mid new row xs i pos result h heads put =

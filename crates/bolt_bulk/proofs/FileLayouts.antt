@@ -1,4 +1,4 @@
--- What the laws say of the layout of a checked file. Its trees are sound, but that is only known to be, so what follows of it is too.
+-- What the laws say of the layout of a checked file. That its trees are sound is known without a witness, and so is what follows from it.
 use Rattle.std.proofs.Common.{◌≡◌, ◌≢◌, ◌<◌, ◌≤◌, ◌+◌, ◌*◌, ◌/◌, ◌^◌, ℕ, List, [], length, refl, ap, subst, arith}
 use Rattle.std.proofs.Math.Logic.{∥∥₁_elim, ∥∥₁_map}
 use Rattle.std.proofs.Math.Nat.{div-lt_iff_lt-mul, div-mul-le_self, mul-le-mul_right}
@@ -84,7 +84,7 @@ within_limit page_size limit mark bytes limit_is within bytes_are =
     let same : mark * page_size ≤ 9223372036854775807 / page_size * page_size = mul-le-mul_right page_size (omega arith) in
     omega arith
 
--- The balanced layout is too large where the plain one is beyond 28 times the limit.
+-- The balanced layout is too large if the plain one is beyond 28 times the limit.
 pub balanced_too_large : (page_size : ℕ) (listing : List Member) (bytes : ℕ) → IsPageSize page_size → ∥ IsOfOneTree listing ∥₁
     → 28 * (9223372036854775807 / page_size) < layout_mark Plain page_size (tree_of listing) → bytes ≡ layout_mark Balanced page_size (tree_of listing) * page_size → too_many ≤ bytes
 balanced_too_large page_size listing bytes size one above bytes_are =

@@ -1,4 +1,4 @@
--- The pages before those of the buckets, put one after another.
+-- The pages that precede those of the buckets, written one after another.
 use Rattle.std.proofs.Common.{◌≡◌, ℕ, List, ◌++◌, refl}
 use Rattle.bolt_layout.specs.PageBytes.{filled, freelist_page, header_bytes, meta_bytes, meta_page}
 use Rattle.bolt_bulk.specs.Private.FirstPages.{first_pages}

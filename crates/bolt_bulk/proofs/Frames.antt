@@ -1,4 +1,5 @@
--- A forward pass over a tree, with a frame for each bucket that waits: what comes of them is the root page, and what was put are its pages.
+-- A forward pass over a tree, with a frame for each waiting bucket: in the end they become the root page, and the pages that
+-- were written are those of the layout.
 use Rattle.std.proofs.Common.{◌≡◌, ◌∙◌, ℕ, List, [], ◌∷◌, ◌++◌, refl, sym, ap, subst, append_assoc}
 use Rattle.std.proofs.lemmas.List.{append-nil}
 use Rattle.bolt_format.specs.Elements.{BranchElement, LeafElement}
@@ -22,7 +23,7 @@ no_push (x ∷ run) item e = cc
 pushed_begun : (state : Open) (item : Laid LeafElement) → HasBegun (pushing state item)
 pushed_begun state item none = absurd (no_push state.run item none)
 
--- The beginning: nothing is open, nothing was put.
+-- The beginning: nothing is open, and nothing was written.
 pub pass_begins : (which : Layout) (page_size : ℕ) (known : Known) (tree : Tree) → known.leaves ≡ leaves_coming page_size [] (items_of which page_size tree)
     → HaveRightLimits which page_size (bucket_limit known.limits) (leaves_coming page_size [] (items_of which page_size tree))
     → IsPass which page_size [] (nothing_open known) (items_of which page_size tree) (root_of which page_size tree)
@@ -101,7 +102,7 @@ put_leaves page_size frame frames state =
     ap (λ (ps : List Placed). xs ++ ps) (pushed_put frame.state item b ∙ ap (λ (ps : List Placed). ys ++ ps) (ends_put page_size state next))
     ∙ (sym (append_assoc xs ys (zs ++ es)) ∙ sym (append_assoc (xs ++ ys) zs es))
 
--- The end: what was put and what the last runs put are the pages of the layout.
+-- The end: what was written and what the last runs write are the pages of the layout.
 pub pass_ends : (which : Layout) (page_size : ℕ) (tree : Tree) (state : Open) → IsPass which page_size [] state [] (root_of which page_size tree)
     → all_put [] state ++ end_puts page_size state first_page ≡ layout_pages which page_size tree
 pass_ends which page_size tree state pass =

@@ -1,8 +1,8 @@
--- How many items the buckets that wait hold, as a pass counts them.
+-- How many items the waiting buckets hold, as a pass counts them.
 use Rattle.std.proofs.Common.{◌≡◌, ◌∙◌, ℕ, ◌+◌, List, [], ◌∷◌, ◌++◌, reverse, min, refl, sym, ap, subst, arith}
 use Rattle.std.proofs.lemmas.List.{reverse-append}
 use Rattle.bolt_bulk.specs.Private.HeldCounts.{AreCounted, capped, items_around, items_in}
-use Rattle.bolt_bulk.specs.declared.steps.Waiting.{Waiting}
+use Rattle.bolt_bulk.specs.declared.waiting.Waiting.{Waiting}
 
 pub around_push : (others : List Waiting) (w : Waiting) → items_around (others ++ w ∷ []) ≡ items_around others + items_in w.bucket
 around_push [] w = omega arith
@@ -22,7 +22,7 @@ counted_pop before (x ∷ others) w are =
     let e : before + items_in x.bucket + items_around others ≡ before + (items_in x.bucket + items_around others) = omega arith in
     let (rest, at) = counted_pop (before + items_in x.bucket) others w are.1 in ((are.0, rest), at ∙ ap capped e)
 
--- of all that wait
+-- of all waiting ones
 pub waits_more : (others more : List Waiting) (w : Waiting) (before : ℕ) → AreCounted 0 others → w.around ≡ before → before ≡ capped (items_around others) → more ≡ others ++ w ∷ [] → AreCounted 0 more
 waits_more others more w before are at old pushed =
     let e : items_around others ≡ 0 + items_around others = omega arith in

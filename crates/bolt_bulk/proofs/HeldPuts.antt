@@ -1,4 +1,4 @@
--- What is known of the items of an open leaf, where they are put.
+-- What is known of the items of an open leaf when they are written.
 use Rattle.std.proofs.Common.{false, ◌≡◌, ◌∙◌, ℕ, zero, suc, ◌+◌, ◌≤◌, ◌<◌, List, [], ◌∷◌, length, drop, take, get_or, sym, ap, subst, arith}
 use Rattle.std.proofs.lemmas.List.{length-drop, length-take-le}
 use Rattle.bolt_format.specs.ElementPlaces.{leaf_view}

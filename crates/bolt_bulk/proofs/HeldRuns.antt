@@ -13,7 +13,7 @@ use Rattle.bolt_bulk.specs.Private.TakenItems.{entries_size, inline_element, inl
 use Rattle.bolt_bulk.specs.declared.held.Held.{Held}
 use Rattle.bolt_bulk.specs.declared.held.Stored.{Stored}
 use Rattle.bolt_bulk.specs.declared.held.Stored.TheVariants as stored
-use Rattle.bolt_bulk.specs.declared.open_bucket.LeafRun.{LeafRun}
+use Rattle.bolt_bulk.specs.declared.leaf_run.LeafRun.{LeafRun}
 use Rattle.bolt_layout.proofs.ListLemmas.{all_append}
 use Rattle.bolt_layout.proofs.PageLemmas.{length-header_bytes, length-root_value}
 use Rattle.bolt_layout.proofs.SpanLemmas.{length-leaf_bytes}
@@ -53,13 +53,13 @@ inlined_push : (xs : List Held) (x : Held) → inlined_in (xs ++ x ∷ []) ≡ i
 inlined_push [] x = omega arith
 inlined_push (y ∷ xs) x = let ih = inlined_push xs x in omega arith
 
--- the entries of its inline buckets are as many as they were and those of the item
+-- its inline buckets have as many more entries as the item has
 pub counted : (before after : ℕ) (xs more : List Held) (x : Held) → before ≡ inlined_in xs → more ≡ xs ++ x ∷ [] → after ≡ before + inlined_by x.stored → after ≡ inlined_in more
 counted before after xs more x old same grown =
     let a = ap (λ (items : List Held). inlined_in items) same in
     let b = inlined_push xs x in omega arith
 
--- Entries behind a row leave those in it as they are,
+-- Entries added to a list leave those in it as they are,
 entries_more : (inlined more : List Leaf) (first count : ℕ) → first + count ≤ length inlined → entries_in (inlined ++ more) first count ≡ entries_in inlined first count
 entries_more inlined more first count there =
     let l = length-drop first inlined in

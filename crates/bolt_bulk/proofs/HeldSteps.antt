@@ -1,4 +1,4 @@
--- What a pass held so far, at the most, changes only where an item joins a leaf: then the items that are held now count.
+-- The most that a pass has held so far changes only when an item joins a leaf: then the items that are held now count.
 use Rattle.std.proofs.Common.{◌≡◌, ◌∙◌, ℕ, ◌+◌, ◌≤◌, Bool, true, false, Option, List, [], ◌∷◌, ◌++◌, length, max, refl, sym, ap, subst, arith}
 use Rattle.std.proofs.lemmas.List.{length-append, length-map}
 use Rattle.std.proofs.lemmas.List.Sums.{sum_by-cons}
@@ -18,12 +18,12 @@ use Rattle.bolt_bulk.specs.Private.OpenRuns.{climb, close, end_of, Frame, has_ro
 use Rattle.bolt_bulk.specs.Private.Passes.{AreWaiting}
 use Rattle.bolt_bulk.specs.declared.branch_runs.BranchRun.{BranchRun}
 use Rattle.bolt_bulk.specs.declared.open_bucket.OpenBucket.{OpenBucket}
-use Rattle.bolt_bulk.specs.declared.steps.Waiting.{Waiting}
+use Rattle.bolt_bulk.specs.declared.waiting.Waiting.{Waiting}
 use Rattle.bolt_bulk.proofs.RowLemmas.{length-elements}
 
 -- ---- runs
 
--- what is held is what was held before, or what stands now with what is held further in
+-- what is held is what was held before, or what is in the runs now with what is held further in
 on_max : {E : Type 0} (run : List (Laid E)) (inner : ℕ) → held_on run inner ≡ max (held_on run 0) (length run + inner)
 on_max [] inner = omega arith
 on_max (item ∷ run) inner = let ih = on_max run inner in omega arith
@@ -59,7 +59,7 @@ frames_max (frame ∷ frames) inner =
 
 -- ---- pages that close
 
--- a page that closes holds its items no longer, and stands as one item of the run above, which is no more
+-- a page that closes holds its items no longer, and is one item of the run above, which is no more
 joined : (run : List (Laid BranchElement)) (q : Laid BranchElement) → 1 ≤ q.held → held_on (run ++ q ∷ []) 0 ≡ held_on run q.held
 joined run q some = on_push run q 0 ∙ ap (λ (n : ℕ). held_on run n) (let e : max q.held (1 + 0) ≡ q.held = omega arith in e)
 
@@ -165,7 +165,7 @@ enters_held page_size known frame frames state key size run before after room fl
     let d = frames_max frames (held_open frame.state 0) in
     let still = ap (λ (n : ℕ). held_frames frames n) same in omega arith
 
--- ---- what code counts
+-- ---- what the code counts
 
 pub run_length : (run : BranchRun) (pages : List (Laid BranchElement)) (n : ℕ) → (row_of run).elements ≡ elements_of pages n → length run.elements.items ≡ length pages
 run_length run pages n same =

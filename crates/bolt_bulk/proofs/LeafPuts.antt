@@ -1,4 +1,4 @@
--- A leaf page, and an inline value, put piece by piece, whatever the code keeps of their elements: `view` is the element that it keeps.
+-- A leaf page, and an inline value, written piece by piece, whatever the code keeps of their elements: `view` is the element that it keeps.
 use Rattle.std.proofs.Common.{◌≡◌, ◌∙◌, ℕ, suc, ◌+◌, ◌-◌, ◌*◌, ◌<◌, ◌≤◌, List, [], ◌∷◌, ◌++◌, length, map, get_or, Option, refl, sym, ap, arith, append_assoc}
 use Rattle.std.proofs.lemmas.List.{length-append, length-map}
 use Rattle.bolt_format.specs.Elements.{LeafElement}
@@ -62,7 +62,7 @@ length-inline_value view sequence xs =
     let e = length-append (header_bytes 0 2 (length xs) 0) (leaf_headers 0 es ++ leaf_data es) in
     let f = length-append (leaf_headers 0 es) (leaf_data es) in omega arith
 
--- what is known of the next header, where all headers and data are small
+-- what is known of the next header, if all headers and data are small
 pub record NextLeaf (e : LeafElement) (pos : ℕ) : Type 0 where
   pub low : 16 ≤ pos
   pub fits : pos + (length e.key + length e.value) < 4294967296

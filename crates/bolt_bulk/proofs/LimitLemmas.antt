@@ -1,4 +1,4 @@
--- The limits of rows: those of other rows stay, and those of a bucket are told row by row.
+-- The limits of rows: those of other rows stay, and those of a bucket are noted row by row.
 use Rattle.std.proofs.Common.{◌≡◌, ◌≢◌, ◌∙◌, ◌==◌, ◌<◌, ◌≤◌, ◌+◌, ◌-◌, ℕ, suc, Bool, true, false, Option, Some, None, List, [], ◌∷◌, length, drop, refl, sym, ap, inl, inr, arith}
 use Rattle.std.proofs.lemmas.Bool.{cases_Bool, cases_lt}
 use Rattle.std.proofs.lemmas.List.{drop_all}
@@ -72,7 +72,7 @@ told_rest rows lost loses i row limit at step rest k =
 none_at : (lost : Bool) (k : ℕ) → limit_at (limits_told lost []) k ≡ None
 none_at lost k = refl
 
--- and past the last row there is none
+-- and after the last row there is none
 pub told_all : (rows : List (ℕ × ℕ)) (lost : Bool) (i : ℕ) (old : ℕ → Option ℕ) → length rows ≤ i
     → ((k : ℕ) → k < i → old k ≡ limit_at (limits_told false rows) k) → ((k : ℕ) → i ≤ k → old k ≡ None)
     → ((k : ℕ) → limit_at (limits_told false rows) (i + k) ≡ limit_at (limits_told lost (drop i rows)) k)

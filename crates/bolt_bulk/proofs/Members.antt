@@ -1,4 +1,4 @@
--- What of a listing is still to come, where buckets are open: the members of the innermost one, then those behind it in each bucket around it.
+-- What of a listing is still to come while buckets are open: the members of the innermost one, then those after it in each bucket around it.
 -- The length of the next member's path says which bucket it is in.
 use Rattle.std.proofs.Common.{◌≡◌, ◌∙◌, ℕ, suc, ◌≤◌, ◌<◌, List, [], ◌∷◌, ◌++◌, length, refl, sym, ap, arith, append_assoc}
 use Rattle.std.proofs.lemmas.List.{append-nil, length-append}
@@ -39,7 +39,7 @@ one_deeper levels key path e =
     let own = length-append (path_in levels) (key ∷ []) in
     let n = path_length levels in omega arith
 
--- the first member of what is behind has no longer a path than there are levels
+-- the path of the first member after that bucket is no longer than there are levels
 starts_short : (levels : List Level) (after : Tree) (member : Member) (more : List Member) → ((m : Member) (ms : List Member) → behind_in levels ≡ m ∷ ms → length m.0 ≤ length levels)
     → listing_below (path_in levels) after ++ behind_in levels ≡ member ∷ more → length member.0 ≤ suc (length levels)
 starts_short levels end member more short e = let n = short member more e in omega arith
@@ -64,7 +64,7 @@ none_further levels (with_value key value after) member more e short =
 none_further levels (with_bucket key sequence inside after) member more e short =
     let n = one_deeper levels key member.0 (first_is (path_in levels ++ key ∷ []) (Bucket sequence) member _ more e) in absurd (omega arith)
 
--- Where no member is left, no bucket has more.
+-- If no member is left, no bucket has more.
 pub none_at_all : (levels : List Level) (rest : Tree) → left_in levels rest ≡ [] → rest ≡ end
 none_at_all levels end e = refl
 none_at_all levels (with_value key value after) e = absurd cc

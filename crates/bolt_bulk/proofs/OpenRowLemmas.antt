@@ -87,7 +87,7 @@ rows_have_room page_size rows state b key size is =
           rw (g, u, level) (made, ap (λ (p : Placed). p ∷ rows_put page_size key closed after rows.uppers) own ∙ ap (λ (ps : List Placed). own_page leaf_view page_size state.run m ∷ ps) climbed.1))
     ]
 
--- an item, once the pages below it were put
+-- an item, once the pages below it were written
 pub rows_pushed : (rows : OpenRows) (state : Open) (b : ℕ) (item : Laid LeafElement) → IsOpenRows rows state b → IsKeyedItem item
     → IsOpenRows (rows_push rows (item.element rows.next) item.size (rows.next + item.numbers)) (pushing state item) b
 rows_pushed rows state b item is keyed =

@@ -1,4 +1,4 @@
--- What a forward pass over a bucket's items puts is the pages over them.
+-- What a forward pass over a bucket's items writes is the pages over them.
 use Rattle.std.proofs.Common.{◌≡◌, ◌∙◌, ◌⊎◌, ℕ, suc, ◌+◌, ◌||◌, ◌&&◌, nat_lt, nat_le, true, false, Option, List, [], ◌∷◌, ◌++◌, length, map, refl, sym, ap, subst, inl, inr, arith, append_assoc}
 use Rattle.std.proofs.lemmas.Bool.{cases_Bool, or_parts}
 use Rattle.std.proofs.lemmas.List.{append-nil, length-append}
@@ -80,7 +80,7 @@ pair_step : (page_size : ℕ) (left : Option ℕ) (q p : Laid BranchElement) (pa
     → cut_left page_size size_of left (q ∷ []) (p ∷ pages) ≡ cut_left page_size size_of left (q ∷ p ∷ []) pages
 pair_step page_size left q p pages = refl
 
--- A climb keeps what comes of it.
+-- A climb keeps what the runs become.
 row_right : (which : Layout) (page_size : ℕ) (limits : ℕ → Option ℕ) (q p : Laid BranchElement) (pages all : List (Laid BranchElement)) (root : Laid BranchElement)
     → Comes which page_size limits [] all (q ∷ p ∷ pages) root
     → Comes which page_size limits (record { run = q ∷ []; left = limits 0; closed = 0 } ∷ []) all (p ∷ pages) root
@@ -143,7 +143,7 @@ close_same which page_size limits q (upper ∷ uppers) all root is =
     close_same which page_size (λ k. limits (suc k)) (page_over branch_view page_size (upper.run ++ q ∷ [])) uppers
     (map (page_over branch_view page_size) (branch_cut which page_size size_of all)) root is.1
 
--- The pages that were put.
+-- The pages that were written.
 pub pages-append : {E : Type 0} (xs ys : List (Laid E)) (n : ℕ) → pages_of (xs ++ ys) n ≡ pages_of xs n ++ pages_of ys (n + numbers_of xs)
 pages-append [] ys n = ap (λ (m : ℕ). pages_of ys m) (let e : n ≡ n + 0 = omega arith in e)
 pages-append (x ∷ xs) ys n =
@@ -162,7 +162,7 @@ pages_push xs run q b =
     ap (λ (ys : List (Laid BranchElement)). pages_of ys b) (sym (append_assoc xs run (q ∷ [])))
     ∙ (pages-append (xs ++ run) (q ∷ []) b ∙ ap (λ (ps : List Placed). pages_of (xs ++ run) b ++ ps) (pages_one q (b + numbers_of (xs ++ run))))
 
--- a page over a run is put behind the pages below it
+-- a page over a run is written after the pages below it
 over_put : (page_size b : ℕ) (run : List (Laid BranchElement)) (q : Laid BranchElement) (uppers : List Upper) (more : List Placed)
     → pages_of (put_in uppers) b ++ ((page_over branch_view page_size (run ++ q ∷ [])).pages (b + numbers_in uppers) ++ more)
     ≡ pages_of (put_in uppers ++ run) b ++ (q.pages (b + numbers_of (put_in uppers ++ run)) ++ (own_page branch_view page_size (run ++ q ∷ []) (b + numbers_in uppers) ∷ more))
@@ -237,7 +237,7 @@ takes which page_size state item items root is =
           })
     ]
 
--- what making room puts, and what an item's pages add
+-- what making room writes, and what an item's pages add
 pub room_put : (page_size : ℕ) (state : Open) (key : List ℕ) (size b : ℕ)
     → pages_put (making_room page_size state key size) b ≡ pages_put state b ++ room_puts page_size state key size b
 room_put page_size state key size b = elim (cases_Bool (has_room page_size 1 state.run size)) [

@@ -1,4 +1,4 @@
--- The steps of a pass, over what code keeps of it.
+-- The steps of a pass, over what the code keeps of it.
 use Rattle.std.proofs.Common.{◌≡◌, ◌∙◌, ℕ, suc, ◌+◌, ◌<◌, true, false, List, [], ◌∷◌, ◌++◌, length, map, max, min, reverse, Option, Some, None, Result, Ok, Err, Bor, Vec, Global, refl, sym, ap, subst, arith, append_assoc}
 use Rattle.std.specs.Prelude.{⊤, IfErr, IfOk, OnOk}
 use Rattle.std.specs.List.{AllByRecursion}
@@ -25,13 +25,13 @@ use Rattle.bolt_bulk.specs.Private.Passes.{AreComing, AreComingAround, AreNumber
 use Rattle.bolt_bulk.specs.Private.Rows.{OpenRows, rows_end, rows_end_put, rows_push, rows_room, rows_room_put}
 use Rattle.bolt_bulk.specs.Private.TakenItems.{inline_element, root_element, rows_taking, value_element}
 use Rattle.bolt_bulk.specs.Puts.{Puts}
-use Rattle.bolt_bulk.specs.declared.bounds.Bounds.{Bounds}
+use Rattle.bolt_bulk.specs.declared.page_setup.PageSetup.{PageSetup}
 use Rattle.bolt_bulk.specs.declared.fault.BulkFault.{BulkFault}
 use Rattle.bolt_bulk.specs.declared.fault.BulkFault.TheVariants as fault
 use Rattle.bolt_bulk.specs.declared.open_bucket.OpenBucket.{OpenBucket}
 use Rattle.bolt_bulk.specs.declared.pass.Pass.{Pass}
-use Rattle.bolt_bulk.specs.declared.pass.Pending.{Pending}
-use Rattle.bolt_bulk.specs.declared.steps.Waiting.{Waiting}
+use Rattle.bolt_bulk.specs.declared.pending.Pending.{Pending}
+use Rattle.bolt_bulk.specs.declared.waiting.Waiting.{Waiting}
 use Rattle.bolt_bulk.proofs.Frames.{waiting}
 use Rattle.bolt_bulk.proofs.HeldPasses.{around_reverse}
 use Rattle.bolt_bulk.proofs.HeldSteps.{around_length, enters_held, items_length, leaves_held, takes_held}
@@ -67,13 +67,13 @@ if_ok_map (Err e) p f = tt
 
 -- ---- sinks
 
--- nothing is put, and a fault other than that of the sink is told
+-- nothing is written, and a fault other than Sink is returned
 pub puts_none : {S A : Type 0} {taken : S → Option (List ℕ)} {failed : S → ℕ} (old : S) (result : Result A BulkFault) → IfErr result (λ e. e ≡ fault.Sink → ⊥)
     → Puts taken failed old old [] result
 puts_none {taken} {failed} old (Ok x) other = record { all = Appends-nil (taken old); sound = refl; beginning = tt; failure = tt; other = tt }
 puts_none {taken} {failed} old (Err e) other = record { all = tt; sound = tt; beginning = AppendsBeginning-none (taken old) []; failure = λ s. absurd (other s); other = λ _. refl }
 
--- what was put well, where the call fails for want of memory then
+-- what was written well, if memory then runs out
 pub puts_failed : {S A B : Type 0} {taken : S → Option (List ℕ)} {failed : S → ℕ} (old new : S) (text : List ℕ) (x : A) → Puts taken failed old new text (Ok x) → Puts {A = B} taken failed old new text (Err fault.Memory)
 puts_failed {taken} {failed} old new text x a = record {
   all = tt;
@@ -83,7 +83,7 @@ puts_failed {taken} {failed} old new text x a = record {
   other = λ _. a.sound;
 }
 
--- the same, told of nothing
+-- the same of a call that returns nothing
 pub puts_well : {S A : Type 0} {taken : S → Option (List ℕ)} {failed : S → ℕ} (old new : S) (text : List ℕ) (x : A) → Puts taken failed old new text (Ok x) → Puts {A = ⊤} taken failed old new text (Ok tt)
 puts_well old new text x a = record { all = a.all; sound = a.sound; beginning = tt; failure = tt; other = tt }
 
@@ -92,9 +92,9 @@ puts_fault old new text e a = record { all = tt; sound = tt; beginning = a.begin
 
 -- ---- one step after another
 
-module _ {S : Type 0} (wanted : Wanted) (taken : S → Option (List ℕ)) (failed : S → ℕ) (bounds : Bounds) where
+module _ {S : Type 0} (wanted : Wanted) (taken : S → Option (List ℕ)) (failed : S → ℕ) (setup : PageSetup) where
   abbrev StepsBy : {A : Type 0} (old new : S) (put : List Placed) (At : List Placed → Type 0) (result : Result A BulkFault) → Type 0
-  StepsBy old new put At result = Steps wanted taken failed old new bounds put At result
+  StepsBy old new put At result = Steps wanted taken failed old new setup put At result
 
   pub steps_then : {A B : Type 0} (old mid new : S) (put : List Placed) (Mid At : List Placed → Type 0) (x : A) (result : Result B BulkFault)
       → StepsBy old mid put Mid (Ok x) → ((all : List Placed) → Mid all → StepsBy mid new all At result) → StepsBy old new put At result
@@ -103,13 +103,13 @@ module _ {S : Type 0} (wanted : Wanted) (taken : S → Option (List ℕ)) (faile
       let same : (put ++ one.more) ++ then.more ≡ put ++ (one.more ++ then.more) = append_assoc put one.more then.more in
       record {
         more = one.more ++ then.more;
-        puts = subst (λ (bs : List ℕ). Puts taken failed old new bs result) (sym (bytes-append bounds.page_size one.more then.more)) (puts_then {taken = taken} {failed = failed} old mid new _ _ x result one.puts then.puts);
+        puts = subst (λ (bs : List ℕ). Puts taken failed old new bs result) (sym (bytes-append setup.page_size one.more then.more)) (puts_then {taken = taken} {failed = failed} old mid new _ _ x result one.puts then.puts);
         at = subst (λ (ps : List Placed). OnOk result (At ps)) same then.at;
-        before = subst (λ (ps : List Placed). StandsBefore ps (layout_pages wanted.which bounds.page_size wanted.tree)) same then.before;
+        before = subst (λ (ps : List Placed). StandsBefore ps (layout_pages wanted.which setup.page_size wanted.tree)) same then.before;
         large = then.large;
       }
 
-  -- a fault is handed on
+  -- a fault is returned on
   pub steps_stop : {A B : Type 0} (old new : S) (put : List Placed) (Mid At : List Placed → Type 0) (e : BulkFault) → StepsBy {A = A} old new put Mid (Err e) → StepsBy {A = B} old new put At (Err e)
   steps_stop old new put Mid At e one = record {
     more = one.more;
@@ -123,59 +123,59 @@ module _ {S : Type 0} (wanted : Wanted) (taken : S → Option (List ℕ)) (faile
   pub steps_failed : {A B : Type 0} (old new : S) (put : List Placed) (At : List Placed → Type 0) (x : A) → StepsBy old new put At (Ok x) → StepsBy {A = B} old new put At (Err fault.Memory)
   steps_failed old new put At x one = record { more = one.more; puts = puts_failed old new _ x one.puts; at = tt; before = one.before; large = λ e. absurd cc }
 
--- ---- what stands in a pass
+-- ---- what is in a pass
 
 -- the limits are right for the buckets that are still to come
 abbrev pub IsComingFor : Wanted → Pass → (n : ℕ) → Tree → List Frame → Type 0
-IsComingFor wanted pass n left frames = AreComing wanted pass.bounds.page_size (limits_by pass) n left
-    × AreComingAround wanted pass.bounds.page_size (limits_by pass) (n + opened_in wanted.which pass.bounds.page_size left) frames
+IsComingFor wanted pass n left frames = AreComing wanted pass.setup.page_size (limits_by pass) n left
+    × AreComingAround wanted pass.setup.page_size (limits_by pass) (n + opened_in wanted.which pass.setup.page_size left) frames
 
-coming_for : (wanted : Wanted) (pass : Pass) (n : ℕ) (rest left : Tree) (frames : List Frame) → rest ≡ left → AreComing wanted pass.bounds.page_size (limits_by pass) n rest
-    → AreComingAround wanted pass.bounds.page_size (limits_by pass) (n + opened_in wanted.which pass.bounds.page_size rest) frames → IsComingFor wanted pass n left frames
+coming_for : (wanted : Wanted) (pass : Pass) (n : ℕ) (rest left : Tree) (frames : List Frame) → rest ≡ left → AreComing wanted pass.setup.page_size (limits_by pass) n rest
+    → AreComingAround wanted pass.setup.page_size (limits_by pass) (n + opened_in wanted.which pass.setup.page_size rest) frames → IsComingFor wanted pass n left frames
 coming_for wanted pass n rest left frames same right around = subst (λ (t : Tree). IsComingFor wanted pass n t frames) same (right, around)
 
 -- with nothing that may be inline
 pub on_of : (wanted : Wanted) (pass : Pass) (levels : List Level) (left : Tree) (put : List Placed) (is : IsAt wanted pass levels left put) → pass.pending ≡ None
-    → (levels ≡ map level_of is.frames) × IsOn wanted.which pass.bounds.page_size wanted.tree is.frames is.state (items_of wanted.which pass.bounds.page_size left) (rows_of pass.bucket pass.next) put
+    → (levels ≡ map level_of is.frames) × IsOn wanted.which pass.setup.page_size wanted.tree is.frames is.state (items_of wanted.which pass.setup.page_size left) (rows_of pass.bucket pass.next) put
     × IsComingFor wanted pass is.opened left is.frames
 on_of wanted pass levels left put is none =
     let (same, rest) = subst (λ (p : Option Pending). IsPending p pass.entries.items (map level_of is.frames) is.rest levels left) none is.pends in
-    let under = subst (λ (t : Tree). IsPass wanted.which pass.bounds.page_size is.frames is.state (items_of wanted.which pass.bounds.page_size t) (root_of wanted.which pass.bounds.page_size wanted.tree)) rest is.under in
+    let under = subst (λ (t : Tree). IsPass wanted.which pass.setup.page_size is.frames is.state (items_of wanted.which pass.setup.page_size t) (root_of wanted.which pass.setup.page_size wanted.tree)) rest is.under in
     (same, record { under = under; rows_are = is.rows; put_is = is.put_is }, coming_for wanted pass is.opened is.rest left is.frames rest is.coming is.around)
 
 -- with a bucket that may be inline
 abbrev pub HasPending : (wanted : Wanted) (pass : Pass) (levels : List Level) (left : Tree) (put : List Placed) (is : IsAt wanted pass levels left put) → Pending → Type 0
 HasPending wanted pass levels left put is p = (after : Tree)
     × (levels ≡ record { key = p.key.now; after = after } ∷ map level_of is.frames)
-    × IsOn wanted.which pass.bounds.page_size wanted.tree is.frames is.state (items_of wanted.which pass.bounds.page_size (with_bucket p.key.now p.sequence (onto (map leaf_view pass.entries.items) left) after)) (rows_of pass.bucket pass.next) put
+    × IsOn wanted.which pass.setup.page_size wanted.tree is.frames is.state (items_of wanted.which pass.setup.page_size (with_bucket p.key.now p.sequence (onto (map leaf_view pass.entries.items) left) after)) (rows_of pass.bucket pass.next) put
     × IsComingFor wanted pass is.opened (with_bucket p.key.now p.sequence (onto (map leaf_view pass.entries.items) left) after) is.frames
 
 pending_of : (wanted : Wanted) (pass : Pass) (levels : List Level) (left : Tree) (put : List Placed) (p : Pending) (is : IsAt wanted pass levels left put) → pass.pending ≡ Some p → HasPending wanted pass levels left put is p
 pending_of wanted pass levels left put p is some =
     let (after, same, rest) = subst (λ (q : Option Pending). IsPending q pass.entries.items (map level_of is.frames) is.rest levels left) some is.pends in
-    let under = subst (λ (t : Tree). IsPass wanted.which pass.bounds.page_size is.frames is.state (items_of wanted.which pass.bounds.page_size t) (root_of wanted.which pass.bounds.page_size wanted.tree)) rest is.under in
+    let under = subst (λ (t : Tree). IsPass wanted.which pass.setup.page_size is.frames is.state (items_of wanted.which pass.setup.page_size t) (root_of wanted.which pass.setup.page_size wanted.tree)) rest is.under in
     (after, same, record { under = under; rows_are = is.rows; put_is = is.put_is }, coming_for wanted pass is.opened is.rest _ is.frames rest is.coming is.around)
 
--- what was put stands before the rest, at any time
-pub at_before : (wanted : Wanted) (pass : Pass) (levels : List Level) (left : Tree) (put : List Placed) → IsAt wanted pass levels left put → StandsBefore put (layout_pages wanted.which pass.bounds.page_size wanted.tree)
+-- what was written comes before the rest, at any time
+pub at_before : (wanted : Wanted) (pass : Pass) (levels : List Level) (left : Tree) (put : List Placed) → IsAt wanted pass levels left put → StandsBefore put (layout_pages wanted.which pass.setup.page_size wanted.tree)
 at_before wanted pass levels left put is =
-    on_before wanted.which pass.bounds.page_size wanted.tree is.frames is.state (items_of wanted.which pass.bounds.page_size is.rest) (rows_of pass.bucket pass.next) put (record { under = is.under; rows_are = is.rows; put_is = is.put_is })
+    on_before wanted.which pass.setup.page_size wanted.tree is.frames is.state (items_of wanted.which pass.setup.page_size is.rest) (rows_of pass.bucket pass.next) put (record { under = is.under; rows_are = is.rows; put_is = is.put_is })
 
--- a step that puts nothing
+-- a step that writes nothing
 pub steps_none : {S A : Type 0} {taken : S → Option (List ℕ)} {failed : S → ℕ} (wanted : Wanted) (pass : Pass) (levels : List Level) (left : Tree) (put : List Placed) (old : S) (At : List Placed → Type 0) (result : Result A BulkFault)
-    → IsAt wanted pass levels left put → IfErr result (λ e. e ≡ fault.Memory) → OnOk result (At put) → Steps wanted taken failed old old pass.bounds put At result
+    → IsAt wanted pass levels left put → IfErr result (λ e. e ≡ fault.Memory) → OnOk result (At put) → Steps wanted taken failed old old pass.setup put At result
 steps_none wanted pass levels left put old At (Ok x) is memory at = record {
   more = [];
   puts = puts_none old (Ok x) tt;
   at = subst At (sym (append-nil put)) at;
-  before = subst (λ (ps : List Placed). StandsBefore ps (layout_pages wanted.which pass.bounds.page_size wanted.tree)) (sym (append-nil put)) (at_before wanted pass levels left put is);
+  before = subst (λ (ps : List Placed). StandsBefore ps (layout_pages wanted.which pass.setup.page_size wanted.tree)) (sym (append-nil put)) (at_before wanted pass levels left put is);
   large = tt;
 }
 steps_none wanted pass levels left put old At (Err e) is memory at = record {
   more = [];
   puts = puts_none old (Err e) (λ s. absurd (let other : fault.Memory ≡ fault.Sink = sym memory ∙ s in cc));
   at = tt;
-  before = subst (λ (ps : List Placed). StandsBefore ps (layout_pages wanted.which pass.bounds.page_size wanted.tree)) (sym (append-nil put)) (at_before wanted pass levels left put is);
+  before = subst (λ (ps : List Placed). StandsBefore ps (layout_pages wanted.which pass.setup.page_size wanted.tree)) (sym (append-nil put)) (at_before wanted pass levels left put is);
   large = λ s. absurd (let other : fault.Memory ≡ fault.TooLarge = sym memory ∙ s in cc);
 }
 
@@ -188,12 +188,12 @@ first_frame level levels (frame ∷ frames) e =
     let others : levels ≡ map level_of frames = cc in
     (frame, frames, refl, (others, ap (λ (l : Level). l.after) (sym first)))
 
--- entries that code keeps as values are shown as such
+-- entries that the code keeps as values are shown as such
 shown_values : (entries : List Leaf) → AllByRecursion (λ (entry : Leaf). entry.is_bucket ≡ false) entries → AllByRecursion IsValue (map leaf_view entries)
 shown_values [] all = tt
 shown_values (e ∷ entries) all = (all.0, shown_values entries all.1)
 
--- what code counts is what stands in the open runs
+-- what the code counts is what is in the open runs
 counted_items : (frames : List Frame) (state : Open) (waits : List Waiting) (bucket : OpenBucket) (next : ℕ) → AreWaiting (reverse waits) frames → IsOpenRows (rows_of bucket next) state (base_in frames)
     → items_around waits + items_in bucket ≡ length_frames frames + length_open state
 counted_items frames state waits bucket next are rows =
@@ -203,7 +203,7 @@ counted_items frames state waits bucket next are rows =
 
 module _ {S : Type 0} (taken : S → Option (List ℕ)) (failed : S → ℕ) (wanted : Wanted) (pass : Pass) (put : List Placed) where
   abbrev P : ℕ
-  P = pass.bounds.page_size
+  P = pass.setup.page_size
 
   abbrev rows_now : OpenRows
   rows_now = rows_of pass.bucket pass.next
@@ -213,9 +213,9 @@ module _ {S : Type 0} (taken : S → Option (List ℕ)) (failed : S → ℕ) (wa
       → IsAt wanted pass levels (with_value key value after) put → pass.pending ≡ None
       → Puts taken failed old new (placed_bytes P (rows_room_put P rows_now key (16 + (length key + length value)))) result
       → OnOk result (rows_of bucket next ≡ rows_taking P rows_now (value_element key value) (16 + (length key + length value)))
-      → IfErr result (λ e. e ≡ fault.TooLarge → pass.bounds.limit < (rows_room P rows_now key (16 + (length key + length value))).next)
-      → OnOk result (Counts (record { alloc = pass.alloc; bounds = pass.bounds; limits = pass.limits; waiting = pass.waiting; bucket = bucket; pending = pass.pending; entries = pass.entries; next = next; opened = pass.opened; around = pass.around; most = pass.most; told = pass.told }) counted)
-      → Steps wanted taken failed old new pass.bounds put (IsAt wanted counted levels after) result
+      → IfErr result (λ e. e ≡ fault.TooLarge → pass.setup.limit < (rows_room P rows_now key (16 + (length key + length value))).next)
+      → OnOk result (Counts (record { setup = pass.setup; limits = pass.limits; waiting = pass.waiting; bucket = bucket; pending = pass.pending; entries = pass.entries; next = next; opened = pass.opened; around = pass.around; most = pass.most; told = pass.told }) counted)
+      → Steps wanted taken failed old new pass.setup put (IsAt wanted counted levels after) result
   value_steps levels key value after old new bucket next counted result is none puts rows large counts =
       let (same, on, right) = on_of wanted pass levels (with_value key value after) put is none in
       let made : Open = taking P is.state (leaf_item key value false) in
@@ -254,9 +254,9 @@ module _ {S : Type 0} (taken : S → Option (List ℕ)) (failed : S → ℕ) (wa
       → IsAt wanted pass (level ∷ levels) end put → pass.pending ≡ Some p → IsSmall P p pass.entries.items → size ≡ length (inline_value p.sequence (map leaf_view pass.entries.items))
       → Puts taken failed old new (placed_bytes P (rows_room_put P rows_now p.key.now (16 + (length p.key.now + size)))) result
       → OnOk result (rows_of bucket next ≡ rows_taking P rows_now (inline_element p.key.now p.sequence (map leaf_view pass.entries.items)) (16 + (length p.key.now + size)))
-      → IfErr result (λ e. e ≡ fault.TooLarge → pass.bounds.limit < (rows_room P rows_now p.key.now (16 + (length p.key.now + size))).next)
-      → OnOk result (Counts (record { alloc = pass.alloc; bounds = pass.bounds; limits = pass.limits; waiting = pass.waiting; bucket = bucket; pending = None; entries = entries; next = next; opened = pass.opened; around = pass.around; most = pass.most; told = pass.told }) counted)
-      → Steps wanted taken failed old new pass.bounds put (IsAt wanted counted levels level.after) result
+      → IfErr result (λ e. e ≡ fault.TooLarge → pass.setup.limit < (rows_room P rows_now p.key.now (16 + (length p.key.now + size))).next)
+      → OnOk result (Counts (record { setup = pass.setup; limits = pass.limits; waiting = pass.waiting; bucket = bucket; pending = None; entries = entries; next = next; opened = pass.opened; around = pass.around; most = pass.most; told = pass.told }) counted)
+      → Steps wanted taken failed old new pass.setup put (IsAt wanted counted levels level.after) result
   inline_steps level levels p size old new bucket entries next counted result is some small sized puts rows large counts =
       let (after, same, on, right) = pending_of wanted pass (level ∷ levels) end put p is some in
       let shown : List LeafElement = map leaf_view pass.entries.items in
@@ -317,7 +317,7 @@ module _ {S : Type 0} (taken : S → Option (List ℕ)) (failed : S → ℕ) (wa
   abbrev opened_rows : Pending → ℕ → OpenRows
   opened_rows p next = record { leaves = record { elements = map leaf_view pass.entries.items; size = p.size }; uppers = []; limits = limits_now; next = next }
 
-  -- where it stands then
+  -- where it is then
   abbrev room_for : Pending → OpenRows
   room_for p = rows_room P rows_now p.key.now (32 + length p.key.now)
 
@@ -378,8 +378,8 @@ module _ {S : Type 0} (taken : S → Option (List ℕ)) (failed : S → ℕ) (wa
   pub open_stops : {A : Type 0} (levels : List Level) (left : Tree) (p : Pending) (old new : S) (At : List Placed → Type 0) (e : BulkFault)
       → IsAt wanted pass levels left put → pass.pending ≡ Some p → IsSmall P p pass.entries.items → HasRoot wanted.which P (onto (map leaf_view pass.entries.items) left)
       → Puts {A = A} taken failed old new (placed_bytes P (rows_room_put P rows_now p.key.now (32 + length p.key.now))) (Err e)
-      → (e ≡ fault.TooLarge → pass.bounds.limit < (room_for p).next)
-      → Steps {A = A} wanted taken failed old new pass.bounds put At (Err e)
+      → (e ≡ fault.TooLarge → pass.setup.limit < (room_for p).next)
+      → Steps {A = A} wanted taken failed old new pass.setup put At (Err e)
   open_stops levels left p old new At e is some small rooted puts large =
       let then = has_opened levels left p is some small rooted in
       let numbers = on_numbers wanted.which P wanted.tree _ _ _ _ _ then.on in
@@ -397,8 +397,8 @@ module _ {S : Type 0} (taken : S → Option (List ℕ)) (failed : S → ℕ) (wa
       → Puts {A = ⊤} taken failed old new (placed_bytes P (rows_room_put P rows_now p.key.now (32 + length p.key.now))) (Ok tt)
       → around.items ≡ pass.waiting.items ++ w ∷ [] → rows_of w.bucket next ≡ room_for p → w.key.now ≡ p.key.now → w.sequence ≡ p.sequence → rows_of bucket next ≡ opened_rows p next
       → opened ≡ min (pass.opened + 1) 18446744073709551615
-      → Counts (record { alloc = pass.alloc; bounds = pass.bounds; limits = pass.limits; waiting = around; bucket = bucket; pending = None; entries = entries; next = next; opened = opened; around = held; most = pass.most; told = pass.told }) counted
-      → Steps {A = ⊤} wanted taken failed old new pass.bounds put (IsAt wanted counted levels left) (Ok tt)
+      → Counts (record { setup = pass.setup; limits = pass.limits; waiting = around; bucket = bucket; pending = None; entries = entries; next = next; opened = opened; around = held; most = pass.most; told = pass.told }) counted
+      → Steps {A = ⊤} wanted taken failed old new pass.setup put (IsAt wanted counted levels left) (Ok tt)
   open_steps levels left p old new bucket w around entries next opened held counted is some small rooted puts items rows key sequence values_are one_more k =
       let then = has_opened levels left p is some small rooted in
       let frame : Frame = frame_of p left then.after is.state in
@@ -453,9 +453,9 @@ module _ {S : Type 0} (taken : S → Option (List ℕ)) (failed : S → ℕ) (wa
       → BucketEnds pass.told told pass.bucket.limits.bucket pass.bucket.uppers.items
       → Puts taken failed old new (placed_bytes P (rows_end_put P rows_now)) result
       → OnOk result ((before : ℕ) → rows_of bucket next ≡ rows_push (rows_of w.bucket before) (root_element w.key.now (rows_end P rows_now) w.sequence) (32 + length w.key.now) (bucket_end_next P rows_now))
-      → IfErr result (λ e. e ≡ fault.TooLarge → pass.bounds.limit < bucket_end_next P rows_now)
-      → OnOk result (Counts (record { alloc = pass.alloc; bounds = pass.bounds; limits = pass.limits; waiting = around; bucket = bucket; pending = pass.pending; entries = pass.entries; next = next; opened = pass.opened; around = held; most = pass.most; told = told }) counted)
-      → Steps wanted taken failed old new pass.bounds put (IsAt wanted counted levels level.after) result
+      → IfErr result (λ e. e ≡ fault.TooLarge → pass.setup.limit < bucket_end_next P rows_now)
+      → OnOk result (Counts (record { setup = pass.setup; limits = pass.limits; waiting = around; bucket = bucket; pending = pass.pending; entries = pass.entries; next = next; opened = pass.opened; around = held; most = pass.most; told = told }) counted)
+      → Steps wanted taken failed old new pass.setup put (IsAt wanted counted levels level.after) result
   leave_steps level levels w old new bucket around next held told counted result is none popped ended puts rows large counts =
       let (same, on, right) = on_of wanted pass (level ∷ levels) end put is none in
       let (frame, frames, more_frames, top) = first_frame level levels is.frames same in
@@ -513,7 +513,7 @@ module _ (wanted : Wanted) (pass : Pass) (levels : List Level) (put : List Place
   -- a value of a bucket that may be inline
   pub keep_at : (key value : List ℕ) (after : Tree) (p : Pending) (entry : Leaf) (size : ℕ) (entries : Vec Leaf Global) → IsAt wanted pass levels (with_value key value after) put → pass.pending ≡ Some p
       → entries.items ≡ pass.entries.items ++ entry ∷ [] → leaf_view entry ≡ value_element key value
-      → IsAt wanted (record { alloc = pass.alloc; bounds = pass.bounds; limits = pass.limits; waiting = pass.waiting; bucket = pass.bucket; pending = Some (record { key = p.key; sequence = p.sequence; size = size }); entries = entries; next = pass.next; opened = pass.opened; around = pass.around; most = pass.most; told = pass.told }) levels after put
+      → IsAt wanted (record { setup = pass.setup; limits = pass.limits; waiting = pass.waiting; bucket = pass.bucket; pending = Some (record { key = p.key; sequence = p.sequence; size = size }); entries = entries; next = pass.next; opened = pass.opened; around = pass.around; most = pass.most; told = pass.told }) levels after put
   keep_at key value after p entry size entries is some pushed view =
       let (behind, same, rest) = subst (λ (q : Option Pending). IsPending q pass.entries.items (map level_of is.frames) is.rest levels (with_value key value after)) some is.pends in
       let shown : List LeafElement = map leaf_view pass.entries.items in
@@ -542,7 +542,7 @@ module _ (wanted : Wanted) (pass : Pass) (levels : List Level) (put : List Place
 
   -- a bucket that may be inline
   pub begin_at : (key : Bor (List ℕ)) (sequence : ℕ) (inside after : Tree) → IsAt wanted pass levels (with_bucket key.now sequence inside after) put → pass.pending ≡ None → pass.entries.items ≡ []
-      → IsAt wanted (record { alloc = pass.alloc; bounds = pass.bounds; limits = pass.limits; waiting = pass.waiting; bucket = pass.bucket; pending = Some (record { key = key; sequence = sequence; size = 16 }); entries = pass.entries; next = pass.next; opened = pass.opened; around = pass.around; most = pass.most; told = pass.told })
+      → IsAt wanted (record { setup = pass.setup; limits = pass.limits; waiting = pass.waiting; bucket = pass.bucket; pending = Some (record { key = key; sequence = sequence; size = 16 }); entries = pass.entries; next = pass.next; opened = pass.opened; around = pass.around; most = pass.most; told = pass.told })
       (record { key = key.now; after = after } ∷ levels) inside put
   begin_at key sequence inside after is none empty =
       let (same, rest) = subst (λ (q : Option Pending). IsPending q pass.entries.items (map level_of is.frames) is.rest levels (with_bucket key.now sequence inside after)) none is.pends in

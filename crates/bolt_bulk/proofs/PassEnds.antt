@@ -27,13 +27,13 @@ use Rattle.bolt_bulk.specs.Private.OpenRuns.{Frame, Known, Open, all_put, base_i
 use Rattle.bolt_bulk.specs.Private.Passes.{AreComingAround, AreNumbered, FitLimits, HasLeft, IsAt, IsTable, Steps, Wanted, depth_of, level_of, limits_by, limits_with, open_in, pending_depth}
 use Rattle.bolt_bulk.specs.Private.Rows.{OpenRows, no_leaves, rows_end, rows_end_put}
 use Rattle.bolt_bulk.specs.Puts.{Puts}
-use Rattle.bolt_bulk.specs.declared.bounds.Bounds.{Bounds}
+use Rattle.bolt_bulk.specs.declared.page_setup.PageSetup.{PageSetup}
 use Rattle.bolt_bulk.specs.declared.fault.BulkFault.{BulkFault}
 use Rattle.bolt_bulk.specs.declared.pass.Ended.{Ended}
 use Rattle.bolt_bulk.specs.declared.pass.Pass.{Pass}
 use Rattle.bolt_bulk.specs.Private.RowLimits.{limit_in}
 use Rattle.bolt_bulk.specs.declared.limits.BucketLimits.{BucketLimits}
-use Rattle.bolt_bulk.specs.declared.pass.Pending.{Pending}
+use Rattle.bolt_bulk.specs.declared.pending.Pending.{Pending}
 use Rattle.bolt_bulk.specs.declared.told.Told.{Told}
 use Rattle.bolt_bulk.proofs.Frames.{pass_begins, pass_ends}
 use Rattle.bolt_bulk.proofs.HeldSteps.{end_held}
@@ -121,9 +121,9 @@ members_fit path (with_bucket key sequence inside after) (key_fits, sequence_fit
 pub has_begun : (wanted : Wanted) (pass : Pass) → pass.waiting.items ≡ [] → pass.pending ≡ None
     → rows_of pass.bucket pass.next ≡ record { leaves = no_leaves; uppers = []; limits = record { all = pass.limits; bucket = 0 }; next = first_page } → pass.most ≡ 0 → pass.opened ≡ 1
     → pass.told.tells ≡ wanted.tells → ((bucket level : ℕ) → limit_in pass.told.limits bucket level ≡ None)
-    → FitLimits wanted.which wanted.tree pass.bounds.page_size (limits_by pass) → HasLeft wanted pass (listing_of wanted.tree) []
+    → FitLimits wanted.which wanted.tree pass.setup.page_size (limits_by pass) → HasLeft wanted pass (listing_of wanted.tree) []
 has_begun wanted pass none nothing rows fresh first asked untold fit =
-    let P : ℕ = pass.bounds.page_size in
+    let P : ℕ = pass.setup.page_size in
     let leaves : List (Laid BranchElement) = leaf_pages P (items_of wanted.which P wanted.tree) in
     let known : Known = record { limits = record { all = pass.limits; bucket = 0 }; leaves = leaves } in
     record {
@@ -168,12 +168,12 @@ no_pending : (pass : Pass) → depth_of pass ≤ 1 → pass.pending ≡ None
 no_pending pass h = only_none pass.pending (omega arith)
 
 pub record HasEnd (wanted : Wanted) (pass : Pass) (put : List Placed) : Type 0 where
-  pub pages : layout_pages wanted.which pass.bounds.page_size wanted.tree ≡ put ++ rows_end_put pass.bounds.page_size (rows_of pass.bucket pass.next)
-  pub root : rows_end pass.bounds.page_size (rows_of pass.bucket pass.next) ≡ layout_root wanted.which pass.bounds.page_size wanted.tree
-  pub mark : bucket_end_next pass.bounds.page_size (rows_of pass.bucket pass.next) ≡ layout_mark wanted.which pass.bounds.page_size wanted.tree
-  pub held : pass.most ≡ capped (layout_held wanted.which pass.bounds.page_size wanted.tree)
+  pub pages : layout_pages wanted.which pass.setup.page_size wanted.tree ≡ put ++ rows_end_put pass.setup.page_size (rows_of pass.bucket pass.next)
+  pub root : rows_end pass.setup.page_size (rows_of pass.bucket pass.next) ≡ layout_root wanted.which pass.setup.page_size wanted.tree
+  pub mark : bucket_end_next pass.setup.page_size (rows_of pass.bucket pass.next) ≡ layout_mark wanted.which pass.setup.page_size wanted.tree
+  pub held : pass.most ≡ capped (layout_held wanted.which pass.setup.page_size wanted.tree)
   pub told : (told : Told) → BucketEnds pass.told told pass.bucket.limits.bucket pass.bucket.uppers.items → wanted.tells ≡ true → wanted.which ≡ Plain
-      → layout_mark wanted.which pass.bounds.page_size wanted.tree ≤ 18446744073709551615 → FitLimits Balanced wanted.tree pass.bounds.page_size (limits_with told.limits)
+      → layout_mark wanted.which pass.setup.page_size wanted.tree ≤ 18446744073709551615 → FitLimits Balanced wanted.tree pass.setup.page_size (limits_with told.limits)
 
 root_ended : (page_size : ℕ) (wanted : Wanted) (state : Open) (rows : OpenRows) (put : List Placed) → IsOn wanted.which page_size wanted.tree [] state [] rows put
     → (layout_pages wanted.which page_size wanted.tree ≡ put ++ rows_end_put page_size rows) × (rows_end page_size rows ≡ layout_root wanted.which page_size wanted.tree) × (bucket_end_next page_size rows ≡ layout_mark wanted.which page_size wanted.tree)
@@ -195,15 +195,15 @@ has_end wanted pass put has shallow =
     let at = subst (λ (t : Tree). IsAt wanted pass [] t put) left (subst (λ (ls : List Level). IsAt wanted pass ls has.left put) none has.at) in
     let (same, on, right) = on_of wanted pass [] end put at (no_pending pass shallow) in
     let frames = no_frames at.frames same in
-    let on2 = subst (λ (fs : List Frame). IsOn wanted.which pass.bounds.page_size wanted.tree fs at.state [] (rows_of pass.bucket pass.next) put) frames on in
-    let (pages, root, mark, held) = root_ended pass.bounds.page_size wanted at.state (rows_of pass.bucket pass.next) put on2 in
+    let on2 = subst (λ (fs : List Frame). IsOn wanted.which pass.setup.page_size wanted.tree fs at.state [] (rows_of pass.bucket pass.next) put) frames on in
+    let (pages, root, mark, held) = root_ended pass.setup.page_size wanted at.state (rows_of pass.bucket pass.next) put on2 in
     record {
       pages = pages;
       root = root;
       mark = mark;
       held = at.held ∙ ap capped (ap (λ (fs : List Frame). held_so_far fs at.state) frames ∙ held);
       told = λ told ended asked which fits.
-          let P : ℕ = pass.bounds.page_size in
+          let P : ℕ = pass.setup.page_size in
           let numbered = subst (λ (fs : List Frame). AreNumbered wanted P at.opened at.numbers (open_in at.state fs)) frames at.numbered in
           let around = subst (λ (fs : List Frame). AreComingAround wanted P (limits_by pass) (at.opened + 0) fs) frames right.1 in
           let most = opened_most wanted P (limits_by pass) (at.opened + 0) at.frames right.1 in
@@ -215,7 +215,7 @@ has_end wanted pass put has shallow =
           table_fits P wanted.tree told.limits at.opened table (omega arith) (omega arith);
     }
 
--- A beginning of a text isn't the whole of a longer one.
+-- A prefix of a text isn't the whole of a longer one.
 some_more : (xs ys : List ℕ) → ys ≢ [] → (xs ++ ys) ≢ []
 some_more [] ys some = some
 some_more (x ∷ xs) ys some = λ e. cc
@@ -233,11 +233,11 @@ rest_some : (page_size : ℕ) (pages : List Placed) → 1 ≤ length pages → p
 rest_some page_size [] some = absurd (omega arith)
 rest_some page_size (page ∷ pages) some = pages_some page_size page pages
 
-module _ {S : Type 0} (wanted : Wanted) (taken : S → Option (List ℕ)) (failed : S → ℕ) (bounds : Bounds) where
+module _ {S : Type 0} (wanted : Wanted) (taken : S → Option (List ℕ)) (failed : S → ℕ) (setup : PageSetup) where
   -- a step failed on the way
-  pub ends_early : {A : Type 0} (old new : S) (put : List Placed) (At : List Placed → Type 0) (e : BulkFault) → Steps {A = A} wanted taken failed old new bounds put At (Err e) → Ends wanted taken failed old new bounds put (Err e)
+  pub ends_early : {A : Type 0} (old new : S) (put : List Placed) (At : List Placed → Type 0) (e : BulkFault) → Steps {A = A} wanted taken failed old new setup put At (Err e) → Ends wanted taken failed old new setup put (Err e)
   ends_early old new put At e steps =
-      let P : ℕ = bounds.page_size in
+      let P : ℕ = setup.page_size in
       let others : List Placed = steps.more ++ steps.before.rest in
       let bytes : placed_bytes P others ≡ placed_bytes P steps.more ++ placed_bytes P steps.before.rest = bytes-append P steps.more steps.before.rest in
       record {
@@ -255,10 +255,10 @@ module _ {S : Type 0} (wanted : Wanted) (taken : S → Option (List ℕ)) (faile
       }
 
   -- after steps that went well
-  pub ends_after : {A : Type 0} (old mid new : S) (put : List Placed) (At : List Placed → Type 0) (x : A) (result : Result Ended BulkFault) → Steps wanted taken failed old mid bounds put At (Ok x)
-      → ((all : List Placed) → At all → Ends wanted taken failed mid new bounds all result) → Ends wanted taken failed old new bounds put result
+  pub ends_after : {A : Type 0} (old mid new : S) (put : List Placed) (At : List Placed → Type 0) (x : A) (result : Result Ended BulkFault) → Steps wanted taken failed old mid setup put At (Ok x)
+      → ((all : List Placed) → At all → Ends wanted taken failed mid new setup all result) → Ends wanted taken failed old new setup put result
   ends_after old mid new put At x result one two =
-      let P : ℕ = bounds.page_size in
+      let P : ℕ = setup.page_size in
       let then = two (put ++ one.more) one.at in
       let others : List Placed = one.more ++ then.others in
       let bytes : placed_bytes P others ≡ placed_bytes P one.more ++ placed_bytes P then.others = bytes-append P one.more then.others in

@@ -9,15 +9,15 @@ use Rattle.bolt_layout.specs.Laid.{Placed}
 use Rattle.bolt_bulk.specs.Private.Levels.{Level, left_in}
 use Rattle.bolt_bulk.specs.Private.OpenRuns.{Frame}
 use Rattle.bolt_bulk.specs.Private.Passes.{Wanted, AreWaiting, HasLeft, IsAt, IsNoDeeper, IsPending, Steps, depth_of, level_of, pending_depth}
-use Rattle.bolt_bulk.specs.declared.bounds.Bounds.{Bounds}
+use Rattle.bolt_bulk.specs.declared.page_setup.PageSetup.{PageSetup}
 use Rattle.bolt_bulk.specs.declared.fault.BulkFault.{BulkFault}
 use Rattle.bolt_bulk.specs.declared.pass.Pass.{Pass}
-use Rattle.bolt_bulk.specs.declared.pass.Pending.{Pending}
-use Rattle.bolt_bulk.specs.declared.steps.Waiting.{Waiting}
+use Rattle.bolt_bulk.specs.declared.pending.Pending.{Pending}
+use Rattle.bolt_bulk.specs.declared.waiting.Waiting.{Waiting}
 use Rattle.bolt_bulk.proofs.Members.{none_at_all, none_further}
 use Rattle.bolt_bulk.proofs.PassAt.{on_ok_map, steps_none}
 
--- The depth that code counts is that of the levels.
+-- The depth that the code counts is that of the levels.
 waiting_frames : (waiting : List Waiting) (frames : List Frame) → AreWaiting waiting frames → length waiting ≡ length frames
 waiting_frames [] [] are = refl
 waiting_frames [] (frame ∷ frames) are = absurd are
@@ -37,14 +37,14 @@ depth_levels wanted pass levels left put is =
     let d = pending_levels pass.pending pass.entries.items (map level_of is.frames) is.rest levels left is.pends in omega arith
 
 -- what a step leaves, in other words
-pub steps_map : {S A : Type 0} {taken : S → Option (List ℕ)} {failed : S → ℕ} (wanted : Wanted) (old new : S) (bounds : Bounds) (put : List Placed) (At Then : List Placed → Type 0) (result : Result A BulkFault)
-    → ((all : List Placed) → At all → Then all) → Steps wanted taken failed old new bounds put At result → Steps wanted taken failed old new bounds put Then result
-steps_map wanted old new bounds put At Then result f steps =
+pub steps_map : {S A : Type 0} {taken : S → Option (List ℕ)} {failed : S → ℕ} (wanted : Wanted) (old new : S) (setup : PageSetup) (put : List Placed) (At Then : List Placed → Type 0) (result : Result A BulkFault)
+    → ((all : List Placed) → At all → Then all) → Steps wanted taken failed old new setup put At result → Steps wanted taken failed old new setup put Then result
+steps_map wanted old new setup put At Then result f steps =
     record { more = steps.more; puts = steps.puts; at = on_ok_map result steps.at (f (put ++ steps.more)); before = steps.before; large = steps.large }
 
 -- nothing was done yet
 pub steps_begun : {S : Type 0} {taken : S → Option (List ℕ)} {failed : S → ℕ} (wanted : Wanted) (pass : Pass) (members : List Member) (put : List Placed) (old : S) → HasLeft wanted pass members put
-    → Steps {A = ⊤} wanted taken failed old old pass.bounds put (HasLeft wanted pass members) (Ok tt)
+    → Steps {A = ⊤} wanted taken failed old old pass.setup put (HasLeft wanted pass members) (Ok tt)
 steps_begun wanted pass members put old has = steps_none wanted pass has.levels has.left put old (HasLeft wanted pass members) (Ok tt) has.at tt has
 
 -- The next member is further out, or there is none: the innermost bucket has no more.

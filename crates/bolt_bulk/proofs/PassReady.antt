@@ -8,7 +8,7 @@ use Rattle.bolt_format.specs.declared.element.Leaf.{Leaf}
 use Rattle.bolt_layout.specs.PageBytes.{inline_value, leaf_data}
 use Rattle.bolt_bulk.specs.Private.Passes.{IsPendingSmall, IsSmall}
 use Rattle.bolt_bulk.specs.Private.TakenItems.{entries_size, inline_size}
-use Rattle.bolt_bulk.specs.declared.pass.Pending.{Pending}
+use Rattle.bolt_bulk.specs.declared.pending.Pending.{Pending}
 use Rattle.bolt_bulk.proofs.LeafPuts.{length-inline_value}
 use Rattle.bolt_layout.proofs.ListLemmas.{all_append}
 
@@ -27,7 +27,7 @@ data_push (x ∷ es) e =
 pub small_of : (page_size : ℕ) (pending : Option Pending) (p : Pending) (entries : List Leaf) → pending ≡ Some p → IsPendingSmall page_size pending entries → IsSmall page_size p entries
 small_of page_size pending p entries some small = subst (λ (q : Option Pending). IsPendingSmall page_size q entries) some small
 
--- a value more
+-- one more value
 pub small_push : (page_size size : ℕ) (p : Pending) (entries more : List Leaf) (entry : Leaf) → IsSmall page_size p entries → length entry.key.now ≤ 1073741824 → entry.is_bucket ≡ false
     → size ≡ p.size + (16 + (length entry.key.now + length entry.value.now)) → size ≤ page_size / 4 → length entries < 65534 → more ≡ entries ++ entry ∷ []
     → IsSmall page_size (record { key = p.key; sequence = p.sequence; size = size }) more

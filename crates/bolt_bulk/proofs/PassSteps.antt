@@ -1,4 +1,4 @@
--- The steps of a pass, over the open runs and the rows that code keeps of them.
+-- The steps of a pass, over the open runs and the rows that the code keeps of them.
 use Rattle.std.proofs.Common.{◌≡◌, ◌∙◌, ℕ, ◌+◌, ◌/◌, ◌≤◌, ◌<◌, ◌||◌, ◌&&◌, nat_le, nat_lt, Bool, true, false, List, [], ◌∷◌, ◌++◌, length, refl, sym, ap, subst, arith, append_assoc}
 use Rattle.std.specs.List.{AllByRecursion}
 use Rattle.std.proofs.lemmas.Bool.{le-leb, lt-ltb}
@@ -28,14 +28,14 @@ use Rattle.bolt_bulk.proofs.PassRows.{enter_is, leave_is, take_is}
 use Rattle.bolt_bulk.proofs.PutBefore.{pass_before}
 use Rattle.bolt_layout.specs.declared.layout.Layout.{Layout}
 
--- Where the pass stands, apart from how code keeps the buckets that wait.
+-- Where the pass is, apart from how the code keeps the waiting buckets.
 pub record IsOn (which : Layout) (page_size : ℕ) (tree : Tree) (frames : List Frame) (state : Open) (items : List (Laid LeafElement)) (rows : OpenRows) (put : List Placed) : Type 0 where
   pub under : IsPass which page_size frames state items (root_of which page_size tree)
   pub rows_are : IsOpenRows rows state (base_in frames)
   pub put_is : put ≡ all_put frames state
 
 module _ (which : Layout) (page_size : ℕ) (tree : Tree) where
-  -- what was put stands before the root page, and its numbers are below the high-water mark
+  -- what was written comes before the root page, and its numbers are below the high-water mark
   pub on_before : (frames : List Frame) (state : Open) (items : List (Laid LeafElement)) (rows : OpenRows) (put : List Placed) → IsOn which page_size tree frames state items rows put
       → StandsBefore put (layout_pages which page_size tree)
   on_before frames state items rows put on =
@@ -127,11 +127,11 @@ pass_takes_all which page_size known frames run (e ∷ entries) items whole fits
     let all = pass_takes_all which page_size known frames (run ++ item ∷ []) entries items whole (omega arith) (omega arith) next in
     subst (λ (r : List (Laid LeafElement)). IsPass which page_size frames (open_values known r) items whole) (append_assoc run (item ∷ []) (value_items entries)) all
 
--- they put nothing
+-- they write nothing
 pub values_put : (known : Known) (frames : List Frame) (entries : List LeafElement) → all_put frames (nothing_open known) ≡ all_put frames (open_values known (value_items entries))
 values_put known frames entries = ap (λ (ps : List Placed). frames_put frames ++ ps) (sym (values_pages entries (base_in frames + 0)))
 
--- and stand in the first row
+-- and are in the first row
 pub values_rows : (known : Known) (entries : List LeafElement) (size base next : ℕ) → AllByRecursion IsValue entries → size ≡ entries_size entries → next ≡ base
     → IsOpenRows (record { leaves = record { elements = entries; size = size }; uppers = []; limits = known.limits; next = next }) (open_values known (value_items entries)) base
 values_rows known entries size base next values sized at =

@@ -1,5 +1,5 @@
--- Whatever is still to come, the pages that a forward pass has put are a beginning of the layout's, which has one more page at least;
--- and their numbers are among the layout's.
+-- Whatever is still to come, the pages that a forward pass has written are a prefix of the layout's, which has at least one more page; and
+-- their numbers are among the layout's.
 use Rattle.std.proofs.Common.{◌≡◌, ◌∙◌, ◌≤◌, ℕ, zero, suc, ◌+◌, nat_lt, Option, List, [], ◌∷◌, ◌++◌, length, map, refl, sym, ap, subst, inl, inr, arith, append_assoc}
 use Rattle.std.proofs.lemmas.Bool.{cases_Bool}
 use Rattle.std.proofs.lemmas.List.{append-nil, length-append}
@@ -19,7 +19,7 @@ use Rattle.bolt_bulk.proofs.OpenRunLemmas.{cut_step, left_begins, pages-append, 
 use Rattle.bolt_layout.specs.declared.layout.Layout.{Layout}
 use Rattle.bolt_layout.specs.declared.layout.Layout.TheVariants.{Plain, Balanced}
 
--- Pages with so many numbers begin the pages of what is laid out, with these numbers; and strictly, where there is one more page.
+-- Pages with so many numbers begin the pages of what is laid out, with these numbers; and strictly, if there is one more page.
 pub record Begins (front : List Placed) (few : ℕ) (whole : List Placed) (many : ℕ) : Type 0 where
   pub rest : List Placed
   pub parts : whole ≡ front ++ rest
@@ -63,7 +63,7 @@ cut_begins {E = E} page_size least run (next ∷ items) = elim (cut_step page_si
   | inr begun ↦ ([], cut_from page_size least size_of (next ∷ []) items, begun.1 ∙ ap (λ (r : List (Laid E)). r ∷ cut_from page_size least size_of (next ∷ []) items) (sym (append-nil run)))
 ]
 
--- a page over a run stands behind the pages of any beginning of the run
+-- a page over a run comes after the pages of any prefix of the run
 over_before : {E : Type 0} (view : ℕ → List E → PageView) (page_size : ℕ) (run more : List (Laid E)) (n : ℕ)
     → IsBefore (pages_of run n) (numbers_of run) ((page_over view page_size (run ++ more)).pages n) (page_over view page_size (run ++ more)).numbers
 over_before view page_size run more n =
@@ -111,7 +111,7 @@ top_begins which page_size (suc steps) page (other ∷ level) b =
     subst (λ (l : List (Laid BranchElement)). Begins (page.pages b) page.numbers ((top_in which steps page_size l).pages b) (top_in which steps page_size l).numbers) (sym same)
     (begins_by (page.pages b) page.numbers (up.pages b) up.numbers _ _ first two)
 
--- What comes of open upper runs and a page begins with the pages of those runs and of that page.
+-- What open upper runs and a page become begins with the pages of those runs and of that page.
 coming_begins : (which : Layout) (page_size : ℕ) (limits : ℕ → Option ℕ) (uppers : List Upper) (p : Laid BranchElement) (pages all : List (Laid BranchElement)) (root : Laid BranchElement)
     → Comes which page_size limits uppers all (p ∷ pages) root → (b : ℕ)
     → Begins (pages_of (put_in uppers) b ++ p.pages (b + numbers_in uppers)) (numbers_in uppers + p.numbers) (root.pages b) root.numbers
@@ -138,7 +138,7 @@ coming_begins which page_size limits (upper ∷ uppers) p pages all root is b =
     let three = subst (λ (ps : List Placed). Begins ps (numbers_in uppers + numbers_of (run ++ p ∷ [])) (root.pages b) root.numbers) front two in
     subst (λ (n : ℕ). Begins (pages_of (put_in uppers ++ run) b ++ p.pages (b + numbers_of (put_in uppers ++ run))) n (root.pages b) root.numbers) count three
 
--- What was put of an open bucket stands before its root page.
+-- What was written of an open bucket comes before its root page.
 pub put_before : (which : Layout) (page_size : ℕ) (state : Open) (items : List (Laid LeafElement)) (root : Laid BranchElement) (b : ℕ) → IsOpen which page_size state items root
     → IsBefore (pages_put state b) (numbers_in state.uppers + numbers_of state.run) (root.pages b) root.numbers
 put_before which page_size state items root b is =
@@ -182,7 +182,7 @@ pass_before which page_size frames state items whole pass =
     let same : base_in frames + few ≡ next_number state (base_in frames) = omega arith in
     subst (λ (n : ℕ). IsBefore (all_put frames state) n (whole.pages first_page) (first_page + whole.numbers)) same is
 
--- bytes of pages one behind the other
+-- the bytes of pages one after the other
 pub bytes-append : (page_size : ℕ) (xs ys : List Placed) → placed_bytes page_size (xs ++ ys) ≡ placed_bytes page_size xs ++ placed_bytes page_size ys
 bytes-append page_size [] ys = refl
 bytes-append page_size (x ∷ xs) ys =

@@ -1,4 +1,4 @@
--- A text put piece by piece.
+-- A text written piece by piece.
 use Rattle.std.proofs.Common.{◌≡◌, ◌∙◌, ℕ, ◌+◌, ◌-◌, ◌≤◌, List, [], ◌++◌, length, take, replicate, Option, Result, Ok, Err, refl, sym, ap, arith, append_assoc, append-nil}
 use Rattle.std.specs.Prelude.{⊤, IsErr}
 use Rattle.std.proofs.lemmas.List.{length-append, replicate-append-replicate, take-replicate}
@@ -7,7 +7,7 @@ use Rattle.bolt_layout.specs.PageBytes.{filled}
 use Rattle.bolt_bulk.specs.Puts.{PutsWhole}
 use Rattle.bolt_bulk.proofs.WholePuts.{whole_as, whole_none, whole_same, whole_stop, whole_then}
 
--- a text of which a front was put: what is left
+-- a text of which a front was written: what is left
 pub record PutFront {S : Type 0} (taken : S → Option (List ℕ)) (failed : S → ℕ) (old new : S) (whole rest : List ℕ) : Type 0 where
   pub front : List ℕ
   pub parts : whole ≡ front ++ rest
@@ -16,7 +16,7 @@ pub record PutFront {S : Type 0} (taken : S → Option (List ℕ)) (failed : S �
 pub front_none : {S : Type 0} {taken : S → Option (List ℕ)} {failed : S → ℕ} (old : S) (whole : List ℕ) → PutFront taken failed old old whole whole
 front_none old whole = record { front = []; parts = refl; put = whole_none old }
 
--- the next piece was put,
+-- the next piece was written,
 pub front_more : {S A E : Type 0} {taken : S → Option (List ℕ)} {failed : S → ℕ} (old mid new : S) (whole piece rest left : List ℕ) (x : A) → left ≡ piece ++ rest
     → PutFront taken failed old mid whole left → PutsWhole {A = A} {E = E} taken failed mid new piece (Ok x) → PutFront taken failed old new whole rest
 front_more old mid new whole piece rest left x e before one = record {
@@ -33,7 +33,7 @@ front_stop old mid new whole piece rest left e result same before one err =
     (whole_then old mid new before.front left tt result before.put
     (whole_same mid new (piece ++ rest) left result (sym same) (whole_stop mid new piece rest e result one err)))
 
--- and where nothing is left the whole was put.
+-- and if nothing is left, the whole was written.
 pub front_whole : {S : Type 0} {taken : S → Option (List ℕ)} {failed : S → ℕ} (old new : S) (whole rest : List ℕ) → rest ≡ [] → PutFront taken failed old new whole rest
     → PutsWhole {A = ⊤} {E = SinkFault} taken failed old new whole (Ok tt)
 front_whole old new whole rest none before =
@@ -51,7 +51,7 @@ zeros_left left size h =
 pub zeros_cut : (size n : ℕ) → size ≤ n → take size (zeros n) ≡ zeros size
 zeros_cut size n h = take-replicate {X = ℕ} size n 0 h
 
--- three texts with zeros behind them are what fills a page
+-- three texts with zeros after them are what fills a page
 pub filled_pieces : (n size : ℕ) (first second third : List ℕ) → size ≡ length first + (length second + length third)
     → first ++ (second ++ (third ++ zeros (n - size))) ≡ filled n (first ++ (second ++ third))
 filled_pieces n size first second third same =

@@ -1,4 +1,4 @@
--- Texts on a sink one after another, where a call can also fail for want of memory or of room.
+-- Texts on a sink one after another, if a call can also fail because memory runs out or the layout is too large.
 use Rattle.std.proofs.Common.{◌≡◌, ◌≢◌, ◌∙◌, ℕ, ◌+◌, ◌-◌, ◌*◌, ◌≤◌, List, [], ◌∷◌, ◌++◌, length, replicate, OnErr, Option, Result, Ok, Err, refl, sym, ap, subst, arith, append_assoc, append-nil}
 use Rattle.std.specs.Prelude.{⊤}
 use Rattle.std.specs.Io.KnownBytes.{Appends}
@@ -17,7 +17,7 @@ use Rattle.bolt_bulk.specs.declared.fault.BulkFault.{BulkFault}
 use Rattle.bolt_bulk.specs.declared.fault.BulkFault.TheVariants as fault
 use Rattle.bolt_layout.proofs.PageLemmas.{length-header_bytes}
 
--- Nothing is a proper beginning of a text that has any bytes.
+-- Nothing is a proper prefix of a text that has any bytes.
 pub proper_none : (old : Option (List ℕ)) (text : List ℕ) → text ≢ [] → AppendsProperBeginning old old text
 proper_none old text some = record { front = []; rest = text; parts = refl; short = some; taken = Appends-nil old }
 
@@ -75,7 +75,7 @@ page_some page_size number view e =
 pub pages_some : (page_size : ℕ) (page : Placed) (pages : List Placed) → placed_bytes page_size (page ∷ pages) ≢ []
 pages_some page_size page pages = more_some (page_bytes page_size page.number page.view) (placed_bytes page_size pages) (page_some page_size page.number page.view)
 
--- pages in a row are one row behind another
+-- the bytes of two rows of pages are those of the first and then those of the second
 pub bytes-append : (page_size : ℕ) (xs ys : List Placed) → placed_bytes page_size (xs ++ ys) ≡ placed_bytes page_size xs ++ placed_bytes page_size ys
 bytes-append page_size [] ys = refl
 bytes-append page_size (x ∷ xs) ys =
@@ -92,7 +92,7 @@ puts_same {taken = taken} {failed = failed} old new text same result e a = subst
 memory_apart : fault.Memory ≡ fault.Sink → ⊥
 memory_apart e = cc
 
--- want of memory puts nothing
+-- if memory runs out, nothing is written
 pub puts_none : {S A : Type 0} {taken : S → Option (List ℕ)} {failed : S → ℕ} (old : S) (text : List ℕ) (result : Result A BulkFault) → result ≡ Err fault.Memory → Puts taken failed old old text result
 puts_none {A = A} {taken = taken} {failed = failed} old text result is = subst (λ (r : Result A BulkFault). Puts taken failed old old text r) (sym is)
     (record { all = tt; sound = tt; beginning = record { front = []; rest = text; parts = refl; taken = Appends-nil (taken old) }; failure = λ same. absurd (memory_apart same); other = λ _. refl })
@@ -125,18 +125,18 @@ puts_first {taken = taken} old new first second e a = record {
   other = a.other;
 }
 
--- what holds anyway holds after an error
+-- what always holds, holds after an error
 pub after_error : {A E : Type 0} (P : Type 0) (r : Result A E) → P → OnErr r P
 after_error P (Ok x) p = tt
 after_error P (Err e) p = p
 
--- where the second call leaves something out, so do both
+-- if the second call leaves something out, so do both
 pub short_then : {S A B : Type 0} {taken : S → Option (List ℕ)} {failed : S → ℕ} (old mid new : S) (first second : List ℕ) (x : A) (result : Result B BulkFault)
     → Puts taken failed old mid first (Ok x) → OnErr result (AppendsProperBeginning (taken mid) (taken new) second) → OnErr result (AppendsProperBeginning (taken old) (taken new) (first ++ second))
 short_then old mid new first second x (Ok y) a b = tt
 short_then {taken = taken} old mid new first second x (Err e) a b = proper_second (taken old) (taken mid) (taken new) first second a.all b
 
--- a text of which a front was put: what is left
+-- a text of which a front was written: what is left
 pub record PutsFront {S : Type 0} (taken : S → Option (List ℕ)) (failed : S → ℕ) (old new : S) (whole rest : List ℕ) : Type 0 where
   pub front : List ℕ
   pub parts : whole ≡ front ++ rest
@@ -146,7 +146,7 @@ pub record PutsFront {S : Type 0} (taken : S → Option (List ℕ)) (failed : S 
 pub front_none : {S : Type 0} {taken : S → Option (List ℕ)} {failed : S → ℕ} (old : S) (whole : List ℕ) → PutsFront taken failed old old whole whole
 front_none {taken = taken} old whole = record { front = []; parts = refl; all = Appends-nil (taken old); sound = refl }
 
--- the next piece of it was put,
+-- the next piece of it was written,
 pub front_puts : {S A : Type 0} {taken : S → Option (List ℕ)} {failed : S → ℕ} (old mid new : S) (whole piece rest left : List ℕ) (x : A) → left ≡ piece ++ rest
     → PutsFront taken failed old mid whole left → Puts taken failed mid new piece (Ok x) → PutsFront taken failed old new whole rest
 front_puts {taken = taken} old mid new whole piece rest left x e before one = record {
@@ -156,7 +156,7 @@ front_puts {taken = taken} old mid new whole piece rest left x e before one = re
   sound = one.sound ∙ before.sound;
 }
 
--- or a beginning of it, and then nothing more;
+-- or a prefix of it, and then nothing more;
 pub puts_stop : {S A B : Type 0} {taken : S → Option (List ℕ)} {failed : S → ℕ} (old mid new : S) (whole piece rest left : List ℕ) (e : BulkFault) → left ≡ piece ++ rest
     → PutsFront taken failed old mid whole left → Puts {A = A} taken failed mid new piece (Err e) → Puts {A = B} taken failed old new whole (Err e)
 puts_stop {taken = taken} {failed = failed} old mid new whole piece rest left e same before one =
@@ -171,7 +171,7 @@ short_stop {taken = taken} old mid new whole piece rest left same before one =
     (proper_second (taken old) (taken mid) (taken new) before.front left before.all
     (proper_same (taken mid) (taken new) (piece ++ rest) left (sym same) (proper_first (taken mid) (taken new) piece rest one)))
 
--- and where nothing is left the whole was put.
+-- and if nothing is left, the whole was written.
 pub puts_whole : {S A : Type 0} {taken : S → Option (List ℕ)} {failed : S → ℕ} (old new : S) (whole rest : List ℕ) (x : A) → rest ≡ [] → PutsFront taken failed old new whole rest → Puts taken failed old new whole (Ok x)
 puts_whole {taken = taken} {failed = failed} old new whole rest x none before =
     puts_same old new before.front whole (Ok x) (sym (before.parts ∙ (ap (λ (xs : List ℕ). before.front ++ xs) none ∙ append-nil before.front)))

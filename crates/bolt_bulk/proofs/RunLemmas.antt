@@ -1,4 +1,4 @@
--- A run of pages that takes one more, and closes where the next won't join it.
+-- A run of pages that takes one more, and closes if the next one doesn't join it.
 use Rattle.std.proofs.Common.{div-add-mod', add-mul, ◌≡◌, ◌∙◌, ◌⊎◌, ℕ, ◌+◌, ◌-◌, ◌*◌, ◌/◌, ◌<◌, ◌≤◌, ◌||◌, ◌&&◌, nat_lt, nat_le, Bool, true, false, Option, None, List, [], ◌∷◌, ◌++◌, length, refl, ap, inl, inr, arith}
 use Rattle.std.proofs.lemmas.Bool.{cases_Bool, leb-true, ltb-true}
 use Rattle.std.proofs.lemmas.List.{length-append, append-nil}

@@ -1,4 +1,4 @@
--- The numbers of the open buckets, and the limits that were told of those that have ended.
+-- The numbers of the open buckets, and the limits that were noted of those that have ended.
 use Rattle.std.proofs.Common.{◌≡◌, ◌∙◌, ◌+◌, ◌<◌, ◌≤◌, ℕ, suc, true, false, List, [], ◌∷◌, ◌++◌, ◌⊎◌, length, map, Option, None, refl, sym, ap, subst, inl, inr, arith}
 use Rattle.std.specs.List.{AllByRecursion}
 use Rattle.std.proofs.lemmas.Bool.{cases_Bool, cases_lt}
@@ -73,7 +73,7 @@ told_enters wanted page_size told opened numbers has = record {
 
 -- ---- a bucket ends
 
--- what its runs tell is what the rows tell
+-- its runs say what the rows say
 pub runs_told : (page_size : ℕ) (limits : ℕ → Option ℕ) (runs : List BranchRun) (uppers : List Upper) (q : Laid BranchElement) (all : List (Laid BranchElement)) (root : Laid BranchElement) (b : ℕ)
     → AreRows (rows_above runs) uppers b → Comes Plain page_size limits uppers all (q ∷ []) root → length all ≤ 18446744073709551615
     → map run_told runs ≡ map told_by uppers
@@ -93,7 +93,7 @@ runs_told page_size limits (run ∷ runs) (upper ∷ uppers) q all root b (row, 
     ∙ (ap (λ (n : ℕ). (suc upper.closed, suc n) ∷ map run_told runs) items
     ∙ ap (λ (rows : List (ℕ × ℕ)). told_by upper ∷ rows) rest)
 
--- the last of all buckets isn't behind the last page
+-- no more buckets are opened than the layout has page numbers
 around_most : (wanted : Wanted) (page_size : ℕ) (limits : ℕ → ℕ → Option ℕ) (n : ℕ) (frames : List Frame) → AreComingAround wanted page_size limits n frames → n ≤ suc (opened_in wanted.which page_size wanted.tree)
 around_most wanted page_size limits n [] are = omega arith
 around_most wanted page_size limits n (frame ∷ frames) are = let rest = around_most wanted page_size limits (n + opened_in wanted.which page_size frame.after) frames are.1 in omega arith
@@ -122,7 +122,7 @@ same_or m n = elim (cases_lt m n) [
   ]
 ]
 
--- its own limits come to those that were told
+-- its own limits join those that were noted
 pub table_ends : (page_size : ℕ) (tree : Tree) (old new : Limits) (opened n : ℕ) (numbers : List ℕ) → IsTable page_size tree old opened (n ∷ numbers) → n < opened → AllByRecursion (λ (m : ℕ). m < n) numbers
     → ((level : ℕ) → limit_in new n level ≡ limits_for page_size tree n level) → ((b level : ℕ) → (b ≡ n → ⊥) → limit_in new b level ≡ limit_in old b level)
     → IsTable page_size tree new opened numbers
@@ -143,7 +143,7 @@ numbered_below wanted page_size low high (n ∷ numbers) [] less are = absurd ar
 numbered_below wanted page_size low high (n ∷ numbers) (state ∷ states) less (is, are) =
     let e = is.earlier in (record { earlier = omega arith; number_is = is.number_is; tells = is.tells }, are)
 
--- What a bucket's end tells, by its number and its open runs.
+-- What is noted at a bucket's end, by its number and its open runs.
 pub record BucketEnds (old new : Told) (number : ℕ) (runs : List BranchRun) : Type 0 where
   pub same : new.tells ≡ old.tells
   pub told : old.tells ≡ true → ((level : ℕ) → limit_in old.limits number level ≡ None) → (level : ℕ) → limit_in new.limits number level ≡ limit_at (limits_told false (map run_told runs)) level

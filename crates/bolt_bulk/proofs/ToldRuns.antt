@@ -1,4 +1,4 @@
--- At a bucket's end its open runs tell of each row how many runs it has, and how many items the last one has.
+-- At a bucket's end its open runs say of each row how many runs it has, and how many items the last one has.
 use Rattle.std.proofs.Common.{◌≡◌, ◌∙◌, ℕ, suc, Option, List, [], ◌∷◌, ◌++◌, length, map, refl, ap, arith}
 use Rattle.std.proofs.lemmas.List.{length-append}
 use Rattle.bolt_format.specs.Elements.{BranchElement}

@@ -1,4 +1,4 @@
--- One text after another on a sink, each put whole.
+-- One text after another on a sink, each written whole.
 use Rattle.std.proofs.Common.{◌≡◌, ◌∙◌, ℕ, List, [], ◌∷◌, ◌++◌, Option, Result, Ok, Err, ap, append_assoc, refl, subst, sym}
 use Rattle.std.specs.Prelude.{◌≢◌, ⊤, IsErr}
 use Rattle.std.specs.Io.KnownBytes.{Appends}
@@ -10,7 +10,7 @@ more_is_some : (xs ys : List ℕ) → xs ≢ [] → xs ++ ys ≢ []
 more_is_some [] ys some none = some refl
 more_is_some (x ∷ xs) ys some none = absurd (cc)
 
--- a beginning of the first text that isn't the whole is none of both
+-- a proper prefix of the first text is one of both
 beginning_first : (old new : Option (List ℕ)) (first second : List ℕ) → AppendsProperBeginning old new first → AppendsProperBeginning old new (first ++ second)
 beginning_first old new first second begun = record {
   front = begun.front;
@@ -20,7 +20,7 @@ beginning_first old new first second begun = record {
   taken = begun.taken;
 }
 
--- nor is the first text whole with such a beginning of the second
+-- and so is the whole first text with a proper prefix of the second
 beginning_second : (old mid new : Option (List ℕ)) (first second : List ℕ) → Appends old mid first → AppendsProperBeginning mid new second
     → AppendsProperBeginning old new (first ++ second)
 beginning_second old mid new first second taken begun = record {
@@ -58,7 +58,7 @@ whole_stop {taken} {failed} old new first second e (Err f) a err = record {
   failure = a.failure;
 }
 
--- nothing is put
+-- nothing is written
 pub whole_none : {S E : Type 0} {taken : S → Option (List ℕ)} {failed : S → ℕ} (old : S) → PutsWhole {A = ⊤} {E = E} taken failed old old [] (Ok tt)
 whole_none {taken} {failed} old = record { all = Appends-nil (taken old); sound = refl; short = tt; failure = tt }
 
@@ -67,7 +67,7 @@ pub whole_same : {S A E : Type 0} {taken : S → Option (List ℕ)} {failed : S 
     → text ≡ same → PutsWhole taken failed old new text result → PutsWhole taken failed old new same result
 whole_same {taken} {failed} old new text same result e a = subst (λ l. PutsWhole taken failed old new l result) e a
 
--- an answer that is given on
+-- a result that is returned on
 pub whole_as : {S A B E F : Type 0} {taken : S → Option (List ℕ)} {failed : S → ℕ} (old new : S) (text : List ℕ) (x : A) (y : B)
     → PutsWhole {A = A} {E = E} taken failed old new text (Ok x) → PutsWhole {A = B} {E = F} taken failed old new text (Ok y)
 whole_as old new text x y put = record { all = put.all; sound = put.sound; short = tt; failure = tt }

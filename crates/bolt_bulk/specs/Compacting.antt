@@ -1,4 +1,4 @@
--- What `plan` and `compact` answer: docs/LAYOUT.md, "The calls".
+-- What `plan` and `compact` return: docs/LAYOUT.md, "The calls".
 -- The layout is that of the listing of the file, at the page size asked for, with the sequence of the file's root bucket.
 use Rattle.std.specs.Prelude.{◌≡◌, ◌<◌, ◌≤◌, ◌^◌, ℕ, List, length, Option, Result, IfErr, IfOk, IsErr, OnErr, OnOk}
 use Rattle.std.specs.Io.KnownBytes.{Appends, Keeps}
@@ -31,16 +31,17 @@ layout_recovered which recovery page_size listing = layout_of_listing which page
 abbrev pub too_many : ℕ
 too_many = 2 ^ 63
 
--- the plan is the layout's root page and high-water mark, which has fewer than 2^63 bytes; or it has no fewer, or memory ran out
+-- The plan is the root page and the high-water mark of the layout, which has fewer than 2^63 bytes. Without a plan the layout has 2^63 bytes
+-- or more, or memory ran out.
 pub record Plans (which : Layout) (page_size sequence : ℕ) (listing : List Member) (result : Result Plan PlanFault) : Type 0 where
   pub root : IfOk result (λ plan. plan.root ≡ layout_root which page_size (tree_of listing))
   pub high_water : IfOk result (λ plan. plan.high_water ≡ layout_mark which page_size (tree_of listing))
   pub fits : OnOk result (length (layout_of_listing which page_size listing sequence) < too_many)
   pub large : IfErr result (λ fault. fault ≡ planned.TooLarge → too_many ≤ length (layout_of_listing which page_size listing sequence))
 
--- The sink took the whole layout, with no failure, exactly where the answer is Ok, and then the number of its bytes is told; and else a
--- beginning of it that isn't the whole. The fault Sink comes only with a failure of the sink, and any other without one. TooLarge comes
--- only where the layout has 2^63 bytes or more, and of such a layout nothing is put, whatever the answer is, which is none but a fault.
+-- If the call returns Ok, the sink has accepted the whole layout, without a failure, and the number of its bytes is returned. Otherwise the
+-- sink has accepted a proper prefix of it. The fault is Sink only if the sink failed, and another one only if it didn't. It is TooLarge only
+-- if the layout has 2^63 bytes or more. Of such a layout nothing is written, and the call returns a fault other than Sink.
 pub record Copies {S : Type 0} (taken : S → Option (List ℕ)) (failed : S → ℕ) (old new : S) (layout : List ℕ) (result : Result Done BulkFault) : Type 0 where
   pub all : OnOk result (Appends (taken old) (taken new) layout)
   pub bytes : IfOk result (λ done. done.bytes ≡ length layout)

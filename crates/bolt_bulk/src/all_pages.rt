@@ -7,31 +7,29 @@ ghost use Rattle.bolt_bulk.specs.Private.Endings.{Ends};
 ghost use Rattle.bolt_bulk.specs.Private.Passes.{FitLimits, Wanted, limits_with};
 ghost use Rattle.bolt_bulk.specs.Private.WholeListings.{IsWhole};
 
-use crate::bounds::Bounds;
 use crate::fault::BulkFault;
 use crate::limits::Limits;
+use crate::page_setup::PageSetup;
 use crate::pass::{Ended, Pass};
 use bolt_format::Sink;
 use bolt_recover::Members;
-use std::alloc::Global;
 
-/// Puts the pages of all members, in the layout whose rows have these limits. If it tells limits,
-/// and this is the plain layout, they are those of the balanced one.
+/// Writes the pages of all members, in the layout whose rows have these limits. If `tells` is set
+/// and this is the plain layout, it returns the limits of the balanced one.
 pub(crate) fn put_pages<'a, M: Members<'a>, S: Sink>(
-    alloc: Global,
-    bounds: Bounds,
+    setup: PageSetup,
     limits: &Limits,
     tells: bool,
     members: &mut M,
     sink: &mut S,
 ) -> Result<Ended, BulkFault>
-    requires room { 3 ≤ bounds.limit }
+    requires room { 3 ≤ setup.limit }
     requires whole { IsWhole M.lists M.left members.old }
-    ensures pages { (which : Layout) (listing : List Member) → M.lists members.old listing → FitLimits which (tree_of listing) bounds.page_size (limits_with limits.now)
-        → Ends (record { which = which; tree = tree_of listing; tells = tells }) S.taken S.failed sink.old sink.new bounds [] result }
+    ensures pages { (which : Layout) (listing : List Member) → M.lists members.old listing → FitLimits which (tree_of listing) setup.page_size (limits_with limits.now)
+        → Ends (record { which = which; tree = tree_of listing; tells = tells }) S.taken S.failed sink.old sink.new setup [] result }
     ensures end { OnOk result (M.ends_as members.old members.new) }
 {
-    let mut pass = Pass::new(alloc, bounds, limits, tells);
+    let mut pass = Pass::new(setup, limits, tells);
     'members: loop {
         match members.next() {
             Err(_) => return Err(BulkFault::Memory),

@@ -1,4 +1,4 @@
-//! A branch page, as it is put.
+//! A branch page, as it is written.
 ghost use Rattle.std.specs.Prelude.{◌≡◌, ◌+◌, ◌*◌, ◌<◌, ◌≤◌, ◌++◌, length, map};
 ghost use Rattle.bolt_format.specs.ElementPlaces.{branch_view};
 ghost use Rattle.bolt_layout.specs.Levels.{branch_view as branch_page_view};
@@ -21,7 +21,7 @@ fn push_header(row: &mut Row, pos: u32, branch: &Branch<'_>)
     push_u64(row, branch.child);
 }
 
-/// Puts the headers of elements. The keys of all of them are packed behind the last header.
+/// Writes the headers of elements. All keys are packed after the last header.
 fn put_headers<S: Sink>(branches: &[Branch<'_>], sink: &mut S) -> Result<(), SinkFault>
     requires { 16 * length branches.now + length (branch_data (map branch_view branches.now)) < 4294967296 }
     ensures { PutsWhole S.taken S.failed sink.old sink.new (branch_headers 0 (map branch_view branches.now)) result }
@@ -37,7 +37,7 @@ fn put_headers<S: Sink>(branches: &[Branch<'_>], sink: &mut S) -> Result<(), Sin
     put(row.as_slice(), sink)
 }
 
-/// Puts the keys of elements.
+/// Writes the keys of elements.
 fn put_keys<S: Sink>(branches: &[Branch<'_>], sink: &mut S) -> Result<(), SinkFault>
     ensures { PutsWhole S.taken S.failed sink.old sink.new (branch_data (map branch_view branches.now)) result }
 {
@@ -47,7 +47,7 @@ fn put_keys<S: Sink>(branches: &[Branch<'_>], sink: &mut S) -> Result<(), SinkFa
     Ok(())
 }
 
-/// Puts a branch page over these elements, which has `size` bytes before its zeros.
+/// Writes a branch page over these elements. It has `size` bytes before its zeros.
 pub(crate) fn put_branch_page<S: Sink>(
     number: u64,
     page_size: usize,

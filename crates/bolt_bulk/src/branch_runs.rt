@@ -1,4 +1,4 @@
-//! The runs of pages that stand open above a bucket's leaves.
+//! The open runs of pages above a bucket's leaves.
 ghost use Rattle.std.specs.Prelude.{◌≡◌, ◌+◌, ◌<◌, ◌≤◌, true, false, [], ◌∷◌, IfErr, IfOk, OnErr, OnOk, length, option_map};
 ghost use Rattle.std.specs.List.{AllByRecursion};
 ghost use Rattle.bolt_format.specs.ElementPlaces.{branch_view};
@@ -13,21 +13,21 @@ ghost use Rattle.bolt_bulk.specs.Private.Rows.{no_row, one_closed, row_has_room,
 ghost use Rattle.bolt_bulk.specs.Puts.{Puts, PutsWhole};
 ghost use Rattle.bolt_bulk.specs.declared.fault.BulkFault.TheVariants as fault;
 
-use crate::bounds::{Bounds, MAX_ITEMS, number_after, overflow};
 use crate::branch_page::put_branch_page;
 use crate::fault::BulkFault;
 use crate::limits::BucketLimits;
+use crate::page_setup::{MAX_ITEMS, PageSetup, number_after, overflow};
 use bolt_format::{Branch, Sink, SinkFault};
 use std::alloc::Global;
 
-/// A run of pages that is open, the size of the page over it, and how many runs may come after it.
+/// An open run of pages, the size of the page over it, and how many runs may come after it.
 #[derive(Drop)]
 pub(crate) struct BranchRun<'a> {
     pub elements: Vec<Branch<'a>>,
     pub size: usize,
-    /// How many runs may still begin in its row; `None` if there may be any number.
+    /// How many runs may still begin in its row. `None` if any number may.
     pub left: Option<u64>,
-    /// How many runs of its row have closed; 2^64 - 1 if there were more.
+    /// How many runs of its row have closed. Saturates at 2^64 - 1.
     pub closed: u64,
 }
 
@@ -57,7 +57,7 @@ impl<'a> BranchRun<'a> {
         Ok(())
     }
 
-    /// Whether the element of a page with this first key joins.
+    /// Whether the element of a page with this first key joins the run.
     fn has_room(&self, page_size: usize, key: &[u8]) -> bool
         requires { self.now.size + length key.now < 9223372036854775808 }
         ensures { result ≡ row_has_room page_size (row_of self.now) (key_size key.now) }
@@ -66,8 +66,8 @@ impl<'a> BranchRun<'a> {
             || (self.size + (16 + key.len()) <= page_size && self.elements.len() < MAX_ITEMS)
     }
 
-    /// Whether it stays open for the page with this first key, which comes next: it joins, or it is
-    /// the last of a row that may have no further run.
+    /// Whether the run stays open for the next page, which has this first key: the run has room for
+    /// it, or no further run may begin in the row.
     fn stays(&mut self, page_size: usize, key: &[u8]) -> bool
         requires { self.old.size + length key.now < 9223372036854775808 }
         ensures stays { result ≡ row_stays page_size (row_of self.old) (key_size key.now) }
@@ -84,11 +84,12 @@ impl<'a> BranchRun<'a> {
         false
     }
 
-    /// Takes the element of a page that has closed, where a page with this first key comes next.
-    /// A run that this one doesn't join closes: its page is put, and its element given.
+    /// Takes the element of a page that has closed. The next page has this first key. If that page
+    /// doesn't join the run, the run closes: its page is written, and the element of that page is
+    /// returned.
     fn take<S: Sink>(
         &mut self,
-        bounds: &Bounds,
+        setup: &PageSetup,
         key: &[u8],
         closed: Branch<'a>,
         next: &mut u64,
@@ -97,67 +98,67 @@ impl<'a> BranchRun<'a> {
         requires standing { IsStanding (row_of self.old) }
         requires key { length key.now ≤ 1073741824 }
         requires closed { length closed.key.now ≤ 1073741824 }
-        requires next { next.old ≤ bounds.now.limit }
-        ensures pages { Puts S.taken S.failed sink.old sink.new (placed_bytes bounds.now.page_size (taking_puts bounds.now.page_size key.now (branch_view closed.entry) next.old (row_of self.old))) result }
-        ensures row { OnOk result (row_of self.new ≡ row_taking bounds.now.page_size key.now (branch_view closed.entry) (row_of self.old)) }
+        requires next { next.old ≤ setup.now.limit }
+        ensures pages { Puts S.taken S.failed sink.old sink.new (placed_bytes setup.now.page_size (taking_puts setup.now.page_size key.now (branch_view closed.entry) next.old (row_of self.old))) result }
+        ensures row { OnOk result (row_of self.new ≡ row_taking setup.now.page_size key.now (branch_view closed.entry) (row_of self.old)) }
         ensures standing { OnOk result (IsStanding (row_of self.new)) }
-        ensures next { OnOk result (next.new ≡ taking_next bounds.now.page_size key.now (branch_view closed.entry) next.old (row_of self.old)) }
-        ensures within { OnOk result (next.new ≤ bounds.now.limit) }
-        ensures up { IfOk result (λ up. option_map branch_view up ≡ taking_up bounds.now.page_size key.now (branch_view closed.entry) next.old (row_of self.old)) }
-        ensures large { IfErr result (λ e. e ≡ fault.TooLarge → bounds.now.limit < taking_next bounds.now.page_size key.now (branch_view closed.entry) next.old (row_of self.old)) }
+        ensures next { OnOk result (next.new ≡ taking_next setup.now.page_size key.now (branch_view closed.entry) next.old (row_of self.old)) }
+        ensures within { OnOk result (next.new ≤ setup.now.limit) }
+        ensures up { IfOk result (λ up. option_map branch_view up ≡ taking_up setup.now.page_size key.now (branch_view closed.entry) next.old (row_of self.old)) }
+        ensures large { IfErr result (λ e. e ≡ fault.TooLarge → setup.now.limit < taking_next setup.now.page_size key.now (branch_view closed.entry) next.old (row_of self.old)) }
     {
         self.push(closed)?;
-        if self.stays(bounds.page_size, key) {
+        if self.stays(setup.page_size, key) {
             return Ok(None);
         }
-        let up = self.close(bounds, next, sink)?;
+        let up = self.close(setup, next, sink)?;
         Ok(Some(up))
     }
 
-    /// Takes the element of the last page below, and closes: the run's page is put, and its
-    /// element given.
+    /// Takes the element of the last page below, and closes the run: its page is written, and the
+    /// element of that page is returned.
     fn end<S: Sink>(
         &mut self,
-        bounds: &Bounds,
+        setup: &PageSetup,
         closed: Branch<'a>,
         next: &mut u64,
         sink: &mut S,
     ) -> Result<Branch<'a>, BulkFault>
         requires standing { IsStanding (row_of self.old) }
         requires closed { length closed.key.now ≤ 1073741824 }
-        requires next { next.old ≤ bounds.now.limit }
-        ensures pages { Puts S.taken S.failed sink.old sink.new (placed_bytes bounds.now.page_size (row_page bounds.now.page_size (row_push (row_of self.old) (branch_view closed.entry)) next.old ∷ [])) result }
-        ensures short { OnErr result (AppendsProperBeginning (S.taken sink.old) (S.taken sink.new) (placed_bytes bounds.now.page_size (row_page bounds.now.page_size (row_push (row_of self.old) (branch_view closed.entry)) next.old ∷ []))) }
+        requires next { next.old ≤ setup.now.limit }
+        ensures pages { Puts S.taken S.failed sink.old sink.new (placed_bytes setup.now.page_size (row_page setup.now.page_size (row_push (row_of self.old) (branch_view closed.entry)) next.old ∷ [])) result }
+        ensures short { OnErr result (AppendsProperBeginning (S.taken sink.old) (S.taken sink.new) (placed_bytes setup.now.page_size (row_page setup.now.page_size (row_push (row_of self.old) (branch_view closed.entry)) next.old ∷ []))) }
         ensures up { IfOk result (λ up. branch_view up ≡ element_up (branch_view closed.entry) next.old (row_of self.old)) }
         ensures standing { OnOk result (IsStanding (row_of self.new)) }
-        ensures next { OnOk result (next.new ≡ next.old + (1 + overflow_of bounds.now.page_size (row_push (row_of self.old) (branch_view closed.entry)).size)) }
-        ensures within { OnOk result (next.new ≤ bounds.now.limit) }
-        ensures large { IfErr result (λ e. e ≡ fault.TooLarge → bounds.now.limit < next.old + (1 + overflow_of bounds.now.page_size (row_push (row_of self.old) (branch_view closed.entry)).size)) }
+        ensures next { OnOk result (next.new ≡ next.old + (1 + overflow_of setup.now.page_size (row_push (row_of self.old) (branch_view closed.entry)).size)) }
+        ensures within { OnOk result (next.new ≤ setup.now.limit) }
+        ensures large { IfErr result (λ e. e ≡ fault.TooLarge → setup.now.limit < next.old + (1 + overflow_of setup.now.page_size (row_push (row_of self.old) (branch_view closed.entry)).size)) }
     {
         self.push(closed)?;
-        self.close(bounds, next, sink)
+        self.close(setup, next, sink)
     }
 
-    /// Puts the page over the run, and begins the next run. Gives the page's element.
+    /// Writes the page over the run, and begins the next run. Returns the page's element.
     fn close<S: Sink>(
         &mut self,
-        bounds: &Bounds,
+        setup: &PageSetup,
         next: &mut u64,
         sink: &mut S,
     ) -> Result<Branch<'a>, BulkFault>
         requires pushed { IsPushed (row_of self.old) }
-        requires next { next.old ≤ bounds.now.limit }
-        ensures pages { Puts S.taken S.failed sink.old sink.new (placed_bytes bounds.now.page_size (row_page bounds.now.page_size (row_of self.old) next.old ∷ [])) result }
-        ensures short { OnErr result (AppendsProperBeginning (S.taken sink.old) (S.taken sink.new) (placed_bytes bounds.now.page_size (row_page bounds.now.page_size (row_of self.old) next.old ∷ []))) }
+        requires next { next.old ≤ setup.now.limit }
+        ensures pages { Puts S.taken S.failed sink.old sink.new (placed_bytes setup.now.page_size (row_page setup.now.page_size (row_of self.old) next.old ∷ [])) result }
+        ensures short { OnErr result (AppendsProperBeginning (S.taken sink.old) (S.taken sink.new) (placed_bytes setup.now.page_size (row_page setup.now.page_size (row_of self.old) next.old ∷ []))) }
         ensures up { IfOk result (λ up. branch_view up ≡ own_element (row_of self.old) next.old) }
         ensures row { OnOk result (row_of self.new ≡ no_row (one_less self.old.left) (one_closed self.old.closed)) }
-        ensures next { OnOk result (next.new ≡ next.old + (1 + overflow_of bounds.now.page_size self.old.size)) }
-        ensures within { OnOk result (next.new ≤ bounds.now.limit) }
-        ensures large { IfErr result (λ e. e ≡ fault.TooLarge → bounds.now.limit < next.old + (1 + overflow_of bounds.now.page_size self.old.size)) }
+        ensures next { OnOk result (next.new ≡ next.old + (1 + overflow_of setup.now.page_size self.old.size)) }
+        ensures within { OnOk result (next.new ≤ setup.now.limit) }
+        ensures large { IfErr result (λ e. e ≡ fault.TooLarge → setup.now.limit < next.old + (1 + overflow_of setup.now.page_size self.old.size)) }
     {
         let number = *next;
-        let after = number_after(bounds, self.size, number)?;
-        self.put(bounds, number, sink)?;
+        let after = number_after(setup, self.size, number)?;
+        self.put(setup, number, sink)?;
         let up = Branch {
             key: self.elements[0].key,
             child: number,
@@ -173,17 +174,17 @@ impl<'a> BranchRun<'a> {
         Ok(up)
     }
 
-    /// Puts the page over the run.
-    fn put<S: Sink>(&self, bounds: &Bounds, number: u64, sink: &mut S) -> Result<(), SinkFault>
+    /// Writes the page over the run.
+    fn put<S: Sink>(&self, setup: &PageSetup, number: u64, sink: &mut S) -> Result<(), SinkFault>
         requires sized { IsSizedRow (row_of self.now) }
         requires small { self.now.size < 4294967296 }
         requires few { length self.now.elements.items < 65536 }
-        ensures { PutsWhole S.taken S.failed sink.old sink.new (placed_bytes bounds.now.page_size (row_page bounds.now.page_size (row_of self.now) number ∷ [])) result }
+        ensures { PutsWhole S.taken S.failed sink.old sink.new (placed_bytes setup.now.page_size (row_page setup.now.page_size (row_of self.now) number ∷ [])) result }
     {
-        let further = overflow(bounds.page_size, self.size);
+        let further = overflow(setup.page_size, self.size);
         put_branch_page(
             number,
-            bounds.page_size,
+            setup.page_size,
             further as u32,
             self.elements.as_slice(),
             self.size,
@@ -192,11 +193,11 @@ impl<'a> BranchRun<'a> {
     }
 }
 
-/// A page has closed, and a page with this first key comes next. Each run takes the page below it
-/// that closed, and closes where the next one won't join it. Above them a run of the next level begins.
+/// A page has closed, and the next page has this first key. The lowest run takes the page that has
+/// closed. If the next page doesn't join it, it closes too, and the run above it takes its page;
+/// and so on. If all runs close, a run of the next level begins above them.
 pub(crate) fn climb<'a, S: Sink>(
-    alloc: Global,
-    bounds: &Bounds,
+    setup: &PageSetup,
     limits: BucketLimits<'_>,
     key: &[u8],
     closed: Branch<'a>,
@@ -207,23 +208,23 @@ pub(crate) fn climb<'a, S: Sink>(
     requires standing { AllByRecursion IsStanding (rows_above uppers.old.items) }
     requires key { length key.now ≤ 1073741824 }
     requires closed { length closed.key.now ≤ 1073741824 }
-    requires next { next.old ≤ bounds.now.limit }
-    ensures pages { Puts S.taken S.failed sink.old sink.new (placed_bytes bounds.now.page_size (rows_put bounds.now.page_size key.now (branch_view closed.entry) next.old (rows_above uppers.old.items))) result }
-    ensures rows { OnOk result (rows_above uppers.new.items ≡ rows_climb bounds.now.page_size (bucket_limit limits.entry (length (rows_above uppers.old.items))) key.now (branch_view closed.entry) next.old (rows_above uppers.old.items)) }
+    requires next { next.old ≤ setup.now.limit }
+    ensures pages { Puts S.taken S.failed sink.old sink.new (placed_bytes setup.now.page_size (rows_put setup.now.page_size key.now (branch_view closed.entry) next.old (rows_above uppers.old.items))) result }
+    ensures rows { OnOk result (rows_above uppers.new.items ≡ rows_climb setup.now.page_size (bucket_limit limits.entry (length (rows_above uppers.old.items))) key.now (branch_view closed.entry) next.old (rows_above uppers.old.items)) }
     ensures standing { OnOk result (AllByRecursion IsStanding (rows_above uppers.new.items)) }
-    ensures next { OnOk result (next.new ≡ rows_next bounds.now.page_size key.now (branch_view closed.entry) next.old (rows_above uppers.old.items)) }
-    ensures within { OnOk result (next.new ≤ bounds.now.limit) }
-    ensures large { IfErr result (λ e. e ≡ fault.TooLarge → bounds.now.limit < rows_next bounds.now.page_size key.now (branch_view closed.entry) next.old (rows_above uppers.old.items)) }
+    ensures next { OnOk result (next.new ≡ rows_next setup.now.page_size key.now (branch_view closed.entry) next.old (rows_above uppers.old.items)) }
+    ensures within { OnOk result (next.new ≤ setup.now.limit) }
+    ensures large { IfErr result (λ e. e ≡ fault.TooLarge → setup.now.limit < rows_next setup.now.page_size key.now (branch_view closed.entry) next.old (rows_above uppers.old.items)) }
 {
     let mut closed = closed;
     for i in 0..uppers.len() {
-        match uppers[i].take(bounds, key, closed, next, sink) {
+        match uppers[i].take(setup, key, closed, next, sink) {
             Err(fault) => return Err(fault),
             Ok(None) => return Ok(()),
             Ok(Some(up)) => closed = up,
         }
     }
-    let mut run = BranchRun::new(alloc, limits.at(uppers.len()));
+    let mut run = BranchRun::new(setup.alloc, limits.at(uppers.len()));
     run.push(closed)?;
     if uppers.push(run).is_err() {
         return Err(BulkFault::Memory);
@@ -231,9 +232,9 @@ pub(crate) fn climb<'a, S: Sink>(
     Ok(())
 }
 
-/// Closes each run in turn, up to the root page, and gives its number.
+/// Closes each run in turn, up to the root page, and returns the number of that page.
 pub(crate) fn close_all<'a, S: Sink>(
-    bounds: &Bounds,
+    setup: &PageSetup,
     closed: Branch<'a>,
     uppers: &mut Vec<BranchRun<'a>>,
     next: &mut u64,
@@ -241,17 +242,17 @@ pub(crate) fn close_all<'a, S: Sink>(
 ) -> Result<u64, BulkFault>
     requires standing { AllByRecursion IsStanding (rows_above uppers.old.items) }
     requires closed { length closed.key.now ≤ 1073741824 }
-    requires next { next.old ≤ bounds.now.limit }
-    ensures pages { Puts S.taken S.failed sink.old sink.new (placed_bytes bounds.now.page_size (rows_close_put bounds.now.page_size (branch_view closed.entry) next.old (rows_above uppers.old.items))) result }
-    ensures short { OnErr result (AppendsProperBeginning (S.taken sink.old) (S.taken sink.new) (placed_bytes bounds.now.page_size (rows_close_put bounds.now.page_size (branch_view closed.entry) next.old (rows_above uppers.old.items)))) }
-    ensures root { IfOk result (λ root. root ≡ rows_root bounds.now.page_size (branch_view closed.entry) next.old (rows_above uppers.old.items)) }
-    ensures next { OnOk result (next.new ≡ rows_end_next bounds.now.page_size (branch_view closed.entry) next.old (rows_above uppers.old.items)) }
-    ensures within { OnOk result (next.new ≤ bounds.now.limit) }
-    ensures large { IfErr result (λ e. e ≡ fault.TooLarge → bounds.now.limit < rows_end_next bounds.now.page_size (branch_view closed.entry) next.old (rows_above uppers.old.items)) }
+    requires next { next.old ≤ setup.now.limit }
+    ensures pages { Puts S.taken S.failed sink.old sink.new (placed_bytes setup.now.page_size (rows_close_put setup.now.page_size (branch_view closed.entry) next.old (rows_above uppers.old.items))) result }
+    ensures short { OnErr result (AppendsProperBeginning (S.taken sink.old) (S.taken sink.new) (placed_bytes setup.now.page_size (rows_close_put setup.now.page_size (branch_view closed.entry) next.old (rows_above uppers.old.items)))) }
+    ensures root { IfOk result (λ root. root ≡ rows_root setup.now.page_size (branch_view closed.entry) next.old (rows_above uppers.old.items)) }
+    ensures next { OnOk result (next.new ≡ rows_end_next setup.now.page_size (branch_view closed.entry) next.old (rows_above uppers.old.items)) }
+    ensures within { OnOk result (next.new ≤ setup.now.limit) }
+    ensures large { IfErr result (λ e. e ≡ fault.TooLarge → setup.now.limit < rows_end_next setup.now.page_size (branch_view closed.entry) next.old (rows_above uppers.old.items)) }
 {
     let mut closed = closed;
     for i in 0..uppers.len() {
-        match uppers[i].end(bounds, closed, next, sink) {
+        match uppers[i].end(setup, closed, next, sink) {
             Err(fault) => return Err(fault),
             Ok(up) => closed = up,
         }

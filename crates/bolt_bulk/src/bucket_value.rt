@@ -1,4 +1,4 @@
-//! The value of a bucket, as it is put.
+//! The value of a bucket, as it is written.
 ghost use Rattle.std.specs.Prelude.{◌≡◌, ◌+◌, ◌*◌, ◌<◌, ◌++◌, length, map};
 ghost use Rattle.bolt_format.specs.ElementPlaces.{leaf_view};
 ghost use Rattle.bolt_layout.specs.PageBytes.{inline_value, leaf_data, leaf_headers, root_value};
@@ -8,10 +8,10 @@ use crate::pieces::{put, put_full};
 use crate::row::{ELEMENT_LEN, LEAF_FLAGS, Row, header, push_leaf_header, push_u64};
 use bolt_format::{Leaf, Sink, SinkFault};
 
-/// The bytes of the value of a bucket with a root page.
+/// How many bytes the value of a bucket with a root page has.
 pub(crate) const ROOT_VALUE_LEN: usize = 16;
 
-/// The value of a bucket with a root page, or the first bytes of one that is inline.
+/// The value of a bucket with a root page, or the first bytes of the value of an inline one.
 #[tactic(auto, unfolding(bolt_layout::specs::PageBytes::root_value))]
 pub(crate) fn root_row(page: u64, sequence: u64) -> Row
     ensures { result.items ≡ root_value page sequence }
@@ -22,7 +22,7 @@ pub(crate) fn root_row(page: u64, sequence: u64) -> Row
     row
 }
 
-/// Puts the headers of entries. The data of all of them is packed behind the last header.
+/// Writes the headers of entries. All their data is packed after the last header.
 fn put_headers<S: Sink>(entries: &[Leaf<'_>], sink: &mut S) -> Result<(), SinkFault>
     requires { 16 * length entries.now + length (leaf_data (map leaf_view entries.now)) < 4294967296 }
     ensures { PutsWhole S.taken S.failed sink.old sink.new (leaf_headers 0 (map leaf_view entries.now)) result }
@@ -46,7 +46,7 @@ fn put_headers<S: Sink>(entries: &[Leaf<'_>], sink: &mut S) -> Result<(), SinkFa
     put(row.as_slice(), sink)
 }
 
-/// Puts the key and the value of an entry.
+/// Writes the key and the value of an entry.
 fn put_entry<S: Sink>(entry: &Leaf<'_>, sink: &mut S) -> Result<(), SinkFault>
     ensures { PutsWhole S.taken S.failed sink.old sink.new (entry.now.key.now ++ entry.now.value.now) result }
 {
@@ -54,7 +54,7 @@ fn put_entry<S: Sink>(entry: &Leaf<'_>, sink: &mut S) -> Result<(), SinkFault>
     put(entry.value, sink)
 }
 
-/// Puts the data of entries.
+/// Writes the data of entries.
 fn put_data<S: Sink>(entries: &[Leaf<'_>], sink: &mut S) -> Result<(), SinkFault>
     ensures { PutsWhole S.taken S.failed sink.old sink.new (leaf_data (map leaf_view entries.now)) result }
 {
@@ -64,7 +64,7 @@ fn put_data<S: Sink>(entries: &[Leaf<'_>], sink: &mut S) -> Result<(), SinkFault
     Ok(())
 }
 
-/// Puts the value of an inline bucket, packed anew.
+/// Writes the value of an inline bucket, packed anew.
 pub(crate) fn put_inline_value<S: Sink>(
     sequence: u64,
     entries: &[Leaf<'_>],

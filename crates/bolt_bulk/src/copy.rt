@@ -15,6 +15,7 @@ use crate::fault::{BulkFault, PlanFault};
 use crate::file_laws::{file_is_of_one_tree, recovered_is_of_one_tree};
 use crate::members_copy::{Shape, plan_members, put_members};
 use crate::outcome::{Done, Plan};
+use crate::page_setup::PageSetup;
 use bolt_check::Checked;
 use bolt_format::Sink;
 use bolt_layout::Layout;
@@ -22,14 +23,14 @@ use bolt_recover::Recovery;
 use bolt_tree::Walk;
 use std::alloc::Global;
 
-/// Where a copy of a file at this page size will have its root page and its high-water mark, in this
-/// layout (docs/LAYOUT.md). Nothing is written. Beside what `compact_as` needs no memory is asked
-/// for.
+/// Returns where a copy of a file in this layout, at this page size, will have its root page and
+/// its high-water mark (docs/LAYOUT.md). Nothing is written. It needs memory only for what
+/// `compact_as` needs it for too.
 ///
 /// # Errors
 ///
-/// `TooLarge` where the layout has 2^63 bytes or more, and nothing else is answered then but
-/// `Memory`; `Memory` where memory ran out.
+/// `TooLarge` if the layout has 2^63 bytes or more; `Memory` if memory runs out. A layout of that
+/// size has no plan: the error is one of these two.
 pub fn plan_as(
     alloc: Global,
     checked: Checked<'_>,
@@ -48,8 +49,8 @@ pub fn plan_as(
     plan_members(alloc, &Walk::new(alloc, checked), &shape)
 }
 
-/// Where a copy in the plain layout will have its root page and its high-water mark: `plan_as` for
-/// that layout, with its errors.
+/// Returns where a copy in the plain layout will have its root page and its high-water mark:
+/// `plan_as` for that layout, with its errors.
 pub fn plan(alloc: Global, checked: Checked<'_>, page_size: u64) -> Result<Plan, PlanFault>
     requires { IsPageSize page_size }
     ensures { ForListing checked.entry (λ listing. Plans Plain page_size (meta_of checked.entry).root_sequence listing result) }
@@ -57,17 +58,17 @@ pub fn plan(alloc: Global, checked: Checked<'_>, page_size: u64) -> Result<Plan,
     plan_as(alloc, checked, Layout::Plain, page_size)
 }
 
-/// Writes the compact copy of a file at this page size: the one layout of what the file holds
-/// (docs/LAYOUT.md), plain or balanced, from its first byte to its last. The file is walked twice,
-/// for the plan and for the pages; before that, for a balanced copy, once more for the limits of its
-/// rows, of which one number is kept for each row that would end in a page of one child. If the
-/// result isn't `Ok`, the sink took a prefix of the layout that isn't the whole, which `check`
+/// Writes the compact copy of a file at this page size, from its first byte to its last: the one
+/// plain or balanced layout of what the file holds (docs/LAYOUT.md). The file is walked twice, for
+/// the plan and for the pages. For a balanced copy it is walked once more before that, for the
+/// limits of the rows; one number is kept for each row that would end in a page with one child. If
+/// the result isn't `Ok`, the sink has accepted a proper prefix of the layout, which `check`
 /// refuses.
 ///
 /// # Errors
 ///
-/// `TooLarge` where the layout has 2^63 bytes or more, and no byte was put then; `Memory` where
-/// memory ran out; `Sink` where the sink failed.
+/// `TooLarge` if the layout has 2^63 bytes or more, and then no byte was written; `Memory` if
+/// memory runs out; `Sink` if the sink fails.
 pub fn compact_as<S: Sink>(
     alloc: Global,
     checked: Checked<'_>,
@@ -107,10 +108,10 @@ pub fn compact<S: Sink>(
     compact_as(alloc, checked, Layout::Plain, page_size, sink)
 }
 
-/// Writes the compact copy of what is recovered of a file, of which nothing is given yet: the one
-/// layout of the recovered listing (docs/RECOVERY.md), as `compact_as` writes that of a sound file,
-/// with its errors. Each pass over the file is a recovery of its own, and the last is the one that is
-/// passed: after `Ok` it has all losses.
+/// Writes the compact copy of what is recovered of a damaged file: the one layout of the recovered
+/// listing (docs/RECOVERY.md), written as `compact_as` writes that of a sound file, with its errors.
+/// The recovery must not have returned anything yet. Each earlier pass over the file is a recovery
+/// of its own, and the last is the one that is passed, so after `Ok` it has reported all losses.
 pub fn compact_recovered<S: Sink>(
     alloc: Global,
     recovery: &mut Recovery<'_>,

@@ -1,4 +1,4 @@
-//! Why no plan, or no copy, is made.
+//! Why there is no plan, or no whole copy.
 ghost use Rattle.std.specs.Prelude.{◌≡◌};
 ghost use Rattle.bolt_bulk.specs.declared.fault.BulkFault.TheVariants as bulk;
 ghost use Rattle.bolt_bulk.specs.Private.Stops.{stopped_by};
@@ -28,7 +28,7 @@ impl From<NoMemory> for PlanFault {
     }
 }
 
-/// Why a copy isn't written whole.
+/// Why a copy isn't written whole. The sink has accepted a prefix of it.
 #[derive(Clone, Copy, Debug, PartialEq, Eq, Error)]
 pub enum BulkFault {
     /// Memory ran out.

@@ -57,7 +57,7 @@ pub(crate) fn recovered_is_of_one_tree(recovery: &Recovery<'_>)
 }
 
 /// The layout of such a listing has as many bytes as its pages. If these are fewer than 2^63, it is
-/// a sound copy, its beginnings are refused, and no more items are held at one time than it has
+/// a sound copy, its proper prefixes are refused, and no more items are held at one time than it has
 /// bytes.
 pub(crate) fn a_listing_has_one_layout(page_size: u64, sequence: u64)
     requires { IsPageSize page_size }

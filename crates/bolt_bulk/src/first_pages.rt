@@ -1,4 +1,4 @@
-//! The pages before those of the buckets, as they are put.
+//! The pages that precede those of the buckets, as they are written.
 ghost use Rattle.std.specs.Prelude.{◌≡◌, ◌≤◌, length};
 ghost use Rattle.bolt_layout.specs.PageBytes.{filled, meta_bytes, meta_record};
 ghost use Rattle.bolt_bulk.specs.Private.FirstPages.{first_pages};
@@ -50,7 +50,7 @@ fn meta_record(facts: &Facts, txid: u64) -> Row
     row
 }
 
-/// What stands on a meta page before its zeros.
+/// The bytes of a meta page before its zeros.
 #[tactic(auto, unfolding(bolt_layout::specs::PageBytes::meta_bytes))]
 fn meta_row(facts: &Facts, txid: u64) -> Row
     ensures { result.items ≡ meta_bytes facts.now.page_size facts.now.root facts.now.sequence facts.now.mark txid }
@@ -62,7 +62,7 @@ fn meta_row(facts: &Facts, txid: u64) -> Row
     row
 }
 
-/// Puts a row of bytes, and zeros up to the end of a page.
+/// Writes a buffer row, and zeros up to the end of a page.
 fn put_filled<S: Sink>(row: &Row, page_size: usize, sink: &mut S) -> Result<(), SinkFault>
     requires { length row.now.items ≤ page_size }
     ensures { PutsWhole S.taken S.failed sink.old sink.new (filled page_size row.now.items) result }
@@ -71,7 +71,7 @@ fn put_filled<S: Sink>(row: &Row, page_size: usize, sink: &mut S) -> Result<(), 
     put_zeros(page_size - row.len(), sink)
 }
 
-/// Puts both metas, and a freelist without ids.
+/// Writes both metas, and a freelist without ids.
 pub(crate) fn put_first_pages<S: Sink>(facts: &Facts, sink: &mut S) -> Result<(), SinkFault>
     requires { 1024 ≤ facts.now.page_size }
     ensures { PutsWhole S.taken S.failed sink.old sink.new (first_pages facts.now) result }

@@ -1,5 +1,5 @@
-//! An item of a leaf that is open: a key with a value, with a bucket that is packed anew into its
-//! value, or with the root page of a bucket.
+//! An item of an open run of a leaf: a key with a value, with an inline bucket, which is packed
+//! anew, or with the root page of a bucket.
 ghost use Rattle.std.specs.Prelude.{◌≡◌, List, length};
 ghost use Rattle.bolt_bulk.specs.Private.HeldItems.{IsStored, is_stored_bucket, stored_value};
 ghost use Rattle.bolt_bulk.specs.Puts.{PutsWhole};
@@ -8,7 +8,7 @@ use crate::bucket_value::{ROOT_VALUE_LEN, put_inline_value, root_row};
 use crate::pieces::put;
 use bolt_format::{Leaf, Sink, SinkFault};
 
-/// What stands under a key in a copy.
+/// What is under a key in a copy.
 #[derive(Clone, Copy)]
 pub(crate) enum Stored<'a> {
     /// The bytes of a value.
@@ -18,8 +18,8 @@ pub(crate) enum Stored<'a> {
         page: u64,
         sequence: u64,
     },
-    /// A bucket within its own value, which has `size` bytes. Its entries stand in the row of those
-    /// of all inline buckets of the run: `count` of them, from the entry `first` on.
+    /// An inline bucket, whose value has `size` bytes. The run keeps the entries of all its inline
+    /// buckets in one list. Those of this bucket are `count` entries, from entry `first` on.
     Inline {
         sequence: u64,
         first: usize,
@@ -57,7 +57,7 @@ impl<'a> Stored<'a> {
         }
     }
 
-    /// Puts the value, where the entries of inline buckets stand in this row.
+    /// Writes the value. The entries of inline buckets are in the list `inlined`.
     pub(crate) fn put<S: Sink>(&self, inlined: &[Leaf<'_>], sink: &mut S) -> Result<(), SinkFault>
         requires { IsStored inlined.now self.now }
         ensures { PutsWhole S.taken S.failed sink.old sink.new (stored_value inlined.now self.now) result }

@@ -1,4 +1,4 @@
-//! A leaf page, as it is put.
+//! A leaf page, as it is written.
 ghost use Rattle.std.specs.Prelude.{◌≡◌, ◌+◌, ◌*◌, ◌<◌, ◌≤◌, ◌++◌, length};
 ghost use Rattle.bolt_layout.specs.Levels.{leaf_view as leaf_page_view};
 ghost use Rattle.bolt_layout.specs.PageBytes.{leaf_data, leaf_headers, page_bytes};
@@ -10,7 +10,7 @@ use crate::pieces::{put, put_full, put_zeros};
 use crate::row::{ELEMENT_LEN, LEAF_FLAGS, Row, header, push_leaf_header};
 use bolt_format::{Leaf, Sink, SinkFault};
 
-/// Puts the headers of items. The data of all of them is packed behind the last header.
+/// Writes the headers of items. All their data is packed after the last header.
 fn put_headers<S: Sink>(
     items: &[Held<'_>],
     inlined: &[Leaf<'_>],
@@ -34,7 +34,7 @@ fn put_headers<S: Sink>(
     put(row.as_slice(), sink)
 }
 
-/// Puts the key and the value of an item.
+/// Writes the key and the value of an item.
 fn put_item<S: Sink>(held: &Held<'_>, inlined: &[Leaf<'_>], sink: &mut S) -> Result<(), SinkFault>
     requires { IsHeld inlined.now held.now }
     ensures { PutsWhole S.taken S.failed sink.old sink.new (held.now.key.now ++ stored_value inlined.now held.now.stored) result }
@@ -43,7 +43,7 @@ fn put_item<S: Sink>(held: &Held<'_>, inlined: &[Leaf<'_>], sink: &mut S) -> Res
     held.stored.put(inlined, sink)
 }
 
-/// Puts the data of items.
+/// Writes the data of items.
 fn put_data<S: Sink>(
     items: &[Held<'_>],
     inlined: &[Leaf<'_>],
@@ -58,8 +58,8 @@ fn put_data<S: Sink>(
     Ok(())
 }
 
-/// Puts a leaf page over these items, which has `size` bytes before its zeros. The entries of the
-/// inline buckets among them stand in the row `inlined`.
+/// Writes a leaf page over these items. It has `size` bytes before its zeros. The entries of the
+/// inline buckets among the items are in the list `inlined`.
 pub(crate) fn put_leaf_page<S: Sink>(
     number: u64,
     page_size: usize,

@@ -1,10 +1,8 @@
-//! The compact copy of a sound file, or of what a damaged one still holds: the calls that plan it
-//! and write it, page after page. The
-//! layout that it has is defined in `bolt_layout`.
+//! The compact copy of a sound file, or of what a damaged one still holds: the calls that plan it,
+//! and those that write it page by page. `bolt_layout` defines its layout.
 #![tactic(auto)]
 
 mod all_pages;
-mod bounds;
 mod branch_page;
 mod branch_runs;
 mod bucket_value;
@@ -15,16 +13,19 @@ mod first_pages;
 mod held;
 mod held_count;
 mod leaf_page;
+mod leaf_run;
 mod limits;
 mod members_copy;
 mod no_sink;
 mod open_bucket;
 mod outcome;
+mod page_setup;
 mod pass;
+mod pending;
 mod pieces;
 mod row;
-mod steps;
 mod told;
+mod waiting;
 
 pub use copy::{compact, compact_as, compact_recovered, plan, plan_as};
 pub use fault::{BulkFault, PlanFault};

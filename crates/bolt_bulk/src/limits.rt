@@ -1,4 +1,4 @@
-//! How many runs the rows of a bucket's branches may have.
+//! How many runs the rows of a bucket's branches may have, in the balanced layout.
 ghost use Rattle.std.specs.Prelude.{◌≡◌, ◌∷◌, ℕ, List, false, IfErr, None, OnOk, Some, map};
 ghost use Rattle.bolt_layout.specs.Limits.{limit_at, limits_told};
 ghost use Rattle.bolt_bulk.specs.Private.RowLimits.{IsOtherRow, bucket_limit, limit_in, run_told};
@@ -9,24 +9,26 @@ use crate::fault::BulkFault;
 use std::alloc::Global;
 use std::collections::BTreeMap;
 
-/// The rows of branches in which only so many runs may begin after the first: the page that comes
-/// last joins the last of them, whatever its room. A row is named by the number of its bucket, in
-/// the order in which a pass opens them, and by its level, which is 0 above the leaves.
+/// The rows of branches that have a limit: only so many runs may begin after the first one, and the
+/// last page joins the last run even if that has no room for it. A row is named by the number of
+/// its bucket and by its level. Buckets are numbered in the order in which a pass opens them; the
+/// level above the leaves is 0.
 #[derive(Drop)]
 pub(crate) struct Limits {
     pub rows: BTreeMap<(u64, usize), u64>,
 }
 
-/// Those of one bucket.
+/// The limits of one bucket.
 #[derive(Clone, Copy)]
 pub(crate) struct BucketLimits<'a> {
     pub all: &'a Limits,
     pub bucket: u64,
 }
 
-/// How many runs may begin after the first in a row, by its last open run in the plain layout, when
-/// the page under way joins that; and whether the row above loses its last item, as this row has a
-/// page less. This row may itself have lost its last item.
+/// Returns how many runs may begin after the first one of a row, and whether the row above loses
+/// its last item because this row has one page less. `run` is the last open run of the row in the
+/// plain layout, and the page under way joins it. If `lost` is set, this row itself has lost its
+/// last item.
 fn row_limit(lost: bool, run: &BranchRun<'_>) -> (Option<u64>, bool)
     ensures { (rows : List (ℕ × ℕ)) → limits_told lost (run_told run.now ∷ rows) ≡ result.0 ∷ limits_told result.1 rows }
 {
@@ -48,7 +50,7 @@ impl Limits {
         }
     }
 
-    /// In this row only so many runs may begin after the first.
+    /// Limits a row: only `left` runs may begin after the first one.
     fn set(&mut self, bucket: u64, level: usize, left: u64) -> Result<(), BulkFault>
         ensures row { OnOk result (limit_in self.new bucket level ≡ Some left) }
         ensures others { OnOk result ((b l : ℕ) → IsOtherRow bucket level b l → limit_in self.new b l ≡ limit_in self.old b l) }
@@ -60,9 +62,9 @@ impl Limits {
         }
     }
 
-    /// Notes the limits of a bucket that ends, by what its open runs tell of the plain layout's rows:
-    /// a row that would end in a single item behind another run has one run less, and the row above
-    /// it loses its last item.
+    /// Notes the limits of a bucket that ends, from its open runs in the plain layout. If a row
+    /// would end in a run of a single item after another run, it has one run less, and the row
+    /// above it loses its last item.
     pub(crate) fn tell(&mut self, bucket: u64, runs: &[BranchRun<'_>]) -> Result<(), BulkFault>
         ensures told { OnOk result (((level : ℕ) → limit_in self.old bucket level ≡ None) → (level : ℕ) → limit_in self.new bucket level ≡ limit_at (limits_told false (map run_told runs.now)) level) }
         ensures others { OnOk result ((b l : ℕ) → (b ≡ bucket → ⊥) → limit_in self.new b l ≡ limit_in self.old b l) }
@@ -81,8 +83,8 @@ impl Limits {
 }
 
 impl<'a> BucketLimits<'a> {
-    /// How many runs may begin after the first in the row of this level: `None` if there may be any
-    /// number.
+    /// How many runs may begin after the first one in the row of this level. `None` if any number
+    /// may.
     pub(crate) fn at(&self, level: usize) -> Option<u64>
         ensures { result ≡ bucket_limit self.now level }
     {

@@ -13,13 +13,13 @@ ghost use Rattle.bolt_bulk.specs.Private.WholeListings.{IsWhole};
 ghost use Rattle.bolt_bulk.specs.declared.fault.PlanFault.TheVariants as planned;
 
 use crate::all_pages::put_pages;
-use crate::bounds::Bounds;
 use crate::fault::{BulkFault, PlanFault};
 use crate::file_laws::a_listing_has_one_layout;
 use crate::first_pages::{Facts, put_first_pages};
 use crate::limits::Limits;
 use crate::no_sink::NoSink;
 use crate::outcome::{Done, Plan};
+use crate::page_setup::PageSetup;
 use bolt_format::Sink;
 use bolt_layout::Layout;
 use bolt_recover::Members;
@@ -38,35 +38,38 @@ pub(crate) struct Shape {
 /// The most bytes that a copy may have.
 const MAX_LEN: u64 = 0x7FFF_FFFF_FFFF_FFFF;
 
-/// How large the pages of a copy are, and how many it may have.
-fn bounds_of(page_size: u64) -> Bounds
+/// What stays the same for all pages of a copy.
+fn setup_of(alloc: Global, page_size: u64) -> PageSetup
     requires { IsPageSize page_size }
     ensures page_size { result.page_size ≡ page_size }
     ensures limit { result.limit ≡ 9223372036854775807 / page_size }
     ensures room { 3 ≤ result.limit }
     ensures bytes { result.limit * result.page_size < 9223372036854775808 }
 {
-    Bounds {
+    PageSetup {
+        alloc,
         page_size: page_size as usize,
         limit: MAX_LEN / page_size,
     }
 }
 
-/// The same for a pass over the plain layout that tells the limits of the balanced one, which is
+/// The same for a pass over the plain layout that notes the limits of the balanced one, which is
 /// never 28 times smaller.
-fn telling_bounds_of(page_size: u64) -> Bounds
+fn telling_setup_of(alloc: Global, page_size: u64) -> PageSetup
     requires { IsPageSize page_size }
     ensures page_size { result.page_size ≡ page_size }
     ensures limit { result.limit ≡ 28 * (9223372036854775807 / page_size) }
     ensures room { 3 ≤ result.limit }
 {
-    Bounds {
+    PageSetup {
+        alloc,
         page_size: page_size as usize,
         limit: 28 * (MAX_LEN / page_size),
     }
 }
 
-/// The limits of rows that give the balanced layout, as a pass over the plain one tells them.
+/// The limits of rows that yield the balanced layout, which a pass over the plain one notes.
+/// `TooLarge` only if the balanced layout has 2^63 bytes or more.
 fn balanced_limits<'a, M: Members<'a> + Drop>(
     alloc: Global,
     members: &M,
@@ -79,9 +82,9 @@ fn balanced_limits<'a, M: Members<'a> + Drop>(
 {
     a_listing_has_one_layout(shape.page_size, shape.sequence);
     let none = Limits::none(alloc);
-    let bounds = telling_bounds_of(shape.page_size);
+    let setup = telling_setup_of(alloc, shape.page_size);
     let mut again = members.again(alloc)?;
-    match put_pages(alloc, bounds, &none, true, &mut again, &mut NoSink) {
+    match put_pages(setup, &none, true, &mut again, &mut NoSink) {
         Ok(ended) => Ok(ended.told),
         Err(BulkFault::TooLarge) => Err(PlanFault::TooLarge),
         Err(BulkFault::Memory) => Err(PlanFault::Memory),
@@ -89,7 +92,7 @@ fn balanced_limits<'a, M: Members<'a> + Drop>(
     }
 }
 
-/// The limits of rows that give the layout.
+/// The limits of rows that yield the layout.
 fn limits_of<'a, M: Members<'a> + Drop>(
     alloc: Global,
     members: &M,
@@ -118,9 +121,9 @@ fn plan_within<'a, M: Members<'a> + Drop>(
     ensures { (listing : List Member) → M.lists members.now listing → Plans shape.now.layout shape.now.page_size shape.now.sequence listing result }
 {
     a_listing_has_one_layout(shape.page_size, shape.sequence);
-    let bounds = bounds_of(shape.page_size);
+    let setup = setup_of(alloc, shape.page_size);
     let mut again = members.again(alloc)?;
-    match put_pages(alloc, bounds, limits, false, &mut again, &mut NoSink) {
+    match put_pages(setup, limits, false, &mut again, &mut NoSink) {
         Ok(ended) => Ok(Plan {
             root: ended.root,
             high_water: ended.high_water,
@@ -171,8 +174,8 @@ pub(crate) fn put_members<'a, M: Members<'a> + Drop, S: Sink>(
     if let Err(_) = put_first_pages(&facts, sink) {
         return Err(BulkFault::Sink);
     }
-    let bounds = bounds_of(shape.page_size);
-    match put_pages(alloc, bounds, &limits, false, members, sink) {
+    let setup = setup_of(alloc, shape.page_size);
+    match put_pages(setup, &limits, false, members, sink) {
         Err(fault) => Err(fault),
         Ok(ended) => Ok(Done {
             bytes: ended.high_water * shape.page_size,

@@ -3,7 +3,7 @@ ghost use Rattle.std.specs.Prelude.{◌≡◌, None};
 
 use bolt_format::{Sink, SinkFault};
 
-/// Takes all bytes, and neither keeps nor tells any.
+/// Accepts all bytes, and keeps none.
 #[derive(Drop)]
 pub(crate) struct NoSink;
 

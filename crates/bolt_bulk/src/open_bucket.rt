@@ -1,106 +1,37 @@
-//! All that is open of a bucket: the run of items of its leaf under way, and the runs of pages
-//! above.
-ghost use Rattle.std.specs.Prelude.{◌≡◌, ◌+◌, ◌*◌, ◌<◌, ◌≤◌, true, false, ℕ, [], IfErr, IfOk, OnErr, OnOk, length, map, min, vec_capacity, vec_len};
+//! An open bucket: the run of items of its leaf under way, and the runs of pages above.
+ghost use Rattle.std.specs.Prelude.{◌≡◌, ◌+◌, ◌<◌, ◌≤◌, true, false, ℕ, [], IfErr, IfOk, OnErr, OnOk, length, map, min, vec_capacity, vec_len};
 ghost use Rattle.std.specs.List.{AllByRecursion};
-ghost use Rattle.bolt_format.specs.ElementPlaces.{branch_view, leaf_view};
+ghost use Rattle.bolt_format.specs.ElementPlaces.{leaf_view};
 ghost use Rattle.bolt_format.specs.Sinks.{AppendsProperBeginning};
 ghost use Rattle.bolt_format.specs.declared.element.Leaf.{Leaf};
 ghost use Rattle.bolt_layout.specs.Layout.{placed_bytes};
-ghost use Rattle.bolt_layout.specs.Levels.{overflow_of};
-ghost use Rattle.bolt_layout.specs.PageBytes.{leaf_data, page_bytes};
 ghost use Rattle.bolt_bulk.specs.Private.HeldCounts.{items_in};
 ghost use Rattle.bolt_bulk.specs.Private.HeldItems.{IsHeld, held_view, inlined_by, stored_value, value_item};
-ghost use Rattle.bolt_bulk.specs.Private.OpenBuckets.{HasRoomFor, IsLeafRun, IsOpenBucket, bucket_end_next, leaf_closed, leaves_of, rows_of};
-ghost use Rattle.bolt_bulk.specs.Private.Rows.{leaf_page, leaves_have_room, no_leaves, rows_end, rows_end_put, rows_push, rows_room, rows_room_put};
-ghost use Rattle.bolt_bulk.specs.Private.TakenItems.{entries_size, inline_element, inline_size};
-ghost use Rattle.bolt_bulk.specs.Puts.{Puts, PutsWhole};
+ghost use Rattle.bolt_bulk.specs.Private.OpenBuckets.{HasRoomFor, IsOpenBucket, bucket_end_next, leaves_of, rows_of};
+ghost use Rattle.bolt_bulk.specs.Private.Rows.{leaves_have_room, no_leaves, rows_end, rows_end_put, rows_push, rows_room, rows_room_put};
+ghost use Rattle.bolt_bulk.specs.Private.TakenItems.{entries_size, inline_element, inline_size, rows_taking, value_element};
+ghost use Rattle.bolt_bulk.specs.Private.Waiting.{IsWaiting};
+ghost use Rattle.bolt_bulk.specs.Puts.{Puts};
 ghost use Rattle.bolt_bulk.specs.declared.fault.BulkFault.TheVariants as fault;
 
-use crate::bounds::{Bounds, MAX_ITEMS, number_after, overflow};
 use crate::branch_runs::{BranchRun, climb, close_all};
 use crate::fault::BulkFault;
 use crate::held::{Held, Stored};
-use crate::leaf_page::put_leaf_page;
+use crate::leaf_run::LeafRun;
 use crate::limits::BucketLimits;
-use bolt_format::{Branch, Leaf, Sink, SinkFault};
+use crate::page_setup::PageSetup;
+use crate::pending::Pending;
+use crate::waiting::Waiting;
+use bolt_format::{Leaf, Sink};
 use std::alloc::Global;
 
-/// A run of items that is open, the entries of the inline buckets among them, and the size of the
-/// page over it.
-#[derive(Drop)]
-pub(crate) struct LeafRun<'a> {
-    pub items: Vec<Held<'a>>,
-    pub inlined: Vec<Leaf<'a>>,
-    pub size: usize,
-}
-
-/// A bucket that is open.
+/// An open bucket.
 #[derive(Drop)]
 pub(crate) struct OpenBucket<'a> {
     pub leaves: LeafRun<'a>,
     pub uppers: Vec<BranchRun<'a>>,
     /// How many runs the rows above its leaves may have.
     pub limits: BucketLimits<'a>,
-}
-
-impl<'a> LeafRun<'a> {
-    /// Whether an item of this size joins.
-    fn has_room(&self, page_size: usize, size: usize) -> bool
-        requires { self.now.size + size < 18446744073709551616 }
-        ensures { result ≡ leaves_have_room page_size (leaves_of self.now) size }
-    {
-        self.items.len() < 1 || (self.size + size <= page_size && self.items.len() < MAX_ITEMS)
-    }
-
-    /// Puts the page over the run.
-    fn put<S: Sink>(&self, bounds: &Bounds, number: u64, sink: &mut S) -> Result<(), SinkFault>
-        requires run { IsLeafRun self.now }
-        ensures { PutsWhole S.taken S.failed sink.old sink.new (page_bytes bounds.now.page_size number (leaf_page bounds.now.page_size (leaves_of self.now) number).view) result }
-    {
-        let further = overflow(bounds.page_size, self.size);
-        put_leaf_page(
-            number,
-            bounds.page_size,
-            further as u32,
-            self.items.as_slice(),
-            self.inlined.as_slice(),
-            self.size,
-            sink,
-        )
-    }
-
-    /// Puts the page over the run, and begins the next run. Gives the page's element.
-    #[inline(never)]
-    fn close<S: Sink>(
-        &mut self,
-        bounds: &Bounds,
-        next: &mut u64,
-        sink: &mut S,
-    ) -> Result<Branch<'a>, BulkFault>
-        requires run { IsLeafRun self.old }
-        requires next { next.old ≤ bounds.now.limit }
-        ensures page { Puts S.taken S.failed sink.old sink.new (page_bytes bounds.now.page_size next.old (leaf_page bounds.now.page_size (leaves_of self.old) next.old).view) result }
-        ensures short { OnErr result (AppendsProperBeginning (S.taken sink.old) (S.taken sink.new) (page_bytes bounds.now.page_size next.old (leaf_page bounds.now.page_size (leaves_of self.old) next.old).view)) }
-        ensures closed { IfOk result (λ closed. branch_view closed ≡ leaf_closed (leaves_of self.old) next.old) }
-        ensures row { OnOk result (leaves_of self.new ≡ no_leaves) }
-        ensures run { OnOk result (IsLeafRun self.new) }
-        ensures next { OnOk result (next.new ≡ next.old + (1 + overflow_of bounds.now.page_size self.old.size)) }
-        ensures within { OnOk result (next.new ≤ bounds.now.limit) }
-        ensures large { IfErr result (λ e. e ≡ fault.TooLarge → bounds.now.limit < next.old + (1 + overflow_of bounds.now.page_size self.old.size)) }
-    {
-        let number = *next;
-        let after = number_after(bounds, self.size, number)?;
-        self.put(bounds, number, sink)?;
-        let key = match self.items.first() {
-            Some(held) => held.key,
-            None => &[],
-        };
-        self.items.clear();
-        self.inlined.clear();
-        self.size = 16;
-        *next = after;
-        Ok(Branch { key, child: number })
-    }
 }
 
 /// The items of entries that are values.
@@ -123,7 +54,7 @@ fn value_items<'a>(alloc: Global, entries: &[Leaf<'a>]) -> Result<Vec<Held<'a>>,
 }
 
 impl<'a> OpenBucket<'a> {
-    /// A bucket of which nothing is open.
+    /// A bucket that has taken no item yet.
     pub(crate) fn new(alloc: Global, limits: BucketLimits<'a>) -> OpenBucket<'a>
         ensures open { IsOpenBucket result }
         ensures rows { (next : ℕ) → rows_of result next ≡ record { leaves = no_leaves; uppers = []; limits = limits.entry; next = next } }
@@ -139,7 +70,8 @@ impl<'a> OpenBucket<'a> {
         }
     }
 
-    /// A bucket in which these values are the run so far. The page over them has this size.
+    /// A bucket that has taken these values so far, in its first run. The page over them has `size`
+    /// bytes.
     pub(crate) fn of_values(
         alloc: Global,
         entries: &[Leaf<'a>],
@@ -168,13 +100,12 @@ impl<'a> OpenBucket<'a> {
         })
     }
 
-    /// Room for the next item, by its key and size: it is there, or the leaf closes before any of
-    /// the item's pages is put.
+    /// Makes room for the next item, which has this key and size. If there is none, the leaf
+    /// closes, before any page of the item is written.
     #[inline(always)]
     pub(crate) fn make_room<S: Sink>(
         &mut self,
-        alloc: Global,
-        bounds: &Bounds,
+        setup: &PageSetup,
         key: &[u8],
         size: usize,
         next: &mut u64,
@@ -183,22 +114,21 @@ impl<'a> OpenBucket<'a> {
         requires open { IsOpenBucket self.old }
         requires key { length key.now ≤ 1073741824 }
         requires size { size < 4294967296 }
-        requires next { next.old ≤ bounds.now.limit }
-        ensures pages { Puts S.taken S.failed sink.old sink.new (placed_bytes bounds.now.page_size (rows_room_put bounds.now.page_size (rows_of self.old next.old) key.now size)) result }
-        ensures rows { OnOk result (rows_of self.new next.new ≡ rows_room bounds.now.page_size (rows_of self.old next.old) key.now size) }
+        requires next { next.old ≤ setup.now.limit }
+        ensures pages { Puts S.taken S.failed sink.old sink.new (placed_bytes setup.now.page_size (rows_room_put setup.now.page_size (rows_of self.old next.old) key.now size)) result }
+        ensures rows { OnOk result (rows_of self.new next.new ≡ rows_room setup.now.page_size (rows_of self.old next.old) key.now size) }
         ensures open { OnOk result (IsOpenBucket self.new) }
-        ensures room { OnOk result (leaves_have_room bounds.now.page_size (leaves_of self.new.leaves) size ≡ true) }
-        ensures within { OnOk result (next.new ≤ bounds.now.limit) }
-        ensures large { IfErr result (λ e. e ≡ fault.TooLarge → bounds.now.limit < (rows_room bounds.now.page_size (rows_of self.old next.old) key.now size).next) }
+        ensures room { OnOk result (leaves_have_room setup.now.page_size (leaves_of self.new.leaves) size ≡ true) }
+        ensures within { OnOk result (next.new ≤ setup.now.limit) }
+        ensures large { IfErr result (λ e. e ≡ fault.TooLarge → setup.now.limit < (rows_room setup.now.page_size (rows_of self.old next.old) key.now size).next) }
     {
-        if self.leaves.has_room(bounds.page_size, size) {
+        if self.leaves.has_room(setup.page_size, size) {
             return Ok(());
         }
-        match self.leaves.close(bounds, next, sink) {
+        match self.leaves.close(setup, next, sink) {
             Err(fault) => Err(fault),
             Ok(closed) => climb(
-                alloc,
-                bounds,
+                setup,
                 self.limits,
                 key,
                 closed,
@@ -209,7 +139,7 @@ impl<'a> OpenBucket<'a> {
         }
     }
 
-    /// Memory for one more item. What is open stays.
+    /// Reserves memory for one more item. The open runs stay the same.
     pub(crate) fn reserve(&mut self) -> Result<(), BulkFault>
         requires open { IsOpenBucket self.old }
         ensures rows { (next : ℕ) → rows_of self.new next ≡ rows_of self.old next }
@@ -256,7 +186,8 @@ impl<'a> OpenBucket<'a> {
         Ok(())
     }
 
-    /// Adds an inline bucket of these entries, for which there is room. Its value has this size.
+    /// Adds an inline bucket with these entries, for which there is room. Its value has `size`
+    /// bytes.
     pub(crate) fn push_inline(
         &mut self,
         key: &'a [u8],
@@ -291,29 +222,115 @@ impl<'a> OpenBucket<'a> {
         Ok(())
     }
 
-    /// Closes all that is open, up to the root page, and gives its number.
+    /// Takes a value.
+    #[inline(always)]
+    pub(crate) fn take_value<S: Sink>(
+        &mut self,
+        setup: &PageSetup,
+        key: &'a [u8],
+        value: &'a [u8],
+        next: &mut u64,
+        sink: &mut S,
+    ) -> Result<(), BulkFault>
+        requires open { IsOpenBucket self.old }
+        requires key { length key.now ≤ 1073741824 }
+        requires value { length value.now < 2147483647 }
+        requires next { next.old ≤ setup.now.limit }
+        ensures pages { Puts S.taken S.failed sink.old sink.new (placed_bytes setup.now.page_size (rows_room_put setup.now.page_size (rows_of self.old next.old) key.now (16 + (length key.now + length value.now)))) result }
+        ensures rows { OnOk result (rows_of self.new next.new ≡ rows_taking setup.now.page_size (rows_of self.old next.old) (value_element key.now value.now) (16 + (length key.now + length value.now))) }
+        ensures open { OnOk result (IsOpenBucket self.new) }
+        ensures within { OnOk result (next.new ≤ setup.now.limit) }
+        ensures large { IfErr result (λ e. e ≡ fault.TooLarge → setup.now.limit < (rows_room setup.now.page_size (rows_of self.old next.old) key.now (16 + (length key.now + length value.now))).next) }
+    {
+        let size = 16 + (key.len() + value.len());
+        let stored = Stored::Value(value);
+        self.make_room(setup, key, size, next, sink)?;
+        self.push(Held { key, stored }, size)
+    }
+
+    /// Takes a bucket that is inline, with these entries.
+    pub(crate) fn take_inline<S: Sink>(
+        &mut self,
+        setup: &PageSetup,
+        pending: Pending<'a>,
+        entries: &[Leaf<'a>],
+        next: &mut u64,
+        sink: &mut S,
+    ) -> Result<(), BulkFault>
+        requires open { IsOpenBucket self.old }
+        requires key { length pending.key.now ≤ 1073741824 }
+        requires few { length entries.now < 65535 }
+        requires size { pending.size + 16 ≡ inline_size (map leaf_view entries.now) }
+        requires small { pending.size < 2147483632 }
+        requires next { next.old ≤ setup.now.limit }
+        ensures pages { Puts S.taken S.failed sink.old sink.new (placed_bytes setup.now.page_size (rows_room_put setup.now.page_size (rows_of self.old next.old) pending.entry.key.now (16 + (length pending.entry.key.now + (pending.entry.size + 16))))) result }
+        ensures rows { OnOk result (rows_of self.new next.new ≡ rows_taking setup.now.page_size (rows_of self.old next.old) (inline_element pending.entry.key.now pending.entry.sequence (map leaf_view entries.now)) (16 + (length pending.entry.key.now + (pending.entry.size + 16)))) }
+        ensures open { OnOk result (IsOpenBucket self.new) }
+        ensures within { OnOk result (next.new ≤ setup.now.limit) }
+        ensures large { IfErr result (λ e. e ≡ fault.TooLarge → setup.now.limit < (rows_room setup.now.page_size (rows_of self.old next.old) pending.entry.key.now (16 + (length pending.entry.key.now + (pending.entry.size + 16)))).next) }
+    {
+        let key = pending.key;
+        let size = pending.size + 16;
+        self.make_room(setup, key, 16 + (key.len() + size), next, sink)?;
+        self.push_inline(key, pending.sequence, entries, size)
+    }
+
+    /// Makes room for a bucket with a root page, and waits for it. The buckets around this one hold
+    /// `around` items.
+    pub(crate) fn enter<S: Sink>(
+        self,
+        setup: &PageSetup,
+        pending: Pending<'a>,
+        around: u64,
+        next: &mut u64,
+        sink: &mut S,
+    ) -> Result<Waiting<'a>, BulkFault>
+        requires open { IsOpenBucket self }
+        requires key { length pending.key.now ≤ 1073741824 }
+        requires next { next.old ≤ setup.now.limit }
+        ensures pages { Puts S.taken S.failed sink.old sink.new (placed_bytes setup.now.page_size (rows_room_put setup.now.page_size (rows_of self.entry next.old) pending.entry.key.now (32 + length pending.entry.key.now))) result }
+        ensures rows { IfOk result (λ waiting. rows_of waiting.bucket next.new ≡ rows_room setup.now.page_size (rows_of self.entry next.old) pending.entry.key.now (32 + length pending.entry.key.now)) }
+        ensures waits { IfOk result (λ waiting. IsWaiting setup.now.page_size waiting) }
+        ensures key { IfOk result (λ waiting. waiting.key.now ≡ pending.entry.key.now) }
+        ensures sequence { IfOk result (λ waiting. waiting.sequence ≡ pending.entry.sequence) }
+        ensures around { IfOk result (λ waiting. waiting.around ≡ around) }
+        ensures within { OnOk result (next.new ≤ setup.now.limit) }
+        ensures large { IfErr result (λ e. e ≡ fault.TooLarge → setup.now.limit < (rows_room setup.now.page_size (rows_of self.entry next.old) pending.entry.key.now (32 + length pending.entry.key.now)).next) }
+    {
+        let mut bucket = self;
+        let key = pending.key;
+        bucket.make_room(setup, key, 32 + key.len(), next, sink)?;
+        Ok(Waiting {
+            bucket,
+            key,
+            sequence: pending.sequence,
+            around,
+        })
+    }
+
+    /// Closes all runs, up to the root page, and returns the number of that page.
     pub(crate) fn end<S: Sink>(
         &mut self,
-        bounds: &Bounds,
+        setup: &PageSetup,
         next: &mut u64,
         sink: &mut S,
     ) -> Result<u64, BulkFault>
         requires open { IsOpenBucket self.old }
-        requires next { next.old ≤ bounds.now.limit }
-        ensures pages { Puts S.taken S.failed sink.old sink.new (placed_bytes bounds.now.page_size (rows_end_put bounds.now.page_size (rows_of self.old next.old))) result }
-        ensures short { OnErr result (AppendsProperBeginning (S.taken sink.old) (S.taken sink.new) (placed_bytes bounds.now.page_size (rows_end_put bounds.now.page_size (rows_of self.old next.old)))) }
-        ensures root { IfOk result (λ root. root ≡ rows_end bounds.now.page_size (rows_of self.old next.old)) }
-        ensures next { OnOk result (next.new ≡ bucket_end_next bounds.now.page_size (rows_of self.old next.old)) }
-        ensures within { OnOk result (next.new ≤ bounds.now.limit) }
-        ensures large { IfErr result (λ e. e ≡ fault.TooLarge → bounds.now.limit < bucket_end_next bounds.now.page_size (rows_of self.old next.old)) }
+        requires next { next.old ≤ setup.now.limit }
+        ensures pages { Puts S.taken S.failed sink.old sink.new (placed_bytes setup.now.page_size (rows_end_put setup.now.page_size (rows_of self.old next.old))) result }
+        ensures short { OnErr result (AppendsProperBeginning (S.taken sink.old) (S.taken sink.new) (placed_bytes setup.now.page_size (rows_end_put setup.now.page_size (rows_of self.old next.old)))) }
+        ensures root { IfOk result (λ root. root ≡ rows_end setup.now.page_size (rows_of self.old next.old)) }
+        ensures next { OnOk result (next.new ≡ bucket_end_next setup.now.page_size (rows_of self.old next.old)) }
+        ensures within { OnOk result (next.new ≤ setup.now.limit) }
+        ensures large { IfErr result (λ e. e ≡ fault.TooLarge → setup.now.limit < bucket_end_next setup.now.page_size (rows_of self.old next.old)) }
     {
-        match self.leaves.close(bounds, next, sink) {
+        match self.leaves.close(setup, next, sink) {
             Err(fault) => Err(fault),
-            Ok(closed) => close_all(bounds, closed, &mut self.uppers, next, sink),
+            Ok(closed) => close_all(setup, closed, &mut self.uppers, next, sink),
         }
     }
 
-    /// How many items stand in its runs; 2^64 - 1 where there are more.
+    /// How many items its runs hold. Saturates at 2^64 - 1.
     pub(crate) fn held(&self) -> u64
         ensures { result ≡ min (items_in self.now) 18446744073709551615 }
     {

@@ -1,46 +1,35 @@
-//! The pass over what a file holds. It goes along a walk, and puts the pages of the copy as soon as
-//! they are known.
-ghost use Rattle.std.specs.Prelude.{[], ◌≡◌, ◌+◌, ◌/◌, ◌<◌, ◌≤◌, ◌∷◌, ◌++◌, ℕ, Some, None, IfErr, IfOk, List, OnErr, OnOk, length, map};
+//! The pass over everything that a file holds. It follows a walk, and writes each page of the copy
+//! as soon as the page is known.
+ghost use Rattle.std.specs.Prelude.{[], ◌≡◌, ◌+◌, ◌/◌, ◌<◌, ◌≤◌, ◌∷◌, Some, None, IfErr, List, OnOk, length, map};
 
-use crate::bounds::{Bounds, MAX_ITEMS};
 use crate::fault::BulkFault;
 use crate::limits::{BucketLimits, Limits};
 use crate::open_bucket::OpenBucket;
-use crate::steps::{Waiting, enter, leave, take_inline, take_value};
+use crate::page_setup::{MAX_ITEMS, PageSetup};
+use crate::pending::Pending;
 use crate::told::Told;
+use crate::waiting::Waiting;
 use bolt_format::{Leaf, Sink};
 use bolt_tree::Item;
-use std::alloc::Global;
 use std::mem;
 
-/// A bucket that has only values so far, which take at most a quarter of a page. Whether it is
-/// inline is known at its end, or when it has more.
-#[derive(Clone, Copy)]
-pub(crate) struct Pending<'a> {
-    pub key: &'a [u8],
-    pub sequence: u64,
-    /// The size of the leaf page over its entries so far.
-    pub size: usize,
-}
-
-/// What a pass comes to.
+/// What a pass returns.
 #[derive(Drop)]
 pub(crate) struct Ended {
     /// The page number of the root page.
     pub root: u64,
-    /// The number behind the last page.
+    /// The number after the last page.
     pub high_water: u64,
-    /// The greatest number of items that stood in open runs at one time.
+    /// The greatest number of items that the open runs held at one time.
     pub held: u64,
     /// The limits of the rows of all buckets, if they were asked for.
     pub told: Limits,
 }
 
-/// What is open in a pass.
+/// The state of a pass.
 #[derive(Drop)]
 pub(crate) struct Pass<'a> {
-    pub alloc: Global,
-    pub bounds: Bounds,
+    pub setup: PageSetup,
     pub limits: &'a Limits,
     /// The buckets around the one that is open, the innermost last.
     pub waiting: Vec<Waiting<'a>>,
@@ -50,13 +39,14 @@ pub(crate) struct Pass<'a> {
     pub entries: Vec<Leaf<'a>>,
     /// The number of the next page.
     pub next: u64,
-    /// How many buckets were opened, the root bucket first; 2^64 - 1 if there were more.
+    /// How many buckets were opened, the root bucket included. Saturates at 2^64 - 1.
     pub opened: u64,
-    /// How many items stand in open runs of the buckets that wait; 2^64 - 1 if there are more.
+    /// How many items the open runs of the waiting buckets hold. Saturates at 2^64 - 1.
     pub around: u64,
-    /// The most items that stood in open runs at one time so far; 2^64 - 1 if there were more.
+    /// The greatest number of items that all open runs held at one time so far.
+    /// Saturates at 2^64 - 1.
     pub most: u64,
-    /// The limits that a pass over the plain layout tells.
+    /// The limits that a pass over the plain layout notes.
     pub told: Told,
 }
 
@@ -71,17 +61,17 @@ impl<'a> Pass<'a> {
     ghost use Rattle.bolt_tree.specs.Paths.{path_of};
     ghost use Rattle.bolt_tree.specs.ShownEntries.{item_view};
 
-    /// A pass before the first page. If it tells limits, these are of the rows of the balanced
-    /// layout.
-    pub(crate) fn new(alloc: Global, bounds: Bounds, limits: &'a Limits, tells: bool) -> Pass<'a>
-        requires { 3 ≤ bounds.limit }
-        ensures bounds { result.bounds ≡ bounds }
+    /// A pass before the first page. If `tells` is set, it notes the limits of the balanced
+    /// layout's rows.
+    pub(crate) fn new(setup: PageSetup, limits: &'a Limits, tells: bool) -> Pass<'a>
+        requires { 3 ≤ setup.limit }
+        ensures setup { result.setup ≡ setup }
         ensures ready { IsReady result }
-        ensures at { (wanted : Wanted) → wanted.tells ≡ tells → FitLimits wanted.which wanted.tree bounds.page_size (limits_with limits.now) → HasLeft wanted result (listing_of wanted.tree) [] }
+        ensures at { (wanted : Wanted) → wanted.tells ≡ tells → FitLimits wanted.which wanted.tree setup.page_size (limits_with limits.now) → HasLeft wanted result (listing_of wanted.tree) [] }
     {
+        let alloc = setup.alloc;
         Pass {
-            alloc,
-            bounds,
+            setup,
             limits,
             waiting: Vec::new(alloc),
             bucket: OpenBucket::new(
@@ -101,7 +91,7 @@ impl<'a> Pass<'a> {
         }
     }
 
-    /// How many buckets stand around the next entry.
+    /// How many buckets are around the next entry.
     fn depth(&self) -> usize
         ensures { result ≡ depth_of self.now }
     {
@@ -121,17 +111,17 @@ impl<'a> Pass<'a> {
         requires ready { IsReady self.old }
         requires key { length key.now ≤ 1073741824 }
         requires value { length value.now < 2147483647 }
-        ensures bounds { OnOk result (self.new.bounds ≡ self.old.bounds) }
+        ensures setup { OnOk result (self.new.setup ≡ self.old.setup) }
         ensures ready { OnOk result (IsReady self.new) }
         ensures depth { OnOk result (depth_of self.new ≡ depth_of self.old) }
         ensures steps { (wanted : Wanted) (after : Tree) (levels : List Level) (put : List Placed) → IsAt wanted self.old levels (with_value key.now value.now after) put
-            → Steps wanted S.taken S.failed sink.old sink.new self.old.bounds put (IsAt wanted self.new levels after) result }
+            → Steps wanted S.taken S.failed sink.old sink.new self.old.setup put (IsAt wanted self.new levels after) result }
     {
         let Some(pending) = self.pending else {
             return self.put_value(key, value, sink);
         };
         let size = pending.size + (16 + (key.len() + value.len()));
-        if size <= self.bounds.page_size / 4 && self.entries.len() < MAX_ITEMS {
+        if size <= self.setup.page_size / 4 && self.entries.len() < MAX_ITEMS {
             return self.keep_value(pending, key, value, size);
         }
         match self.open_pending(pending, sink) {
@@ -140,7 +130,7 @@ impl<'a> Pass<'a> {
         }
     }
 
-    /// Takes a value of the bucket that may be inline, which has room for it.
+    /// Takes a value of the pending bucket, which may still be inline with it.
     fn keep_value(
         &mut self,
         pending: Pending<'a>,
@@ -152,9 +142,9 @@ impl<'a> Pass<'a> {
         requires pending { self.old.pending ≡ Some pending }
         requires key { length key.now ≤ 1073741824 }
         requires size { size ≡ pending.size + (16 + (length key.now + length value.now)) }
-        requires small { size ≤ self.old.bounds.page_size / 4 }
+        requires small { size ≤ self.old.setup.page_size / 4 }
         requires few { length self.old.entries.items < 65534 }
-        ensures bounds { OnOk result (self.new.bounds ≡ self.old.bounds) }
+        ensures setup { OnOk result (self.new.setup ≡ self.old.setup) }
         ensures ready { OnOk result (IsReady self.new) }
         ensures depth { OnOk result (depth_of self.new ≡ depth_of self.old) }
         ensures at { (wanted : Wanted) (after : Tree) (levels : List Level) (put : List Placed) → IsAt wanted self.old levels (with_value key.now value.now after) put
@@ -185,21 +175,15 @@ impl<'a> Pass<'a> {
         requires pending { self.old.pending ≡ None }
         requires key { length key.now ≤ 1073741824 }
         requires value { length value.now < 2147483647 }
-        ensures bounds { OnOk result (self.new.bounds ≡ self.old.bounds) }
+        ensures setup { OnOk result (self.new.setup ≡ self.old.setup) }
         ensures ready { OnOk result (IsReady self.new) }
         ensures depth { OnOk result (depth_of self.new ≡ depth_of self.old) }
         ensures steps { (wanted : Wanted) (after : Tree) (levels : List Level) (put : List Placed) → IsAt wanted self.old levels (with_value key.now value.now after) put
-            → Steps wanted S.taken S.failed sink.old sink.new self.old.bounds put (IsAt wanted self.new levels after) result }
+            → Steps wanted S.taken S.failed sink.old sink.new self.old.setup put (IsAt wanted self.new levels after) result }
     {
-        let taken = take_value(
-            self.alloc,
-            &self.bounds,
-            &mut self.bucket,
-            key,
-            value,
-            &mut self.next,
-            sink,
-        );
+        let taken = self
+            .bucket
+            .take_value(&self.setup, key, value, &mut self.next, sink);
         if let Err(fault) = taken {
             return Err(fault);
         }
@@ -207,7 +191,7 @@ impl<'a> Pass<'a> {
         Ok(())
     }
 
-    /// Enters a bucket of the innermost one.
+    /// Enters a bucket within the innermost one.
     fn take_bucket<S: Sink>(
         &mut self,
         key: &'a [u8],
@@ -216,11 +200,11 @@ impl<'a> Pass<'a> {
     ) -> Result<(), BulkFault>
         requires ready { IsReady self.old }
         requires key { length key.now ≤ 1073741824 }
-        ensures bounds { OnOk result (self.new.bounds ≡ self.old.bounds) }
+        ensures setup { OnOk result (self.new.setup ≡ self.old.setup) }
         ensures ready { OnOk result (IsReady self.new) }
         ensures depth { OnOk result (depth_of self.new ≡ depth_of self.old + 1) }
         ensures steps { (wanted : Wanted) (inside after : Tree) (levels : List Level) (put : List Placed) → IsAt wanted self.old levels (with_bucket key.now sequence inside after) put
-            → Steps wanted S.taken S.failed sink.old sink.new self.old.bounds put (IsAt wanted self.new (record { key = key.now; after = after } ∷ levels) inside) result }
+            → Steps wanted S.taken S.failed sink.old sink.new self.old.setup put (IsAt wanted self.new (record { key = key.now; after = after } ∷ levels) inside) result }
     {
         let Some(pending) = self.pending else {
             self.begin(key, sequence);
@@ -235,12 +219,12 @@ impl<'a> Pass<'a> {
         }
     }
 
-    /// Begins a bucket of the open one, which may be inline.
+    /// Begins a bucket within the open one. It may be inline.
     fn begin(&mut self, key: &'a [u8], sequence: u64)
         requires ready { IsReady self.old }
         requires pending { self.old.pending ≡ None }
         requires key { length key.now ≤ 1073741824 }
-        ensures bounds { self.new.bounds ≡ self.old.bounds }
+        ensures setup { self.new.setup ≡ self.old.setup }
         ensures ready { IsReady self.new }
         ensures depth { depth_of self.new ≡ depth_of self.old + 1 }
         ensures at { (wanted : Wanted) (inside after : Tree) (levels : List Level) (put : List Placed) → IsAt wanted self.old levels (with_bucket key.now sequence inside after) put
@@ -253,25 +237,25 @@ impl<'a> Pass<'a> {
         });
     }
 
-    /// Opens the bucket that turns out to have a root page, with its entries so far. The one around
-    /// it waits.
+    /// Opens the pending bucket with its entries so far, as it turns out to have a root page. The
+    /// bucket around it waits.
     fn open_pending<S: Sink>(&mut self, pending: Pending<'a>, sink: &mut S) -> Result<(), BulkFault>
         requires ready { IsReady self.old }
         requires pending { self.old.pending ≡ Some pending }
-        ensures bounds { OnOk result (self.new.bounds ≡ self.old.bounds) }
+        ensures setup { OnOk result (self.new.setup ≡ self.old.setup) }
         ensures ready { OnOk result (IsReady self.new) }
         ensures depth { OnOk result (depth_of self.new ≡ depth_of self.old) }
         ensures pending { OnOk result (self.new.pending ≡ None) }
         ensures steps { (wanted : Wanted) (left : Tree) (levels : List Level) (put : List Placed) → IsAt wanted self.old levels left put
-            → HasRoot wanted.which self.old.bounds.page_size (onto (map leaf_view self.old.entries.items) left)
-            → Steps wanted S.taken S.failed sink.old sink.new self.old.bounds put (IsAt wanted self.new levels left) result }
+            → HasRoot wanted.which self.old.setup.page_size (onto (map leaf_view self.old.entries.items) left)
+            → Steps wanted S.taken S.failed sink.old sink.new self.old.setup put (IsAt wanted self.new levels left) result }
     {
         let limits = BucketLimits {
             all: self.limits,
             bucket: self.opened,
         };
         let inner = OpenBucket::of_values(
-            self.alloc,
+            self.setup.alloc,
             self.entries.as_slice(),
             pending.size,
             limits,
@@ -281,17 +265,7 @@ impl<'a> Pass<'a> {
             Ok(inner) => inner,
         };
         let outer = mem::replace(&mut self.bucket, inner);
-        let waiting = enter(
-            self.alloc,
-            &self.bounds,
-            outer,
-            pending.key,
-            pending.sequence,
-            self.around,
-            &mut self.next,
-            sink,
-        );
-        let waiting = match waiting {
+        let waiting = match outer.enter(&self.setup, pending, self.around, &mut self.next, sink) {
             Err(fault) => return Err(fault),
             Ok(waiting) => waiting,
         };
@@ -312,11 +286,11 @@ impl<'a> Pass<'a> {
     fn leave<S: Sink>(&mut self, sink: &mut S) -> Result<(), BulkFault>
         requires ready { IsReady self.old }
         requires within { 1 < depth_of self.old }
-        ensures bounds { OnOk result (self.new.bounds ≡ self.old.bounds) }
+        ensures setup { OnOk result (self.new.setup ≡ self.old.setup) }
         ensures ready { OnOk result (IsReady self.new) }
         ensures depth { OnOk result (depth_of self.new + 1 ≡ depth_of self.old) }
         ensures steps { (wanted : Wanted) (level : Level) (levels : List Level) (put : List Placed) → IsAt wanted self.old (level ∷ levels) end put
-            → Steps wanted S.taken S.failed sink.old sink.new self.old.bounds put (IsAt wanted self.new levels level.after) result }
+            → Steps wanted S.taken S.failed sink.old sink.new self.old.setup put (IsAt wanted self.new levels level.after) result }
     {
         match self.pending {
             Some(pending) => self.end_inline(pending, sink),
@@ -324,24 +298,20 @@ impl<'a> Pass<'a> {
         }
     }
 
-    /// Ends the bucket that may be inline, which is so.
+    /// Ends the pending bucket, which is inline.
     fn end_inline<S: Sink>(&mut self, pending: Pending<'a>, sink: &mut S) -> Result<(), BulkFault>
         requires ready { IsReady self.old }
         requires pending { self.old.pending ≡ Some pending }
-        ensures bounds { OnOk result (self.new.bounds ≡ self.old.bounds) }
+        ensures setup { OnOk result (self.new.setup ≡ self.old.setup) }
         ensures ready { OnOk result (IsReady self.new) }
         ensures depth { OnOk result (depth_of self.new + 1 ≡ depth_of self.old) }
         ensures steps { (wanted : Wanted) (level : Level) (levels : List Level) (put : List Placed) → IsAt wanted self.old (level ∷ levels) end put
-            → Steps wanted S.taken S.failed sink.old sink.new self.old.bounds put (IsAt wanted self.new levels level.after) result }
+            → Steps wanted S.taken S.failed sink.old sink.new self.old.setup put (IsAt wanted self.new levels level.after) result }
     {
-        let taken = take_inline(
-            self.alloc,
-            &self.bounds,
-            &mut self.bucket,
-            pending.key,
-            pending.sequence,
+        let taken = self.bucket.take_inline(
+            &self.setup,
+            pending,
             self.entries.as_slice(),
-            pending.size + 16,
             &mut self.next,
             sink,
         );
@@ -359,11 +329,11 @@ impl<'a> Pass<'a> {
         requires ready { IsReady self.old }
         requires pending { self.old.pending ≡ None }
         requires waiting { 0 < length self.old.waiting.items }
-        ensures bounds { OnOk result (self.new.bounds ≡ self.old.bounds) }
+        ensures setup { OnOk result (self.new.setup ≡ self.old.setup) }
         ensures ready { OnOk result (IsReady self.new) }
         ensures depth { OnOk result (depth_of self.new + 1 ≡ depth_of self.old) }
         ensures steps { (wanted : Wanted) (level : Level) (levels : List Level) (put : List Placed) → IsAt wanted self.old (level ∷ levels) end put
-            → Steps wanted S.taken S.failed sink.old sink.new self.old.bounds put (IsAt wanted self.new levels level.after) result }
+            → Steps wanted S.taken S.failed sink.old sink.new self.old.setup put (IsAt wanted self.new levels level.after) result }
     {
         let ended = self
             .told
@@ -377,9 +347,9 @@ impl<'a> Pass<'a> {
         let around = waiting.around;
         let inner = mem::replace(
             &mut self.bucket,
-            OpenBucket::new(self.alloc, waiting.bucket.limits),
+            OpenBucket::new(self.setup.alloc, waiting.bucket.limits),
         );
-        match leave(&self.bounds, inner, waiting, &mut self.next, sink) {
+        match waiting.leave(&self.setup, inner, &mut self.next, sink) {
             Err(fault) => Err(fault),
             Ok(outer) => {
                 self.bucket = outer;
@@ -390,15 +360,15 @@ impl<'a> Pass<'a> {
         }
     }
 
-    /// Ends buckets until so many are open.
+    /// Ends buckets until at most `depth` are left.
     fn leave_to<S: Sink>(&mut self, depth: usize, sink: &mut S) -> Result<(), BulkFault>
         requires ready { IsReady self.old }
         requires some { 1 ≤ depth }
-        ensures bounds { OnOk result (self.new.bounds ≡ self.old.bounds) }
+        ensures setup { OnOk result (self.new.setup ≡ self.old.setup) }
         ensures ready { OnOk result (IsReady self.new) }
         ensures depth { OnOk result (depth_of self.new ≤ depth) }
         ensures steps { (wanted : Wanted) (members : List Member) (put : List Placed) → HasLeft wanted self.old members put → IsNoDeeper depth members
-            → Steps wanted S.taken S.failed sink.old sink.new self.old.bounds put (HasLeft wanted self.new members) result }
+            → Steps wanted S.taken S.failed sink.old sink.new self.old.setup put (HasLeft wanted self.new members) result }
     {
         'levels: while self.depth() > depth {
             if let Err(fault) = self.leave(sink) {
@@ -417,11 +387,11 @@ impl<'a> Pass<'a> {
     ) -> Result<(), BulkFault>
         requires ready { IsReady self.old }
         requires fit { IsFitMember (path_of path.now, item_view item) }
-        ensures bounds { OnOk result (self.new.bounds ≡ self.old.bounds) }
+        ensures setup { OnOk result (self.new.setup ≡ self.old.setup) }
         ensures ready { OnOk result (IsReady self.new) }
         ensures depth { OnOk result (depth_of self.new ≤ 1 + length path.now) }
         ensures steps { (wanted : Wanted) (members : List Member) (put : List Placed) → HasLeft wanted self.old ((path_of path.now, item_view item.entry) ∷ members) put
-            → Steps wanted S.taken S.failed sink.old sink.new self.old.bounds put (HasLeft wanted self.new members) result }
+            → Steps wanted S.taken S.failed sink.old sink.new self.old.setup put (HasLeft wanted self.new members) result }
     {
         let Some((key, _)) = path.split_last() else {
             unreachable!()
@@ -435,10 +405,10 @@ impl<'a> Pass<'a> {
         }
     }
 
-    /// Ends all that is open, up to the root page of the root bucket.
+    /// Ends all buckets, up to the root page of the root bucket.
     pub(crate) fn end<S: Sink>(&mut self, sink: &mut S) -> Result<Ended, BulkFault>
         requires { IsReady self.old }
-        ensures { (wanted : Wanted) (put : List Placed) → HasLeft wanted self.old [] put → Ends wanted S.taken S.failed sink.old sink.new self.old.bounds put result }
+        ensures { (wanted : Wanted) (put : List Placed) → HasLeft wanted self.old [] put → Ends wanted S.taken S.failed sink.old sink.new self.old.setup put result }
     {
         if let Err(fault) = self.leave_to(1, sink) {
             return Err(fault);
@@ -449,13 +419,13 @@ impl<'a> Pass<'a> {
         if let Err(fault) = ended {
             return Err(fault);
         }
-        match self.bucket.end(&self.bounds, &mut self.next, sink) {
+        match self.bucket.end(&self.setup, &mut self.next, sink) {
             Err(fault) => Err(fault),
             Ok(root) => Ok(Ended {
                 root,
                 high_water: self.next,
                 held: self.most,
-                told: self.told.take(self.alloc),
+                told: self.told.take(self.setup.alloc),
             }),
         }
     }

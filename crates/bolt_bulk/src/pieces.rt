@@ -1,4 +1,4 @@
-//! A text put whole, piece by piece.
+//! Bytes that are written piece by piece.
 ghost use Rattle.std.specs.Prelude.{◌+◌, ◌≤◌, length, replicate};
 ghost use Rattle.bolt_bulk.specs.Private.Gathering.{Gathers};
 ghost use Rattle.bolt_bulk.specs.Puts.{PutsWhole};
@@ -9,7 +9,7 @@ use bolt_format::{Sink, SinkFault};
 /// A block of zeros.
 static ZEROS: [u8; 4096] = [0; 4096];
 
-/// Puts bytes in one piece. Where there are none nothing is put, so a put that fails leaves
+/// Writes bytes in one piece. If there are none, the sink isn't called, so a call that fails leaves
 /// something out.
 pub(crate) fn put<S: Sink>(bytes: &[u8], sink: &mut S) -> Result<(), SinkFault>
     ensures { PutsWhole S.taken S.failed sink.old sink.new bytes.now result }
@@ -20,8 +20,8 @@ pub(crate) fn put<S: Sink>(bytes: &[u8], sink: &mut S) -> Result<(), SinkFault>
     sink.put(bytes)
 }
 
-/// Makes room in a row for the header of one more element: puts a row that has none, and empties
-/// it.
+/// Makes room in a buffer row for the header of one more element. If it has none, it is written and
+/// emptied.
 pub(crate) fn put_full<S: Sink>(row: &mut Row, sink: &mut S) -> Result<(), SinkFault>
     ensures gathers { Gathers S.taken S.failed sink.old sink.new row.old.items row.new.items result }
     ensures room { length row.new.items + ELEMENT_LEN ≤ ROW_LEN }
@@ -34,7 +34,7 @@ pub(crate) fn put_full<S: Sink>(row: &mut Row, sink: &mut S) -> Result<(), SinkF
     done
 }
 
-/// Puts so many zeros.
+/// Writes `count` zeros.
 pub(crate) fn put_zeros<S: Sink>(count: usize, sink: &mut S) -> Result<(), SinkFault>
     ensures { PutsWhole S.taken S.failed sink.old sink.new (replicate count 0) result }
 {

@@ -1,14 +1,14 @@
-//! Short rows of bytes, gathered before they are put in one piece.
+//! Buffer rows: short rows of bytes, which are gathered and then written in one piece.
 ghost use Rattle.std.specs.Prelude.{◌≡◌, ◌+◌, ◌≤◌, ◌++◌, length};
 ghost use Rattle.bolt_format.specs.Elements.{LeafElement};
 ghost use Rattle.bolt_layout.specs.PageBytes.{header_bytes, leaf_header, number_bytes};
 
 use arrayvec::ArrayVec;
 
-/// How many bytes a row may have: those of a meta, or of the headers of five elements.
+/// How many bytes a buffer row may have: those of a meta, or of the headers of five elements.
 pub(crate) const ROW_LEN: usize = 80;
 
-/// The bytes of an element's header.
+/// How many bytes the header of an element has.
 pub(crate) const ELEMENT_LEN: usize = 16;
 
 /// The flags of a branch page.
@@ -20,7 +20,7 @@ pub(crate) const LEAF_FLAGS: u16 = 2;
 /// The flags of a leaf's element that is a bucket.
 const BUCKET_FLAGS: u32 = 1;
 
-/// A short row of bytes.
+/// A buffer row.
 pub(crate) type Row = ArrayVec<u8, ROW_LEN>;
 
 /// Adds bytes at the end.

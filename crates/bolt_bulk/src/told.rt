@@ -1,4 +1,4 @@
-//! The limits of rows that a pass over the plain layout tells.
+//! The limits of rows that a pass over the plain layout notes.
 ghost use Rattle.std.specs.Prelude.{◌≡◌, ℕ, true, false, map, IfErr, None, OnOk};
 ghost use Rattle.bolt_layout.specs.Limits.{limit_at, limits_told};
 ghost use Rattle.bolt_bulk.specs.Private.RowLimits.{limit_in, run_told};
@@ -18,7 +18,7 @@ pub(crate) struct Told {
 }
 
 impl Told {
-    /// Nothing is told yet.
+    /// No limit is noted yet.
     pub(crate) fn new(alloc: Global, tells: bool) -> Told
         ensures tells { result.tells ≡ tells }
         ensures none { (bucket level : ℕ) → limit_in result.limits bucket level ≡ None }
@@ -29,7 +29,7 @@ impl Told {
         }
     }
 
-    /// A bucket ends, with these open runs: if limits are asked for, it tells those of its rows.
+    /// A bucket ends with these open runs. If limits are asked for, those of its rows are noted.
     pub(crate) fn bucket_ends(
         &mut self,
         bucket: u64,
@@ -47,7 +47,7 @@ impl Told {
         self.limits.tell(bucket, runs)
     }
 
-    /// Takes the limits out.
+    /// Returns the limits, and leaves none.
     pub(crate) fn take(&mut self, alloc: Global) -> Limits
         ensures { result ≡ self.old.limits }
     {

@@ -1,4 +1,4 @@
--- The first loss is the first finding: all ways before it are kept, so the tests there look at all ways before.
+-- The first loss is the first finding: all preceding ways are kept, so the tests there look at all preceding ways.
 use Rattle.std.proofs.Common.{◌≡◌, ◌∙◌, ℕ, inl, inr, List, [], ◌∷◌, ◌++◌, Option, Some, None, refl, sym, subst, append_assoc}
 use Rattle.std.proofs.lemmas.List.{append-nil}
 use Rattle.bolt_check.specs.Findings.{IsClaimedBefore, IsFirst, IsMetaPage, Tests}

@@ -1,4 +1,4 @@
--- What a path holds, and what stands at ways: each element at a way is held under its path, and where all ways are kept, nothing else is held.
+-- What a path holds, and what is at ways: each element at a way is held under its path and, if all ways are kept, nothing else is held.
 use Rattle.std.proofs.Common.{◌≡◌, ◌∙◌, inl, inr, ℕ, suc, Bool, true, false, eqb, List, [], ◌∷◌, ◌++◌, Option, Some, None, Result, Ok, Err, slice_get, refl, sym, ap, subst}
 use Rattle.std.specs.List.{Contains}
 use Rattle.std.specs.Option.{option_map}

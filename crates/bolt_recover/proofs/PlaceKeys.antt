@@ -29,7 +29,7 @@ IsTidyAt file meta elements (At_inline host keys) = keys ≡ keys_in elements
 abbrev pub IsTidy : List ℕ → Meta → Place → Type 0
 IsTidy file meta p = IsTidyAt file meta p.elements p.spot
 
--- an inline bucket stands in an element of a leaf
+-- an inline bucket is in an element of a leaf
 abbrev HoldsKeys : Option LeafElement → List Key → Type 0
 HoldsKeys o keys = (e : LeafElement) × (o ≡ Some e) × (keys ≡ keys_in (inline_elements e.value))
 

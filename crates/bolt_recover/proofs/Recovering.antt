@@ -1,4 +1,4 @@
--- A recovery between its calls: what of the recovered listing is left, and what is still to be told of the losses.
+-- A recovery between its calls: what of the recovered listing is left, and which losses are still to be reported.
 use Rattle.std.proofs.Common.{◌≡◌, ◌∙◌, ◌≤◌, inl, inr, ℕ, Bool, true, false, List, [], ◌∷◌, ◌++◌, length, map, take, Option, Some, None, Result, Ok, Err, IfErr, IfOk, OnErr, cond, filter, if◌then◌else◌, refl, sym, ap, subst, subst₂, arith}
 use Rattle.std.proofs.Props.{props}
 use Rattle.std.specs.Cmp.{IsTotalOrder}
@@ -95,7 +95,7 @@ all_from file meta listing losses recovered told =
     let (members, views, all) = all_of file meta in
     subst₂ (IsAll file meta) (one_recovered file meta members listing all.recovered recovered) (one_losses file meta views losses all.told told) all
 
--- all members stand behind the empty path
+-- all members come after the empty path
 behind_nothing : (path rest : Path) (key : Key) → is_lt (path_cmp [] (path ++ key ∷ rest)) ≡ true
 behind_nothing [] rest key = refl
 behind_nothing (x ∷ path) rest key = refl
@@ -138,7 +138,7 @@ filter_has : {A : Type 0} (f : A → Bool) (xs : List A) (m : A) (rest : List A)
 filter_has f [] m rest e = absurd (cc)
 filter_has f (y ∷ ys) m rest e = kept_first f y ys m rest (f y) refl e (λ later. filter_has f ys m rest later)
 
--- Of a rising list, what stands behind the first that a filter keeps is the rest that it keeps.
+-- In a rising list, what comes after the first member that a filter keeps is the rest that it keeps.
 module _ {A : Type 0} {cmp : A → A → Ordering} (o : IsTotalOrder cmp) (f : A → Bool) (m : A) (rest : List A) (up : (x : A) → cmp m x ≡ Less → f x ≡ true) where
   behind_first : (y : A) (ys : List A) (b : Bool) → f y ≡ b → Rises cmp (y ∷ ys) → cond b (y ∷ filter f ys) (filter f ys) ≡ m ∷ rest
       → (filter f ys ≡ m ∷ rest → filter (λ x. is_lt (cmp m x)) ys ≡ rest) → filter (λ x. is_lt (cmp m x)) (y ∷ ys) ≡ rest
@@ -159,7 +159,7 @@ module _ {A : Type 0} {cmp : A → A → Ordering} (o : IsTotalOrder cmp) (f : A
   filter_behind [] rises e = absurd (cc)
   filter_behind (y ∷ ys) rises e = behind_first y ys (f y) refl rises e (λ later. filter_behind ys rises.1 later)
 
--- the rest of what was left stands behind what was given
+-- the rest of what was left comes after what was returned
 given_left : (path : Path) (listing : List Member) (m : Member) (rest : List Member) → Rises member_cmp listing → behind path listing ≡ m ∷ rest → behind m.0 listing ≡ rest
 given_left path listing m rest rises e =
     let kept = (filter_has (λ (x : Member). is_lt (path_cmp path x.0)) listing m rest e).1 in
@@ -174,7 +174,7 @@ left_given s listing m rest rises e =
     ]
 
 module _ (old new : State) (meta : Meta) (on : IsOn old meta) where
-  -- after an element was given
+  -- after an element was returned
   given_next : (e : LeafElement) → GivesHead old new e → (listing : List Member) (losses : List LossView) → IsRecovered old.file meta listing → AreLosses old.file meta losses
       → (left_by old listing ≡ (new.path, item_of e) ∷ left_by new listing) × ComesTo new (left_by new listing) losses
   given_next e gives listing losses recovered told =
@@ -217,7 +217,7 @@ module _ (old new : State) (meta : Meta) (on : IsOn old meta) where
       let (members, losses, all) = all_of old.file meta in
       ((h.none (left_by old listing) losses (on.comes listing losses recovered all.told)).0, left_over new listing (over_new h), h.ended.path)
 
-  -- where nothing is left to be done, all is told
+  -- if nothing is left to be done, everything is reported
   told_all : (s : State) (members : List Member) (losses : List LossView) → s.ahead ≡ None → s.pages ≡ [] → ComesTo s members losses → (members ≡ []) × (s.losses ≡ losses)
   told_all s members losses ahead pages comes =
       let run = subst (λ (ts : List (Task NoWay)). Runs s.file s.meta stay s.claimed ts comes.visits members)
@@ -230,7 +230,7 @@ module _ (old new : State) (meta : Meta) (on : IsOn old meta) where
       let (members, views, all) = all_of old.file meta in
       (told_all new [] losses h.ended.ahead h.ended.pages (h.none (left_by old members) losses (on.comes members losses all.recovered told)).1).1
 
-  -- after want of memory
+  -- after memory ran out
   over_parts : (o : Option Ahead) (pages : List OpenPage) → over_by o pages ≡ true → (o ≡ None) × (pages ≡ [])
   over_parts None [] e = (refl, refl)
   over_parts None (page ∷ pages) e = absurd (cc)
@@ -271,7 +271,7 @@ file_advanced old new (Ok (Some leaf)) given same = given.on.file
 file_advanced old new (Ok None) given same = given.on.file
 file_advanced old new (Err e) given same = same.on.file
 
--- what was told so far are the first of all losses
+-- the losses reported so far are the first of all losses
 pub told_first : (s : State) (meta : Meta) → IsOn s meta → (losses : List LossView) → AreLosses s.file meta losses → AreFirst s.losses losses
 told_first s meta on losses told =
     let (members, views, all) = all_of s.file meta in

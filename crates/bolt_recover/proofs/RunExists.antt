@@ -93,7 +93,7 @@ module _ (file : List ℕ) (meta : Meta) {W : Type 0} (further : W → ℕ → W
   abbrev HasRun : (ℕ → Bool) → List (Task W) → Type 0
   HasRun claimed tasks = (visits : List (Visited W)) × (members : List Member) × Runs file meta further claimed tasks visits members
 
-  -- tasks that only give
+  -- tasks that only return elements
   abbrev OnlyGive : List (Task W) → Type 0
   OnlyGive [] = Unit {0}
   OnlyGive (To_give path e ∷ tasks) = OnlyGive tasks

@@ -1,4 +1,4 @@
--- A run gives its members in the order of their paths: what is still to be done lies apart, each part before the next.
+-- A run returns its members in the order of their paths: the tasks lead to separate sets of paths, each before the next.
 use Rattle.std.proofs.Common.{◌≡◌, ◌∙◌, ◌⊎◌, ◌≤◌, ◌<◌, inl, inr, ℕ, zero, suc, Bool, true, false, List, [], ◌∷◌, ◌++◌, length, Option, Some, None, slice_get, refl, sym, ap, subst, arith, append_assoc}
 use Rattle.std.specs.List.{Contains}
 use Rattle.std.specs.Ordering.{is_lt}

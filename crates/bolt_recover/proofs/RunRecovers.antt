@@ -1,4 +1,4 @@
--- A run from the root page gives the recovered listing.
+-- A run from the root page returns the recovered listing.
 use Rattle.std.proofs.Common.{ℕ, List, []}
 use Rattle.bolt_format.specs.declared.meta.Meta.{Meta}
 use Rattle.bolt_tree.specs.Listing.{Member}

@@ -1,4 +1,4 @@
--- What a run visits is a survey, and what it gives are the elements at the kept ways.
+-- What a run visits is a survey, and what it returns are the elements at the kept ways.
 use Rattle.std.proofs.Common.{◌≡◌, ◌∙◌, ◌⊎◌, ◌↔◌, ◌≤◌, ◌<◌, inl, inr, ℕ, zero, suc, ◌+◌, Bool, true, false, ◌||◌, ◌&&◌, List, [], ◌∷◌, ◌++◌, length, nat_le, Option, Some, None, Result, Ok, Err, slice_get, refl, sym, ap, subst, arith, append_assoc}
 use Rattle.std.specs.List.{Contains}
 use Rattle.std.proofs.lemmas.Bool.Decides.{nat_tests}
@@ -25,7 +25,7 @@ use Rattle.bolt_recover.proofs.PlaceFacts.{elements_is, leads_within, place_furt
 use Rattle.bolt_recover.proofs.RunOrder.{InTasks, Way, further, in_back, in_front, rises_run, visits_of}
 use Rattle.bolt_recover.proofs.SurveyIsOne.{Suffix, earlier, next_suffix, ways}
 
--- this element is to be given under this path
+-- this element is to be returned under this path
 abbrev pub InGives : Path → LeafElement → List (Task Way) → Type 0
 InGives path e [] = ⊥
 InGives path e (To_give q x ∷ tasks) = ((path ≡ q) × (e ≡ x)) ⊎ InGives path e tasks
@@ -116,7 +116,7 @@ module _ (file : List ℕ) (meta : Meta) (survey : List Visit) where
       subst AreTasks (sym (append_assoc (entry_tasks file meta further w p i) later rest))
       (entry_tasks_are w p i (slice_get p.elements i) (step_place file meta p i) (later ++ rest) has at refl (place_further file meta w i p at) (tasks_are w p (suc i) k rest has at are))
 
-  -- where a place leads is to be visited, and its elements are to be given
+  -- where a place leads is to be visited, and its elements are to be returned
   entry_leads : (w : Way) (path : Path) (o : Option LeafElement) (q : Option Place) (t : Place) → q ≡ Some t → InTasks w (gives_at file meta further path o ++ visits_at file meta further w q)
   entry_leads w path o None t is = absurd (cc)
   entry_leads w path None (Some u) t is = inl refl

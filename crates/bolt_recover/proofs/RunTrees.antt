@@ -1,4 +1,4 @@
--- What a run gives is what a tree lists: each place that is visited comes to a tree, in which a bucket holds what its own place comes to.
+-- What a run returns is what a tree lists: each place that is visited comes to a tree, in which a bucket holds what its own place comes to.
 use Rattle.std.proofs.Common.{◌≡◌, ◌∙◌, inl, inr, ℕ, zero, suc, Bool, true, false, List, [], ◌∷◌, ◌++◌, Option, Some, None, Result, Ok, Err, slice_get, refl, sym, ap, subst, append_assoc}
 use Rattle.std.specs.Option.{option_map}
 use Rattle.std.proofs.lemmas.List.{append-nil}
@@ -161,7 +161,7 @@ module _ (file : List ℕ) (meta : Meta) where
         place_tree w p 0 size more members tidy.0 (pieces_run _ (place_tasks file meta further w p ++ more) rest members run (tasks_tidy w p 0 size more tidy.0 tidy.1))
     pieces_run claimed tasks visits members (lose {tasks = more} {visits = rest} tests run) tidy = (end, members, refl, pieces_run claimed more rest members run tidy.1)
 
-    -- what a run from the root page gives is what a tree lists
+    -- what a run from the root page returns is what a tree lists
     pub run_tree : (way : W) (visits : List (Visited W)) (members : List Member) → RunsAll file meta further way visits members → (tree : Tree) × (members ≡ listing_of tree)
     run_tree way visits members run =
         let (tree, rest, same, none) = pieces_run _ (To_visit way (root_place file meta) ∷ []) visits members run (tidy_root file meta, tt) in

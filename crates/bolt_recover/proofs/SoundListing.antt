@@ -53,7 +53,7 @@ module _ (file : List ℕ) (meta : Meta) where
   abbrev nodes : Nodes
   nodes = node_at file meta
 
-  -- a bucket begins at a way with this place; an inline one stands in a leaf
+  -- a bucket begins at a way with this place; an inline one is in a leaf
   abbrev AtStart : Start → Place → Type 0
   AtStart (Root_page r) p = p.spot ≡ At_page (page_start r)
   AtStart (Inline_page own) p = (p.elements ≡ own)
@@ -129,7 +129,7 @@ module _ (file : List ℕ) (meta : Meta) where
           (ap (λ (x : ℕ). leads nodes (Some x) address) number ∙ ap (λ (o : Option ℕ). leads nodes o address) (sym there) ∙ lead) in
           (w, q, v, found, stands, same, named ∙ path)
 
-  -- an entry of a bucket stands at a way
+  -- an entry of a bucket is at a way
   entry_there : (from : Start) (way : List ℕ) (p : Place) (e : LeafElement) → place_at file meta way ≡ Some p → AtStart from p → IsEntry file meta from e → IsThere p.path e
   entry_there (Inline_page own) way p e at (elements, inner) is =
       let has = subst (λ (xs : List LeafElement). Contains xs e) (sym elements) is in

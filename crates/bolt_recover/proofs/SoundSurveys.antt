@@ -1,4 +1,4 @@
--- Sound trees lose nothing: the tests pass at each way, so they do where fewer pages were claimed before.
+-- Sound trees lose nothing: the tests pass at each way, so they also pass if fewer pages were claimed earlier.
 use Rattle.std.proofs.Common.{◌≡◌, ℕ, inl, inr, List, Option, Some, None, refl}
 use Rattle.bolt_check.specs.Findings.{IsClaimedBefore, IsClean, IsMetaPage}
 use Rattle.bolt_check.specs.Nodes.{Nodes}

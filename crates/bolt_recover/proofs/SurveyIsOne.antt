@@ -1,4 +1,4 @@
--- There is at most one survey. Where two first differ, the kept ways before are the same, and so is what the tests find.
+-- There is at most one survey. Where two first differ, the preceding kept ways are the same, and so is what the tests find.
 use Rattle.std.proofs.Common.{◌≡◌, ◌∙◌, ℕ, ◌⊎◌, inl, inr, List, [], ◌∷◌, ◌++◌, map, Option, Some, None, refl, sym, ap, subst}
 use Rattle.bolt_check.specs.Nodes.{Nodes}
 use Rattle.bolt_check.specs.Tours.{IsBeforeAll, Rises}
@@ -12,7 +12,7 @@ use Rattle.bolt_recover.specs.Surveys.{Gives, Has, IsClaimedIn, IsOpen, Surveys,
 abbrev pub ways : List Visit → List (List ℕ)
 ways visits = map (λ (v : Visit). v.way) visits
 
--- a survey from some place on: what stands in front, which may be said of visits of another survey too, and the rest
+-- a survey from some place on: what is in front, which may be said of visits of another survey too, and the rest
 pub record Suffix (survey : List Visit) (InFront : Visit → Type 0) (rest : List Visit) : Type 0 where
   pub split : (v : Visit) → Has survey v → InFront v ⊎ Has rest v
   pub inside : (v : Visit) → Has rest v → Has survey v
@@ -29,7 +29,7 @@ pub parent_before : (parent : List ℕ) (i : ℕ) → Before parent (parent ++ i
 parent_before [] i = tt
 parent_before (j ∷ parent) i = inr (refl, parent_before parent i)
 
--- a visit before the first of the rest stands in front
+-- a visit before the first of the rest is in front
 pub earlier : (survey : List Visit) (InFront : Visit → Type 0) (x : Visit) (rest : List Visit) → Suffix survey InFront (x ∷ rest)
     → (v : Visit) → Has survey v → Before v.way x.way → InFront v
 earlier survey InFront x rest suffix v has lt =

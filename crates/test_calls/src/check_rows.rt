@@ -69,7 +69,7 @@ fn check_shown(rt: &impl Abort, checked: Checked<'_>, file: &[u8]) {
         high_water: 4,
         txid: 1,
     };
-    assert!(rt; checked.meta() == meta, "the meta in force");
+    assert!(rt; checked.meta() == meta, "the active meta");
     assert!(rt; checked.bytes() == file, "the bytes of the file");
     assert!(rt; checked.accounts(), "the accounts are left out");
 }

@@ -1,4 +1,4 @@
--- The runs of pages above a bucket's leaves, as code keeps them, and a run that takes the page below it.
+-- The runs of pages above a bucket's leaves, as the code keeps them, and a run that takes the page below it.
 use Rattle.std.specs.Prelude.{◌≡◌, ◌≤◌, ◌<◌, ℕ, ◌+◌, ◌*◌, true, List, [], ◌∷◌, map, length, Option, Some, None, if◌then◌else◌}
 use Rattle.bolt_format.specs.ElementPlaces.{branch_view}
 use Rattle.bolt_format.specs.Elements.{BranchElement}
@@ -17,11 +17,11 @@ row_of run = record { elements = map branch_view run.elements.items; size = run.
 abbrev pub rows_above : List BranchRun → List BranchRow
 rows_above runs = map row_of runs
 
--- its size is that of its page,
+-- its size is that of its page
 abbrev pub IsSizedRow : BranchRow → Type 0
 IsSizedRow row = row.size ≡ 16 + (16 * length row.elements + length (branch_data row.elements))
 
--- It has room for one more element, as large as any; and for two where one may be let in that it has no room for.
+-- A run has room for one more element, as large as any; and for two if one may join for which it has no room. All sizes still fit 32 bits.
 pub record HasSlack (row : BranchRow) : Type 0 where
   pub small : row.size ≤ 1073741856
   pub few : length row.elements < 65534
@@ -33,15 +33,15 @@ pub record IsStanding (row : BranchRow) : Type 0 where
   pub named : length (row_key row.elements) ≤ 1073741824
   pub slack : is_out row.left ≡ true → HasSlack row
 
--- A run that took one more, and stands no longer, still fits a page.
+-- A run that has taken one more element than it may stand with still fits a page.
 pub record IsPushed (row : BranchRow) : Type 0 where
   pub sized : IsSizedRow row
   pub some : 0 < length row.elements
   pub small : row.size ≤ 3221225536
   pub few : length row.elements < 65536
 
--- A run takes the element of a page that has closed, and a page with this first key comes next: the run, what is put, the next number,
--- and the element of the run's own page, where it closes.
+-- A run takes the element of a page that has closed, and the next page has this first key: the run, what is written, the next number, and
+-- the element of the run's own page if it closes.
 abbrev pub row_taking : ℕ → List ℕ → BranchElement → BranchRow → BranchRow
 row_taking page_size key e row = if row_stays page_size (row_push row e) (key_size key) then row_kept page_size (row_push row e) (key_size key) else no_row (one_less row.left) (one_closed row.closed)
 

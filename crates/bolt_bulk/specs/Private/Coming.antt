@@ -1,4 +1,4 @@
--- What comes of the open runs of a bucket and of the items that are still to come; and so of all buckets that a pass has open.
+-- What the open runs of a bucket become, with the items that are still to come; and so of all buckets that a pass has open.
 use Rattle.std.specs.Prelude.{◌≡◌, ◌≤◌, ℕ, suc, List, [], ◌∷◌, ◌++◌, length, Option, map}
 use Rattle.bolt_format.specs.Elements.{BranchElement, LeafElement}
 use Rattle.bolt_layout.specs.Cut.{branch_cut, cut_from}
@@ -15,8 +15,8 @@ pub record IsUnder (which : Layout) (page_size : ℕ) (limits : ℕ → Option �
   pub top : top_of which page_size pages ≡ root
   pub right : HaveRightLimits which page_size limits pages
 
--- What comes of open upper runs, and of the pages that are still to come from below, of all pages there. The first of these is under way,
--- and is in the run above. So many runs of that row have closed, and the run is the first of the others.
+-- What open upper runs become, with the pages that are still to come from below, of all pages there. The first of these is under way, and
+-- is in the run above. `closed` runs of that row have closed, and the open run is the first of the others.
 pub record Stands (which : Layout) (page_size : ℕ) (upper : Upper) (all : List (Laid BranchElement)) (page : Laid BranchElement) (pages : List (Laid BranchElement)) : Type 0 where
   pub runs : List (List (Laid BranchElement))
   pub count : length runs ≡ upper.closed
@@ -34,11 +34,11 @@ Comes which page_size limits (upper ∷ uppers) all (page ∷ pages) root = Stan
 abbrev pub leaves_coming : ℕ → List (Laid LeafElement) → List (Laid LeafElement) → List (Laid BranchElement)
 leaves_coming page_size run items = map (page_over leaf_view page_size) (cut_from page_size 1 size_of run items)
 
--- this root page comes of an open bucket
+-- an open bucket becomes this root page
 pub record IsOpen (which : Layout) (page_size : ℕ) (state : Open) (items : List (Laid LeafElement)) (root : Laid BranchElement) : Type 0 where
   pub comes : Comes which page_size (bucket_limit state.known.limits) state.uppers state.known.leaves (leaves_coming page_size state.run items) root
 
--- only a bucket of which nothing is open yet has an empty run
+-- only a bucket that has taken no item yet has an empty run
 abbrev pub HasBegun : Open → Type 0
 HasBegun state = state.run ≡ [] → state.uppers ≡ []
 
@@ -46,11 +46,11 @@ HasBegun state = state.run ≡ [] → state.uppers ≡ []
 abbrev pub IsSized : Laid BranchElement → Type 0
 IsSized page = page.size ≡ key_size page.key
 
--- the item of the bucket within, where this comes of it
+-- the item of the bucket within, if it becomes this root page
 abbrev pub held_item : Frame → Laid BranchElement → Laid LeafElement
 held_item frame root = bucket_item frame.key frame.sequence root
 
--- this comes of the innermost bucket; then that comes of all
+-- if the innermost bucket becomes `root`, all of them become `whole`
 abbrev pub IsStack : Layout → ℕ → List Frame → Laid BranchElement → Laid BranchElement → Type 0
 IsStack which page_size [] root whole = root ≡ whole
 IsStack which page_size (frame ∷ frames) root whole = (outer : Laid BranchElement)

@@ -12,24 +12,24 @@ use Rattle.bolt_bulk.specs.Private.HeldCounts.{capped}
 use Rattle.bolt_bulk.specs.Private.Passes.{FitLimits, Wanted, limits_with}
 use Rattle.bolt_layout.specs.declared.layout.Layout.TheVariants.{Balanced, Plain}
 use Rattle.bolt_bulk.specs.Puts.{Puts}
-use Rattle.bolt_bulk.specs.declared.bounds.Bounds.{Bounds}
+use Rattle.bolt_bulk.specs.declared.page_setup.PageSetup.{PageSetup}
 use Rattle.bolt_bulk.specs.declared.fault.BulkFault.{BulkFault}
 use Rattle.bolt_bulk.specs.declared.fault.BulkFault.TheVariants as fault
 use Rattle.bolt_bulk.specs.declared.pass.Ended.{Ended}
 
--- These pages were put before; the others of the layout are put, or a beginning of their bytes that isn't the whole. The root page, the
--- high-water mark and how many items were held are told, and if they are asked for the limits that give the balanced layout.
-pub record Ends {S : Type 0} (wanted : Wanted) (taken : S → Option (List ℕ)) (failed : S → ℕ) (old new : S) (bounds : Bounds) (put : List Placed) (result : Result Ended BulkFault) : Type 0 where
+-- The pages `put` were written earlier. The others of the layout are written, or a proper prefix of their bytes. The root page, the high-water
+-- mark and the number of items held are returned and, if they are asked for, the limits that yield the balanced layout.
+pub record Ends {S : Type 0} (wanted : Wanted) (taken : S → Option (List ℕ)) (failed : S → ℕ) (old new : S) (setup : PageSetup) (put : List Placed) (result : Result Ended BulkFault) : Type 0 where
   pub others : List Placed
-  pub all : layout_pages wanted.which bounds.page_size wanted.tree ≡ put ++ others
-  pub puts : Puts taken failed old new (placed_bytes bounds.page_size others) result
-  pub short : OnErr result (AppendsProperBeginning (taken old) (taken new) (placed_bytes bounds.page_size others))
-  pub root : IfOk result (λ ended. ended.root ≡ layout_root wanted.which bounds.page_size wanted.tree)
-  pub mark : IfOk result (λ ended. ended.high_water ≡ layout_mark wanted.which bounds.page_size wanted.tree)
-  pub within : IfOk result (λ ended. ended.high_water ≤ bounds.limit)
-  pub told : IfOk result (λ ended. wanted.tells ≡ true → wanted.which ≡ Plain → FitLimits Balanced wanted.tree bounds.page_size (limits_with ended.told))
-  pub held : IfOk result (λ ended. ended.held ≡ capped (layout_held wanted.which bounds.page_size wanted.tree))
-  pub large : IfErr result (λ e. e ≡ fault.TooLarge → bounds.limit < layout_mark wanted.which bounds.page_size wanted.tree)
+  pub all : layout_pages wanted.which setup.page_size wanted.tree ≡ put ++ others
+  pub puts : Puts taken failed old new (placed_bytes setup.page_size others) result
+  pub short : OnErr result (AppendsProperBeginning (taken old) (taken new) (placed_bytes setup.page_size others))
+  pub root : IfOk result (λ ended. ended.root ≡ layout_root wanted.which setup.page_size wanted.tree)
+  pub mark : IfOk result (λ ended. ended.high_water ≡ layout_mark wanted.which setup.page_size wanted.tree)
+  pub within : IfOk result (λ ended. ended.high_water ≤ setup.limit)
+  pub told : IfOk result (λ ended. wanted.tells ≡ true → wanted.which ≡ Plain → FitLimits Balanced wanted.tree setup.page_size (limits_with ended.told))
+  pub held : IfOk result (λ ended. ended.held ≡ capped (layout_held wanted.which setup.page_size wanted.tree))
+  pub large : IfErr result (λ e. e ≡ fault.TooLarge → setup.limit < layout_mark wanted.which setup.page_size wanted.tree)
 
 -- the last part of a path
 abbrev pub last_part : Path → Key

@@ -1,4 +1,4 @@
--- The pages before those of the buckets: docs/LAYOUT.md, "Bytes".
+-- The pages that precede those of the buckets: docs/LAYOUT.md, "Bytes".
 use Rattle.std.specs.Prelude.{ℕ, List, ◌++◌}
 use Rattle.bolt_layout.specs.PageBytes.{freelist_page, meta_page}
 use Rattle.bolt_bulk.specs.declared.first_pages.Facts.{Facts}

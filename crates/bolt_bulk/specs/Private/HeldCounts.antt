@@ -1,10 +1,10 @@
--- How many items stand in open runs, as code counts them. In those of a bucket: the items of its leaf, and the pages in the runs above. In
--- a pass: those of each bucket that waits, and of the open one.
+-- How many items open runs hold, as the code counts them. Those of a bucket hold the items of its leaf, and the pages in the runs above. Those
+-- of a pass are the runs of each waiting bucket, and of the open one.
 use Rattle.std.specs.Prelude.{◌≡◌, ℕ, ◌+◌, List, [], ◌∷◌, length, max, min, sum_by}
 use Rattle.bolt_bulk.specs.declared.branch_runs.BranchRun.{BranchRun}
 use Rattle.bolt_bulk.specs.declared.open_bucket.OpenBucket.{OpenBucket}
 use Rattle.bolt_bulk.specs.declared.pass.Pass.{Pass}
-use Rattle.bolt_bulk.specs.declared.steps.Waiting.{Waiting}
+use Rattle.bolt_bulk.specs.declared.waiting.Waiting.{Waiting}
 
 abbrev pub items_above : List BranchRun → ℕ
 items_above uppers = sum_by (λ run. length run.elements.items) uppers
@@ -19,16 +19,16 @@ items_around (waiting ∷ others) = items_in waiting.bucket + items_around other
 abbrev pub items_by : Pass → ℕ
 items_by pass = items_around pass.waiting.items + items_in pass.bucket
 
--- what code counts up to
+-- the code's count, which saturates
 abbrev pub capped : ℕ → ℕ
 capped n = min n 18446744073709551615
 
--- of each bucket that waits it is known how many items the buckets around it hold; the outermost stands first, with so many around it
+-- the code knows of each waiting bucket how many items the buckets around it hold; the outermost comes first, with `before` around it
 abbrev pub AreCounted : ℕ → List Waiting → Type 0
 AreCounted before [] = Unit {0}
 AreCounted before (waiting ∷ others) = (waiting.around ≡ capped before) × AreCounted (before + items_in waiting.bucket) others
 
--- what a pass holds now counts, and nothing else of it changes
+-- what a pass holds now is counted, and nothing else of it changes
 pub record Counts (old new : Pass) : Type 0 where
   pub most : new.most ≡ max old.most (capped (items_by old))
   pub rest : new ≡ record old { most = new.most }

@@ -1,4 +1,4 @@
--- An item of an open leaf, as code keeps it, and the element that it is.
+-- An item of an open leaf, as the code keeps it, and the element that it is.
 use Rattle.std.specs.Prelude.{◌≡◌, ◌<◌, ◌≤◌, ℕ, ◌+◌, ◌*◌, Bool, true, false, List, [], ◌∷◌, drop, length, map, take}
 use Rattle.std.specs.List.{AllByRecursion}
 use Rattle.bolt_format.specs.ElementPlaces.{leaf_view}
@@ -9,7 +9,7 @@ use Rattle.bolt_bulk.specs.declared.held.Held.{Held}
 use Rattle.bolt_bulk.specs.declared.held.Stored.{Stored}
 use Rattle.bolt_bulk.specs.declared.held.Stored.TheVariants as stored
 
--- the entries of the inline buckets of a run stand in one row
+-- the entries of the inline buckets of a run are in one list
 abbrev pub entries_in : List Leaf → (first count : ℕ) → List LeafElement
 entries_in inlined first count = map leaf_view (take count (drop first inlined))
 
@@ -33,7 +33,7 @@ held_views inlined items = map (held_view inlined) items
 abbrev pub value_item : Leaf → Held
 value_item entry = record { key = entry.key; stored = stored.Value entry.value }
 
--- the entries of an inline bucket are in the row, no more than a page may have, and the size of its value is known
+-- the entries of an inline bucket are in the list, no more than a page may have, and the size of its value is known
 pub record IsInlined (inlined : List Leaf) (first count size : ℕ) : Type 0 where
   pub there : first + count ≤ length inlined
   pub few : count < 65535

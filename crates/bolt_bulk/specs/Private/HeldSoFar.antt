@@ -1,5 +1,5 @@
--- How many items a pass held at one time so far, at the most, by what is open of the layout: the items of the open runs count as they do on
--- the pages that these become (bolt_layout's `held_in`), of which so many stand on the page under way further in.
+-- The greatest number of items that a pass has held at one time so far, by what is open of the layout. An item of an open run counts as it
+-- does on the page that the run becomes (`held_in` of bolt_layout); `inner` is the number for the page under way further in.
 use Rattle.std.specs.Prelude.{ℕ, ◌+◌, max, List, [], ◌∷◌, length}
 use Rattle.bolt_layout.specs.Laid.{Laid}
 use Rattle.bolt_bulk.specs.Private.OpenRuns.{Frame, Open, Upper}

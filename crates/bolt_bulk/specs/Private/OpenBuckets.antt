@@ -1,4 +1,4 @@
--- A bucket that is open, as code keeps it: the run of items of its leaf under way, and the runs of pages above.
+-- An open bucket, as the code keeps it: the run of items of its leaf under way, and the runs of pages above.
 use Rattle.std.specs.Prelude.{◌≡◌, ◌<◌, ℕ, ◌+◌, length}
 use Rattle.std.specs.List.{AllByRecursion}
 use Rattle.bolt_format.specs.Elements.{BranchElement}
@@ -6,14 +6,14 @@ use Rattle.bolt_layout.specs.Levels.{overflow_of}
 use Rattle.bolt_bulk.specs.Private.BranchRuns.{IsStanding, rows_above, rows_end_next}
 use Rattle.bolt_bulk.specs.Private.HeldItems.{AreHeld, held_views, inlined_in, page_size_of}
 use Rattle.bolt_bulk.specs.Private.Rows.{LeafRow, OpenRows, leaf_key}
-use Rattle.bolt_bulk.specs.declared.open_bucket.LeafRun.{LeafRun}
+use Rattle.bolt_bulk.specs.declared.leaf_run.LeafRun.{LeafRun}
 use Rattle.bolt_bulk.specs.declared.open_bucket.OpenBucket.{OpenBucket}
 
--- a run of items as the row that it is,
+-- a run of items as the row that it is
 abbrev pub leaves_of : LeafRun → LeafRow
 leaves_of run = record { elements = held_views run.inlined.items run.items.items; size = run.size }
 
--- with the size of its page, and no entries in its row but those of its own inline buckets
+-- its size is that of its page, and its list of entries has only those of its own inline buckets
 pub record IsLeafRun (run : LeafRun) : Type 0 where
   pub held : AreHeld run.inlined.items run.items.items
   pub sized : run.size ≡ page_size_of run.inlined.items run.items.items

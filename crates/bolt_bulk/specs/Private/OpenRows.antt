@@ -1,4 +1,4 @@
--- The rows that code keeps of a bucket are its open runs, where its pages begin at a number.
+-- The rows that the code keeps of a bucket are its open runs, if its pages begin at number `b`.
 use Rattle.std.specs.Prelude.{◌≡◌, ℕ, ◌+◌, List, [], ◌∷◌}
 use Rattle.std.specs.List.{AllByRecursion}
 use Rattle.bolt_format.specs.Elements.{BranchElement, LeafElement}
@@ -11,7 +11,7 @@ use Rattle.bolt_bulk.specs.Private.Rows.{BranchRow, OpenRows}
 abbrev pub IsKeyed : Laid BranchElement → Type 0
 IsKeyed page = (page.size ≡ key_size page.key) × ((n : ℕ) → (page.element n).key ≡ page.key)
 
--- a row is an upper run whose pages begin at a number
+-- a row is an upper run whose pages begin at number `n`
 pub record IsRow (row : BranchRow) (upper : Upper) (n : ℕ) : Type 0 where
   pub same : row.elements ≡ elements_of upper.run n
   pub size_is : row.size ≡ run_size size_of upper.run

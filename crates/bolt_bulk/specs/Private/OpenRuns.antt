@@ -1,5 +1,5 @@
--- The open runs of a bucket whose pages are put in one forward pass: a run of leaf items, and above it one run of pages for each level.
--- A run closes before the first page of what no longer joins it is put, so an upper run may stand empty: then the page that is under way
+-- The open runs of a bucket whose pages are written in one forward pass: a run of leaf items, and above it one run of pages for each level.
+-- A run closes before the first page of what no longer joins it is written, so an upper run may be empty: then the page that is under way
 -- below begins the next run.
 use Rattle.std.specs.Prelude.{ℕ, suc, ◌+◌, Bool, ◌||◌, ◌&&◌, nat_lt, nat_le, List, [], ◌∷◌, ◌++◌, length, Option, None, if◌then◌else◌}
 use Rattle.bolt_format.specs.Elements.{BranchElement, LeafElement}
@@ -21,7 +21,7 @@ has_room page_size least run size = nat_lt (length run) least || (nat_le (run_si
 abbrev pub key_size : List ℕ → ℕ
 key_size key = 16 + length key
 
--- A run of pages above, how many runs may still begin in its row, which is any number or so many, and how many runs of the row have closed.
+-- A run of pages above, how many runs may still begin in its row (None if any number may), and how many runs of the row have closed.
 pub record Upper : Type 0 where
   pub run : List (Laid BranchElement)
   pub left : Option ℕ
@@ -41,12 +41,12 @@ kept page_size upper size = record { run = upper.run; left = if has_room page_si
 abbrev pub begun_after : Upper → Upper
 begun_after upper = record { run = []; left = one_less upper.left; closed = suc upper.closed }
 
--- what an open run tells of its row at the bucket's end, when it takes the page that is under way: how many runs the row has, and how many
+-- what an open run says of its row at the bucket's end, when it takes the page that is under way: how many runs the row has, and how many
 -- items the last one has
 abbrev pub told_by : Upper → ℕ × ℕ
 told_by upper = (suc upper.closed, suc (length upper.run))
 
--- the pages in upper runs that were put, the outermost first
+-- the pages in upper runs that were written, the outermost first
 abbrev pub put_in : List Upper → List (Laid BranchElement)
 put_in [] = []
 put_in (upper ∷ uppers) = put_in uppers ++ upper.run
@@ -54,8 +54,8 @@ put_in (upper ∷ uppers) = put_in uppers ++ upper.run
 abbrev pub numbers_in : List Upper → ℕ
 numbers_in uppers = numbers_of (put_in uppers)
 
--- A page q has closed, and a page with this first key comes next. Each upper run takes the page below it that closed, and closes where the next one won't join it.
--- A new run at the top has the first page of its row; after it so many runs may begin there.
+-- A page q has closed, and the next page has this first key. Each upper run takes the page that closed below it, and closes if the next page
+-- doesn't join it. A new run at the top has the first page of its row; after it `new` runs may begin there, or any number if that is None.
 abbrev pub climb : ℕ → (new : Option ℕ) → List ℕ → Laid BranchElement → List Upper → List Upper
 climb page_size new key q [] = record { run = q ∷ []; left = new; closed = 0 } ∷ []
 climb page_size new key q (upper ∷ uppers) =
@@ -67,7 +67,7 @@ climb page_size new key q (upper ∷ uppers) =
 abbrev pub own_page : {E : Type 0} → (ℕ → List E → PageView) → ℕ → List (Laid E) → ℕ → Placed
 own_page view page_size run number = record { number = number + numbers_of run; view = view (run_overflow page_size run) (elements_of run number) }
 
--- the pages that this puts, where the bucket's pages begin at a number
+-- the pages that this writes, if the bucket's pages begin at `number`
 abbrev pub climb_puts : ℕ → List ℕ → Laid BranchElement → List Upper → ℕ → List Placed
 climb_puts page_size key q [] number = []
 climb_puts page_size key q (upper ∷ uppers) number =
@@ -85,7 +85,7 @@ close_puts page_size q [] number = []
 close_puts page_size q (upper ∷ uppers) number =
     own_page branch_view page_size (upper.run ++ q ∷ []) (number + numbers_in uppers) ∷ close_puts page_size (page_over branch_view page_size (upper.run ++ q ∷ [])) uppers number
 
--- What a bucket is known by before its pages are put: the limits of its rows, with its number, and all its leaf pages.
+-- What a bucket is known by before its pages are written: the limits of its rows, with its number, and all its leaf pages.
 pub record Known : Type 0 where
   pub limits : BucketLimits
   pub leaves : List (Laid BranchElement)
@@ -99,14 +99,14 @@ pub record Open : Type 0 where
 abbrev pub nothing_open : Known → Open
 nothing_open known = record { uppers = []; run = []; known = known }
 
--- the pages of an open bucket that were put, where they begin at a number; and the number of the next one
+-- the pages of an open bucket that were written, if they begin at `number`; and the number of the next one
 abbrev pub pages_put : Open → ℕ → List Placed
 pages_put state number = pages_of (put_in state.uppers) number ++ pages_of state.run (number + numbers_in state.uppers)
 
 abbrev pub next_number : Open → ℕ → ℕ
 next_number state number = number + numbers_in state.uppers + numbers_of state.run
 
--- Room for the next item, by its key and size: it is there, or the run closes before any of the item's pages is put.
+-- Room for the next item, by its key and size: it is there, or the run closes before any page of the item is written.
 abbrev pub making_room : ℕ → Open → List ℕ → ℕ → Open
 making_room page_size state key size =
     let closed : Open = record { uppers = climb page_size (bucket_limit state.known.limits (length state.uppers)) key (page_over leaf_view page_size state.run) state.uppers; run = []; known = state.known } in
@@ -138,7 +138,7 @@ pub record Frame : Type 0 where
   pub sequence : ℕ
   pub after : Tree
 
--- the buckets that wait, the innermost first: where the pages of the bucket within them begin, and the pages that they put
+-- the buckets that wait, the innermost first: where the pages of the bucket within them begin, and the pages that they have written
 abbrev pub base_in : List Frame → ℕ
 base_in [] = first_page
 base_in (frame ∷ frames) = next_number frame.state (base_in frames)
@@ -147,6 +147,6 @@ abbrev pub frames_put : List Frame → List Placed
 frames_put [] = []
 frames_put (frame ∷ frames) = frames_put frames ++ pages_put frame.state (base_in frames)
 
--- all pages that were put
+-- all pages that were written
 abbrev pub all_put : List Frame → Open → List Placed
 all_put frames state = frames_put frames ++ pages_put state (base_in frames)

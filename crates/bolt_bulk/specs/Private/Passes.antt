@@ -1,4 +1,4 @@
--- Where a pass stands in the tree that it goes along, as code keeps it, and what a step of it leaves.
+-- Where a pass is in the tree that it follows, as the code keeps it, and what a step of it leaves.
 use Rattle.std.specs.Prelude.{◌≡◌, ◌<◌, ◌≤◌, ℕ, suc, ◌+◌, ◌/◌, Bool, true, false, List, [], ◌∷◌, ◌++◌, length, map, reverse, Option, Some, None, Result, IfErr, OnOk}
 use Rattle.std.specs.List.{AllByRecursion}
 use Rattle.bolt_format.specs.ElementPlaces.{leaf_view}
@@ -24,12 +24,12 @@ use Rattle.bolt_bulk.specs.Private.OpenRuns.{Frame, Open, all_put, base_in}
 use Rattle.bolt_bulk.specs.Private.TakenItems.{entries_size}
 use Rattle.bolt_bulk.specs.Private.Waiting.{IsWaiting}
 use Rattle.bolt_bulk.specs.Puts.{Puts}
-use Rattle.bolt_bulk.specs.declared.bounds.Bounds.{Bounds}
+use Rattle.bolt_bulk.specs.declared.page_setup.PageSetup.{PageSetup}
 use Rattle.bolt_bulk.specs.declared.fault.BulkFault.{BulkFault}
 use Rattle.bolt_bulk.specs.declared.fault.BulkFault.TheVariants as fault
 use Rattle.bolt_bulk.specs.declared.pass.Pass.{Pass}
-use Rattle.bolt_bulk.specs.declared.pass.Pending.{Pending}
-use Rattle.bolt_bulk.specs.declared.steps.Waiting.{Waiting}
+use Rattle.bolt_bulk.specs.declared.pending.Pending.{Pending}
+use Rattle.bolt_bulk.specs.declared.waiting.Waiting.{Waiting}
 use Rattle.bolt_bulk.specs.declared.told.Told.{Told}
 use Rattle.bolt_layout.specs.declared.layout.Layout.{Layout}
 
@@ -41,7 +41,7 @@ onto (e ∷ entries) tree = with_value e.key e.value (onto entries tree)
 abbrev pub level_of : Frame → Level
 level_of frame = record { key = frame.key; after = frame.after }
 
--- the buckets that wait in code, the innermost first, are the frames
+-- the waiting buckets of the code, the innermost first, are the frames
 abbrev pub AreWaiting : List Waiting → List Frame → Type 0
 AreWaiting [] [] = Unit {0}
 AreWaiting [] (frame ∷ frames) = ⊥
@@ -57,7 +57,7 @@ IsPending (Some pending) entries outer rest levels left = (after : Tree)
     × (levels ≡ record { key = pending.key.now; after = after } ∷ outer)
     × (rest ≡ with_bucket pending.key.now pending.sequence (onto (map leaf_view entries) left) after)
 
--- what a pass goes for: the layout of a tree, and whether the limits of its rows are asked for
+-- what is asked of a pass: the layout of a tree, and whether it notes the limits of its rows
 pub record Wanted : Type 0 where
   pub which : Layout
   pub tree : Tree
@@ -75,12 +75,12 @@ pub record FitLimits (which : Layout) (tree : Tree) (page_size : ℕ) (limits : 
   pub root : HaveRightLimits which page_size (limits 0) (leaf_pages page_size (items_of which page_size tree))
   pub others : AreRight which page_size limits 1 tree
 
--- What a bucket with these leaf pages, which is opened as number n, tells of its rows. It has no more leaf pages than the layout has pages.
+-- What a bucket with these leaf pages, which is opened as number n, says of its rows. It has no more leaf pages than the layout has pages.
 pub record Tells (wanted : Wanted) (page_size n : ℕ) (leaves : List (Laid BranchElement)) : Type 0 where
   pub told : wanted.which ≡ Plain → (level : ℕ) → limits_for page_size wanted.tree n level ≡ limit_at (limits_told false (told_of page_size leaves)) level
   pub few : length leaves ≤ layout_mark wanted.which page_size wanted.tree
 
--- This is known of the buckets of a tree that are still to come, where the first of them that has a root page is opened as number n.
+-- This is known of the buckets of a tree that are still to come, if the first of them that has a root page is opened as number n.
 pub record IsComing (wanted : Wanted) (page_size : ℕ) (limits : ℕ → ℕ → Option ℕ) (n : ℕ) (inside : Tree) : Type 0 where
   pub right : HaveRightLimits wanted.which page_size (limits n) (leaf_pages page_size (items_of wanted.which page_size inside))
   pub tells : Tells wanted page_size n (leaf_pages page_size (items_of wanted.which page_size inside))
@@ -93,13 +93,13 @@ AreComing wanted page_size limits n (with_bucket key sequence inside after) =
     → IsComing wanted page_size limits n inside × AreComing wanted page_size limits (suc n) inside)
     × AreComing wanted page_size limits (n + opened_by wanted.which page_size inside) after
 
--- and of those behind the buckets that wait, up to the last of all
+-- and of those after the waiting buckets, up to the last of all
 abbrev pub AreComingAround : (wanted : Wanted) → (page_size : ℕ) → (limits : ℕ → ℕ → Option ℕ) → (n : ℕ) → List Frame → Type 0
 AreComingAround wanted page_size limits n [] = n ≡ suc (opened_in wanted.which page_size wanted.tree)
 AreComingAround wanted page_size limits n (frame ∷ frames) =
     AreComing wanted page_size limits n frame.after × AreComingAround wanted page_size limits (n + opened_in wanted.which page_size frame.after) frames
 
--- The open buckets, the innermost first, have these numbers, which fall.
+-- The open buckets, the innermost first, have these numbers, each lower than the one before it.
 pub record IsNumbered (wanted : Wanted) (page_size below n : ℕ) (state : Open) : Type 0 where
   pub earlier : n < below
   pub number_is : state.known.limits.bucket ≡ capped n
@@ -111,14 +111,14 @@ AreNumbered wanted page_size below [] (state ∷ states) = ⊥
 AreNumbered wanted page_size below (n ∷ numbers) [] = ⊥
 AreNumbered wanted page_size below (n ∷ numbers) (state ∷ states) = IsNumbered wanted page_size below n state × AreNumbered wanted page_size n numbers states
 
--- Of the buckets that have ended, the limits are those that the plain layout tells; of those that are open, by these numbers, or not yet
--- opened, there are none.
+-- The limits of the buckets that have ended are those that follow from the plain layout. The open buckets, which have these numbers, have none
+-- yet, and nor have those that come later.
 pub record IsTable (page_size : ℕ) (tree : Tree) (limits : Limits) (opened : ℕ) (numbers : List ℕ) : Type 0 where
   pub still_open : AllByRecursion (λ (n : ℕ). (level : ℕ) → limit_in limits n level ≡ None) numbers
   pub later : (n level : ℕ) → opened ≤ n → limit_in limits n level ≡ None
   pub ended : (n level : ℕ) → n < opened → AllByRecursion (λ (m : ℕ). n ≡ m → ⊥) numbers → limit_in limits n level ≡ limits_for page_size tree n level
 
--- A pass over the plain layout that tells limits has told these, unless there are more page numbers than code counts.
+-- A pass over the plain layout that notes limits has noted these, unless there are more page numbers than the code counts.
 pub record HasTold (wanted : Wanted) (page_size : ℕ) (told : Told) (opened : ℕ) (numbers : List ℕ) : Type 0 where
   pub asked : told.tells ≡ wanted.tells
   pub table : wanted.tells ≡ true → wanted.which ≡ Plain → layout_mark wanted.which page_size wanted.tree ≤ 18446744073709551615
@@ -127,12 +127,12 @@ pub record HasTold (wanted : Wanted) (page_size : ℕ) (told : Told) (opened : �
 abbrev pub open_in : Open → List Frame → List Open
 open_in state frames = state ∷ map (λ (frame : Frame). frame.state) frames
 
--- The pass has put these pages, and of the innermost bucket these entries are left.
+-- The pass has written these pages, and these entries of the innermost bucket are left.
 pub record IsAt (wanted : Wanted) (pass : Pass) (levels : List Level) (left : Tree) (put : List Placed) : Type 0 where
   pub frames : List Frame
   pub state : Open
   pub rest : Tree
-  pub under : IsPass wanted.which pass.bounds.page_size frames state (items_of wanted.which pass.bounds.page_size rest) (root_of wanted.which pass.bounds.page_size wanted.tree)
+  pub under : IsPass wanted.which pass.setup.page_size frames state (items_of wanted.which pass.setup.page_size rest) (root_of wanted.which pass.setup.page_size wanted.tree)
   pub rows : IsOpenRows (rows_of pass.bucket pass.next) state (base_in frames)
   pub waits : AreWaiting (reverse pass.waiting.items) frames
   pub put_is : put ≡ all_put frames state
@@ -140,11 +140,11 @@ pub record IsAt (wanted : Wanted) (pass : Pass) (levels : List Level) (left : Tr
   pub held : pass.most ≡ capped (held_so_far frames state)
   pub opened : ℕ
   pub opened_is : pass.opened ≡ capped opened
-  pub coming : AreComing wanted pass.bounds.page_size (limits_by pass) opened rest
-  pub around : AreComingAround wanted pass.bounds.page_size (limits_by pass) (opened + opened_in wanted.which pass.bounds.page_size rest) frames
+  pub coming : AreComing wanted pass.setup.page_size (limits_by pass) opened rest
+  pub around : AreComingAround wanted pass.setup.page_size (limits_by pass) (opened + opened_in wanted.which pass.setup.page_size rest) frames
   pub numbers : List ℕ
-  pub numbered : AreNumbered wanted pass.bounds.page_size opened numbers (open_in state frames)
-  pub has_told : HasTold wanted pass.bounds.page_size pass.told opened numbers
+  pub numbered : AreNumbered wanted pass.setup.page_size opened numbers (open_in state frames)
+  pub has_told : HasTold wanted pass.setup.page_size pass.told opened numbers
 
 -- What is known of it without the tree. A bucket that may be inline has values alone, which take at most a quarter of a page.
 pub record IsSmall (page_size : ℕ) (pending : Pending) (entries : List Leaf) : Type 0 where
@@ -161,9 +161,9 @@ IsPendingSmall page_size (Some pending) entries = IsSmall page_size pending entr
 
 pub record IsReady (pass : Pass) : Type 0 where
   pub bucket : IsOpenBucket pass.bucket
-  pub next : pass.next ≤ pass.bounds.limit
-  pub waiting : AllByRecursion (IsWaiting pass.bounds.page_size) pass.waiting.items
-  pub pending : IsPendingSmall pass.bounds.page_size pass.pending pass.entries.items
+  pub next : pass.next ≤ pass.setup.limit
+  pub waiting : AllByRecursion (IsWaiting pass.setup.page_size) pass.waiting.items
+  pub pending : IsPendingSmall pass.setup.page_size pass.pending pass.entries.items
   pub counted : AreCounted 0 pass.waiting.items
   pub around : pass.around ≡ capped (items_around pass.waiting.items)
 
@@ -179,27 +179,27 @@ depth_of pass = suc (length pass.waiting.items) + pending_depth pass.pending
 abbrev pub HasRoot : Layout → (page_size : ℕ) → Tree → Type 0
 HasRoot which page_size inside = is_inline page_size inside (items_of which page_size inside) ≡ false
 
--- these pages stand before others of the layout
+-- these pages come before others of the layout
 pub record StandsBefore (front whole : List Placed) : Type 0 where
   pub rest : List Placed
   pub parts : whole ≡ front ++ rest
   pub some : 1 ≤ length rest
 
--- A step puts further pages, of which others of the layout come behind, or a beginning of their bytes where it fails. It is too large a
--- layout where a step says so.
-pub record Steps {S A : Type 0} (wanted : Wanted) (taken : S → Option (List ℕ)) (failed : S → ℕ) (old new : S) (bounds : Bounds) (put : List Placed) (At : List Placed → Type 0) (result : Result A BulkFault) : Type 0 where
+-- A step writes further pages, after which others of the layout come, or a prefix of their bytes if it fails. If it returns TooLarge, the
+-- layout is too large.
+pub record Steps {S A : Type 0} (wanted : Wanted) (taken : S → Option (List ℕ)) (failed : S → ℕ) (old new : S) (setup : PageSetup) (put : List Placed) (At : List Placed → Type 0) (result : Result A BulkFault) : Type 0 where
   pub more : List Placed
-  pub puts : Puts taken failed old new (placed_bytes bounds.page_size more) result
+  pub puts : Puts taken failed old new (placed_bytes setup.page_size more) result
   pub at : OnOk result (At (put ++ more))
-  pub before : StandsBefore (put ++ more) (layout_pages wanted.which bounds.page_size wanted.tree)
-  pub large : IfErr result (λ e. e ≡ fault.TooLarge → bounds.limit < layout_mark wanted.which bounds.page_size wanted.tree)
+  pub before : StandsBefore (put ++ more) (layout_pages wanted.which setup.page_size wanted.tree)
+  pub large : IfErr result (λ e. e ≡ fault.TooLarge → setup.limit < layout_mark wanted.which setup.page_size wanted.tree)
 
 -- no path of the next member is longer
 abbrev pub IsNoDeeper : ℕ → List Member → Type 0
 IsNoDeeper depth [] = Unit {0}
 IsNoDeeper depth (member ∷ members) = length member.0 ≤ depth
 
--- it stands where these members are left
+-- the pass is where these members are left
 pub record HasLeft (wanted : Wanted) (pass : Pass) (members : List Member) (put : List Placed) : Type 0 where
   pub levels : List Level
   pub left : Tree

@@ -1,4 +1,4 @@
--- The limits of rows, as code keeps them: of those rows alone that have one.
+-- The limits of rows, as the code keeps them: only of the rows that have one.
 use Rattle.std.specs.Prelude.{◌≡◌, ◌⊎◌, ℕ, suc, Option, length}
 use Rattle.std.specs.BTreeMap.{get}
 use Rattle.std.specs.Ordering.{nat_cmp, ordering_then}
@@ -21,6 +21,6 @@ bucket_limit limits level = limit_in limits.all.now limits.bucket level
 abbrev pub IsOtherRow : (bucket level b l : ℕ) → Type 0
 IsOtherRow bucket level b l = (b ≡ bucket → ⊥) ⊎ (l ≡ level → ⊥)
 
--- what an open run tells of its row: how many runs it has, and how many items the last one has, with the page that is under way
+-- what an open run says of its row: how many runs it has, and how many items the last one has, with the page that is under way
 abbrev pub run_told : BranchRun → ℕ × ℕ
 run_told run = (suc run.closed, suc (length run.elements.items))

@@ -19,7 +19,7 @@ pub record BranchRow : Type 0 where
 abbrev pub no_row : (left : Option ℕ) → (closed : ℕ) → BranchRow
 no_row left closed = record { elements = []; size = 16; left = left; closed = closed }
 
--- how many runs of a row have closed, one more than before; 2^64 - 1 where there were more
+-- one more run of a row has closed; the count saturates at 2^64 - 1
 abbrev pub one_closed : ℕ → ℕ
 one_closed closed = min (closed + 1) 18446744073709551615
 
@@ -110,11 +110,11 @@ rows_room_put page_size rows key size =
     let put = leaf_page page_size rows.leaves rows.next ∷ rows_put page_size key closed after rows.uppers in
     if leaves_have_room page_size rows.leaves size then [] else put
 
--- an item below which the pages up to `next` were put
+-- an item below which the pages up to `next` were written
 abbrev pub rows_push : OpenRows → LeafElement → ℕ → ℕ → OpenRows
 rows_push rows e size next = record { leaves = record { elements = rows.leaves.elements ++ e ∷ []; size = rows.leaves.size + size }; uppers = rows.uppers; limits = rows.limits; next = next }
 
--- At the end each run closes in turn: the pages that this puts, and the number of the root page.
+-- At the end each run closes in turn: the pages that this writes, and the number of the root page.
 abbrev pub rows_close_put : ℕ → BranchElement → ℕ → List BranchRow → List Placed
 rows_close_put page_size e next [] = []
 rows_close_put page_size e next (row ∷ rows) = row_page page_size (row_push row e) next

@@ -1,8 +1,8 @@
--- The buckets that wait while one within them is open, as code keeps them.
+-- The buckets that wait while one within them is open, as the code keeps them.
 use Rattle.std.specs.Prelude.{◌≡◌, ◌≤◌, ◌+◌, ℕ, true, length}
 use Rattle.bolt_bulk.specs.Private.OpenBuckets.{IsOpenBucket, leaves_of}
 use Rattle.bolt_bulk.specs.Private.Rows.{leaves_have_room}
-use Rattle.bolt_bulk.specs.declared.steps.Waiting.{Waiting}
+use Rattle.bolt_bulk.specs.declared.waiting.Waiting.{Waiting}
 
 -- it has room for the bucket that it waits for
 pub record IsWaiting (page_size : ℕ) (waiting : Waiting) : Type 0 where

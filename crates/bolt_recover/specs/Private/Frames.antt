@@ -149,7 +149,7 @@ ahead_tasks file meta path (Some ahead) rest = To_visit tt (stop_place file meta
 abbrev pub state_tasks : State → List (Task NoWay)
 state_tasks s = ahead_tasks s.file s.meta s.path s.ahead (open_tasks s.file s.meta s.path s.pages [])
 
--- these members are left, and with the losses told so far these are all losses
+-- these members are left, and with the losses reported so far these are all losses
 pub record ComesTo (s : State) (members : List Member) (losses : List LossView) : Type 0 where
   pub visits : List (Visited NoWay)
   pub run : Runs s.file s.meta stay s.claimed (state_tasks s) visits members
@@ -164,20 +164,20 @@ over_by (Some ahead) pages = false
 abbrev pub is_over : State → Bool
 is_over s = over_by s.ahead s.pages
 
--- the same file, in good order
+-- the same file and meta, with good open pages
 pub record StaysOn (old new : State) : Type 0 where
   pub file : new.file ≡ old.file
   pub meta : new.meta ≡ old.meta
   pub placed : HasOpen new
 
--- nothing was given
+-- nothing was returned
 pub record GoesOn (old new : State) : Type 0 where
   pub on : StaysOn old new
   pub path : new.path ≡ old.path
   pub over : is_over old ≡ true → is_over new ≡ true
   pub same : (members : List Member) (losses : List LossView) → ComesTo old members losses → ComesTo new members losses
 
--- this element was given
+-- this element was returned
 pub record GivesHead (old new : State) (e : LeafElement) : Type 0 where
   pub on : StaysOn old new
   pub more : is_over new ≡ false
@@ -200,17 +200,17 @@ Takes old new (Leaf leaf) = GivesHead old new (leaf_view leaf)
 Takes old new Nothing = GoesOn old new
 Takes old new End = Ends old new
 
--- what of a listing is left: all behind the path of what was given last
+-- what of a listing is left: everything after the path of what was returned last
 abbrev pub left_by : State → List Member → List Member
 left_by s listing = if is_over s then [] else behind s.path listing
 
--- good steps over a file under this meta, which come to all that is recovered and lost of it
+-- Good steps over a file under this meta: what is left of them is what is left of the recovered listing, and all losses.
 pub record IsOn (s : State) (under : Meta) : Type 0 where
   pub meta : s.meta ≡ under
   pub placed : HasOpen s
   pub comes : (listing : List Member) (losses : List LossView) → IsRecovered s.file under listing → AreLosses s.file under losses → ComesTo s (left_by s listing) losses
 
--- a bucket that is given has a bucket's value
+-- a bucket that is returned has a bucket's value
 abbrev pub TakesBucket : Taken → Type 0
 TakesBucket (Leaf leaf) = IsTrue leaf.is_bucket → IsBucketValue leaf.value.now
 TakesBucket Nothing = Unit {0}
@@ -220,7 +220,7 @@ abbrev pub Advances : State → State → Option element.Leaf → Type 0
 Advances old new (Some leaf) = GivesHead old new (leaf_view leaf)
 Advances old new None = Ends old new
 
--- the finding of the root page, where the meta pages alone are claimed, or want of memory
+-- the finding of the root page while only the meta pages are claimed, or memory runs out
 abbrev pub IsRefusedRoot : List ℕ → Meta → CheckFault → Type 0
 IsRefusedRoot file meta (Structure x) = LosesRoot file meta x
 IsRefusedRoot file meta Memory = Unit {0}

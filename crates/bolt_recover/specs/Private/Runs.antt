@@ -1,4 +1,4 @@
--- What is still to be done, and all that comes of it. A way may be given as anything that a step takes further, or as nothing at all.
+-- What is still to be done, and all that comes of it. A way may be anything that a step takes further, or nothing at all.
 use Rattle.std.specs.Prelude.{◌≡◌, ℕ, zero, suc, ◌+◌, Bool, true, false, ◌||◌, ◌&&◌, List, [], ◌∷◌, ◌++◌, length, Option, Some, None, Result, Ok, Err, nat_le, nat_lt, slice_get}
 use Rattle.bolt_format.specs.Elements.{LeafElement}
 use Rattle.bolt_format.specs.declared.meta.Meta.{Meta}
@@ -12,7 +12,7 @@ use Rattle.bolt_tree.specs.Paths.{Path}
 use Rattle.bolt_recover.specs.Losses.{LossView, loss_of}
 use Rattle.bolt_recover.specs.Places.{Place, root_place, step_place}
 
--- a place to be visited, or an element to be given under its path
+-- a place to be visited, or an element to be returned under its path
 pub data Task (W : Type 0) : Type 0 where
   To_visit : W → Place → Task W
   To_give : Path → LeafElement → Task W
@@ -44,7 +44,7 @@ claims_of nodes (At_inline host keys) n = false
 abbrev pub claimed_with : Nodes → (ℕ → Bool) → Spot → ℕ → Bool
 claimed_with nodes claimed spot n = claimed n || claims_of nodes spot n
 
--- the meta pages alone
+-- only the meta pages
 abbrev pub meta_pages : ℕ → Bool
 meta_pages n = nat_lt n 2
 
@@ -66,11 +66,11 @@ module _ (file : List ℕ) (meta : Meta) {W : Type 0} (further : W → ℕ → W
   visits_at way None = []
   visits_at way (Some p) = To_visit way p ∷ []
 
-  -- what there is to do at one entry of a place: its element is given, and where it leads is visited
+  -- what there is to do at one entry of a place: its element is returned, and where it leads is visited
   abbrev pub entry_tasks : W → Place → ℕ → List (Task W)
   entry_tasks way p i = gives_at p.path (slice_get p.elements i) ++ visits_at (further way i) (step_place file meta p i)
 
-  -- what there is to do at so many entries from entry i on
+  -- what there is to do at `k` entries, from entry i on
   abbrev pub tasks_from : W → Place → ℕ → ℕ → List (Task W)
   tasks_from way p i zero = []
   tasks_from way p i (suc k) = entry_tasks way p i ++ tasks_from way p (suc i) k

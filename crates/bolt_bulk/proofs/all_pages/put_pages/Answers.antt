@@ -9,7 +9,7 @@ use Rattle.bolt_layout.specs.Laid.{Placed}
 use Rattle.bolt_bulk.specs.Private.Endings.{Ends}
 use Rattle.bolt_bulk.specs.Private.Passes.{FitLimits, HasLeft, Steps, Wanted, limits_with}
 use Rattle.bolt_layout.specs.declared.layout.Layout.{Layout}
-use Rattle.bolt_bulk.specs.declared.bounds.Bounds.{Bounds}
+use Rattle.bolt_bulk.specs.declared.page_setup.PageSetup.{PageSetup}
 use Rattle.bolt_bulk.specs.declared.fault.BulkFault.{BulkFault}
 use Rattle.bolt_bulk.specs.declared.fault.BulkFault.TheVariants as fault
 use Rattle.bolt_bulk.proofs.PassAt.{steps_failed, steps_then}
@@ -23,24 +23,24 @@ pub members-init : goal.members-init
 members-init g c = record {
   same = λ listing. (λ is. is, λ is. is);
   end = λ end is. is;
-  bounds = refl;
+  setup = refl;
   ready = c.new-pass.ensures.ready;
   fit = whole_fits g.M.Members.lists g.M.Members.left c.args.members.now c.requires.whole;
   steps = λ which listing lists fit.
       let wanted : Wanted = record { which = which; tree = tree_of listing; tells = c.args.tells } in
       let all = listing_is_back listing (c.requires.whole.one listing lists) ∙ sym (c.requires.whole.all listing lists) in
       steps_begun wanted c.new-pass.result (g.M.Members.left c.args.members.now listing) [] c.args.sink.now
-      (subst (λ (ms : List Member). HasLeft wanted c.new-pass.result ms []) all (c.new-pass.ensures.at wanted refl (subst (λ (n : ℕ). FitLimits which (tree_of listing) n (limits_with c.args.limits.now)) (ap (λ (b : Bounds). b.page_size) c.new-pass.ensures.bounds) fit)));
+      (subst (λ (ms : List Member). HasLeft wanted c.new-pass.result ms []) all (c.new-pass.ensures.at wanted refl (subst (λ (n : ℕ). FitLimits which (tree_of listing) n (limits_with c.args.limits.now)) (ap (λ (b : PageSetup). b.page_size) c.new-pass.ensures.setup) fit)));
 }
 
 pub returns-in-Err-clause-pages : goal.returns-in-Err-clause-pages
 returns-in-Err-clause-pages g c = λ which listing lists fit0.
     let wanted : Wanted = record { which = which; tree = tree_of listing; tells = c.args.tells } in
-    let fit = subst (λ (b : Bounds). FitLimits which (tree_of listing) b.page_size (limits_with c.args.limits.now)) (sym c.new-pass.ensures.bounds) fit0 in
+    let fit = subst (λ (b : PageSetup). FitLimits which (tree_of listing) b.page_size (limits_with c.args.limits.now)) (sym c.new-pass.ensures.setup) fit0 in
     let steps = c.members.invariant.steps which listing lists fit in
-    subst (λ (b : Bounds). Ends wanted g.S.Sink.taken g.S.Sink.failed c.args.sink.now c.members.sink b [] (Err fault.Memory)) c.new-pass.ensures.bounds
-    (ends_early wanted g.S.Sink.taken g.S.Sink.failed c.new-pass.result.bounds c.args.sink.now c.members.sink [] (HasLeft wanted c.members.pass (g.M.Members.left c.members.members listing)) fault.Memory
-    (steps_failed wanted g.S.Sink.taken g.S.Sink.failed c.new-pass.result.bounds {B = ⊤} c.args.sink.now c.members.sink [] _ tt steps))
+    subst (λ (b : PageSetup). Ends wanted g.S.Sink.taken g.S.Sink.failed c.args.sink.now c.members.sink b [] (Err fault.Memory)) c.new-pass.ensures.setup
+    (ends_early wanted g.S.Sink.taken g.S.Sink.failed c.new-pass.result.setup c.args.sink.now c.members.sink [] (HasLeft wanted c.members.pass (g.M.Members.left c.members.members listing)) fault.Memory
+    (steps_failed wanted g.S.Sink.taken g.S.Sink.failed c.new-pass.result.setup {B = ⊤} c.args.sink.now c.members.sink [] _ tt steps))
 
 pub end-requires : goal.end-requires
 end-requires g c = c.members.invariant.ready
@@ -48,14 +48,14 @@ end-requires g c = c.members.invariant.ready
 pub returns-in-Ok-None-clause-pages : goal.returns-in-Ok-None-clause-pages
 returns-in-Ok-None-clause-pages g c = λ which listing lists fit0.
     let wanted : Wanted = record { which = which; tree = tree_of listing; tells = c.args.tells } in
-    let fit = subst (λ (b : Bounds). FitLimits which (tree_of listing) b.page_size (limits_with c.args.limits.now)) (sym c.new-pass.ensures.bounds) fit0 in
+    let fit = subst (λ (b : PageSetup). FitLimits which (tree_of listing) b.page_size (limits_with c.args.limits.now)) (sym c.new-pass.ensures.setup) fit0 in
     let given = rw c.in-Ok-None.field-0-is at c.in-Ok-None.ensures.given in
     let here = (c.members.invariant.same listing).1 lists in
     let none : g.M.Members.left c.members.members listing ≡ [] = (given listing here).0 in
     let steps = c.members.invariant.steps which listing lists fit in
-    subst (λ (b : Bounds). Ends wanted g.S.Sink.taken g.S.Sink.failed c.args.sink.now c.end.new.sink b [] c.end.result) c.new-pass.ensures.bounds
-    (ends_after wanted g.S.Sink.taken g.S.Sink.failed c.new-pass.result.bounds c.args.sink.now c.members.sink c.end.new.sink [] (HasLeft wanted c.members.pass (g.M.Members.left c.members.members listing)) tt c.end.result steps
-    (λ all mid. subst (λ (b : Bounds). Ends wanted g.S.Sink.taken g.S.Sink.failed c.members.sink c.end.new.sink b all c.end.result) c.members.invariant.bounds
+    subst (λ (b : PageSetup). Ends wanted g.S.Sink.taken g.S.Sink.failed c.args.sink.now c.end.new.sink b [] c.end.result) c.new-pass.ensures.setup
+    (ends_after wanted g.S.Sink.taken g.S.Sink.failed c.new-pass.result.setup c.args.sink.now c.members.sink c.end.new.sink [] (HasLeft wanted c.members.pass (g.M.Members.left c.members.members listing)) tt c.end.result steps
+    (λ all mid. subst (λ (b : PageSetup). Ends wanted g.S.Sink.taken g.S.Sink.failed c.members.sink c.end.new.sink b all c.end.result) c.members.invariant.setup
     (c.end.ensures wanted all (subst (λ (ms : List Member). HasLeft wanted c.members.pass ms all) none mid))))
 
 pub take-requires-clause-ready : goal.take-requires-clause-ready
@@ -72,7 +72,7 @@ take-requires-clause-fit g c =
 pub returns-in-Err-take-clause-pages : goal.returns-in-Err-take-clause-pages
 returns-in-Err-take-clause-pages g c = λ which listing lists fit0.
     let wanted : Wanted = record { which = which; tree = tree_of listing; tells = c.args.tells } in
-    let fit = subst (λ (b : Bounds). FitLimits which (tree_of listing) b.page_size (limits_with c.args.limits.now)) (sym c.new-pass.ensures.bounds) fit0 in
+    let fit = subst (λ (b : PageSetup). FitLimits which (tree_of listing) b.page_size (limits_with c.args.limits.now)) (sym c.new-pass.ensures.setup) fit0 in
     let given = rw c.in-Ok-Some.field-0-is at c.in-Ok-Some.ensures.given in
     let path : g.M.Members.last_path c.next.new.self ≡ path_of c.path.result.now = sym c.path.ensures in
     let member : Member = (path_of c.path.result.now, item_view c.in-Ok-Some.item) in
@@ -81,10 +81,10 @@ returns-in-Err-take-clause-pages g c = λ which listing lists fit0.
     let stop : Result ⊤ BulkFault = Err c.in-Err-take.fault in
     let At : List Placed → Type 0 = HasLeft wanted c.take.new.self (g.M.Members.left c.next.new.self listing) in
     let steps = c.members.invariant.steps which listing lists fit in
-    subst (λ (b : Bounds). Ends wanted g.S.Sink.taken g.S.Sink.failed c.args.sink.now c.take.new.sink b [] (Err c.in-Err-take.fault)) c.new-pass.ensures.bounds
-    (ends_early wanted g.S.Sink.taken g.S.Sink.failed c.new-pass.result.bounds c.args.sink.now c.take.new.sink [] At c.in-Err-take.fault
-    (steps_then wanted g.S.Sink.taken g.S.Sink.failed c.new-pass.result.bounds c.args.sink.now c.members.sink c.take.new.sink [] (HasLeft wanted c.members.pass (g.M.Members.left c.members.members listing)) At tt stop steps
-    (λ all mid. subst (λ (b : Bounds). Steps wanted g.S.Sink.taken g.S.Sink.failed c.members.sink c.take.new.sink b all At stop) c.members.invariant.bounds
+    subst (λ (b : PageSetup). Ends wanted g.S.Sink.taken g.S.Sink.failed c.args.sink.now c.take.new.sink b [] (Err c.in-Err-take.fault)) c.new-pass.ensures.setup
+    (ends_early wanted g.S.Sink.taken g.S.Sink.failed c.new-pass.result.setup c.args.sink.now c.take.new.sink [] At c.in-Err-take.fault
+    (steps_then wanted g.S.Sink.taken g.S.Sink.failed c.new-pass.result.setup c.args.sink.now c.members.sink c.take.new.sink [] (HasLeft wanted c.members.pass (g.M.Members.left c.members.members listing)) At tt stop steps
+    (λ all mid. subst (λ (b : PageSetup). Steps wanted g.S.Sink.taken g.S.Sink.failed c.members.sink c.take.new.sink b all At stop) c.members.invariant.setup
     (c.in-Err-take.ensures.steps wanted (g.M.Members.left c.next.new.self listing) all (subst (λ (ms : List Member). HasLeft wanted c.members.pass ms all) next mid)))))
 
 pub members-smaller : goal.members-smaller
@@ -98,15 +98,15 @@ members-preserved g c =
     let next : (listing : List Member) → g.M.Members.lists c.members.members listing → g.M.Members.left c.members.members listing ≡ member ∷ g.M.Members.left c.next.new.self listing = λ listing is.
     given listing is ∙ ap (λ (p : Path). (p, item_view c.in-Ok-Some.item) ∷ g.M.Members.left c.next.new.self listing) path in
     let taken : (which : Layout) (listing : List Member) (lists : g.M.Members.lists c.args.members.now listing)
-    → FitLimits which (tree_of listing) c.new-pass.result.bounds.page_size (limits_with c.args.limits.now)
-    → Steps {A = ⊤} (record { which = which; tree = tree_of listing; tells = c.args.tells }) g.S.Sink.taken g.S.Sink.failed c.args.sink.now c.take.new.sink c.new-pass.result.bounds []
+    → FitLimits which (tree_of listing) c.new-pass.result.setup.page_size (limits_with c.args.limits.now)
+    → Steps {A = ⊤} (record { which = which; tree = tree_of listing; tells = c.args.tells }) g.S.Sink.taken g.S.Sink.failed c.args.sink.now c.take.new.sink c.new-pass.result.setup []
     (HasLeft (record { which = which; tree = tree_of listing; tells = c.args.tells }) c.take.new.self (g.M.Members.left c.next.new.self listing)) (Ok tt) = λ which listing lists fit.
     let wanted : Wanted = record { which = which; tree = tree_of listing; tells = c.args.tells } in
     let well : Result ⊤ BulkFault = Ok tt in
     let At : List Placed → Type 0 = HasLeft wanted c.take.new.self (g.M.Members.left c.next.new.self listing) in
-    steps_then wanted g.S.Sink.taken g.S.Sink.failed c.new-pass.result.bounds c.args.sink.now c.members.sink c.take.new.sink [] (HasLeft wanted c.members.pass (g.M.Members.left c.members.members listing)) At tt well
+    steps_then wanted g.S.Sink.taken g.S.Sink.failed c.new-pass.result.setup c.args.sink.now c.members.sink c.take.new.sink [] (HasLeft wanted c.members.pass (g.M.Members.left c.members.members listing)) At tt well
     (c.members.invariant.steps which listing lists fit)
-    (λ all mid. subst (λ (b : Bounds). Steps wanted g.S.Sink.taken g.S.Sink.failed c.members.sink c.take.new.sink b all At well) c.members.invariant.bounds
+    (λ all mid. subst (λ (b : PageSetup). Steps wanted g.S.Sink.taken g.S.Sink.failed c.members.sink c.take.new.sink b all At well) c.members.invariant.setup
     (c.in_default.ensures.steps wanted (g.M.Members.left c.next.new.self listing) all (subst (λ (ms : List Member). HasLeft wanted c.members.pass ms all) (next listing ((c.members.invariant.same listing).1 lists)) mid))) in
     record {
       same = λ listing. (
@@ -114,7 +114,7 @@ members-preserved g c =
         λ is. (c.next.ensures.listing listing).1 ((c.members.invariant.same listing).1 is),
       );
       end = λ end is. c.members.invariant.end end (c.next.ensures.same_end end is);
-      bounds = c.in_default.ensures.bounds ∙ c.members.invariant.bounds;
+      setup = c.in_default.ensures.setup ∙ c.members.invariant.setup;
       ready = c.in_default.ensures.ready;
       fit = others_fit g.M.Members.lists g.M.Members.left c.args.members.now c.members.members c.next.new.self (path_of c.path.result.now) (item_view c.in-Ok-Some.item)
           c.members.invariant.fit (λ listing is. next listing ((c.members.invariant.same listing).1 is));

@@ -1,4 +1,4 @@
--- The headers before number i were put, or stand in the row.
+-- The headers before number i were written, or are in the row.
 use Rattle.bolt_bulk.proofs.BranchPuts.{head_of, key_of}
 use Rattle.bolt_bulk.proofs.ElementPuts.{HeadsPut}
 use Rattle.bolt_bulk.proofs.branch_page.put_headers.Given as goal

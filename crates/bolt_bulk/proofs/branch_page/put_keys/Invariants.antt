@@ -1,4 +1,4 @@
--- The keys before number i were put.
+-- The keys before number i were written.
 use Rattle.std.proofs.Common.{drop}
 use Rattle.bolt_bulk.proofs.BranchPuts.{key_of}
 use Rattle.bolt_bulk.proofs.ElementPuts.{data_of}

@@ -1,4 +1,4 @@
--- The climb over the runs that are left gives what the whole climb gives.
+-- The climb over the runs that are left comes to the same as the whole climb.
 use Rattle.std.proofs.Common.{◌≡◌, ◌≤◌, length}
 use Rattle.std.specs.List.{AllByRecursion}
 use Rattle.bolt_format.specs.ElementPlaces.{branch_view}
@@ -9,9 +9,9 @@ use Rattle.bolt_bulk.proofs.branch_runs.climb.Given as goal
 
 abbrev pub invariant-loop-i : goal.invariant-loop-i
 invariant-loop-i g l =
-    Climbing l.bounds.page_size (bucket_limit l.limits (length (rows_above l.initial.uppers.items))) l.key (branch_view l.closed-2) l.initial.next (rows_above l.initial.uppers.items) g.S.Sink.taken g.S.Sink.failed l.initial.sink l.sink
+    Climbing l.setup.page_size (bucket_limit l.limits (length (rows_above l.initial.uppers.items))) l.key (branch_view l.closed-2) l.initial.next (rows_above l.initial.uppers.items) g.S.Sink.taken g.S.Sink.failed l.initial.sink l.sink
     (rows_above l.uppers.items) l.i (branch_view l.closed) l.next
     × AllByRecursion IsStanding (rows_above l.uppers.items)
     × (length l.uppers.items ≡ length l.initial.uppers.items)
     × (length l.closed.key.now ≤ 1073741824)
-    × (l.next ≤ l.bounds.limit)
+    × (l.next ≤ l.setup.limit)

@@ -1,4 +1,4 @@
--- The runs that are left give what all of them give: each that closes is one step on, and a fault leaves something out.
+-- The runs that are left come to the same as all of them: each that closes is one step on, and a fault leaves something out.
 use Rattle.std.proofs.Common.{◌∙◌, ◌+◌, ◌<◌, arith, ap, List, subst, sym, map, length}
 use Rattle.std.specs.List.{AllByRecursion}
 use Rattle.std.proofs.lemmas.List.{map-set, length-set}
@@ -17,21 +17,21 @@ pub returns-in-Err-clause-pages : goal.returns-in-Err-clause-pages
 returns-in-Err-clause-pages g c =
     let h : c.loop-i.i < length c.loop-i.uppers.items = (let l = c.loop-i.invariant.2 in let t = c.loop-i-test.true in omega arith) in
     let row = row_of c.index_mut.result.now in
-    close_stops c.args.bounds.now.page_size _ _ _ _ _ _ (map row_of c.loop-i.uppers.items) c.loop-i.i (branch_view c.loop-i.closed) c.loop-i.next row row _
+    close_stops c.args.setup.now.page_size _ _ _ _ _ _ (map row_of c.loop-i.uppers.items) c.loop-i.i (branch_view c.loop-i.closed) c.loop-i.next row row _
     (within_rows c.loop-i.uppers.items c.loop-i.i h) (row_at c.loop-i.uppers.items c.loop-i.i c.index_mut.result.now h c.index_mut.ensures.value) c.loop-i.invariant.0 c.in-Err.ensures.pages
 
 pub returns-in-Err-clause-short : goal.returns-in-Err-clause-short
 returns-in-Err-clause-short g c =
     let h : c.loop-i.i < length c.loop-i.uppers.items = (let l = c.loop-i.invariant.2 in let t = c.loop-i-test.true in omega arith) in
     let row = row_of c.index_mut.result.now in
-    close_short c.args.bounds.now.page_size _ _ _ _ _ _ (map row_of c.loop-i.uppers.items) c.loop-i.i (branch_view c.loop-i.closed) c.loop-i.next row row
+    close_short c.args.setup.now.page_size _ _ _ _ _ _ (map row_of c.loop-i.uppers.items) c.loop-i.i (branch_view c.loop-i.closed) c.loop-i.next row row
     (within_rows c.loop-i.uppers.items c.loop-i.i h) (row_at c.loop-i.uppers.items c.loop-i.i c.index_mut.result.now h c.index_mut.ensures.value) c.loop-i.invariant.0 c.in-Err.ensures.short
 
 pub returns-in-Err-clause-large : goal.returns-in-Err-clause-large
 returns-in-Err-clause-large g c = λ large.
     let h : c.loop-i.i < length c.loop-i.uppers.items = (let l = c.loop-i.invariant.2 in let t = c.loop-i-test.true in omega arith) in
     let row = row_of c.index_mut.result.now in
-    close_large c.args.bounds.now.page_size c.args.bounds.now.limit _ _ _ _ _ (map row_of c.loop-i.uppers.items) c.loop-i.i (branch_view c.loop-i.closed) c.loop-i.next row row
+    close_large c.args.setup.now.page_size c.args.setup.now.limit _ _ _ _ _ (map row_of c.loop-i.uppers.items) c.loop-i.i (branch_view c.loop-i.closed) c.loop-i.next row row
     (within_rows c.loop-i.uppers.items c.loop-i.i h) (row_at c.loop-i.uppers.items c.loop-i.i c.index_mut.result.now h c.index_mut.ensures.value) c.loop-i.invariant.0 (c.in-Err.ensures.large large)
 
 pub loop-i-preserved : goal.loop-i-preserved
@@ -39,12 +39,12 @@ loop-i-preserved g c =
     let h : c.loop-i.i < length c.loop-i.uppers.items = (let l = c.loop-i.invariant.2 in let t = c.loop-i-test.true in omega arith) in
     let row = row_of c.index_mut.result.now in
     let e = branch_view c.loop-i.closed in
-    let more = close_more c.args.bounds.now.page_size _ _ _ _ _ _ (map row_of c.loop-i.uppers.items) c.loop-i.i e c.loop-i.next row row (row_of c.end.new.self) _ (branch_view c.in-Ok.up) c.end.new.next
+    let more = close_more c.args.setup.now.page_size _ _ _ _ _ _ (map row_of c.loop-i.uppers.items) c.loop-i.i e c.loop-i.next row row (row_of c.end.new.self) _ (branch_view c.in-Ok.up) c.end.new.next
     (within_rows c.loop-i.uppers.items c.loop-i.i h) (row_at c.loop-i.uppers.items c.loop-i.i c.index_mut.result.now h c.index_mut.ensures.value) c.in-Ok.ensures.up c.in-Ok.ensures.next c.loop-i.invariant.0 c.in-Ok.ensures.pages in
     let k = up_key e c.loop-i.next row (standing_at c.loop-i.uppers.items c.loop-i.i c.index_mut.result.now h c.index_mut.ensures.value c.loop-i.invariant.1) c.loop-i.invariant.3 in
     let kk = ap (λ (x : BranchElement). length x.key) c.in-Ok.ensures.up in
     let rows = sym (map-set row_of c.loop-i.uppers.items c.loop-i.i c.end.new.self) in (
-      subst (λ (rs : List BranchRow). Closing c.args.bounds.now.page_size (branch_view c.args.closed) c.args.next.now (map row_of c.args.uppers.now.items) g.S.Sink.taken g.S.Sink.failed c.args.sink.now c.end.new.sink rs (c.loop-i.i + 1) (branch_view c.in-Ok.up) c.end.new.next) rows more,
+      subst (λ (rs : List BranchRow). Closing c.args.setup.now.page_size (branch_view c.args.closed) c.args.next.now (map row_of c.args.uppers.now.items) g.S.Sink.taken g.S.Sink.failed c.args.sink.now c.end.new.sink rs (c.loop-i.i + 1) (branch_view c.in-Ok.up) c.end.new.next) rows more,
       subst (λ (rs : List BranchRow). AllByRecursion IsStanding rs) rows
           (standing_set (map row_of c.loop-i.uppers.items) c.loop-i.i (row_of c.end.new.self) c.loop-i.invariant.1 c.in-Ok.ensures.standing),
       length-set c.loop-i.uppers.items c.loop-i.i c.end.new.self ∙ c.loop-i.invariant.2,

@@ -1,4 +1,4 @@
--- The runs that are left give what all of them give.
+-- The runs that are left come to the same as all of them.
 use Rattle.std.proofs.Common.{◌≡◌, ◌≤◌, length}
 use Rattle.std.specs.List.{AllByRecursion}
 use Rattle.bolt_format.specs.ElementPlaces.{branch_view}
@@ -8,9 +8,9 @@ use Rattle.bolt_bulk.proofs.branch_runs.close_all.Given as goal
 
 abbrev pub invariant-loop-i : goal.invariant-loop-i
 invariant-loop-i g l =
-    Closing l.bounds.page_size (branch_view l.closed-2) l.initial.next (rows_above l.initial.uppers.items) g.S.Sink.taken g.S.Sink.failed l.initial.sink l.sink
+    Closing l.setup.page_size (branch_view l.closed-2) l.initial.next (rows_above l.initial.uppers.items) g.S.Sink.taken g.S.Sink.failed l.initial.sink l.sink
     (rows_above l.uppers.items) l.i (branch_view l.closed) l.next
     × AllByRecursion IsStanding (rows_above l.uppers.items)
     × (length l.uppers.items ≡ length l.initial.uppers.items)
     × (length l.closed.key.now ≤ 1073741824)
-    × (l.next ≤ l.bounds.limit)
+    × (l.next ≤ l.setup.limit)

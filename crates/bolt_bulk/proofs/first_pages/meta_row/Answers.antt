@@ -1,4 +1,4 @@
--- The row has room: a header has 16 bytes, the record behind it 56, and the checksum 8.
+-- The row has room: a header has 16 bytes, the record after it 56, and the checksum 8.
 use Rattle.std.proofs.Common.{◌∙◌, arith, ap, ℕ, List, length}
 use Rattle.std.proofs.lemmas.List.{length-append}
 use Rattle.bolt_layout.proofs.PageLemmas.{length-header_bytes}

@@ -1,4 +1,4 @@
--- The data before number i were put.
+-- The data before number i were written.
 use Rattle.std.proofs.Common.{drop}
 use Rattle.bolt_bulk.specs.Private.HeldItems.{held_view}
 use Rattle.bolt_bulk.proofs.ElementPuts.{data_of}

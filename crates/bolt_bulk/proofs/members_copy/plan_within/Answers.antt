@@ -10,7 +10,7 @@ use Rattle.bolt_bulk.proofs.members_copy.plan_within.Goals as goal
 pub put_pages-requires : goal.put_pages-requires
 put_pages-requires g c κs = (
   (refl, tt),
-  (c.bounds_of-bounds.ensures.room, whole_again g.M.Members.lists g.M.Members.left c.args.members.now c.in_ok-again.again c.in_ok-again.ensures.listing c.in_ok-again.ensures.all c.requires.whole),
+  (c.setup_of-setup.ensures.room, whole_again g.M.Members.lists g.M.Members.left c.args.members.now c.in_ok-again.again c.in_ok-again.ensures.listing c.in_ok-again.ensures.all c.requires.whole),
 )
 
 pub unreachable-requires : goal.unreachable-requires
@@ -18,6 +18,6 @@ unreachable-requires g c = ∥∥₁_elim c.requires.whole.some (Prim.hlevel pro
     let listing = is.0 in
     let lists = is.1 in
     let which = c.args.shape.now.layout in
-    let fit = subst (λ (n : ℕ). FitLimits which (tree_of listing) n (limits_with c.args.limits.now)) (sym c.bounds_of-bounds.ensures.page_size) (c.requires.fit listing lists) in
+    let fit = subst (λ (n : ℕ). FitLimits which (tree_of listing) n (limits_with c.args.limits.now)) (sym c.setup_of-setup.ensures.page_size) (c.requires.fit listing lists) in
     let ends = c.in-Err-Sink.ensures.pages which listing ((c.in_ok-again.ensures.listing listing).1 lists) fit in
     let none : 0 < 0 = ends.puts.failure c.in-Err-Sink.field-0-is in omega arith)

@@ -40,48 +40,48 @@ pub overflow_mul-result : goal.overflow_mul-result
 overflow_mul-result g c = ∥∥₁_elim c.requires.some (Prim.hlevel props) (λ is.
     let listing = is.0 in
     let lists = is.1 in
-    let ends = c.in-Ok.ensures.pages c.args.shape.now.layout listing lists (subst (λ (n : ℕ). FitLimits c.args.shape.now.layout (tree_of listing) n (limits_with c.in_ok-limits.limits)) (sym c.bounds_of-bounds.ensures.page_size) (c.in_ok-limits.ensures.fit listing lists)) in
-    let few = within_limit c.args.shape.now.page_size c.bounds_of-bounds.result.limit c.in-Ok.ended.high_water (c.in-Ok.ended.high_water * c.args.shape.now.page_size) c.bounds_of-bounds.ensures.limit ends.within refl in omega arith)
+    let ends = c.in-Ok.ensures.pages c.args.shape.now.layout listing lists (subst (λ (n : ℕ). FitLimits c.args.shape.now.layout (tree_of listing) n (limits_with c.in_ok-limits.limits)) (sym c.setup_of-setup.ensures.page_size) (c.in_ok-limits.ensures.fit listing lists)) in
+    let few = within_limit c.args.shape.now.page_size c.setup_of-setup.result.limit c.in-Ok.ended.high_water (c.in-Ok.ended.high_water * c.args.shape.now.page_size) c.setup_of-setup.ensures.limit ends.within refl in omega arith)
 
 pub returns-in-Err-put_pages-clause-copied : goal.returns-in-Err-put_pages-clause-copied
 returns-in-Err-put_pages-clause-copied g c = λ listing lists.
     let planned = c.in_ok-plan.ensures listing lists in
     let tree = tree_of listing in
-    let P : ℕ = c.bounds_of-bounds.result.page_size in
-    let ends = c.in-Err-put_pages.ensures.pages c.args.shape.now.layout listing lists (subst (λ (n : ℕ). FitLimits c.args.shape.now.layout (tree_of listing) n (limits_with c.in_ok-limits.limits)) (sym c.bounds_of-bounds.ensures.page_size) (c.in_ok-limits.ensures.fit listing lists)) in
+    let P : ℕ = c.setup_of-setup.result.page_size in
+    let ends = c.in-Err-put_pages.ensures.pages c.args.shape.now.layout listing lists (subst (λ (n : ℕ). FitLimits c.args.shape.now.layout (tree_of listing) n (limits_with c.in_ok-limits.limits)) (sym c.setup_of-setup.ensures.page_size) (c.in_ok-limits.ensures.fit listing lists)) in
     let facts : Facts = record { page_size = c.args.shape.now.page_size; root = c.in_ok-plan.plan.root; sequence = c.args.shape.now.sequence; mark = c.in_ok-plan.plan.high_water } in
     let parts : layout_of_listing c.args.shape.now.layout c.args.shape.now.page_size listing c.args.shape.now.sequence ≡ first_pages facts ++ placed_bytes c.args.shape.now.page_size (layout_pages c.args.shape.now.layout c.args.shape.now.page_size tree) =
     (layout_parts c.args.shape.now.layout c.args.shape.now.page_size tree c.args.shape.now.sequence c.in_ok-plan.plan.root c.in_ok-plan.plan.high_water planned.root planned.high_water) in
     let others : placed_bytes c.args.shape.now.page_size (layout_pages c.args.shape.now.layout c.args.shape.now.page_size tree) ≡ placed_bytes P ends.others =
-    ap (λ (n : ℕ). placed_bytes n (layout_pages c.args.shape.now.layout n tree)) (sym c.bounds_of-bounds.ensures.page_size) ∙ ap (placed_bytes P) ends.all in
+    ap (λ (n : ℕ). placed_bytes n (layout_pages c.args.shape.now.layout n tree)) (sym c.setup_of-setup.ensures.page_size) ∙ ap (placed_bytes P) ends.all in
     let whole = parts ∙ ap (λ (bytes : List ℕ). first_pages facts ++ bytes) others in
     let low = (size_bounds c.args.shape.now.page_size c.args.shape.now.accepted).0 in
-    let mark : layout_mark c.args.shape.now.layout P tree ≡ layout_mark c.args.shape.now.layout c.args.shape.now.page_size tree = ap (λ (n : ℕ). layout_mark c.args.shape.now.layout n tree) c.bounds_of-bounds.ensures.page_size in
+    let mark : layout_mark c.args.shape.now.layout P tree ≡ layout_mark c.args.shape.now.layout c.args.shape.now.page_size tree = ap (λ (n : ℕ). layout_mark c.args.shape.now.layout n tree) c.setup_of-setup.ensures.page_size in
     stops_later g.S.Sink.taken g.S.Sink.failed c.args.sink.now c.put_pages.new.sink _ (first_pages facts) (placed_bytes P ends.others) whole planned.fits c.put_first_pages.new.sink tt c.in-Err-put_pages.fault
     c.in_default.ensures ends.puts ends.short
-    (λ e. let above = ends.large e in too_large c.args.shape.now.page_size c.bounds_of-bounds.result.limit (layout_mark c.args.shape.now.layout c.args.shape.now.page_size tree) _ (omega arith) c.bounds_of-bounds.ensures.limit (omega arith) (c.a_listing_has_one_layout.ensures.length c.args.shape.now.layout listing (c.requires.one listing lists)))
+    (λ e. let above = ends.large e in too_large c.args.shape.now.page_size c.setup_of-setup.result.limit (layout_mark c.args.shape.now.layout c.args.shape.now.page_size tree) _ (omega arith) c.setup_of-setup.ensures.limit (omega arith) (c.a_listing_has_one_layout.ensures.length c.args.shape.now.layout listing (c.requires.one listing lists)))
 
 pub returns-clause-copied : goal.returns-clause-copied
 returns-clause-copied g c = λ listing lists.
     let planned = c.in_ok-plan.ensures listing lists in
     let tree = tree_of listing in
-    let P : ℕ = c.bounds_of-bounds.result.page_size in
-    let ends = c.in-Ok.ensures.pages c.args.shape.now.layout listing lists (subst (λ (n : ℕ). FitLimits c.args.shape.now.layout (tree_of listing) n (limits_with c.in_ok-limits.limits)) (sym c.bounds_of-bounds.ensures.page_size) (c.in_ok-limits.ensures.fit listing lists)) in
+    let P : ℕ = c.setup_of-setup.result.page_size in
+    let ends = c.in-Ok.ensures.pages c.args.shape.now.layout listing lists (subst (λ (n : ℕ). FitLimits c.args.shape.now.layout (tree_of listing) n (limits_with c.in_ok-limits.limits)) (sym c.setup_of-setup.ensures.page_size) (c.in_ok-limits.ensures.fit listing lists)) in
     let facts : Facts = record { page_size = c.args.shape.now.page_size; root = c.in_ok-plan.plan.root; sequence = c.args.shape.now.sequence; mark = c.in_ok-plan.plan.high_water } in
     let parts : layout_of_listing c.args.shape.now.layout c.args.shape.now.page_size listing c.args.shape.now.sequence ≡ first_pages facts ++ placed_bytes c.args.shape.now.page_size (layout_pages c.args.shape.now.layout c.args.shape.now.page_size tree) =
     (layout_parts c.args.shape.now.layout c.args.shape.now.page_size tree c.args.shape.now.sequence c.in_ok-plan.plan.root c.in_ok-plan.plan.high_water planned.root planned.high_water) in
     let others : placed_bytes c.args.shape.now.page_size (layout_pages c.args.shape.now.layout c.args.shape.now.page_size tree) ≡ placed_bytes P ends.others =
-    ap (λ (n : ℕ). placed_bytes n (layout_pages c.args.shape.now.layout n tree)) (sym c.bounds_of-bounds.ensures.page_size) ∙ ap (placed_bytes P) ends.all in
+    ap (λ (n : ℕ). placed_bytes n (layout_pages c.args.shape.now.layout n tree)) (sym c.setup_of-setup.ensures.page_size) ∙ ap (placed_bytes P) ends.all in
     let whole = parts ∙ ap (λ (bytes : List ℕ). first_pages facts ++ bytes) others in
-    let mark : c.in-Ok.ended.high_water ≡ layout_mark c.args.shape.now.layout c.args.shape.now.page_size tree = ends.mark ∙ ap (λ (n : ℕ). layout_mark c.args.shape.now.layout n tree) c.bounds_of-bounds.ensures.page_size in
+    let mark : c.in-Ok.ended.high_water ≡ layout_mark c.args.shape.now.layout c.args.shape.now.page_size tree = ends.mark ∙ ap (λ (n : ℕ). layout_mark c.args.shape.now.layout n tree) c.setup_of-setup.ensures.page_size in
     copied g.S.Sink.taken g.S.Sink.failed c.args.sink.now c.put_pages.new.sink _ (first_pages facts) (placed_bytes P ends.others) whole planned.fits c.put_first_pages.new.sink tt c.in-Ok.ended _ _
     c.in_default.ensures ends.puts (ap (λ (n : ℕ). n * c.args.shape.now.page_size) mark ∙ sym (c.a_listing_has_one_layout.ensures.length c.args.shape.now.layout listing (c.requires.one listing lists)))
 
 pub returns-clause-held : goal.returns-clause-held
 returns-clause-held g c = λ listing lists.
-    let ends = c.in-Ok.ensures.pages c.args.shape.now.layout listing lists (subst (λ (n : ℕ). FitLimits c.args.shape.now.layout (tree_of listing) n (limits_with c.in_ok-limits.limits)) (sym c.bounds_of-bounds.ensures.page_size) (c.in_ok-limits.ensures.fit listing lists)) in
+    let ends = c.in-Ok.ensures.pages c.args.shape.now.layout listing lists (subst (λ (n : ℕ). FitLimits c.args.shape.now.layout (tree_of listing) n (limits_with c.in_ok-limits.limits)) (sym c.setup_of-setup.ensures.page_size) (c.in_ok-limits.ensures.fit listing lists)) in
     let planned = c.in_ok-plan.ensures listing lists in
     let small = c.a_listing_has_one_layout.ensures.held c.args.shape.now.layout listing (c.requires.one listing lists) planned.fits in
     let fits = planned.fits in
-    let size = ap (λ (n : ℕ). layout_held c.args.shape.now.layout n (tree_of listing)) c.bounds_of-bounds.ensures.page_size in
+    let size = ap (λ (n : ℕ). layout_held c.args.shape.now.layout n (tree_of listing)) c.setup_of-setup.ensures.page_size in
     let held = ends.held in omega (arith, small, fits, size, held)

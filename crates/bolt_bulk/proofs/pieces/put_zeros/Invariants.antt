@@ -1,4 +1,4 @@
--- So many zeros are left to put.
+-- `left` zeros are left to write.
 use Rattle.std.proofs.Common.{replicate}
 use Rattle.bolt_bulk.proofs.PutParts.{PutFront}
 use Rattle.bolt_bulk.proofs.pieces.put_zeros.Given as goal

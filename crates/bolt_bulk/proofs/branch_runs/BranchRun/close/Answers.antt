@@ -1,4 +1,4 @@
--- Where the numbers run out the page is left out.
+-- If the numbers run out, the page is left out.
 use Rattle.std.proofs.Common.{[]}
 use Rattle.bolt_bulk.specs.Private.BranchRuns.{row_of}
 use Rattle.bolt_bulk.specs.Private.Rows.{row_page}
@@ -7,5 +7,5 @@ use Rattle.bolt_bulk.proofs.branch_runs.BranchRun.close.Goals as goal
 
 pub returns-in_err-after-clause-short : goal.returns-in_err-after-clause-short
 returns-in_err-after-clause-short g c =
-    let page = row_page c.args.bounds.now.page_size (row_of c.args.self.now) c.args.next.now in
-    after_error _ _ (proper_none (g.S.Sink.taken c.args.sink.now) _ (pages_some c.args.bounds.now.page_size page []))
+    let page = row_page c.args.setup.now.page_size (row_of c.args.self.now) c.args.next.now in
+    after_error _ _ (proper_none (g.S.Sink.taken c.args.sink.now) _ (pages_some c.args.setup.now.page_size page []))

@@ -1,4 +1,4 @@
--- A run that took one more can close; where there is no memory for that, its page is left out.
+-- A run that took one more can close; if memory runs out, its page is left out.
 use Rattle.std.proofs.Common.{[], subst, sym}
 use Rattle.bolt_format.specs.ElementPlaces.{branch_view}
 use Rattle.bolt_bulk.specs.Private.BranchRuns.{IsPushed, row_of}
@@ -9,8 +9,8 @@ use Rattle.bolt_bulk.proofs.branch_runs.BranchRun.end.Goals as goal
 
 pub returns-in_err-push-clause-short : goal.returns-in_err-push-clause-short
 returns-in_err-push-clause-short g c =
-    let page = row_page c.args.bounds.now.page_size (row_push (row_of c.args.self.now) (branch_view c.args.closed)) c.args.next.now in
-    after_error _ _ (proper_none (g.S.Sink.taken c.args.sink.now) _ (pages_some c.args.bounds.now.page_size page []))
+    let page = row_page c.args.setup.now.page_size (row_push (row_of c.args.self.now) (branch_view c.args.closed)) c.args.next.now in
+    after_error _ _ (proper_none (g.S.Sink.taken c.args.sink.now) _ (pages_some c.args.setup.now.page_size page []))
 
 pub close-requires-clause-pushed : goal.close-requires-clause-pushed
 close-requires-clause-pushed g c =

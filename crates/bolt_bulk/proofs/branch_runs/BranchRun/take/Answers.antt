@@ -10,10 +10,10 @@ use Rattle.bolt_bulk.proofs.branch_runs.BranchRun.take.Goals as goal
 pub returns-then-stays-clause-standing : goal.returns-then-stays-clause-standing
 returns-then-stays-clause-standing g c =
     let same = c.in_ok-push.ensures.row in
-    let stays = ap (λ (r : BranchRow). row_stays c.args.bounds.now.page_size r (key_size c.args.key.now)) (sym same) ∙ (sym c.stays.ensures.stays ∙ c.if-stays.true) in
-    let kept = c.stays.ensures.kept c.if-stays.true ∙ ap (λ (r : BranchRow). row_kept c.args.bounds.now.page_size r (key_size c.args.key.now)) same in
+    let stays = ap (λ (r : BranchRow). row_stays c.args.setup.now.page_size r (key_size c.args.key.now)) (sym same) ∙ (sym c.stays.ensures.stays ∙ c.if-stays.true) in
+    let kept = c.stays.ensures.kept c.if-stays.true ∙ ap (λ (r : BranchRow). row_kept c.args.setup.now.page_size r (key_size c.args.key.now)) same in
     subst (λ (r : BranchRow). IsStanding r) (sym kept)
-    (stays_standing c.args.bounds.now.page_size (key_size c.args.key.now) (row_of c.args.self.now) (branch_view c.args.closed) c.args.bounds.now.high c.requires.standing c.requires.closed stays)
+    (stays_standing c.args.setup.now.page_size (key_size c.args.key.now) (row_of c.args.self.now) (branch_view c.args.closed) c.args.setup.now.high c.requires.standing c.requires.closed stays)
 
 pub close-requires-clause-pushed : goal.close-requires-clause-pushed
 close-requires-clause-pushed g c =

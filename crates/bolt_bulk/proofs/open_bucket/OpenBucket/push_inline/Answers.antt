@@ -1,4 +1,4 @@
--- The entries stand behind the others, and the item names them.
+-- The entries come after the others, and the item names them.
 use Rattle.std.proofs.Common.{rules, ◌≡◌, ◌∙◌, ◌+◌, ◌++◌, [], ◌∷◌, List, ap, length, refl, subst, sym}
 use Rattle.std.proofs.lemmas.List.{length-append}
 use Rattle.bolt_format.specs.Elements.{LeafElement}

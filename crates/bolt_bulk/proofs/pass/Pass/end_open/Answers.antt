@@ -3,7 +3,7 @@ use Rattle.std.proofs.Common.{◌∷◌, List, Err, subst}
 use Rattle.bolt_tree.specs.Tree.{end}
 use Rattle.std.specs.List.{AllByRecursion}
 use Rattle.bolt_bulk.specs.Private.Waiting.{IsWaiting}
-use Rattle.bolt_bulk.specs.declared.steps.Waiting.{Waiting}
+use Rattle.bolt_bulk.specs.declared.waiting.Waiting.{Waiting}
 use Rattle.bolt_bulk.proofs.HeldPasses.{waits_less}
 use Rattle.bolt_bulk.proofs.PassAt.{leave_steps, puts_well, steps_none, steps_stop}
 use Rattle.bolt_bulk.proofs.PassReady.{last_of}
@@ -13,8 +13,8 @@ use Rattle.bolt_bulk.proofs.pass.Pass.end_open.Goals as goal
 
 pub leave-requires-clause-waits : goal.leave-requires-clause-waits
 leave-requires-clause-waits g c =
-    (last_of (IsWaiting c.args.self.now.bounds.page_size) c.pop.new.self.items c.in-Some.waiting
-    (subst (λ (ws : List Waiting). AllByRecursion (IsWaiting c.args.self.now.bounds.page_size) ws) c.in-Some.ensures.items c.requires.ready.waiting)).0
+    (last_of (IsWaiting c.args.self.now.setup.page_size) c.pop.new.self.items c.in-Some.waiting
+    (subst (λ (ws : List Waiting). AllByRecursion (IsWaiting c.args.self.now.setup.page_size) ws) c.in-Some.ensures.items c.requires.ready.waiting)).0
 
 pub returns-in-Err-clause-steps : goal.returns-in-Err-clause-steps
 returns-in-Err-clause-steps g c = λ wanted level levels put is.
@@ -25,7 +25,7 @@ returns-in-Err-leave-clause-steps g c = λ wanted level levels put is.
     let told : Told = c.bucket_ends-ended.new.self in
     let ended : BucketEnds c.args.self.now.told told c.args.self.now.bucket.limits.bucket c.args.self.now.bucket.uppers.items =
     record { same = c.in_default.ensures.same; told = rw c.as_slice.ensures.value at c.in_default.ensures.told; others = c.in_default.ensures.others } in
-    steps_stop wanted g.S.Sink.taken g.S.Sink.failed c.args.self.now.bounds c.args.sink.now c.leave.new.sink put _ _ c.in-Err-leave.fault
+    steps_stop wanted g.S.Sink.taken g.S.Sink.failed c.args.self.now.setup c.args.sink.now c.leave.new.sink put _ _ c.in-Err-leave.fault
     (leave_steps g.S.Sink.taken g.S.Sink.failed wanted c.args.self.now put level levels c.in-Some.waiting c.args.sink.now c.leave.new.sink c.args.self.now.bucket c.pop.new.self c.leave.new.next 0 told c.args.self.now _ is c.requires.pending
     c.in-Some.ensures.items ended (rw c.replace-inner.ensures.value at c.in-Err-leave.ensures.pages) tt (rw c.replace-inner.ensures.value at c.in-Err-leave.ensures.large) tt)
 
@@ -44,8 +44,8 @@ count-requires g c =
     record {
       bucket = c.in-Ok.ensures.open;
       next = c.in-Ok.ensures.within;
-      waiting = (last_of (IsWaiting c.args.self.now.bounds.page_size) c.pop.new.self.items c.in-Some.waiting
-          (subst (λ (ws : List Waiting). AllByRecursion (IsWaiting c.args.self.now.bounds.page_size) ws) c.in-Some.ensures.items ready.waiting)).1;
+      waiting = (last_of (IsWaiting c.args.self.now.setup.page_size) c.pop.new.self.items c.in-Some.waiting
+          (subst (λ (ws : List Waiting). AllByRecursion (IsWaiting c.args.self.now.setup.page_size) ws) c.in-Some.ensures.items ready.waiting)).1;
       pending = ready.pending;
       counted = counted.0;
       around = counted.1;

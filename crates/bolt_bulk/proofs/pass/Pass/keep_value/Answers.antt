@@ -1,4 +1,4 @@
--- The value stands behind the others, and none has taken a step in the layout.
+-- The value comes after the others, and none has taken a step in the layout.
 use Rattle.std.proofs.Common.{rules, ◌≡◌, ◌++◌, [], ◌∷◌, false, refl}
 use Rattle.bolt_format.specs.declared.element.Leaf.{Leaf}
 use Rattle.bolt_bulk.proofs.PassAt.{keep_at}
@@ -10,12 +10,12 @@ returns-clause-ready c =
     let entry : Leaf = record { key = c.args.key; value = c.args.value; is_bucket = false } in
     let items : c.push.new.self.items ≡ c.args.self.now.entries.items ++ entry ∷ [] = search rules in
     let ready = c.requires.ready in
-    let small = small_of c.args.self.now.bounds.page_size c.args.self.now.pending c.args.pending c.args.self.now.entries.items c.requires.pending ready.pending in
+    let small = small_of c.args.self.now.setup.page_size c.args.self.now.pending c.args.pending c.args.self.now.entries.items c.requires.pending ready.pending in
     record {
       bucket = ready.bucket;
       next = ready.next;
       waiting = ready.waiting;
-      pending = small_push c.args.self.now.bounds.page_size c.args.size c.args.pending c.args.self.now.entries.items c.push.new.self.items entry small c.requires.key refl c.requires.size c.requires.small c.requires.few items;
+      pending = small_push c.args.self.now.setup.page_size c.args.size c.args.pending c.args.self.now.entries.items c.push.new.self.items entry small c.requires.key refl c.requires.size c.requires.small c.requires.few items;
       counted = ready.counted;
       around = ready.around;
     }

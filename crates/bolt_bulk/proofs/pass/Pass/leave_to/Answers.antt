@@ -1,9 +1,9 @@
--- One bucket more has ended, and so on until as many are open as there should be.
+-- One more bucket has ended, and so on until at most `depth` are left.
 use Rattle.std.proofs.Common.{◌∙◌, List, Result, Ok, Err, refl, subst, arith}
 use Rattle.std.specs.Prelude.{⊤}
 use Rattle.bolt_layout.specs.Laid.{Placed}
 use Rattle.bolt_bulk.specs.Private.Passes.{HasLeft, IsAt, Steps}
-use Rattle.bolt_bulk.specs.declared.bounds.Bounds.{Bounds}
+use Rattle.bolt_bulk.specs.declared.page_setup.PageSetup.{PageSetup}
 use Rattle.bolt_bulk.specs.declared.fault.BulkFault.{BulkFault}
 use Rattle.bolt_bulk.proofs.PassAt.{steps_stop, steps_then}
 use Rattle.bolt_bulk.proofs.PassLeft.{has_ended, left_out, steps_begun, steps_map}
@@ -11,7 +11,7 @@ use Rattle.bolt_bulk.proofs.pass.Pass.leave_to.Goals as goal
 
 pub levels-init : goal.levels-init
 levels-init g c = record {
-  bounds = refl;
+  setup = refl;
   ready = c.requires.ready;
   steps = λ wanted members put has shallow. steps_begun wanted c.args.self.now members put c.args.sink.now has;
 }
@@ -23,11 +23,11 @@ pub returns-in-Err-clause-steps : goal.returns-in-Err-clause-steps
 returns-in-Err-clause-steps g c = λ wanted members put has shallow.
     let stop : Result ⊤ BulkFault = Err c.in-Err.fault in
     let At : List Placed → Type 0 = HasLeft wanted c.leave.new.self members in
-    steps_then wanted g.S.Sink.taken g.S.Sink.failed c.args.self.now.bounds c.args.sink.now c.levels.sink c.leave.new.sink put (HasLeft wanted c.levels.self members) At tt stop
+    steps_then wanted g.S.Sink.taken g.S.Sink.failed c.args.self.now.setup c.args.sink.now c.levels.sink c.leave.new.sink put (HasLeft wanted c.levels.self members) At tt stop
     (c.levels.invariant.steps wanted members put has shallow)
     (λ all mid. let ended = has_ended c.args.depth wanted c.levels.self members all mid shallow c.requires.some (omega arith) in
-    subst (λ (b : Bounds). Steps wanted g.S.Sink.taken g.S.Sink.failed c.levels.sink c.leave.new.sink b all At stop) c.levels.invariant.bounds
-    (steps_stop wanted g.S.Sink.taken g.S.Sink.failed c.levels.self.bounds c.levels.sink c.leave.new.sink all (IsAt wanted c.leave.new.self ended.levels ended.level.after) At c.in-Err.fault
+    subst (λ (b : PageSetup). Steps wanted g.S.Sink.taken g.S.Sink.failed c.levels.sink c.leave.new.sink b all At stop) c.levels.invariant.setup
+    (steps_stop wanted g.S.Sink.taken g.S.Sink.failed c.levels.self.setup c.levels.sink c.leave.new.sink all (IsAt wanted c.leave.new.self ended.levels ended.level.after) At c.in-Err.fault
     (c.in-Err.ensures.steps wanted ended.level ended.levels all ended.at)))
 
 pub levels-smaller : goal.levels-smaller
@@ -35,22 +35,22 @@ levels-smaller g c = let fewer = c.in_default.ensures.depth in omega arith
 
 pub levels-preserved : goal.levels-preserved
 levels-preserved g c = record {
-  bounds = c.in_default.ensures.bounds ∙ c.levels.invariant.bounds;
+  setup = c.in_default.ensures.setup ∙ c.levels.invariant.setup;
   ready = c.in_default.ensures.ready;
   steps = λ wanted members put has shallow.
       let well : Result ⊤ BulkFault = Ok tt in
       let At : List Placed → Type 0 = HasLeft wanted c.leave.new.self members in
-      steps_then wanted g.S.Sink.taken g.S.Sink.failed c.args.self.now.bounds c.args.sink.now c.levels.sink c.leave.new.sink put (HasLeft wanted c.levels.self members) At tt well
+      steps_then wanted g.S.Sink.taken g.S.Sink.failed c.args.self.now.setup c.args.sink.now c.levels.sink c.leave.new.sink put (HasLeft wanted c.levels.self members) At tt well
       (c.levels.invariant.steps wanted members put has shallow)
       (λ all mid. let ended = has_ended c.args.depth wanted c.levels.self members all mid shallow c.requires.some (omega arith) in
-      subst (λ (b : Bounds). Steps wanted g.S.Sink.taken g.S.Sink.failed c.levels.sink c.leave.new.sink b all At well) c.levels.invariant.bounds
-      (steps_map wanted c.levels.sink c.leave.new.sink c.levels.self.bounds all (IsAt wanted c.leave.new.self ended.levels ended.level.after) At well
+      subst (λ (b : PageSetup). Steps wanted g.S.Sink.taken g.S.Sink.failed c.levels.sink c.leave.new.sink b all At well) c.levels.invariant.setup
+      (steps_map wanted c.levels.sink c.leave.new.sink c.levels.self.setup all (IsAt wanted c.leave.new.self ended.levels ended.level.after) At well
       (λ then at. left_out wanted c.leave.new.self ended.level ended.levels members then ended.members_are at)
       (c.in_default.ensures.steps wanted ended.level ended.levels all ended.at)));
 }
 
-pub returns-clause-bounds : goal.returns-clause-bounds
-returns-clause-bounds g c = c.levels.invariant.bounds
+pub returns-clause-setup : goal.returns-clause-setup
+returns-clause-setup g c = c.levels.invariant.setup
 
 pub returns-clause-ready : goal.returns-clause-ready
 returns-clause-ready g c = c.levels.invariant.ready

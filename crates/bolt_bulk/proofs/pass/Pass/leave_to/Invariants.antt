@@ -8,10 +8,10 @@ use Rattle.bolt_bulk.proofs.pass.Pass.leave_to.Given as goal
 -- the steps so far are one, and the same members are left
 abbrev pub invariant-levels : goal.invariant-levels
 invariant-levels g l = record {
-  bounds : l.self.bounds ≡ l.initial.self.bounds;
+  setup : l.self.setup ≡ l.initial.self.setup;
   ready : IsReady l.self;
   steps : (wanted : Wanted) (members : List Member) (put : List Placed) → HasLeft wanted l.initial.self members put → IsNoDeeper l.depth members
-      → Steps {A = ⊤} wanted g.S.Sink.taken g.S.Sink.failed l.initial.sink l.sink l.initial.self.bounds put (HasLeft wanted l.self members) (Ok tt);
+      → Steps {A = ⊤} wanted g.S.Sink.taken g.S.Sink.failed l.initial.sink l.sink l.initial.self.setup put (HasLeft wanted l.self members) (Ok tt);
 }
 
 abbrev pub decreases-levels : goal.decreases-levels

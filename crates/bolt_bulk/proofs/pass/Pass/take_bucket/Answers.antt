@@ -1,4 +1,4 @@
--- The bucket may be inline; where one around it might have been, that one has a root page, as it holds a bucket.
+-- The bucket may be inline; if one around it might have been, that one has a root page, as it holds a bucket.
 use Rattle.std.proofs.Common.{◌∷◌, List, Result, Ok, map, subst}
 use Rattle.std.specs.Prelude.{⊤}
 use Rattle.bolt_format.specs.ElementPlaces.{leaf_view}
@@ -6,7 +6,7 @@ use Rattle.bolt_tree.specs.Tree.{Tree, with_bucket}
 use Rattle.bolt_layout.specs.Laid.{Placed}
 use Rattle.bolt_bulk.specs.Private.Levels.{Level}
 use Rattle.bolt_bulk.specs.Private.Passes.{IsAt, Steps}
-use Rattle.bolt_bulk.specs.declared.bounds.Bounds.{Bounds}
+use Rattle.bolt_bulk.specs.declared.page_setup.PageSetup.{PageSetup}
 use Rattle.bolt_bulk.specs.declared.fault.BulkFault.{BulkFault}
 use Rattle.bolt_bulk.proofs.Ontos.{bucket_has_root}
 use Rattle.bolt_bulk.proofs.PassAt.{steps_none, steps_stop, steps_then}
@@ -20,18 +20,18 @@ returns-in_default-clause-steps g c = λ wanted inside after levels put is.
 pub returns-in-Err-clause-steps : goal.returns-in-Err-clause-steps
 returns-in-Err-clause-steps g c = λ wanted inside after levels put is.
     let left : Tree = with_bucket c.args.key.now c.args.sequence inside after in
-    let rooted = bucket_has_root wanted.which c.args.self.now.bounds.page_size (map leaf_view c.args.self.now.entries.items) c.args.key.now c.args.sequence inside after in
-    steps_stop wanted g.S.Sink.taken g.S.Sink.failed c.args.self.now.bounds c.args.sink.now c.open_pending.new.sink put (IsAt wanted c.open_pending.new.self levels left) _ c.in-Err.fault
+    let rooted = bucket_has_root wanted.which c.args.self.now.setup.page_size (map leaf_view c.args.self.now.entries.items) c.args.key.now c.args.sequence inside after in
+    steps_stop wanted g.S.Sink.taken g.S.Sink.failed c.args.self.now.setup c.args.sink.now c.open_pending.new.sink put (IsAt wanted c.open_pending.new.self levels left) _ c.in-Err.fault
     (c.in-Err.ensures.steps wanted left levels put is rooted)
 
 pub returns-in-Ok-clause-steps : goal.returns-in-Ok-clause-steps
 returns-in-Ok-clause-steps g c = λ wanted inside after levels put is.
     let left : Tree = with_bucket c.args.key.now c.args.sequence inside after in
     let own : Level = record { key = c.args.key.now; after = after } in
-    let rooted = bucket_has_root wanted.which c.args.self.now.bounds.page_size (map leaf_view c.args.self.now.entries.items) c.args.key.now c.args.sequence inside after in
+    let rooted = bucket_has_root wanted.which c.args.self.now.setup.page_size (map leaf_view c.args.self.now.entries.items) c.args.key.now c.args.sequence inside after in
     let done : Result ⊤ BulkFault = Ok tt in
     let At : List Placed → Type 0 = IsAt wanted c.begin-in-Ok.new.self (own ∷ levels) inside in
-    steps_then wanted g.S.Sink.taken g.S.Sink.failed c.args.self.now.bounds c.args.sink.now c.open_pending.new.sink c.open_pending.new.sink put (IsAt wanted c.open_pending.new.self levels left) At tt done
+    steps_then wanted g.S.Sink.taken g.S.Sink.failed c.args.self.now.setup c.args.sink.now c.open_pending.new.sink c.open_pending.new.sink put (IsAt wanted c.open_pending.new.self levels left) At tt done
     (c.in-Ok.ensures.steps wanted left levels put is rooted)
-    (λ all mid. subst (λ (b : Bounds). Steps wanted g.S.Sink.taken g.S.Sink.failed c.open_pending.new.sink c.open_pending.new.sink b all At done) c.in-Ok.ensures.bounds
+    (λ all mid. subst (λ (b : PageSetup). Steps wanted g.S.Sink.taken g.S.Sink.failed c.open_pending.new.sink c.open_pending.new.sink b all At done) c.in-Ok.ensures.setup
     (steps_none wanted c.open_pending.new.self levels left all c.open_pending.new.sink At done mid tt (c.begin-in-Ok.ensures.at wanted inside after levels all mid)))

@@ -1,17 +1,21 @@
-//! How large pages are, and how many of them there may be.
+//! What stays the same for all pages of a copy, and the numbers of pages.
 ghost use Rattle.std.specs.Prelude.{◌≡◌, ◌+◌, ◌<◌, ◌≤◌, IfErr, IfOk};
 ghost use Rattle.bolt_layout.specs.Levels.{overflow_of};
 ghost use Rattle.bolt_bulk.specs.declared.fault.BulkFault.TheVariants as fault;
 
 use crate::fault::BulkFault;
+use std::alloc::Global;
 
-/// The most items that a page may have.
+/// The number of items at which a page is full, whatever its size.
 pub(crate) const MAX_ITEMS: usize = 65534;
 
-/// How large pages are, and the highest high-water mark that a copy may have.
+/// What stays the same for all pages of a copy.
 #[derive(Clone, Copy)]
-pub(crate) struct Bounds {
+pub(crate) struct PageSetup {
+    pub alloc: Global,
+    /// The size of a page in bytes.
     pub page_size: usize,
+    /// The highest high-water mark that the copy may have.
     pub limit: u64,
     ghost low: { 1024 ≤ page_size },
     ghost high: { page_size ≤ 33554432 },
@@ -28,17 +32,18 @@ pub(crate) fn overflow(page_size: usize, size: usize) -> usize
     (size - 1) / page_size
 }
 
-/// The number after a page of this size that has the next number.
-pub(crate) fn number_after(bounds: &Bounds, size: usize, next: u64) -> Result<u64, BulkFault>
+/// The number after a page of this size, which has the number `next`. `TooLarge` if it would be
+/// above the highest mark allowed.
+pub(crate) fn number_after(setup: &PageSetup, size: usize, next: u64) -> Result<u64, BulkFault>
     requires size { 0 < size }
-    requires next { next ≤ bounds.now.limit }
-    ensures number { IfOk result (λ n. n ≡ next + (1 + overflow_of bounds.now.page_size size)) }
-    ensures within { IfOk result (λ n. n ≤ bounds.now.limit) }
-    ensures large { IfErr result (λ _. bounds.now.limit < next + (1 + overflow_of bounds.now.page_size size)) }
+    requires next { next ≤ setup.now.limit }
+    ensures number { IfOk result (λ n. n ≡ next + (1 + overflow_of setup.now.page_size size)) }
+    ensures within { IfOk result (λ n. n ≤ setup.now.limit) }
+    ensures large { IfErr result (λ _. setup.now.limit < next + (1 + overflow_of setup.now.page_size size)) }
     ensures fault { IfErr result (λ e. e ≡ fault.TooLarge) }
 {
-    let further = overflow(bounds.page_size, size) as u64;
-    if further >= bounds.limit - next {
+    let further = overflow(setup.page_size, size) as u64;
+    if further >= setup.limit - next {
         return Err(BulkFault::TooLarge);
     }
     Ok(next + (1 + further))

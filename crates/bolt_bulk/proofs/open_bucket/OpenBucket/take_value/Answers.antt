@@ -3,12 +3,12 @@ use Rattle.std.proofs.Common.{◌+◌, length}
 use Rattle.bolt_bulk.specs.Private.OpenBuckets.{rows_of}
 use Rattle.bolt_bulk.specs.Private.TakenItems.{value_element}
 use Rattle.bolt_bulk.proofs.BucketLemmas.{on_ok, take_rows}
-use Rattle.bolt_bulk.proofs.steps.take_value.Goals as goal
+use Rattle.bolt_bulk.proofs.open_bucket.OpenBucket.take_value.Goals as goal
 
 pub returns-clause-rows : goal.returns-clause-rows
 returns-clause-rows g c =
     on_ok _ _ c.push.result
     (λ rows.
-    take_rows c.args.bounds.now.page_size (rows_of c.push.new.self c.make_room.new.next) (rows_of c.make_room.new.self c.make_room.new.next) (rows_of c.args.bucket.now c.args.next.now)
+    take_rows c.args.setup.now.page_size (rows_of c.push.new.self c.make_room.new.next) (rows_of c.make_room.new.self c.make_room.new.next) (rows_of c.args.self.now c.args.next.now)
     (value_element c.args.key.now c.args.value.now) (16 + (length c.args.key.now + length c.args.value.now)) (rows c.make_room.new.next c.make_room.new.next) c.in_ok-make_room.ensures.rows)
     c.push.ensures.rows
