@@ -5,9 +5,10 @@ _luntsegi_options() {
     case $1 in
         buckets) echo --form --meta ;;
         keys | get) echo --form --parts --meta ;;
+        check) echo --all --meta ;;
         stats) echo --meta ;;
-        list) echo --from --meta ;;
-        compact) echo -o --page-size --for-bbolt --meta ;;
+        list) echo --from --recover --meta ;;
+        compact) echo -o --page-size --for-bbolt --recover --meta ;;
     esac
 }
 
