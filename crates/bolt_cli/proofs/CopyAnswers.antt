@@ -1,5 +1,5 @@
 -- The answers of `compact`.
-use Rattle.std.proofs.Common.{◌≡◌, ◌≤◌, ◌<◌, ◌++◌, ℕ, List, length, Option, Result, Ok, Err, inl, inr, ap, refl, subst, sym, rules}
+use Rattle.std.proofs.Common.{◌≡◌, ◌∙◌, ◌≤◌, ◌<◌, ◌++◌, ℕ, List, length, map, Option, Result, Ok, Err, inl, inr, ap, refl, subst, subst₂, sym, rules}
 use Rattle.std.proofs.Math.Logic.{∥∥₁_map}
 use Rattle.std.proofs.lemmas.Bool.{cases_lt}
 use Rattle.std.specs.Result.{IsErrAnd}
@@ -11,6 +11,9 @@ use Rattle.bolt_check.specs.CheckedFiles.{bytes_of, meta_of}
 use Rattle.bolt_check.specs.declared.checked_file.Checked.{Checked}
 use Rattle.bolt_recover.specs.Losses.{AreLosses, LossView}
 use Rattle.bolt_recover.specs.Recovered.{ForRecovered, IsRecovered}
+use Rattle.bolt_recover.specs.Recoveries.{ForLosses}
+use Rattle.bolt_recover.specs.ShownLosses.{loss_view}
+use Rattle.bolt_recover.specs.declared.loss.Loss.{Loss}
 use Rattle.bolt_recover.proofs.Existing.{has_losses, has_recovered}
 use Rattle.bolt_report.specs.LossLines.{losses_text}
 use Rattle.bolt_tree.specs.FileListings.{ForListing}
@@ -141,19 +144,27 @@ module _ (file : List ℕ) (slot : Option Slot) (size : Option PageSize) (which 
 
 -- ---- the copy of what is recovered
 
-module _ (file : List ℕ) (slot : Option Slot) (size : Option PageSize) (which : Layout) (meta : Meta) (under : IsRecoveredUnder file slot meta) where
+module _ (file : List ℕ) (slot : Option Slot) (size : Option PageSize) (which : Layout) (meta : Meta) (under : IsRecoveredUnder file slot meta) (read : List ℕ) (same : read ≡ file) where
   recovered : (listing : List Member) × IsRecovered file meta listing
   recovered = has_recovered file meta
 
-  lost : (losses : List LossView) × AreLosses file meta losses
+  pub lost : (losses : List LossView) × AreLosses file meta losses
   lost = has_losses file meta
+
+  -- what is promised of each listing that is recovered of what is read holds of the one that there is
+  there : {P : List Member → Type 0} → ForRecovered read meta P → P recovered.0
+  there promised = promised recovered.0 (subst (λ (f : List ℕ). IsRecovered f meta recovered.0) (sym same) recovered.1)
+
+  -- the losses that a recovery shows at its end
+  pub lost_are : (shown : List LossView) (losses : List Loss) → map loss_view losses ≡ shown → ForLosses read meta (λ all. shown ≡ all) → lost.0 ≡ map loss_view losses
+  lost_are shown losses seen all = sym (seen ∙ all lost.0 (subst (λ (f : List ℕ). AreLosses f meta lost.0) (sym same) lost.1))
 
   module _ {T : Type 0} (taken : T → Option (List ℕ)) (failed : T → ℕ) (old new : T) (page_size : ℕ) (is : page_size ≡ copy_page_size size meta) where
     abbrev PromisedRest : Result Done BulkFault → Type 0
-    PromisedRest result = ForRecovered file meta (λ listing. Copies taken failed old new (layout_of_listing which page_size listing meta.root_sequence) result)
+    PromisedRest result = ForRecovered read meta (λ listing. Copies taken failed old new (layout_of_listing which page_size listing meta.root_sequence) result)
 
     abbrev IsAcceptedRest : Type 0
-    IsAcceptedRest = ForRecovered file meta (λ listing. ∥ IsSoundCopy which page_size (tree_of listing) meta.root_sequence listing ∥₁)
+    IsAcceptedRest = ForRecovered read meta (λ listing. ∥ IsSoundCopy which page_size (tree_of listing) meta.root_sequence listing ∥₁)
 
     module _ {O : Type 0} (out_taken : O → Option (List ℕ)) (out_failed : O → ℕ) (out : O) where
       abbrev RestEnds : O → Ending → Type 0
@@ -173,30 +184,30 @@ module _ (file : List ℕ) (slot : Option Slot) (size : Option PageSize) (which 
 
       pub rest_stopped : (e : BulkFault) (ending : Ending) → PromisedRest (Err e) → IsErrAnd ending (λ reason. reason ≡ copied e) → RestEnds out ending
       rest_stopped e ending promised told =
-          as_rest out ending (stopped taken failed old new out_taken out_failed out which page_size meta.root_sequence recovered.0 e (rest_answer page_size) ending (promised recovered.0 recovered.1) told)
+          as_rest out ending (stopped taken failed old new out_taken out_failed out which page_size meta.root_sequence recovered.0 e (rest_answer page_size) ending (there promised) told)
 
-      abbrev RestText : {E : Type 0} → Done → O → Result (Unit {0}) E → Type 0
-      RestText d out_after result = Writes out_taken out_failed out out_after (losses_text lost.0 ++ lengths_line (length file) d.bytes) result
+      abbrev RestText : {E : Type 0} → List LossView → Done → O → Result (Unit {0}) E → Type 0
+      RestText views d out_after result = Writes out_taken out_failed out out_after (losses_text views ++ lengths_line (length file) d.bytes) result
 
-      own_text : {E : Type 0} (d : Done) (out_after : O) (result : Result (Unit {0}) E) → PromisedRest (Ok d) → RestText d out_after result
+      own_text : {E : Type 0} (views : List LossView) (d : Done) (out_after : O) (result : Result (Unit {0}) E) → lost.0 ≡ views → PromisedRest (Ok d) → RestText views d out_after result
           → Writes out_taken out_failed out out_after (rest_text page_size) result
-      own_text d out_after result promised text =
-          subst (λ (n : ℕ). Writes out_taken out_failed out out_after (losses_text lost.0 ++ lengths_line (length file) n) result) (promised recovered.0 recovered.1).bytes text
+      own_text views d out_after result own promised text =
+          subst₂ (λ (n : ℕ) (ls : List LossView). Writes out_taken out_failed out out_after (losses_text ls ++ lengths_line (length file) n) result) (there promised).bytes (sym own) text
 
       rest_told : (d : Done) (out_after : O) (ending : Ending) → PromisedRest (Ok d) → IsAcceptedRest → Does out_taken out_failed out out_after (rest_answer page_size) ending → RestEnds out_after ending
       rest_told d out_after ending promised accepted does =
           as_rest out_after ending
-          (written taken failed old new out_taken out_failed out which page_size meta.root_sequence recovered.0 d out_after (rest_answer page_size) ending (promised recovered.0 recovered.1) (accepted recovered.0 recovered.1) does)
+          (written taken failed old new out_taken out_failed out which page_size meta.root_sequence recovered.0 d out_after (rest_answer page_size) ending (there promised) (there accepted) does)
 
       -- the copy was written whole, and so was the text
-      pub rest_whole : {E : Type 0} (d : Done) (out_after : O) (x : Unit {0}) (ending : Ending) → PromisedRest (Ok d) → IsAcceptedRest → RestText {E = E} d out_after (Ok x) → ending ≡ Ok (lost_status lost.0)
-          → RestEnds out_after ending
-      rest_whole {E} d out_after x ending promised accepted text same =
-          subst (RestEnds out_after) (sym same)
-          (rest_told d out_after (Ok (lost_status lost.0)) promised accepted (whole_text {E = E} out_taken out_failed out out_after (rest_answer page_size) x (own_text {E = E} d out_after (Ok x) promised text)))
+      pub rest_whole : {E : Type 0} (views : List LossView) (d : Done) (out_after : O) (x : Unit {0}) (ending : Ending) → lost.0 ≡ views → PromisedRest (Ok d) → IsAcceptedRest
+          → RestText {E = E} views d out_after (Ok x) → ending ≡ Ok (lost_status views) → RestEnds out_after ending
+      rest_whole {E} views d out_after x ending own promised accepted text ends =
+          subst (RestEnds out_after) (ap (λ (ls : List LossView). Ok (lost_status ls)) own ∙ sym ends)
+          (rest_told d out_after (Ok (lost_status lost.0)) promised accepted (whole_text {E = E} out_taken out_failed out out_after (rest_answer page_size) x (own_text {E = E} views d out_after (Ok x) own promised text)))
 
       -- the copy was written whole, and the text wasn't
-      pub rest_untold : {E : Type 0} (d : Done) (out_after : O) (e : E) (ending : Ending) → PromisedRest (Ok d) → IsAcceptedRest → RestText d out_after (Err e)
-          → IsErrAnd ending (λ reason. reason ≡ failure.Write) → RestEnds out_after ending
-      rest_untold d out_after e ending promised accepted text reason =
-          rest_told d out_after ending promised accepted (part_text out_taken out_failed out out_after (rest_answer page_size) e ending (own_text d out_after (Err e) promised text) reason)
+      pub rest_untold : {E : Type 0} (views : List LossView) (d : Done) (out_after : O) (e : E) (ending : Ending) → lost.0 ≡ views → PromisedRest (Ok d) → IsAcceptedRest
+          → RestText views d out_after (Err e) → IsErrAnd ending (λ reason. reason ≡ failure.Write) → RestEnds out_after ending
+      rest_untold views d out_after e ending own promised accepted text reason =
+          rest_told d out_after ending promised accepted (part_text out_taken out_failed out out_after (rest_answer page_size) e ending (own_text views d out_after (Err e) own promised text) reason)

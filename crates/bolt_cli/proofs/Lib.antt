@@ -9,6 +9,7 @@ pub mod GivenRows
 pub mod LineReading
 pub mod Lines
 pub mod ListAnswers
+pub mod LossAnswers
 pub mod NeededBytes
 pub mod Numbers
 pub mod PageAnswers

@@ -4,8 +4,9 @@ ghost use Rattle.bolt_recover.specs.Recoveries.{ForLosses, recovery_file, recove
 ghost use Rattle.bolt_cli.specs.Answers.{Answer, Does, IsCheckAnswer, IsFoundAnswer, IsLossesAnswer, IsRecoveredAnswer, all_refusal, check_refusal, done, found};
 
 use crate::failure::Failure;
+use crate::open_read::check_under;
 use crate::open_recovery::recovery_under;
-use bolt_check::{CheckFault, Finding, NoMemory, check, check_slot};
+use bolt_check::{CheckFault, Finding, NoMemory};
 use bolt_format::{Sink, Slot};
 use bolt_recover::Recovery;
 use bolt_report::{all_lost_text, counted_losses_text, findings_text};
@@ -41,11 +42,7 @@ fn print_findings<O: Sink>(
     ensures { (answer : Answer) × IsFoundAnswer file.now slot answer
         × Does O.taken O.failed out.old out.new answer result }
 {
-    let checked = match slot {
-        None => check(alloc, file),
-        Some(slot) => check_slot(alloc, file, slot),
-    };
-    match checked {
+    match check_under(alloc, file, slot) {
         Ok(_) => put_ok(out),
         Err(fault) => put_refusal(&fault, out),
     }

@@ -60,10 +60,11 @@ fn print_recovered<O: Sink>(
     let mut recovery = open_recovery(alloc, file, slot)?;
     let path = slices(alloc, from)?;
     list_recovered(&mut recovery, path.as_slice(), out)?;
-    match recovery.losses().len() {
-        0 => Ok(0),
-        count => Err(Failure::Lost(count as u64)),
+    let losses = recovery.losses();
+    if losses.is_empty() {
+        return Ok(0);
     }
+    Err(Failure::Lost(losses.len() as u64))
 }
 
 /// The parts of a path as slices.

@@ -7,9 +7,25 @@ ghost use Rattle.bolt_cli.specs.Failures.{IsToldAs};
 
 use crate::failure::Failure;
 use crate::open_checked::{first_told, open_checked};
-use bolt_check::{Checked, check_slot};
+use bolt_check::{CheckFault, Checked, check, check_slot};
 use bolt_format::Slot;
 use std::alloc::Global;
+
+/// Checks the file under the meta in a slot, whose trees must be sound. Without a slot, checks it
+/// under the active meta, and its accounts too.
+pub(crate) fn check_under(
+    alloc: Global,
+    file: &[u8],
+    slot: Option<Slot>,
+) -> Result<Checked<'_>, CheckFault>
+    ensures sound { IfOk result (λ checked. IsReadUnder file.now slot (meta_of checked)) }
+    ensures refused { IfErr result (IsRefusedUnder file.now slot) }
+{
+    match slot {
+        None => check(alloc, file),
+        Some(slot) => check_slot(alloc, file, slot),
+    }
+}
 
 /// Opens the file under the meta of a slot, if its trees are sound. Without a slot, opens it under
 /// the active meta, if its accounts are right too.

@@ -1,6 +1,6 @@
 -- A path that was handed over as a slice is the job's.
 use Rattle.std.proofs.Common.{List, Vec, ℕ, Global, refl, subst, sym}
-use Rattle.bolt_cli.specs.Answers.{DoesJob, IsGetAnswer, IsKeysAnswer, IsListAnswer, IsReadAnswer}
+use Rattle.bolt_cli.specs.Answers.{DoesJob, IsGetAnswer, IsKeysAnswer, IsListedAnswer, IsReadAnswer}
 use Rattle.bolt_cli.specs.PlainWords.{path_in}
 use Rattle.bolt_cli.specs.declared.job.Job.{Job}
 use Rattle.bolt_cli.proofs.runs.do_job.Goals as goal
@@ -36,7 +36,7 @@ returns-in-List g c =
     let (answer, is, does) = c.print_list.ensures in
     subst (λ (job : Job). DoesJob g.O.Sink.taken g.O.Sink.failed c.args.out.now c.print_list.new.out g.T.Sink.taken g.T.Sink.failed c.args.target.now c.args.target.now file job c.print_list.result) (sym c.in-List.is) (
       answer,
-      subst (λ (path : Path). IsReadAnswer file c.in-List.slot (IsListAnswer file (path_in path)) answer) c.as_slice-in-List.ensures.value is,
+      subst (λ (path : Path). IsListedAnswer c.in-List.recover file c.in-List.slot (path_in path) answer) c.as_slice-in-List.ensures.value is,
       does,
       refl,
     )

@@ -1,0 +1,65 @@
+use Rattle.std.proofs.Common.{arith, ◌≡◌, ◌∙◌, List, ap, inl, inr, refl, subst, sym, ℕ}
+use Rattle.std.specs.Result.{IsErrAnd}
+use Rattle.std.proofs.lemmas.Grind.{common_steps}
+use Rattle.bolt_recover.specs.Recovered.{ForRecovered}
+use Rattle.bolt_recover.specs.Recoveries.{recovery_file, recovery_left, recovery_losses, recovery_meta}
+use Rattle.bolt_tree.specs.Paths.{path_of}
+use Rattle.bolt_cli.specs.Answers.{refused}
+use Rattle.bolt_cli.specs.PlainWords.{path_in}
+use Rattle.bolt_cli.specs.declared.failure.Failure.{Failure}
+use Rattle.bolt_cli.specs.declared.failure.Failure.TheVariants as failure
+use Rattle.bolt_cli.proofs.CutTexts.{cut}
+use Rattle.bolt_cli.proofs.Doing.{Does-nothing}
+use Rattle.bolt_cli.proofs.RestAnswers.{ending_none, ending_some, nothing_recovered, rest_stopped, rest_whole}
+use Rattle.bolt_cli.proofs.list_command.print_recovered.Goals as goal
+
+pub returns-in_err-recovery : goal.returns-in_err-recovery
+returns-in_err-recovery g c =
+    let failure = c.in_err-recovery.field-0.0 in
+    let (fault, is, told) = c.in_err-recovery.ensures.refused in (
+      refused failure,
+      inr (fault, is, (failure, told, refl)),
+      Does-nothing g.O.Sink.taken g.O.Sink.failed c.args.out.now failure _ c.from_residual.ensures.1,
+    )
+
+pub returns-in_err-path : goal.returns-in_err-path
+returns-in_err-path g c =
+    let r = c.in_ok-recovery.recovery in
+    let meta = recovery_meta r in (
+      cut _,
+      inl (meta, c.in_ok-recovery.ensures.meta, nothing_recovered c.args.file.now meta (path_in c.args.from.now)),
+      Does-nothing g.O.Sink.taken g.O.Sink.failed c.args.out.now failure.Memory _
+          (subst (λ (reason : Failure). IsErrAnd c.from_residual-in_err-path.result (λ told. told ≡ reason)) c.in_err-path.ensures.memory c.from_residual-in_err-path.ensures.1),
+    )
+
+pub returns-in_err-list_recovered : goal.returns-in_err-list_recovered
+returns-in_err-list_recovered g c =
+    let r = c.in_ok-recovery.recovery in
+    let meta = recovery_meta r in
+    let all = subst (λ (f : List ℕ). ForRecovered f meta (λ listing. recovery_left r listing ≡ listing)) (sym c.in_ok-recovery.ensures.file) c.in_ok-recovery.ensures.all in
+    let is = ap path_of c.as_slice.ensures.value ∙ c.in_ok-path.ensures.path in
+    let (answer, listed, does) = rest_stopped c.args.file.now meta (path_in c.args.from.now) (recovery_file r) c.in_ok-recovery.ensures.file (recovery_left r) all (path_of c.as_slice.result.now) is
+    c.args.out.now c.list_recovered.new.sink _ _ c.in_err-list_recovered.ensures.written c.in_err-list_recovered.ensures.fault c.in_err-list_recovered.ensures.memory c.from_residual-in_err-list_recovered.ensures.1 in
+    (answer, inl (meta, c.in_ok-recovery.ensures.meta, listed), does)
+
+pub returns-then-is_empty : goal.returns-then-is_empty
+returns-then-is_empty g c =
+    let r = c.in_ok-recovery.recovery in
+    let meta = recovery_meta r in
+    let all = subst (λ (f : List ℕ). ForRecovered f meta (λ listing. recovery_left r listing ≡ listing)) (sym c.in_ok-recovery.ensures.file) c.in_ok-recovery.ensures.all in
+    let is = ap path_of c.as_slice.ensures.value ∙ c.in_ok-path.ensures.path in
+    let ends = ending_none c.args.file.now meta (path_in c.args.from.now) (recovery_file r) c.in_ok-recovery.ensures.file (recovery_left r) all (path_of c.as_slice.result.now) is (recovery_losses c.list_recovered.new.recovery) c.losses-losses.result.now c.losses-losses.ensures.losses c.in_ok-list_recovered.ensures.all (grind (arith, common_steps, c.is_empty.ensures, c.if-is_empty.true)) in
+    let (answer, listed, does) = rest_whole c.args.file.now meta (path_in c.args.from.now) (recovery_file r) c.in_ok-recovery.ensures.file (recovery_left r) all (path_of c.as_slice.result.now) is
+    c.args.out.now c.list_recovered.new.sink _ _ c.in_ok-list_recovered.ensures.written ends in
+    (answer, inl (meta, c.in_ok-recovery.ensures.meta, listed), does)
+
+pub returns : goal.returns
+returns g c =
+    let r = c.in_ok-recovery.recovery in
+    let meta = recovery_meta r in
+    let all = subst (λ (f : List ℕ). ForRecovered f meta (λ listing. recovery_left r listing ≡ listing)) (sym c.in_ok-recovery.ensures.file) c.in_ok-recovery.ensures.all in
+    let is = ap path_of c.as_slice.ensures.value ∙ c.in_ok-path.ensures.path in
+    let ends = ending_some c.args.file.now meta (path_in c.args.from.now) (recovery_file r) c.in_ok-recovery.ensures.file (recovery_left r) all (path_of c.as_slice.result.now) is (recovery_losses c.list_recovered.new.recovery) c.losses-losses.result.now c.losses-losses.ensures.losses c.in_ok-list_recovered.ensures.all (λ none. grind (arith, common_steps, none, c.is_empty.ensures, c.if-is_empty.false)) in
+    let (answer, listed, does) = rest_whole c.args.file.now meta (path_in c.args.from.now) (recovery_file r) c.in_ok-recovery.ensures.file (recovery_left r) all (path_of c.as_slice.result.now) is
+    c.args.out.now c.list_recovered.new.sink _ _ c.in_ok-list_recovered.ensures.written ends in
+    (answer, inl (meta, c.in_ok-recovery.ensures.meta, listed), does)
