@@ -8,6 +8,7 @@ from findings import ACCOUNT_FAULTS, compare_accounts, compare_bad_page, finding
 from listings import compare_keys, compare_missing, compare_order, compare_rests, compare_values
 from pages import compare_figures, compare_pages, compare_tree
 from program import want
+from recoveries import compare_page_lost, compare_recovery, compare_refused
 
 UNDER_ALL = ("pages", "buckets", "stats", "list")
 
@@ -70,7 +71,8 @@ def compare_unsound(file, checked):
 def compare_closed(file, checked):
     """Each command refuses a file without a valid meta alike."""
     compare_refusals(file, checked.err)
-    for words in (["info"], ["page", 0], ["list", "--meta", 0], ["list", "--meta", 1]):
+    compare_refused(file, [], checked.err)
+    for words in (["info"], ["page", 0], ["list", "--meta", 0], ["list", "--meta", 1], ["check", "--all"]):
         answer = file.run(*words)
         want(answer.status == 1 and answer.err == checked.err, *words, "answered:", answer)
 
@@ -101,5 +103,8 @@ def compare(file):
         compare_unsound(file, checked)
     if not checked.err:
         compare_limits(file)
+        compare_recovery(file, checked)
+    if listing is not None:
+        compare_page_lost(file, listing)
     want(read(file.path) == before, "the file was changed")
     return kind, listing

@@ -9,6 +9,9 @@ HEX = rb"[0-9a-f]"
 ENTRY = rb"%b+(?:/%b+)*(?: = %b*| bucket \d+)\n" % (HEX, HEX, HEX)
 ITEM = rb"(?:%b+ -> \d+|%b+ = %b*|%b+ bucket \d+ \d+|\d+)\n" % (HEX, HEX, HEX, HEX)
 FINDING = rb"pages? \d+(?: to \d+)?: [a-z ]+"
+LOSS = rb"%b; lost: (?:everything|(?:root bucket|bucket %b+(?:/%b+)*)(?:, keys from %b*(?: to below %b+)?)?)\n" % (
+    FINDING, HEX, HEX, HEX, HEX,
+)
 FIGURES = [
     "buckets", "inline buckets", "inline used", "keys", "depth", "branch pages", "branch overflow",
     "branch allocated", "branch used", "leaf pages", "leaf overflow", "leaf allocated", "leaf used",
@@ -28,7 +31,8 @@ TEXTS = {
     "list": rb"(?:%b)*" % ENTRY,
     "compact": rb"\d+ -> \d+ bytes\n",
 }
-FINDINGS = re.compile(rb"(?:%b\n)+\d+ errors found\n" % FINDING)
+LOSSES = rb"(?:%b)+" % LOSS
+FINDINGS = rb"(?:%b\n)+\d+ errors found\n" % FINDING
 META_FAULT = rb"file too short|invalid database|version mismatch|checksum error|page size refused"
 REFUSED = rb"file refused: " + FINDING
 
@@ -42,6 +46,15 @@ FAULTS = {
     "stats": REFUSED,
     "list": REFUSED,
     "compact": REFUSED,
+}
+
+
+# What is printed with status 1, on standard output and on standard error.
+FAILED = {
+    "check": (FINDINGS, b""),
+    "check --all": (FINDINGS + rb"|%b\d+ errors found\n" % LOSSES, b""),
+    "list --recover": (TEXTS["list"], rb"error: pages lost: \d+\n"),
+    "compact --recover": (LOSSES + TEXTS["compact"], b""),
 }
 
 
@@ -92,7 +105,7 @@ class Program:
     def run(self, *words):
         """The answer to these words: status 0 with a text, or 1 with a fault or with findings."""
         answer = self.ask([str(word) for word in words])
-        want(is_stated(words[0], answer), *words, "answered:", answer)
+        want(is_stated(words, answer), *words, "answered:", answer)
         return answer
 
     def text(self, *words):
@@ -102,14 +115,23 @@ class Program:
         return answer.out
 
 
-def is_stated(command, answer):
+def form_of(words):
+    """The command of these words, with the option that changes what it prints."""
+    option = next((word for word in words if word in ("--all", "--recover")), None)
+    return f"{words[0]} {option}" if option else words[0]
+
+
+def is_stated(words, answer):
     """Whether the answer has a form that is documented for the command."""
+    command = words[0]
     if answer.status == 0:
         form = TEXTS.get(command)
         return answer.err == b"" and (form is None or re.fullmatch(form, answer.out) is not None)
     if answer.status != 1:
         return False
-    if command == "check" and answer.err == b"":
-        return FINDINGS.fullmatch(answer.out) is not None
+    if form_of(words) in FAILED:
+        out, err = FAILED[form_of(words)]
+        if re.fullmatch(out, answer.out) and re.fullmatch(err, answer.err):
+            return True
     faults = META_FAULT + b"|" + FAULTS.get(command, META_FAULT)
     return answer.out == b"" and re.fullmatch(rb"error: (?:%b)\n" % faults, answer.err) is not None

@@ -1,0 +1,196 @@
+"""What holds of `check --all`, `list --recover` and `compact --recover`, under each meta."""
+
+import os
+import re
+
+from answers import File, entries_of, info_of, read, word_of
+from listings import paths_between
+from program import want
+
+LOSS = re.compile(
+    r"(?P<finding>pages? (?P<page>\d+)(?: to \d+)?: [a-z ]+); lost: "
+    r"(?:(?P<all>everything)|(?:root bucket|bucket (?P<path>[0-9a-f/]+))"
+    r"(?:, keys from (?P<low>[0-9a-f]*)(?: to below (?P<high>[0-9a-f]+))?)?)"
+)
+MOST_RESTS = 3
+
+
+class Loss:
+    """A line of a loss, as data. Bounds that aren't there are None."""
+
+    def __init__(self, line):
+        parts = LOSS.fullmatch(line)
+        want(parts is not None, "no loss:", line)
+        self.finding = parts["finding"]
+        self.page = int(parts["page"])
+        self.is_all = parts["all"] is not None
+        self.bucket = tuple(bytes.fromhex(key) for key in (parts["path"] or "").split("/") if key)
+        self.low, self.high = (key if key is None else bytes.fromhex(key) for key in (parts["low"], parts["high"]))
+
+    def place(self):
+        """Where it stands in the order of ways, as a path."""
+        return self.bucket if self.low is None else self.bucket + (self.low,)
+
+    def has(self, path):
+        """Whether a member with this path can have been on the page or below it."""
+        depth = len(self.bucket)
+        if self.is_all:
+            return True
+        if path[:depth] != self.bucket or len(path) == depth:
+            return False
+        key = path[depth]
+        return (self.low is None or self.low <= key) and (self.high is None or key < self.high)
+
+
+def lines_of(checked):
+    """The lines of `check --all`, without the count."""
+    *lines, count = checked.out.decode().splitlines()
+    want(count == f"{len(lines)} errors found", "check --all counts", count, "of", len(lines))
+    return lines
+
+
+def recover_copy(file, words, name="recovered.db"):
+    """What `compact --recover` prints, and where its copy is."""
+    copy = file.copy(name)
+    return file.run("compact", "--recover", "-o", copy, *words), copy
+
+
+def same(answer, other):
+    return (answer.status, answer.out, answer.err) == (other.status, other.out, other.err)
+
+
+def compare_refused(file, words, fault):
+    """Nothing is recovered: the answers have this fault, and the copy is empty."""
+    copied, copy = recover_copy(file, words)
+    for answer in (file.run("list", "--recover", *words), copied):
+        want(answer.status == 1 and (answer.out, answer.err) == (b"", fault), *words, "recovers:", answer)
+    want(read(copy) == b"", "the copy of what is refused isn't empty")
+
+
+def compare_whole(file, words):
+    """The trees are sound: --recover prints and writes what --meta does."""
+    want(file.text("check", "--all", *words) == b"OK\n", "check --all finds something in sound trees")
+    want(same(file.run("list", "--recover", *words), file.run("list", *words)), "list --recover", *words)
+    for layout in ([], ["--for-bbolt"]):
+        copied, copy = recover_copy(file, [*words, *layout])
+        plain = file.copy("plain.db")
+        want(same(copied, file.run("compact", "-o", plain, *words, *layout)), "compact --recover:", copied)
+        want(read(copy) == read(plain), "the copies of sound trees differ", *layout)
+
+
+def compare_losses(lines, losses, entries):
+    """The losses are in order, and nothing that is lost is listed."""
+    places = [loss.place() for loss in losses]
+    want(all(before < place for before, place in zip(places, places[1:])), "losses out of order:", lines)
+    for loss, line in zip(losses, lines):
+        want(not any(loss.has(path) for path in entries), "listed, but lost:", line)
+        in_bucket = not loss.bucket or isinstance(entries.get(loss.bucket), int)
+        want(in_bucket, "the bucket of a loss isn't listed:", line)
+
+
+def compare_rests(file, words, listed, entries):
+    """The recovered listing from a path is all that isn't below it, and as much is lost."""
+    lines = listed.out.splitlines(keepends=True)
+    paths = list(entries)
+    firsts = list(paths_between(file.draw, file.some(paths)))
+    for first in file.draw.sample(firsts, min(MOST_RESTS, len(firsts))):
+        rest = b"".join(line for line, path in zip(lines, paths) if path >= first)
+        answer = file.run("list", "--recover", "--from", word_of(first), *words)
+        is_rest = (answer.status, answer.out, answer.err) == (1, rest, listed.err)
+        want(is_rest, "list --recover --from", word_of(first), "answered:", answer)
+
+
+def compare_copies(file, words, lines, listing):
+    """The copy of what is recovered reports the losses, is sound and lists the same."""
+    for layout in ([], ["--for-bbolt"]):
+        copied, copy = recover_copy(file, [*words, *layout])
+        lengths = f"{os.path.getsize(file.path)} -> {os.path.getsize(copy)} bytes"
+        told = "".join(line + "\n" for line in [*lines, lengths]).encode()
+        want((copied.status, copied.out, copied.err) == (1, told, b""), "compact --recover:", copied)
+        want(file.program.text("check", copy) == b"OK\n", "the recovered copy isn't sound")
+        want(file.program.text("list", copy) == listing, "the recovered copy lists other things")
+        again = file.copy("again.db")
+        file.program.text("compact", "-o", again, copy, *layout)
+        want(read(again) == read(copy), "a copy of the recovered copy differs")
+        size = info_of(File(file.program, file.draw, copy, file.folder))["page size"]
+        other = file.copy("other.db")
+        file.run("compact", "--recover", "-o", other, "--page-size", size, *words, *layout)
+        want(read(other) == read(copy), "the recovered copy differs at its own page size")
+
+
+def compare_lost(file, words, finding):
+    """The trees aren't sound: what is lost, what is listed and what is copied belong together."""
+    lines = lines_of(file.run("check", "--all", *words))
+    losses = [Loss(line) for line in lines]
+    want(losses[0].finding == finding, "the first loss is", lines[0], "and check finds", finding)
+    if any(loss.is_all for loss in losses):
+        want(len(losses) == 1, "everything is lost, and more:", lines)
+        compare_refused(file, words, f"error: file refused: {finding}\n".encode())
+        return
+    listed = file.run("list", "--recover", *words)
+    want(listed.status == 1 and listed.err == f"error: pages lost: {len(losses)}\n".encode(), "told is", listed)
+    entries = entries_of(listed.out)
+    paths = list(entries)
+    want(len(paths) == len(listed.out.splitlines()), "a path stands twice in the recovered listing")
+    want(paths == sorted(paths), "the paths of the recovered listing don't rise")
+    compare_losses(lines, losses, entries)
+    compare_rests(file, words, listed, entries)
+    compare_copies(file, words, lines, listed.out)
+
+
+def compare_under(file, words):
+    """What is recovered under a meta, compared with what `check` finds under it."""
+    checked = file.run("check", *words)
+    if checked.err:
+        want(same(file.run("check", "--all", *words), checked), "check --all", *words)
+        compare_refused(file, words, checked.err)
+    elif checked.is_ok():
+        compare_whole(file, words)
+    else:
+        finding, count = checked.out.decode().splitlines()
+        want(count == "1 errors found", "check", *words, "counts", count)
+        compare_lost(file, words, finding)
+
+
+def compare_active(file, slot, checked):
+    """Without --meta the active meta is used. If nothing is lost, `check --all` is `check`."""
+    under = file.run("check", "--all", "--meta", slot)
+    want(same(file.run("check", "--all"), checked if under.is_ok() else under), "check --all isn't that of its meta")
+    listed = file.run("list", "--recover")
+    want(same(listed, file.run("list", "--recover", "--meta", slot)), "list --recover:", listed)
+    copied, copy = recover_copy(file, [])
+    other, under_slot = recover_copy(file, ["--meta", slot], "other.db")
+    want(same(copied, other) and read(copy) == read(under_slot), "compact --recover:", copied)
+
+
+def compare_recovery(file, checked):
+    """What is recovered of a file that has a meta. `checked` is what `check` prints."""
+    for slot in (0, 1):
+        compare_under(file, ["--meta", slot])
+    compare_active(file, info_of(file)["meta"], checked)
+
+
+def compare_page_lost(file, listing):
+    """A page of a sound file is zeroed. If this page alone is lost, everything else is listed."""
+    info = info_of(file)
+    size, data = info["page size"], bytearray(read(file.path))
+    pages = range(2, min(info["high water"], len(data) // size))
+    if not pages:
+        return
+    number = file.draw.choice(pages)
+    data[number * size : (number + 1) * size] = bytes(size)
+    path = os.path.join(file.folder, "zeroed.db")
+    with open(path, "wb") as out:
+        out.write(data)
+    zeroed = File(file.program, file.draw, path, file.folder)
+    words = ["--meta", info["meta"]]
+    checked = zeroed.run("check", "--all", *words)
+    losses = [Loss(line) for line in lines_of(checked)] if checked.out != b"OK\n" else []
+    if any(loss.is_all or loss.page != number for loss in losses):
+        return
+    whole, left = entries_of(listing), entries_of(zeroed.run("list", "--recover", *words).out)
+    if losses:
+        want(all(whole.get(path) == item for path, item in left.items()), "recovered is what wasn't there")
+    gone = [path for path in whole if path not in left]
+    is_lost = all(any(loss.has(path) for loss in losses) for path in gone)
+    want(is_lost, "page", number, "is zeroed, and more is gone than the losses say")
