@@ -57,22 +57,30 @@ manual: $(PROGRAM)
 	python3 -B tools/usage/check_links.py tools/usage/broken_links.md | cmp - tools/usage/broken_links.found
 
 LISTED_LONG = out/listed_long.db
+DAMAGED = out/damaged.db
 
 REFUSE = out/refuse.so
 SWEEP = python3 -B tools/refuse/sweep.py $(PROGRAM) $(REFUSE)
 EACH_COMMAND = info "page 5" pages check buckets stats list "keys users" "get settings theme" \
 	"get settings none" "info --help" "info more" "list --from x"
 
+# What recovers a damaged file.
+RECOVERIES = "list --recover" "compact -o OUT --recover" "compact -o OUT --recover --for-bbolt"
+
 # Tries files that can't be read or created, full devices, closed streams, readers that leave, and who
 # may read a copy. Then each write of each command fails in turn (a write has at most seven bytes), but
-# only each 10th of a copy. So do each read of FILE and the sync of OUT.
-failures: $(PROGRAM) $(REFUSE) $(LISTED_LONG)
+# only each 10th of a copy, and each 200th of what is recovered. So do each read of FILE and the sync of
+# OUT.
+failures: $(PROGRAM) $(REFUSE) $(LISTED_LONG) $(DAMAGED)
 	sh tools/streams/try_failures.sh $(PROGRAM) examples/app.db $(LEAKED).db $(LISTED_LONG)
 	$(SWEEP) write 1 examples/app.db $(EACH_COMMAND)
 	$(SWEEP) write 1 $(LEAKED).db check list
 	$(SWEEP) write 10 examples/app.db "compact -o OUT"
+	$(SWEEP) write 1 $(DAMAGED) "check --all"
+	$(SWEEP) write 200 $(DAMAGED) $(RECOVERIES)
 	$(SWEEP) read 1 examples/app.db info list "compact -o OUT"
 	$(SWEEP) sync 1 examples/app.db "compact -o OUT"
+	$(SWEEP) sync 1 $(DAMAGED) "compact -o OUT --recover"
 
 $(REFUSE): tools/refuse/refuse.c
 	mkdir -p $(@D)
@@ -81,6 +89,12 @@ $(REFUSE): tools/refuse/refuse.c
 $(LISTED_LONG): tools/bench/make_wide.py
 	mkdir -p $(@D)
 	python3 -B tools/bench/make_wide.py $@ 5000
+
+# A real database in which a page of etcd's keys is overwritten with zeros.
+$(DAMAGED): examples/etcd.db
+	mkdir -p $(@D)
+	cp $< $@
+	dd if=/dev/zero of=$@ bs=4096 seek=9 count=1 conv=notrunc status=none
 
 FUZZ = PYTHONPATH=tools/bench python3 -B tools/fuzz
 SECONDS ?= 60
@@ -160,17 +174,20 @@ NESTED = out/nested.db
 REFUSED_ROWS = out/refused_rows
 
 # Refuses each of the program's requests for memory in turn: under every command on a file of 60 nested
-# buckets and on a real one; on 20,000 nested buckets under the commands that make few requests; and of
-# the many that a copy of these makes, each 1500th. Then each row of memory_rows has its 1000th request
+# buckets and on a real one; on 20,000 nested buckets under the commands that make few requests; of
+# the many that a copy of these makes, each 1500th; and under the commands that recover a damaged file.
+# Then each row of memory_rows has its 1000th request
 # refused. Nine of these are requests of a walk, which is called again and goes on. Of two others one is
 # made before the calls that request nothing, and one after them.
-memory: $(PROGRAM) $(REFUSE) $(NESTED) $(DEEP)
+memory: $(PROGRAM) $(REFUSE) $(NESTED) $(DEEP) $(DAMAGED)
 	$(SWEEP) memory 1 $(NESTED) info "page 3" pages check buckets stats list "list --from 62/62" \
 		"keys b b" "get b x" "compact -o OUT"
 	$(SWEEP) memory 1 examples/app.db $(EACH_COMMAND) "compact -o OUT --page-size 1024"
 	$(SWEEP) memory 1 $(LEAKED).db check "list --meta 1" "compact -o OUT --meta 1"
 	$(SWEEP) memory 1 $(DEEP) info check buckets stats
 	$(SWEEP) memory 1500 $(DEEP) "compact -o OUT"
+	$(SWEEP) memory 1 $(DAMAGED) "check --all" $(RECOVERIES)
+	$(SWEEP) memory 1 $(NESTED) "check --all" $(RECOVERIES)
 	-cd crates/test_calls && rt try --test --fail-alloc 1000 -- memory_rows > $(abspath $(REFUSED_ROWS)) 2>&1
 	grep -c "refused at depth ., and gives all" $(REFUSED_ROWS) | grep -x 6
 	grep -c "refused at its beginning, and gives the rest" $(REFUSED_ROWS) | grep -x 3

@@ -274,6 +274,94 @@ def crash(words, answer):
     answer.status = -11
 
 
+@alters("check", "--all", status=1)
+def drop_loss(words, answer):
+    """check --all drops its last loss"""
+    *losses, _, count = answer.out.splitlines(keepends=True) or [b"", b""]
+    if losses:
+        answer.out = b"".join(losses) + b"%d errors found\n" % len(losses)
+
+
+@alters("check", "--all", status=1)
+def widen_loss(words, answer):
+    """check --all tells no bounds"""
+    answer.out = re.sub(rb", keys from .*", b"", answer.out)
+
+
+@alters("check", "--all", status=1)
+def drop_upper(words, answer):
+    """check --all tells no upper bound"""
+    answer.out = re.sub(rb" to below .*", b"", answer.out)
+
+
+@alters("check", "--all", status=1)
+def lose_all(words, answer):
+    """check --all says that everything is lost"""
+    answer.out = re.sub(rb"(?:root bucket|bucket [0-9a-f/]+).*", b"everything", answer.out)
+
+
+@alters("check", "--all", status=1)
+def lose_nothing(words, answer):
+    """check --all finds nothing"""
+    answer.status, answer.out, answer.err = 0, b"OK\n", b""
+
+
+@alters("check", "--meta")
+def refuse_slot(words, answer):
+    """check --meta refuses what is sound"""
+    answer.status, answer.out = 1, b"page 2: cut off\n1 errors found\n"
+
+
+@alters("list", "--recover")
+def drop_recovered(words, answer):
+    """list --recover drops its last line of a sound file"""
+    answer.out = b"".join(answer.out.splitlines(keepends=True)[:-1])
+
+
+@alters("list", "--recover", status=1)
+def drop_kept(words, answer):
+    """list --recover drops its last line of a damaged file"""
+    answer.out = b"".join(answer.out.splitlines(keepends=True)[:-1])
+
+
+@alters("list", "--recover", status=1)
+def count_losses(words, answer):
+    """list --recover counts a loss more"""
+    answer.err = re.sub(rb"lost: (\d+)", lambda found: b"lost: %d" % (int(found[1]) + 1), answer.err)
+
+
+@alters("list", "--recover", "--from", status=1)
+def list_from_start(words, answer):
+    """list --recover --from drops its first line"""
+    answer.out = b"".join(answer.out.splitlines(keepends=True)[1:])
+
+
+@alters("compact", "--recover", status=1)
+def report_less(words, answer):
+    """compact --recover reports a loss less"""
+    answer.out = b"".join(answer.out.splitlines(keepends=True)[1:])
+
+
+@alters("compact", "--recover", status=1)
+def cut_recovered(words, answer):
+    """compact --recover drops the last byte of the copy"""
+    if answer.out:
+        os.truncate(out_of(words), os.path.getsize(out_of(words)) - 1)
+
+
+@alters("compact", "--recover", "--for-bbolt")
+def change_balanced(words, answer):
+    """compact --recover --for-bbolt puts another last byte"""
+    set_bytes(out_of(words), -1, b"\1")
+
+
+@alters("compact", "--recover", status=1)
+def end_well(words, answer):
+    """compact --recover ends with status 0 although something is lost"""
+    if answer.out:
+        answer.status = 0
+
+
 def finds(path, alter, folder):
     """The number of the first file on which the comparisons find this alteration, and what they say."""
     program = Wrong(path, alter)

@@ -76,7 +76,9 @@ class Command:
         if self.call == "write" and (status, out, copy) == (full[0], full[1], full[3]):
             return PART_OF_LINE if full[2].startswith(err) else None
         may_begin = self.name in MAY_BEGIN if self.call == "memory" else self.call == "write"
-        is_begun = out == b"" or (may_begin and full[1].startswith(out) and out != full[1])
+        # If a fault follows the whole text, a call may be refused between the two.
+        is_part = full[1].startswith(out) and (out != full[1] or full[2] != b"")
+        is_begun = out == b"" or (may_begin and is_part)
         is_taken = copy is None or (full[3].startswith(copy) and (self.call != "memory" or copy != full[3]))
         return self.lines.get(err) if status == 1 and is_begun and is_taken else None
 

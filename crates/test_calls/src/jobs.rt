@@ -1,7 +1,10 @@
 //! Jobs, written out: reading them from words is for `test_rows`. A run doesn't look at the names of
 //! the files.
 
-use Line::{Buckets, Check, Compact, Get, Info, Keys, List, Page, Pages, Stats};
+use Line::{
+    Buckets, Check, CheckAll, Compact, CompactRecovered, Get, Info, Keys, List, ListRecovered, Page,
+    Pages, Stats,
+};
 use bolt_cli::{Job, PageSize};
 use bolt_format::Slot;
 use bolt_layout::Layout;
@@ -16,6 +19,7 @@ pub enum Line {
     Page(u64),
     Pages,
     Check,
+    CheckAll,
     Buckets,
     Stats,
     /// The keys of the bucket at a path, under the meta of a slot if one is named.
@@ -23,11 +27,13 @@ pub enum Line {
     /// The value at a path.
     Get(Option<Slot>, &'static [&'static [u8]]),
     List,
+    ListRecovered,
     Compact,
+    CompactRecovered,
 }
 
 /// A job of each command on the forty values, with a name for messages.
-pub static OF_EACH_COMMAND: [(&'static str, Line); 13] = [
+pub static OF_EACH_COMMAND: [(&'static str, Line); 16] = [
     ("info", Info),
     ("page 0", Page(0)),
     ("page 2", Page(2)),
@@ -35,12 +41,15 @@ pub static OF_EACH_COMMAND: [(&'static str, Line); 13] = [
     ("page 8", Page(8)),
     ("pages", Pages),
     ("check", Check),
+    ("check --all", CheckAll),
     ("buckets", Buckets),
     ("keys", Keys(None, &[b"b"])),
     ("get", Get(None, &[b"b", b"17"])),
     ("stats", Stats),
     ("list", List),
+    ("list --recover", ListRecovered),
     ("compact", Compact),
+    ("compact --recover", CompactRecovered),
 ];
 
 /// The name of a file that is handed over as bytes.
@@ -64,6 +73,36 @@ pub fn compact(alloc: Global, page_size: Option<PageSize>) -> Job {
         target: unnamed(alloc),
         page_size,
         layout: Layout::Plain,
+        recover: false,
+    }
+}
+
+fn check(alloc: Global, all: bool) -> Job {
+    Job::Check {
+        file: unnamed(alloc),
+        slot: None,
+        all,
+    }
+}
+
+fn list(alloc: Global, recover: bool) -> Job {
+    Job::List {
+        file: unnamed(alloc),
+        slot: None,
+        from: Vec::new(alloc),
+        recover,
+    }
+}
+
+/// A copy of what is recovered, in the balanced layout.
+fn compact_recovered(alloc: Global) -> Job {
+    Job::Compact {
+        file: unnamed(alloc),
+        slot: None,
+        target: unnamed(alloc),
+        page_size: None,
+        layout: Layout::Balanced,
+        recover: true,
     }
 }
 
@@ -75,17 +114,16 @@ impl Line {
             Info => Ok(Job::Info { file }),
             Page(id) => Ok(Job::Page { file, id }),
             Pages => Ok(Job::Pages { file }),
-            Check => Ok(Job::Check { file }),
+            Check => Ok(check(alloc, false)),
+            CheckAll => Ok(check(alloc, true)),
             Buckets => Ok(Job::Buckets { file, slot, form }),
             Stats => Ok(Job::Stats { file, slot }),
             Keys(slot, path) => Line::keys(alloc, slot, path),
             Get(slot, path) => Line::get(alloc, slot, path),
-            List => Ok(Job::List {
-                file,
-                slot,
-                from: Vec::new(alloc),
-            }),
+            List => Ok(list(alloc, false)),
+            ListRecovered => Ok(list(alloc, true)),
             Compact => Ok(compact(alloc, None)),
+            CompactRecovered => Ok(compact_recovered(alloc)),
         }
     }
 
