@@ -136,22 +136,27 @@ WIDE = out/wide.db
 LONG = out/long.db
 SPARSE = out/sparse.db
 VERY_DEEP = out/very_deep.db
+LOST_LEAVES = out/lost_leaves.db
 
 # Times `info`, `check` and the commands that print, on three databases: 256 MB with a million small
 # entries, 200,000 buckets in the root bucket, and 256 MB with values of 100 KB. Then times compact
 # copies of the first and the last of these, of 256 MB that are mostly free pages, and of 50,000 buckets
-# one within another. All have pages of 4,096 bytes, as bbolt makes them on most machines. If `make
+# one within another; and what is recovered of the first, also with a thousand lost leaves. All have pages of 4,096 bytes, as bbolt makes them on most machines. If `make
 # bbolt` has run, bbolt copies the same files.
-bench: $(PROGRAM) $(LARGE) $(WIDE) $(LONG) $(SPARSE) $(VERY_DEEP)
+bench: $(PROGRAM) $(LARGE) $(WIDE) $(LONG) $(SPARSE) $(VERY_DEEP) $(LOST_LEAVES)
 	python3 tools/bench/time_commands.py $(PROGRAM) $(LARGE) info check buckets pages stats list \
 		"keys bucket-0" "get bucket-0 entry-000000000000100000"
 	python3 tools/bench/time_commands.py $(PROGRAM) $(WIDE) info check buckets pages stats list
 	python3 tools/bench/time_commands.py $(PROGRAM) $(LONG) info check buckets pages stats list
 	python3 -B tools/bench/time_copies.py $(PROGRAM) $(LARGE) $(LONG) $(SPARSE) $(VERY_DEEP)
+	python3 -B tools/bench/time_recovery.py $(PROGRAM) $(LARGE) $(LOST_LEAVES) 1000
 
 $(LARGE): tools/bench/make_large.py
 	mkdir -p $(@D)
 	python3 tools/bench/make_large.py $@
+
+$(LOST_LEAVES): tools/bench/zero_leaves.py $(LARGE)
+	python3 -B $< $(LARGE) $@ 1000
 
 $(WIDE): tools/bench/make_wide.py
 	mkdir -p $(@D)

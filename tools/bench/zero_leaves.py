@@ -1,0 +1,41 @@
+#!/usr/bin/env python3
+"""Makes a damaged copy of a database of make_large.py, for `make bench`.
+
+    zero_leaves.py SOURCE FILE [LEAVES]
+
+In the copy this many leaf pages, a thousand without a number, are overwritten with zeros. They are at
+equal distances. The root page isn't among them.
+"""
+
+import shutil
+import sys
+
+from make_large import HEADER, LEAF, META_RECORD, PAGE_SIZE
+
+
+def leaves_of(file):
+    """The numbers of the leaf pages but the root page, in rising order."""
+    file.seek(HEADER.size)
+    root = META_RECORD.unpack(file.read(META_RECORD.size))[4]
+    file.seek(0)
+    number = 0
+    while page := file.read(PAGE_SIZE):
+        own, flags, _, _ = HEADER.unpack(page[: HEADER.size])
+        if own == number and flags == LEAF and number != root:
+            yield number
+        number += 1
+
+
+def main():
+    source, target = sys.argv[1:3]
+    count = int(sys.argv[3]) if len(sys.argv) > 3 else 1000
+    shutil.copyfile(source, target)
+    with open(target, "r+b") as file:
+        leaves = list(leaves_of(file))
+        for i in range(count):
+            file.seek(leaves[len(leaves) * i // count] * PAGE_SIZE)
+            file.write(bytes(PAGE_SIZE))
+
+
+if __name__ == "__main__":
+    main()
