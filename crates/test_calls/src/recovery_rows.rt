@@ -3,8 +3,8 @@
 use crate::damaged_samples::{LOST_ROOT, Member, ROWS, Told};
 use bolt_check::{CheckFault, Finding, NoMemory};
 use bolt_format::{PageFault, Slot};
-use bolt_recover::{Loss, Recovery};
-use bolt_tree::{Item, Members};
+use bolt_recover::{Loss, Members, Recovery};
+use bolt_tree::Item;
 use std::process::Abort;
 use std::test::Fail;
 use test_files::maker::patch;
