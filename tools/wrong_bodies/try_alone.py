@@ -1,9 +1,9 @@
 #!/usr/bin/env python3
 """Tests that the prover refuses the wrong bodies of the gate, which stand in the folder gate, each as gate/CRATE/NAME.edit.
 
-    try_alone.py [--jobs N] [CRATE..]
+    try_alone.py [CRATE..]
 
-It runs after `rt ci`, which has proved the crates and built their libraries. N crates are tried side by side, each on one processor.
+It runs after `rt ci`, which has proved the crates and built their libraries. As under `rt ci`, RT_JOBS says how many crates are tried side by side.
 
 An edit has a line `file: src/..` and pairs of lines `old: ..` and `new: ..`, as for `rt must-fail`. The functions whose bodies it changes must be
 refused. If the refusal comes from other functions, lines such as `fn: walk::Walk::next` name these.
@@ -201,13 +201,18 @@ class Trial:
         found = re.search(rf"^fn {self.crate.name}::{re.escape(name)}: (.*)$", said, re.M)
         return found[1] if found else "the prover says nothing of it"
 
-    def is_refused(self, said, name, beside):
-        """Whether the prover refuses the function for what it does itself. That can't be told if it calls one of those that are edited beside it."""
-        line = self.line_of(said, name)
+    def refusal_of(self, said, name, beside):
+        """Why the prover refuses the function for what it does itself, or "". That can't be told if it calls one of those that are edited beside it."""
+        line, path = self.line_of(said, name), name.replace("::", "/")
+        if any(f"`{self.crate.name}::{it}`" in line.partition("; it calls ")[2] for it in beside):
+            return ""
         own = re.escape(f"`Rattle.{self.crate.name}.proofs.{name.replace('::', '.')}.")
-        if not re.match(rf"not proved; it stands on [^;]*{own}|no proof: expected answers in [^;]*; `search` did not prove ", line):
-            return False
-        return not any(f"`{self.crate.name}::{it}`" in line.partition("; it calls ")[2] for it in beside)
+        if re.match(rf"not proved; it stands on [^;]*{own}|no proof: expected answers in [^;]*; `search` did not prove ", line):
+            return line[:160]
+        told = re.findall(rf"^(?:\./)?proofs/{re.escape(path)}/\S+: error: .*", said, re.M)
+        if line.startswith("not proved") and told:
+            return f"only because its proof names what the edit took away, which says little of the contract: {told[0][:160]}"
+        return ""
 
     def try_edits(self, real, edits):
         """Tries these edits side by side. Returns those that are to be tried again alone."""
@@ -218,10 +223,10 @@ class Trial:
         for edit in edits:
             unread = next((it for it in said.split("\n") if rt.unread(it, edit.files)), "")
             beside = [it for it in names if it not in edit.functions]
-            passing = [it for it in edit.functions if not self.is_refused(said, it, beside)]
+            told = {it: self.refusal_of(said, it, beside) for it in edit.functions}
+            passing = [it for it in told if not told[it]]
             if not unread and not passing:
-                told = [f"{it}: {self.line_of(said, it)[:160]}" for it in edit.functions]
-                self.say(edit.name, f"refused, as it must be: {'; '.join(told)}")
+                self.say(edit.name, f"refused, as it must be: {'; '.join(f'{it}: {why}' for it, why in told.items())}")
                 self.refused += 1
             elif len(edits) > 1:
                 again.append(edit)
@@ -287,9 +292,8 @@ def try_crate(crate):
 
 
 def main(words):
-    jobs = 1
-    if words[:1] == ["--jobs"] and len(words) > 1:
-        jobs, words = int(words[1]), words[2:]
+    number = os.environ.get("RT_JOBS", "")
+    jobs = int(number) if number.isdigit() and int(number) else rt.processors()
     known = {it.name: it for it in rt.rtlib.crates_below(TOP)}
     names = words or sorted(os.listdir(f"{HERE}/gate"))
     for name in names:
