@@ -214,10 +214,22 @@ class Trial:
             return f"only because its proof names what the edit took away, which says little of the contract: {told[0][:160]}"
         return ""
 
-    def try_edits(self, real, edits):
+    def are_apart(self, one, other):
+        """Whether the edits change different functions, none of which seems to call one of the other's."""
+        calls = lambda edit, name: re.search(rf"\b{name.split('::')[-1]}\(", self.text_of(edit))
+        return not {*one.functions} & {*other.functions} and not any(
+            calls(edit, name) for edit, by in ((one, other), (other, one)) for name in by.functions
+        )
+
+    def text_of(self, edit):
+        """The bodies of the edit's functions, and its own text."""
+        bodies = ["\n".join(self.texts[it.file].split("\n")[it.first : it.end]) for it in self.functions if it.name in edit.functions]
+        return "\n".join([rt.rtlib.text_of(edit.file), *bodies])
+
+    def try_edits(self, edits):
         """Tries these edits side by side. Returns those that are to be tried again alone."""
-        self.lay_out(real, edits)
         names = list(dict.fromkeys(name for edit in edits for name in edit.functions))
+        self.lay_out(names, edits)
         said = self.check(names)
         again = []
         for edit in edits:
@@ -254,15 +266,14 @@ class Trial:
             return self
         alone = []
         while edits:
-            now, taken = [], set()
+            now = []
             for edit in edits:
-                if taken.isdisjoint(edit.functions) and self.lay_out(real, [*now, edit]):
+                if all(self.are_apart(edit, it) for it in now) and self.lay_out(real, [*now, edit]):
                     now.append(edit)
-                    taken.update(edit.functions)
             edits = [it for it in edits if it not in now]
-            alone += self.try_edits(real, now)
+            alone += self.try_edits(now)
         for edit in alone:
-            self.try_edits(real, [edit])
+            self.try_edits([edit])
         return self
 
 
