@@ -171,18 +171,13 @@ fn call_cursor(bucket: &Bucket<'_>) {
     }
 }
 
-/// Makes each call of the bucket that needs no memory.
-fn call_bucket(rt: &impl Abort, bucket: &Bucket<'_>, key: &[u8]) {
-    assert!(rt; bucket.get(key).is_some(), "no value {key:?}");
-    call_cursor(bucket);
-}
-
 /// Makes each call that needs no memory, on the bucket at a path.
 fn call_all(rt: &impl Abort, alloc: Global, checked: Checked<'_>, path: &[&[u8]], key: &[u8]) {
     let bucket = bucket_at(checked, path);
     assert!(rt; bucket.is_some(), "no bucket {path:?}");
     if let Some(bucket) = bucket {
-        call_bucket(rt, &bucket, key);
+        assert!(rt; bucket.get(key).is_some(), "no value {key:?}");
+        call_cursor(&bucket);
     }
     let walk = Walk::new(alloc, checked);
     assert!(rt; walk.path().is_empty(), "no path before the first item");

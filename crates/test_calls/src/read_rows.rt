@@ -214,20 +214,6 @@ static BUCKETS: [Shown<'static>; 5] = [
     ),
 ];
 
-/// The leaf page of each kind of bucket, made of what its four buckets store.
-fn check_buckets(rt: &impl Abort, alloc: Global, stored: [&[u8]; 4]) -> Result<(), AllocError> {
-    let [held, empty, rooted, far] = stored;
-    let elements = [
-        Bucket(b"a", held),
-        Bucket(b"b", empty),
-        Element::of_value(b"c", b"between"),
-        Bucket(b"d", rooted),
-        Bucket(b"e", far),
-    ];
-    check_leaf_page(rt, alloc, &elements, &[], &BUCKETS)?;
-    check_leaf_page(rt, alloc, &elements, &[1, 2, 3, 4, 5], &BUCKETS)
-}
-
 #[test]
 fn buckets(rt: HostRuntime) -> Result<(), Fail> {
     let alloc = rt.alloc();
@@ -237,13 +223,15 @@ fn buckets(rt: HostRuntime) -> Result<(), Fail> {
     let rooted = reference(alloc, 4, 2)?;
     let mut far = reference(alloc, u64::MAX, 0x0102_0304_0506_0708)?;
     far.extend_from_slice(b"ignored")?;
-    let stored = [
-        held.as_slice(),
-        empty.as_slice(),
-        rooted.as_slice(),
-        far.as_slice(),
+    let elements = [
+        Bucket(b"a", held.as_slice()),
+        Bucket(b"b", empty.as_slice()),
+        Element::of_value(b"c", b"between"),
+        Bucket(b"d", rooted.as_slice()),
+        Bucket(b"e", far.as_slice()),
     ];
-    check_buckets(&rt, alloc, stored)?;
+    check_leaf_page(&rt, alloc, &elements, &[], &BUCKETS)?;
+    check_leaf_page(&rt, alloc, &elements, &[1, 2, 3, 4, 5], &BUCKETS)?;
     Ok(())
 }
 
@@ -291,42 +279,17 @@ static ROOTED_SHOWN: [Shown<'static>; 1] = [Held(
     &[],
 )];
 
-/// The maker's leaf page with this number and one bucket has these bytes.
-fn check_bucket_leaf(
-    rt: &impl Abort,
-    alloc: Global,
-    id: u64,
-    stored: &[u8],
-    want: &[u8],
-) -> Result<(), AllocError> {
-    let made = leaf(alloc, id, &[Bucket(b"b", stored)])?;
-    assert_eq!(rt; made.as_slice(), want, "the maker's leaf page {id}");
-    Ok(())
-}
-
-/// The maker's three pages have these bytes.
-fn check_made(rt: &impl Abort, alloc: Global) -> Result<(), AllocError> {
-    let stored = inline(alloc, 0, &[Value(b"k1", b"v1")])?;
-    check_bucket_leaf(rt, alloc, 3, stored.as_slice(), INLINE_LEAF)?;
-    let stored = reference(alloc, 7, 0)?;
-    check_bucket_leaf(rt, alloc, 8, stored.as_slice(), ROOTED_LEAF)?;
-    let made = branch(alloc, 7, &CHILDREN)?;
-    assert_eq!(rt; made.as_slice(), FOUR_CHILDREN, "the maker's branch page");
-    Ok(())
-}
-
-/// The three pages of a file show what they were made of.
-fn check_stated(rt: &impl Abort, file: &[u8]) {
-    let meta = meta_of(rt, file);
-    check_page(rt, file, &meta, 3, Want::Leaves(0, &INLINE_SHOWN));
-    check_page(rt, file, &meta, 7, Want::Branches(0, &CHILDREN));
-    check_page(rt, file, &meta, 8, Want::Leaves(0, &ROOTED_SHOWN));
-}
-
 #[test]
 fn stated_bytes(rt: HostRuntime) -> Result<(), Fail> {
     let alloc = rt.alloc();
-    check_made(&rt, alloc)?;
+    let stored = inline(alloc, 0, &[Value(b"k1", b"v1")])?;
+    let made = leaf(alloc, 3, &[Bucket(b"b", stored.as_slice())])?;
+    assert_eq!(rt; made.as_slice(), INLINE_LEAF, "the maker's inline bucket");
+    let made = branch(alloc, 7, &CHILDREN)?;
+    assert_eq!(rt; made.as_slice(), FOUR_CHILDREN, "the maker's branch page");
+    let stored = reference(alloc, 7, 0)?;
+    let made = leaf(alloc, 8, &[Bucket(b"b", stored.as_slice())])?;
+    assert_eq!(rt; made.as_slice(), ROOTED_LEAF, "the maker's leaf page");
     let fields = MetaFields {
         root: 8,
         mark: 9,
@@ -334,7 +297,22 @@ fn stated_bytes(rt: HostRuntime) -> Result<(), Fail> {
     };
     let pages = [(3, INLINE_LEAF), (7, FOUR_CHILDREN), (8, ROOTED_LEAF)];
     let file = database(alloc, 9, &fields, &pages)?;
-    check_stated(&rt, file.as_slice());
+    let meta = meta_of(&rt, file.as_slice());
+    check_page(
+        &rt,
+        file.as_slice(),
+        &meta,
+        3,
+        Want::Leaves(0, &INLINE_SHOWN),
+    );
+    check_page(&rt, file.as_slice(), &meta, 7, Want::Branches(0, &CHILDREN));
+    check_page(
+        &rt,
+        file.as_slice(),
+        &meta,
+        8,
+        Want::Leaves(0, &ROOTED_SHOWN),
+    );
     Ok(())
 }
 

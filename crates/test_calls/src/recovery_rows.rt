@@ -10,38 +10,23 @@ use std::test::Fail;
 use test_files::maker::patch;
 use test_files::samples::{NESTED_FILE, make};
 
-/// The next member is this one.
-fn check_member<'a, M: Members<'a>>(
-    rt: &impl Abort,
-    members: &mut M,
-    want: Member<'_>,
-) -> Result<(), NoMemory> {
-    let (path, item) = want;
-    let given = members.next()?;
-    let is_wanted = given == Some(item) && members.path() == path;
-    assert!(rt; is_wanted, "at {path:?}, where {given:?} is given");
-    Ok(())
-}
-
-/// There is no further member.
-fn check_end<'a, M: Members<'a>>(rt: &impl Abort, members: &mut M) -> Result<(), NoMemory> {
-    let given = members.next()?;
-    let is_over = given.is_none() && members.path().is_empty();
-    assert!(rt; is_over, "nothing is left, but {given:?} or a path");
-    Ok(())
-}
-
 /// The members are exactly these, and then there is none, also if asked again.
 fn check_members<'a, M: Members<'a>>(
     rt: &impl Abort,
     members: &mut M,
     want: &[Member<'_>],
 ) -> Result<(), NoMemory> {
-    for member in want {
-        check_member(rt, members, *member)?;
+    for (path, item) in want {
+        let given = members.next()?;
+        let is_wanted = given == Some(*item) && members.path() == *path;
+        assert!(rt; is_wanted, "at {path:?}, where {given:?} is given");
     }
-    check_end(rt, members)?;
-    check_end(rt, members)
+    for _ in 0..2 {
+        let given = members.next()?;
+        let is_over = given.is_none() && members.path().is_empty();
+        assert!(rt; is_over, "nothing is left, but {given:?} or a path");
+    }
+    Ok(())
 }
 
 /// The losses are exactly these.
