@@ -113,7 +113,7 @@ bbolt: $(PROGRAM)
 fuzz-wrong: $(PROGRAM)
 	$(FUZZ)/try_wrong.py $(PROGRAM)
 
-# Tries every wrong body, including those of the gate. It takes an hour or two. CRATES="bolt_tree
+# Tries every wrong body, including those of the gate, on whole crates. It takes an hour or two. CRATES="bolt_tree
 # bolt_cli" tries those of some crates, to continue a run that was interrupted.
 wrong-bodies:
 	tools/wrong_bodies/try_all.sh $(CRATES)
@@ -122,11 +122,13 @@ wrong-bodies:
 # split one crate over several processors, which ends sooner and takes a third more processor time.
 JOBS ?= 2
 
-# The merge gate: every proof from nothing, the wrong bodies, the tests and the program, which this
-# builds; and then, of the program, real databases, the manual, failures, refused memory, random files
-# that are the same each time, and a few rounds beside bbolt, where that can be built.
+# The merge gate: every proof from nothing, the tests and the program, which this builds; some wrong
+# bodies, each against its function's own proof; and then, of the program, real databases, the manual,
+# failures, refused memory, random files that are the same each time, and a few rounds beside bbolt,
+# where that can be built.
 test:
 	RT_JOBS=$(JOBS) rt ci
+	RT_JOBS=$(JOBS) python3 -B tools/wrong_bodies/try_alone.py
 	$(MAKE) examples manual failures memory
 	$(FUZZ)/fuzz.py $(PROGRAM) --seed 1 --files 36
 	tools/bbolt/try.sh $(PROGRAM) 3

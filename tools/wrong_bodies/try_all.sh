@@ -1,7 +1,8 @@
 #!/bin/sh
-# Tests that the prover refuses every wrong body: the few in each crate's must-fail, which the gate tries
-# too, and those in the folders beside this file, one folder for each crate. It works on a copy in
-# out/wrong_bodies, one crate after another. The edits of a crate share its first check.
+# Tests that the prover refuses every wrong body: the few in gate, which the gate tries too, and those in
+# the folders beside this file, one folder for each crate. Each must make the proof of the whole crate
+# fail. It works on a copy in out/wrong_bodies, one crate after another. The edits of a crate share its
+# first check.
 # If crates are named as arguments, only these are tried, to continue a run that was interrupted; the
 # libraries that it built are kept. out/wrong_bodies/CRATE.log has what the prover said of each edit. The
 # last line counts the bodies that were refused and those that weren't. The status is 1 unless all were
@@ -17,7 +18,7 @@ stop() {
     exit 1
 }
 
-# The copy: the crates as they are now, without their edits.
+# The copy: the crates as they are now, without the edits of an earlier run.
 mkdir -p $room/crates || exit 1
 cp HANDLES crates.txt $room || exit 1
 for crate in crates/*/; do
@@ -25,7 +26,7 @@ for crate in crates/*/; do
     mkdir -p "$copy"
     for part in src specs proofs must-fail; do
         rm -rf "${copy:?}/$part"
-        if [ $part != must-fail ] && [ -d "$crate$part" ]; then
+        if [ -d "$crate$part" ]; then
             cp -R "$crate$part" "$copy" || exit 1
         fi
     done
@@ -35,7 +36,7 @@ done
 for crate; do
     [ -d "crates/$crate" ] || stop "there is no crate $crate"
     mkdir -p $room/crates/"$crate"/must-fail
-    for edit in crates/"$crate"/must-fail/*.edit $here/"$crate"/*.edit; do
+    for edit in $here/gate/"$crate"/*.edit $here/"$crate"/*.edit; do
         [ -f "$edit" ] || continue
         grep -q '^file: src/' "$edit" && ! grep '^file:' "$edit" | grep -qv '^file: src/' \
             || stop "$edit is no edit of code alone"
