@@ -17,9 +17,9 @@ const REFUSED: u8 = 2;
 const FAILED: u8 = 1;
 /// The number of bytes of output that are gathered before they are written.
 const GATHERED: usize = 1 << 16;
-/// How many bytes the line of a failure may have.
+/// The number of bytes that are gathered of the line of a failure.
 const LINE: usize = 1 << 8;
-/// How many bytes of a copy are gathered before they are written.
+/// The number of bytes of a copy that are gathered before they are written.
 const COPIED: usize = 1 << 20;
 /// The bits of a file's mode that say who may read, write and execute it.
 const PERMISSIONS: u32 = 0o777;
