@@ -8,7 +8,7 @@ from findings import ACCOUNT_FAULTS, compare_accounts, compare_bad_page, finding
 from listings import compare_keys, compare_missing, compare_order, compare_rests, compare_values
 from pages import compare_figures, compare_pages, compare_tree
 from program import want
-from recoveries import compare_page_lost, compare_recovery, compare_refused
+from recoveries import compare_pages_lost, compare_recovery, compare_refused
 
 UNDER_ALL = ("pages", "buckets", "stats", "list")
 
@@ -105,6 +105,6 @@ def compare(file):
         compare_limits(file)
         compare_recovery(file, checked)
     if listing is not None:
-        compare_page_lost(file, listing)
+        compare_pages_lost(file, listing)
     want(read(file.path) == before, "the file was changed")
     return kind, listing

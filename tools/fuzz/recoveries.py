@@ -3,7 +3,7 @@
 import os
 import re
 
-from answers import File, entries_of, info_of, read, word_of
+from answers import File, entries_of, info_of, read, rows_of, word_of
 from listings import paths_between
 from program import want
 
@@ -13,6 +13,7 @@ LOSS = re.compile(
     r"(?:, keys from (?P<low>[0-9a-f]*)(?: to below (?P<high>[0-9a-f]+))?)?)"
 )
 MOST_RESTS = 3
+MOST_ZEROED = 3
 
 
 class Loss:
@@ -170,27 +171,28 @@ def compare_recovery(file, checked):
     compare_active(file, info_of(file)["meta"], checked)
 
 
-def compare_page_lost(file, listing):
-    """A page of a sound file is zeroed. If this page alone is lost, everything else is listed."""
+def compare_pages_lost(file, listing):
+    """Some pages of a sound file's trees are zeroed. If these alone are lost, everything else is
+    listed."""
     info = info_of(file)
     size, data = info["page size"], bytearray(read(file.path))
-    pages = range(2, min(info["high water"], len(data) // size))
-    if not pages:
-        return
-    number = file.draw.choice(pages)
-    data[number * size : (number + 1) * size] = bytes(size)
+    rows, _ = rows_of(file.text("pages"))
+    pages = [number for _, number, kind in rows if kind in ("branch", "leaf")]
+    zeroed = file.draw.sample(pages, min(file.draw.randint(1, MOST_ZEROED), len(pages)))
+    for number in zeroed:
+        data[number * size : (number + 1) * size] = bytes(size)
     path = os.path.join(file.folder, "zeroed.db")
     with open(path, "wb") as out:
         out.write(data)
-    zeroed = File(file.program, file.draw, path, file.folder)
+    damaged = File(file.program, file.draw, path, file.folder)
     words = ["--meta", info["meta"]]
-    checked = zeroed.run("check", "--all", *words)
-    losses = [Loss(line) for line in lines_of(checked)] if checked.out != b"OK\n" else []
-    if any(loss.is_all or loss.page != number for loss in losses):
+    compare_under(damaged, words)
+    checked = damaged.run("check", "--all", *words)
+    losses = [] if checked.is_ok() else [Loss(line) for line in lines_of(checked)]
+    if not losses or any(loss.is_all or loss.page not in zeroed for loss in losses):
         return
-    whole, left = entries_of(listing), entries_of(zeroed.run("list", "--recover", *words).out)
-    if losses:
-        want(all(whole.get(path) == item for path, item in left.items()), "recovered is what wasn't there")
+    whole, left = entries_of(listing), entries_of(damaged.run("list", "--recover", *words).out)
     gone = [path for path in whole if path not in left]
     is_lost = all(any(loss.has(path) for loss in losses) for path in gone)
-    want(is_lost, "page", number, "is zeroed, and more is gone than the losses say")
+    want(is_lost, "pages", zeroed, "are zeroed, and more is gone than the losses say")
+    want(all(path in whole for path in left), "what is recovered wasn't there")
