@@ -33,6 +33,7 @@ FUNCTION = re.compile(r"( *)(?:pub(?:\([a-z]+\))? )?(?:const )?fn (\w+)")
 IMPL = re.compile(r"impl(?:<.*?>)? (?:(\w+)(?:<'\w+>|<(\w+).*>)? for )?(\w+)")
 TRAIT = re.compile(r"(?:pub(?:\([a-z]+\))? )?trait ")
 TYPE = re.compile(r"^(?:pub(?:\([a-z]+\))? )?(?:struct|enum) (\w+)", re.M)
+UNSAID = "the prover says nothing of it"
 HOLE = """use Rattle.{path}.Statement.{{statement}}
 
 pub {name}_spec : {{M : Type 1}} → statement M
@@ -108,9 +109,10 @@ def functions_of(folder):
 
 
 class Edit:
+    """An edit: its file, the files and the functions that it changes, and the functions that must be refused."""
+
     def __init__(self, file, texts, functions):
-        self.file, self.name = file, os.path.basename(file)
-        self.files, self.functions, old = set(), [], ""
+        self.file, self.name, self.files, changed = file, os.path.basename(file), set(), []
         with open(file, encoding="utf-8") as it:
             lines = it.read().split("\n")
         path = ""
@@ -120,9 +122,10 @@ class Edit:
                 self.files.add(path)
             elif line.startswith("old: "):
                 at = texts[path].split(line.removeprefix("old: "))[0].count("\n")
-                self.functions += [it.name for it in functions if it.file == path and it.first <= at < it.end]
+                changed += [it.name for it in functions if it.file == path and it.first <= at < it.end]
         named = [line.removeprefix("fn: ").strip() for line in lines if line.startswith("fn: ")]
-        self.functions = list(dict.fromkeys(named or self.functions))
+        self.functions = list(dict.fromkeys(named or changed))
+        self.real = list(dict.fromkeys([*changed, *named]))
 
 
 class Trial:
@@ -137,7 +140,7 @@ class Trial:
         self.lines.append(f"wrong body {self.crate.name}/{name}: {text}")
 
     def fail(self, edit, text):
-        self.say(edit.name if edit else "", text)
+        self.say(edit.name, text)
         self.failed += 1
 
     def read(self):
@@ -199,7 +202,7 @@ class Trial:
 
     def line_of(self, said, name):
         found = re.search(rf"^fn {self.crate.name}::{re.escape(name)}: (.*)$", said, re.M)
-        return found[1] if found else "the prover says nothing of it"
+        return found[1] if found else UNSAID
 
     def refusal_of(self, said, name, beside):
         """Why the prover refuses the function for what it does itself, or "". That can't be told if it calls one of those that are edited beside it."""
@@ -217,24 +220,22 @@ class Trial:
     def are_apart(self, one, other):
         """Whether the edits change different functions, none of which seems to call one of the other's."""
         calls = lambda edit, name: re.search(rf"\b{name.split('::')[-1]}\(", self.text_of(edit))
-        return not {*one.functions} & {*other.functions} and not any(
-            calls(edit, name) for edit, by in ((one, other), (other, one)) for name in by.functions
-        )
+        return not {*one.real} & {*other.real} and not any(calls(edit, name) for edit, by in ((one, other), (other, one)) for name in by.real)
 
     def text_of(self, edit):
         """The bodies of the edit's functions, and its own text."""
-        bodies = ["\n".join(self.texts[it.file].split("\n")[it.first : it.end]) for it in self.functions if it.name in edit.functions]
+        bodies = ["\n".join(self.texts[it.file].split("\n")[it.first : it.end]) for it in self.functions if it.name in edit.real]
         return "\n".join([rt.rtlib.text_of(edit.file), *bodies])
 
     def try_edits(self, edits):
         """Tries these edits side by side. Returns those that are to be tried again alone."""
         names = list(dict.fromkeys(name for edit in edits for name in edit.functions))
-        self.lay_out(names, edits)
-        said = self.check(names)
+        is_applied = self.lay_out([name for edit in edits for name in edit.real], edits)
+        said = self.check(names) if is_applied else ""
         again = []
         for edit in edits:
             unread = next((it for it in said.split("\n") if rt.unread(it, edit.files)), "")
-            beside = [it for it in names if it not in edit.functions]
+            beside = [name for it in edits if it is not edit for name in it.real]
             told = {it: self.refusal_of(said, it, beside) for it in edit.functions}
             passing = [it for it in told if not told[it]]
             if not unread and not passing:
@@ -244,6 +245,9 @@ class Trial:
                 again.append(edit)
             elif unread:
                 self.fail(edit, f"BAD EDIT: the prover cannot read the edited text, so no contract was tried: {unread[:200]}")
+            elif self.line_of(said, passing[0]) == UNSAID:
+                self.fail(edit, f"BAD EDIT: it did not reach the prover, or {passing[0]} is no function of the crate")
+                self.show(said)
             else:
                 self.fail(edit, f"NOT REFUSED: {passing[0]}: {self.line_of(said, passing[0])[:400]}")
                 self.show(said)
@@ -254,13 +258,14 @@ class Trial:
 
     def run(self):
         edits = self.read()
-        real = list(dict.fromkeys(name for edit in edits for name in edit.functions))
+        real = list(dict.fromkeys(name for edit in edits for name in edit.real))
         self.lay_out(real, [])
         said = self.check(real) if real else ""
         passed = [it for it in real if self.line_of(said, it).startswith(("no holes", "depends on a hole in "))]
         for name in real:
             if name not in passed:
-                self.fail(None, f"{name} is not proved as it is: {self.line_of(said, name)[:400]}")
+                self.lines.append(f"{self.crate.name}::{name} is not proved in the copy as it is: {self.line_of(said, name)[:400]}")
+                self.failed += 1
                 self.show(said)
         if passed != real:
             return self
@@ -268,7 +273,7 @@ class Trial:
         while edits:
             now = []
             for edit in edits:
-                if all(self.are_apart(edit, it) for it in now) and self.lay_out(real, [*now, edit]):
+                if not now or all(self.are_apart(edit, it) for it in now) and self.lay_out(real, [*now, edit]):
                     now.append(edit)
             edits = [it for it in edits if it not in now]
             alone += self.try_edits(now)
