@@ -2,8 +2,8 @@
 //! the files.
 
 use Line::{
-    Buckets, Check, CheckAll, Compact, CompactRecovered, Get, Info, Keys, List, ListRecovered, Page,
-    Pages, Stats,
+    Buckets, Check, CheckAll, Compact, CompactRecovered, Get, Info, Keys, List, ListRecovered,
+    Page, Pages, Stats,
 };
 use bolt_cli::{Job, PageSize};
 use bolt_format::Slot;
