@@ -11,7 +11,7 @@ use test_files::maker::{FRESH, MetaFields};
 use test_files::samples::{INLINE_BUCKET, Sample, make};
 
 /// Bucket `b`, inline, with `k1` = `v1`, in four pages of 1,024 bytes.
-const INLINE_FILE: Sample<'static> = Sample {
+pub const INLINE_FILE: Sample<'static> = Sample {
     fields: MetaFields {
         page_size: 1024,
         ..FRESH
@@ -19,7 +19,7 @@ const INLINE_FILE: Sample<'static> = Sample {
     ..INLINE_BUCKET
 };
 
-const PAGE_SIZE: usize = 1024;
+pub const PAGE_SIZE: usize = 1024;
 
 const HEADER_LEN: usize = 16;
 
@@ -39,7 +39,7 @@ const SECOND_META: &[u8] =
 const FIRST_META: &[u8] =
     b"page size 1024\nmeta 0\ntxid 0\nroot 3\nsequence 0\nfreelist 2\nhigh water 4\n";
 
-const LISTING: &[u8] = b"62 bucket 0\n62/6b31 = 7631\n";
+pub const LISTING: &[u8] = b"62 bucket 0\n62/6b31 = 7631\n";
 
 /// The texts of the pages of the file itself.
 static PAGES: [&'static [u8]; 4] = [
@@ -254,7 +254,7 @@ fn check_changed(
 }
 
 /// Changes some bits of the byte at a place.
-fn toggle(file: &mut Vec<u8>, at: usize, bits: u8) {
+pub fn toggle(file: &mut Vec<u8>, at: usize, bits: u8) {
     if let Some(byte) = file.get_mut(at) {
         *byte ^= bits;
     }

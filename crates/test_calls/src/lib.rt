@@ -42,6 +42,8 @@ mod read_rows;
 #[cfg(test)]
 mod recovery_rows;
 #[cfg(test)]
+mod recovery_sweeps;
+#[cfg(test)]
 mod sink_rows;
 #[cfg(test)]
 mod sink_sweeps;
