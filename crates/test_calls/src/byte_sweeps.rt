@@ -1,10 +1,9 @@
 //! A file of four pages with each byte changed to each other value, under each command except
 //! `keys` and `get`: 1,044,480 files.
 
-use crate::jobs::{Line, compact};
-use crate::ran::{Ran, check_run};
-use bolt_cli::Job;
-use std::alloc::{AllocError, Global};
+use crate::jobs::Line;
+use crate::ran::{Ran, Wanted};
+use std::alloc::Global;
 use std::process::Abort;
 use std::test::Fail;
 use test_files::maker::{FRESH, MetaFields};
@@ -75,43 +74,24 @@ fn is_read(at: usize) -> bool {
     tells_page(at, 2) || tells_page(at, 3)
 }
 
-/// The commands that are run, as jobs.
-#[derive(Drop)]
-struct Jobs {
-    info: Job,
-    check: Job,
-    list: Job,
-    compact: Job,
-    /// `pages`, `buckets` and `stats`.
-    readers: Vec<Job>,
-    /// `page` of the pages 0 to 3.
-    pages: Vec<Job>,
-    /// `page` of page 4, which doesn't exist.
-    past: Job,
+/// The commands that only read, beside those that are looked at more closely.
+const READERS: [Line; 3] = [Line::Pages, Line::Buckets, Line::Stats];
+
+/// What a job comes to on a file.
+fn run_line(alloc: Global, line: Line, file: &[u8]) -> Result<Ran, Fail> {
+    let job = line.job(alloc)?;
+    Ok(Ran::on(alloc, &job, file))
 }
 
-fn jobs_of(alloc: Global, lines: &[Line]) -> Result<Vec<Job>, AllocError> {
-    let mut jobs = Vec::new(alloc);
-    for line in lines {
-        jobs.push(line.job(alloc)?)?;
-    }
-    Ok(jobs)
-}
-
-impl Jobs {
-    fn new(alloc: Global) -> Result<Jobs, AllocError> {
-        let readers = [Line::Pages, Line::Buckets, Line::Stats];
-        let pages = [Line::Page(0), Line::Page(1), Line::Page(2), Line::Page(3)];
-        Ok(Jobs {
-            info: Line::Info.job(alloc)?,
-            check: Line::Check.job(alloc)?,
-            list: Line::List.job(alloc)?,
-            compact: compact(alloc, None),
-            readers: jobs_of(alloc, &readers)?,
-            pages: jobs_of(alloc, &pages)?,
-            past: Line::Page(4).job(alloc)?,
-        })
-    }
+/// The job has this result on the file.
+fn check_line(
+    alloc: Global,
+    line: Line,
+    file: &[u8],
+    told: (&str, usize),
+    want: Wanted<'_>,
+) -> Result<(), Fail> {
+    run_line(alloc, line, file)?.check(told.0, told.1, want)
 }
 
 /// The file with the byte at a place changed.
@@ -123,13 +103,34 @@ struct Changed<'a> {
     before: &'a [u8],
 }
 
-/// `info` and `page` print what is in the metas and the pages.
-fn check_tour(
+/// `page` of the page with this number prints its text, or refuses it if one of its bytes has
+/// changed.
+fn check_page(
     rt: &impl Abort,
     alloc: Global,
-    jobs: &Jobs,
     changed: Changed<'_>,
+    id: usize,
+    text: &[u8],
+    refusal: &[u8],
 ) -> Result<(), Fail> {
+    let at = changed.at;
+    let ran = run_line(alloc, Line::Page(id as u64), changed.file)?;
+    if !tells_page(at, id) {
+        return ran.check("page", at, (0, text, b""));
+    }
+    let is_refused = ran.out.bytes().is_empty() && ran.err.bytes().starts_with(refusal);
+    let is_told = ran.err.bytes().is_empty() && !ran.out.bytes().is_empty();
+    let is_one = if ran.code == 0 {
+        is_told
+    } else {
+        ran.code == 1 && is_refused
+    };
+    assert!(rt; is_one, "page {id} at {at}");
+    Ok(())
+}
+
+/// `info` and `page` print what is in the metas and the pages.
+fn check_tour(rt: &impl Abort, alloc: Global, changed: Changed<'_>) -> Result<(), Fail> {
     let Changed {
         file,
         at,
@@ -137,28 +138,15 @@ fn check_tour(
     } = changed;
     let is_second = at < SECOND_RECORD || SECOND_RECORD_END <= at;
     let text = if is_second { SECOND_META } else { FIRST_META };
-    check_run(alloc, &jobs.info, file, ("info", at), (0, text, b""))?;
+    check_line(alloc, Line::Info, file, ("info", at), (0, text, b""))?;
     let past = (
         1,
         b"".as_slice(),
         b"error: page 4: out of range\n".as_slice(),
     );
-    check_run(alloc, &jobs.past, file, ("page 4", at), past)?;
-    let texts = PAGES.iter().zip(&REFUSED_PAGES);
-    for (id, (job, (text, refusal))) in jobs.pages.iter().zip(texts).enumerate() {
-        let ran = Ran::on(alloc, job, file);
-        if tells_page(at, id) {
-            let is_refused = ran.out.bytes().is_empty() && ran.err.bytes().starts_with(refusal);
-            let is_told = ran.err.bytes().is_empty() && !ran.out.bytes().is_empty();
-            let is_one = if ran.code == 0 {
-                is_told
-            } else {
-                ran.code == 1 && is_refused
-            };
-            assert!(rt; is_one, "page {id} at {at}");
-        } else {
-            ran.check("page", at, (0, text, b""))?;
-        }
+    check_line(alloc, Line::Page(4), file, ("page 4", at), past)?;
+    for (id, (text, refusal)) in PAGES.iter().zip(&REFUSED_PAGES).enumerate() {
+        check_page(rt, alloc, changed, id, text, refusal)?;
     }
     Ok(())
 }
@@ -167,7 +155,6 @@ fn check_tour(
 fn check_refused(
     rt: &impl Abort,
     alloc: Global,
-    jobs: &Jobs,
     changed: Changed<'_>,
     found: &Ran,
 ) -> Result<(), Fail> {
@@ -185,71 +172,77 @@ fn check_refused(
     assert!(rt; findings.ends_with(" errors found\n"), "check at {at}");
     let line = format!(in alloc; "error: file refused: {first}\n")?;
     let want = (1, b"".as_slice(), line.as_bytes());
-    for job in &jobs.readers {
-        check_run(alloc, job, file, ("a command", at), want)?;
+    for line in READERS {
+        check_line(alloc, line, file, ("a command", at), want)?;
     }
-    check_run(alloc, &jobs.list, file, ("list", at), want)?;
-    let copy = Ran::on(alloc, &jobs.compact, file);
+    check_line(alloc, Line::List, file, ("list", at), want)?;
+    let copy = run_line(alloc, Line::Compact, file)?;
     copy.check("compact", at, want)?;
     assert!(rt; copy.target.bytes().is_empty(), "the copy at {at}");
     Ok(())
 }
 
-/// Each command reads the file. Its copy is sound and lists the same.
-fn check_sound(
-    rt: &impl Abort,
-    alloc: Global,
-    jobs: &Jobs,
-    changed: Changed<'_>,
-) -> Result<(), Fail> {
-    let Changed { file, at, before } = changed;
-    for job in &jobs.readers {
-        let ran = Ran::on(alloc, job, file);
+/// The commands that only read print something and no error.
+fn check_readers(rt: &impl Abort, alloc: Global, changed: Changed<'_>) -> Result<(), Fail> {
+    let at = changed.at;
+    for line in READERS {
+        let ran = run_line(alloc, line, changed.file)?;
         assert!(rt;
             ran.code == 0 && ran.err.bytes().is_empty(),
-            "{job:?} at {at}"
+            "a command at {at}"
         );
     }
-    let list = Ran::on(alloc, &jobs.list, file);
-    let copy = Ran::on(alloc, &jobs.compact, file);
-    let copied = copy.target.bytes();
-    let length = copied.len();
-    let line = format!(in alloc; "4096 -> {length} bytes\n")?;
-    copy.check("compact", at, (0, line.as_bytes(), b""))?;
-    check_run(
-        alloc,
-        &jobs.check,
-        copied,
-        ("check of the copy", at),
-        (0, b"OK\n", b""),
-    )?;
-    let listed = (0, list.out.bytes(), b"".as_slice());
-    list.check("list", at, listed)?;
-    check_run(alloc, &jobs.list, copied, ("list of the copy", at), listed)?;
+    Ok(())
+}
+
+/// The copy is sound and lists the same. Unless the byte is read, it is the file as it was.
+fn check_copied(
+    rt: &impl Abort,
+    alloc: Global,
+    changed: Changed<'_>,
+    copied: &[u8],
+    listing: &[u8],
+) -> Result<(), Fail> {
+    let Changed {
+        file: _,
+        at,
+        before,
+    } = changed;
+    let sound = (0, b"OK\n".as_slice(), b"".as_slice());
+    check_line(alloc, Line::Check, copied, ("check of the copy", at), sound)?;
+    let listed = (0, listing, b"".as_slice());
+    check_line(alloc, Line::List, copied, ("list of the copy", at), listed)?;
     if !is_read(at) {
-        list.check("list", at, (0, LISTING, b""))?;
+        assert!(rt; listing == LISTING, "list at {at}");
         assert!(rt; copied == before, "the copy at {at}");
     }
     Ok(())
 }
 
-fn check_changed(
-    rt: &impl Abort,
-    alloc: Global,
-    jobs: &Jobs,
-    changed: Changed<'_>,
-) -> Result<(), Fail> {
-    check_tour(rt, alloc, jobs, changed)?;
-    let found = Ran::on(alloc, &jobs.check, changed.file);
+/// Each command reads the file. Its copy is sound and lists the same.
+fn check_sound(rt: &impl Abort, alloc: Global, changed: Changed<'_>) -> Result<(), Fail> {
+    check_readers(rt, alloc, changed)?;
+    let list = run_line(alloc, Line::List, changed.file)?;
+    list.check("list", changed.at, (0, list.out.bytes(), b""))?;
+    let copy = run_line(alloc, Line::Compact, changed.file)?;
+    let length = copy.target.bytes().len();
+    let told = format!(in alloc; "4096 -> {length} bytes\n")?;
+    copy.check("compact", changed.at, (0, told.as_bytes(), b""))?;
+    check_copied(rt, alloc, changed, copy.target.bytes(), list.out.bytes())
+}
+
+fn check_changed(rt: &impl Abort, alloc: Global, changed: Changed<'_>) -> Result<(), Fail> {
+    check_tour(rt, alloc, changed)?;
+    let found = run_line(alloc, Line::Check, changed.file)?;
     if found.is((0, b"OK\n", b"")) {
-        check_sound(rt, alloc, jobs, changed)
+        check_sound(rt, alloc, changed)
     } else {
         let at = changed.at;
         assert!(rt;
             is_read(at),
             "check refuses the file with byte {at} changed"
         );
-        check_refused(rt, alloc, jobs, changed, &found)
+        check_refused(rt, alloc, changed, &found)
     }
 }
 
@@ -261,13 +254,7 @@ pub fn toggle(file: &mut Vec<u8>, at: usize, bits: u8) {
 }
 
 /// The byte at a place gets each other value in turn.
-fn sweep_byte(
-    rt: &impl Abort,
-    alloc: Global,
-    jobs: &Jobs,
-    file: &[u8],
-    at: usize,
-) -> Result<(), Fail> {
+fn sweep_byte(rt: &impl Abort, alloc: Global, file: &[u8], at: usize) -> Result<(), Fail> {
     let mut other = file.to_vec(alloc)?;
     for bits in 1..=u8::MAX {
         toggle(&mut other, at, bits);
@@ -276,7 +263,7 @@ fn sweep_byte(
             at,
             before: file,
         };
-        check_changed(rt, alloc, jobs, changed)?;
+        check_changed(rt, alloc, changed)?;
         toggle(&mut other, at, bits);
     }
     Ok(())
@@ -286,10 +273,9 @@ fn sweep_byte(
 fn sweep_page(rt: &impl Abort, alloc: Global, page: usize) -> Result<(), Fail> {
     let file = make(alloc, &INLINE_FILE)?;
     assert_eq!(rt; file.len(), 4 * PAGE_SIZE);
-    let jobs = Jobs::new(alloc)?;
     let first = page.saturating_mul(PAGE_SIZE);
     for at in first..first.saturating_add(PAGE_SIZE) {
-        sweep_byte(rt, alloc, &jobs, file.as_slice(), at)?;
+        sweep_byte(rt, alloc, file.as_slice(), at)?;
     }
     Ok(())
 }
