@@ -122,11 +122,12 @@ wrong-bodies:
 # split one crate over several processors, which ends sooner and takes a third more processor time.
 JOBS ?= 2
 
-# The merge gate: every proof from nothing, the tests and the program, which this builds; some wrong
-# bodies, each against its function's own proof; and then, of the program, real databases, the manual,
-# failures, refused memory, random files that are the same each time, and a few rounds beside bbolt,
-# where that can be built.
+# The merge gate: whether each wrong body can be applied; every proof from nothing, the tests and the
+# program, which this builds; some wrong bodies, each against its function's own proof; and then, of the
+# program, real databases, the manual, failures, refused memory, random files that are the same each
+# time, and a few rounds beside bbolt, where that can be built.
 test:
+	python3 -B tools/wrong_bodies/try_alone.py --read
 	RT_JOBS=$(JOBS) rt ci
 	RT_JOBS=$(JOBS) python3 -B tools/wrong_bodies/try_alone.py
 	$(MAKE) examples manual failures memory

@@ -3,10 +3,11 @@
 # The options of a command, except those of help.
 _luntsegi_options() {
     case $1 in
-        buckets) echo --form --meta ;;
-        keys | get) echo --form --parts --meta ;;
+        info) echo --meta ;;
+        pages) echo --map ;;
+        buckets | keys | get) echo --form --parts --meta ;;
         check) echo --all --meta ;;
-        stats) echo --meta ;;
+        stats) echo --parts --meta ;;
         list) echo --from --recover --meta ;;
         compact) echo -o --page-size --for-bbolt --recover --meta ;;
     esac
@@ -15,7 +16,7 @@ _luntsegi_options() {
 # The values of an option that has only a few. The value of -o is completed as a file name.
 _luntsegi_values() {
     case $1 in
-        --form) echo printable hex bytes ;;
+        --form) echo printable hex bytes text json ;;
         --parts) echo text hex ;;
         --meta) echo 0 1 ;;
     esac

@@ -40,6 +40,8 @@ def synopsis(manual):
             found.append((line.split()[1], [], []))
         elif found and line.startswith(".Ar "):
             found[-1][2].extend(re.findall(r"\w+", line[4:]))
+        elif found and line.startswith(".Op Ar "):
+            found[-1][2].extend(f"[{name}]" for name in re.findall(r"\w+", line[7:]))
         elif found and flags_of(line):
             found[-1][1].append(flags_of(line))
     return found

@@ -26,9 +26,10 @@ def commands(program):
 
 
 def operands(program, *command):
-    """The names of a command's operands, in order."""
+    """The names of a command's operands, in order. One that may be missing is in brackets."""
     lines = section(help_text(program, *command), "Arguments")
-    return [re.match(r"<(\w+)>", line).group(1) for line in lines]
+    words = [re.match(r"<(\w+)>|(\[\w+\])", line) for line in lines]
+    return [word.group(1) or word.group(2) for word in words]
 
 
 def option(line):

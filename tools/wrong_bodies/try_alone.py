@@ -2,6 +2,9 @@
 """Tests that the prover refuses the wrong bodies of the gate, which stand in the folder gate, each as gate/CRATE/NAME.edit.
 
     try_alone.py [CRATE..]
+    try_alone.py --read
+
+With --read, it tries nothing. It tells which edits, of the gate and of the folders beside it, can't be applied to the code as it is.
 
 It runs after `rt ci`, which has proved the crates and built their libraries. As under `rt ci`, RT_JOBS says how many crates are tried side by side.
 
@@ -307,7 +310,25 @@ def try_crate(crate):
     return trial
 
 
+def read_all():
+    """Tells which edits of the gate and of the folders beside it can't be applied, and returns whether all can."""
+    crates = [it for it in rt.rtlib.crates_below(TOP) if os.path.isdir(f"{HERE}/{it.name}")]
+    read = 0
+    unread = []
+    for crate in crates:
+        for folder in (f"{HERE}/gate/{crate.name}", f"{HERE}/{crate.name}"):
+            for name in sorted(os.listdir(folder)):
+                why = rt.read_edit(f"{folder}/{name}", crate.folder)[1] if name.endswith(".edit") else "its name does not end in .edit"
+                read += 1
+                if why:
+                    unread.append(f"wrong body {crate.name}/{name}: BAD EDIT: {why}")
+    print("\n".join([*unread, f"wrong bodies: {read} read, {len(unread)} can't be applied"]))
+    return bool(read) and not unread
+
+
 def main(words):
+    if words == ["--read"]:
+        return 0 if read_all() else 1
     number = os.environ.get("RT_JOBS", "")
     jobs = int(number) if number.isdigit() and int(number) else rt.processors()
     known = {it.name: it for it in rt.rtlib.crates_below(TOP)}

@@ -123,7 +123,7 @@ parents_are parents key =
     let one : length (parents ++ key ∷ []) - 1 ≡ length parents = let whole = length-append parents (key ∷ []) in omega (arith, whole) in
     ap (λ n. take n (parents ++ key ∷ [])) one ∙ take-append_seam parents (key ∷ [])
 
-no_parts : {Z : Type 0} (path : List (Vec ℕ Z)) → length path ≡ 0 → path_in path ≡ []
+pub no_parts : {Z : Type 0} (path : List (Vec ℕ Z)) → length path ≡ 0 → path_in path ≡ []
 no_parts [] none = refl
 no_parts (part ∷ path) none = absurd (omega (arith, none))
 

@@ -37,16 +37,16 @@ rules_built s = operands_built 1 s.operands ++ options_built s.options
 
 -- ---- operands
 
-abbrev pub operand_of : Text → Bool → Operand
-operand_of name several = record { name = name; several = several }
+abbrev pub operand_of : Text → Bool → Bool → Operand
+operand_of name several required = record { name = name; several = several; required = required }
 
-one_by_one : (i : ℕ) (name : Text) (several : Bool) → takes_several (operand_built i (operand_of name several)) ≡ false
-one_by_one i name true = refl
-one_by_one i name false = refl
+one_by_one : (i : ℕ) (name : Text) (several required : Bool) → takes_several (operand_built i (operand_of name several required)) ≡ false
+one_by_one i name true required = refl
+one_by_one i name false required = refl
 
 -- an operand takes one word at a time
 pub takes_one_word : (i : ℕ) (o : Operand) → takes_several (operand_built i o) ≡ false
-takes_one_word i o = one_by_one i o.name o.several
+takes_one_word i o = one_by_one i o.name o.several o.required
 
 -- ---- building
 

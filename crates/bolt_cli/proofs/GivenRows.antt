@@ -39,7 +39,7 @@ has_here : (b : Bool) (word : Text) (words : List Text) (later : Bool) → later
 has_here true word words later is = refl
 has_here false word words later is = is
 
-has-first : (given : Given) (name : Text) → has given name ≡ is_some (first_of (values_of given name))
+pub has-first : (given : Given) (name : Text) → has given name ≡ is_some (first_of (values_of given name))
 has-first [] name = refl
 has-first (pair ∷ given) name = has_here (bytes_eq pair.0 name) pair.1 (values_of given name) (has given name) (has-first given name)
 

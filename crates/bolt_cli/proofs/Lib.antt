@@ -5,6 +5,7 @@ pub mod CommandLineLemmas
 pub mod CopyAnswers
 pub mod CutTexts
 pub mod Doing
+pub mod EntryAnswers
 pub mod GivenRows
 pub mod LineReading
 pub mod Lines
@@ -18,6 +19,8 @@ pub mod PathReading
 pub mod ReadFiles
 pub mod RestAnswers
 pub mod RootEntries
+pub mod SettingLemmas
+pub mod ShownTexts
 pub mod StatsAnswers
 pub mod WholeLines
 pub mod WordSteps

@@ -28,7 +28,7 @@ pub record LaterAgrees (s : Syntax) (words : List Text) : Type 0 where
 
 -- ---- a word that is given by a name
 
-new_name : (given : Given) (waiting : Option Text) (ahead : List Operand) (only : Bool) (name word : Text) → has given name ≡ false
+pub new_name : (given : Given) (waiting : Option Text) (ahead : List Operand) (only : Bool) (name word : Text) → has given name ≡ false
     → give name word (known given waiting ahead only) ≡ known (given ++ (name, word) ∷ []) None ahead only
 new_name given waiting ahead only name word new =
     ap (λ b. if b then refuse (known given waiting ahead only) else known (given ++ (name, word) ∷ []) None ahead only) new
@@ -79,10 +79,10 @@ operand_by_id : (s : Syntax) → is_good s ≡ true → (d : ℕ) (o : Operand) 
 operand_by_id s good d o met =
     id_in s good (λ (a : Rule). option_map_or (λ k. k == suc d) a.index false) (operand_built (suc d) o) (place_in s good d ∙ ap (option_map (operand_built (suc d))) met)
 
-operand_one : (s : Syntax) → is_good s ≡ true → (d : ℕ) (name : Text) → slice_get s.operands d ≡ Some (operand_of name false) → TakesOne s name (operand_built (suc d) (operand_of name false))
-operand_one s good d name met = record {
-  how = reading_by (operand_built (suc d) (operand_of name false));
-  by_id = operand_by_id s good d (operand_of name false) met;
+operand_one : (s : Syntax) → is_good s ≡ true → (d : ℕ) (name : Text) (required : Bool) → slice_get s.operands d ≡ Some (operand_of name false required) → TakesOne s name (operand_built (suc d) (operand_of name false required))
+operand_one s good d name required met = record {
+  how = reading_by (operand_built (suc d) (operand_of name false required));
+  by_id = operand_by_id s good d (operand_of name false required) met;
   fault = λ rows word. refl;
   rows = λ rows word. refl;
 }
@@ -111,27 +111,27 @@ waiting_after several = if several then positional else idle
 abbrev place_after : Bool → ℕ → ℕ
 place_after several d = if several then suc d else suc (suc d)
 
-operand_moves : (s : Syntax) (rows : List Row) (pending : Option (Text × List Text)) (only : Bool) (d : ℕ) (name : Text) (several : Bool) (word : Text) → d < 9
-    → to_positional (rules_in s) (Some (operand_built (suc d) (operand_of name several))) word (walk_at rows pending idle (suc d) only) (held rows pending)
+operand_moves : (s : Syntax) (rows : List Row) (pending : Option (Text × List Text)) (only : Bool) (d : ℕ) (name : Text) (several required : Bool) (word : Text) → d < 9
+    → to_positional (rules_in s) (Some (operand_built (suc d) (operand_of name several required))) word (walk_at rows pending idle (suc d) only) (held rows pending)
     ≡ walk_at (settled (rules_in s) (held rows pending)).rows (Some (name, word ∷ [])) (waiting_after several) (place_after several d) only
-operand_moves s rows pending only d name true word few =
+operand_moves s rows pending only d name true required word few =
     let h = held rows pending in
-    ap (λ x. moved_to name word x positional (suc d) (only || false)) (held_settled (is_pending (operand_built (suc d) (operand_of name true)) pending) h (settled (rules_in s) h))
+    ap (λ x. moved_to name word x positional (suc d) (only || false)) (held_settled (is_pending (operand_built (suc d) (operand_of name true required)) pending) h (settled (rules_in s) h))
     ∙ ap (λ (b : Bool). moved_to name word (settled (rules_in s) h) positional (suc d) b) (same_or only)
-operand_moves s rows pending only d name false word few =
+operand_moves s rows pending only d name false required word few =
     let h = held rows pending in
     let next : min (suc d + 1) usize_max ≡ suc (suc d) = omega (arith, few) in
-    ap (λ x. moved_to name word x idle (min (suc d + 1) usize_max) (only || false)) (held_settled (is_pending (operand_built (suc d) (operand_of name false)) pending) h (settled (rules_in s) h))
+    ap (λ x. moved_to name word x idle (min (suc d + 1) usize_max) (only || false)) (held_settled (is_pending (operand_built (suc d) (operand_of name false required)) pending) h (settled (rules_in s) h))
     ∙ ap₂ (λ (n : ℕ) (b : Bool). moved_to name word (settled (rules_in s) h) idle n b) next (same_or only)
 
 -- the word is held, and the operand takes the next one too
-added_later : (s : Syntax) → is_good s ≡ true → (given : Given) (ahead : List Operand) (only : Bool) (rows : List Row) (name : Text) (word : Text) (d : ℕ) (words : List Text)
-    → slice_get s.operands d ≡ Some (operand_of name true) → HasRows rows given → ahead ≡ drop d s.operands → LaterAgrees s words
+added_later : (s : Syntax) → is_good s ≡ true → (given : Given) (ahead : List Operand) (only : Bool) (rows : List Row) (name : Text) (required : Bool) (word : Text) (d : ℕ) (words : List Text)
+    → slice_get s.operands d ≡ Some (operand_of name true required) → HasRows rows given → ahead ≡ drop d s.operands → LaterAgrees s words
     → Agrees s (add name word (known given None ahead only)) (walk_at rows (Some (name, word ∷ [])) positional (suc d) only) words
-added_later s good given ahead only rows name word d words met says place later =
+added_later s good given ahead only rows name required word d words met says place later =
     let pending = Some (name, word ∷ []) in
-    let a = operand_built (suc d) (operand_of name true) in
-    let by_id = operand_by_id s good d (operand_of name true) met in
+    let a = operand_built (suc d) (operand_of name true required) in
+    let by_id = operand_by_id s good d (operand_of name true required) met in
     let rest : IsAtRest s (given ++ (name, word) ∷ []) ahead rows pending d = record {
       settles = ap (λ o. option_map_or (λ a. use_fault false a (word ∷ []) rows) o []) by_id;
       has = subst (λ (rs : List Row). HasRows rs (given ++ (name, word) ∷ [])) (sym (ap (λ o. used_by_id o (word ∷ []) rows) by_id))
@@ -141,13 +141,13 @@ added_later s good given ahead only rows name word d words met says place later 
     agrees_waiting s _ (held rows pending) (suc d) only words (later.at_rest (given ++ (name, word) ∷ []) ahead only rows pending d rest)
 
 -- what is left, after the word of an operand
-operand_later : (s : Syntax) → is_good s ≡ true → (given : Given) (ahead : List Operand) (only : Bool) (rows : List Row) (d : ℕ) (name : Text) (several : Bool) (word : Text) (words : List Text)
-    → slice_get s.operands d ≡ Some (operand_of name several) → HasRows rows given → ahead ≡ drop d s.operands → All IsUtf8 words → LaterAgrees s words
-    → Agrees s (take_next word (known given None ahead only) (operand_of name several ∷ drop (suc d) s.operands))
+operand_later : (s : Syntax) → is_good s ≡ true → (given : Given) (ahead : List Operand) (only : Bool) (rows : List Row) (d : ℕ) (name : Text) (several required : Bool) (word : Text) (words : List Text)
+    → slice_get s.operands d ≡ Some (operand_of name several required) → HasRows rows given → ahead ≡ drop d s.operands → All IsUtf8 words → LaterAgrees s words
+    → Agrees s (take_next word (known given None ahead only) (operand_of name several required ∷ drop (suc d) s.operands))
     (walk_at rows (Some (name, word ∷ [])) (waiting_after several) (place_after several d) only) words
-operand_later s good given ahead only rows d name true word words met says place texts later = added_later s good given ahead only rows name word d words met says place later
-operand_later s good given ahead only rows d name false word words met says place texts later =
-    given_later s good given None (drop (suc d) s.operands) only rows name (operand_built (suc d) (operand_of name false)) word (suc d) words (operand_one s good d name met) says refl texts later
+operand_later s good given ahead only rows d name true required word words met says place texts later = added_later s good given ahead only rows name required word d words met says place later
+operand_later s good given ahead only rows d name false required word words met says place texts later =
+    given_later s good given None (drop (suc d) s.operands) only rows name (operand_built (suc d) (operand_of name false required)) word (suc d) words (operand_one s good d name required met) says refl texts later
 
 -- a word that both take for an operand
 pub operand_agrees : (s : Syntax) → is_good s ≡ true → (given : Given) (ahead : List Operand) (only : Bool) (rows : List Row) (pending : Option (Text × List Text)) (d : ℕ) (word : Text) (words : List Text)
@@ -170,10 +170,10 @@ operand_agrees s good given ahead only rows pending d word words rest texts late
           let clean = turn ∙ operand_fault s good h d ∙ ap (value_fault s h (suc d)) met ∙ operand_settles s h (suc d) o ∙ rest.settles in
           let index = place_in s good d ∙ ap (option_map (operand_built (suc d))) met in
           let there = walk_at (settled (rules_in s) h).rows (Some (o.name, word ∷ [])) (waiting_after o.several) (place_after o.several d) only in
-          let moved = moves ∙ ap (λ a. to_positional (rules_in s) a word here h) index ∙ operand_moves s rows pending only d o.name o.several word few in
+          let moved = moves ∙ ap (λ a. to_positional (rules_in s) a word here h) index ∙ operand_moves s rows pending only d o.name o.several o.required word few in
           let next : after s k word ≡ take_next word k (o ∷ drop (suc d) s.operands) = told ∙ ap (take_next word k) (rest.place ∙ ahead_is) in
           agrees_along s k _ here there word words next clean moved
-          (operand_later s good given ahead only (settled (rules_in s) h).rows d o.name o.several word words met rest.has rest.place texts later)
+          (operand_later s good given ahead only (settled (rules_in s) h).rows d o.name o.several o.required word words met rest.has rest.place texts later)
     ]
 
 -- ---- an option

@@ -1,12 +1,11 @@
 -- A job that shows nothing but metas does the same on any two files with the same metas.
-use Rattle.std.proofs.Common.{◌↔◌, inl, inr, ℕ, List, Option, take}
-use Rattle.bolt_format.specs.Metas.{HasMetaFault, IsChosen, IsInSlot}
+use Rattle.std.proofs.Common.{◌↔◌, inl, inr, ℕ, List, Option, None, Some, take}
+use Rattle.bolt_format.specs.Metas.{HasMetaFault, HasSlotFault, IsChosen, IsInSlot}
 use Rattle.bolt_format.specs.declared.meta.Meta.{Meta}
 use Rattle.bolt_format.specs.declared.meta.MetaFault.{MetaFault}
 use Rattle.bolt_format.specs.declared.meta.Slot.{Slot}
 use Rattle.bolt_format.specs.declared.meta.TheConstants.{METAS_END}
-use Rattle.bolt_report.specs.MetaLines.{info_text}
-use Rattle.bolt_cli.specs.Answers.{Answer, DoesJob, Ending, IsOpenAnswer, done}
+use Rattle.bolt_cli.specs.Answers.{Answer, DoesJob, Ending, IsInfoAnswer}
 use Rattle.bolt_cli.specs.Needs.{needed_bytes}
 use Rattle.bolt_cli.specs.declared.job.Job.{Job}
 use Rattle.bolt_cli.specs.declared.job.Job.TheVariants as job
@@ -16,16 +15,20 @@ pub record SameMetas (file other : List ℕ) : Type 0 where
   pub chosen : (slot : Slot) (meta : Meta) → IsChosen file slot meta ↔ IsChosen other slot meta
   pub slot : (slot : Slot) (meta : Meta) → IsInSlot file slot meta ↔ IsInSlot other slot meta
   pub fault : (fault : MetaFault) → HasMetaFault file 0 fault ↔ HasMetaFault other 0 fault
+  pub slot_fault : (slot : Slot) (fault : MetaFault) → HasSlotFault file slot fault ↔ HasSlotFault other slot fault
 
-answer_there : (file other : List ℕ) (opened : Slot → Meta → Answer) (answer : Answer) → SameMetas file other → IsOpenAnswer file opened answer → IsOpenAnswer other opened answer
-answer_there file other opened answer s (inl (slot, meta, chosen, is)) = inl (slot, meta, (s.chosen slot meta).0 chosen, is)
-answer_there file other opened answer s (inr (fault, has, none, is)) = inr (fault, (s.fault fault).0 has, (λ slot meta valid. none slot meta ((s.slot slot meta).1 valid)), is)
+answer_there : (file other : List ℕ) (wanted : Option Slot) (answer : Answer) → SameMetas file other → IsInfoAnswer file wanted answer → IsInfoAnswer other wanted answer
+answer_there file other None answer s (inl (slot, meta, chosen, is)) = inl (slot, meta, (s.chosen slot meta).0 chosen, is)
+answer_there file other (Some named) answer s (inl (slot, meta, (same, lies), is)) = inl (slot, meta, (same, (s.slot named meta).0 lies), is)
+answer_there file other None answer s (inr (fault, (has, none), is)) = inr (fault, ((s.fault fault).0 has, λ slot meta valid. none slot meta ((s.slot slot meta).1 valid)), is)
+answer_there file other (Some named) answer s (inr (fault, (has, none), is)) = inr (fault, ((s.slot_fault named fault).0 has, λ meta valid. none meta ((s.slot named meta).1 valid)), is)
 
 back : (file other : List ℕ) → SameMetas file other → SameMetas other file
 back file other s = record {
   chosen = λ slot meta. ((s.chosen slot meta).1, (s.chosen slot meta).0);
   slot = λ slot meta. ((s.slot slot meta).1, (s.slot slot meta).0);
   fault = λ fault. ((s.fault fault).1, (s.fault fault).0);
+  slot_fault = λ slot fault. ((s.slot_fault slot fault).1, (s.slot_fault slot fault).0);
 }
 
 module _ {O T : Type 0} (out_taken : O → Option (List ℕ)) (out_failed : O → ℕ) (target_taken : T → Option (List ℕ)) (target_failed : T → ℕ)
@@ -33,17 +36,16 @@ module _ {O T : Type 0} (out_taken : O → Option (List ℕ)) (out_failed : O �
   pub enough : (j : Job) (out_old out_new : O) (target_old target_new : T) (ending : Ending)
       → DoesJob out_taken out_failed out_old out_new target_taken target_failed target_old target_new (needed_bytes j file) j ending
       ↔ DoesJob out_taken out_failed out_old out_new target_taken target_failed target_old target_new file j ending
-  enough (job.Info name) out_old out_new target_old target_new ending =
-      let opened : Slot → Meta → Answer = λ slot meta. done (info_text slot meta) in (
-        (λ h. (h.0, answer_there (take METAS_END file) file opened h.0 same h.1, h.2, h.3)),
-        (λ h. (h.0, answer_there file (take METAS_END file) opened h.0 (back (take METAS_END file) file same) h.1, h.2, h.3)),
-      )
+  enough (job.Info name slot) out_old out_new target_old target_new ending = (
+    (λ h. (h.0, answer_there (take METAS_END file) file slot h.0 same h.1, h.2, h.3)),
+    (λ h. (h.0, answer_there file (take METAS_END file) slot h.0 (back (take METAS_END file) file same) h.1, h.2, h.3)),
+  )
   enough (job.Page name id) out_old out_new target_old target_new ending = (λ h. h, λ h. h)
-  enough (job.Pages name) out_old out_new target_old target_new ending = (λ h. h, λ h. h)
+  enough (job.Pages name as_map) out_old out_new target_old target_new ending = (λ h. h, λ h. h)
   enough (job.Check name slot all) out_old out_new target_old target_new ending = (λ h. h, λ h. h)
-  enough (job.Buckets name slot form) out_old out_new target_old target_new ending = (λ h. h, λ h. h)
+  enough (job.Buckets name slot path form) out_old out_new target_old target_new ending = (λ h. h, λ h. h)
   enough (job.Keys name slot path form) out_old out_new target_old target_new ending = (λ h. h, λ h. h)
   enough (job.Get name slot path form) out_old out_new target_old target_new ending = (λ h. h, λ h. h)
-  enough (job.Stats name slot) out_old out_new target_old target_new ending = (λ h. h, λ h. h)
+  enough (job.Stats name slot path) out_old out_new target_old target_new ending = (λ h. h, λ h. h)
   enough (job.List name slot from recover) out_old out_new target_old target_new ending = (λ h. h, λ h. h)
   enough (job.Compact name slot target size which recover) out_old out_new target_old target_new ending = (λ h. h, λ h. h)

@@ -1,5 +1,5 @@
 -- The figures of a bucket's buckets, added up entry by entry.
-use Rattle.std.proofs.Common.{◌≡◌, ◌∙◌, ℕ, zero, suc, false, IsTrue, List, [], ◌∷◌, Option, Some, drop, refl, sym, subst, rules}
+use Rattle.std.proofs.Common.{◌≡◌, ◌∙◌, ◌⊎◌, inl, inr, ap, ℕ, Vec, length, zero, suc, false, IsTrue, List, [], ◌∷◌, Some, drop, refl, sym, subst, rules}
 use Rattle.std.proofs.Math.Logic.{∥∥₁_elim, ∥∥₁_map}
 use Rattle.std.proofs.Props.{props}
 use Rattle.std.specs.List.{Contains}
@@ -8,10 +8,9 @@ use Rattle.bolt_check.specs.Keys.{Key}
 use Rattle.bolt_check.specs.declared.checked_file.Checked.{Checked}
 use Rattle.bolt_format.specs.Elements.{LeafElement}
 use Rattle.bolt_format.specs.declared.meta.Meta.{Meta}
-use Rattle.bolt_format.specs.declared.meta.Slot.{Slot}
 use Rattle.bolt_tree.specs.Buckets.{bucket_checked, bucket_start}
 use Rattle.bolt_tree.specs.BucketViews.{entries_of}
-use Rattle.bolt_tree.specs.Entries.{AreEntries, IsEntry, Root_page, Start, start_of}
+use Rattle.bolt_tree.specs.Entries.{Root_page, Start, start_of}
 use Rattle.bolt_tree.specs.EntriesLeft.{ForEntries, entries_left}
 use Rattle.bolt_tree.specs.Lookups.{IsBucketAt}
 use Rattle.bolt_tree.specs.Places.{Fresh, On, Past, Place}
@@ -22,9 +21,14 @@ use Rattle.bolt_tree.proofs.Named.{entry_once}
 use Rattle.bolt_report.specs.Figures.{add_stats}
 use Rattle.bolt_report.specs.StatsOf.{IsStatsOf}
 use Rattle.bolt_report.specs.declared.figures.Stats.{Stats}
-use Rattle.bolt_cli.proofs.ReadFiles.{read_trees}
+use Rattle.bolt_tree.specs.Paths.{Path}
+use Rattle.bolt_check.specs.Sound.{HasSoundTrees}
+use Rattle.bolt_cli.specs.PlainWords.{path_in}
+use Rattle.bolt_cli.proofs.AtPaths.{no_parts}
 use Rattle.bolt_cli.proofs.RootEntries.{of_root, root_entries}
-use Rattle.bolt_cli.specs.Answers.{AddsBy, AddsEntry, IsReadUnder, IsTotal, no_stats}
+use Rattle.bolt_cli.specs.Answers.{AddsBy, AddsEntry, HasFigures, IsStatsAnswer, IsTotal, LeadsTo, no_stats, refused}
+use Rattle.bolt_cli.specs.declared.failure.Failure.{Failure}
+use Rattle.bolt_cli.specs.declared.failure.Failure.TheVariants as failure
 
 -- ---- one entry
 
@@ -103,15 +107,32 @@ no_figures s none = λ i. record {
   leaf_used = none.1.1.1.1.1.1.1.1.1.1.1.1 i;
 }
 
--- ---- the root bucket
+-- ---- the bucket at a path
 
-pub root_total : (file : List ℕ) (slot : Option Slot) (checked : Checked) (root : Bucket) (total : Stats) → bytes_of checked ≡ file → IsReadUnder file slot (meta_of checked)
+-- the figures of the root bucket
+pub root_figures : {Z : Type 0} (path : List (Vec ℕ Z)) (checked : Checked) (root : Bucket) (total : Stats) → length path ≡ 0 → HasSoundTrees (bytes_of checked) (meta_of checked)
     → bucket_checked root ≡ checked → bucket_start root ≡ Root_page (meta_of checked).root
     → ForEntries (bucket_checked root) (bucket_start root) (λ entries. ∥ IsTotal (bytes_of (bucket_checked root)) (meta_of (bucket_checked root)) entries no_stats total ∥₁)
-    → (entries : List LeafElement) × ∥ AreEntries (IsEntry file (meta_of checked)) (Root_page (meta_of checked).root) entries × IsTotal file (meta_of checked) entries no_stats total ∥₁
-root_total file slot checked root total same under is begins promised =
-    let (entries, are) = root_entries file (meta_of checked) (read_trees file slot (meta_of checked) under) in
-    let known = of_root file checked root (λ entries. ∥ IsTotal (bytes_of (bucket_checked root)) (meta_of (bucket_checked root)) entries no_stats total ∥₁) same is begins promised entries are in
+    → HasFigures (bytes_of checked) (path_in path) (meta_of checked) total
+root_figures path checked root total empty trees is begins promised =
+    let file = bytes_of checked in
+    let (entries, are) = root_entries file (meta_of checked) trees in
+    let known = of_root file checked root (λ entries. ∥ IsTotal (bytes_of (bucket_checked root)) (meta_of (bucket_checked root)) entries no_stats total ∥₁) refl is begins promised entries are in
     let of_checked = subst (λ (c : Checked). ∥ IsTotal (bytes_of c) (meta_of c) entries no_stats total ∥₁) is known in
-    let of_file = subst (λ (f : List ℕ). ∥ IsTotal f (meta_of checked) entries no_stats total ∥₁) same of_checked in
-    (entries, ∥∥₁_map of_file (λ sum. (are, sum)))
+    subst (λ (p : Path). HasFigures file p (meta_of checked) total) (sym (no_parts path empty)) (entries, ∥∥₁_map of_checked (λ sum. (are, sum)))
+
+-- and those of another bucket
+pub bucket_figures : {Z : Type 0} (path : List (Vec ℕ Z)) (checked : Checked) (bucket : Bucket) (own : Stats) → (length path ≡ 0 → ⊥)
+    → bucket_checked bucket ≡ checked → ∥ LeadsTo (bytes_of checked) (meta_of checked) (path_in path) (bucket_start bucket) ∥₁
+    → ∥ IsStatsOf (bytes_of (bucket_checked bucket)) (meta_of (bucket_checked bucket)) (bucket_start bucket) own ∥₁ → HasFigures (bytes_of checked) (path_in path) (meta_of checked) own
+bucket_figures [] checked bucket own some is named stats = absurd (some refl)
+bucket_figures (part ∷ path) checked bucket own some is named stats =
+    let figures = subst (λ (c : Checked). ∥ IsStatsOf (bytes_of c) (meta_of c) (bucket_start bucket) own ∥₁) is stats in
+    (bucket_start bucket, ∥∥₁_elim named (hlevel props) (λ led. ∥∥₁_map figures (λ are. (led, are))))
+
+-- why there are none
+pub figures_missing : (checked : Checked) (path : Path) (reason : Failure)
+    → (reason ≡ failure.Memory) ⊎ ((reason ≡ failure.NoBucket) × ((bucket : Start) → LeadsTo (bytes_of checked) (meta_of checked) path bucket → ⊥))
+    → IsStatsAnswer (bytes_of checked) path (meta_of checked) (refused reason)
+figures_missing checked path reason (inl full) = inr (inr (ap refused full))
+figures_missing checked path reason (inr (is, nowhere)) = inr (inl (nowhere, ap refused is))

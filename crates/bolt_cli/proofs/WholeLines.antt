@@ -123,9 +123,9 @@ same_rows : (b : Bool) (rows : List Row) → (if b then rows else rows) ≡ rows
 same_rows true rows = refl
 same_rows false rows = refl
 
-operand_plain : (i : ℕ) (name : Text) (several : Bool) (rows : List Row) → IsPlain rows (operand_built i (operand_of name several))
-operand_plain i name true rows = (either_way (has_row name rows) _, same_rows (has_row name rows) rows)
-operand_plain i name false rows = (either_way (has_row name rows) _, same_rows (has_row name rows) rows)
+operand_plain : (i : ℕ) (name : Text) (several required : Bool) (rows : List Row) → IsPlain rows (operand_built i (operand_of name several required))
+operand_plain i name true required rows = (either_way (has_row name rows) _, same_rows (has_row name rows) rows)
+operand_plain i name false required rows = (either_way (has_row name rows) _, same_rows (has_row name rows) rows)
 
 option_plain : (name : Text) (flag : Flag) (has_value required : Bool) (rows : List Row) → IsPlain rows (option_built (choice_of name flag has_value required))
 option_plain name (long own) true required rows = (either_way (has_row name rows) _, same_rows (has_row name rows) rows)
@@ -157,7 +157,7 @@ options_default rows (o ∷ options) = one_more rows (option_built o) (options_b
 
 operands_default : (rows : List Row) (i : ℕ) (ops : List Operand) (options : List Choice) → NoDefaults rows (operands_built i ops ++ options_built options)
 operands_default rows i [] options = options_default rows options
-operands_default rows i (o ∷ ops) options = one_more rows (operand_built i o) (operands_built (suc i) ops ++ options_built options) (operand_plain i o.name o.several rows) (operands_default rows (suc i) ops options)
+operands_default rows i (o ∷ ops) options = one_more rows (operand_built i o) (operands_built (suc i) ops ++ options_built options) (operand_plain i o.name o.several o.required rows) (operands_default rows (suc i) ops options)
 
 -- whether an argument is missing
 abbrev misses : List Row → List Rule → Bool
@@ -166,17 +166,21 @@ misses rows rs = list_any (λ (a : Rule). a.required && not (is_given a.id rows)
 abbrev whole_options : Given → List Choice → Bool
 whole_options given options = list_all (λ (o : Choice). not o.required || has given o.name) options
 
+abbrev whole_operands : Given → List Operand → Bool
+whole_operands given ops = list_all (λ (o : Operand). not o.required || has given o.name) ops
+
 abbrev whole_line : Given → List Operand → List Choice → Bool
-whole_line given ops options = list_all (λ (o : Operand). has given o.name) ops && whole_options given options
+whole_line given ops options = whole_operands given ops && whole_options given options
 
 option_missing : (required there later : Bool) → (required && not there || not later) ≡ not ((not required || there) && later)
 option_missing true true later = refl
 option_missing true false later = refl
 option_missing false there later = refl
 
-operand_missing : (there all later : Bool) → (not there || not (all && later)) ≡ not (there && all && later)
-operand_missing true all later = refl
-operand_missing false all later = refl
+operand_missing : (required there all later : Bool) → (required && not there || not (all && later)) ≡ not ((not required || there) && all && later)
+operand_missing true true all later = refl
+operand_missing true false all later = refl
+operand_missing false there all later = refl
 
 options_missing : (rows : List Row) (given : Given) (options : List Choice) → HasRows rows given → misses rows (options_built options) ≡ not (whole_options given options)
 options_missing rows given [] says = refl
@@ -188,8 +192,8 @@ operands_missing : (rows : List Row) (given : Given) (i : ℕ) (ops : List Opera
     → misses rows (operands_built i ops ++ options_built options) ≡ not (whole_line given ops options)
 operands_missing rows given i [] options says = options_missing rows given options says
 operands_missing rows given i (o ∷ ops) options says =
-    ap₂ (λ there later. not there || later) (is_given-given rows given o.name says) (operands_missing rows given (suc i) ops options says)
-    ∙ operand_missing (has given o.name) (list_all (λ (o : Operand). has given o.name) ops) (whole_options given options)
+    ap₂ (λ there later. o.required && not there || later) (is_given-given rows given o.name says) (operands_missing rows given (suc i) ops options says)
+    ∙ operand_missing o.required (has given o.name) (whole_operands given ops) (whole_options given options)
 
 abbrev missing_if : Bool → Kinds
 missing_if missing = if missing then kind.MissingRequiredArgument ∷ [] else []

@@ -1,231 +1,275 @@
 -- The words for a job are read as it.
 use Rattle.std.proofs.Common.{◌≡◌, ◌∙◌, ◌<◌, ◌^◌, ℕ, Bool, List, [], ◌∷◌, ◌++◌, Option, Some, None, Result, Ok, Err, true, false, codes, map, refl, sym, subst, ap, append_assoc, append-nil, rules}
-use Rattle.std.specs.Prelude.{All, MatchResult, fold, if◌then◌else◌}
+use Rattle.std.specs.Prelude.{All, MatchResult, fold, is_some, option_map, if◌then◌else◌}
 use Rattle.std.specs.Fmt.{decimal}
+use Rattle.std.specs.Option.{option_or}
+use Rattle.std.specs.Str.{bytes_eq}
 use Rattle.std.proofs.lemmas.Fmt.{decimal_nonempty, digits_decimal, digits_value-decimal}
-use Rattle.hex.specs.Hex.{IsBytes, encode_lower}
+use Rattle.hex.specs.Hex.{IsBytes}
 use Rattle.bolt_check.specs.Keys.{Key}
 use Rattle.bolt_tree.specs.Paths.{Path}
-use Rattle.bolt_format.specs.Metas.{IsPageSize}
 use Rattle.bolt_format.specs.declared.meta.Slot.{Slot}
 use Rattle.bolt_format.specs.declared.meta.Slot.TheVariants.{One, Zero}
 use Rattle.bolt_layout.specs.declared.layout.Layout.{Layout}
 use Rattle.bolt_layout.specs.declared.layout.Layout.TheVariants.{Balanced, Plain}
 use Rattle.bolt_report.specs.declared.form.Form.{Form}
-use Rattle.bolt_report.specs.declared.form.Form.TheVariants.{Printable, Hex, Bytes}
+use Rattle.bolt_report.specs.declared.form.Form.TheVariants as form
 use Rattle.bolt_cli.specs.CommandLine.{IsRefusalOf}
 use Rattle.bolt_cli.specs.declared.job.Job.{Job}
 use Rattle.bolt_cli.specs.declared.words.Refusal.{Refusal}
 use Rattle.bolt_cli.specs.declared.words.Refusal.TheVariants.{Memory, Help, Version, Usage, Word}
-use Rattle.bolt_cli.specs.LineWords.{Known, Syntax, Text, after, give, given_word, refuse, values_of}
-use Rattle.bolt_cli.specs.PathWords.{each_part, part_of, result_and_then}
-use Rattle.bolt_cli.specs.declared.parts.Parts.TheVariants as parts
-use Rattle.bolt_cli.specs.PlainWords.{Asked, IsInRange, IsPart, Reading, asked_of, asks, asks_at, buckets, check, compact, file_operand, first_of, form_of, form_option, form_word, from_option, get, info, keys, line_of, list, meta_option, page, page_size_of, pages, part_operand, parts_option, reading_in, reading_of, recover_option, refused, slot_by, stats, unread, words_for}
-use Rattle.bolt_cli.proofs.GivenRows.{Given}
+use Rattle.bolt_cli.specs.LineWords.{Choice, Operand, Syntax, Text, after, given_word, has, is_complete, known_after, values_of}
+use Rattle.bolt_cli.specs.PathWords.{hex_path_by}
+use Rattle.bolt_cli.specs.PlainWords.{Asked, IsInRange, IsPart, IsSize, Reading, Setting, buckets_line, check_line, compact_line, get_line, info_line, keys_line, list_line, pages_line, stats_line, asked, asked_of, asks, buckets, check, compact, file_operand, first_of, form_of, form_word, from_word, get, info, is_balanced, is_given, keys, layout_by, line_of, list, page, page_size_by, pages, part_operand, reading_in, reading_of, refused, settings, settings_words, slot_by, slot_word, stats, unread, words_for}
+use Rattle.bolt_cli.proofs.GivenRows.{Given, has-first}
+use Rattle.bolt_cli.proofs.LineReading.{new_name}
 use Rattle.bolt_cli.proofs.Numbers.{decimal_numerals, good_number, size_written}
+use Rattle.bolt_cli.proofs.SettingLemmas.{AreApart, AreOptions, IsUnnamed, rest_found, setting_found, settings_given, settings_taken, value_in}
 use Rattle.bolt_cli.proofs.WordSteps.{known}
-use Rattle.bolt_cli.proofs.WrittenPaths.{hex_words, is_no_option, one_word, parts_read, word_read}
+use Rattle.bolt_cli.proofs.WrittenPaths.{hex_words, parts_read, word_read}
+
+-- ---- one value
+
+or_none : (o : Option Text) → option_or o None ≡ o
+or_none None = refl
+or_none (Some value) = refl
 
 form_read : (form : Form) → form_of (form_word form) ≡ Ok form
-form_read Printable = refl
-form_read Hex = refl
-form_read Bytes = refl
+form_read form.Printable = refl
+form_read form.Hex = refl
+form_read form.Bytes = refl
+form_read form.Text = refl
+form_read form.Json = refl
 
--- ---- the words of a path
+slot_read : (slot : Option Slot) → slot_by (option_map slot_word slot) ≡ Ok slot
+slot_read None = refl
+slot_read (Some Zero) = refl
+slot_read (Some One) = refl
+
+given_read : (given : Bool) → is_given (if given then Some given_word else None) ≡ given
+given_read false = refl
+given_read true = refl
+
+layout_read : (which : Layout) → layout_by (if is_balanced which then Some given_word else None) ≡ which
+layout_read Plain = refl
+layout_read Balanced = refl
+
+from_read : (path : Path) → All IsPart path → hex_path_by (from_word path) ≡ Ok path
+from_read [] parts = refl
+from_read (part ∷ path) parts = word_read part path parts
+
+size_read : (size : Option ℕ) → IsSize size → page_size_by (option_map decimal size) ≡ Ok size
+size_read None accepted = refl
+size_read (Some size) accepted = size_written size accepted
+
+-- ---- the words behind the settings
 
 abbrev part_pair : Text → Text × Text
 part_pair word = (codes "PART", word)
 
 -- behind `--` each word that is left is a part
-parts_taken : (s : Syntax) (given : Given) (words : List Text)
-    → fold (after s) (known given None (part_operand ∷ []) true) words ≡ known (given ++ map part_pair words) None (part_operand ∷ []) true
-parts_taken s given [] = ap (λ (g : Given). known g None (part_operand ∷ []) true) (sym (append-nil given))
-parts_taken s given (word ∷ words) =
-    parts_taken s (given ++ part_pair word ∷ []) words
-    ∙ ap (λ (g : Given). known g None (part_operand ∷ []) true) (append_assoc given (part_pair word ∷ []) (map part_pair words))
+parts_taken : (s : Syntax) (required : Bool) (given : Given) (words : List Text)
+    → fold (after s) (known given None (part_operand required ∷ []) true) words ≡ known (given ++ map part_pair words) None (part_operand required ∷ []) true
+parts_taken s required given [] = ap (λ (g : Given). known g None (part_operand required ∷ []) true) (sym (append-nil given))
+parts_taken s required given (word ∷ words) =
+    parts_taken s required (given ++ part_pair word ∷ []) words
+    ∙ ap (λ (g : Given). known g None (part_operand required ∷ []) true) (append_assoc given (part_pair word ∷ []) (map part_pair words))
 
 part_values : (words : List Text) → values_of (map part_pair words) (codes "PART") ≡ words
 part_values [] = refl
 part_values (word ∷ words) = ap (λ (ws : List Text). word ∷ ws) (part_values words)
 
 -- and by another name there is none
-no_values : (words : List Text) → values_of (map part_pair words) (codes "meta") ≡ []
-no_values [] = refl
-no_values (word ∷ words) = no_values words
+no_values : (name : Text) → bytes_eq (codes "PART") name ≡ false → (words : List Text) → values_of (map part_pair words) name ≡ []
+no_values name other [] = refl
+no_values name other (word ∷ words) = ap (λ b. if b then word ∷ values_of (map part_pair words) name else values_of (map part_pair words) name) other ∙ no_values name other words
 
-abbrev slot_given : Option Slot → Given
-slot_given None = []
-slot_given (Some Zero) = (codes "meta", codes "0") ∷ []
-slot_given (Some One) = (codes "meta", codes "1") ∷ []
+-- ---- a line
 
-abbrev path_given : Option Slot → Text → Form → List Text → Given
-path_given slot file form words = slot_given slot ++ ((codes "form", form_word form) ∷ (codes "parts", codes "hex") ∷ (codes "FILE", file) ∷ map part_pair words)
+module _ (ss : List Setting) (file : Text) (words : List Text) where
+  -- what the line gives
+  abbrev line_given : Given
+  line_given = settings_given ss ++ (codes "FILE", file) ∷ map part_pair words
 
-module _ (wanted : Text → Option Slot → Path → Form → Asked) (file : Text) (part : Key) (path : Path) (form : Form) (bytes : All IsBytes (part ∷ path)) where
-  abbrev Reads : Result (Option Slot) Text → Result Form Text → List Text → Result Asked Text
-  Reads slots forms words =
-      result_and_then (λ slot. result_and_then (λ form. result_and_then (λ path. Ok (wanted file slot path form)) (each_part (part_of parts.Hex) (encode_lower part ∷ words))) forms) slots
+  file_found : value_in ss (codes "FILE") ≡ None → first_of (values_of line_given (codes "FILE")) ≡ Some file
+  file_found other = setting_found ((codes "FILE", file) ∷ map part_pair words) (codes "FILE") ss ∙ ap (λ (o : Option Text). option_or o (Some file)) other
 
-  rest_read : (slot : Option Slot) → Reads (Ok slot) (form_of (form_word form)) (values_of (map part_pair (hex_words path)) (codes "PART")) ≡ Ok (wanted file slot (part ∷ path) form)
-  rest_read slot =
-      ap (Reads (Ok slot) (form_of (form_word form))) (part_values (hex_words path))
-      ∙ ap (λ forms. Reads (Ok slot) forms (hex_words path)) (form_read form)
-      ∙ ap (result_and_then (λ path. Ok (wanted file slot path form))) (parts_read (part ∷ path) bytes)
+  file_given : value_in ss (codes "FILE") ≡ None → has line_given (codes "FILE") ≡ true
+  file_given other = has-first line_given (codes "FILE") ∙ ap is_some (file_found other)
 
-  path_asked : (slot : Option Slot) → asks_at wanted (values_of (path_given slot file form (hex_words (part ∷ path)))) ≡ Ok (wanted file slot (part ∷ path) form)
-  path_asked None =
-      ap (λ (words : List Text). Reads (slot_by (first_of words)) (form_of (form_word form)) (values_of (map part_pair (hex_words path)) (codes "PART"))) (no_values (hex_words path))
-      ∙ rest_read None
-  path_asked (Some Zero) = rest_read (Some Zero)
-  path_asked (Some One) = rest_read (Some One)
+  option_found : (name : Text) → bytes_eq (codes "FILE") name ≡ false → bytes_eq (codes "PART") name ≡ false → first_of (values_of line_given name) ≡ value_in ss name
+  option_found name no_file no_part =
+      setting_found ((codes "FILE", file) ∷ map part_pair words) name ss
+      ∙ ap (λ b. option_or (value_in ss name) (first_of (if b then file ∷ values_of (map part_pair words) name else values_of (map part_pair words) name))) no_file
+      ∙ ap (λ (ws : List Text). option_or (value_in ss name) (first_of ws)) (no_values name no_part words)
+      ∙ or_none (value_in ss name)
 
-abbrev keys_line : Syntax
-keys_line = record { name = codes "keys"; operands = file_operand ∷ part_operand ∷ []; options = form_option ∷ parts_option ∷ meta_option ∷ [] }
+  parts_found : IsUnnamed (codes "PART") ss → values_of line_given (codes "PART") ≡ words
+  parts_found other = rest_found ((codes "FILE", file) ∷ map part_pair words) (codes "PART") ss other ∙ part_values words
 
-abbrev get_line : Syntax
-get_line = record { name = codes "get"; operands = file_operand ∷ part_operand ∷ []; options = form_option ∷ parts_option ∷ meta_option ∷ [] }
+module _ (name : Text) (ops : List Operand) (options : List Choice) where
+  abbrev line_by : Syntax
+  line_by = record { name = name; operands = file_operand ∷ ops; options = options }
 
-abbrev list_line : Syntax
-list_line = record { name = codes "list"; operands = file_operand ∷ []; options = from_option ∷ recover_option ∷ meta_option ∷ [] }
+  file_taken : (ss : List Setting) (file : Text) (words : List Text) → AreOptions line_by ss → AreApart ss → value_in ss (codes "FILE") ≡ None
+      → known_after line_by (settings_words ss (codes "--" ∷ file ∷ words)) ≡ fold (after line_by) (known (settings_given ss ++ (codes "FILE", file) ∷ []) None ops true) words
+  file_taken ss file words are apart other =
+      let none = has-first (settings_given ss) (codes "FILE")
+      ∙ ap (λ (g : Given). is_some (first_of (values_of g (codes "FILE")))) (sym (append-nil (settings_given ss)))
+      ∙ ap is_some (setting_found [] (codes "FILE") ss)
+      ∙ ap (λ (o : Option Text). is_some (option_or o None)) other in
+      settings_taken line_by (file_operand ∷ ops) (codes "--" ∷ file ∷ words) ss are apart
+      ∙ ap (λ k. fold (after line_by) k words) (new_name (settings_given ss) None ops true (codes "FILE") file none)
 
--- the words of the parts, behind those of the rest
-abbrev PathRead : Syntax → (Text → Option Slot → Path → Form → Asked) → Option Slot → Form → Type 0
-PathRead line wanted slot form =
-    (file : Text) (part : Key) (path : Path) → All IsBytes (part ∷ path)
-    → reading_in line (fold (after line) (known (path_given slot file form []) None (part_operand ∷ []) true) (hex_words (part ∷ path))) ≡ asks (wanted file slot (part ∷ path) form)
+  -- a line without words behind FILE
+  line_read : (ss : List Setting) (file : Text) (wanted : Asked) → AreOptions line_by ss → AreApart ss → value_in ss (codes "FILE") ≡ None
+      → is_complete line_by (known (line_given ss file []) None ops true) ≡ true → asked name (values_of (line_given ss file [])) ≡ Ok wanted
+      → reading_in line_by (known_after line_by (settings_words ss (codes "--" ∷ file ∷ []))) ≡ asks wanted
+  line_read ss file wanted are apart other whole is =
+      ap (reading_in line_by) (file_taken ss file [] are apart other)
+      ∙ ap (λ b. if b then reading_of (asked name (values_of (line_given ss file []))) else refused) whole
+      ∙ ap reading_of is
 
-keys_read : (slot : Option Slot) (form : Form) → PathRead keys_line keys slot form
-keys_read None form file part path bytes =
-    ap (reading_in keys_line) (parts_taken keys_line (path_given None file form []) (hex_words (part ∷ path))) ∙ ap reading_of (path_asked keys file part path form bytes None)
-keys_read (Some Zero) form file part path bytes =
-    ap (reading_in keys_line) (parts_taken keys_line (path_given (Some Zero) file form []) (hex_words (part ∷ path))) ∙ ap reading_of (path_asked keys file part path form bytes (Some Zero))
-keys_read (Some One) form file part path bytes =
-    ap (reading_in keys_line) (parts_taken keys_line (path_given (Some One) file form []) (hex_words (part ∷ path))) ∙ ap reading_of (path_asked keys file part path form bytes (Some One))
+module _ (name : Text) (required : Bool) (options : List Choice) where
+  -- a line with parts behind FILE
+  path_read : (ss : List Setting) (file : Text) (words : List Text) (wanted : Asked) → (let line = line_by name (part_operand required ∷ []) options in AreOptions line ss → AreApart ss → value_in ss (codes "FILE") ≡ None
+      → is_complete line (known (line_given ss file words) None (part_operand required ∷ []) true) ≡ true → asked name (values_of (line_given ss file words)) ≡ Ok wanted
+      → reading_in line (known_after line (settings_words ss (codes "--" ∷ file ∷ words))) ≡ asks wanted)
+  path_read ss file words wanted are apart other whole is =
+      let line = line_by name (part_operand required ∷ []) options in
+      ap (reading_in line) (file_taken name (part_operand required ∷ []) options ss file words are apart other
+      ∙ parts_taken line required (settings_given ss ++ (codes "FILE", file) ∷ []) words
+      ∙ ap (λ (g : Given). known g None (part_operand required ∷ []) true) (append_assoc (settings_given ss) ((codes "FILE", file) ∷ []) (map part_pair words)))
+      ∙ ap (λ b. if b then reading_of (asked name (values_of (line_given ss file words))) else refused) whole
+      ∙ ap reading_of is
 
-get_read : (slot : Option Slot) (form : Form) → PathRead get_line get slot form
-get_read None form file part path bytes =
-    ap (reading_in get_line) (parts_taken get_line (path_given None file form []) (hex_words (part ∷ path))) ∙ ap reading_of (path_asked get file part path form bytes None)
-get_read (Some Zero) form file part path bytes =
-    ap (reading_in get_line) (parts_taken get_line (path_given (Some Zero) file form []) (hex_words (part ∷ path))) ∙ ap reading_of (path_asked get file part path form bytes (Some Zero))
-get_read (Some One) form file part path bytes =
-    ap (reading_in get_line) (parts_taken get_line (path_given (Some One) file form []) (hex_words (part ∷ path))) ∙ ap reading_of (path_asked get file part path form bytes (Some One))
+-- ---- the commands
 
-abbrev recover_given : Bool → Given
-recover_given false = []
-recover_given true = (codes "recover", given_word) ∷ []
+info_read : (file : Text) (slot : Option Slot) → line_of (words_for [] (info file slot)) ≡ asks (info file slot)
+info_read file slot =
+    let ss = settings (info file slot) in
+    let given = line_given ss file [] in
+    let meta : first_of (values_of given (codes "meta")) ≡ option_map slot_word slot = option_found ss file [] (codes "meta") refl refl ∙ or_none (option_map slot_word slot) in
+    line_read (codes "info") [] info_line.options ss file (info file slot) (λ g a v. refl, tt) (tt, tt) refl
+    (rw (file_given ss file [] refl) refl)
+    (rw (file_found ss file [] refl, meta, slot_read slot) refl)
 
-abbrev from_place : Option Slot → Bool → Known
-from_place slot recover = known (slot_given slot ++ recover_given recover) (Some (codes "from")) (file_operand ∷ []) false
+check_read : (file : Text) (slot : Option Slot) (all : Bool) → line_of (words_for [] (check file slot all)) ≡ asks (check file slot all)
+check_read file slot all =
+    let ss = settings (check file slot all) in
+    let given = line_given ss file [] in
+    let meta : first_of (values_of given (codes "meta")) ≡ option_map slot_word slot = option_found ss file [] (codes "meta") refl refl ∙ or_none (option_map slot_word slot) in
+    let flag : first_of (values_of given (codes "all")) ≡ (if all then Some given_word else None) = option_found ss file [] (codes "all") refl refl ∙ or_none _ in
+    line_read (codes "check") [] check_line.options ss file (check file slot all) (λ g a v. refl, (λ g a. refl, tt)) ((refl, tt), (tt, tt)) refl
+    (rw (file_given ss file [] refl) refl)
+    (rw (file_found ss file [] refl, meta, flag, slot_read slot, given_read all) refl)
 
-list_read : (slot : Option Slot) (recover : Bool) (file : Text) (part : Key) (path : Path) → All IsPart (part ∷ path)
-    → reading_in list_line (fold (after list_line) (after list_line (from_place slot recover) (one_word (part ∷ path))) (codes "--" ∷ file ∷ [])) ≡ asks (list file slot (part ∷ path) recover)
-list_read None false file part path parts =
-    ap (λ b. reading_in list_line (fold (after list_line) (if b then refuse (from_place None false) else give (codes "from") (one_word (part ∷ path)) (from_place None false)) (codes "--" ∷ file ∷ []))) (is_no_option part path parts)
-    ∙ ap (λ r. reading_of (result_and_then (λ path. Ok (list file None path false)) r)) (word_read part path parts)
-list_read (Some Zero) false file part path parts =
-    ap (λ b. reading_in list_line (fold (after list_line) (if b then refuse (from_place (Some Zero) false) else give (codes "from") (one_word (part ∷ path)) (from_place (Some Zero) false)) (codes "--" ∷ file ∷ []))) (is_no_option part path parts)
-    ∙ ap (λ r. reading_of (result_and_then (λ path. Ok (list file (Some Zero) path false)) r)) (word_read part path parts)
-list_read (Some One) false file part path parts =
-    ap (λ b. reading_in list_line (fold (after list_line) (if b then refuse (from_place (Some One) false) else give (codes "from") (one_word (part ∷ path)) (from_place (Some One) false)) (codes "--" ∷ file ∷ []))) (is_no_option part path parts)
-    ∙ ap (λ r. reading_of (result_and_then (λ path. Ok (list file (Some One) path false)) r)) (word_read part path parts)
-list_read None true file part path parts =
-    ap (λ b. reading_in list_line (fold (after list_line) (if b then refuse (from_place None true) else give (codes "from") (one_word (part ∷ path)) (from_place None true)) (codes "--" ∷ file ∷ []))) (is_no_option part path parts)
-    ∙ ap (λ r. reading_of (result_and_then (λ path. Ok (list file None path true)) r)) (word_read part path parts)
-list_read (Some Zero) true file part path parts =
-    ap (λ b. reading_in list_line (fold (after list_line) (if b then refuse (from_place (Some Zero) true) else give (codes "from") (one_word (part ∷ path)) (from_place (Some Zero) true)) (codes "--" ∷ file ∷ []))) (is_no_option part path parts)
-    ∙ ap (λ r. reading_of (result_and_then (λ path. Ok (list file (Some Zero) path true)) r)) (word_read part path parts)
-list_read (Some One) true file part path parts =
-    ap (λ b. reading_in list_line (fold (after list_line) (if b then refuse (from_place (Some One) true) else give (codes "from") (one_word (part ∷ path)) (from_place (Some One) true)) (codes "--" ∷ file ∷ []))) (is_no_option part path parts)
-    ∙ ap (λ r. reading_of (result_and_then (λ path. Ok (list file (Some One) path true)) r)) (word_read part path parts)
+pages_read : (file : Text) (as_map : Bool) → line_of (words_for [] (pages file as_map)) ≡ asks (pages file as_map)
+pages_read file as_map =
+    let ss = settings (pages file as_map) in
+    let given = line_given ss file [] in
+    let flag : first_of (values_of given (codes "map")) ≡ (if as_map then Some given_word else None) = option_found ss file [] (codes "map") refl refl ∙ or_none _ in
+    line_read (codes "pages") [] pages_line.options ss file (pages file as_map) (λ g a. refl, tt) (tt, tt) refl
+    (rw (file_given ss file [] refl) refl)
+    (rw (file_found ss file [] refl, flag, given_read as_map) refl)
 
--- a page size that is read
-copy_read : (slot : Option Slot) (file target : Text) (size : ℕ) (which : Layout) (recover : Bool) → IsPageSize size
-    → reading_of (result_and_then (λ (n : Option ℕ). Ok (compact file slot target n which recover)) (page_size_of (decimal size))) ≡ asks (compact file slot target (Some size) which recover)
-copy_read slot file target size which recover accepted =
-    ap (λ (r : Result (Option ℕ) Text). reading_of (result_and_then (λ (n : Option ℕ). Ok (compact file slot target n which recover)) r)) (size_written size accepted)
+buckets_read : (file : Text) (slot : Option Slot) (path : Path) (form : Form) → All IsBytes path → line_of (words_for [] (buckets file slot path form)) ≡ asks (buckets file slot path form)
+buckets_read file slot path form bytes =
+    let ss = settings (buckets file slot path form) in
+    let words = hex_words path in
+    let given = line_given ss file words in
+    let meta : first_of (values_of given (codes "meta")) ≡ option_map slot_word slot = option_found ss file words (codes "meta") refl refl ∙ or_none (option_map slot_word slot) in
+    let shown : first_of (values_of given (codes "form")) ≡ Some (form_word form) = option_found ss file words (codes "form") refl refl in
+    let how : first_of (values_of given (codes "parts")) ≡ Some (codes "hex") = option_found ss file words (codes "parts") refl refl in
+    let parts : values_of given (codes "PART") ≡ words = parts_found ss file words (refl, (refl, (refl, tt))) in
+    path_read (codes "buckets") false buckets_line.options ss file words (buckets file slot path form) (λ g a v. refl, (λ g a v. refl, (λ g a v. refl, tt))) ((refl, (refl, tt)), ((refl, tt), (tt, tt))) refl
+    (rw (file_given ss file words refl) refl)
+    (rw (file_found ss file words refl, meta, shown, how, parts, slot_read slot, form_read form, parts_read path bytes) refl)
+
+stats_read : (file : Text) (slot : Option Slot) (path : Path) → All IsBytes path → line_of (words_for [] (stats file slot path)) ≡ asks (stats file slot path)
+stats_read file slot path bytes =
+    let ss = settings (stats file slot path) in
+    let words = hex_words path in
+    let given = line_given ss file words in
+    let meta : first_of (values_of given (codes "meta")) ≡ option_map slot_word slot = option_found ss file words (codes "meta") refl refl ∙ or_none (option_map slot_word slot) in
+    let how : first_of (values_of given (codes "parts")) ≡ Some (codes "hex") = option_found ss file words (codes "parts") refl refl in
+    let parts : values_of given (codes "PART") ≡ words = parts_found ss file words (refl, (refl, tt)) in
+    path_read (codes "stats") false stats_line.options ss file words (stats file slot path) (λ g a v. refl, (λ g a v. refl, tt)) ((refl, tt), (tt, tt)) refl
+    (rw (file_given ss file words refl) refl)
+    (rw (file_found ss file words refl, meta, how, parts, slot_read slot, parts_read path bytes) refl)
+
+list_read : (file : Text) (slot : Option Slot) (from : Path) (recover : Bool) → All IsPart from → line_of (words_for [] (list file slot from recover)) ≡ asks (list file slot from recover)
+list_read file slot from recover parts =
+    let ss = settings (list file slot from recover) in
+    let given = line_given ss file [] in
+    let meta : first_of (values_of given (codes "meta")) ≡ option_map slot_word slot = option_found ss file [] (codes "meta") refl refl ∙ or_none (option_map slot_word slot) in
+    let start : first_of (values_of given (codes "from")) ≡ from_word from = option_found ss file [] (codes "from") refl refl ∙ or_none (from_word from) in
+    let flag : first_of (values_of given (codes "recover")) ≡ (if recover then Some given_word else None) = option_found ss file [] (codes "recover") refl refl ∙ or_none _ in
+    line_read (codes "list") [] list_line.options ss file (list file slot from recover) (λ g a v. refl, (λ g a v. refl, (λ g a. refl, tt))) ((refl, (refl, tt)), ((refl, tt), (tt, tt))) refl
+    (rw (file_given ss file [] refl) refl)
+    (rw (file_found ss file [] refl, meta, start, flag, slot_read slot, from_read from parts, given_read recover) refl)
+
+compact_read : (file : Text) (slot : Option Slot) (target : Text) (size : Option ℕ) (which : Layout) (recover : Bool) → IsSize size
+    → line_of (words_for [] (compact file slot target size which recover)) ≡ asks (compact file slot target size which recover)
+compact_read file slot target size which recover accepted =
+    let ss = settings (compact file slot target size which recover) in
+    let given = line_given ss file [] in
+    let out : first_of (values_of given (codes "output")) ≡ Some target = option_found ss file [] (codes "output") refl refl in
+    let meta : first_of (values_of given (codes "meta")) ≡ option_map slot_word slot = option_found ss file [] (codes "meta") refl refl ∙ or_none (option_map slot_word slot) in
+    let sizes : first_of (values_of given (codes "page-size")) ≡ option_map decimal size = option_found ss file [] (codes "page-size") refl refl ∙ or_none (option_map decimal size) in
+    let balanced : first_of (values_of given (codes "for-bbolt")) ≡ (if is_balanced which then Some given_word else None) = option_found ss file [] (codes "for-bbolt") refl refl ∙ or_none _ in
+    let flag : first_of (values_of given (codes "recover")) ≡ (if recover then Some given_word else None) = option_found ss file [] (codes "recover") refl refl ∙ or_none _ in
+    line_read (codes "compact") [] compact_line.options ss file (compact file slot target size which recover)
+    (λ g a v. refl, (λ g a v. refl, (λ g a v. refl, (λ g a. refl, (λ g a. refl, tt)))))
+    ((refl, (refl, (refl, (refl, tt)))), ((refl, (refl, (refl, tt))), ((refl, (refl, tt)), ((refl, tt), (tt, tt))))) refl
+    (rw (file_given ss file [] refl, has-first given (codes "output") ∙ ap is_some out) refl)
+    (rw (file_found ss file [] refl, meta, sizes, balanced, flag, slot_read slot, size_read size accepted, layout_read which, given_read recover) refl)
+
+-- `keys` and `get`
+module _ (file : Text) (slot : Option Slot) (part : Key) (path : Path) (form : Form) (bytes : All IsBytes (part ∷ path)) where
+  keys_read : line_of (words_for [] (keys file slot (part ∷ path) form)) ≡ asks (keys file slot (part ∷ path) form)
+  keys_read =
+      let ss = settings (keys file slot (part ∷ path) form) in
+      let words = hex_words (part ∷ path) in
+      let given = line_given ss file words in
+      let meta : first_of (values_of given (codes "meta")) ≡ option_map slot_word slot = option_found ss file words (codes "meta") refl refl ∙ or_none (option_map slot_word slot) in
+      let shown : first_of (values_of given (codes "form")) ≡ Some (form_word form) = option_found ss file words (codes "form") refl refl in
+      let how : first_of (values_of given (codes "parts")) ≡ Some (codes "hex") = option_found ss file words (codes "parts") refl refl in
+      let parts : values_of given (codes "PART") ≡ words = parts_found ss file words (refl, (refl, (refl, tt))) in
+      path_read (codes "keys") true keys_line.options ss file words (keys file slot (part ∷ path) form) (λ g a v. refl, (λ g a v. refl, (λ g a v. refl, tt))) ((refl, (refl, tt)), ((refl, tt), (tt, tt))) refl
+      (rw (file_given ss file words refl, has-first given (codes "PART") ∙ ap (λ (ws : List Text). is_some (first_of ws)) parts) refl)
+      (rw (file_found ss file words refl, meta, shown, how, parts, slot_read slot, form_read form, parts_read (part ∷ path) bytes) refl)
+
+  get_read : line_of (words_for [] (get file slot (part ∷ path) form)) ≡ asks (get file slot (part ∷ path) form)
+  get_read =
+      let ss = settings (get file slot (part ∷ path) form) in
+      let words = hex_words (part ∷ path) in
+      let given = line_given ss file words in
+      let meta : first_of (values_of given (codes "meta")) ≡ option_map slot_word slot = option_found ss file words (codes "meta") refl refl ∙ or_none (option_map slot_word slot) in
+      let shown : first_of (values_of given (codes "form")) ≡ Some (form_word form) = option_found ss file words (codes "form") refl refl in
+      let how : first_of (values_of given (codes "parts")) ≡ Some (codes "hex") = option_found ss file words (codes "parts") refl refl in
+      let parts : values_of given (codes "PART") ≡ words = parts_found ss file words (refl, (refl, (refl, tt))) in
+      path_read (codes "get") true get_line.options ss file words (get file slot (part ∷ path) form) (λ g a v. refl, (λ g a v. refl, (λ g a v. refl, tt))) ((refl, (refl, tt)), ((refl, tt), (tt, tt))) refl
+      (rw (file_given ss file words refl, has-first given (codes "PART") ∙ ap (λ (ws : List Text). is_some (first_of ws)) parts) refl)
+      (rw (file_found ss file words refl, meta, shown, how, parts, slot_read slot, form_read form, parts_read (part ∷ path) bytes) refl)
 
 line_of-words_for : (name : Text) (wanted : Asked) → IsInRange wanted → line_of (words_for name wanted) ≡ asks wanted
-line_of-words_for name (info file) in_range = refl
+line_of-words_for name (info file slot) in_range = info_read file slot
 line_of-words_for name (page file id) in_range =
     let value = digits_value-decimal decimal_numerals id in_range in
     let good = good_number (decimal id) (digits_decimal decimal_numerals id in_range) (decimal_nonempty id in_range)
     (let Fits : ℕ → Type 0 = λ n. n < 2 ^ 64 in subst Fits (sym value) in_range) in
     rw (good, value) refl
-line_of-words_for name (pages file) in_range = refl
-line_of-words_for name (check file None false) in_range = refl
-line_of-words_for name (check file None true) in_range = refl
-line_of-words_for name (check file (Some Zero) false) in_range = refl
-line_of-words_for name (check file (Some Zero) true) in_range = refl
-line_of-words_for name (check file (Some One) false) in_range = refl
-line_of-words_for name (check file (Some One) true) in_range = refl
-line_of-words_for name (buckets file None Printable) in_range = refl
-line_of-words_for name (buckets file None Hex) in_range = refl
-line_of-words_for name (buckets file None Bytes) in_range = refl
-line_of-words_for name (buckets file (Some Zero) Printable) in_range = refl
-line_of-words_for name (buckets file (Some Zero) Hex) in_range = refl
-line_of-words_for name (buckets file (Some Zero) Bytes) in_range = refl
-line_of-words_for name (buckets file (Some One) Printable) in_range = refl
-line_of-words_for name (buckets file (Some One) Hex) in_range = refl
-line_of-words_for name (buckets file (Some One) Bytes) in_range = refl
+line_of-words_for name (pages file as_map) in_range = pages_read file as_map
+line_of-words_for name (check file slot all) in_range = check_read file slot all
+line_of-words_for name (buckets file slot path form) in_range = buckets_read file slot path form in_range
 line_of-words_for name (keys file slot [] form) in_range = absurd in_range
-line_of-words_for name (keys file None (part ∷ path) Printable) in_range = keys_read None Printable file part path in_range
-line_of-words_for name (keys file None (part ∷ path) Hex) in_range = keys_read None Hex file part path in_range
-line_of-words_for name (keys file None (part ∷ path) Bytes) in_range = keys_read None Bytes file part path in_range
-line_of-words_for name (keys file (Some Zero) (part ∷ path) Printable) in_range = keys_read (Some Zero) Printable file part path in_range
-line_of-words_for name (keys file (Some Zero) (part ∷ path) Hex) in_range = keys_read (Some Zero) Hex file part path in_range
-line_of-words_for name (keys file (Some Zero) (part ∷ path) Bytes) in_range = keys_read (Some Zero) Bytes file part path in_range
-line_of-words_for name (keys file (Some One) (part ∷ path) Printable) in_range = keys_read (Some One) Printable file part path in_range
-line_of-words_for name (keys file (Some One) (part ∷ path) Hex) in_range = keys_read (Some One) Hex file part path in_range
-line_of-words_for name (keys file (Some One) (part ∷ path) Bytes) in_range = keys_read (Some One) Bytes file part path in_range
+line_of-words_for name (keys file slot (part ∷ path) form) in_range = keys_read file slot part path form in_range
 line_of-words_for name (get file slot [] form) in_range = absurd in_range
-line_of-words_for name (get file None (part ∷ path) Printable) in_range = get_read None Printable file part path in_range
-line_of-words_for name (get file None (part ∷ path) Hex) in_range = get_read None Hex file part path in_range
-line_of-words_for name (get file None (part ∷ path) Bytes) in_range = get_read None Bytes file part path in_range
-line_of-words_for name (get file (Some Zero) (part ∷ path) Printable) in_range = get_read (Some Zero) Printable file part path in_range
-line_of-words_for name (get file (Some Zero) (part ∷ path) Hex) in_range = get_read (Some Zero) Hex file part path in_range
-line_of-words_for name (get file (Some Zero) (part ∷ path) Bytes) in_range = get_read (Some Zero) Bytes file part path in_range
-line_of-words_for name (get file (Some One) (part ∷ path) Printable) in_range = get_read (Some One) Printable file part path in_range
-line_of-words_for name (get file (Some One) (part ∷ path) Hex) in_range = get_read (Some One) Hex file part path in_range
-line_of-words_for name (get file (Some One) (part ∷ path) Bytes) in_range = get_read (Some One) Bytes file part path in_range
-line_of-words_for name (stats file None) in_range = refl
-line_of-words_for name (stats file (Some Zero)) in_range = refl
-line_of-words_for name (stats file (Some One)) in_range = refl
-line_of-words_for name (list file None [] false) in_range = refl
-line_of-words_for name (list file (Some Zero) [] false) in_range = refl
-line_of-words_for name (list file (Some One) [] false) in_range = refl
-line_of-words_for name (list file None [] true) in_range = refl
-line_of-words_for name (list file (Some Zero) [] true) in_range = refl
-line_of-words_for name (list file (Some One) [] true) in_range = refl
-line_of-words_for name (list file None (part ∷ path) false) in_range = list_read None false file part path in_range
-line_of-words_for name (list file (Some Zero) (part ∷ path) false) in_range = list_read (Some Zero) false file part path in_range
-line_of-words_for name (list file (Some One) (part ∷ path) false) in_range = list_read (Some One) false file part path in_range
-line_of-words_for name (list file None (part ∷ path) true) in_range = list_read None true file part path in_range
-line_of-words_for name (list file (Some Zero) (part ∷ path) true) in_range = list_read (Some Zero) true file part path in_range
-line_of-words_for name (list file (Some One) (part ∷ path) true) in_range = list_read (Some One) true file part path in_range
-line_of-words_for name (compact file None target None Plain false) in_range = refl
-line_of-words_for name (compact file None target None Balanced false) in_range = refl
-line_of-words_for name (compact file (Some Zero) target None Plain false) in_range = refl
-line_of-words_for name (compact file (Some Zero) target None Balanced false) in_range = refl
-line_of-words_for name (compact file (Some One) target None Plain false) in_range = refl
-line_of-words_for name (compact file (Some One) target None Balanced false) in_range = refl
-line_of-words_for name (compact file None target None Plain true) in_range = refl
-line_of-words_for name (compact file None target None Balanced true) in_range = refl
-line_of-words_for name (compact file (Some Zero) target None Plain true) in_range = refl
-line_of-words_for name (compact file (Some Zero) target None Balanced true) in_range = refl
-line_of-words_for name (compact file (Some One) target None Plain true) in_range = refl
-line_of-words_for name (compact file (Some One) target None Balanced true) in_range = refl
-line_of-words_for name (compact file None target (Some size) Plain false) in_range = copy_read None file target size Plain false in_range
-line_of-words_for name (compact file None target (Some size) Balanced false) in_range = copy_read None file target size Balanced false in_range
-line_of-words_for name (compact file (Some Zero) target (Some size) Plain false) in_range = copy_read (Some Zero) file target size Plain false in_range
-line_of-words_for name (compact file (Some Zero) target (Some size) Balanced false) in_range = copy_read (Some Zero) file target size Balanced false in_range
-line_of-words_for name (compact file (Some One) target (Some size) Plain false) in_range = copy_read (Some One) file target size Plain false in_range
-line_of-words_for name (compact file (Some One) target (Some size) Balanced false) in_range = copy_read (Some One) file target size Balanced false in_range
-line_of-words_for name (compact file None target (Some size) Plain true) in_range = copy_read None file target size Plain true in_range
-line_of-words_for name (compact file None target (Some size) Balanced true) in_range = copy_read None file target size Balanced true in_range
-line_of-words_for name (compact file (Some Zero) target (Some size) Plain true) in_range = copy_read (Some Zero) file target size Plain true in_range
-line_of-words_for name (compact file (Some Zero) target (Some size) Balanced true) in_range = copy_read (Some Zero) file target size Balanced true in_range
-line_of-words_for name (compact file (Some One) target (Some size) Plain true) in_range = copy_read (Some One) file target size Plain true in_range
-line_of-words_for name (compact file (Some One) target (Some size) Balanced true) in_range = copy_read (Some One) file target size Balanced true in_range
+line_of-words_for name (get file slot (part ∷ path) form) in_range = get_read file slot part path form in_range
+line_of-words_for name (stats file slot path) in_range = stats_read file slot path in_range
+line_of-words_for name (list file slot from recover) in_range = list_read file slot from recover in_range
+line_of-words_for name (compact file slot target size which recover) in_range = compact_read file slot target size which recover in_range
 
 abbrev asked_in : Asked → Reading → Asked
 asked_in other (asks job) = job

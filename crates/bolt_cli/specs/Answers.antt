@@ -10,7 +10,7 @@ use Rattle.bolt_check.specs.declared.fault.CheckFault.TheVariants as check
 use Rattle.bolt_check.specs.declared.finding.Finding.{Finding}
 use Rattle.bolt_check.specs.declared.role.Role.{Role}
 use Rattle.bolt_format.specs.Elements.{LeafElement}
-use Rattle.bolt_format.specs.Metas.{HasMetaFault, IsChosen, IsInSlot}
+use Rattle.bolt_format.specs.Metas.{HasMetaFault, HasSlotFault, IsChosen, IsInSlot}
 use Rattle.bolt_format.specs.Sinks.{AppendsBeginning, AppendsProperBeginning}
 use Rattle.bolt_format.specs.declared.fault.PageFault.{PageFault}
 use Rattle.bolt_format.specs.declared.meta.Meta.{Meta}
@@ -26,11 +26,13 @@ use Rattle.bolt_report.specs.KeyLines.{buckets_text, keys_text}
 use Rattle.bolt_report.specs.ListLines.{listing_text}
 use Rattle.bolt_report.specs.LossLines.{all_lost_text, counted_losses_text, losses_text}
 use Rattle.bolt_report.specs.MetaLines.{info_text}
+use Rattle.bolt_report.specs.PageMaps.{map_text}
 use Rattle.bolt_report.specs.PageTables.{pages_text}
 use Rattle.bolt_report.specs.PageTexts.{page_text, page_text_fault}
 use Rattle.bolt_report.specs.StatsOf.{IsStatsOf}
 use Rattle.bolt_report.specs.declared.figures.Stats.{Stats}
 use Rattle.bolt_report.specs.declared.form.Form.{Form}
+use Rattle.bolt_report.specs.declared.form.Form.TheVariants.{Json}
 use Rattle.bolt_tree.specs.Entries.{AreEntries, IsEntry, Item, Root_page, Start, Value, start_of}
 use Rattle.bolt_tree.specs.Listing.{IsListing, Member, rest_from}
 use Rattle.bolt_tree.specs.Paths.{Holds, Names, Path}
@@ -58,7 +60,7 @@ done text = record { out = text; ending = Ok 0 }
 abbrev pub refused : Failure → Answer
 refused failure = record { out = []; ending = Err failure }
 
--- ---- `info` and `page`, which open the file by its metas alone
+-- ---- `page` and `info`, which open the file by its metas alone
 
 abbrev pub page_answer : Option PageFault → List ℕ → Answer
 page_answer None text = done text
@@ -69,6 +71,21 @@ abbrev pub IsOpenAnswer : List ℕ → (Slot → Meta → Answer) → Answer →
 IsOpenAnswer file opened answer =
     ((slot : Slot) × (meta : Meta) × IsChosen file slot meta × (answer ≡ opened slot meta))
     ⊎ ((fault : MetaFault) × HasMetaFault file 0 fault × ((slot : Slot) (meta : Meta) → IsInSlot file slot meta → ⊥) × (answer ≡ refused (failure.Metas fault)))
+
+-- the meta that is shown: that of the slot that is named, or the active one
+abbrev pub IsShownMeta : List ℕ → Option Slot → Slot → Meta → Type 0
+IsShownMeta file None slot meta = IsChosen file slot meta
+IsShownMeta file (Some named) slot meta = (slot ≡ named) × IsInSlot file named meta
+
+-- why there is none
+abbrev pub HasNoMeta : List ℕ → Option Slot → MetaFault → Type 0
+HasNoMeta file None fault = HasMetaFault file 0 fault × ((slot : Slot) (meta : Meta) → IsInSlot file slot meta → ⊥)
+HasNoMeta file (Some slot) fault = HasSlotFault file slot fault × ((meta : Meta) → IsInSlot file slot meta → ⊥)
+
+abbrev pub IsInfoAnswer : List ℕ → Option Slot → Answer → Type 0
+IsInfoAnswer file wanted answer =
+    ((slot : Slot) × (meta : Meta) × IsShownMeta file wanted slot meta × (answer ≡ done (info_text slot meta)))
+    ⊎ ((fault : MetaFault) × HasNoMeta file wanted fault × (answer ≡ refused (failure.Metas fault)))
 
 -- ---- the other commands, which check the file
 
@@ -102,16 +119,16 @@ IsEndedOrCut text ending answer =
 abbrev pub IsWholeOrCut : List ℕ → Answer → Type 0
 IsWholeOrCut text answer = IsEndedOrCut text (Ok 0) answer
 
--- the names of the root's buckets, in the order of its entries
-abbrev pub IsBucketsAnswer : List ℕ → Form → Meta → Answer → Type 0
-IsBucketsAnswer file form meta answer =
-    (entries : List LeafElement) × AreEntries (IsEntry file meta) (Root_page meta.root) entries × (answer ≡ done (buckets_text form entries))
+-- the whole text; or a prefix of it, if memory ran out, which JSON alone needs
+abbrev pub IsShownText : Form → List ℕ → Answer → Type 0
+IsShownText form text answer =
+    (answer ≡ done text)
+    ⊎ ((form ≡ Json) × (front : List ℕ) × (rest : List ℕ) × (text ≡ front ++ rest) × (answer ≡ record { out = front; ending = Err failure.Memory }))
 
--- the keys of the bucket that the path leads to, in order; or it leads to none
-abbrev pub IsKeysAnswer : List ℕ → Path → Form → Meta → Answer → Type 0
-IsKeysAnswer file path form meta answer =
-    ((bucket : Start) × (entries : List LeafElement) × LeadsTo file meta path bucket × AreEntries (IsEntry file meta) bucket entries
-    × (answer ≡ done (keys_text form entries)))
+-- a text of the entries of the bucket that the path leads to; or it leads to none
+abbrev pub IsEntriesAnswer : List ℕ → Path → Form → (List LeafElement → List ℕ) → Meta → Answer → Type 0
+IsEntriesAnswer file path form text meta answer =
+    ((bucket : Start) × (entries : List LeafElement) × LeadsTo file meta path bucket × AreEntries (IsEntry file meta) bucket entries × IsShownText form (text entries) answer)
     ⊎ (((bucket : Start) → LeadsTo file meta path bucket → ⊥) × (answer ≡ refused failure.NoBucket))
 
 -- The path holds no value: all of its parts but the last lead to a bucket, or they lead to none.
@@ -123,16 +140,21 @@ HoldsNone file path meta reason =
 -- the value that the path holds; or why it holds none
 abbrev pub IsGetAnswer : List ℕ → Path → Form → Meta → Answer → Type 0
 IsGetAnswer file path form meta answer =
-    ((value : List ℕ) × HoldsIn file meta path (Value value) × (answer ≡ done (value_text form value)))
+    ((value : List ℕ) × HoldsIn file meta path (Value value) × IsShownText form (value_text form value) answer)
     ⊎ ((reason : Failure) × HoldsNone file path meta reason × (answer ≡ refused reason))
 
 -- the listing from a path on; or memory ran out, and a prefix of it was written
 abbrev pub IsListAnswer : List ℕ → Path → Meta → Answer → Type 0
 IsListAnswer file from meta answer = (listing : List Member) × IsListing file meta listing × IsWholeOrCut (listing_text (rest_from from listing)) answer
 
--- the table of all pages by their roles; or memory ran out, and a prefix of it was written
-abbrev pub IsPagesAnswer : List ℕ → Meta → Answer → Type 0
-IsPagesAnswer file meta answer = (roles : ℕ → Role) × AreRoles file meta roles × IsWholeOrCut (pages_text file meta roles) answer
+-- the table of all pages by their roles, or the map of them
+abbrev pub pages_shown : (as_map : Bool) → List ℕ → Meta → (ℕ → Role) → List ℕ
+pages_shown false file meta roles = pages_text file meta roles
+pages_shown true file meta roles = map_text file meta roles
+
+-- the text of the pages; or memory ran out, and a prefix of it was written
+abbrev pub IsPagesAnswer : List ℕ → (as_map : Bool) → Meta → Answer → Type 0
+IsPagesAnswer file as_map meta answer = (roles : ℕ → Role) × AreRoles file meta roles × IsWholeOrCut (pages_shown as_map file meta roles) answer
 
 abbrev pub no_stats : Stats
 no_stats = record {
@@ -164,11 +186,17 @@ abbrev pub IsTotal : List ℕ → Meta → List LeafElement → (before total : 
 IsTotal file meta [] before total = total ≡ before
 IsTotal file meta (e ∷ entries) before total = (after : Stats) × AddsEntry file meta e before after × IsTotal file meta entries after total
 
--- the sum over the root's buckets; or memory ran out before anything was written
-abbrev pub IsStatsAnswer : List ℕ → Meta → Answer → Type 0
-IsStatsAnswer file meta answer =
-    ((entries : List LeafElement) × (total : Stats) × ∥ AreEntries (IsEntry file meta) (Root_page meta.root) entries × IsTotal file meta entries no_stats total ∥₁
-    × (answer ≡ done (stats_text total)))
+-- the figures of the bucket that the path leads to, with all in it; the root bucket's are the sum over its buckets
+abbrev pub HasFigures : List ℕ → Path → Meta → Stats → Type 0
+HasFigures file [] meta figures =
+    (entries : List LeafElement) × ∥ AreEntries (IsEntry file meta) (Root_page meta.root) entries × IsTotal file meta entries no_stats figures ∥₁
+HasFigures file (part ∷ path) meta figures = (bucket : Start) × ∥ LeadsTo file meta (part ∷ path) bucket × IsStatsOf file meta bucket figures ∥₁
+
+-- the figures; or the path leads to no bucket; or memory ran out before anything was written
+abbrev pub IsStatsAnswer : List ℕ → Path → Meta → Answer → Type 0
+IsStatsAnswer file path meta answer =
+    ((figures : Stats) × HasFigures file path meta figures × (answer ≡ done (stats_text figures)))
+    ⊎ (((bucket : Start) → LeadsTo file meta path bucket → ⊥) × (answer ≡ refused failure.NoBucket))
     ⊎ (answer ≡ refused failure.Memory)
 
 -- the answer if the file is sound, or if it is refused
@@ -337,13 +365,13 @@ module _ {O T : Type 0} (out_taken : O → Option (List ℕ)) (out_failed : O �
 
   -- what a job does, and how it ends
   abbrev pub DoesJob : List ℕ → Job → Ending → Type 0
-  DoesJob file (job.Info name) = Prints (IsOpenAnswer file (λ slot meta. done (info_text slot meta)))
+  DoesJob file (job.Info name slot) = Prints (IsInfoAnswer file slot)
   DoesJob file (job.Page name id) = Prints (IsOpenAnswer file (λ slot meta. page_answer (page_text_fault file meta id) (page_text file meta id)))
-  DoesJob file (job.Pages name) = Prints (IsCheckedAnswer file (IsPagesAnswer file) IsFileRefusal)
+  DoesJob file (job.Pages name as_map) = Prints (IsCheckedAnswer file (IsPagesAnswer file as_map) IsFileRefusal)
   DoesJob file (job.Check name slot all) = Prints (IsCheckAnswer all file slot)
-  DoesJob file (job.Buckets name slot form) = Prints (IsReadAnswer file slot (IsBucketsAnswer file form))
-  DoesJob file (job.Stats name slot) = Prints (IsReadAnswer file slot (IsStatsAnswer file))
-  DoesJob file (job.Keys name slot path form) = Prints (IsReadAnswer file slot (IsKeysAnswer file (path_in path.items) form))
+  DoesJob file (job.Buckets name slot path form) = Prints (IsReadAnswer file slot (IsEntriesAnswer file (path_in path.items) form (buckets_text form)))
+  DoesJob file (job.Stats name slot path) = Prints (IsReadAnswer file slot (IsStatsAnswer file (path_in path.items)))
+  DoesJob file (job.Keys name slot path form) = Prints (IsReadAnswer file slot (IsEntriesAnswer file (path_in path.items) form (keys_text form)))
   DoesJob file (job.Get name slot path form) = Prints (IsReadAnswer file slot (IsGetAnswer file (path_in path.items) form))
   DoesJob file (job.List name slot from recover) = Prints (IsListedAnswer recover file slot (path_in from.items))
   DoesJob file (job.Compact name slot out size which recover) = MakesCopy file slot size which recover

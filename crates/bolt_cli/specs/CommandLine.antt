@@ -16,12 +16,12 @@ use Rattle.bolt_cli.specs.PlainWords.{Asked, Reading, Values, asked, asked_of, r
 
 -- ---- what the command line may hold
 
--- an operand stands; each of several words is added to those before it
+-- each of several words of an operand is added to those before it
 abbrev pub action_of : Bool → Option ArgAction
 action_of several = if several then Some Append else None
 
 abbrev pub operand_rule : Operand → Rule
-operand_rule o = record (new_rule o.name) { required = true; action = action_of o.several }
+operand_rule o = record (new_rule o.name) { required = o.required; action = action_of o.several }
 
 abbrev long_of : Flag → Option Text
 long_of (long name) = Some name

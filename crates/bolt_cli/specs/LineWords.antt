@@ -9,10 +9,11 @@ Text = List ℕ
 
 -- ---- how the line of a command is written
 
--- an operand, by its name: one word, or one and more
+-- an operand, by its name: one word, or as many as come; it may be required
 pub record Operand : Type 0 where
   pub name : Text
   pub several : Bool
+  pub required : Bool
 
 -- an option is written `--name`, or by one letter, as `-o`
 pub data Flag : Type 0 where
@@ -153,9 +154,9 @@ take_by s word k None = if k.only_operands then take_operand word k else take_wo
 abbrev pub after : Syntax → Known → Text → Known
 after s k word = if k.is_refused then k else take_by s word k k.waiting
 
--- each operand and each required option was given
+-- each operand and each option that is required was given
 abbrev pub is_whole : Syntax → Known → Bool
-is_whole s k = list_all (λ (o : Operand). has k.given o.name) s.operands && list_all (λ (o : Choice). not o.required || has k.given o.name) s.options
+is_whole s k = list_all (λ (o : Operand). not o.required || has k.given o.name) s.operands && list_all (λ (o : Choice). not o.required || has k.given o.name) s.options
 
 abbrev pub is_complete : Syntax → Known → Bool
 is_complete s k = not k.is_refused && (not (is_some k.waiting) && is_whole s k)

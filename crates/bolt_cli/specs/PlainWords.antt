@@ -12,7 +12,7 @@ use Rattle.bolt_format.specs.declared.meta.Slot.TheVariants.{One, Zero}
 use Rattle.bolt_layout.specs.declared.layout.Layout.{Layout}
 use Rattle.bolt_layout.specs.declared.layout.Layout.TheVariants.{Balanced, Plain}
 use Rattle.bolt_report.specs.declared.form.Form.{Form}
-use Rattle.bolt_report.specs.declared.form.Form.TheVariants.{Printable, Hex, Bytes}
+use Rattle.bolt_report.specs.declared.form.Form.TheVariants as form
 use Rattle.bolt_cli.specs.LineWords.{Choice, Known, Operand, Syntax, Text, is_complete, known_after, long, short, values_of}
 use Rattle.bolt_cli.specs.PathWords.{each_part, hex_path_by, part_of, parts_by, result_and_then}
 use Rattle.bolt_cli.specs.declared.job.Job.{Job}
@@ -20,14 +20,14 @@ use Rattle.bolt_cli.specs.declared.job.Job.TheVariants as job
 use Rattle.bolt_cli.specs.declared.page_size.PageSize.{PageSize}
 
 abbrev pub file_operand : Operand
-file_operand = record { name = codes "FILE"; several = false }
+file_operand = record { name = codes "FILE"; several = false; required = true }
 
 abbrev id_operand : Operand
-id_operand = record { name = codes "ID"; several = false }
+id_operand = record { name = codes "ID"; several = false; required = true }
 
--- a part of a path
-abbrev pub part_operand : Operand
-part_operand = record { name = codes "PART"; several = true }
+-- the parts of a path
+abbrev pub part_operand : (required : Bool) → Operand
+part_operand required = record { name = codes "PART"; several = true; required = required }
 
 abbrev pub form_option : Choice
 form_option = record { name = codes "form"; flag = long (codes "form"); has_value = true; required = false }
@@ -51,39 +51,61 @@ page_size_option = record { name = codes "page-size"; flag = long (codes "page-s
 abbrev pub for_bbolt_option : Choice
 for_bbolt_option = record { name = codes "for-bbolt"; flag = long (codes "for-bbolt"); has_value = false; required = false }
 
+abbrev pub map_option : Choice
+map_option = record { name = codes "map"; flag = long (codes "map"); has_value = false; required = false }
+
 abbrev pub all_option : Choice
 all_option = record { name = codes "all"; flag = long (codes "all"); has_value = false; required = false }
 
 abbrev pub recover_option : Choice
 recover_option = record { name = codes "recover"; flag = long (codes "recover"); has_value = false; required = false }
 
--- all commands
+-- the lines of the commands
+abbrev pub info_line : Syntax
+info_line = record { name = codes "info"; operands = file_operand ∷ []; options = meta_option ∷ [] }
+
+abbrev pub page_line : Syntax
+page_line = record { name = codes "page"; operands = file_operand ∷ id_operand ∷ []; options = [] }
+
+abbrev pub pages_line : Syntax
+pages_line = record { name = codes "pages"; operands = file_operand ∷ []; options = map_option ∷ [] }
+
+abbrev pub check_line : Syntax
+check_line = record { name = codes "check"; operands = file_operand ∷ []; options = all_option ∷ meta_option ∷ [] }
+
+abbrev pub buckets_line : Syntax
+buckets_line = record { name = codes "buckets"; operands = file_operand ∷ part_operand false ∷ []; options = form_option ∷ parts_option ∷ meta_option ∷ [] }
+
+abbrev pub keys_line : Syntax
+keys_line = record { name = codes "keys"; operands = file_operand ∷ part_operand true ∷ []; options = form_option ∷ parts_option ∷ meta_option ∷ [] }
+
+abbrev pub get_line : Syntax
+get_line = record { name = codes "get"; operands = file_operand ∷ part_operand true ∷ []; options = form_option ∷ parts_option ∷ meta_option ∷ [] }
+
+abbrev pub stats_line : Syntax
+stats_line = record { name = codes "stats"; operands = file_operand ∷ part_operand false ∷ []; options = parts_option ∷ meta_option ∷ [] }
+
+abbrev pub list_line : Syntax
+list_line = record { name = codes "list"; operands = file_operand ∷ []; options = from_option ∷ recover_option ∷ meta_option ∷ [] }
+
+abbrev pub compact_line : Syntax
+compact_line = record { name = codes "compact"; operands = file_operand ∷ []; options = output_option ∷ page_size_option ∷ for_bbolt_option ∷ recover_option ∷ meta_option ∷ [] }
+
 abbrev pub syntaxes : List Syntax
-syntaxes =
-    record { name = codes "info"; operands = file_operand ∷ []; options = [] }
-    ∷ record { name = codes "page"; operands = file_operand ∷ id_operand ∷ []; options = [] }
-    ∷ record { name = codes "pages"; operands = file_operand ∷ []; options = [] }
-    ∷ record { name = codes "check"; operands = file_operand ∷ []; options = all_option ∷ meta_option ∷ [] }
-    ∷ record { name = codes "buckets"; operands = file_operand ∷ []; options = form_option ∷ meta_option ∷ [] }
-    ∷ record { name = codes "keys"; operands = file_operand ∷ part_operand ∷ []; options = form_option ∷ parts_option ∷ meta_option ∷ [] }
-    ∷ record { name = codes "get"; operands = file_operand ∷ part_operand ∷ []; options = form_option ∷ parts_option ∷ meta_option ∷ [] }
-    ∷ record { name = codes "stats"; operands = file_operand ∷ []; options = meta_option ∷ [] }
-    ∷ record { name = codes "list"; operands = file_operand ∷ []; options = from_option ∷ recover_option ∷ meta_option ∷ [] }
-    ∷ record { name = codes "compact"; operands = file_operand ∷ []; options = output_option ∷ page_size_option ∷ for_bbolt_option ∷ recover_option ∷ meta_option ∷ [] }
-    ∷ []
+syntaxes = info_line ∷ page_line ∷ pages_line ∷ check_line ∷ buckets_line ∷ keys_line ∷ get_line ∷ stats_line ∷ list_line ∷ compact_line ∷ []
 
 -- ---- what a line asks for
 
 -- a job by its texts, numbers and paths
 pub data Asked : Type 0 where
-  info : Text → Asked
+  info : Text → Option Slot → Asked
   page : Text → ℕ → Asked
-  pages : Text → Asked
+  pages : Text → (map : Bool) → Asked
   check : Text → Option Slot → (all : Bool) → Asked
-  buckets : Text → Option Slot → Form → Asked
+  buckets : Text → Option Slot → Path → Form → Asked
   keys : Text → Option Slot → Path → Form → Asked
   get : Text → Option Slot → Path → Form → Asked
-  stats : Text → Option Slot → Asked
+  stats : Text → Option Slot → Path → Asked
   list : Text → Option Slot → Path → (recover : Bool) → Asked
   compact : (file : Text) → Option Slot → (target : Text) → (page_size : Option ℕ) → Layout → (recover : Bool) → Asked
 
@@ -96,34 +118,40 @@ abbrev pub size_in : Option PageSize → Option ℕ
 size_in size = option_map (λ (s : PageSize). s.bytes) size
 
 abbrev pub asked_of : Job → Asked
-asked_of (job.Info file) = info (string_bytes file)
+asked_of (job.Info file slot) = info (string_bytes file) slot
 asked_of (job.Page file id) = page (string_bytes file) id
-asked_of (job.Pages file) = pages (string_bytes file)
+asked_of (job.Pages file as_map) = pages (string_bytes file) as_map
 asked_of (job.Check file slot all) = check (string_bytes file) slot all
-asked_of (job.Buckets file slot form) = buckets (string_bytes file) slot form
+asked_of (job.Buckets file slot path form) = buckets (string_bytes file) slot (path_in path.items) form
 asked_of (job.Keys file slot path form) = keys (string_bytes file) slot (path_in path.items) form
 asked_of (job.Get file slot path form) = get (string_bytes file) slot (path_in path.items) form
-asked_of (job.Stats file slot) = stats (string_bytes file) slot
+asked_of (job.Stats file slot path) = stats (string_bytes file) slot (path_in path.items)
 asked_of (job.List file slot from recover) = list (string_bytes file) slot (path_in from.items) recover
 asked_of (job.Compact file slot target size which recover) = compact (string_bytes file) slot (string_bytes target) (size_in size) which recover
 
--- the FILE of a job
-abbrev pub file_name : Job → Text
-file_name (job.Info file) = string_bytes file
-file_name (job.Page file id) = string_bytes file
-file_name (job.Pages file) = string_bytes file
-file_name (job.Check file slot all) = string_bytes file
-file_name (job.Buckets file slot form) = string_bytes file
-file_name (job.Keys file slot path form) = string_bytes file
-file_name (job.Get file slot path form) = string_bytes file
-file_name (job.Stats file slot) = string_bytes file
-file_name (job.List file slot from recover) = string_bytes file
-file_name (job.Compact file slot target size which recover) = string_bytes file
+-- the FILE that is asked for
+abbrev pub asked_file : Asked → Text
+asked_file (info file slot) = file
+asked_file (page file id) = file
+asked_file (pages file as_map) = file
+asked_file (check file slot all) = file
+asked_file (buckets file slot path form) = file
+asked_file (keys file slot path form) = file
+asked_file (get file slot path form) = file
+asked_file (stats file slot path) = file
+asked_file (list file slot from recover) = file
+asked_file (compact file slot target size which recover) = file
 
--- the OUT of a job that has one
+-- the OUT, if one is asked for
+abbrev pub asked_target : Asked → Option Text
+asked_target (compact file slot target size which recover) = Some target
+asked_target _ = None
+
+abbrev pub file_name : Job → Text
+file_name wanted = asked_file (asked_of wanted)
+
 abbrev pub target_name : Job → Option Text
-target_name (job.Compact file slot target size which recover) = Some (string_bytes target)
-target_name _ = None
+target_name wanted = asked_target (asked_of wanted)
 
 -- the words that a line gives by each name
 abbrev pub Values : Type 0
@@ -180,14 +208,16 @@ is_given None = false
 -- a form by its word; without one names are printable
 abbrev pub form_of : Text → Result Form Text
 form_of word =
-    if bytes_eq word (codes "printable") then Ok Printable
-    else if bytes_eq word (codes "hex") then Ok Hex
-    else if bytes_eq word (codes "bytes") then Ok Bytes
+    if bytes_eq word (codes "printable") then Ok form.Printable
+    else if bytes_eq word (codes "hex") then Ok form.Hex
+    else if bytes_eq word (codes "bytes") then Ok form.Bytes
+    else if bytes_eq word (codes "text") then Ok form.Text
+    else if bytes_eq word (codes "json") then Ok form.Json
     else Err (codes "bad form")
 
 abbrev pub form_by : Option Text → Result Form Text
 form_by (Some word) = form_of word
-form_by None = Ok Printable
+form_by None = Ok form.Printable
 
 -- the slot of a meta by its word; without one it is that of the active meta
 abbrev pub slot_of : Text → Result (Option Slot) Text
@@ -201,22 +231,19 @@ slot_by (Some word) = slot_of word
 slot_by None = Ok None
 
 abbrev pub asks_info : Values → Result Asked Text
-asks_info values = result_and_then (λ file. Ok (info file)) (text_by (codes "FILE") values)
+asks_info values = result_and_then (λ file. result_and_then (λ slot. Ok (info file slot))
+    (slot_by (first_of (values (codes "meta"))))) (text_by (codes "FILE") values)
 
 abbrev pub asks_page : Values → Result Asked Text
 asks_page values = result_and_then (λ file. result_and_then (λ id. Ok (page file id))
     (result_and_then page_id (text_by (codes "ID") values))) (text_by (codes "FILE") values)
 
 abbrev pub asks_pages : Values → Result Asked Text
-asks_pages values = result_and_then (λ file. Ok (pages file)) (text_by (codes "FILE") values)
+asks_pages values = result_and_then (λ file. Ok (pages file (is_given (first_of (values (codes "map")))))) (text_by (codes "FILE") values)
 
 abbrev pub asks_check : Values → Result Asked Text
 asks_check values = result_and_then (λ file. result_and_then (λ slot. Ok (check file slot (is_given (first_of (values (codes "all"))))))
     (slot_by (first_of (values (codes "meta"))))) (text_by (codes "FILE") values)
-
-abbrev pub asks_buckets : Values → Result Asked Text
-asks_buckets values = result_and_then (λ file. result_and_then (λ slot. result_and_then (λ form. Ok (buckets file slot form))
-    (form_by (first_of (values (codes "form"))))) (slot_by (first_of (values (codes "meta"))))) (text_by (codes "FILE") values)
 
 -- a path by its words
 abbrev pub path_by : Values → Result Path Text
@@ -226,6 +253,9 @@ abbrev pub asks_at : (Text → Option Slot → Path → Form → Asked) → Valu
 asks_at wanted values = result_and_then (λ file. result_and_then (λ slot. result_and_then (λ form. result_and_then (λ path. Ok (wanted file slot path form)) (path_by values))
     (form_by (first_of (values (codes "form"))))) (slot_by (first_of (values (codes "meta"))))) (text_by (codes "FILE") values)
 
+abbrev pub asks_buckets : Values → Result Asked Text
+asks_buckets values = asks_at buckets values
+
 abbrev pub asks_keys : Values → Result Asked Text
 asks_keys values = asks_at keys values
 
@@ -233,7 +263,7 @@ abbrev pub asks_get : Values → Result Asked Text
 asks_get values = asks_at get values
 
 abbrev pub asks_stats : Values → Result Asked Text
-asks_stats values = result_and_then (λ file. result_and_then (λ slot. Ok (stats file slot))
+asks_stats values = result_and_then (λ file. result_and_then (λ slot. result_and_then (λ path. Ok (stats file slot path)) (path_by values))
     (slot_by (first_of (values (codes "meta"))))) (text_by (codes "FILE") values)
 
 abbrev pub asks_list : Values → Result Asked Text
@@ -286,56 +316,90 @@ line_of _ = refused
 
 -- ---- words for each job
 
+-- an option of a line: one with a value, or without one, that may be given, or one of a letter that is given
+pub data Setting : Type 0 where
+  valued : (name : Text) → (value : Option Text) → Setting
+  alone : (name : Text) → (is_given : Bool) → Setting
+  lettered : (letter : ℕ) → (name value : Text) → Setting
+
+-- `--name=value`, `--name` or `-l=value` before the other words
+abbrev pub settings_words : List Setting → List Text → List Text
+settings_words [] words = words
+settings_words (valued name None ∷ later) words = settings_words later words
+settings_words (valued name (Some value) ∷ later) words = (codes "--" ++ (name ++ (61 ∷ value))) ∷ settings_words later words
+settings_words (alone name false ∷ later) words = settings_words later words
+settings_words (alone name true ∷ later) words = (codes "--" ++ name) ∷ settings_words later words
+settings_words (lettered letter name value ∷ later) words = (45 ∷ letter ∷ 61 ∷ value) ∷ settings_words later words
+
 abbrev pub form_word : Form → Text
-form_word Printable = codes "printable"
-form_word Hex = codes "hex"
-form_word Bytes = codes "bytes"
+form_word form.Printable = codes "printable"
+form_word form.Hex = codes "hex"
+form_word form.Bytes = codes "bytes"
+form_word form.Text = codes "text"
+form_word form.Json = codes "json"
 
--- a slot that is named
-abbrev pub slot_words : Option Slot → List Text → List Text
-slot_words None words = words
-slot_words (Some Zero) words = codes "--meta" ∷ codes "0" ∷ words
-slot_words (Some One) words = codes "--meta" ∷ codes "1" ∷ words
+abbrev pub slot_word : Slot → Text
+slot_word Zero = codes "0"
+slot_word One = codes "1"
 
--- all parts in hexadecimal
-abbrev pub path_words : Text → Path → Form → List Text
-path_words file path form = codes "--form" ∷ form_word form ∷ codes "--parts" ∷ codes "hex" ∷ codes "--" ∷ file ∷ map encode_lower path
+abbrev pub meta_setting : Option Slot → Setting
+meta_setting slot = valued (codes "meta") (option_map slot_word slot)
+
+abbrev pub form_setting : Form → Setting
+form_setting form = valued (codes "form") (Some (form_word form))
+
+-- all parts are in hexadecimal
+abbrev pub parts_setting : Setting
+parts_setting = valued (codes "parts") (Some (codes "hex"))
 
 -- in one word, unless it is the empty path
-abbrev pub from_words : Path → List Text → List Text
-from_words [] words = words
-from_words (part ∷ path) words = codes "--from" ∷ join_with_byte 47 (map encode_lower (part ∷ path)) ∷ words
-
--- a page size and the file of a copy, each in one word
-abbrev pub size_words : Option ℕ → List Text → List Text
-size_words None words = words
-size_words (Some size) words = (codes "--page-size=" ++ decimal size) ∷ words
+abbrev pub from_word : Path → Option Text
+from_word [] = None
+from_word (part ∷ path) = Some (join_with_byte 47 (map encode_lower (part ∷ path)))
 
 -- an option without a value, unless the layout is the plain one
-abbrev pub layout_words : Layout → List Text → List Text
-layout_words Plain words = words
-layout_words Balanced words = codes "--for-bbolt" ∷ words
+abbrev pub is_balanced : Layout → Bool
+is_balanced Plain = false
+is_balanced Balanced = true
 
-abbrev pub flag_words : Text → Bool → List Text → List Text
-flag_words flag false words = words
-flag_words flag true words = flag ∷ words
+-- the name of the command that does the job, the options of its line, its FILE, and the words behind that
+abbrev pub command_name : Asked → Text
+command_name (info file slot) = codes "info"
+command_name (page file id) = codes "page"
+command_name (pages file as_map) = codes "pages"
+command_name (check file slot all) = codes "check"
+command_name (buckets file slot path form) = codes "buckets"
+command_name (keys file slot path form) = codes "keys"
+command_name (get file slot path form) = codes "get"
+command_name (stats file slot path) = codes "stats"
+command_name (list file slot from recover) = codes "list"
+command_name (compact file slot target size which recover) = codes "compact"
 
-abbrev pub target_word : Text → Text
-target_word target = codes "-o=" ++ target
+abbrev pub settings : Asked → List Setting
+settings (info file slot) = meta_setting slot ∷ []
+settings (page file id) = []
+settings (pages file as_map) = alone (codes "map") as_map ∷ []
+settings (check file slot all) = meta_setting slot ∷ alone (codes "all") all ∷ []
+settings (buckets file slot path form) = meta_setting slot ∷ form_setting form ∷ parts_setting ∷ []
+settings (keys file slot path form) = meta_setting slot ∷ form_setting form ∷ parts_setting ∷ []
+settings (get file slot path form) = meta_setting slot ∷ form_setting form ∷ parts_setting ∷ []
+settings (stats file slot path) = meta_setting slot ∷ parts_setting ∷ []
+settings (list file slot from recover) = meta_setting slot ∷ valued (codes "from") (from_word from) ∷ alone (codes "recover") recover ∷ []
+settings (compact file slot target size which recover) =
+    lettered 111 (codes "output") target ∷ meta_setting slot ∷ valued (codes "page-size") (option_map decimal size) ∷ alone (codes "for-bbolt") (is_balanced which)
+    ∷ alone (codes "recover") recover ∷ []
+
+abbrev pub words_behind : Asked → List Text
+words_behind (page file id) = decimal id ∷ []
+words_behind (buckets file slot path form) = map encode_lower path
+words_behind (stats file slot path) = map encode_lower path
+words_behind (keys file slot path form) = map encode_lower path
+words_behind (get file slot path form) = map encode_lower path
+words_behind _ = []
 
 -- words that ask for the job, whatever its texts are
 abbrev pub words_for : Text → Asked → List Text
-words_for name (info file) = name ∷ codes "info" ∷ codes "--" ∷ file ∷ []
-words_for name (page file id) = name ∷ codes "page" ∷ codes "--" ∷ file ∷ decimal id ∷ []
-words_for name (pages file) = name ∷ codes "pages" ∷ codes "--" ∷ file ∷ []
-words_for name (check file slot all) = name ∷ codes "check" ∷ slot_words slot (flag_words (codes "--all") all (codes "--" ∷ file ∷ []))
-words_for name (buckets file slot form) = name ∷ codes "buckets" ∷ slot_words slot (codes "--form" ∷ form_word form ∷ codes "--" ∷ file ∷ [])
-words_for name (keys file slot path form) = name ∷ codes "keys" ∷ slot_words slot (path_words file path form)
-words_for name (get file slot path form) = name ∷ codes "get" ∷ slot_words slot (path_words file path form)
-words_for name (stats file slot) = name ∷ codes "stats" ∷ slot_words slot (codes "--" ∷ file ∷ [])
-words_for name (list file slot from recover) = name ∷ codes "list" ∷ slot_words slot (flag_words (codes "--recover") recover (from_words from (codes "--" ∷ file ∷ [])))
-words_for name (compact file slot target size which recover) =
-    name ∷ codes "compact" ∷ slot_words slot (size_words size (layout_words which (flag_words (codes "--recover") recover (target_word target ∷ codes "--" ∷ file ∷ []))))
+words_for name wanted = name ∷ command_name wanted ∷ settings_words (settings wanted) (codes "--" ∷ asked_file wanted ∷ words_behind wanted)
 
 abbrev pub IsPath : Path → Type 0
 IsPath [] = ⊥
@@ -349,10 +413,12 @@ abbrev pub IsSize : Option ℕ → Type 0
 IsSize None = Unit {0}
 IsSize (Some size) = IsPageSize size
 
--- A job that words can ask for: its numbers and bytes fit their types, a path has a part, and one that is written in one word has a byte
--- in each, and a page size is accepted.
+-- A job that words can ask for: its numbers and bytes fit their types, the path of `keys` and `get` has a part, one that is written in one
+-- word has a byte in each, and a page size is accepted.
 abbrev pub IsInRange : Asked → Type 0
 IsInRange (page file id) = id < 2 ^ 64
+IsInRange (buckets file slot path form) = All IsBytes path
+IsInRange (stats file slot path) = All IsBytes path
 IsInRange (keys file slot path form) = IsPath path
 IsInRange (get file slot path form) = IsPath path
 IsInRange (list file slot from recover) = All IsPart from

@@ -8,7 +8,7 @@ use Rattle.bolt_cli.specs.declared.syntax.Operand.{Operand}
 use Rattle.bolt_cli.specs.declared.syntax.Syntax.{Syntax}
 
 abbrev pub operand_view : Operand → plain.Operand
-operand_view o = record { name = o.name.now; several = o.several }
+operand_view o = record { name = o.name.now; several = o.several; required = o.required }
 
 abbrev pub flag_view : Flag → plain.Flag
 flag_view (Long name) = plain.long name.now

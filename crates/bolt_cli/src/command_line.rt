@@ -15,7 +15,7 @@ fn operand_arg<'a>(alloc: Global, operand: &'a Operand) -> Arg<'a>
     ensures local { result.global ≡ false }
 {
     let arg = Arg::new(alloc, operand.name)
-        .required(true)
+        .required(operand.required)
         .help(operand.help);
     if operand.several {
         arg.action(ArgAction::Append)

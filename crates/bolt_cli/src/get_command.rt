@@ -26,7 +26,7 @@ pub(crate) fn print_value<O: Sink>(
         × Does O.taken O.failed out.old out.new answer result }
 {
     let checked = open_read(alloc, file, slot)?;
-    value(find_value(checked, path)?, form, out)?;
+    value(alloc, find_value(checked, path)?, form, out)?;
     Ok(0)
 }
 

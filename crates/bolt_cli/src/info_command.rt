@@ -1,17 +1,31 @@
 //! The command `info`.
-ghost use Rattle.bolt_report.specs.MetaLines.{info_text};
-ghost use Rattle.bolt_cli.specs.Answers.{Answer, Does, IsOpenAnswer, done};
+ghost use Rattle.std.specs.Prelude.{IfErr, IfOk};
+ghost use Rattle.bolt_cli.specs.Answers.{Answer, Does, HasNoMeta, IsInfoAnswer, IsShownMeta};
 
 use crate::failure::Failure;
-use bolt_format::{Sink, choose};
+use bolt_format::{Meta, MetaFault, Sink, Slot, choose, slot_meta};
 use bolt_report::info;
 
-/// Writes the lines of the active meta.
-pub(crate) fn print_info<O: Sink>(file: &[u8], out: &mut O) -> Result<u8, Failure>
-    ensures { (answer : Answer) × IsOpenAnswer file.now (λ slot meta. done (info_text slot meta)) answer
+/// Writes the lines of the meta in a slot or, without one, of the active meta.
+pub(crate) fn print_info<O: Sink>(
+    file: &[u8],
+    slot: Option<Slot>,
+    out: &mut O,
+) -> Result<u8, Failure>
+    ensures { (answer : Answer) × IsInfoAnswer file.now slot answer
         × Does O.taken O.failed out.old out.new answer result }
 {
-    let (slot, meta) = choose(file)?;
+    let (slot, meta) = find_meta(file, slot)?;
     info(slot, &meta, out)?;
     Ok(0)
+}
+
+fn find_meta(file: &[u8], slot: Option<Slot>) -> Result<(Slot, Meta), MetaFault>
+    ensures found { IfOk result (λ found. IsShownMeta file.now slot found.0 found.1) }
+    ensures none { IfErr result (HasNoMeta file.now slot) }
+{
+    match slot {
+        None => choose(file),
+        Some(slot) => Ok((slot, slot_meta(file, slot)?)),
+    }
 }

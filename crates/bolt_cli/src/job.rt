@@ -9,18 +9,20 @@ use bolt_report::Form;
 /// `slot` or, without one, under the active meta.
 #[derive(Debug, Drop)]
 pub enum Job {
-    /// Print the active meta.
+    /// Print a meta.
     Info {
         file: String,
+        slot: Option<Slot>,
     },
     /// Print one page.
     Page {
         file: String,
         id: u64,
     },
-    /// Print the table of all pages.
+    /// Print the table of all pages or, with `map`, a map of them.
     Pages {
         file: String,
+        map: bool,
     },
     /// Check whether the file is sound; with `all`, find everything that is lost of it.
     Check {
@@ -28,16 +30,19 @@ pub enum Job {
         slot: Option<Slot>,
         all: bool,
     },
-    /// Print the names of the buckets in the root bucket.
+    /// Print the names of the buckets in the bucket at a path.
     Buckets {
         file: String,
         slot: Option<Slot>,
+        path: Vec<Vec<u8>>,
         form: Form,
     },
-    /// Print the figures of the root's buckets, added up.
+    /// Print the figures of the bucket at a path and of all in it. At the empty path they are those
+    /// of the root's buckets, added up.
     Stats {
         file: String,
         slot: Option<Slot>,
+        path: Vec<Vec<u8>>,
     },
     /// Print the keys of the bucket at a path.
     Keys {
@@ -83,10 +88,14 @@ impl Job {
         ensures { result.now ≡ file_name self.now }
     {
         match self {
-            Job::Info { file } => file.as_str(),
+            Job::Info { file, slot: _ } => file.as_str(),
             Job::Page { file, id: _ } => file.as_str(),
-            Job::Pages { file } => file.as_str(),
-            Job::Stats { file, slot: _ } => file.as_str(),
+            Job::Pages { file, map: _ } => file.as_str(),
+            Job::Stats {
+                file,
+                slot: _,
+                path: _,
+            } => file.as_str(),
             Job::Check {
                 file,
                 slot: _,
@@ -95,6 +104,7 @@ impl Job {
             Job::Buckets {
                 file,
                 slot: _,
+                path: _,
                 form: _,
             } => file.as_str(),
             Job::Keys {
@@ -132,7 +142,7 @@ impl Job {
         ensures { result ≡ needed_length self.now }
     {
         match self {
-            Job::Info { file: _ } => Some(METAS_END),
+            Job::Info { file: _, slot: _ } => Some(METAS_END),
             _ => None,
         }
     }

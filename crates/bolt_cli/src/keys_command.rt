@@ -1,5 +1,6 @@
 //! The command `keys`.
-ghost use Rattle.bolt_cli.specs.Answers.{Answer, Does, IsKeysAnswer, IsReadAnswer};
+ghost use Rattle.bolt_report.specs.KeyLines.{keys_text};
+ghost use Rattle.bolt_cli.specs.Answers.{Answer, Does, IsEntriesAnswer, IsReadAnswer};
 ghost use Rattle.bolt_cli.specs.PlainWords.{path_in};
 
 use crate::failure::Failure;
@@ -18,11 +19,11 @@ pub(crate) fn print_keys<O: Sink>(
     form: Form,
     out: &mut O,
 ) -> Result<u8, Failure>
-    ensures { (answer : Answer) × IsReadAnswer file.now slot (IsKeysAnswer file.now (path_in path.now) form) answer
+    ensures { (answer : Answer) × IsReadAnswer file.now slot (IsEntriesAnswer file.now (path_in path.now) form (keys_text form)) answer
         × Does O.taken O.failed out.old out.new answer result }
 {
     let checked = open_read(alloc, file, slot)?;
     let bucket = open_bucket(checked, path)?;
-    keys(&bucket, form, out)?;
+    keys(alloc, &bucket, form, out)?;
     Ok(0)
 }

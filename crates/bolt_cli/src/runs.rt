@@ -59,16 +59,21 @@ fn do_job<O: Sink, T: Sink>(
     ensures { DoesJob O.taken O.failed out.old out.new T.taken T.failed target.old target.new file.now job.now result }
 {
     match job {
-        Job::Info { file: _ } => print_info(file, out),
+        Job::Info { file: _, slot } => print_info(file, *slot, out),
         Job::Page { file: _, id } => print_page(file, *id, out),
-        Job::Pages { file: _ } => print_pages(alloc, file, out),
-        Job::Stats { file: _, slot } => print_stats(alloc, file, *slot, out),
+        Job::Pages { file: _, map } => print_pages(alloc, file, *map, out),
+        Job::Stats {
+            file: _,
+            slot,
+            path,
+        } => print_stats(alloc, file, *slot, path.as_slice(), out),
         Job::Check { file: _, slot, all } => print_check(alloc, file, *slot, *all, out),
         Job::Buckets {
             file: _,
             slot,
+            path,
             form,
-        } => print_buckets(alloc, file, *slot, *form, out),
+        } => print_buckets(alloc, file, *slot, path.as_slice(), *form, out),
         Job::Keys {
             file: _,
             slot,

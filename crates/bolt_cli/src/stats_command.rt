@@ -1,34 +1,55 @@
 //! The command `stats`.
-ghost use Rattle.std.specs.Prelude.{◌≡◌, IfOk};
+ghost use Rattle.std.specs.Prelude.{◌≡◌, ◌⊎◌, IfErr, IfOk};
 ghost use Rattle.bolt_check.specs.CheckedFiles.{bytes_of, meta_of};
+ghost use Rattle.bolt_check.specs.Sound.{HasSoundTrees};
 ghost use Rattle.bolt_format.specs.Elements.{LeafElement};
 ghost use Rattle.bolt_tree.specs.Buckets.{bucket_checked, bucket_start};
 ghost use Rattle.bolt_tree.specs.BucketViews.{entries_of};
+ghost use Rattle.bolt_tree.specs.Entries.{Start};
 ghost use Rattle.bolt_tree.specs.EntriesLeft.{ForEntries};
-ghost use Rattle.bolt_cli.specs.Answers.{AddsEntry, Answer, Does, IsReadAnswer, IsStatsAnswer, IsTotal, no_stats};
+ghost use Rattle.bolt_cli.specs.Answers.{AddsEntry, Answer, Does, HasFigures, IsReadAnswer, IsStatsAnswer, IsTotal, LeadsTo, no_stats};
+ghost use Rattle.bolt_cli.specs.PlainWords.{path_in};
+ghost use Rattle.bolt_cli.specs.declared.failure.Failure.TheVariants.{Memory, NoBucket};
 
 use crate::failure::Failure;
+use crate::open_bucket::open_bucket;
 use crate::open_read::open_read;
-use bolt_check::NoMemory;
+use bolt_check::{Checked, NoMemory};
 use bolt_format::{Sink, Slot};
 use bolt_report::{Stats, add, stats, stats_text};
 use bolt_tree::Bucket;
 use std::alloc::Global;
 
-/// Writes the figures of the root's buckets, added up.
+/// Writes the figures of the bucket at a path with all in it. At the empty path they are those of
+/// the root's buckets, added up.
 pub(crate) fn print_stats<O: Sink>(
     alloc: Global,
     file: &[u8],
     slot: Option<Slot>,
+    path: &[Vec<u8>],
     out: &mut O,
 ) -> Result<u8, Failure>
-    ensures { (answer : Answer) × IsReadAnswer file.now slot (IsStatsAnswer file.now) answer
+    ensures { (answer : Answer) × IsReadAnswer file.now slot (IsStatsAnswer file.now (path_in path.now)) answer
         × Does O.taken O.failed out.old out.new answer result }
 {
     let checked = open_read(alloc, file, slot)?;
-    let total = sum_buckets(alloc, &Bucket::root(checked))?;
-    stats_text(&total, out)?;
+    let figures = find_figures(alloc, checked, path)?;
+    stats_text(&figures, out)?;
     Ok(0)
+}
+
+/// The figures of the bucket at a path.
+fn find_figures(alloc: Global, checked: Checked<'_>, path: &[Vec<u8>]) -> Result<Stats, Failure>
+    requires { HasSoundTrees (bytes_of checked) (meta_of checked) }
+    ensures found { IfOk result (HasFigures (bytes_of checked.entry) (path_in path.now) (meta_of checked.entry)) }
+    ensures missing { IfErr result (λ failure. (failure ≡ Memory) ⊎ ((failure ≡ NoBucket)
+        × ((bucket : Start) → LeadsTo (bytes_of checked.entry) (meta_of checked.entry) (path_in path.now) bucket → ⊥))) }
+{
+    if path.is_empty() {
+        return Ok(sum_buckets(alloc, &Bucket::root(checked))?);
+    }
+    let bucket = open_bucket(checked, path)?;
+    Ok(stats(alloc, &bucket)?)
 }
 
 /// The figures of the buckets in a bucket, added up.

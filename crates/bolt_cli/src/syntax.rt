@@ -4,8 +4,9 @@
 #[derive(Clone, Copy, Debug)]
 pub(crate) struct Operand {
     pub name: &'static str,
-    /// Whether it is one word, or one and all that follow.
+    /// Whether it is one word, or as many as follow.
     pub several: bool,
+    pub required: bool,
     pub help: &'static str,
 }
 
@@ -44,32 +45,43 @@ pub(crate) struct Syntax {
 const FILE: Operand = Operand {
     name: "FILE",
     several: false,
+    required: true,
     help: "The database file, which is never written to",
 };
 
 const ID: Operand = Operand {
     name: "ID",
     several: false,
+    required: true,
     help: "The page number, in decimal",
 };
 
 const BUCKET_PART: Operand = Operand {
     name: "PART",
     several: true,
+    required: true,
     help: "The path to the bucket: the names of buckets, from the root bucket down",
 };
 
 const KEY_PART: Operand = Operand {
     name: "PART",
     several: true,
+    required: true,
     help: "The path to the key: the names of buckets, from the root bucket down, and then the key",
+};
+
+const BUCKET_IN: Operand = Operand {
+    name: "PART",
+    several: true,
+    required: false,
+    help: "The path to a bucket: the names of buckets, from the root bucket down [default: the root bucket]",
 };
 
 const FORM: Choice = Choice {
     name: "form",
     flag: Flag::Long("form"),
     value: Some("F"),
-    help: "How to print names, keys and values: printable (as they are if plain ASCII, otherwise in hex), hex or bytes [default: printable]",
+    help: "How to print names, keys and values: printable (as they are if plain ASCII, otherwise in hex), hex, bytes, text (as they are if UTF-8 without control characters, otherwise in hex) or json [default: printable]",
     required: false,
 };
 
@@ -97,6 +109,14 @@ const META: Choice = Choice {
     required: false,
 };
 
+const INFO_META: Choice = Choice {
+    name: "meta",
+    flag: Flag::Long("meta"),
+    value: Some("M"),
+    help: "Print the meta in slot 0 or 1, active or not",
+    required: false,
+};
+
 const OUTPUT: Choice = Choice {
     name: "output",
     flag: Flag::Short('o'),
@@ -118,6 +138,14 @@ const FOR_BBOLT: Choice = Choice {
     flag: Flag::Long("for-bbolt"),
     value: None,
     help: "Give each branch page at least two children, so that bbolt can write to the copy",
+    required: false,
+};
+
+const MAP: Choice = Choice {
+    name: "map",
+    flag: Flag::Long("map"),
+    value: None,
+    help: "Print a map instead: a character for each page, 64 a line (M meta, F freelist, B branch, L leaf, + a later page of one before it, . free)",
     required: false,
 };
 
@@ -150,7 +178,7 @@ pub(crate) static SYNTAXES: [Syntax; 10] = [
         name: "info",
         about: "Print the active meta: page size, transaction id, root, freelist, high-water mark",
         operands: &[FILE],
-        options: &[],
+        options: &[INFO_META],
         note: None,
     },
     Syntax {
@@ -164,7 +192,7 @@ pub(crate) static SYNTAXES: [Syntax; 10] = [
         name: "pages",
         about: "Print what each page is for, and count free pages past the end of the file",
         operands: &[FILE],
-        options: &[],
+        options: &[MAP],
         note: None,
     },
     Syntax {
@@ -176,9 +204,9 @@ pub(crate) static SYNTAXES: [Syntax; 10] = [
     },
     Syntax {
         name: "buckets",
-        about: "Print the names of the buckets in the root bucket",
-        operands: &[FILE],
-        options: &[FORM, META],
+        about: "Print the names of the buckets in a bucket",
+        operands: &[FILE, BUCKET_IN],
+        options: &[FORM, PARTS, META],
         note: None,
     },
     Syntax {
@@ -197,9 +225,9 @@ pub(crate) static SYNTAXES: [Syntax; 10] = [
     },
     Syntax {
         name: "stats",
-        about: "Print figures of all buckets together: their number, keys, depth and pages",
-        operands: &[FILE],
-        options: &[META],
+        about: "Print figures of all buckets, or of one and all in it: their number, keys, depth and pages",
+        operands: &[FILE, BUCKET_IN],
+        options: &[PARTS, META],
         note: None,
     },
     Syntax {

@@ -125,7 +125,8 @@ fn read_info(alloc: Global, matches: &ArgMatches<'_>) -> Result<Job, Refusal>
     ensures { Gives asked_of (asks_info (values_in (rows_of (found_of matches.now)))) result }
 {
     let file = read_text(alloc, matches, "FILE")?;
-    Ok(Job::Info { file })
+    let slot = read_slot(choice(matches, "meta"))?;
+    Ok(Job::Info { file, slot })
 }
 
 fn read_page(alloc: Global, matches: &ArgMatches<'_>) -> Result<Job, Refusal>
@@ -140,7 +141,8 @@ fn read_pages(alloc: Global, matches: &ArgMatches<'_>) -> Result<Job, Refusal>
     ensures { Gives asked_of (asks_pages (values_in (rows_of (found_of matches.now)))) result }
 {
     let file = read_text(alloc, matches, "FILE")?;
-    Ok(Job::Pages { file })
+    let map = choice(matches, "map").is_some();
+    Ok(Job::Pages { file, map })
 }
 
 fn read_check(alloc: Global, matches: &ArgMatches<'_>) -> Result<Job, Refusal>
@@ -158,7 +160,13 @@ fn read_buckets(alloc: Global, matches: &ArgMatches<'_>) -> Result<Job, Refusal>
     let file = read_text(alloc, matches, "FILE")?;
     let slot = read_slot(choice(matches, "meta"))?;
     let form = read_form(choice(matches, "form"))?;
-    Ok(Job::Buckets { file, slot, form })
+    let path = read_parts_of(alloc, matches)?;
+    Ok(Job::Buckets {
+        file,
+        slot,
+        path,
+        form,
+    })
 }
 
 fn read_keys(alloc: Global, matches: &ArgMatches<'_>) -> Result<Job, Refusal>
@@ -211,7 +219,8 @@ fn read_stats(alloc: Global, matches: &ArgMatches<'_>) -> Result<Job, Refusal>
 {
     let file = read_text(alloc, matches, "FILE")?;
     let slot = read_slot(choice(matches, "meta"))?;
-    Ok(Job::Stats { file, slot })
+    let path = read_parts_of(alloc, matches)?;
+    Ok(Job::Stats { file, slot, path })
 }
 
 fn read_compact(alloc: Global, matches: &ArgMatches<'_>) -> Result<Job, Refusal>
@@ -333,6 +342,8 @@ fn read_form(word: Option<&str>) -> Result<Form, Refusal>
         None | Some("printable") => Ok(Form::Printable),
         Some("hex") => Ok(Form::Hex),
         Some("bytes") => Ok(Form::Bytes),
+        Some("text") => Ok(Form::Text),
+        Some("json") => Ok(Form::Json),
         Some(_) => Err(Refusal::Word("bad form")),
     }
 }

@@ -2,10 +2,9 @@
 -- Rests on one text after another on a sink.
 use Rattle.std.proofs.Common.{◌≡◌, ◌∙◌, ℕ, List, [], ◌∷◌, ◌++◌, Bor, Option, Result, Ok, Err, flat_map, false, not, refl, sym, true, ap, subst, append-nil, append_assoc}
 use Rattle.std.specs.Ordering.{is_lt}
-use Rattle.std.specs.Prelude.{⊤, IsErr}
+use Rattle.std.specs.Prelude.{⊤, IsErr, IsErrAnd}
 use Rattle.hex.specs.Hex.{encode_lower}
 use Rattle.bolt_format.specs.Writes.{Writes}
-use Rattle.bolt_format.specs.declared.sink.SinkFault.{SinkFault}
 use Rattle.bolt_format.proofs.WriteLemmas.{Writes-same, Writes-stop, Writes-then}
 use Rattle.bolt_check.specs.CheckedFiles.{bytes_of, meta_of}
 use Rattle.bolt_check.specs.declared.checked_file.Checked.{Checked}
@@ -13,10 +12,13 @@ use Rattle.bolt_tree.specs.Entries.{Item}
 use Rattle.bolt_tree.proofs.Filters.{filter_all}
 use Rattle.bolt_tree.specs.Listing.{IsListing, Member, rest_from}
 use Rattle.bolt_tree.specs.Paths.{Path, path_cmp, path_of}
-use Rattle.bolt_report.specs.ListLines.{hex_path, listing_text, member_line}
+use Rattle.bolt_report.specs.ListForms.{list_line, listing_lines}
+use Rattle.bolt_report.specs.ListLines.{hex_path}
+use Rattle.bolt_report.specs.declared.form.ListForm.{ListForm}
 use Rattle.bolt_report.specs.Reports.{Reports}
+use Rattle.bolt_format.specs.declared.sink.SinkFault.{SinkFault}
 use Rattle.bolt_report.specs.declared.fault.ReportFault.{ReportFault}
-use Rattle.bolt_report.proofs.ReportLemmas.{reports}
+use Rattle.bolt_report.proofs.ReportLemmas.{Reports-stop, Reports-then, reports}
 
 -- a path in hexadecimal: its first part, and each later one behind a slash
 pub hex_path-parts : (first : Bor (List ℕ)) (rest : List (Bor (List ℕ)))
@@ -33,12 +35,12 @@ pub from_the_root : (members : List Member) → rest_from [] members ≡ members
 from_the_root members = filter_all (λ (m : Member). not (is_lt (path_cmp m.0 []))) members (λ m has. ap not (never_before m.0))
 
 -- The text of what is left from a path on, where its first member is returned: the line of a member that doesn't come before that path,
-pub next_text : (from : Path) (old new : List Member) (path told : Path) (item : Item) → old ≡ (path, item) ∷ new → told ≡ path → is_lt (path_cmp told from) ≡ false
-    → listing_text (rest_from from old) ≡ member_line (told, item) ++ listing_text (rest_from from new)
-next_text from old new path told item given same after =
+pub next_text : (form : ListForm) (from : Path) (old new : List Member) (path told : Path) (item : Item) → old ≡ (path, item) ∷ new → told ≡ path → is_lt (path_cmp told from) ≡ false
+    → listing_lines form (rest_from from old) ≡ list_line form (told, item) ++ listing_lines form (rest_from from new)
+next_text form from old new path told item given same after =
     let first : old ≡ (told, item) ∷ new = given ∙ ap (λ (p : Path). (p, item) ∷ new) (sym same) in
     let kept : rest_from from ((told, item) ∷ new) ≡ (told, item) ∷ rest_from from new = (rw after refl) in
-    ap (λ (ms : List Member). listing_text (rest_from from ms)) first ∙ ap listing_text kept
+    ap (λ (ms : List Member). listing_lines form (rest_from from ms)) first ∙ ap (listing_lines form) kept
 
 -- and nothing of one that does.
 pub next_hidden : (from : Path) (old new : List Member) (path told : Path) (item : Item) → old ≡ (path, item) ∷ new → told ≡ path → is_lt (path_cmp told from) ≡ true
@@ -59,15 +61,22 @@ module _ {S : Type 0} (taken : S → Option (List ℕ)) (failed : S → ℕ) whe
   reports_whole old new whole written same w = reports taken failed old new whole (Ok tt) (Writes-same old new written whole (Ok tt) (sym (append-nil written) ∙ sym same) w)
 
   -- the next piece was not put whole
-  pub reports_stop : (old mid new : S) (whole written piece rest : List ℕ) (e : SinkFault) (result : Result ⊤ ReportFault) → whole ≡ written ++ (piece ++ rest)
+  pub reports_stop : (old mid new : S) (whole written piece rest : List ℕ) (e : ReportFault) (result : Result ⊤ ReportFault) → whole ≡ written ++ (piece ++ rest)
+      → Writes {A = ⊤} {E = ReportFault} taken failed old mid written (Ok tt) → Reports {A = ⊤} taken failed mid new piece (Err e) → IsErrAnd result (λ f. f ≡ e) → Reports taken failed old new whole result
+  reports_stop old mid new whole written piece rest e result same before one is =
+      subst (λ (text : List ℕ). Reports taken failed old new text result) (sym same)
+      (Reports-then old mid new written (piece ++ rest) tt result (reports taken failed old mid written (Ok tt) before) (Reports-stop mid new piece rest e result one is))
+
+  -- the same, of a piece that a sink refused
+  pub piece_stop : {A : Type 0} (old mid new : S) (whole written piece rest : List ℕ) (e : SinkFault) (result : Result A ReportFault) → whole ≡ written ++ (piece ++ rest)
       → Writes {A = ⊤} {E = ReportFault} taken failed old mid written (Ok tt) → Writes {A = ⊤} {E = SinkFault} taken failed mid new piece (Err e) → IsErr result → Reports taken failed old new whole result
-  reports_stop old mid new whole written piece rest e result same before one err =
+  piece_stop old mid new whole written piece rest e result same before one err =
       reports taken failed old new whole result (Writes-same old new (written ++ (piece ++ rest)) whole result (sym same)
       (Writes-then old mid new written (piece ++ rest) tt result before (Writes-stop mid new piece rest e result one err)))
 
   -- it was
   pub more_written : (old mid new : S) (whole written piece rest : List ℕ) → whole ≡ written ++ (piece ++ rest) → Writes {A = ⊤} {E = ReportFault} taken failed old mid written (Ok tt)
-      → Writes {A = ⊤} {E = SinkFault} taken failed mid new piece (Ok tt) → (whole ≡ (written ++ piece) ++ rest) × Writes {A = ⊤} {E = ReportFault} taken failed old new (written ++ piece) (Ok tt)
+      → Reports {A = ⊤} taken failed mid new piece (Ok tt) → (whole ≡ (written ++ piece) ++ rest) × Writes {A = ⊤} {E = ReportFault} taken failed old new (written ++ piece) (Ok tt)
   more_written old mid new whole written piece rest same before one = (
     same ∙ sym (append_assoc written piece rest),
     Writes-then old mid new written piece tt (Ok tt) before (record { all = one.all; sound = one.sound; beginning = one.beginning; failure = tt }),

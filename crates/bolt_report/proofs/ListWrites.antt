@@ -19,7 +19,7 @@ flat_map-cut_at : {X : Type 0} (f : X → List ℕ) (xs : List X) (i : ℕ) (x :
     → flat_map f xs ≡ flat_map f (take i xs) ++ (f x ++ flat_map f (drop (suc i) xs))
 flat_map-cut_at f xs i x found = ap (flat_map f) (cut_at xs i x found) ∙ flat_map-append f (take i xs) (x ∷ drop (suc i) xs)
 
-pub flat_map-take_more : {X : Type 0} (f : X → List ℕ) (xs : List X) (i : ℕ) (x : X) → slice_get xs i ≡ Some x
+pub flat_map-take_more : {X Y : Type 0} (f : X → List Y) (xs : List X) (i : ℕ) (x : X) → slice_get xs i ≡ Some x
     → flat_map f (take (suc i) xs) ≡ flat_map f (take i xs) ++ f x
 flat_map-take_more f xs i x found =
     ap (flat_map f) (take_more xs i x found) ∙ flat_map-append f (take i xs) (x ∷ []) ∙ ap (λ l. flat_map f (take i xs) ++ l) (append-nil (f x))

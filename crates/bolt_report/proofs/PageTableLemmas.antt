@@ -16,6 +16,7 @@ use Rattle.bolt_check.specs.declared.checked_file.Checked.{Checked}
 use Rattle.bolt_check.specs.declared.role.Role.{Role}
 use Rattle.bolt_check.specs.declared.role.Role.TheVariants as role
 use Rattle.bolt_check.proofs.RoleFacts.{one_role, past_is_free, size_positive, with_accounts}
+use Rattle.bolt_report.specs.PageMaps.{page_mark}
 use Rattle.bolt_report.specs.PageTables.{begun, is_free, page_row, pages_past}
 
 -- where each of these pages is free, as many are free as there are
@@ -55,3 +56,8 @@ module _ (checked : Checked) (is : has_accounts checked ≡ true) where
   pub same_row : (roles : ℕ → Role) → AreRoles file meta roles → (n : ℕ) (found : Role) → n < meta.high_water → ∥ HasRole file meta n found ∥₁ → page_row file meta n found ≡ page_row file meta n (roles n)
   same_row roles are n found below has = with_accounts checked _ is (Prim.hlevel props) (λ sound. ∥∥₁_elim has (Prim.hlevel props) (λ h.
       ap (page_row file meta n) (one_role file meta sound n found (roles n) h (are n below))))
+
+  -- the character of a page whose role was found
+  pub same_mark : (roles : ℕ → Role) → AreRoles file meta roles → (n : ℕ) (found : Role) → n < meta.high_water → ∥ HasRole file meta n found ∥₁ → page_mark found ≡ page_mark (roles n)
+  same_mark roles are n found below has = with_accounts checked _ is (Prim.hlevel props) (λ sound. ∥∥₁_elim has (Prim.hlevel props) (λ h.
+      ap page_mark (one_role file meta sound n found (roles n) h (are n below))))

@@ -1,21 +1,39 @@
 -- The forms of a key or a value: docs/COMMANDS.md, "What is printed".
-use Rattle.std.specs.Prelude.{ℕ, Bool, ◌&&◌, nat_le, List, if◌then◌else◌}
+use Rattle.std.specs.Prelude.{ℕ, Bool, ◌&&◌, nat_le, not, List, codes, if◌then◌else◌}
+use Rattle.std.specs.Char.{is_control}
 use Rattle.std.specs.List.{list_all}
+use Rattle.std.specs.Str.{chars, is_utf8}
 use Rattle.hex.specs.Hex.{encode_lower}
+use Rattle.json.specs.Json.{Json, member, no_members, object, string}
+use Rattle.json.specs.Print.{print}
+use Rattle.json.specs.Tree.{json_tokens}
 use Rattle.bolt_report.specs.Lines.{line}
-use Rattle.bolt_report.specs.declared.form.Form.{Form}
-use Rattle.bolt_report.specs.declared.form.Form.TheVariants.{Printable, Hex, Bytes}
+use Rattle.bolt_report.specs.declared.form.Form as form
 
 -- all bytes are printable ASCII characters
 abbrev pub is_printable : List ℕ → Bool
 is_printable bytes = list_all (λ byte. nat_le 0x20 byte && nat_le byte 0x7E) bytes
 
--- as it is if it is printable, otherwise in hexadecimal; in hexadecimal; as it is
-abbrev pub shown_as : Form → List ℕ → List ℕ
-shown_as Printable bytes = if is_printable bytes then bytes else encode_lower bytes
-shown_as Hex bytes = encode_lower bytes
-shown_as Bytes bytes = bytes
+-- UTF-8 without control characters, which are U+0000 to U+001F and U+007F to U+009F
+abbrev pub is_text : List ℕ → Bool
+is_text bytes = is_utf8 bytes && list_all (λ c. not (is_control c)) (chars bytes)
+
+-- a JSON string if it is UTF-8, otherwise an object with its digits in hexadecimal
+abbrev pub item_json : List ℕ → Json
+item_json bytes = if is_utf8 bytes then string bytes else object (member (codes "hex") (string (encode_lower bytes)) no_members)
+
+-- a JSON value without spaces
+abbrev pub json_text : Json → List ℕ
+json_text value = print (json_tokens value)
+
+-- as it is if it is printable, otherwise in hexadecimal; in hexadecimal; as it is; as it is if it is a text, otherwise in hexadecimal; as JSON
+abbrev pub shown_as : form.Form → List ℕ → List ℕ
+shown_as form.TheVariants.Printable bytes = if is_printable bytes then bytes else encode_lower bytes
+shown_as form.TheVariants.Hex bytes = encode_lower bytes
+shown_as form.TheVariants.Bytes bytes = bytes
+shown_as form.TheVariants.Text bytes = if is_text bytes then bytes else encode_lower bytes
+shown_as form.TheVariants.Json bytes = json_text (item_json bytes)
 
 -- an item in a form is a line
-abbrev pub value_text : Form → List ℕ → List ℕ
+abbrev pub value_text : form.Form → List ℕ → List ℕ
 value_text form bytes = line (shown_as form bytes)

@@ -1,7 +1,6 @@
 //! The keys of a bucket as a text.
-ghost use Rattle.std.specs.Prelude.{◌≡◌, IfErr, flat_map};
+ghost use Rattle.std.specs.Prelude.{◌≡◌, ◌⊎◌, IfErr, OnOk, flat_map};
 ghost use Rattle.bolt_format.specs.Elements.{LeafElement};
-ghost use Rattle.bolt_format.specs.Writes.{Writes};
 ghost use Rattle.bolt_tree.specs.Buckets.{bucket_checked, bucket_start};
 ghost use Rattle.bolt_tree.specs.EntriesLeft.{ForEntries};
 ghost use Rattle.bolt_tree.specs.Entries.{entry_view};
@@ -11,54 +10,81 @@ ghost use Rattle.bolt_report.specs.Reports.{Reports};
 
 use crate::fault::ReportFault;
 use crate::form::Form;
-use crate::values::put_value;
-use bolt_format::{Sink, SinkFault};
+use crate::item_writer::ItemWriter;
+use bolt_format::Sink;
 use bolt_tree::{Bucket, Entry, Item};
+use std::alloc::Global;
 
 /// Writes the keys of all entries of a bucket in a form, a line for each, in byte order.
 ///
 /// # Errors
 ///
-/// `Sink` if the sink failed; it has then accepted a prefix of the text. There is no other error.
-pub fn keys<S: Sink>(bucket: &Bucket<'_>, form: Form, sink: &mut S) -> Result<(), ReportFault>
+/// `Sink` if the sink failed; `NoMemory` if memory ran out for a JSON text, and the sink had not
+/// failed. The sink has then accepted a prefix of the text. There is no other error, and no other
+/// form needs memory.
+pub fn keys<S: Sink>(
+    alloc: Global,
+    bucket: &Bucket<'_>,
+    form: Form,
+    sink: &mut S,
+) -> Result<(), ReportFault>
     ensures written { ForEntries (bucket_checked bucket.now) (bucket_start bucket.now) (λ entries. Reports S.taken S.failed sink.old sink.new (keys_text form entries) result) }
-    ensures fault { IfErr result (λ fault. fault ≡ ReportFault.Sink) }
+    ensures fault { IfErr result (λ fault. (fault ≡ ReportFault.Sink) ⊎ ((fault ≡ ReportFault.NoMemory) × (form ≡ Form.Json))) }
+    ensures memory { IfErr result (λ fault. fault ≡ ReportFault.NoMemory → S.failed sink.new ≡ S.failed sink.old) }
 {
-    put_keys(bucket, form, true, sink)?;
-    Ok(())
+    let mut items = ItemWriter::new(alloc, form);
+    put_keys(bucket, true, &mut items, sink)
 }
 
 /// Writes the keys of those entries of a bucket that are buckets. The lines and the errors are as
 /// those of `keys`.
-pub fn buckets<S: Sink>(bucket: &Bucket<'_>, form: Form, sink: &mut S) -> Result<(), ReportFault>
+pub fn buckets<S: Sink>(
+    alloc: Global,
+    bucket: &Bucket<'_>,
+    form: Form,
+    sink: &mut S,
+) -> Result<(), ReportFault>
     ensures written { ForEntries (bucket_checked bucket.now) (bucket_start bucket.now) (λ entries. Reports S.taken S.failed sink.old sink.new (buckets_text form entries) result) }
-    ensures fault { IfErr result (λ fault. fault ≡ ReportFault.Sink) }
+    ensures fault { IfErr result (λ fault. (fault ≡ ReportFault.Sink) ⊎ ((fault ≡ ReportFault.NoMemory) × (form ≡ Form.Json))) }
+    ensures memory { IfErr result (λ fault. fault ≡ ReportFault.NoMemory → S.failed sink.new ≡ S.failed sink.old) }
 {
-    put_keys(bucket, form, false, sink)?;
-    Ok(())
+    let mut items = ItemWriter::new(alloc, form);
+    put_keys(bucket, false, &mut items, sink)
 }
 
 /// Writes the keys of all entries, or only those of buckets.
 fn put_keys<S: Sink>(
     bucket: &Bucket<'_>,
-    form: Form,
     all: bool,
+    items: &mut ItemWriter,
     sink: &mut S,
-) -> Result<(), SinkFault>
-    ensures { ForEntries (bucket_checked bucket.now) (bucket_start bucket.now) (λ entries. Writes S.taken S.failed sink.old sink.new (flat_map (key_line form all) entries) result) }
+) -> Result<(), ReportFault>
+    ensures written { ForEntries (bucket_checked bucket.now) (bucket_start bucket.now) (λ entries. Reports S.taken S.failed sink.old sink.new (flat_map (key_line items.old.form all) entries) result) }
+    ensures fault { IfErr result (λ fault. (fault ≡ ReportFault.Sink) ⊎ ((fault ≡ ReportFault.NoMemory) × (items.old.form ≡ Form.Json))) }
+    ensures memory { IfErr result (λ fault. fault ≡ ReportFault.NoMemory → S.failed sink.new ≡ S.failed sink.old) }
 {
     let mut cursor = bucket.cursor();
     'rest: while let Some(entry) = cursor.next() {
-        put_key(&entry, form, all, sink)?;
+        put_key(&entry, all, items, sink)?;
     }
     Ok(())
 }
 
-fn put_key<S: Sink>(entry: &Entry<'_>, form: Form, all: bool, sink: &mut S) -> Result<(), SinkFault>
-    ensures { (e : LeafElement) → shown_entry entry.now ≡ entry_view e → Writes S.taken S.failed sink.old sink.new (key_line form all e) result }
+/// Writes the key of an entry, if all are written or it is a bucket.
+fn put_key<S: Sink>(
+    entry: &Entry<'_>,
+    all: bool,
+    items: &mut ItemWriter,
+    sink: &mut S,
+) -> Result<(), ReportFault>
+    ensures form { items.new.form ≡ items.old.form }
+    ensures written { (e : LeafElement) → shown_entry entry.now ≡ entry_view e → Reports S.taken S.failed sink.old sink.new (key_line items.old.form all e) result }
+    ensures sound { OnOk result (S.failed sink.new ≡ S.failed sink.old) }
+    ensures fault { IfErr result (λ fault. (fault ≡ ReportFault.Sink) ⊎ ((fault ≡ ReportFault.NoMemory) × (items.old.form ≡ Form.Json))) }
+    ensures memory { IfErr result (λ fault. fault ≡ ReportFault.NoMemory → S.failed sink.new ≡ S.failed sink.old) }
 {
     match entry.item {
         Item::Value(_) if !all => Ok(()),
-        _ => put_value(entry.key, form, sink),
+        _ => items.put_line(entry.key, sink),
     }
 }

@@ -1,10 +1,15 @@
-//! What the definitions of figures imply.
-ghost use Rattle.std.specs.Prelude.{◌≡◌, ℕ, List};
+//! What the definitions of figures and of JSON lines imply.
+ghost use Rattle.std.specs.Prelude.{◌≡◌, ℕ, List, Some, option_and_then};
+ghost use Rattle.json.specs.Json.{document};
 ghost use Rattle.bolt_format.specs.declared.meta.Meta.{Meta};
 ghost use Rattle.bolt_check.specs.Sound.{HasSoundTrees};
+ghost use Rattle.bolt_report.specs.Forms.{json_text};
+ghost use Rattle.bolt_report.specs.JsonLines.{member_json};
+ghost use Rattle.bolt_report.specs.JsonReadings.{IsMemberOfBytes, member_of};
 ghost use Rattle.bolt_report.specs.StatsOf.{IsStatsOf};
 ghost use Rattle.bolt_report.specs.declared.figures.Stats.{Stats};
 ghost use Rattle.bolt_tree.specs.Entries.{IsStart, Start};
+ghost use Rattle.bolt_tree.specs.Listing.{Member};
 
 /// A bucket has at most one set of figures.
 pub fn stats_are_one()
@@ -14,4 +19,11 @@ pub fn stats_are_one()
 /// In sound trees each bucket has figures.
 pub fn stats_exist()
     ensures { (file : List ℕ) (meta : Meta) (start : Start) → HasSoundTrees file meta → IsStart file meta start → (stats : Stats) × IsStatsOf file meta start stats }
+{}
+
+/// A JSON line without its line feed is a JSON document: an object with the path, and the value or
+/// the sequence. A reader of it finds the member again, whatever its bytes are.
+pub fn json_lines_read_back()
+    ensures document { (m : Member) → IsMemberOfBytes m → document (json_text (member_json m)) ≡ Some (member_json m) }
+    ensures member { (m : Member) → IsMemberOfBytes m → option_and_then member_of (document (json_text (member_json m))) ≡ Some m }
 {}

@@ -10,12 +10,14 @@ ghost use Rattle.bolt_tree.specs.Listing.{Member, rest_from};
 ghost use Rattle.bolt_tree.specs.Paths.{path_cmp, path_of};
 ghost use Rattle.bolt_tree.specs.ShownEntries.{item_view};
 ghost use Rattle.bolt_report.specs.Lines.{line};
+ghost use Rattle.bolt_report.specs.ListForms.{lines_form, listing_lines};
 ghost use Rattle.bolt_report.specs.ListLines.{hex_path, item_end, listing_text, member_line};
 ghost use Rattle.bolt_report.specs.Reports.{Reports};
 
 use crate::elements::put_value_end;
 use crate::fault::ReportFault;
 use crate::hexadecimal::put_hex;
+use crate::member_lines::MemberLines;
 use crate::puts::put;
 use crate::text::{Text, push_bytes, push_number};
 use bolt_check::Checked;
@@ -42,7 +44,7 @@ pub fn list<S: Sink>(
     ensures memory { IfErr result (λ fault. fault ≡ ReportFault.NoMemory → S.failed sink.new ≡ S.failed sink.old) }
 {
     let mut walk = Walk::from(alloc, checked, from)?;
-    put_rest(&mut walk, &[], sink)
+    put_rest(&mut walk, &[], &mut MemberLines::hex(), sink)
 }
 
 /// Writes a line for each path that is left to a recovery and doesn't come before `from`, as `list`
@@ -57,37 +59,42 @@ pub fn list_recovered<S: Sink>(
     ensures fault { IfErr result (λ fault. (fault ≡ ReportFault.Sink) ⊎ (fault ≡ ReportFault.NoMemory)) }
     ensures memory { IfErr result (λ fault. fault ≡ ReportFault.NoMemory → S.failed sink.new ≡ S.failed sink.old) }
 {
-    put_rest(recovery, from, sink)
+    put_rest(recovery, from, &mut MemberLines::hex(), sink)
 }
 
 /// Writes a line for each member that is left and whose path doesn't come before `from`.
 fn put_rest<'a, M: Members<'a>, S: Sink>(
     members: &mut M,
     from: &[&[u8]],
+    lines: &mut MemberLines,
     sink: &mut S,
 ) -> Result<(), ReportFault>
-    ensures written { (listing : List Member) → M.lists members.old listing → Reports S.taken S.failed sink.old sink.new (listing_text (rest_from (path_of from.now) (M.left members.old listing))) result }
+    ensures written { (listing : List Member) → M.lists members.old listing → Reports S.taken S.failed sink.old sink.new (listing_lines (lines_form lines.old) (rest_from (path_of from.now) (M.left members.old listing))) result }
     ensures end { OnOk result (M.ends_as members.old members.new) }
     ensures fault { IfErr result (λ fault. (fault ≡ ReportFault.Sink) ⊎ (fault ≡ ReportFault.NoMemory)) }
     ensures memory { IfErr result (λ fault. fault ≡ ReportFault.NoMemory → S.failed sink.new ≡ S.failed sink.old) }
 {
     'rest: while let Some(item) = members.next()? {
         if !is_before(members.path(), from) {
-            put_member(members.path(), &item, sink)?;
+            lines.put(members.path(), &item, sink)?;
         }
     }
     Ok(())
 }
 
 /// Whether a path comes before another.
-fn is_before(path: &[&[u8]], other: &[&[u8]]) -> bool
+pub(crate) fn is_before(path: &[&[u8]], other: &[&[u8]]) -> bool
     ensures { result ≡ is_lt (path_cmp (path_of path.now) (path_of other.now)) }
 {
     path.cmp(other).is_lt()
 }
 
 #[tactic(auto, unfolding(crate::specs::ListLines::member_line))]
-fn put_member<S: Sink>(path: &[&[u8]], item: &Item<'_>, sink: &mut S) -> Result<(), SinkFault>
+pub(crate) fn put_member<S: Sink>(
+    path: &[&[u8]],
+    item: &Item<'_>,
+    sink: &mut S,
+) -> Result<(), SinkFault>
     ensures { Writes S.taken S.failed sink.old sink.new (member_line (path_of path.now, item_view item.now)) result }
 {
     put_path(path, sink)?;

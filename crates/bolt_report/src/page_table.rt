@@ -47,7 +47,7 @@ fn put_table<S: Sink>(table: &Roles<'_>, sink: &mut S) -> Result<(), SinkFault>
 }
 
 /// The number of pages that begin in the file.
-fn pages_begun(checked: &Checked<'_>) -> u64
+pub(crate) fn pages_begun(checked: &Checked<'_>) -> u64
     requires { 0 < (meta_of checked.now).page_size }
     ensures { result ≡ begun (bytes_of checked.now) (meta_of checked.now) }
 {
@@ -56,7 +56,7 @@ fn pages_begun(checked: &Checked<'_>) -> u64
 
 /// The number of free pages past the end of the file: all pages from there up to the mark. It is
 /// computed, not counted page by page, since the mark may be any number.
-fn free_past(table: &Roles<'_>) -> u64
+pub(crate) fn free_past(table: &Roles<'_>) -> u64
     requires { has_accounts (roles_checked table.now) ≡ true }
     ensures { ForRoles (roles_checked table.now) (λ roles. result ≡ count_by (λ n. is_free (roles n)) (pages_past (bytes_of (roles_checked table.now)) (meta_of (roles_checked table.now)))) }
 {

@@ -88,7 +88,7 @@ fn push_overflow(text: &mut Text, overflow: u32)
 }
 
 /// Adds a number in a column of this width.
-fn push_number_column(text: &mut Text, n: u64, width: usize)
+pub(crate) fn push_number_column(text: &mut Text, n: u64, width: usize)
     requires room { length text.old.items + 20 ≤ TEXT_LEN }
     requires width { width ≤ 10 }
     ensures column { text.new.items ≡ text.old.items ++ column width (decimal n) }

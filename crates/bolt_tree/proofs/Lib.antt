@@ -29,6 +29,7 @@ mod Nesting
 mod OpenSteps
 pub mod OpeningMoves
 pub mod PagerLemmas
+pub mod PartLemmas
 mod Parts
 pub mod PathEntries
 pub mod PathOrder

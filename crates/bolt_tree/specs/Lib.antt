@@ -6,6 +6,7 @@ pub mod Entries
 pub mod EntriesLeft
 pub mod FileListings
 pub mod Listing
+pub mod ListingParts
 pub mod Lookups
 pub mod Openings
 pub mod Order

@@ -19,6 +19,7 @@ mod open_buckets;
 mod open_cursors;
 mod opened;
 mod pager;
+pub mod part_laws;
 mod position;
 mod trail;
 mod walk;

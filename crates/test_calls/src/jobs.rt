@@ -2,7 +2,7 @@
 //! the files.
 
 use Line::{
-    Buckets, Check, CheckAll, Compact, CompactRecovered, Get, Info, Keys, List, ListRecovered,
+    Buckets, Check, CheckAll, Compact, CompactRecovered, Get, Info, Keys, List, ListRecovered, Map,
     Page, Pages, Stats,
 };
 use bolt_cli::{Job, PageSize};
@@ -18,10 +18,12 @@ pub enum Line {
     /// The page of this number.
     Page(u64),
     Pages,
+    Map,
     Check,
     CheckAll,
     Buckets,
-    Stats,
+    /// The figures of the bucket at a path.
+    Stats(&'static [&'static [u8]]),
     /// The keys of the bucket at a path, under the meta of a slot if one is named.
     Keys(Option<Slot>, &'static [&'static [u8]]),
     /// The value at a path.
@@ -33,19 +35,21 @@ pub enum Line {
 }
 
 /// A job of each command on the forty values, with a name for messages.
-pub static OF_EACH_COMMAND: [(&'static str, Line); 16] = [
+pub static OF_EACH_COMMAND: [(&'static str, Line); 18] = [
     ("info", Info),
     ("page 0", Page(0)),
     ("page 2", Page(2)),
     ("page 7", Page(7)),
     ("page 8", Page(8)),
     ("pages", Pages),
+    ("pages --map", Map),
     ("check", Check),
     ("check --all", CheckAll),
     ("buckets", Buckets),
     ("keys", Keys(None, &[b"b"])),
     ("get", Get(None, &[b"b", b"17"])),
-    ("stats", Stats),
+    ("stats", Stats(&[])),
+    ("stats b", Stats(&[b"b"])),
     ("list", List),
     ("list --recover", ListRecovered),
     ("compact", Compact),
@@ -111,13 +115,25 @@ impl Line {
         let file = unnamed(alloc);
         let (slot, form) = (None, Form::Printable);
         match self {
-            Info => Ok(Job::Info { file }),
+            Info => Ok(Job::Info { file, slot }),
             Page(id) => Ok(Job::Page { file, id }),
-            Pages => Ok(Job::Pages { file }),
+            Pages => Ok(Job::Pages { file, map: false }),
+            Map => Ok(Job::Pages { file, map: true }),
             Check => Ok(check(alloc, false)),
             CheckAll => Ok(check(alloc, true)),
-            Buckets => Ok(Job::Buckets { file, slot, form }),
-            Stats => Ok(Job::Stats { file, slot }),
+            Buckets => {
+                let path = Vec::new(alloc);
+                Ok(Job::Buckets {
+                    file,
+                    slot,
+                    path,
+                    form,
+                })
+            }
+            Stats(path) => {
+                let path = path_of(alloc, path)?;
+                Ok(Job::Stats { file, slot, path })
+            }
             Keys(slot, path) => Line::keys(alloc, slot, path),
             Get(slot, path) => Line::get(alloc, slot, path),
             List => Ok(list(alloc, false)),

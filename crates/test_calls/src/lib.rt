@@ -20,6 +20,8 @@ mod failing_copies;
 #[cfg(test)]
 mod figure_rows;
 #[cfg(test)]
+mod form_rows;
+#[cfg(test)]
 mod free_rows;
 #[cfg(test)]
 mod held_rows;
@@ -27,6 +29,8 @@ mod held_rows;
 mod jobs;
 #[cfg(test)]
 mod large_page_rows;
+#[cfg(test)]
+mod map_rows;
 #[cfg(test)]
 mod memory_rows;
 #[cfg(test)]
@@ -47,6 +51,8 @@ mod recovery_sweeps;
 mod sink_rows;
 #[cfg(test)]
 mod sink_sweeps;
+#[cfg(test)]
+mod size_rows;
 #[cfg(test)]
 mod text_rows;
 #[cfg(test)]

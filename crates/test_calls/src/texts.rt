@@ -1,10 +1,11 @@
 //! Texts of a file's content, and what sinks accept of them.
 
 use crate::bucket_at::bucket_at;
-use Text::{Buckets, Keys, List, Value};
+use Text::{Buckets, Item, Keys, Lines, List, Value};
 use bolt_check::Checked;
 use bolt_format::{MemSink, Sink, WriteSink};
-use bolt_report::{Form, ReportFault, buckets, keys, list, value};
+use bolt_report::{Form, ListForm, MemberLines, ReportFault, buckets, item, keys, list, value};
+use bolt_tree::Walk;
 use std::alloc::Global;
 use std::process::Abort;
 use test_files::halting::{Halting, Refusal};
@@ -18,8 +19,12 @@ pub enum Text<'a> {
     Keys(&'a [&'a [u8]], Form),
     /// The names of the buckets in the bucket at a path.
     Buckets(&'a [&'a [u8]], Form),
-    /// These bytes.
+    /// These bytes, and a line feed.
     Value(&'a [u8], Form),
+    /// These bytes.
+    Item(&'a [u8], Form),
+    /// The line of each member.
+    Lines(ListForm),
 }
 
 /// A text that is asked for, and its bytes.
@@ -34,11 +39,34 @@ fn put_text<S: Sink>(
 ) -> Option<Result<(), ReportFault>> {
     let answer = match text {
         List(from) => list(alloc, checked, from, sink),
-        Keys(path, form) => keys(&bucket_at(checked, path)?, form, sink),
-        Buckets(path, form) => buckets(&bucket_at(checked, path)?, form, sink),
-        Value(bytes, form) => value(bytes, form, sink),
+        Keys(path, form) => keys(alloc, &bucket_at(checked, path)?, form, sink),
+        Buckets(path, form) => buckets(alloc, &bucket_at(checked, path)?, form, sink),
+        Value(bytes, form) => value(alloc, bytes, form, sink),
+        Item(bytes, form) => item(alloc, bytes, form, sink),
+        Lines(form) => put_lines(alloc, checked, form, sink),
     };
     Some(answer)
+}
+
+/// No file whose members are written has more of them; the text of one that had would be too short.
+const MOST_MEMBERS: usize = 100;
+
+/// Writes the line of each member of the file.
+fn put_lines<S: Sink>(
+    alloc: Global,
+    checked: Checked<'_>,
+    form: ListForm,
+    sink: &mut S,
+) -> Result<(), ReportFault> {
+    let mut walk = Walk::new(alloc, checked);
+    let mut lines = MemberLines::new(alloc, form);
+    for _ in 0..MOST_MEMBERS {
+        let Some(item) = walk.next()? else {
+            return Ok(());
+        };
+        lines.put(walk.path(), &item, sink)?;
+    }
+    Ok(())
 }
 
 /// The text as a message prints it: of a long value only the first part.

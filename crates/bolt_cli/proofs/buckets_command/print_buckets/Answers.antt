@@ -1,12 +1,9 @@
-use Rattle.std.proofs.Common.{Err, List, Ok, inl, inr, refl}
-use Rattle.bolt_check.specs.CheckedFiles.{meta_of}
-use Rattle.bolt_format.specs.Elements.{LeafElement}
+use Rattle.std.proofs.Common.{inr, refl}
 use Rattle.bolt_report.specs.KeyLines.{buckets_text}
-use Rattle.bolt_report.specs.Reports.{Reports}
-use Rattle.bolt_cli.specs.Answers.{done, refused}
-use Rattle.bolt_cli.proofs.Doing.{Does-nothing, Does-part, Does-whole}
-use Rattle.bolt_cli.proofs.RootEntries.{of_root, root_entries}
-use Rattle.bolt_cli.proofs.ReadFiles.{read_trees}
+use Rattle.bolt_cli.specs.Answers.{refused}
+use Rattle.bolt_cli.specs.PlainWords.{path_in}
+use Rattle.bolt_cli.proofs.Doing.{Does-nothing}
+use Rattle.bolt_cli.proofs.EntryAnswers.{entries_missing, entries_stopped, entries_whole}
 use Rattle.bolt_cli.proofs.buckets_command.print_buckets.Goals as goal
 
 pub returns-in_err-checked : goal.returns-in_err-checked
@@ -18,28 +15,22 @@ returns-in_err-checked g c =
       Does-nothing g.O.Sink.taken g.O.Sink.failed c.args.out.now failure _ c.from_residual.ensures.1,
     )
 
+pub returns-in_err-bucket : goal.returns-in_err-bucket
+returns-in_err-bucket g c =
+    let opened = c.in_ok-checked.ensures in
+    entries_missing c.args.file.now c.args.slot (path_in c.args.path.now) c.args.form (buckets_text c.args.form) c.in_ok-checked.checked opened.bytes opened.sound
+    g.O.Sink.taken g.O.Sink.failed c.args.out.now c.in_err-bucket.field-0.0 _ c.in_err-bucket.ensures.refused c.from_residual-in_err-bucket.ensures.1
+
 pub returns-in_err-buckets : goal.returns-in_err-buckets
 returns-in_err-buckets g c =
-    let checked = c.in_ok-checked.checked in
-    let under = c.in_ok-checked.ensures.sound in
-    let (entries, are) = root_entries c.args.file.now (meta_of checked) (read_trees c.args.file.now c.args.slot (meta_of checked) under) in
-    let answer = done (buckets_text c.args.form entries) in
-    let Put : List LeafElement → Type 0 = λ entries. Reports {A = Unit {0}} g.O.Sink.taken g.O.Sink.failed c.args.out.now c.buckets.new.sink (buckets_text c.args.form entries) (Err c.in_err-buckets.field-0.0) in
-    let put = of_root c.args.file.now checked c.root.result Put c.in_ok-checked.ensures.bytes c.root.ensures.checked c.root.ensures.start c.in_err-buckets.ensures.written entries are in (
-      answer,
-      inl (meta_of checked, under, (entries, are, refl)),
-      Does-part _ _ answer _ _ put c.in_err-buckets.ensures.fault c.from_residual-in_err-buckets.ensures.1,
-    )
+    let opened = c.in_ok-checked.ensures in
+    let found = c.in_ok-bucket.ensures in
+    entries_stopped c.args.file.now c.args.slot (path_in c.args.path.now) c.args.form (buckets_text c.args.form) c.in_ok-checked.checked opened.bytes opened.sound
+    c.in_ok-bucket.bucket found.file found.named c.args.out.now c.buckets.new.sink _ _ c.in_err-buckets.ensures.written c.in_err-buckets.ensures.fault c.in_err-buckets.ensures.memory c.from_residual-in_err-buckets.ensures.1
 
 pub returns : goal.returns
 returns g c =
-    let checked = c.in_ok-checked.checked in
-    let under = c.in_ok-checked.ensures.sound in
-    let (entries, are) = root_entries c.args.file.now (meta_of checked) (read_trees c.args.file.now c.args.slot (meta_of checked) under) in
-    let answer = done (buckets_text c.args.form entries) in
-    let Put : List LeafElement → Type 0 = λ entries. Reports {A = Unit {0}} g.O.Sink.taken g.O.Sink.failed c.args.out.now c.buckets.new.sink (buckets_text c.args.form entries) (Ok tt) in
-    let put = of_root c.args.file.now checked c.root.result Put c.in_ok-checked.ensures.bytes c.root.ensures.checked c.root.ensures.start c.in_ok-buckets.ensures.written entries are in (
-      answer,
-      inl (meta_of checked, under, (entries, are, refl)),
-      Does-whole _ _ answer _ put,
-    )
+    let opened = c.in_ok-checked.ensures in
+    let found = c.in_ok-bucket.ensures in
+    entries_whole c.args.file.now c.args.slot (path_in c.args.path.now) c.args.form (buckets_text c.args.form) c.in_ok-checked.checked opened.bytes opened.sound
+    c.in_ok-bucket.bucket found.file found.named c.args.out.now c.buckets.new.sink _ c.in_ok-buckets.ensures.written

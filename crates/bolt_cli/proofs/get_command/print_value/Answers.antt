@@ -6,7 +6,8 @@ use Rattle.bolt_report.specs.Forms.{value_text}
 use Rattle.bolt_cli.specs.Answers.{IsGetAnswer, done, refused}
 use Rattle.bolt_cli.specs.PlainWords.{path_in}
 use Rattle.bolt_cli.proofs.AtPaths.{held_told}
-use Rattle.bolt_cli.proofs.Doing.{Does-nothing, Does-part, Does-whole}
+use Rattle.bolt_cli.proofs.Doing.{Does-nothing, Does-whole}
+use Rattle.bolt_cli.proofs.ShownTexts.{shown_stopped}
 use Rattle.bolt_cli.proofs.ReadFiles.{read_trees}
 use Rattle.bolt_cli.proofs.get_command.print_value.Goals as goal
 
@@ -42,10 +43,10 @@ returns-in_err-value g c =
     let path = path_in c.args.path.now in
     let value = c.in_ok-find_value.field-0.now in
     let held = held_told checked path (Value value) (subst (λ (file : List _). HasSoundTrees file (meta_of checked)) (sym bytes) (read_trees c.args.file.now c.args.slot (meta_of checked) under)) c.in_ok-find_value.ensures.held in
-    let answer = done (value_text c.args.form value) in (
+    let (answer, shown, does) = shown_stopped c.args.form c.args.out.now c.value.new.sink (value_text c.args.form value) _ _ c.in_err-value.ensures.written c.in_err-value.ensures.fault c.in_err-value.ensures.memory c.from_residual-in_err-value.ensures.1 in (
       answer,
-      inl (meta_of checked, under, subst (λ (file : List _). IsGetAnswer file path c.args.form (meta_of checked) answer) bytes (inl (value, held, refl))),
-      Does-part _ _ answer _ _ c.in_err-value.ensures.written c.in_err-value.ensures.fault c.from_residual-in_err-value.ensures.1,
+      inl (meta_of checked, under, subst (λ (file : List _). IsGetAnswer file path c.args.form (meta_of checked) answer) bytes (inl (value, held, shown))),
+      does,
     )
 
 pub returns : goal.returns
@@ -58,6 +59,6 @@ returns g c =
     let held = held_told checked path (Value value) (subst (λ (file : List _). HasSoundTrees file (meta_of checked)) (sym bytes) (read_trees c.args.file.now c.args.slot (meta_of checked) under)) c.in_ok-find_value.ensures.held in
     let answer = done (value_text c.args.form value) in (
       answer,
-      inl (meta_of checked, under, subst (λ (file : List _). IsGetAnswer file path c.args.form (meta_of checked) answer) bytes (inl (value, held, refl))),
+      inl (meta_of checked, under, subst (λ (file : List _). IsGetAnswer file path c.args.form (meta_of checked) answer) bytes (inl (value, held, inl refl))),
       Does-whole _ _ answer _ c.in_ok-value.ensures.written,
     )

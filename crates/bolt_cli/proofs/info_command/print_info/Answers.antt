@@ -9,7 +9,7 @@ pub returns-in_err-slot : goal.returns-in_err-slot
 returns-in_err-slot g c =
     let fault = c.in_err-slot.field-0.0 in (
       refused (failure.Metas fault),
-      inr (fault, c.in_err-slot.ensures.fault, c.in_err-slot.ensures.none, refl),
+      inr (fault, c.in_err-slot.ensures.none, refl),
       Does-nothing g.O.Sink.taken g.O.Sink.failed c.args.out.now (failure.Metas fault) _ c.from_residual.ensures.1,
     )
 
@@ -17,7 +17,7 @@ pub returns-in_err-info : goal.returns-in_err-info
 returns-in_err-info g c =
     let answer = done (info_text c.in_ok-slot.slot c.in_ok-slot.meta) in (
       answer,
-      inl (c.in_ok-slot.slot, c.in_ok-slot.meta, c.in_ok-slot.ensures.chosen, refl),
+      inl (c.in_ok-slot.slot, c.in_ok-slot.meta, c.in_ok-slot.ensures.found, refl),
       Does-part _ _ answer _ _ c.in_err-info.ensures.written c.in_err-info.ensures.fault c.from_residual-in_err-info.ensures.1,
     )
 
@@ -25,6 +25,6 @@ pub returns : goal.returns
 returns g c =
     let answer = done (info_text c.in_ok-slot.slot c.in_ok-slot.meta) in (
       answer,
-      inl (c.in_ok-slot.slot, c.in_ok-slot.meta, c.in_ok-slot.ensures.chosen, refl),
+      inl (c.in_ok-slot.slot, c.in_ok-slot.meta, c.in_ok-slot.ensures.found, refl),
       Does-whole _ _ answer _ c.in_ok-info.ensures.written,
     )

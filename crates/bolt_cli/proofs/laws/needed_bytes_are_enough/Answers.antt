@@ -6,4 +6,5 @@ returns g c = λ file job. enough g.O.Sink.taken g.O.Sink.failed g.T.Sink.taken 
   chosen = c.metas_lie_in_a_prefix.ensures.chosen file;
   slot = c.metas_lie_in_a_prefix.ensures.slot file;
   fault = c.metas_lie_in_a_prefix.ensures.fault file;
+  slot_fault = c.metas_lie_in_a_prefix.ensures.slot_fault file;
 }) job

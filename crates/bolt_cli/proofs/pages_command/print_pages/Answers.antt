@@ -14,18 +14,18 @@ returns-in_err-checked g c =
       Does-nothing g.O.Sink.taken g.O.Sink.failed c.args.out.now failure _ c.from_residual.ensures.1,
     )
 
-pub returns-in_err-pages : goal.returns-in_err-pages
-returns-in_err-pages g c =
+pub returns-in_err-put_pages : goal.returns-in_err-put_pages
+returns-in_err-put_pages g c =
     let checked = c.in_ok-checked.checked in
     let (slot, chosen, sound) = c.in_ok-checked.ensures.sound in
-    let (answer, told, does) = pages_stopped c.args.file.now checked c.in_ok-checked.ensures.bytes sound.trees (sound.right refl)
-    c.args.out.now c.pages.new.sink _ _ c.in_err-pages.ensures.written c.in_err-pages.ensures.fault c.in_err-pages.ensures.memory c.from_residual-in_err-pages.ensures.1 in
+    let (answer, told, does) = pages_stopped c.args.file.now c.args.map checked c.in_ok-checked.ensures.bytes sound.trees (sound.right refl)
+    c.args.out.now c.put_pages.new.out _ _ c.in_err-put_pages.ensures.written c.in_err-put_pages.ensures.fault c.in_err-put_pages.ensures.memory c.from_residual-in_err-put_pages.ensures.1 in
     (answer, inl (slot, meta_of checked, chosen, sound, told), does)
 
 pub returns : goal.returns
 returns g c =
     let checked = c.in_ok-checked.checked in
     let (slot, chosen, sound) = c.in_ok-checked.ensures.sound in
-    let (answer, told, does) = pages_whole c.args.file.now checked c.in_ok-checked.ensures.bytes sound.trees (sound.right refl)
-    c.args.out.now c.pages.new.sink _ c.in_ok-pages.ensures.written in
+    let (answer, told, does) = pages_whole c.args.file.now c.args.map checked c.in_ok-checked.ensures.bytes sound.trees (sound.right refl)
+    c.args.out.now c.put_pages.new.out _ c.in_ok-put_pages.ensures.written in
     (answer, inl (slot, meta_of checked, chosen, sound, told), does)

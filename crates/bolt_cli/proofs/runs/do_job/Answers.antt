@@ -1,6 +1,7 @@
 -- A path that was handed over as a slice is the job's.
 use Rattle.std.proofs.Common.{List, Vec, ℕ, Global, refl, subst, sym}
-use Rattle.bolt_cli.specs.Answers.{DoesJob, IsGetAnswer, IsKeysAnswer, IsListedAnswer, IsReadAnswer}
+use Rattle.bolt_cli.specs.Answers.{DoesJob, IsEntriesAnswer, IsGetAnswer, IsListedAnswer, IsReadAnswer, IsStatsAnswer}
+use Rattle.bolt_report.specs.KeyLines.{buckets_text, keys_text}
 use Rattle.bolt_cli.specs.PlainWords.{path_in}
 use Rattle.bolt_cli.specs.declared.job.Job.{Job}
 use Rattle.bolt_cli.proofs.runs.do_job.Goals as goal
@@ -8,13 +9,41 @@ use Rattle.bolt_cli.proofs.runs.do_job.Goals as goal
 abbrev Path : Type 0
 Path = List (Vec ℕ Global)
 
+pub returns-in-Pages : goal.returns-in-Pages
+returns-in-Pages g c =
+    let (answer, is, does) = c.print_pages.ensures in
+    subst (λ (job : Job). DoesJob g.O.Sink.taken g.O.Sink.failed c.args.out.now c.print_pages.new.out g.T.Sink.taken g.T.Sink.failed c.args.target.now c.args.target.now c.args.file.now job c.print_pages.result) (sym c.in-Pages.is)
+    (answer, is, does, refl)
+
+pub returns-in-Stats : goal.returns-in-Stats
+returns-in-Stats g c =
+    let file = c.args.file.now in
+    let (answer, is, does) = c.print_stats.ensures in
+    subst (λ (job : Job). DoesJob g.O.Sink.taken g.O.Sink.failed c.args.out.now c.print_stats.new.out g.T.Sink.taken g.T.Sink.failed c.args.target.now c.args.target.now file job c.print_stats.result) (sym c.in-Stats.is) (
+      answer,
+      subst (λ (path : Path). IsReadAnswer file c.in-Stats.slot (IsStatsAnswer file (path_in path)) answer) c.as_slice.ensures.value is,
+      does,
+      refl,
+    )
+
+pub returns-in-Buckets : goal.returns-in-Buckets
+returns-in-Buckets g c =
+    let file = c.args.file.now in
+    let (answer, is, does) = c.print_buckets.ensures in
+    subst (λ (job : Job). DoesJob g.O.Sink.taken g.O.Sink.failed c.args.out.now c.print_buckets.new.out g.T.Sink.taken g.T.Sink.failed c.args.target.now c.args.target.now file job c.print_buckets.result) (sym c.in-Buckets.is) (
+      answer,
+      subst (λ (path : Path). IsReadAnswer file c.in-Buckets.slot (IsEntriesAnswer file (path_in path) c.in-Buckets.form (buckets_text c.in-Buckets.form)) answer) c.as_slice-in-Buckets.ensures.value is,
+      does,
+      refl,
+    )
+
 pub returns-in-Keys : goal.returns-in-Keys
 returns-in-Keys g c =
     let file = c.args.file.now in
     let (answer, is, does) = c.print_keys.ensures in
     subst (λ (job : Job). DoesJob g.O.Sink.taken g.O.Sink.failed c.args.out.now c.print_keys.new.out g.T.Sink.taken g.T.Sink.failed c.args.target.now c.args.target.now file job c.print_keys.result) (sym c.in-Keys.is) (
       answer,
-      subst (λ (path : Path). IsReadAnswer file c.in-Keys.slot (IsKeysAnswer file (path_in path) c.in-Keys.form) answer) c.as_slice.ensures.value is,
+      subst (λ (path : Path). IsReadAnswer file c.in-Keys.slot (IsEntriesAnswer file (path_in path) c.in-Keys.form (keys_text c.in-Keys.form)) answer) c.as_slice-in-Keys.ensures.value is,
       does,
       refl,
     )

@@ -1,4 +1,4 @@
-use Rattle.std.proofs.Common.{◌∙◌, ◌++◌, [], ℕ, List, Some, ap, flat_map, sym}
+use Rattle.std.proofs.Common.{◌∙◌, ◌++◌, [], ℕ, List, Some, ap, flat_map, sym, refl, subst, Ok, Err}
 use Rattle.bolt_format.proofs.WriteLemmas.{Writes-none}
 use Rattle.bolt_tree.specs.Buckets.{bucket_checked, bucket_start}
 use Rattle.bolt_tree.specs.Cursors.{cursor_checked, cursor_place, cursor_start}
@@ -6,6 +6,9 @@ use Rattle.bolt_tree.specs.EntriesLeft.{entries_left}
 use Rattle.bolt_report.specs.KeyLines.{key_line}
 use Rattle.bolt_tree.specs.Places.{Place}
 use Rattle.bolt_tree.specs.ShownEntries.{shown_entry}
+use Rattle.bolt_report.specs.Reports.{Reports}
+use Rattle.bolt_report.specs.declared.form.Form.{Form}
+use Rattle.std.specs.Prelude.{⊤}
 use Rattle.bolt_report.proofs.KeyTexts.{key_end, key_more, key_stop}
 use Rattle.bolt_tree.proofs.Leaving.{fewer_left, next_shows}
 use Rattle.bolt_report.proofs.key_lines.put_keys.Goals as goal
@@ -14,7 +17,9 @@ pub rest-init : goal.rest-init
 rest-init g c = record {
   checked = c.cursor-cursor.ensures.checked;
   start = c.cursor-cursor.ensures.start;
-  put = λ entries are. ([], ap (λ (place : Place). flat_map (key_line c.args.form c.args.all) (entries_left entries place)) (sym c.cursor-cursor.ensures.place), Writes-none c.args.sink.now);
+  form = refl;
+  counted = refl;
+  put = λ entries are. ([], ap (λ (place : Place). flat_map (key_line c.args.items.now.form c.args.all) (entries_left entries place)) (sym c.cursor-cursor.ensures.place), Writes-none c.args.sink.now);
 }
 
 pub rest-smaller : goal.rest-smaller
@@ -26,27 +31,29 @@ pub rest-preserved : goal.rest-preserved
 rest-preserved g c = record {
   checked = c.in-Some.ensures.checked ∙ c.rest.invariant.checked;
   start = c.in-Some.ensures.start ∙ c.rest.invariant.start;
+  form = c.put_key.ensures.form ∙ c.rest.invariant.form;
+  counted = c.in_ok-put_key.ensures.sound ∙ c.rest.invariant.counted;
   put = λ entries are.
       let (e, shown, first) = next_shows (cursor_checked c.rest.cursor) (bucket_checked c.args.bucket.now) (cursor_start c.rest.cursor) (bucket_start c.args.bucket.now)
       (cursor_place c.rest.cursor) (cursor_place c.next.new.self) (Some (shown_entry c.in-Some.entry)) c.rest.invariant.checked c.rest.invariant.start c.in-Some.ensures.moves entries are in
       let (written, same, before) = c.rest.invariant.put entries are in
-      let line : List ℕ = key_line c.args.form c.args.all e in
-      let more = key_more g.S.Sink.taken g.S.Sink.failed (key_line c.args.form c.args.all) c.args.sink.now c.rest.sink c.put_key.new.sink written entries
-      (entries_left entries (cursor_place c.rest.cursor)) (entries_left entries (cursor_place c.next.new.self)) e same first before (c.in_ok-put_key.ensures e shown) in
+      let line : List ℕ = key_line c.args.items.now.form c.args.all e in
+      let more = key_more g.S.Sink.taken g.S.Sink.failed (key_line c.args.items.now.form c.args.all) c.args.sink.now c.rest.sink c.put_key.new.sink written entries
+      (entries_left entries (cursor_place c.rest.cursor)) (entries_left entries (cursor_place c.next.new.self)) e same first before (subst (λ (form : Form). Reports {A = ⊤} g.S.Sink.taken g.S.Sink.failed c.rest.sink c.put_key.new.sink (key_line form c.args.all e) (Ok tt)) c.rest.invariant.form (c.in_ok-put_key.ensures.written e shown)) in
       (written ++ line, more.0, more.1);
 }
 
-pub returns-in_err-put_key : goal.returns-in_err-put_key
-returns-in_err-put_key g c = λ entries are.
+pub returns-in_err-put_key-clause-written : goal.returns-in_err-put_key-clause-written
+returns-in_err-put_key-clause-written g c = λ entries are.
     let (e, shown, first) = next_shows (cursor_checked c.rest.cursor) (bucket_checked c.args.bucket.now) (cursor_start c.rest.cursor) (bucket_start c.args.bucket.now)
     (cursor_place c.rest.cursor) (cursor_place c.next.new.self) (Some (shown_entry c.in-Some.entry)) c.rest.invariant.checked c.rest.invariant.start c.in-Some.ensures.moves entries are in
     let (written, same, before) = c.rest.invariant.put entries are in
-    key_stop g.S.Sink.taken g.S.Sink.failed (key_line c.args.form c.args.all) c.args.sink.now c.rest.sink c.put_key.new.sink written entries
-    (entries_left entries (cursor_place c.rest.cursor)) (entries_left entries (cursor_place c.next.new.self)) e same first before _ _ (c.in_err-put_key.ensures e shown) c.from_residual.ensures.0
+    key_stop g.S.Sink.taken g.S.Sink.failed (key_line c.args.items.now.form c.args.all) c.args.sink.now c.rest.sink c.put_key.new.sink written entries
+    (entries_left entries (cursor_place c.rest.cursor)) (entries_left entries (cursor_place c.next.new.self)) e same first before _ _ (subst (λ (form : Form). Reports {A = ⊤} g.S.Sink.taken g.S.Sink.failed c.rest.sink c.put_key.new.sink (key_line form c.args.all e) (Err c.in_err-put_key.field-0.0)) c.rest.invariant.form (c.in_err-put_key.ensures.written e shown)) c.from_residual.ensures.1
 
-pub returns : goal.returns
-returns g c = λ entries are.
+pub returns-clause-written : goal.returns-clause-written
+returns-clause-written g c = λ entries are.
     let none = next_shows (cursor_checked c.rest.cursor) (bucket_checked c.args.bucket.now) (cursor_start c.rest.cursor) (bucket_start c.args.bucket.now)
     (cursor_place c.rest.cursor) (cursor_place c.next.new.self) _ c.rest.invariant.checked c.rest.invariant.start c.in_default.ensures.moves entries are in
     let (written, same, before) = c.rest.invariant.put entries are in
-    key_end g.S.Sink.taken g.S.Sink.failed (key_line c.args.form c.args.all) c.args.sink.now c.rest.sink written entries (entries_left entries (cursor_place c.rest.cursor)) same none before
+    key_end g.S.Sink.taken g.S.Sink.failed (key_line c.args.items.now.form c.args.all) c.args.sink.now c.rest.sink written entries (entries_left entries (cursor_place c.rest.cursor)) same none before

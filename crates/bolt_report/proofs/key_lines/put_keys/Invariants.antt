@@ -1,7 +1,7 @@
 use Rattle.std.proofs.Common.{◌≡◌, ◌++◌, List, ℕ, Ok, flat_map, length}
 use Rattle.std.specs.Prelude.{⊤}
 use Rattle.bolt_format.specs.Writes.{Writes}
-use Rattle.bolt_format.specs.declared.sink.SinkFault.{SinkFault}
+use Rattle.bolt_report.specs.declared.fault.ReportFault.{ReportFault}
 use Rattle.bolt_tree.specs.Buckets.{bucket_checked, bucket_start}
 use Rattle.bolt_tree.specs.Cursors.{cursor_checked, cursor_place, cursor_start}
 use Rattle.bolt_tree.specs.EntriesLeft.{ForEntries, entries_left}
@@ -14,9 +14,11 @@ abbrev pub invariant-rest : goal.invariant-rest
 invariant-rest g l = record {
   checked : cursor_checked l.cursor ≡ bucket_checked l.bucket;
   start : cursor_start l.cursor ≡ bucket_start l.bucket;
+  form : l.items.form ≡ l.initial.items.form;
+  counted : g.S.Sink.failed l.sink ≡ g.S.Sink.failed l.initial.sink;
   put : ForEntries (bucket_checked l.bucket) (bucket_start l.bucket) (λ entries. (written : List ℕ)
-      × (flat_map (key_line l.form l.all) entries ≡ written ++ flat_map (key_line l.form l.all) (entries_left entries (cursor_place l.cursor)))
-      × Writes {A = ⊤} {E = SinkFault} g.S.Sink.taken g.S.Sink.failed l.initial.sink l.sink written (Ok tt));
+      × (flat_map (key_line l.initial.items.form l.all) entries ≡ written ++ flat_map (key_line l.initial.items.form l.all) (entries_left entries (cursor_place l.cursor)))
+      × Writes {A = ⊤} {E = ReportFault} g.S.Sink.taken g.S.Sink.failed l.initial.sink l.sink written (Ok tt));
 }
 
 abbrev pub decreases-rest : goal.decreases-rest

@@ -1,0 +1,18 @@
+-- Paths are compared part by part, as the slices are that hold them.
+use Rattle.std.proofs.Common.{◌≡◌, ◌∙◌, Bor, List, ap, ℕ, length, take}
+use Rattle.std.specs.Cmp.Lexicographic.{pointwise}
+use Rattle.std.specs.Cmp.Derive.Mapped.{pointwise-map}
+use Rattle.std.specs.List.{starts_with}
+use Rattle.std.specs.Str.{bytes_eq}
+use Rattle.std.proofs.lemmas.List.{length-map, take-map}
+use Rattle.bolt_tree.specs.ListingParts.{begins_with}
+use Rattle.bolt_tree.specs.Paths.{path_of}
+
+pub same_path : (xs ys : List (Bor (List ℕ))) → pointwise bytes_eq (path_of xs) (path_of ys) ≡ pointwise (λ (a b : Bor (List ℕ)). bytes_eq a.now b.now) xs ys
+same_path xs ys = pointwise-map (λ (part : Bor (List ℕ)). part.now) bytes_eq xs ys
+
+pub begins_parts : (path below : List (Bor (List ℕ))) → begins_with (path_of below) (path_of path) ≡ starts_with (λ (a b : Bor (List ℕ)). bytes_eq a.now b.now) path below
+begins_parts path below =
+    ap (λ (n : ℕ). pointwise bytes_eq (path_of below) (take n (path_of path))) (length-map below (λ (part : Bor (List ℕ)). part.now))
+    ∙ ap (pointwise bytes_eq (path_of below)) (take-map (λ (part : Bor (List ℕ)). part.now) (length below) path)
+    ∙ same_path below (take (length below) path)

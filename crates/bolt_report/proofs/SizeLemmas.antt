@@ -1,0 +1,170 @@
+-- The lines of the buckets among entries, entry by entry.
+use Rattle.std.proofs.Common.{◌≡◌, ◌∙◌, ℕ, zero, suc, drop, Bool, true, false, List, [], ◌∷◌, ◌++◌, Option, Some, Result, Ok, Err, ap, append-nil, cond, filter, map, refl, subst, sym, rules}
+use Rattle.std.proofs.KnownBytes.{Appends-trans}
+use Rattle.std.proofs.Math.Logic.{∥∥₁_elim}
+use Rattle.std.proofs.Props.{props}
+use Rattle.std.proofs.lemmas.Grind.{flat_map-append}
+use Rattle.std.specs.List.{AllByRecursion, Contains}
+use Rattle.std.specs.Prelude.{⊤, IsErr, IsErrAnd}
+use Rattle.bolt_format.proofs.SinkLemmas.{AppendsBeginning-first, AppendsBeginning-second}
+use Rattle.bolt_format.specs.Elements.{LeafElement}
+use Rattle.bolt_format.specs.declared.meta.Meta.{Meta}
+use Rattle.bolt_check.specs.CheckedFiles.{bytes_of, meta_of}
+use Rattle.bolt_check.specs.Keys.{Key}
+use Rattle.bolt_check.specs.declared.checked_file.Checked.{Checked}
+use Rattle.bolt_tree.specs.BucketViews.{entries_of}
+use Rattle.bolt_tree.specs.Buckets.{bucket_checked, bucket_start}
+use Rattle.bolt_tree.specs.Entries.{Start, start_of}
+use Rattle.bolt_tree.specs.EntriesLeft.{entries_left}
+use Rattle.bolt_tree.specs.Lookups.{IsBucketAt}
+use Rattle.bolt_tree.specs.Places.{Fresh, On, Past, Place}
+use Rattle.bolt_tree.specs.declared.bucket.Bucket.{Bucket}
+use Rattle.bolt_tree.proofs.Leaving.{the_entries}
+use Rattle.bolt_tree.proofs.Lists.{contains_head, contains_tail}
+use Rattle.bolt_tree.proofs.Named.{entry_once}
+use Rattle.bolt_report.specs.Forms.{value_text}
+use Rattle.bolt_report.specs.Reports.{Reports}
+use Rattle.bolt_report.specs.SizeLines.{AreSized, Sized, size_columns, size_line, sizes_text}
+use Rattle.bolt_report.specs.StatsOf.{IsStatsOf}
+use Rattle.bolt_report.specs.declared.fault.ReportFault.{ReportFault}
+use Rattle.bolt_report.specs.declared.fault.ReportFault.TheVariants.{Sink}
+use Rattle.bolt_report.specs.declared.figures.Stats.{Stats}
+use Rattle.bolt_report.specs.declared.form.Form.{Form}
+use Rattle.bolt_report.proofs.StatsOnce.{one_stats}
+
+abbrev buckets_of : List LeafElement → List LeafElement
+buckets_of entries = filter (λ (e : LeafElement). e.is_bucket) entries
+
+by_kind : (e : LeafElement) (entries : List LeafElement) (b : Bool) → e.is_bucket ≡ b → buckets_of (e ∷ entries) ≡ cond b (e ∷ buckets_of entries) (buckets_of entries)
+by_kind e entries b is = ap (λ (b : Bool). cond b (e ∷ buckets_of entries) (buckets_of entries)) is
+
+module _ (file : List ℕ) (meta : Meta) where
+  abbrev HasFigures : Sized → Type 0
+  HasFigures s = IsStatsOf file meta (start_of s.entry.value) s.figures
+
+  -- ---- the buckets of one entry, and of those after it
+
+  pub record Cut (e : LeafElement) (entries : List LeafElement) (sized : List Sized) : Type 0 where
+    pub own : List Sized
+    pub rest : List Sized
+    pub whole : sized ≡ own ++ rest
+    pub first : AreSized file meta (e ∷ []) own
+    pub later : AreSized file meta entries rest
+
+  cut_by : (e : LeafElement) (entries : List LeafElement) (b : Bool) → e.is_bucket ≡ b → (sized : List Sized)
+      → map (λ (s : Sized). s.entry) sized ≡ cond b (e ∷ buckets_of entries) (buckets_of entries) → AllByRecursion HasFigures sized → Cut e entries sized
+  cut_by e entries false is sized same figures = record {
+    own = [];
+    rest = sized;
+    whole = refl;
+    first = record { buckets = sym (by_kind e [] false is); figures = tt };
+    later = record { buckets = same; figures = figures };
+  }
+  cut_by e entries true is [] same figures = absurd (let c : [] ≡ e ∷ buckets_of entries = same in cc)
+  cut_by e entries true is (s ∷ sized) same figures =
+      let c : s.entry ∷ map (λ (s : Sized). s.entry) sized ≡ e ∷ buckets_of entries = same in
+      let head : s.entry ≡ e = cc in
+      let tail : map (λ (s : Sized). s.entry) sized ≡ buckets_of entries = cc in
+      record {
+        own = s ∷ [];
+        rest = sized;
+        whole = refl;
+        first = record { buckets = ap (λ (x : LeafElement). x ∷ []) head ∙ sym (by_kind e [] true is); figures = (figures.0, tt) };
+        later = record { buckets = tail; figures = figures.1 };
+      }
+
+  pub cut : (e : LeafElement) (entries : List LeafElement) (sized : List Sized) → AreSized file meta (e ∷ entries) sized → Cut e entries sized
+  cut e entries sized are = cut_by e entries e.is_bucket refl sized are.buckets are.figures
+
+  -- ---- the line of one bucket
+
+  same_figures : (e : LeafElement) (own : Stats) (s : Sized) → s.entry ≡ e → IsStatsOf file meta (start_of e.value) own → HasFigures s → own ≡ s.figures
+  same_figures e own s is known figures =
+      one_stats file meta (start_of e.value) own s.figures known (subst (λ (x : LeafElement). IsStatsOf file meta (start_of x.value) s.figures) is figures)
+
+  one_line : (form : Form) (e : LeafElement) (own : Stats) (sized : List Sized) → IsStatsOf file meta (start_of e.value) own
+      → map (λ (s : Sized). s.entry) sized ≡ e ∷ [] → AllByRecursion HasFigures sized → size_columns own ++ value_text form e.key ≡ sizes_text form sized
+  one_line form e own [] known same figures = absurd (let c : [] ≡ e ∷ [] = same in cc)
+  one_line form e own (s ∷ t ∷ sized) known same figures =
+      absurd (let c : s.entry ∷ t.entry ∷ map (λ (s : Sized). s.entry) sized ≡ e ∷ [] = same in cc)
+  one_line form e own (s ∷ []) known same figures =
+      let c : s.entry ∷ [] ≡ e ∷ [] = same in
+      let head : s.entry ≡ e = cc in
+      ap (λ (x : Stats). size_columns x ++ value_text form e.key) (same_figures e own s head known figures.0)
+      ∙ ap (λ (x : LeafElement). size_columns s.figures ++ value_text form x.key) (sym head) ∙ sym (append-nil (size_line form s))
+
+  pub line_of : (form : Form) (e : LeafElement) (own : Stats) (sized : List Sized) → e.is_bucket ≡ true → IsStatsOf file meta (start_of e.value) own
+      → AreSized file meta (e ∷ []) sized → size_columns own ++ value_text form e.key ≡ sizes_text form sized
+  line_of form e own sized is known are = one_line form e own sized known (are.buckets ∙ by_kind e [] true is) are.figures
+
+-- ---- the entry that a cursor shows
+
+-- the line of the bucket that was found under the key of an entry
+pub line_found : (bucket inner : Bucket) (form : Form) (key : Key) (own : Stats) (e : LeafElement) (sized : List Sized) → bucket_checked inner ≡ bucket_checked bucket
+    → IsBucketAt (entries_of (bucket_checked bucket)) (bucket_start bucket) key (Some inner)
+    → ∥ IsStatsOf (bytes_of (bucket_checked inner)) (meta_of (bucket_checked inner)) (bucket_start inner) own ∥₁
+    → entries_of (bucket_checked bucket) (bucket_start bucket) e → key ≡ e.key
+    → AreSized (bytes_of (bucket_checked bucket)) (meta_of (bucket_checked bucket)) (e ∷ []) sized
+    → size_columns own ++ value_text form key ≡ sizes_text form sized
+line_found bucket inner form key own e sized same found stats entry named sized_are =
+    let file : List ℕ = bytes_of (bucket_checked bucket) in
+    let meta : Meta = meta_of (bucket_checked bucket) in
+    let (entries, known) = the_entries bucket in
+    let figures = subst (λ (c : Checked). ∥ IsStatsOf (bytes_of c) (meta_of c) (bucket_start inner) own ∥₁) same stats in
+    ∥∥₁_elim known (hlevel props) (λ are. ∥∥₁_elim found (hlevel props) (λ (x, there, key_is, is_bucket, start, sequence). ∥∥₁_elim figures (hlevel props) (λ own_are.
+    let one = entry_once (entries_of (bucket_checked bucket)) (bucket_start bucket) entries are x e there entry (key_is ∙ named) in
+    let at = subst (λ (s : Start). IsStatsOf file meta s own) start own_are in
+    ap (λ (k : Key). size_columns own ++ value_text form k) named
+    ∙ line_of file meta form e own sized (subst (λ (y : LeafElement). y.is_bucket ≡ true) one is_bucket)
+    (subst (λ (y : LeafElement). IsStatsOf file meta (start_of y.value) own) one at) sized_are)))
+
+in_rest : (n : ℕ) (entries : List LeafElement) (e : LeafElement) (left : List LeafElement) → drop n entries ≡ e ∷ left → Contains entries e
+in_rest zero entries e left is = subst (λ (xs : List LeafElement). Contains xs e) (sym is) (contains_head e left)
+in_rest (suc n) [] e left is = absurd (search (rules, is))
+in_rest (suc n) (x ∷ entries) e left is = contains_tail x e entries (in_rest n entries e left is)
+
+pub first_left : (entries : List LeafElement) (place : Place) (e : LeafElement) (left : List LeafElement) → entries_left entries place ≡ e ∷ left → Contains entries e
+first_left entries Fresh e left is = in_rest zero entries e left is
+first_left entries (On i) e left is = in_rest (suc i) entries e left is
+first_left entries Past e left is = absurd (search (rules, is))
+
+-- the text of what is left is the text of its first entry, and then the rest
+pub cut_text : (form : Form) (whole : List ℕ) (written : List ℕ) (left own rest : List Sized) → whole ≡ written ++ sizes_text form left → left ≡ own ++ rest
+    → whole ≡ written ++ (sizes_text form own ++ sizes_text form rest)
+cut_text form whole written left own rest same is =
+    same ∙ ap (λ (sized : List Sized). written ++ sizes_text form sized) is ∙ ap (λ (text : List ℕ). written ++ text) (flat_map-append (size_line form) own rest)
+
+-- no bucket is left
+pub no_line : (file : List ℕ) (meta : Meta) (form : Form) (entries : List LeafElement) (sized : List Sized) → entries ≡ [] → AreSized file meta entries sized → sizes_text form sized ≡ []
+no_line file meta form entries [] none are = refl
+no_line file meta form entries (s ∷ sized) none are =
+    absurd (let c : s.entry ∷ map (λ (s : Sized). s.entry) sized ≡ [] = are.buckets ∙ ap buckets_of none in cc)
+
+-- ---- one text after another
+
+-- a fault that is handed on
+pub handed_on : (fault : ReportFault) (result : Result ⊤ ReportFault) → IsErr result → IsErrAnd result (λ f. f ≡ fault) → Err fault ≡ result
+handed_on fault (Ok x) is same = absurd (cc)
+handed_on fault (Err f) is same = ap Err (sym same)
+
+no_fault : (x : ⊤) (fault : ReportFault) → Ok x ≡ Err fault → ⊥
+no_fault x fault e = cc
+
+module _ {S : Type 0} (taken : S → Option (List ℕ)) (failed : S → ℕ) (old mid new : S) (first second : List ℕ) where
+  pub reports_more : Reports {A = ⊤} taken failed old mid first (Ok tt) → Reports {A = ⊤} taken failed mid new second (Ok tt)
+      → Reports {A = ⊤} taken failed old new (first ++ second) (Ok tt)
+  reports_more a b = record {
+    all = Appends-trans (taken old) (taken mid) (taken new) first second a.all b.all;
+    sound = b.sound ∙ a.sound;
+    beginning = AppendsBeginning-second (taken old) (taken mid) (taken new) first second a.all b.beginning;
+    failure = λ e. absurd (no_fault tt Sink e);
+  }
+
+  pub reports_cut : (rest : List ℕ) (fault : ReportFault) → Reports {A = ⊤} taken failed old mid first (Ok tt) → Reports {A = ⊤} taken failed mid new second (Err fault)
+      → Reports {A = ⊤} taken failed old new (first ++ (second ++ rest)) (Err fault)
+  reports_cut rest fault a b = record {
+    all = tt;
+    sound = tt;
+    beginning = AppendsBeginning-second (taken old) (taken mid) (taken new) first (second ++ rest) a.all (AppendsBeginning-first (taken mid) (taken new) second rest b.beginning);
+    failure = b.failure;
+  }

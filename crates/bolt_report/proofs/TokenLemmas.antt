@@ -1,0 +1,39 @@
+-- JSON tokens, written one after another.
+use Rattle.std.proofs.Common.{◌≡◌, ◌∙◌, ◌+◌, ℕ, Bor, List, [], ◌∷◌, ◌++◌, Some, add-one, ap, append_assoc, codes, flat_map, refl, slice_get, sym, take}
+use Rattle.std.specs.Str.{IsUtf8}
+use Rattle.std.proofs.lemmas.Str.{is_utf8-from_IsUtf8}
+use Rattle.hex.specs.Hex.{encode_lower}
+use Rattle.json.specs.Token.{Token, begin_object, end_array, end_object, key, string}
+use Rattle.json.specs.Tree.{items_tokens, json_tokens}
+use Rattle.bolt_tree.specs.Paths.{path_of}
+use Rattle.bolt_report.specs.Forms.{item_json}
+use Rattle.bolt_report.specs.JsonLines.{parts_json}
+use Rattle.bolt_report.proofs.ListWrites.{flat_map-take_more}
+use Rattle.bolt_report.proofs.Utf8Lemmas.{not_utf8}
+
+pub parts_tokens : (path : List (Bor (List ℕ))) → items_tokens (parts_json (path_of path)) ≡ flat_map (λ (part : Bor (List ℕ)). json_tokens (item_json part.now)) path ++ end_array ∷ []
+parts_tokens [] = refl
+parts_tokens (part ∷ path) =
+    ap (λ (ts : List Token). json_tokens (item_json part.now) ++ ts) (parts_tokens path)
+    ∙ sym (append_assoc (json_tokens (item_json part.now)) (flat_map (λ (p : Bor (List ℕ)). json_tokens (item_json p.now)) path) (end_array ∷ []))
+
+-- three lists of tokens
+pub three_added : (old a b c xs ys zs : List Token) → a ≡ old ++ xs → b ≡ a ++ ys → c ≡ b ++ zs → c ≡ old ++ (xs ++ (ys ++ zs))
+three_added old a b c xs ys zs first second third = rw third (rw second (rw first (simp append_assoc)))
+
+-- bytes that are UTF-8 are a string
+pub text_tokens : (bytes text : List ℕ) → IsUtf8 bytes → text ≡ bytes → json_tokens (item_json bytes) ≡ string text ∷ []
+text_tokens bytes text utf8 same = rw (is_utf8-from_IsUtf8 bytes utf8) (rw same refl)
+
+-- and others an object
+pub digits_tokens : (bytes : List ℕ) → ¬ (IsUtf8 bytes) → json_tokens (item_json bytes) ≡ begin_object ∷ key (codes "hex") ∷ string (encode_lower bytes) ∷ end_object ∷ []
+digits_tokens bytes other = rw (not_utf8 bytes other) refl
+
+-- the tokens of one part more
+pub part_more : (path : List (Bor (List ℕ))) (i : ℕ) (part : Bor (List ℕ)) (old mid new : List Token) → slice_get path i ≡ Some part
+    → mid ≡ old ++ flat_map (λ (p : Bor (List ℕ)). json_tokens (item_json p.now)) (take i path) → new ≡ mid ++ json_tokens (item_json part.now)
+    → new ≡ old ++ flat_map (λ (p : Bor (List ℕ)). json_tokens (item_json p.now)) (take (i + 1) path)
+part_more path i part old mid new found before one =
+    let f : Bor (List ℕ) → List Token = λ p. json_tokens (item_json p.now) in
+    one ∙ ap (λ (ts : List Token). ts ++ f part) before ∙ append_assoc old (flat_map f (take i path)) (f part)
+    ∙ ap (λ (ts : List Token). old ++ ts) (sym (ap (λ k. flat_map f (take k path)) (add-one i) ∙ flat_map-take_more f path i part found))

@@ -1,0 +1,15 @@
+use Rattle.bolt_check.specs.CheckedFiles.{bytes_of, meta_of}
+use Rattle.bolt_report.specs.PageMaps.{map_text}
+use Rattle.bolt_report.proofs.ReportLemmas.{reports_err, reports_ok}
+use Rattle.bolt_report.proofs.maps.page_map.Goals as goal
+
+pub returns-in_err-put_map-clause-written : goal.returns-in_err-put_map-clause-written
+returns-in_err-put_map-clause-written g c = λ roles are.
+    let put = rw c.in_ok-table.ensures at c.in_err-put_map.ensures in
+    reports_err g.S.Sink.taken g.S.Sink.failed c.args.sink.now c.put_map.new.sink (map_text (bytes_of c.args.checked) (meta_of c.args.checked) roles) _ c.from_residual-in_err-put_map.result
+    (put roles are) c.from_residual-in_err-put_map.ensures.0
+
+pub returns-clause-written : goal.returns-clause-written
+returns-clause-written g c = λ roles are.
+    let put = rw c.in_ok-table.ensures at c.in_ok-put_map.ensures in
+    reports_ok g.S.Sink.taken g.S.Sink.failed c.args.sink.now c.put_map.new.sink (map_text (bytes_of c.args.checked) (meta_of c.args.checked) roles) (put roles are)

@@ -1,0 +1,20 @@
+-- A walk from the later of the two paths comes to the part first.
+use Rattle.std.proofs.Common.{◌∙◌, List, ap, subst, sym}
+use Rattle.bolt_tree.specs.Listing.{Member, rest_from}
+use Rattle.bolt_tree.specs.Paths.{Path, path_of}
+use Rattle.bolt_tree.specs.Walks.{walk_checked}
+use Rattle.bolt_tree.proofs.PartLemmas.{part_from_later}
+use Rattle.bolt_report.specs.ListLines.{listing_text}
+use Rattle.bolt_report.specs.Reports.{Reports}
+use Rattle.bolt_report.proofs.ListTexts.{same_listing}
+use Rattle.bolt_report.proofs.ListPartTexts.{front}
+use Rattle.bolt_report.proofs.part_lines.list_part.Goals as goal
+
+pub returns-clause-written : goal.returns-clause-written
+returns-clause-written g c = λ listing lists.
+    let below = path_of c.args.below.now in
+    let from = path_of c.args.from.now in
+    let here = same_listing (walk_checked c.in_ok-walk.walk) c.args.checked listing c.in_ok-walk.ensures.checked lists in
+    let left = c.in_ok-walk.ensures.rest listing lists ∙ ap (λ (p : Path). rest_from p listing) c.later_of.ensures in
+    subst (λ (members : List Member). Reports g.S.Sink.taken g.S.Sink.failed c.args.sink.now c.put_part.new.sink (listing_text members) c.put_part.result)
+    (ap (front below) left ∙ sym (part_from_later below from listing lists.rises)) (c.put_part.ensures.written listing here)

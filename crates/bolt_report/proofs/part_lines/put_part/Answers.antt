@@ -1,0 +1,57 @@
+-- Each member that begins with the path has its line written, and the first that doesn't ends the text.
+use Rattle.std.proofs.Common.{◌≡◌, ◌∙◌, ◌++◌, [], ap, sym, refl, true}
+use Rattle.bolt_format.proofs.WriteLemmas.{Writes-none}
+use Rattle.bolt_report.specs.ListLines.{listing_text, member_line}
+use Rattle.bolt_tree.specs.ListingParts.{begins_with}
+use Rattle.bolt_tree.specs.Paths.{path_of}
+use Rattle.bolt_tree.specs.ShownEntries.{item_view}
+use Rattle.bolt_report.proofs.ListTexts.{more_written, piece_stop}
+use Rattle.bolt_report.proofs.ReportLemmas.{reports_ok}
+use Rattle.bolt_report.proofs.ListPartTexts.{front, front_text}
+use Rattle.bolt_report.proofs.part_lines.put_part.Goals as goal
+
+pub part-init : goal.part-init
+part-init g c = record {
+  same = λ listing. (λ is. is, λ is. is);
+  counted = refl;
+  put = λ listing is. ([], refl, Writes-none c.args.sink.now);
+}
+
+pub part-preserved : goal.part-preserved
+part-preserved g c =
+    let below = path_of c.args.below.now in
+    let told = path_of c.path-in-Some.result.now in
+    let begins : begins_with below told ≡ true = ap (begins_with below) (c.path-in-Some.ensures ∙ sym c.path.ensures) ∙ sym c.is_below.ensures ∙ c.if-not-is_below.false in
+    record {
+      same = λ listing. (
+        λ is. (c.part.invariant.same listing).0 ((c.next.ensures.listing listing).0 is),
+        λ is. (c.next.ensures.listing listing).1 ((c.part.invariant.same listing).1 is),
+      );
+      counted = c.in_ok-put_member.ensures.sound ∙ c.part.invariant.counted;
+      put = λ listing lists.
+          let given = rw c.in-Some.is at c.in_ok-item.ensures.given in
+          let here = (c.part.invariant.same listing).1 lists in
+          let old = g.M.Members.left c.part.members listing in
+          let new = g.M.Members.left c.next.new.self listing in
+          let text = front_text below old new (g.M.Members.last_path c.next.new.self) told (item_view c.in-Some.item) (given listing here) c.path-in-Some.ensures begins in
+          let (written, same, before) = c.part.invariant.put listing lists in
+          let piece = member_line (told, item_view c.in-Some.item) in
+          let more = more_written g.S.Sink.taken g.S.Sink.failed c.args.sink.now c.part.sink c.put_member.new.sink (listing_text (front below (g.M.Members.left c.args.members.now listing))) written piece (listing_text (front below new))
+          (same ∙ ap (λ l. written ++ l) text) before (reports_ok g.S.Sink.taken g.S.Sink.failed c.part.sink c.put_member.new.sink piece c.in_ok-put_member.ensures) in
+          (written ++ piece, more.0, more.1);
+    }
+
+pub returns-in_err-put_member-clause-written : goal.returns-in_err-put_member-clause-written
+returns-in_err-put_member-clause-written g c = λ listing lists.
+    let below = path_of c.args.below.now in
+    let told = path_of c.path-in-Some.result.now in
+    let begins : begins_with below told ≡ true = ap (begins_with below) (c.path-in-Some.ensures ∙ sym c.path.ensures) ∙ sym c.is_below.ensures ∙ c.if-not-is_below.false in
+    let given = rw c.in-Some.is at c.in_ok-item.ensures.given in
+    let here = (c.part.invariant.same listing).1 lists in
+    let old = g.M.Members.left c.part.members listing in
+    let new = g.M.Members.left c.next.new.self listing in
+    let text = front_text below old new (g.M.Members.last_path c.next.new.self) told (item_view c.in-Some.item) (given listing here) c.path-in-Some.ensures begins in
+    let (written, same, before) = c.part.invariant.put listing lists in
+    piece_stop g.S.Sink.taken g.S.Sink.failed c.args.sink.now c.part.sink c.put_member.new.sink (listing_text (front below (g.M.Members.left c.args.members.now listing))) written
+    (member_line (told, item_view c.in-Some.item)) (listing_text (front below new)) _ _
+    (same ∙ ap (λ l. written ++ l) text) before c.in_err-put_member.ensures c.from_residual-in_err-put_member.ensures.0

@@ -1,0 +1,94 @@
+//! Keys and values in a form.
+ghost use Rattle.std.specs.Prelude.{◌≡◌, ◌⊎◌, IfErr, if◌then◌else◌};
+ghost use Rattle.hex.specs.Hex.{encode_lower};
+ghost use Rattle.bolt_format.specs.Writes.{Writes};
+ghost use Rattle.bolt_report.specs.Forms.{is_printable, is_text, shown_as, value_text};
+ghost use Rattle.bolt_report.specs.Reports.{Reports};
+
+use crate::fault::ReportFault;
+use crate::form::Form;
+use crate::hexadecimal::put_hex;
+use crate::json_text::JsonText;
+use crate::puts::put;
+use bolt_format::{Sink, SinkFault};
+use std::alloc::Global;
+use std::str;
+
+/// Writes keys and values in a form. Only JSON needs memory, which is kept from item to item.
+#[derive(Drop)]
+pub(crate) struct ItemWriter {
+    form: Form,
+    json: JsonText,
+}
+
+impl ItemWriter {
+    pub(crate) fn new(alloc: Global, form: Form) -> ItemWriter
+        ensures { result.form ≡ form }
+    {
+        ItemWriter {
+            form,
+            json: JsonText::new(alloc),
+        }
+    }
+
+    /// Writes a key or a value, and a line feed.
+    pub(crate) fn put_line<S: Sink>(
+        &mut self,
+        bytes: &[u8],
+        sink: &mut S,
+    ) -> Result<(), ReportFault>
+        ensures form { self.new.form ≡ self.old.form }
+        ensures written { Reports S.taken S.failed sink.old sink.new (value_text self.old.form bytes.now) result }
+        ensures fault { IfErr result (λ fault. (fault ≡ ReportFault.Sink) ⊎ ((fault ≡ ReportFault.NoMemory) × (self.old.form ≡ Form.Json))) }
+        ensures memory { IfErr result (λ fault. fault ≡ ReportFault.NoMemory → S.failed sink.new ≡ S.failed sink.old) }
+    {
+        self.put(bytes, sink)?;
+        put(b"\n", sink)?;
+        Ok(())
+    }
+
+    /// Writes a key or a value.
+    pub(crate) fn put<S: Sink>(&mut self, bytes: &[u8], sink: &mut S) -> Result<(), ReportFault>
+        ensures form { self.new.form ≡ self.old.form }
+        ensures written { Reports S.taken S.failed sink.old sink.new (shown_as self.old.form bytes.now) result }
+        ensures fault { IfErr result (λ fault. (fault ≡ ReportFault.Sink) ⊎ ((fault ≡ ReportFault.NoMemory) × (self.old.form ≡ Form.Json))) }
+        ensures memory { IfErr result (λ fault. fault ≡ ReportFault.NoMemory → S.failed sink.new ≡ S.failed sink.old) }
+    {
+        match self.form {
+            Form::Printable => put_or_hex(bytes, can_be_printed(bytes), sink)?,
+            Form::Hex => put_hex(bytes, sink)?,
+            Form::Bytes => put(bytes, sink)?,
+            Form::Text => put_or_hex(bytes, is_text(bytes), sink)?,
+            Form::Json => put(self.json.item(bytes)?, sink)?,
+        }
+        Ok(())
+    }
+}
+
+/// Writes bytes as they are, or in hexadecimal.
+fn put_or_hex<S: Sink>(bytes: &[u8], as_it_is: bool, sink: &mut S) -> Result<(), SinkFault>
+    ensures { Writes S.taken S.failed sink.old sink.new (if as_it_is then bytes.now else encode_lower bytes.now) result }
+{
+    if as_it_is {
+        put(bytes, sink)
+    } else {
+        put_hex(bytes, sink)
+    }
+}
+
+/// Whether each byte is a printable ASCII character.
+fn can_be_printed(bytes: &[u8]) -> bool
+    ensures { result ≡ is_printable bytes.now }
+{
+    bytes.iter().all(|byte| *byte >= b' ' && *byte <= b'~')
+}
+
+/// Whether the bytes are UTF-8 without control characters.
+fn is_text(bytes: &[u8]) -> bool
+    ensures { result ≡ is_text bytes.now }
+{
+    match str::from_utf8(bytes) {
+        Ok(text) => text.chars().all(|c| !c.is_control()),
+        Err(_) => false,
+    }
+}

@@ -1,0 +1,138 @@
+//! The text of what a file holds below a path.
+ghost use Rattle.std.specs.List.{take_while};
+ghost use Rattle.std.specs.Prelude.{◌≡◌, ◌&&◌, ◌⊎◌, IfErr, IfOk, List, OnOk, not};
+ghost use Rattle.std.specs.Ordering.{is_lt};
+ghost use Rattle.bolt_tree.specs.FileListings.{ForListing};
+ghost use Rattle.bolt_tree.specs.Listing.{Member, member_cmp, rest_from};
+ghost use Rattle.bolt_tree.specs.ListingParts.{begins_with, bucket_part, has_bucket, is_bucket_at, later_path, part_below};
+ghost use Rattle.bolt_tree.specs.Order.{Rises};
+ghost use Rattle.bolt_tree.specs.Paths.{path_cmp, path_of};
+ghost use Rattle.bolt_tree.specs.ShownEntries.{item_view};
+ghost use Rattle.bolt_recover.specs.Recovered.{ForRecovered};
+ghost use Rattle.bolt_recover.specs.Recoveries.{ForLosses, recovery_file, recovery_left, recovery_losses, recovery_meta};
+ghost use Rattle.bolt_report.specs.ListLines.{listing_text};
+ghost use Rattle.bolt_report.specs.Reports.{Reports};
+
+use crate::fault::ReportFault;
+use crate::list_lines::{is_before, put_member};
+use bolt_check::Checked;
+use bolt_format::Sink;
+use bolt_recover::{Members, Recovery};
+use bolt_tree::{Item, Walk};
+use std::alloc::Global;
+
+/// Writes a line for each path of a file that begins with `below` and doesn't come before `from`,
+/// as `list` does (docs/LISTING.md, "The part below a path"). The member at `below` comes first. If
+/// no path begins with `below`, the text is empty. It opens the pages on the way to the first line
+/// and reads on to the first path that doesn't begin with `below`. A line needs no memory.
+///
+/// # Errors
+///
+/// `Sink` if the sink failed; `NoMemory` if memory ran out for the walk, and the sink had not
+/// failed. The sink has then accepted a prefix of the text. There is no other error.
+pub fn list_part<S: Sink>(
+    alloc: Global,
+    checked: Checked<'_>,
+    below: &[&[u8]],
+    from: &[&[u8]],
+    sink: &mut S,
+) -> Result<(), ReportFault>
+    ensures written { ForListing checked.entry (λ listing. Reports S.taken S.failed sink.old sink.new (listing_text (rest_from (path_of from.now) (part_below (path_of below.now) listing))) result) }
+    ensures fault { IfErr result (λ fault. (fault ≡ ReportFault.Sink) ⊎ (fault ≡ ReportFault.NoMemory)) }
+    ensures memory { IfErr result (λ fault. fault ≡ ReportFault.NoMemory → S.failed sink.new ≡ S.failed sink.old) }
+{
+    let mut walk = Walk::from(alloc, checked, later_of(from, below))?;
+    put_part(&mut walk, below, sink)
+}
+
+/// Writes a line for each path that is left to a recovery, begins with `below` and doesn't come
+/// before `from`, as `list_part` does, with its errors. If it returns `Ok`, the recovery has
+/// reported all losses, and the result says whether what was left has the bucket at `below`: always
+/// if `below` is empty. If it doesn't, the text is empty, even if there is a value at `below`.
+pub fn list_recovered_part<S: Sink>(
+    recovery: &mut Recovery<'_>,
+    below: &[&[u8]],
+    from: &[&[u8]],
+    sink: &mut S,
+) -> Result<bool, ReportFault>
+    ensures written { ForRecovered (recovery_file recovery.old) (recovery_meta recovery.old) (λ listing. Reports S.taken S.failed sink.old sink.new (listing_text (rest_from (path_of from.now) (bucket_part (path_of below.now) (recovery_left recovery.old listing)))) result) }
+    ensures found { IfOk result (λ found. ForRecovered (recovery_file recovery.old) (recovery_meta recovery.old) (λ listing. found ≡ has_bucket (path_of below.now) (recovery_left recovery.old listing))) }
+    ensures all { OnOk result (ForLosses (recovery_file recovery.old) (recovery_meta recovery.old) (λ losses. recovery_losses recovery.new ≡ losses)) }
+    ensures fault { IfErr result (λ fault. (fault ≡ ReportFault.Sink) ⊎ (fault ≡ ReportFault.NoMemory)) }
+    ensures memory { IfErr result (λ fault. fault ≡ ReportFault.NoMemory → S.failed sink.new ≡ S.failed sink.old) }
+{
+    put_bucket_part(recovery, below, from, sink)
+}
+
+/// Writes a line for each member that is left, up to the first whose path doesn't begin with
+/// `below`.
+fn put_part<'a, M: Members<'a>, S: Sink>(
+    members: &mut M,
+    below: &[&[u8]],
+    sink: &mut S,
+) -> Result<(), ReportFault>
+    ensures written { (listing : List Member) → M.lists members.old listing → Reports S.taken S.failed sink.old sink.new (listing_text (take_while (λ m. begins_with (path_of below.now) m.0) (M.left members.old listing))) result }
+    ensures fault { IfErr result (λ fault. (fault ≡ ReportFault.Sink) ⊎ (fault ≡ ReportFault.NoMemory)) }
+    ensures memory { IfErr result (λ fault. fault ≡ ReportFault.NoMemory → S.failed sink.new ≡ S.failed sink.old) }
+{
+    'part: while let Some(item) = members.next()? {
+        if !is_below(members.path(), below) {
+            return Ok(());
+        }
+        put_member(members.path(), &item, sink)?;
+    }
+    Ok(())
+}
+
+/// Returns all members that are left, and writes a line for each from the bucket at `below` on that
+/// begins with `below` and doesn't come before `from`. Returns whether that bucket was among them.
+fn put_bucket_part<'a, M: Members<'a>, S: Sink>(
+    members: &mut M,
+    below: &[&[u8]],
+    from: &[&[u8]],
+    sink: &mut S,
+) -> Result<bool, ReportFault>
+    ensures written { (listing : List Member) → M.lists members.old listing → Rises member_cmp (M.left members.old listing)
+        → Reports S.taken S.failed sink.old sink.new (listing_text (rest_from (path_of from.now) (bucket_part (path_of below.now) (M.left members.old listing)))) result }
+    ensures found { IfOk result (λ found. (listing : List Member) → M.lists members.old listing → found ≡ has_bucket (path_of below.now) (M.left members.old listing)) }
+    ensures end { OnOk result (M.ends_as members.old members.new) }
+    ensures fault { IfErr result (λ fault. (fault ≡ ReportFault.Sink) ⊎ (fault ≡ ReportFault.NoMemory)) }
+    ensures memory { IfErr result (λ fault. fault ≡ ReportFault.NoMemory → S.failed sink.new ≡ S.failed sink.old) }
+{
+    let mut found = below.is_empty();
+    'part: while let Some(item) = members.next()? {
+        found |= is_bucket_of(members.path(), &item, below);
+        if found && is_wanted(members.path(), below, from) {
+            put_member(members.path(), &item, sink)?;
+        }
+    }
+    Ok(found)
+}
+
+/// The later of two paths.
+fn later_of<'p, 'a>(one: &'p [&'a [u8]], other: &'p [&'a [u8]]) -> &'p [&'a [u8]]
+    ensures { path_of result.now ≡ later_path (path_of one.now) (path_of other.now) }
+{
+    if is_before(one, other) { other } else { one }
+}
+
+/// Whether a path begins with another and doesn't come before a third.
+fn is_wanted(path: &[&[u8]], below: &[&[u8]], from: &[&[u8]]) -> bool
+    ensures { result ≡ (begins_with (path_of below.now) (path_of path.now) && not (is_lt (path_cmp (path_of path.now) (path_of from.now)))) }
+{
+    is_below(path, below) && !is_before(path, from)
+}
+
+/// Whether a path begins with another.
+fn is_below(path: &[&[u8]], below: &[&[u8]]) -> bool
+    ensures { result ≡ begins_with (path_of below.now) (path_of path.now) }
+{
+    path.starts_with(below)
+}
+
+/// Whether a member is the bucket at a path.
+fn is_bucket_of(path: &[&[u8]], item: &Item<'_>, bucket: &[&[u8]]) -> bool
+    ensures { result ≡ is_bucket_at (path_of bucket.now) (path_of path.now, item_view item.now) }
+{
+    path == bucket && matches!(item, Item::Bucket { .. })
+}

@@ -1,0 +1,137 @@
+//! The sizes of the buckets in a bucket as a text.
+ghost use Rattle.std.specs.Prelude.{◌≡◌, ◌≤◌, ◌+◌, ◌∷◌, ◌++◌, ◌⊎◌, [], IfErr, List, OnOk, codes, decimal, length};
+ghost use Rattle.bolt_format.specs.Elements.{LeafElement};
+ghost use Rattle.bolt_check.specs.CheckedFiles.{bytes_of, meta_of};
+ghost use Rattle.bolt_tree.specs.BucketViews.{entries_of};
+ghost use Rattle.bolt_tree.specs.Buckets.{bucket_checked, bucket_start};
+ghost use Rattle.bolt_tree.specs.Entries.{entry_view};
+ghost use Rattle.bolt_tree.specs.EntriesLeft.{ForEntries};
+ghost use Rattle.bolt_tree.specs.ShownEntries.{shown_entry};
+ghost use Rattle.bolt_report.specs.Forms.{value_text};
+ghost use Rattle.bolt_report.specs.Reports.{Reports};
+ghost use Rattle.bolt_report.specs.declared.text.TheConstants.{TEXT_LEN};
+ghost use Rattle.bolt_report.specs.SizeLines.{AreSized, Sized, bytes_allocated, bytes_used, size_columns, sizes_text};
+
+use crate::fault::ReportFault;
+use crate::figures::Stats;
+use crate::form::Form;
+use crate::puts::put;
+use crate::text::{Text, push_bytes, push_number};
+use crate::tour::stats;
+use crate::values::value;
+use bolt_format::Sink;
+use bolt_tree::{Bucket, Entry, Item};
+use std::alloc::Global;
+
+/// Writes the sizes of those entries of a bucket that are buckets, a line for each, in byte order
+/// (docs/COMMANDS.md, "What is printed"): the number of keys, the bytes used, the bytes allocated,
+/// and its name in a form. The figures are those of the bucket with all buckets in it. Inline
+/// buckets count as allocated what they use. A sum above 2^64 - 1 saturates there.
+///
+/// # Errors
+///
+/// `Sink` if the sink failed; `NoMemory` if memory ran out for the figures of a bucket or for a
+/// name as JSON, and the sink had not failed. The sink has then accepted a prefix of the text. There is no other error.
+pub fn sizes<S: Sink>(
+    alloc: Global,
+    bucket: &Bucket<'_>,
+    form: Form,
+    sink: &mut S,
+) -> Result<(), ReportFault>
+    ensures written { ForEntries (bucket_checked bucket.now) (bucket_start bucket.now) (λ entries. (sized : List Sized)
+        → AreSized (bytes_of (bucket_checked bucket.now)) (meta_of (bucket_checked bucket.now)) entries sized
+        → Reports S.taken S.failed sink.old sink.new (sizes_text form sized) result) }
+    ensures fault { IfErr result (λ fault. (fault ≡ ReportFault.Sink) ⊎ (fault ≡ ReportFault.NoMemory)) }
+    ensures memory { IfErr result (λ fault. fault ≡ ReportFault.NoMemory → S.failed sink.new ≡ S.failed sink.old) }
+{
+    let mut cursor = bucket.cursor();
+    'rest: while let Some(entry) = cursor.next() {
+        put_entry(alloc, bucket, &entry, form, sink)?;
+    }
+    Ok(())
+}
+
+/// Writes the line of an entry of the bucket, if it is a bucket.
+fn put_entry<S: Sink>(
+    alloc: Global,
+    bucket: &Bucket<'_>,
+    entry: &Entry<'_>,
+    form: Form,
+    sink: &mut S,
+) -> Result<(), ReportFault>
+    ensures written { (e : LeafElement) → entries_of (bucket_checked bucket.now) (bucket_start bucket.now) e → shown_entry entry.now ≡ entry_view e
+        → (sized : List Sized) → AreSized (bytes_of (bucket_checked bucket.now)) (meta_of (bucket_checked bucket.now)) (e ∷ []) sized
+        → Reports S.taken S.failed sink.old sink.new (sizes_text form sized) result }
+    ensures sound { OnOk result (S.failed sink.new ≡ S.failed sink.old) }
+    ensures fault { IfErr result (λ fault. (fault ≡ ReportFault.Sink) ⊎ (fault ≡ ReportFault.NoMemory)) }
+    ensures memory { IfErr result (λ fault. fault ≡ ReportFault.NoMemory → S.failed sink.new ≡ S.failed sink.old) }
+{
+    if let Item::Value(_) = entry.item {
+        return Ok(());
+    }
+    match bucket.bucket(entry.key) {
+        Some(inner) => {
+            let figures = stats(alloc, &inner)?;
+            put_size(alloc, &figures, entry.key, form, sink)
+        }
+        None => Ok(()),
+    }
+}
+
+/// Writes the line of the bucket with these figures and this name.
+fn put_size<S: Sink>(
+    alloc: Global,
+    figures: &Stats,
+    name: &[u8],
+    form: Form,
+    sink: &mut S,
+) -> Result<(), ReportFault>
+    ensures written { Reports S.taken S.failed sink.old sink.new (size_columns figures.now ++ value_text form name.now) result }
+    ensures fault { IfErr result (λ fault. (fault ≡ ReportFault.Sink) ⊎ (fault ≡ ReportFault.NoMemory)) }
+    ensures memory { IfErr result (λ fault. fault ≡ ReportFault.NoMemory → S.failed sink.new ≡ S.failed sink.old) }
+{
+    put(size_columns(figures).as_slice(), sink)?;
+    value(alloc, name, form, sink)
+}
+
+/// The number of keys, the bytes used and the bytes allocated, each followed by a space.
+#[tactic(auto, unfolding(crate::specs::SizeLines::size_columns))]
+fn size_columns(figures: &Stats) -> Text
+    ensures { result.items ≡ size_columns figures.now }
+{
+    let mut text = Text::new();
+    push_column(&mut text, figures.keys);
+    push_column(&mut text, bytes_used(figures));
+    push_column(&mut text, bytes_allocated(figures));
+    text
+}
+
+/// Adds a number in decimal and a space.
+fn push_column(text: &mut Text, n: u64)
+    requires { length text.old.items + 21 ≤ TEXT_LEN }
+    ensures column { text.new.items ≡ text.old.items ++ (decimal n ++ codes " ") }
+    ensures short { length text.new.items ≤ length text.old.items + 21 }
+{
+    push_number(text, n);
+    push_bytes(text, b" ");
+}
+
+/// The bytes used of pages and of inline buckets.
+fn bytes_used(figures: &Stats) -> u64
+    ensures { result ≡ bytes_used figures.now }
+{
+    figures
+        .branch_used
+        .saturating_add(figures.leaf_used)
+        .saturating_add(figures.inline_used)
+}
+
+/// The bytes allocated to pages and inline buckets.
+fn bytes_allocated(figures: &Stats) -> u64
+    ensures { result ≡ bytes_allocated figures.now }
+{
+    figures
+        .branch_allocated
+        .saturating_add(figures.leaf_allocated)
+        .saturating_add(figures.inline_used)
+}
