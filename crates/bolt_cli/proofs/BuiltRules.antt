@@ -10,7 +10,7 @@ use Rattle.clap.specs.Words.{Rule, Shape, Text}
 use Rattle.clap.specs.Walk.{arg_by_id, arg_by_index, arg_by_long, arg_by_short, takes_several}
 use Rattle.clap.specs.Simple.{built_leaf, filled, filled_from, help_rule, index_after, inherited, marked_built, with_index, with_leaf_noted}
 use Rattle.bolt_cli.specs.CommandLine.{command_of, operand_rule, option_rule, program}
-use Rattle.bolt_cli.specs.LineWords.{Choice, Flag, Operand, Syntax, is_called, is_lettered, long, short}
+use Rattle.bolt_cli.specs.LineWords.{Choice, Flag, Operand, Syntax, both, is_called, is_lettered, long, short}
 
 -- the command as it is built into the program
 abbrev pub line_shape : Syntax → Shape
@@ -57,10 +57,12 @@ option_stays : (i : ℕ) (name : Text) (flag : Flag) (has_value required : Bool)
     → with_index i (option_built (choice_of name flag has_value required)) ≡ option_built (choice_of name flag has_value required)
 option_stays i name (long own) has_value required = refl
 option_stays i name (short letter) has_value required = refl
+option_stays i name (both letter word) has_value required = refl
 
 option_counts_none : (i : ℕ) (name : Text) (flag : Flag) (has_value required : Bool) → index_after i (option_rule (choice_of name flag has_value required)) ≡ i
 option_counts_none i name (long own) has_value required = refl
 option_counts_none i name (short letter) has_value required = refl
+option_counts_none i name (both letter word) has_value required = refl
 
 options_filled : (i : ℕ) (options : List Choice) → filled_from i (map option_rule options ++ help_rule ∷ []) ≡ options_built options
 options_filled i [] = refl
@@ -89,38 +91,50 @@ names_differ (r ∷ rs) = list_all (λ (x : Rule). not (bytes_eq r.id x.id)) rs 
 abbrev pub has_ascii : Flag → Bool
 has_ascii (long name) = true
 has_ascii (short letter) = nat_lt letter 128
+has_ascii (both letter word) = nat_lt letter 128
 
--- an option without a value has a long name
-abbrev pub is_long : Flag → Bool
-is_long (long name) = true
-is_long (short letter) = false
+-- the flag has this letter or none
+abbrev pub has_only : ℕ → Flag → Bool
+has_only letter (long name) = true
+has_only letter (short own) = own == letter
+has_only letter (both own name) = own == letter
+
+-- no option has another letter
+abbrev pub has_one_letter : List Choice → Flag → Bool
+has_one_letter options (long name) = true
+has_one_letter options (short letter) = list_all (λ (o : Choice). has_only letter o.flag) options
+has_one_letter options (both letter name) = list_all (λ (o : Choice). has_only letter o.flag) options
 
 abbrev all_ascii : List Choice → Bool
 all_ascii options = list_all (λ (o : Choice). has_ascii o.flag) options
 
-abbrev pub long_or_valued : Choice → Bool
-long_or_valued o = o.has_value || is_long o.flag
+-- an option without a value has the only letter of the line, or none: a letter behind it in one word would be read as an option too
+abbrev pub valued_or_only : List Choice → Choice → Bool
+valued_or_only options o = o.has_value || has_one_letter options o.flag
+
+abbrev pub all_letters : List Choice → Bool
+all_letters options = list_all (valued_or_only options) options
 
 -- what the lemmas below ask of a line
 abbrev pub is_good : Syntax → Bool
-is_good s = nat_lt (length s.operands) 9 && (names_differ (rules_built s) && (all_ascii s.options && list_all long_or_valued s.options))
+is_good s = nat_lt (length s.operands) 9 && (names_differ (rules_built s) && (all_ascii s.options && all_letters s.options))
 
 pub few_operands : (s : Syntax) → is_good s ≡ true → length s.operands < 9
 few_operands s good = ltb-true (length s.operands) 9
-    (and_parts (nat_lt (length s.operands) 9) (names_differ (rules_built s) && (all_ascii s.options && list_all long_or_valued s.options)) good).0
+    (and_parts (nat_lt (length s.operands) 9) (names_differ (rules_built s) && (all_ascii s.options && all_letters s.options)) good).0
 
-good_names : (s : Syntax) → is_good s ≡ true → (names_differ (rules_built s) ≡ true) × ((all_ascii s.options && list_all long_or_valued s.options) ≡ true)
-good_names s good = and_parts (names_differ (rules_built s)) (all_ascii s.options && list_all long_or_valued s.options)
-    (and_parts (nat_lt (length s.operands) 9) (names_differ (rules_built s) && (all_ascii s.options && list_all long_or_valued s.options)) good).1
+good_names : (s : Syntax) → is_good s ≡ true → (names_differ (rules_built s) ≡ true) × ((all_ascii s.options && all_letters s.options) ≡ true)
+good_names s good = and_parts (names_differ (rules_built s)) (all_ascii s.options && all_letters s.options)
+    (and_parts (nat_lt (length s.operands) 9) (names_differ (rules_built s) && (all_ascii s.options && all_letters s.options)) good).1
 
 pub differing_names : (s : Syntax) → is_good s ≡ true → names_differ (rules_built s) ≡ true
 differing_names s good = (good_names s good).0
 
 pub ascii_letters : (s : Syntax) → is_good s ≡ true → list_all (λ (o : Choice). has_ascii o.flag) s.options ≡ true
-ascii_letters s good = (and_parts (all_ascii s.options) (list_all long_or_valued s.options) (good_names s good).1).0
+ascii_letters s good = (and_parts (all_ascii s.options) (all_letters s.options) (good_names s good).1).0
 
-pub valued_letters : (s : Syntax) → is_good s ≡ true → list_all long_or_valued s.options ≡ true
-valued_letters s good = (and_parts (all_ascii s.options) (list_all long_or_valued s.options) (good_names s good).1).1
+pub safe_letters : (s : Syntax) → is_good s ≡ true → list_all (valued_or_only s.options) s.options ≡ true
+safe_letters s good = (and_parts (all_ascii s.options) (all_letters s.options) (good_names s good).1).1
 
 -- what all pass, what is found passes
 pub all_found : {X : Type 0} (p test : X → Bool) (xs : List X) (x : X) → list_all p xs ≡ true → find test xs ≡ Some x → p x ≡ true
@@ -195,6 +209,9 @@ one_long name own (long word) has_value required options later =
     ap (λ found. cond (bytes_eq word name || false) (Some (option_built (choice_of own (long word) has_value required))) found) later
     ∙ here_or_later (bytes_eq word name) (choice_of own (long word) has_value required) (by_long name options) (bytes_eq (codes "help") name)
 one_long name own (short letter) has_value required options later = later
+one_long name own (both letter word) has_value required options later =
+    ap (λ found. cond (bytes_eq word name || false) (Some (option_built (choice_of own (both letter word) has_value required))) found) later
+    ∙ here_or_later (bytes_eq word name) (choice_of own (both letter word) has_value required) (by_long name options) (bytes_eq (codes "help") name)
 
 options_by_long : (name : Text) (options : List Choice) → arg_by_long (options_built options) name ≡ option_or_help (by_long name options) (bytes_eq (codes "help") name)
 options_by_long name [] = ap (λ b. cond b (Some help_built) None) (either_false (bytes_eq (codes "help") name))
@@ -214,6 +231,9 @@ one_short letter own (long word) has_value required options later = later
 one_short letter own (short mark) has_value required options later =
     ap (λ found. cond (mark == letter || false) (Some (option_built (choice_of own (short mark) has_value required))) found) later
     ∙ here_or_later (mark == letter) (choice_of own (short mark) has_value required) (by_short letter options) (104 == letter)
+one_short letter own (both mark word) has_value required options later =
+    ap (λ found. cond (mark == letter || false) (Some (option_built (choice_of own (both mark word) has_value required))) found) later
+    ∙ here_or_later (mark == letter) (choice_of own (both mark word) has_value required) (by_short letter options) (104 == letter)
 
 options_by_short : (letter : ℕ) (options : List Choice) → arg_by_short (options_built options) letter ≡ option_or_help (by_short letter options) (104 == letter)
 options_by_short letter [] = ap (λ b. cond b (Some help_built) None) (either_false (104 == letter))

@@ -10,6 +10,7 @@ pub mod GivenRows
 pub mod LineReading
 pub mod Lines
 pub mod ListAnswers
+pub mod ListedBuckets
 pub mod LossAnswers
 pub mod NeededBytes
 pub mod Numbers

@@ -6,15 +6,16 @@ use Rattle.std.specs.Option.{option_map_or}
 use Rattle.std.specs.Str.{IsUtf8, bytes_eq, chars}
 use Rattle.std.proofs.lemmas.Bool.{and_parts, cases_Bool, eq-eqb, eqb-true, ltb-true}
 use Rattle.std.proofs.lemmas.Option.{slice_get_within}
-use Rattle.std.proofs.lemmas.Str.{encode_ascii}
+use Rattle.std.proofs.lemmas.Slice.Eq.{bytes_eq-Decides}
+use Rattle.std.proofs.lemmas.Str.{IsUtf8-past_char, encode_ascii}
 use Rattle.clap.specs.Lexer.{long_of, usize_max}
 use Rattle.clap.specs.Words.{Kinds, Row, Rule, Text}
-use Rattle.clap.specs.Walk.{Held, Outcome, Step, Waiting, Walk, after_flag, after_step, arg_by_id, arg_by_index, arg_by_long, arg_by_short, attached_value, bundle, bundle_met, bundle_step, done, flag_met, has_long, has_short, idle, is_pending, long_met, long_or_other, option, option_met, plain, positional, pushed, reacted, reading_by, settled, short_met, short_or_plain, to_positional, trailing, used, used_by_id, value, walked}
+use Rattle.clap.specs.Walk.{Held, Outcome, Step, Waiting, Walk, after_flag, after_step, arg_by_id, arg_by_index, arg_by_long, arg_by_short, attached_value, bundle, bundle_met, bundle_step, done, flag_met, has_long, has_short, idle, is_pending, long_met, long_or_other, option, option_met, plain, positional, pushed, reacted, reading_by, settled, short_met, short_or_plain, takes_values, to_positional, trailing, used, used_by_id, value, walked}
 use Rattle.clap.specs.Kinds.{or_else}
-use Rattle.clap.specs.Faults.{bundle_step_fault, flag_word_fault, flags_fault, long_fault, option_fault, repeat_fault, settle_fault, short_fault, step_fault, turn_fault, use_fault}
+use Rattle.clap.specs.Faults.{bundle_step_fault, flag_word_fault, flags_fault, long_fault, option_fault, react_fault, repeat_fault, settle_fault, short_fault, step_fault, turn_fault, use_fault}
 use Rattle.clap.specs.declared.builder.value_parser.Reading.{Reading}
-use Rattle.bolt_cli.specs.LineWords.{Choice, Flag, Known, Operand, Syntax, after, add, give, given_word, has, is_dashes, is_lettered, long, long_name, long_value, met_long, met_short, refuse, short, short_value, take_alone, take_next, take_option, take_with, take_word}
-use Rattle.bolt_cli.proofs.BuiltRules.{all_found, ascii_letters, by_long, by_short, few_operands, has_ascii, is_good, is_long, line_shape, long_or_valued, operand_built, operand_of, option_built, option_or_help, valued_letters}
+use Rattle.bolt_cli.specs.LineWords.{Choice, Flag, Known, Operand, Syntax, add, after, both, give, given_word, has, is_dashes, is_lettered, long, long_name, long_value, met_long, met_short, refuse, short, short_value, take_alone, take_next, take_option, take_with, take_word}
+use Rattle.bolt_cli.proofs.BuiltRules.{all_found, ascii_letters, by_long, by_short, few_operands, has_ascii, has_one_letter, has_only, is_good, line_shape, operand_built, operand_of, option_built, option_or_help, safe_letters, valued_or_only}
 use Rattle.bolt_cli.proofs.GivenRows.{Given, HasRows, rows_added, rows_more, rows_with}
 use Rattle.bolt_cli.proofs.Alike.{agrees_waiting}
 use Rattle.bolt_cli.proofs.WordSteps.{Agrees, IsAtRest, IsAwaited, IsFault, agrees_along, alone_once, alone_rows, agrees_refused, agrees_stop, bad_line, fault_first, fault_second, first_char, held, id_in, idle_word, known, long_by, long_in, new_use, old_use, one_hyphen, one_option, operand_fault, operand_settles, option_rows, option_takes, place_in, rules_in, short_by, short_flags, short_in, value_fault, walk_at}
@@ -329,6 +330,7 @@ SameLetters c y = (letter : ℕ) → letter < 128 → (letter == c) ≡ (letter 
 same_flag : (c y : ℕ) → SameLetters c y → (flag : Flag) → has_ascii flag ≡ true → is_lettered c flag ≡ is_lettered y flag
 same_flag c y same (long own) ascii = refl
 same_flag c y same (short letter) ascii = same letter (ltb-true letter 128 ascii)
+same_flag c y same (both letter word) ascii = same letter (ltb-true letter 128 ascii)
 
 same_option : (c y : ℕ) → SameLetters c y → (options : List Choice) → list_all (λ (o : Choice). has_ascii o.flag) options ≡ true → by_short c options ≡ by_short y options
 same_option c y same [] ascii = refl
@@ -339,12 +341,18 @@ same_option c y same (o ∷ options) ascii =
 letter_is : (y : ℕ) (flag : Flag) → has_ascii flag ≡ true → is_lettered y flag ≡ true → y < 128
 letter_is y (long own) ascii lettered = absurd (search rules)
 letter_is y (short letter) ascii lettered = let same = eqb-true letter y lettered in let small = ltb-true letter 128 ascii in omega (arith, same, small)
+letter_is y (both letter word) ascii lettered = let same = eqb-true letter y lettered in let small = ltb-true letter 128 ascii in omega (arith, same, small)
 
--- an option with a letter has a value
-letter_valued : (y : ℕ) (has_value : Bool) (flag : Flag) → is_lettered y flag ≡ true → (has_value || is_long flag) ≡ true → has_value ≡ true
-letter_valued y true flag lettered good = refl
-letter_valued y false (long own) lettered good = absurd (search (rules, lettered))
-letter_valued y false (short letter) lettered good = absurd (search (rules, good))
+-- the letter of a line that has no other
+the_letter : (letter : ℕ) (flag : Flag) → is_lettered letter flag ≡ true → (y : ℕ) → has_only y flag ≡ true → letter ≡ y
+the_letter letter (long own) lettered y only = absurd (search rules)
+the_letter letter (short own) lettered y only = sym (eqb-true own letter lettered) ∙ eqb-true own y only
+the_letter letter (both own word) lettered y only = sym (eqb-true own letter lettered) ∙ eqb-true own y only
+
+only_letter : (options : List Choice) (y : ℕ) (flag : Flag) → is_lettered y flag ≡ true → has_one_letter options flag ≡ true → list_all (λ (o : Choice). has_only y o.flag) options ≡ true
+only_letter options y (long own) lettered only = absurd (search (rules, lettered))
+only_letter options y (short letter) lettered only = subst (λ (l : ℕ). list_all (λ (o : Choice). has_only l o.flag) options ≡ true) (eqb-true letter y lettered) only
+only_letter options y (both letter word) lettered only = subst (λ (l : ℕ). list_all (λ (o : Choice). has_only l o.flag) options ≡ true) (eqb-true letter y lettered) only
 
 -- an option's letter is one byte
 one_byte : (c y : ℕ) → SameLetters c y → y < 128 → (ys : Text) → drop (length (encode_utf8 c)) (y ∷ ys) ≡ ys
@@ -366,27 +374,12 @@ attached_is (x ∷ xs) = elim (cases_Bool (x == 61)) [
 short_taken : (s : Syntax) (k : Known) (y : ℕ) (ys : Text) → (y == 45) ≡ false → take_word s (45 ∷ y ∷ ys) k ≡ take_option (met_short s.options y ys) k
 short_taken s k y ys apart = ap (λ b. if b && bytes_eq ys [] then record k { only_operands = true } else take_option (if b then met_long s.options ys else met_short s.options y ys) k) apart
 
-pub short_agrees : (s : Syntax) → is_good s ≡ true → (given : Given) (ahead : List Operand) (rows : List Row) (pending : Option (Text × List Text)) (d : ℕ) (y : ℕ) (ys : Text) (words : List Text)
-    → IsAtRest s given ahead rows pending d → LaterAgrees s words → (y == 45) ≡ false → IsUtf8 (y ∷ ys) → (found : Option Choice) → by_short y s.options ≡ found
+-- an option with a letter and a value
+letter_agrees : (s : Syntax) → is_good s ≡ true → (given : Given) (ahead : List Operand) (rows : List Row) (pending : Option (Text × List Text)) (d : ℕ) (y : ℕ) (ys : Text) (words : List Text)
+    → IsAtRest s given ahead rows pending d → LaterAgrees s words → (y == 45) ≡ false → IsUtf8 (y ∷ ys) → (o : Choice) → by_short y s.options ≡ Some o → o.has_value ≡ true
     → Agrees s (known given None ahead false) (walk_at rows pending idle (suc d) false) ((45 ∷ y ∷ ys) ∷ words)
 unfolding walked flags_fault bundle_met
-short_agrees s good given ahead rows pending d y ys words rest later apart text None none =
-    let word = 45 ∷ y ∷ ys in
-    let h = held rows pending in
-    let c = rules_in s in
-    let k = known given None ahead false in
-    let (char, chars_after, are, same) = first_char y ys text in
-    let found : arg_by_short c char ≡ option_or_help None (104 == char) =
-    short_in s good char ∙ ap (λ o. option_or_help o (104 == char)) (same_option char y same s.options (ascii_letters s good) ∙ none) in
-    let letters : IsFault (flags_fault c false (length (y ∷ ys)) (y ∷ ys) 0 h) =
-    subst (λ first. IsFault (bundle_step_fault c false first (y ∷ ys) 0 h (flags_fault c false (length ys)))) (sym (ap (λ (cs : List ℕ). slice_get cs 0) are))
-    (subst (λ a. IsFault (short_fault c false a (drop (length (encode_utf8 char)) (y ∷ ys)) h (flags_fault c false (length ys) (drop (length (encode_utf8 char)) (y ∷ ys)) 0))) (sym found)
-    (unknown_short c (104 == char) (drop (length (encode_utf8 char)) (y ∷ ys)) h _)) in
-    agrees_stop s k (walk_at rows pending idle (suc d) false) word words
-    (ap (λ (x : Known). x.is_refused) (short_taken s k y ys apart) ∙ ap (λ (o : Option Choice). (take_option (option_map (λ o. (o, short_value ys)) o) k).is_refused) none)
-    (subst IsFault (sym (idle_word s rows pending (suc d) word (ap (λ b. b && bytes_eq ys []) apart)))
-    (fault_first _ _ (subst IsFault (sym (short_flags c y ys rows pending apart)) letters)))
-short_agrees s good given ahead rows pending d y ys words rest later apart text (Some o) met =
+letter_agrees s good given ahead rows pending d y ys words rest later apart text o met valued =
     let word = 45 ∷ y ∷ ys in
     let h = held rows pending in
     let c = rules_in s in
@@ -400,7 +393,6 @@ short_agrees s good given ahead rows pending d y ys words rest later apart text 
     let lettered = found_passes (λ (o : Choice). is_lettered y o.flag) s.options o met in
     let ascii = letter_is y o.flag (all_found (λ (o : Choice). has_ascii o.flag) (λ (o : Choice). is_lettered y o.flag) s.options o (ascii_letters s good) met) lettered in
     let attached : attached_value (drop (length (encode_utf8 char)) (y ∷ ys)) ≡ v = ap attached_value (one_byte char y same ascii ys) ∙ attached_is ys in
-    let valued = letter_valued y o.has_value o.flag lettered (all_found long_or_valued (λ (o : Choice). is_lettered y o.flag) s.options o (valued_letters s good) met) in
     let takes = option_takes o.name o.flag o.has_value o.required ∙ valued in
     let after_letter = drop (length (encode_utf8 char)) (y ∷ ys) in
     let fault : flag_word_fault c false (long_of word) word h ≡ option_fault c false (option_built o) v h =
@@ -425,3 +417,143 @@ short_agrees s good given ahead rows pending d y ys words rest later apart text 
     ∙ ap (λ (met : Held × Step). after_step c word here met.0 met.1) reads in
     option_agrees s good given ahead rows pending d word words rest later o v valued (id_in s good (λ (a : Rule). not (is_some a.index) && has_short a char) (option_built o) found)
     (turn, moves) (short_taken s k y ys apart ∙ ap (λ (o : Option Choice). take_option (option_map (λ o. (o, v)) o) k) met ∙ ap (λ b. taken_as b o v k) valued)
+
+-- ---- a letter without a value
+
+given_again : (given : Given) (name : Text) → has (given ++ (name, given_word) ∷ []) name ≡ true
+given_again [] name = ap (λ (b : Bool). b || false) ((bytes_eq-Decides name name).1 refl)
+given_again (pair ∷ given) name = either_way (bytes_eq pair.0 name) (has (given ++ (name, given_word) ∷ []) name) (given_again given name)
+  where
+    either_way : (a b : Bool) → b ≡ true → (a || b) ≡ true
+    either_way true b t = refl
+    either_way false b t = t
+
+-- no other letter can follow it in its word
+second_letter : (s : Syntax) → is_good s ≡ true → (given : Given) (h : Held) (y z : ℕ) (zs : Text) (o : Choice) → HasRows (settled (rules_in s) h).rows given → IsUtf8 (z ∷ zs)
+    → by_short y s.options ≡ Some o → list_all (λ (p : Choice). has_only y p.flag) s.options ≡ true → o.has_value ≡ false
+    → IsFault (or_else (react_fault (rules_in s) false (option_built o) [] h) (flags_fault (rules_in s) false (length (z ∷ zs)) (z ∷ zs) 0 (reacted (rules_in s) (option_built o) [] h)))
+unfolding flags_fault
+second_letter s good given h y z zs o says text met only alone =
+    let c = rules_in s in
+    let before = settled c h in
+    let a = option_built o in
+    let h2 = reacted c a [] h in
+    let once = λ (rs : List Row). alone_once o.name o.flag o.has_value o.required alone rs in
+    elim (cases_Bool (has given o.name)) [
+      | inl old ↦ fault_first _ _ (fault_second (settle_fault c false h) _ (subst IsFault (sym (once before.rows)) (old_use before.rows given o.name says old)))
+      | inr new ↦
+          let more = given ++ (o.name, given_word) ∷ [] in
+          let there : HasRows h2.rows more = subst (λ (rs : List Row). HasRows rs more) (sym (alone_rows o.name o.flag o.has_value o.required alone before.rows)) (rows_added before.rows given o.name (reading_by a) given_word says new) in
+          let again : IsFault (use_fault false a [] h2.rows) = subst IsFault (sym (once h2.rows)) (old_use h2.rows more o.name there (given_again given o.name)) in
+          let (char, chars_after, are, same) = first_char z zs text in
+          let left = drop (length (encode_utf8 char)) (z ∷ zs) in
+          let next = flags_fault c false (length zs) left 0 in
+          let takes : takes_values a ≡ false = option_takes o.name o.flag o.has_value o.required ∙ alone in
+          let by : (found : Option Choice) → by_short char s.options ≡ found → IsFault (short_fault c false (arg_by_short c char) left h2 next) =
+          λ found. elim found [
+            | None ↦ λ none. subst (λ r. IsFault (short_fault c false r left h2 next)) (sym (short_in s good char ∙ ap (λ k. option_or_help k (104 == char)) none)) (unknown_short c (104 == char) left h2 next)
+            | Some other ↦ λ met2.
+                let lettered = found_passes (λ (p : Choice). is_lettered char p.flag) s.options other met2 in
+                let is = the_letter char other.flag lettered y (all_found (λ (p : Choice). has_only y p.flag) (λ (p : Choice). is_lettered char p.flag) s.options other only met2) in
+                let own : arg_by_short c char ≡ Some a = short_in s good char ∙ ap (λ (l : ℕ). option_or_help (by_short l s.options) (104 == char)) is ∙ ap (λ k. option_or_help k (104 == char)) met in
+                subst (λ r. IsFault (short_fault c false r left h2 next)) (sym own) (subst (λ (b : Bool). IsFault (short_by b c a left h2 next)) (sym takes) (fault_first _ _ (fault_second [] _ again)))
+          ] in
+          fault_second _ _ (subst (λ first. IsFault (bundle_step_fault c false first (z ∷ zs) 0 h2 (flags_fault c false (length zs)))) (sym (ap (λ (cs : List ℕ). slice_get cs 0) are)) (by (by_short char s.options) refl))
+    ]
+
+no_more : (kinds : Kinds) → or_else kinds [] ≡ kinds
+no_more [] = refl
+no_more (k ∷ ks) = refl
+
+lone_letter_agrees : (s : Syntax) → is_good s ≡ true → (given : Given) (ahead : List Operand) (rows : List Row) (pending : Option (Text × List Text)) (d : ℕ) (y : ℕ) (ys : Text) (words : List Text)
+    → IsAtRest s given ahead rows pending d → LaterAgrees s words → (y == 45) ≡ false → IsUtf8 (y ∷ ys) → (o : Choice) → by_short y s.options ≡ Some o → o.has_value ≡ false
+    → list_all (λ (p : Choice). has_only y p.flag) s.options ≡ true → y < 128
+    → Agrees s (known given None ahead false) (walk_at rows pending idle (suc d) false) ((45 ∷ y ∷ ys) ∷ words)
+unfolding walked flags_fault bundle_met
+lone_letter_agrees s good given ahead rows pending d y [] words rest later apart text o met alone only ascii =
+    let word = 45 ∷ y ∷ [] in
+    let h = held rows pending in
+    let c = rules_in s in
+    let a = option_built o in
+    let k = known given None ahead false in
+    let here = walk_at rows pending idle (suc d) false in
+    let (char, chars_after, are, same) = first_char y [] text in
+    let first : slice_get (chars (y ∷ [])) 0 ≡ Some char = ap (λ (cs : List ℕ). slice_get cs 0) are in
+    let found : arg_by_short c char ≡ Some a = short_in s good char ∙ ap (λ o. option_or_help o (104 == char)) (same_option char y same s.options (ascii_letters s good) ∙ met) in
+    let takes : takes_values a ≡ false = option_takes o.name o.flag o.has_value o.required ∙ alone in
+    let after_letter = drop (length (encode_utf8 char)) (y ∷ []) in
+    let fault : flag_word_fault c false (long_of word) word h ≡ react_fault c false a [] h =
+    short_flags c y [] rows pending apart
+    ∙ ap (λ first. bundle_step_fault c false first (y ∷ []) 0 h (flags_fault c false 0)) first
+    ∙ ap (λ a. short_fault c false a after_letter h (flags_fault c false 0 after_letter 0)) found
+    ∙ ap (λ b. short_by b c a after_letter h (flags_fault c false 0 after_letter 0)) takes
+    ∙ no_more (react_fault c false a [] h) in
+    let meets : bundle c (y ∷ []) h ≡ flag_met c a None h =
+    ap (λ first. bundle_step c first (y ∷ []) 0 plain h (bundle_met c 0)) first
+    ∙ ap (λ a. short_met c a after_letter h (bundle_met c 0 after_letter 0 done)) found
+    ∙ ap (λ b. if b then option_met c a (attached_value after_letter) h else bundle_met c 0 after_letter 0 done (reacted c a [] h)) takes in
+    let shape = one_hyphen y [] apart in
+    let reads : long_or_other c idle word (long_of word) h ≡ after_flag c idle word (reacted c a [] h) done =
+    ap (λ l. long_or_other c idle word l h) shape.0 ∙ ap (λ f. short_or_plain c idle word f h) shape.1
+    ∙ ap (λ (m : Held × Outcome). after_flag c idle word m.0 m.1) meets in
+    let other : is_dashes word ≡ false = ap (λ b. b && bytes_eq [] []) apart in
+    let turn = idle_word s rows pending (suc d) word other
+    ∙ ap₂ (λ (f : Kinds) (met : Held × Step). or_else f (step_fault (line_shape s) (suc d) met.0 met.1)) fault reads in
+    let moves = ap (λ b. let there = (if b then (h, trailing (suc d)) else long_or_other c idle word (long_of word) h) in after_step c word here there.0 there.1) other
+    ∙ ap (λ (met : Held × Step). after_step c word here met.0 met.1) reads in
+    alone_agrees s given ahead rows pending d word words rest later o None alone (turn, moves)
+    (short_taken s k y [] apart ∙ ap (λ (o : Option Choice). take_option (option_map (λ o. (o, None)) o) k) met ∙ ap (λ b. taken_as b o None k) alone)
+lone_letter_agrees s good given ahead rows pending d y (z ∷ zs) words rest later apart text o met alone only ascii =
+    let word = 45 ∷ y ∷ z ∷ zs in
+    let h = held rows pending in
+    let c = rules_in s in
+    let a = option_built o in
+    let k = known given None ahead false in
+    let v = short_value (z ∷ zs) in
+    let (char, chars_after, are, same) = first_char y (z ∷ zs) text in
+    let first : slice_get (chars (y ∷ z ∷ zs)) 0 ≡ Some char = ap (λ (cs : List ℕ). slice_get cs 0) are in
+    let found : arg_by_short c char ≡ Some a = short_in s good char ∙ ap (λ o. option_or_help o (104 == char)) (same_option char y same s.options (ascii_letters s good) ∙ met) in
+    let takes : takes_values a ≡ false = option_takes o.name o.flag o.has_value o.required ∙ alone in
+    let after_letter = drop (length (encode_utf8 char)) (y ∷ z ∷ zs) in
+    let letters : flag_word_fault c false (long_of word) word h ≡ or_else (react_fault c false a [] h) (flags_fault c false (length (z ∷ zs)) (z ∷ zs) 0 (reacted c a [] h)) =
+    short_flags c y (z ∷ zs) rows pending apart
+    ∙ ap (λ first. bundle_step_fault c false first (y ∷ z ∷ zs) 0 h (flags_fault c false (length (z ∷ zs)))) first
+    ∙ ap (λ a. short_fault c false a after_letter h (flags_fault c false (length (z ∷ zs)) after_letter 0)) found
+    ∙ ap (λ b. short_by b c a after_letter h (flags_fault c false (length (z ∷ zs)) after_letter 0)) takes
+    ∙ ap (λ (t : Text). or_else (react_fault c false a [] h) (flags_fault c false (length (z ∷ zs)) t 0 (reacted c a [] h))) (one_byte char y same ascii (z ∷ zs)) in
+    let behind : IsUtf8 (z ∷ zs) = IsUtf8-past_char (y ∷ z ∷ zs) (z ∷ zs) y text (ap (λ (e : Text). e ++ z ∷ zs) (sym (encode_ascii y ascii))) in
+    agrees_stop s k (walk_at rows pending idle (suc d) false) word words
+    (ap (λ (x : Known). x.is_refused) (short_taken s k y (z ∷ zs) apart ∙ ap (λ (o : Option Choice). take_option (option_map (λ o. (o, v)) o) k) met ∙ ap (λ b. taken_as b o v k) alone))
+    (subst IsFault (sym (idle_word s rows pending (suc d) word (ap (λ b. b && bytes_eq (z ∷ zs) []) apart)))
+    (fault_first _ _ (subst IsFault (sym letters) (second_letter s good given h y z zs o rest.has behind met only alone))))
+
+pub short_agrees : (s : Syntax) → is_good s ≡ true → (given : Given) (ahead : List Operand) (rows : List Row) (pending : Option (Text × List Text)) (d : ℕ) (y : ℕ) (ys : Text) (words : List Text)
+    → IsAtRest s given ahead rows pending d → LaterAgrees s words → (y == 45) ≡ false → IsUtf8 (y ∷ ys) → (found : Option Choice) → by_short y s.options ≡ found
+    → Agrees s (known given None ahead false) (walk_at rows pending idle (suc d) false) ((45 ∷ y ∷ ys) ∷ words)
+unfolding walked flags_fault bundle_met
+short_agrees s good given ahead rows pending d y ys words rest later apart text None none =
+    let word = 45 ∷ y ∷ ys in
+    let h = held rows pending in
+    let c = rules_in s in
+    let k = known given None ahead false in
+    let (char, chars_after, are, same) = first_char y ys text in
+    let found : arg_by_short c char ≡ option_or_help None (104 == char) =
+    short_in s good char ∙ ap (λ o. option_or_help o (104 == char)) (same_option char y same s.options (ascii_letters s good) ∙ none) in
+    let letters : IsFault (flags_fault c false (length (y ∷ ys)) (y ∷ ys) 0 h) =
+    subst (λ first. IsFault (bundle_step_fault c false first (y ∷ ys) 0 h (flags_fault c false (length ys)))) (sym (ap (λ (cs : List ℕ). slice_get cs 0) are))
+    (subst (λ a. IsFault (short_fault c false a (drop (length (encode_utf8 char)) (y ∷ ys)) h (flags_fault c false (length ys) (drop (length (encode_utf8 char)) (y ∷ ys)) 0))) (sym found)
+    (unknown_short c (104 == char) (drop (length (encode_utf8 char)) (y ∷ ys)) h _)) in
+    agrees_stop s k (walk_at rows pending idle (suc d) false) word words
+    (ap (λ (x : Known). x.is_refused) (short_taken s k y ys apart) ∙ ap (λ (o : Option Choice). (take_option (option_map (λ o. (o, short_value ys)) o) k).is_refused) none)
+    (subst IsFault (sym (idle_word s rows pending (suc d) word (ap (λ b. b && bytes_eq ys []) apart)))
+    (fault_first _ _ (subst IsFault (sym (short_flags c y ys rows pending apart)) letters)))
+short_agrees s good given ahead rows pending d y ys words rest later apart text (Some o) met =
+    let lettered = found_passes (λ (o : Choice). is_lettered y o.flag) s.options o met in
+    let ascii = letter_is y o.flag (all_found (λ (o : Choice). has_ascii o.flag) (λ (o : Choice). is_lettered y o.flag) s.options o (ascii_letters s good) met) lettered in
+    elim (cases_Bool o.has_value) [
+      | inl valued ↦ letter_agrees s good given ahead rows pending d y ys words rest later apart text o met valued
+      | inr alone ↦
+          let safe = all_found (valued_or_only s.options) (λ (o : Choice). is_lettered y o.flag) s.options o (safe_letters s good) met in
+          let one : has_one_letter s.options o.flag ≡ true = sym (ap (λ (b : Bool). b || has_one_letter s.options o.flag) alone) ∙ safe in
+          lone_letter_agrees s good given ahead rows pending d y ys words rest later apart text o met alone (only_letter s.options y o.flag lettered one) ascii
+    ]

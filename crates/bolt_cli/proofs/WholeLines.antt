@@ -14,7 +14,7 @@ use Rattle.clap.specs.Takes.{is_given}
 use Rattle.clap.specs.Kinds.{or_else}
 use Rattle.clap.specs.Faults.{check_fault, default_fault, defaults_fault, settle_fault, step_fault, turn_fault, use_fault, walk_fault}
 use Rattle.clap.specs.declared.error.ErrorKind.TheVariants as kind
-use Rattle.bolt_cli.specs.LineWords.{Choice, Flag, Operand, Syntax, after, give, has, is_dashes, is_option, long, long_name, refuse, short, start, take_next, take_operand, take_option, met}
+use Rattle.bolt_cli.specs.LineWords.{Choice, Flag, Operand, Syntax, after, both, give, has, is_dashes, is_option, long, long_name, met, refuse, short, start, take_next, take_operand, take_option}
 use Rattle.bolt_cli.proofs.BuiltRules.{by_long, by_short, choice_of, help_built, is_good, line_shape, operand_built, operand_of, operands_built, option_built, options_built}
 use Rattle.bolt_cli.proofs.GivenRows.{Given, HasRows, is_given-given}
 use Rattle.bolt_cli.proofs.WordSteps.{Agrees, IsAtRest, IsAwaited, IsFault, ReadsAs, agrees_along, agrees_dead, agrees_stop, bad_after_dashes, bad_flag, end_faults, faults_from, fault_first, held, idle_operand, known, no_dashes, no_word, option_cases, other_word, plain_value, rules_are, rules_in, walk_at}
@@ -26,6 +26,7 @@ one_value : (name : Text) (flag : Flag) (has_value required : Bool) → has_valu
 one_value name flag false required valued = absurd (search (rules, valued))
 one_value name (long own) true required valued = refl
 one_value name (short letter) true required valued = refl
+one_value name (both letter word) true required valued = refl
 
 abbrev after_value : Text → Text → Held → Bool → Bool → ℕ → Held × Step
 after_value name word h same more most = (
@@ -131,7 +132,9 @@ option_plain : (name : Text) (flag : Flag) (has_value required : Bool) (rows : L
 option_plain name (long own) true required rows = (either_way (has_row name rows) _, same_rows (has_row name rows) rows)
 option_plain name (long own) false required rows = (either_way (has_row name rows) _, same_rows (has_row name rows) rows)
 option_plain name (short letter) true required rows = (either_way (has_row name rows) _, same_rows (has_row name rows) rows)
+option_plain name (both letter word) true required rows = (either_way (has_row name rows) _, same_rows (has_row name rows) rows)
 option_plain name (short letter) false required rows = (either_way (has_row name rows) _, same_rows (has_row name rows) rows)
+option_plain name (both letter word) false required rows = (either_way (has_row name rows) _, same_rows (has_row name rows) rows)
 
 help_plain : (rows : List Row) → IsPlain rows help_built
 help_plain rows = (either_way (has_row (codes "help") rows) _, same_rows (has_row (codes "help") rows) rows)

@@ -14,7 +14,7 @@ use Rattle.clap.specs.Walk.{Held, Step, Waiting, Walk, arg_by_id, arg_by_index, 
 use Rattle.clap.specs.Kinds.{or_else}
 use Rattle.clap.specs.Faults.{bundle_fault, bundle_step_fault, check_fault, defaults_fault, flag_word_fault, flags_fault, long_fault, option_fault, other_fault, positional_fault, react_fault, repeat_fault, settle_fault, short_fault, step_fault, stray_fault, turn_fault, use_fault, walk_fault}
 use Rattle.clap.specs.declared.error.ErrorKind.TheVariants as kind
-use Rattle.bolt_cli.specs.LineWords.{Choice, Flag, Known, Operand, Syntax, after, given_word, has, is_complete, is_dashes, is_option, long, is_whole, long_name, long_value, short, take_by}
+use Rattle.bolt_cli.specs.LineWords.{Choice, Flag, Known, Operand, Syntax, after, both, given_word, has, is_complete, is_dashes, is_option, is_whole, long, long_name, long_value, short, take_by}
 use Rattle.bolt_cli.proofs.BuiltRules.{by_long, by_short, choice_of, differing_names, few_operands, found_by_name, is_good, line_shape, long_found, operand_built, operand_found, operands_filled, option_built, option_or_help, rules_built, short_found, takes_one_word}
 use Rattle.bolt_cli.proofs.GivenRows.{Given, HasRows, has_row-given, rows_with}
 
@@ -62,18 +62,22 @@ pub one_option : (name : Text) (flag : Flag) (has_value required : Bool) → has
 one_option name flag false required valued rows word = absurd (search (rules, valued))
 one_option name (long own) true required valued rows word = refl
 one_option name (short letter) true required valued rows word = refl
+one_option name (both letter word) true required valued rows word = refl
 
 pub no_word : (name : Text) (flag : Flag) (has_value required : Bool) → has_value ≡ true → (rows : List Row)
     → IsFault (use_fault false (option_built (choice_of name flag has_value required)) [] rows)
 no_word name flag false required valued rows = absurd (search (rules, valued))
 no_word name (long own) true required valued rows = tt
 no_word name (short letter) true required valued rows = tt
+no_word name (both letter word) true required valued rows = tt
 
 pub option_takes : (name : Text) (flag : Flag) (has_value required : Bool) → takes_values (option_built (choice_of name flag has_value required)) ≡ has_value
 option_takes name (long own) true required = refl
 option_takes name (long own) false required = refl
 option_takes name (short letter) true required = refl
+option_takes name (both letter word) true required = refl
 option_takes name (short letter) false required = refl
+option_takes name (both letter word) false required = refl
 
 -- an option without a value
 pub alone_once : (name : Text) (flag : Flag) (has_value required : Bool) → has_value ≡ false → (rows : List Row)
@@ -81,6 +85,7 @@ pub alone_once : (name : Text) (flag : Flag) (has_value required : Bool) → has
 alone_once name flag true required alone rows = absurd (search (rules, alone))
 alone_once name (long own) false required alone rows = refl
 alone_once name (short letter) false required alone rows = refl
+alone_once name (both letter word) false required alone rows = refl
 
 abbrev conflict_if : Bool → Kinds
 conflict_if again = or_else (if again && true then kind.ArgumentConflict ∷ [] else []) []
@@ -96,12 +101,14 @@ pub option_rows : (name : Text) (flag : Flag) (has_value required : Bool) → ha
 option_rows name flag false required valued rows word = absurd (search (rules, valued))
 option_rows name (long own) true required valued rows word = refl
 option_rows name (short letter) true required valued rows word = refl
+option_rows name (both letter word) true required valued rows word = refl
 
 pub alone_rows : (name : Text) (flag : Flag) (has_value required : Bool) → has_value ≡ false → (rows : List Row)
     → used (option_built (choice_of name flag has_value required)) [] rows ≡ rows_with name (reading_by (option_built (choice_of name flag has_value required))) given_word rows
 alone_rows name flag true required alone rows = absurd (search (rules, alone))
 alone_rows name (long own) false required alone rows = refl
 alone_rows name (short letter) false required alone rows = refl
+alone_rows name (both letter word) false required alone rows = refl
 
 -- ---- states
 

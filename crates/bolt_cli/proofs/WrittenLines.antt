@@ -5,28 +5,30 @@ use Rattle.std.specs.Fmt.{decimal}
 use Rattle.std.specs.Option.{option_or}
 use Rattle.std.specs.Str.{bytes_eq}
 use Rattle.std.proofs.lemmas.Fmt.{decimal_nonempty, digits_decimal, digits_value-decimal}
-use Rattle.hex.specs.Hex.{IsBytes}
+use Rattle.hex.specs.Hex.{IsBytes, encode_lower}
 use Rattle.bolt_check.specs.Keys.{Key}
 use Rattle.bolt_tree.specs.Paths.{Path}
 use Rattle.bolt_format.specs.declared.meta.Slot.{Slot}
 use Rattle.bolt_format.specs.declared.meta.Slot.TheVariants.{One, Zero}
-use Rattle.bolt_layout.specs.declared.layout.Layout.{Layout}
-use Rattle.bolt_layout.specs.declared.layout.Layout.TheVariants.{Balanced, Plain}
 use Rattle.bolt_report.specs.declared.form.Form.{Form}
 use Rattle.bolt_report.specs.declared.form.Form.TheVariants as form
+use Rattle.bolt_report.specs.declared.form.ListForm.{ListForm}
+use Rattle.bolt_report.specs.declared.form.ListForm.TheVariants as list_form
 use Rattle.bolt_cli.specs.CommandLine.{IsRefusalOf}
+use Rattle.bolt_cli.specs.declared.copy_kind.CopyKind.{CopyKind}
+use Rattle.bolt_cli.specs.declared.copy_kind.CopyKind.TheVariants as kind
 use Rattle.bolt_cli.specs.declared.job.Job.{Job}
 use Rattle.bolt_cli.specs.declared.words.Refusal.{Refusal}
 use Rattle.bolt_cli.specs.declared.words.Refusal.TheVariants.{Memory, Help, Version, Usage, Word}
 use Rattle.bolt_cli.specs.LineWords.{Choice, Operand, Syntax, Text, after, given_word, has, is_complete, known_after, values_of}
 use Rattle.bolt_cli.specs.PathWords.{hex_path_by}
-use Rattle.bolt_cli.specs.PlainWords.{Asked, IsInRange, IsPart, IsSize, Reading, Setting, buckets_line, check_line, compact_line, get_line, info_line, keys_line, list_line, pages_line, stats_line, asked, asked_of, asks, buckets, check, compact, file_operand, first_of, form_of, form_word, from_word, get, info, is_balanced, is_given, keys, layout_by, line_of, list, page, page_size_by, pages, part_operand, reading_in, reading_of, refused, settings, settings_words, slot_by, slot_word, stats, unread, words_for}
+use Rattle.bolt_cli.specs.PlainWords.{Asked, IsInRange, IsPart, IsSize, Reading, Setting, buckets_line, check_line, compact_line, get_line, info_line, keys_line, list_line, pages_line, stats_line, asked, asked_of, asks, buckets, check, compact, file_operand, first_of, form_of, form_word, from_word, copy_kind_by, get, info, is_for_bbolt, is_given, is_snapshot, keys, line_of, list, list_form_of, list_form_word, page, page_size_by, pages, part_operand, reading_in, reading_of, refused, settings, settings_words, slot_by, slot_word, stats, unread, words_for}
 use Rattle.bolt_cli.proofs.GivenRows.{Given, has-first}
 use Rattle.bolt_cli.proofs.LineReading.{new_name}
 use Rattle.bolt_cli.proofs.Numbers.{decimal_numerals, good_number, size_written}
 use Rattle.bolt_cli.proofs.SettingLemmas.{AreApart, AreOptions, IsUnnamed, rest_found, setting_found, settings_given, settings_taken, value_in}
 use Rattle.bolt_cli.proofs.WordSteps.{known}
-use Rattle.bolt_cli.proofs.WrittenPaths.{hex_words, parts_read, word_read}
+use Rattle.bolt_cli.proofs.WrittenPaths.{hex_words, part_read, parts_read, word_read}
 
 -- ---- one value
 
@@ -50,9 +52,14 @@ given_read : (given : Bool) → is_given (if given then Some given_word else Non
 given_read false = refl
 given_read true = refl
 
-layout_read : (which : Layout) → layout_by (if is_balanced which then Some given_word else None) ≡ which
-layout_read Plain = refl
-layout_read Balanced = refl
+kind_read : (which : CopyKind) → copy_kind_by (if is_for_bbolt which then Some given_word else None) (if is_snapshot which then Some given_word else None) ≡ which
+kind_read kind.Plain = refl
+kind_read kind.ForBbolt = refl
+kind_read kind.EtcdSnapshot = refl
+
+list_form_read : (form : ListForm) → list_form_of (list_form_word form) ≡ Ok form
+list_form_read list_form.Hex = refl
+list_form_read list_form.Json = refl
 
 from_read : (path : Path) → All IsPart path → hex_path_by (from_word path) ≡ Ok path
 from_read [] parts = refl
@@ -154,15 +161,16 @@ info_read file slot =
     (rw (file_given ss file [] refl) refl)
     (rw (file_found ss file [] refl, meta, slot_read slot) refl)
 
-check_read : (file : Text) (slot : Option Slot) (all : Bool) → line_of (words_for [] (check file slot all)) ≡ asks (check file slot all)
-check_read file slot all =
-    let ss = settings (check file slot all) in
+check_read : (file : Text) (slot : Option Slot) (all snapshot : Bool) → line_of (words_for [] (check file slot all snapshot)) ≡ asks (check file slot all snapshot)
+check_read file slot all snapshot =
+    let ss = settings (check file slot all snapshot) in
     let given = line_given ss file [] in
     let meta : first_of (values_of given (codes "meta")) ≡ option_map slot_word slot = option_found ss file [] (codes "meta") refl refl ∙ or_none (option_map slot_word slot) in
     let flag : first_of (values_of given (codes "all")) ≡ (if all then Some given_word else None) = option_found ss file [] (codes "all") refl refl ∙ or_none _ in
-    line_read (codes "check") [] check_line.options ss file (check file slot all) (λ g a v. refl, (λ g a. refl, tt)) ((refl, tt), (tt, tt)) refl
+    let hash : first_of (values_of given (codes "etcd-snapshot")) ≡ (if snapshot then Some given_word else None) = option_found ss file [] (codes "etcd-snapshot") refl refl ∙ or_none _ in
+    line_read (codes "check") [] check_line.options ss file (check file slot all snapshot) (λ g a v. refl, (λ g a. refl, (λ g a. refl, tt))) ((refl, (refl, tt)), ((refl, tt), (tt, tt))) refl
     (rw (file_given ss file [] refl) refl)
-    (rw (file_found ss file [] refl, meta, flag, slot_read slot, given_read all) refl)
+    (rw (file_found ss file [] refl, meta, flag, hash, slot_read slot, given_read all, given_read snapshot) refl)
 
 pages_read : (file : Text) (as_map : Bool) → line_of (words_for [] (pages file as_map)) ≡ asks (pages file as_map)
 pages_read file as_map =
@@ -173,18 +181,20 @@ pages_read file as_map =
     (rw (file_given ss file [] refl) refl)
     (rw (file_found ss file [] refl, flag, given_read as_map) refl)
 
-buckets_read : (file : Text) (slot : Option Slot) (path : Path) (form : Form) → All IsBytes path → line_of (words_for [] (buckets file slot path form)) ≡ asks (buckets file slot path form)
-buckets_read file slot path form bytes =
-    let ss = settings (buckets file slot path form) in
+buckets_read : (file : Text) (slot : Option Slot) (path : Path) (form : Form) (sizes : Bool) → All IsBytes path → line_of (words_for [] (buckets file slot path form sizes)) ≡ asks (buckets file slot path form sizes)
+buckets_read file slot path form sizes bytes =
+    let ss = settings (buckets file slot path form sizes) in
     let words = hex_words path in
     let given = line_given ss file words in
     let meta : first_of (values_of given (codes "meta")) ≡ option_map slot_word slot = option_found ss file words (codes "meta") refl refl ∙ or_none (option_map slot_word slot) in
     let shown : first_of (values_of given (codes "form")) ≡ Some (form_word form) = option_found ss file words (codes "form") refl refl in
     let how : first_of (values_of given (codes "parts")) ≡ Some (codes "hex") = option_found ss file words (codes "parts") refl refl in
-    let parts : values_of given (codes "PART") ≡ words = parts_found ss file words (refl, (refl, (refl, tt))) in
-    path_read (codes "buckets") false buckets_line.options ss file words (buckets file slot path form) (λ g a v. refl, (λ g a v. refl, (λ g a v. refl, tt))) ((refl, (refl, tt)), ((refl, tt), (tt, tt))) refl
+    let flag : first_of (values_of given (codes "sizes")) ≡ (if sizes then Some given_word else None) = option_found ss file words (codes "sizes") refl refl ∙ or_none _ in
+    let parts : values_of given (codes "PART") ≡ words = parts_found ss file words (refl, (refl, (refl, (refl, tt)))) in
+    path_read (codes "buckets") false buckets_line.options ss file words (buckets file slot path form sizes) (λ g a v. refl, (λ g a v. refl, (λ g a v. refl, (λ g a. refl, tt))))
+    ((refl, (refl, (refl, tt))), ((refl, (refl, tt)), ((refl, tt), (tt, tt)))) refl
     (rw (file_given ss file words refl) refl)
-    (rw (file_found ss file words refl, meta, shown, how, parts, slot_read slot, form_read form, parts_read path bytes) refl)
+    (rw (file_found ss file words refl, meta, shown, how, flag, parts, slot_read slot, form_read form, parts_read path bytes, given_read sizes) refl)
 
 stats_read : (file : Text) (slot : Option Slot) (path : Path) → All IsBytes path → line_of (words_for [] (stats file slot path)) ≡ asks (stats file slot path)
 stats_read file slot path bytes =
@@ -198,18 +208,24 @@ stats_read file slot path bytes =
     (rw (file_given ss file words refl) refl)
     (rw (file_found ss file words refl, meta, how, parts, slot_read slot, parts_read path bytes) refl)
 
-list_read : (file : Text) (slot : Option Slot) (from : Path) (recover : Bool) → All IsPart from → line_of (words_for [] (list file slot from recover)) ≡ asks (list file slot from recover)
-list_read file slot from recover parts =
-    let ss = settings (list file slot from recover) in
-    let given = line_given ss file [] in
-    let meta : first_of (values_of given (codes "meta")) ≡ option_map slot_word slot = option_found ss file [] (codes "meta") refl refl ∙ or_none (option_map slot_word slot) in
-    let start : first_of (values_of given (codes "from")) ≡ from_word from = option_found ss file [] (codes "from") refl refl ∙ or_none (from_word from) in
-    let flag : first_of (values_of given (codes "recover")) ≡ (if recover then Some given_word else None) = option_found ss file [] (codes "recover") refl refl ∙ or_none _ in
-    line_read (codes "list") [] list_line.options ss file (list file slot from recover) (λ g a v. refl, (λ g a v. refl, (λ g a. refl, tt))) ((refl, (refl, tt)), ((refl, tt), (tt, tt))) refl
-    (rw (file_given ss file [] refl) refl)
-    (rw (file_found ss file [] refl, meta, start, flag, slot_read slot, from_read from parts, given_read recover) refl)
+list_read : (file : Text) (slot : Option Slot) (form : ListForm) (path from : Path) (recover : Bool) → All IsBytes path → All IsPart from
+    → line_of (words_for [] (list file slot form path from recover)) ≡ asks (list file slot form path from recover)
+list_read file slot form path from recover bytes start_parts =
+    let ss = settings (list file slot form path from recover) in
+    let words = hex_words path in
+    let given = line_given ss file words in
+    let meta : first_of (values_of given (codes "meta")) ≡ option_map slot_word slot = option_found ss file words (codes "meta") refl refl ∙ or_none (option_map slot_word slot) in
+    let shown : first_of (values_of given (codes "form")) ≡ Some (list_form_word form) = option_found ss file words (codes "form") refl refl in
+    let how : first_of (values_of given (codes "parts")) ≡ Some (codes "hex") = option_found ss file words (codes "parts") refl refl in
+    let start : first_of (values_of given (codes "from")) ≡ from_word from = option_found ss file words (codes "from") refl refl ∙ or_none (from_word from) in
+    let flag : first_of (values_of given (codes "recover")) ≡ (if recover then Some given_word else None) = option_found ss file words (codes "recover") refl refl ∙ or_none _ in
+    let parts : values_of given (codes "PART") ≡ words = parts_found ss file words (refl, (refl, (refl, (refl, (refl, tt))))) in
+    path_read (codes "list") false list_line.options ss file words (list file slot form path from recover) (λ g a v. refl, (λ g a v. refl, (λ g a v. refl, (λ g a v. refl, (λ g a. refl, tt)))))
+    ((refl, (refl, (refl, (refl, tt)))), ((refl, (refl, (refl, tt))), ((refl, (refl, tt)), ((refl, tt), (tt, tt))))) refl
+    (rw (file_given ss file words refl) refl)
+    (rw (file_found ss file words refl, meta, shown, how, start, flag, parts, slot_read slot, list_form_read form, parts_read path bytes, from_read from start_parts, given_read recover) refl)
 
-compact_read : (file : Text) (slot : Option Slot) (target : Text) (size : Option ℕ) (which : Layout) (recover : Bool) → IsSize size
+compact_read : (file : Text) (slot : Option Slot) (target : Text) (size : Option ℕ) (which : CopyKind) (recover : Bool) → IsSize size
     → line_of (words_for [] (compact file slot target size which recover)) ≡ asks (compact file slot target size which recover)
 compact_read file slot target size which recover accepted =
     let ss = settings (compact file slot target size which recover) in
@@ -217,41 +233,46 @@ compact_read file slot target size which recover accepted =
     let out : first_of (values_of given (codes "output")) ≡ Some target = option_found ss file [] (codes "output") refl refl in
     let meta : first_of (values_of given (codes "meta")) ≡ option_map slot_word slot = option_found ss file [] (codes "meta") refl refl ∙ or_none (option_map slot_word slot) in
     let sizes : first_of (values_of given (codes "page-size")) ≡ option_map decimal size = option_found ss file [] (codes "page-size") refl refl ∙ or_none (option_map decimal size) in
-    let balanced : first_of (values_of given (codes "for-bbolt")) ≡ (if is_balanced which then Some given_word else None) = option_found ss file [] (codes "for-bbolt") refl refl ∙ or_none _ in
+    let balanced : first_of (values_of given (codes "for-bbolt")) ≡ (if is_for_bbolt which then Some given_word else None) = option_found ss file [] (codes "for-bbolt") refl refl ∙ or_none _ in
+    let hash : first_of (values_of given (codes "etcd-snapshot")) ≡ (if is_snapshot which then Some given_word else None) = option_found ss file [] (codes "etcd-snapshot") refl refl ∙ or_none _ in
     let flag : first_of (values_of given (codes "recover")) ≡ (if recover then Some given_word else None) = option_found ss file [] (codes "recover") refl refl ∙ or_none _ in
     line_read (codes "compact") [] compact_line.options ss file (compact file slot target size which recover)
-    (λ g a v. refl, (λ g a v. refl, (λ g a v. refl, (λ g a. refl, (λ g a. refl, tt)))))
-    ((refl, (refl, (refl, (refl, tt)))), ((refl, (refl, (refl, tt))), ((refl, (refl, tt)), ((refl, tt), (tt, tt))))) refl
+    (λ g a v. refl, (λ g a v. refl, (λ g a v. refl, (λ g a. refl, (λ g a. refl, (λ g a. refl, tt))))))
+    ((refl, (refl, (refl, (refl, (refl, tt))))), ((refl, (refl, (refl, (refl, tt)))), ((refl, (refl, (refl, tt))), ((refl, (refl, tt)), ((refl, tt), (tt, tt)))))) refl
     (rw (file_given ss file [] refl, has-first given (codes "output") ∙ ap is_some out) refl)
-    (rw (file_found ss file [] refl, meta, sizes, balanced, flag, slot_read slot, size_read size accepted, layout_read which, given_read recover) refl)
+    (rw (file_found ss file [] refl, meta, sizes, balanced, hash, flag, slot_read slot, size_read size accepted, kind_read which, given_read recover) refl)
 
--- `keys` and `get`
-module _ (file : Text) (slot : Option Slot) (part : Key) (path : Path) (form : Form) (bytes : All IsBytes (part ∷ path)) where
-  keys_read : line_of (words_for [] (keys file slot (part ∷ path) form)) ≡ asks (keys file slot (part ∷ path) form)
-  keys_read =
-      let ss = settings (keys file slot (part ∷ path) form) in
-      let words = hex_words (part ∷ path) in
-      let given = line_given ss file words in
-      let meta : first_of (values_of given (codes "meta")) ≡ option_map slot_word slot = option_found ss file words (codes "meta") refl refl ∙ or_none (option_map slot_word slot) in
-      let shown : first_of (values_of given (codes "form")) ≡ Some (form_word form) = option_found ss file words (codes "form") refl refl in
-      let how : first_of (values_of given (codes "parts")) ≡ Some (codes "hex") = option_found ss file words (codes "parts") refl refl in
-      let parts : values_of given (codes "PART") ≡ words = parts_found ss file words (refl, (refl, (refl, tt))) in
-      path_read (codes "keys") true keys_line.options ss file words (keys file slot (part ∷ path) form) (λ g a v. refl, (λ g a v. refl, (λ g a v. refl, tt))) ((refl, (refl, tt)), ((refl, tt), (tt, tt))) refl
-      (rw (file_given ss file words refl, has-first given (codes "PART") ∙ ap (λ (ws : List Text). is_some (first_of ws)) parts) refl)
-      (rw (file_found ss file words refl, meta, shown, how, parts, slot_read slot, form_read form, parts_read (part ∷ path) bytes) refl)
+keys_read : (file : Text) (slot : Option Slot) (part : Key) (path : Path) (prefix : Key) (form : Form) → All IsBytes (part ∷ path) → IsBytes prefix
+    → line_of (words_for [] (keys file slot (part ∷ path) prefix form)) ≡ asks (keys file slot (part ∷ path) prefix form)
+keys_read file slot part path prefix form bytes prefix_bytes =
+    let ss = settings (keys file slot (part ∷ path) prefix form) in
+    let words = hex_words (part ∷ path) in
+    let given = line_given ss file words in
+    let meta : first_of (values_of given (codes "meta")) ≡ option_map slot_word slot = option_found ss file words (codes "meta") refl refl ∙ or_none (option_map slot_word slot) in
+    let shown : first_of (values_of given (codes "form")) ≡ Some (form_word form) = option_found ss file words (codes "form") refl refl in
+    let how : first_of (values_of given (codes "parts")) ≡ Some (codes "hex") = option_found ss file words (codes "parts") refl refl in
+    let begun : first_of (values_of given (codes "prefix")) ≡ Some (encode_lower prefix) = option_found ss file words (codes "prefix") refl refl in
+    let parts : values_of given (codes "PART") ≡ words = parts_found ss file words (refl, (refl, (refl, (refl, tt)))) in
+    path_read (codes "keys") true keys_line.options ss file words (keys file slot (part ∷ path) prefix form) (λ g a v. refl, (λ g a v. refl, (λ g a v. refl, (λ g a v. refl, tt))))
+    ((refl, (refl, (refl, tt))), ((refl, (refl, tt)), ((refl, tt), (tt, tt)))) refl
+    (rw (file_given ss file words refl, has-first given (codes "PART") ∙ ap (λ (ws : List Text). is_some (first_of ws)) parts) refl)
+    (rw (file_found ss file words refl, meta, shown, how, begun, parts, slot_read slot, form_read form, parts_read (part ∷ path) bytes, part_read prefix prefix_bytes) refl)
 
-  get_read : line_of (words_for [] (get file slot (part ∷ path) form)) ≡ asks (get file slot (part ∷ path) form)
-  get_read =
-      let ss = settings (get file slot (part ∷ path) form) in
-      let words = hex_words (part ∷ path) in
-      let given = line_given ss file words in
-      let meta : first_of (values_of given (codes "meta")) ≡ option_map slot_word slot = option_found ss file words (codes "meta") refl refl ∙ or_none (option_map slot_word slot) in
-      let shown : first_of (values_of given (codes "form")) ≡ Some (form_word form) = option_found ss file words (codes "form") refl refl in
-      let how : first_of (values_of given (codes "parts")) ≡ Some (codes "hex") = option_found ss file words (codes "parts") refl refl in
-      let parts : values_of given (codes "PART") ≡ words = parts_found ss file words (refl, (refl, (refl, tt))) in
-      path_read (codes "get") true get_line.options ss file words (get file slot (part ∷ path) form) (λ g a v. refl, (λ g a v. refl, (λ g a v. refl, tt))) ((refl, (refl, tt)), ((refl, tt), (tt, tt))) refl
-      (rw (file_given ss file words refl, has-first given (codes "PART") ∙ ap (λ (ws : List Text). is_some (first_of ws)) parts) refl)
-      (rw (file_found ss file words refl, meta, shown, how, parts, slot_read slot, form_read form, parts_read (part ∷ path) bytes) refl)
+get_read : (file : Text) (slot : Option Slot) (part : Key) (path : Path) (form : Form) (no_newline : Bool) → All IsBytes (part ∷ path)
+    → line_of (words_for [] (get file slot (part ∷ path) form no_newline)) ≡ asks (get file slot (part ∷ path) form no_newline)
+get_read file slot part path form no_newline bytes =
+    let ss = settings (get file slot (part ∷ path) form no_newline) in
+    let words = hex_words (part ∷ path) in
+    let given = line_given ss file words in
+    let meta : first_of (values_of given (codes "meta")) ≡ option_map slot_word slot = option_found ss file words (codes "meta") refl refl ∙ or_none (option_map slot_word slot) in
+    let shown : first_of (values_of given (codes "form")) ≡ Some (form_word form) = option_found ss file words (codes "form") refl refl in
+    let how : first_of (values_of given (codes "parts")) ≡ Some (codes "hex") = option_found ss file words (codes "parts") refl refl in
+    let flag : first_of (values_of given (codes "no-newline")) ≡ (if no_newline then Some given_word else None) = option_found ss file words (codes "no-newline") refl refl ∙ or_none _ in
+    let parts : values_of given (codes "PART") ≡ words = parts_found ss file words (refl, (refl, (refl, (refl, tt)))) in
+    path_read (codes "get") true get_line.options ss file words (get file slot (part ∷ path) form no_newline) (λ g a v. refl, (λ g a v. refl, (λ g a v. refl, (λ g a. refl, tt))))
+    ((refl, (refl, (refl, tt))), ((refl, (refl, tt)), ((refl, tt), (tt, tt)))) refl
+    (rw (file_given ss file words refl, has-first given (codes "PART") ∙ ap (λ (ws : List Text). is_some (first_of ws)) parts) refl)
+    (rw (file_found ss file words refl, meta, shown, how, flag, parts, slot_read slot, form_read form, parts_read (part ∷ path) bytes, given_read no_newline) refl)
 
 line_of-words_for : (name : Text) (wanted : Asked) → IsInRange wanted → line_of (words_for name wanted) ≡ asks wanted
 line_of-words_for name (info file slot) in_range = info_read file slot
@@ -261,14 +282,14 @@ line_of-words_for name (page file id) in_range =
     (let Fits : ℕ → Type 0 = λ n. n < 2 ^ 64 in subst Fits (sym value) in_range) in
     rw (good, value) refl
 line_of-words_for name (pages file as_map) in_range = pages_read file as_map
-line_of-words_for name (check file slot all) in_range = check_read file slot all
-line_of-words_for name (buckets file slot path form) in_range = buckets_read file slot path form in_range
-line_of-words_for name (keys file slot [] form) in_range = absurd in_range
-line_of-words_for name (keys file slot (part ∷ path) form) in_range = keys_read file slot part path form in_range
-line_of-words_for name (get file slot [] form) in_range = absurd in_range
-line_of-words_for name (get file slot (part ∷ path) form) in_range = get_read file slot part path form in_range
+line_of-words_for name (check file slot all snapshot) in_range = check_read file slot all snapshot
+line_of-words_for name (buckets file slot path form sizes) in_range = buckets_read file slot path form sizes in_range
+line_of-words_for name (keys file slot [] prefix form) in_range = absurd in_range.0
+line_of-words_for name (keys file slot (part ∷ path) prefix form) in_range = keys_read file slot part path prefix form in_range.0 in_range.1
+line_of-words_for name (get file slot [] form no_newline) in_range = absurd in_range
+line_of-words_for name (get file slot (part ∷ path) form no_newline) in_range = get_read file slot part path form no_newline in_range
 line_of-words_for name (stats file slot path) in_range = stats_read file slot path in_range
-line_of-words_for name (list file slot from recover) in_range = list_read file slot from recover in_range
+line_of-words_for name (list file slot form path from recover) in_range = list_read file slot form path from recover in_range.0 in_range.1
 line_of-words_for name (compact file slot target size which recover) in_range = compact_read file slot target size which recover in_range
 
 abbrev asked_in : Asked → Reading → Asked

@@ -18,6 +18,9 @@ use Rattle.bolt_cli.proofs.PathReading.{path_cut}
 abbrev pub hex_words : Path → List Text
 hex_words path = map encode_lower path
 
+pub part_read : (part : Key) → IsBytes part → part_of parts.Hex (encode_lower part) ≡ Ok part
+part_read part bytes = ap or_bad_hex (decode_of-encode_lower part bytes)
+
 pub parts_read : (path : Path) → All IsBytes path → each_part (part_of parts.Hex) (hex_words path) ≡ Ok path
 parts_read [] bytes = refl
 parts_read (part ∷ path) bytes =

@@ -1,5 +1,5 @@
 -- What the program answers to each command, and what its sinks accept: docs/COMMANDS.md, "What a run writes".
-use Rattle.std.specs.Prelude.{◌≡◌, ◌<◌, ◌≤◌, ◌-◌, ◌⊎◌, ℕ, List, [], ◌∷◌, ◌++◌, Bool, true, false, codes, decimal, length, take, Option, Some, None, Result, Ok, Err}
+use Rattle.std.specs.Prelude.{◌≡◌, ◌<◌, ◌≤◌, ◌-◌, ◌⊎◌, ℕ, List, [], ◌∷◌, ◌++◌, Bool, true, false, codes, decimal, length, take, Option, Some, None, Result, Ok, Err, if◌then◌else◌}
 use Rattle.std.specs.Io.KnownBytes.{Appends, Keeps}
 use Rattle.bolt_bulk.specs.Compacting.{too_many}
 use Rattle.bolt_layout.specs.Copies.{layout_of_listing}
@@ -20,22 +20,27 @@ use Rattle.bolt_recover.specs.Losses.{AreLosses, LossView}
 use Rattle.bolt_recover.specs.Recovered.{IsRecovered}
 use Rattle.bolt_recover.specs.Refusals.{IsSlotUnrecoverable, IsUnrecoverable, KeepsRoot}
 use Rattle.bolt_report.specs.FaultWords.{findings_text}
-use Rattle.bolt_report.specs.Forms.{value_text}
+use Rattle.bolt_report.specs.Forms.{shown_as, value_text}
 use Rattle.bolt_report.specs.Figures.{add_stats, stats_text}
-use Rattle.bolt_report.specs.KeyLines.{buckets_text, keys_text}
-use Rattle.bolt_report.specs.ListLines.{listing_text}
+use Rattle.bolt_report.specs.KeyLines.{buckets_text}
+use Rattle.bolt_report.specs.KeyPrefixes.{beginning_text}
+use Rattle.bolt_report.specs.ListForms.{listing_lines}
 use Rattle.bolt_report.specs.LossLines.{all_lost_text, counted_losses_text, losses_text}
 use Rattle.bolt_report.specs.MetaLines.{info_text}
 use Rattle.bolt_report.specs.PageMaps.{map_text}
 use Rattle.bolt_report.specs.PageTables.{pages_text}
 use Rattle.bolt_report.specs.PageTexts.{page_text, page_text_fault}
+use Rattle.bolt_report.specs.SizeLines.{AreSized, Sized, sizes_text}
 use Rattle.bolt_report.specs.StatsOf.{IsStatsOf}
 use Rattle.bolt_report.specs.declared.figures.Stats.{Stats}
 use Rattle.bolt_report.specs.declared.form.Form.{Form}
 use Rattle.bolt_report.specs.declared.form.Form.TheVariants.{Json}
+use Rattle.bolt_report.specs.declared.form.ListForm.{ListForm}
 use Rattle.bolt_tree.specs.Entries.{AreEntries, IsEntry, Item, Root_page, Start, Value, start_of}
 use Rattle.bolt_tree.specs.Listing.{IsListing, Member, rest_from}
+use Rattle.bolt_tree.specs.ListingParts.{bucket_part, has_bucket}
 use Rattle.bolt_tree.specs.Paths.{Holds, Names, Path}
+use Rattle.bolt_cli.specs.CopyKinds.{layout_for}
 use Rattle.bolt_cli.specs.Failures.{IsToldAs, failure_line}
 use Rattle.bolt_cli.specs.declared.failure.Failure.{Failure}
 use Rattle.bolt_cli.specs.declared.failure.Failure.TheVariants as failure
@@ -137,15 +142,42 @@ HoldsNone file path meta reason =
     ((reason ≡ failure.NoKey) × ((value : List ℕ) → HoldsIn file meta path (Value value) → ⊥) × ((bucket : Start) × ∥ LeadsTo file meta (parents_of path) bucket ∥₁))
     ⊎ ((reason ≡ failure.NoBucket) × ((bucket : Start) → LeadsTo file meta (parents_of path) bucket → ⊥))
 
+-- a value in a form, with a line feed or without one
+abbrev pub value_shown : (no_newline : Bool) → Form → List ℕ → List ℕ
+value_shown false form value = value_text form value
+value_shown true form value = shown_as form value
+
 -- the value that the path holds; or why it holds none
-abbrev pub IsGetAnswer : List ℕ → Path → Form → Meta → Answer → Type 0
-IsGetAnswer file path form meta answer =
-    ((value : List ℕ) × HoldsIn file meta path (Value value) × IsShownText form (value_text form value) answer)
+abbrev pub IsGetAnswer : List ℕ → Path → Form → (no_newline : Bool) → Meta → Answer → Type 0
+IsGetAnswer file path form no_newline meta answer =
+    ((value : List ℕ) × HoldsIn file meta path (Value value) × IsShownText form (value_shown no_newline form value) answer)
     ⊎ ((reason : Failure) × HoldsNone file path meta reason × (answer ≡ refused reason))
 
--- the listing from a path on; or memory ran out, and a prefix of it was written
-abbrev pub IsListAnswer : List ℕ → Path → Meta → Answer → Type 0
-IsListAnswer file from meta answer = (listing : List Member) × IsListing file meta listing × IsWholeOrCut (listing_text (rest_from from listing)) answer
+-- The sizes of the buckets in the bucket that the path leads to, or memory ran out, and a prefix of the text was written; or the path leads to
+-- no bucket.
+abbrev pub IsSizesAnswer : List ℕ → Path → Form → Meta → Answer → Type 0
+IsSizesAnswer file path form meta answer =
+    ((bucket : Start) × (entries : List LeafElement) × (sized : List Sized) × LeadsTo file meta path bucket × AreEntries (IsEntry file meta) bucket entries
+    × AreSized file meta entries sized × IsWholeOrCut (sizes_text form sized) answer)
+    ⊎ (((bucket : Start) → LeadsTo file meta path bucket → ⊥) × (answer ≡ refused failure.NoBucket))
+
+-- the names of the buckets, or their sizes
+abbrev pub IsBucketsAnswer : List ℕ → Path → Form → (sizes : Bool) → Meta → Answer → Type 0
+IsBucketsAnswer file path form false meta answer = IsEntriesAnswer file path form (buckets_text form) meta answer
+IsBucketsAnswer file path form true meta answer = IsSizesAnswer file path form meta answer
+
+-- a line for each member of a listing at and below the bucket at a path that doesn't come before another path
+abbrev pub part_text : ListForm → (path from : Path) → List Member → List ℕ
+part_text form path from listing = listing_lines form (rest_from from (bucket_part path listing))
+
+-- if the listing doesn't have that bucket, this is reported
+abbrev pub part_ending : Path → List Member → Ending → Ending
+part_ending path listing ending = if has_bucket path listing then ending else Err failure.NoBucket
+
+-- a part of the listing; or memory ran out, and a prefix of it was written
+abbrev pub IsListAnswer : List ℕ → ListForm → (path from : Path) → Meta → Answer → Type 0
+IsListAnswer file form path from meta answer =
+    (listing : List Member) × IsListing file meta listing × IsEndedOrCut (part_text form path from listing) (part_ending path listing (Ok 0)) answer
 
 -- the table of all pages by their roles, or the map of them
 abbrev pub pages_shown : (as_map : Bool) → List ℕ → Meta → (ℕ → Role) → List ℕ
@@ -251,11 +283,11 @@ abbrev pub lost_ending : List LossView → Ending
 lost_ending [] = Ok 0
 lost_ending (loss ∷ losses) = Err (failure.Lost (length (loss ∷ losses)))
 
--- the recovered listing from a path on; or a prefix of it, if memory ran out
-abbrev pub IsRecoveredList : List ℕ → Path → Meta → Answer → Type 0
-IsRecoveredList file from meta answer =
+-- a part of the recovered listing; or a prefix of it, if memory ran out
+abbrev pub IsRecoveredList : List ℕ → ListForm → (path from : Path) → Meta → Answer → Type 0
+IsRecoveredList file form path from meta answer =
     (listing : List Member) × (losses : List LossView) × IsRecovered file meta listing × AreLosses file meta losses
-    × IsEndedOrCut (listing_text (rest_from from listing)) (lost_ending losses) answer
+    × IsEndedOrCut (part_text form path from listing) (part_ending path listing (lost_ending losses)) answer
 
 -- each loss; if nothing is lost, what `check` writes; or nothing, if memory ran out
 abbrev pub AnswersLosses : List ℕ → Option Slot → List LossView → Answer → Type 0
@@ -276,9 +308,9 @@ abbrev pub IsCheckAnswer : Bool → List ℕ → Option Slot → Answer → Type
 IsCheckAnswer false file slot answer = IsFoundAnswer file slot answer
 IsCheckAnswer true file slot answer = IsRecoveredAnswer file slot (IsLossesAnswer file slot) (λ fault answer. answer ≡ all_refusal fault) answer
 
-abbrev pub IsListedAnswer : Bool → List ℕ → Option Slot → Path → Answer → Type 0
-IsListedAnswer false file slot from answer = IsReadAnswer file slot (IsListAnswer file from) answer
-IsListedAnswer true file slot from answer = IsRecoveredAnswer file slot (IsRecoveredList file from) IsFileRefusal answer
+abbrev pub IsListedAnswer : Bool → List ℕ → Option Slot → ListForm → (path from : Path) → Answer → Type 0
+IsListedAnswer false file slot form path from answer = IsReadAnswer file slot (IsListAnswer file form path from) answer
+IsListedAnswer true file slot form path from answer = IsRecoveredAnswer file slot (IsRecoveredList file form path from) IsFileRefusal answer
 
 -- From its state `old` to `new` standard output accepted the text of the answer without a failure, and the job ends so; or it failed,
 -- accepted a prefix, and the job ends with that.
@@ -368,13 +400,13 @@ module _ {O T : Type 0} (out_taken : O → Option (List ℕ)) (out_failed : O �
   DoesJob file (job.Info name slot) = Prints (IsInfoAnswer file slot)
   DoesJob file (job.Page name id) = Prints (IsOpenAnswer file (λ slot meta. page_answer (page_text_fault file meta id) (page_text file meta id)))
   DoesJob file (job.Pages name as_map) = Prints (IsCheckedAnswer file (IsPagesAnswer file as_map) IsFileRefusal)
-  DoesJob file (job.Check name slot all) = Prints (IsCheckAnswer all file slot)
-  DoesJob file (job.Buckets name slot path form) = Prints (IsReadAnswer file slot (IsEntriesAnswer file (path_in path.items) form (buckets_text form)))
+  DoesJob file (job.Check name slot all snapshot) = Prints (IsCheckAnswer all file slot)
+  DoesJob file (job.Buckets name slot path form sizes) = Prints (IsReadAnswer file slot (IsBucketsAnswer file (path_in path.items) form sizes))
   DoesJob file (job.Stats name slot path) = Prints (IsReadAnswer file slot (IsStatsAnswer file (path_in path.items)))
-  DoesJob file (job.Keys name slot path form) = Prints (IsReadAnswer file slot (IsEntriesAnswer file (path_in path.items) form (keys_text form)))
-  DoesJob file (job.Get name slot path form) = Prints (IsReadAnswer file slot (IsGetAnswer file (path_in path.items) form))
-  DoesJob file (job.List name slot from recover) = Prints (IsListedAnswer recover file slot (path_in from.items))
-  DoesJob file (job.Compact name slot out size which recover) = MakesCopy file slot size which recover
+  DoesJob file (job.Keys name slot path prefix form) = Prints (IsReadAnswer file slot (IsEntriesAnswer file (path_in path.items) form (beginning_text form prefix.items)))
+  DoesJob file (job.Get name slot path form no_newline) = Prints (IsReadAnswer file slot (IsGetAnswer file (path_in path.items) form no_newline))
+  DoesJob file (job.List name slot form path from recover) = Prints (IsListedAnswer recover file slot form (path_in path.items) (path_in from.items))
+  DoesJob file (job.Compact name slot out size which recover) = MakesCopy file slot size (layout_for which) recover
 
 -- ---- the end of a run
 

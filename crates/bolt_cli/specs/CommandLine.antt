@@ -11,7 +11,7 @@ use Rattle.clap.specs.declared.error.ErrorKind.TheVariants as kind
 use Rattle.bolt_cli.specs.declared.job.Job.{Job}
 use Rattle.bolt_cli.specs.declared.words.Refusal.{Refusal}
 use Rattle.bolt_cli.specs.declared.words.Refusal.TheVariants.{Memory, Help, Version, Usage, Word}
-use Rattle.bolt_cli.specs.LineWords.{Choice, Flag, Operand, Syntax, Text, given_word, long, short}
+use Rattle.bolt_cli.specs.LineWords.{Choice, Flag, Operand, Syntax, Text, both, given_word, long, short}
 use Rattle.bolt_cli.specs.PlainWords.{Asked, Reading, Values, asked, asked_of, refused, syntaxes, unread}
 
 -- ---- what the command line may hold
@@ -26,10 +26,12 @@ operand_rule o = record (new_rule o.name) { required = o.required; action = acti
 abbrev long_of : Flag → Option Text
 long_of (long name) = Some name
 long_of (short letter) = None
+long_of (both letter name) = Some name
 
 abbrev short_of : Flag → Option ℕ
 short_of (long name) = None
 short_of (short letter) = Some letter
+short_of (both letter name) = Some letter
 
 -- an option takes one value, or none, and then stands for a word
 abbrev option_action : (has_value : Bool) → Option ArgAction

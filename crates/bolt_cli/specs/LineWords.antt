@@ -15,10 +15,11 @@ pub record Operand : Type 0 where
   pub several : Bool
   pub required : Bool
 
--- an option is written `--name`, or by one letter, as `-o`
+-- an option is written `--name`, or by one letter, as `-o`, or in either way
 pub data Flag : Type 0 where
   long : Text → Flag
   short : (letter : ℕ) → Flag
+  both : (letter : ℕ) → Text → Flag
 
 -- an option with a value, by the value's name; or one without, which is given or not
 pub record Choice : Type 0 where
@@ -58,10 +59,12 @@ short_value (first ∷ rest) = Some (if first == 61 then rest else first ∷ res
 abbrev pub is_called : Text → Flag → Bool
 is_called name (long own) = bytes_eq own name
 is_called name (short letter) = false
+is_called name (both letter own) = bytes_eq own name
 
 abbrev pub is_lettered : ℕ → Flag → Bool
 is_lettered letter (long own) = false
 is_lettered letter (short own) = own == letter
+is_lettered letter (both own name) = own == letter
 
 -- an option of the line, with the value that stands in its word
 abbrev pub Meeting : Type 0

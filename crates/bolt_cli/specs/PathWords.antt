@@ -39,6 +39,11 @@ abbrev pub part_of : Parts → Text → Result Key Text
 part_of parts.Text word = Ok word
 part_of parts.Hex word = hex_bytes word
 
+-- the bytes that keys are to begin with, written as a part is; without a word each key does
+abbrev pub prefix_of : Parts → Option Text → Result Key Text
+prefix_of how (Some word) = part_of how word
+prefix_of how None = Ok []
+
 -- each of the words is a part
 abbrev pub each_part : (Text → Result Key Text) → List Text → Result Path Text
 each_part read [] = Ok []

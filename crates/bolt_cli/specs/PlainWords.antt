@@ -9,12 +9,14 @@ use Rattle.bolt_tree.specs.Paths.{Path}
 use Rattle.bolt_format.specs.Metas.{IsPageSize, page_sizes}
 use Rattle.bolt_format.specs.declared.meta.Slot.{Slot}
 use Rattle.bolt_format.specs.declared.meta.Slot.TheVariants.{One, Zero}
-use Rattle.bolt_layout.specs.declared.layout.Layout.{Layout}
-use Rattle.bolt_layout.specs.declared.layout.Layout.TheVariants.{Balanced, Plain}
 use Rattle.bolt_report.specs.declared.form.Form.{Form}
 use Rattle.bolt_report.specs.declared.form.Form.TheVariants as form
-use Rattle.bolt_cli.specs.LineWords.{Choice, Known, Operand, Syntax, Text, is_complete, known_after, long, short, values_of}
-use Rattle.bolt_cli.specs.PathWords.{each_part, hex_path_by, part_of, parts_by, result_and_then}
+use Rattle.bolt_report.specs.declared.form.ListForm.{ListForm}
+use Rattle.bolt_report.specs.declared.form.ListForm.TheVariants as list_form
+use Rattle.bolt_cli.specs.LineWords.{Choice, Known, Operand, Syntax, Text, both, is_complete, known_after, long, short, values_of}
+use Rattle.bolt_cli.specs.PathWords.{each_part, hex_path_by, part_of, parts_by, prefix_of, result_and_then}
+use Rattle.bolt_cli.specs.declared.copy_kind.CopyKind.{CopyKind}
+use Rattle.bolt_cli.specs.declared.copy_kind.CopyKind.TheVariants as kind
 use Rattle.bolt_cli.specs.declared.job.Job.{Job}
 use Rattle.bolt_cli.specs.declared.job.Job.TheVariants as job
 use Rattle.bolt_cli.specs.declared.page_size.PageSize.{PageSize}
@@ -51,6 +53,19 @@ page_size_option = record { name = codes "page-size"; flag = long (codes "page-s
 abbrev pub for_bbolt_option : Choice
 for_bbolt_option = record { name = codes "for-bbolt"; flag = long (codes "for-bbolt"); has_value = false; required = false }
 
+abbrev pub snapshot_option : Choice
+snapshot_option = record { name = codes "etcd-snapshot"; flag = long (codes "etcd-snapshot"); has_value = false; required = false }
+
+abbrev pub sizes_option : Choice
+sizes_option = record { name = codes "sizes"; flag = long (codes "sizes"); has_value = false; required = false }
+
+abbrev pub prefix_option : Choice
+prefix_option = record { name = codes "prefix"; flag = long (codes "prefix"); has_value = true; required = false }
+
+-- also by `-n` (110)
+abbrev pub no_newline_option : Choice
+no_newline_option = record { name = codes "no-newline"; flag = both 110 (codes "no-newline"); has_value = false; required = false }
+
 abbrev pub map_option : Choice
 map_option = record { name = codes "map"; flag = long (codes "map"); has_value = false; required = false }
 
@@ -71,25 +86,25 @@ abbrev pub pages_line : Syntax
 pages_line = record { name = codes "pages"; operands = file_operand ∷ []; options = map_option ∷ [] }
 
 abbrev pub check_line : Syntax
-check_line = record { name = codes "check"; operands = file_operand ∷ []; options = all_option ∷ meta_option ∷ [] }
+check_line = record { name = codes "check"; operands = file_operand ∷ []; options = all_option ∷ snapshot_option ∷ meta_option ∷ [] }
 
 abbrev pub buckets_line : Syntax
-buckets_line = record { name = codes "buckets"; operands = file_operand ∷ part_operand false ∷ []; options = form_option ∷ parts_option ∷ meta_option ∷ [] }
+buckets_line = record { name = codes "buckets"; operands = file_operand ∷ part_operand false ∷ []; options = sizes_option ∷ form_option ∷ parts_option ∷ meta_option ∷ [] }
 
 abbrev pub keys_line : Syntax
-keys_line = record { name = codes "keys"; operands = file_operand ∷ part_operand true ∷ []; options = form_option ∷ parts_option ∷ meta_option ∷ [] }
+keys_line = record { name = codes "keys"; operands = file_operand ∷ part_operand true ∷ []; options = prefix_option ∷ form_option ∷ parts_option ∷ meta_option ∷ [] }
 
 abbrev pub get_line : Syntax
-get_line = record { name = codes "get"; operands = file_operand ∷ part_operand true ∷ []; options = form_option ∷ parts_option ∷ meta_option ∷ [] }
+get_line = record { name = codes "get"; operands = file_operand ∷ part_operand true ∷ []; options = no_newline_option ∷ form_option ∷ parts_option ∷ meta_option ∷ [] }
 
 abbrev pub stats_line : Syntax
 stats_line = record { name = codes "stats"; operands = file_operand ∷ part_operand false ∷ []; options = parts_option ∷ meta_option ∷ [] }
 
 abbrev pub list_line : Syntax
-list_line = record { name = codes "list"; operands = file_operand ∷ []; options = from_option ∷ recover_option ∷ meta_option ∷ [] }
+list_line = record { name = codes "list"; operands = file_operand ∷ part_operand false ∷ []; options = from_option ∷ form_option ∷ parts_option ∷ recover_option ∷ meta_option ∷ [] }
 
 abbrev pub compact_line : Syntax
-compact_line = record { name = codes "compact"; operands = file_operand ∷ []; options = output_option ∷ page_size_option ∷ for_bbolt_option ∷ recover_option ∷ meta_option ∷ [] }
+compact_line = record { name = codes "compact"; operands = file_operand ∷ []; options = output_option ∷ page_size_option ∷ for_bbolt_option ∷ snapshot_option ∷ recover_option ∷ meta_option ∷ [] }
 
 abbrev pub syntaxes : List Syntax
 syntaxes = info_line ∷ page_line ∷ pages_line ∷ check_line ∷ buckets_line ∷ keys_line ∷ get_line ∷ stats_line ∷ list_line ∷ compact_line ∷ []
@@ -101,13 +116,13 @@ pub data Asked : Type 0 where
   info : Text → Option Slot → Asked
   page : Text → ℕ → Asked
   pages : Text → (map : Bool) → Asked
-  check : Text → Option Slot → (all : Bool) → Asked
-  buckets : Text → Option Slot → Path → Form → Asked
-  keys : Text → Option Slot → Path → Form → Asked
-  get : Text → Option Slot → Path → Form → Asked
+  check : Text → Option Slot → (all snapshot : Bool) → Asked
+  buckets : Text → Option Slot → Path → Form → (sizes : Bool) → Asked
+  keys : Text → Option Slot → Path → (prefix : Key) → Form → Asked
+  get : Text → Option Slot → Path → Form → (no_newline : Bool) → Asked
   stats : Text → Option Slot → Path → Asked
-  list : Text → Option Slot → Path → (recover : Bool) → Asked
-  compact : (file : Text) → Option Slot → (target : Text) → (page_size : Option ℕ) → Layout → (recover : Bool) → Asked
+  list : Text → Option Slot → ListForm → (path from : Path) → (recover : Bool) → Asked
+  compact : (file : Text) → Option Slot → (target : Text) → (page_size : Option ℕ) → CopyKind → (recover : Bool) → Asked
 
 -- the path that the code owns
 abbrev pub path_in : {Z : Type 0} → List (Vec ℕ Z) → Path
@@ -121,12 +136,12 @@ abbrev pub asked_of : Job → Asked
 asked_of (job.Info file slot) = info (string_bytes file) slot
 asked_of (job.Page file id) = page (string_bytes file) id
 asked_of (job.Pages file as_map) = pages (string_bytes file) as_map
-asked_of (job.Check file slot all) = check (string_bytes file) slot all
-asked_of (job.Buckets file slot path form) = buckets (string_bytes file) slot (path_in path.items) form
-asked_of (job.Keys file slot path form) = keys (string_bytes file) slot (path_in path.items) form
-asked_of (job.Get file slot path form) = get (string_bytes file) slot (path_in path.items) form
+asked_of (job.Check file slot all snapshot) = check (string_bytes file) slot all snapshot
+asked_of (job.Buckets file slot path form sizes) = buckets (string_bytes file) slot (path_in path.items) form sizes
+asked_of (job.Keys file slot path prefix form) = keys (string_bytes file) slot (path_in path.items) prefix.items form
+asked_of (job.Get file slot path form no_newline) = get (string_bytes file) slot (path_in path.items) form no_newline
 asked_of (job.Stats file slot path) = stats (string_bytes file) slot (path_in path.items)
-asked_of (job.List file slot from recover) = list (string_bytes file) slot (path_in from.items) recover
+asked_of (job.List file slot form path from recover) = list (string_bytes file) slot form (path_in path.items) (path_in from.items) recover
 asked_of (job.Compact file slot target size which recover) = compact (string_bytes file) slot (string_bytes target) (size_in size) which recover
 
 -- the FILE that is asked for
@@ -134,12 +149,12 @@ abbrev pub asked_file : Asked → Text
 asked_file (info file slot) = file
 asked_file (page file id) = file
 asked_file (pages file as_map) = file
-asked_file (check file slot all) = file
-asked_file (buckets file slot path form) = file
-asked_file (keys file slot path form) = file
-asked_file (get file slot path form) = file
+asked_file (check file slot all snapshot) = file
+asked_file (buckets file slot path form sizes) = file
+asked_file (keys file slot path prefix form) = file
+asked_file (get file slot path form no_newline) = file
 asked_file (stats file slot path) = file
-asked_file (list file slot from recover) = file
+asked_file (list file slot form path from recover) = file
 asked_file (compact file slot target size which recover) = file
 
 -- the OUT, if one is asked for
@@ -195,10 +210,11 @@ abbrev pub page_size_by : Option Text → Result (Option ℕ) Text
 page_size_by (Some word) = page_size_of word
 page_size_by None = Ok None
 
--- the layout of a copy, by the word of `--for-bbolt` if it is given
-abbrev pub layout_by : Option Text → Layout
-layout_by (Some word) = Balanced
-layout_by None = Plain
+-- the kind of a copy, by the words of `--for-bbolt` and `--etcd-snapshot` if they are given; a snapshot is for bbolt too
+abbrev pub copy_kind_by : (for_bbolt snapshot : Option Text) → CopyKind
+copy_kind_by for_bbolt (Some word) = kind.EtcdSnapshot
+copy_kind_by (Some word) None = kind.ForBbolt
+copy_kind_by None None = kind.Plain
 
 -- whether an option without a value is given
 abbrev pub is_given : Option Text → Bool
@@ -218,6 +234,17 @@ form_of word =
 abbrev pub form_by : Option Text → Result Form Text
 form_by (Some word) = form_of word
 form_by None = Ok form.Printable
+
+-- the form of a listing by its word; without one it is in hexadecimal
+abbrev pub list_form_of : Text → Result ListForm Text
+list_form_of word =
+    if bytes_eq word (codes "hex") then Ok list_form.Hex
+    else if bytes_eq word (codes "json") then Ok list_form.Json
+    else Err (codes "bad form")
+
+abbrev pub list_form_by : Option Text → Result ListForm Text
+list_form_by (Some word) = list_form_of word
+list_form_by None = Ok list_form.Hex
 
 -- the slot of a meta by its word; without one it is that of the active meta
 abbrev pub slot_of : Text → Result (Option Slot) Text
@@ -242,37 +269,42 @@ abbrev pub asks_pages : Values → Result Asked Text
 asks_pages values = result_and_then (λ file. Ok (pages file (is_given (first_of (values (codes "map")))))) (text_by (codes "FILE") values)
 
 abbrev pub asks_check : Values → Result Asked Text
-asks_check values = result_and_then (λ file. result_and_then (λ slot. Ok (check file slot (is_given (first_of (values (codes "all"))))))
+asks_check values = result_and_then (λ file. result_and_then (λ slot. Ok (check file slot (is_given (first_of (values (codes "all")))) (is_given (first_of (values (codes "etcd-snapshot"))))))
     (slot_by (first_of (values (codes "meta"))))) (text_by (codes "FILE") values)
 
 -- a path by its words
 abbrev pub path_by : Values → Result Path Text
 path_by values = result_and_then (λ how. each_part (part_of how) (values (codes "PART"))) (parts_by (first_of (values (codes "parts"))))
 
-abbrev pub asks_at : (Text → Option Slot → Path → Form → Asked) → Values → Result Asked Text
-asks_at wanted values = result_and_then (λ file. result_and_then (λ slot. result_and_then (λ form. result_and_then (λ path. Ok (wanted file slot path form)) (path_by values))
+-- the bytes that keys are to begin with, written as the words of the path are
+abbrev pub prefix_by : Values → Result Key Text
+prefix_by values = result_and_then (λ how. prefix_of how (first_of (values (codes "prefix")))) (parts_by (first_of (values (codes "parts"))))
+
+abbrev pub asks_at : (Text → Option Slot → Path → Form → Result Asked Text) → Values → Result Asked Text
+asks_at wanted values = result_and_then (λ file. result_and_then (λ slot. result_and_then (λ form. result_and_then (λ path. wanted file slot path form) (path_by values))
     (form_by (first_of (values (codes "form"))))) (slot_by (first_of (values (codes "meta"))))) (text_by (codes "FILE") values)
 
 abbrev pub asks_buckets : Values → Result Asked Text
-asks_buckets values = asks_at buckets values
+asks_buckets values = asks_at (λ file slot path form. Ok (buckets file slot path form (is_given (first_of (values (codes "sizes")))))) values
 
 abbrev pub asks_keys : Values → Result Asked Text
-asks_keys values = asks_at keys values
+asks_keys values = asks_at (λ file slot path form. result_and_then (λ prefix. Ok (keys file slot path prefix form)) (prefix_by values)) values
 
 abbrev pub asks_get : Values → Result Asked Text
-asks_get values = asks_at get values
+asks_get values = asks_at (λ file slot path form. Ok (get file slot path form (is_given (first_of (values (codes "no-newline")))))) values
 
 abbrev pub asks_stats : Values → Result Asked Text
 asks_stats values = result_and_then (λ file. result_and_then (λ slot. result_and_then (λ path. Ok (stats file slot path)) (path_by values))
     (slot_by (first_of (values (codes "meta"))))) (text_by (codes "FILE") values)
 
 abbrev pub asks_list : Values → Result Asked Text
-asks_list values = result_and_then (λ file. result_and_then (λ slot. result_and_then (λ from. Ok (list file slot from (is_given (first_of (values (codes "recover"))))))
-    (hex_path_by (first_of (values (codes "from"))))) (slot_by (first_of (values (codes "meta"))))) (text_by (codes "FILE") values)
+asks_list values = result_and_then (λ file. result_and_then (λ slot. result_and_then (λ form. result_and_then (λ path. result_and_then (λ from.
+    Ok (list file slot form path from (is_given (first_of (values (codes "recover"))))))
+    (hex_path_by (first_of (values (codes "from"))))) (path_by values)) (list_form_by (first_of (values (codes "form"))))) (slot_by (first_of (values (codes "meta"))))) (text_by (codes "FILE") values)
 
 abbrev pub asks_compact : Values → Result Asked Text
 asks_compact values = result_and_then (λ file. result_and_then (λ slot. result_and_then (λ target. result_and_then (λ size.
-    Ok (compact file slot target size (layout_by (first_of (values (codes "for-bbolt")))) (is_given (first_of (values (codes "recover"))))))
+    Ok (compact file slot target size (copy_kind_by (first_of (values (codes "for-bbolt"))) (first_of (values (codes "etcd-snapshot")))) (is_given (first_of (values (codes "recover"))))))
     (page_size_by (first_of (values (codes "page-size"))))) (text_by (codes "output") values)) (slot_by (first_of (values (codes "meta"))))) (text_by (codes "FILE") values)
 
 -- what a command asks for, or which word can't be read and why
@@ -338,6 +370,10 @@ form_word form.Bytes = codes "bytes"
 form_word form.Text = codes "text"
 form_word form.Json = codes "json"
 
+abbrev pub list_form_word : ListForm → Text
+list_form_word list_form.Hex = codes "hex"
+list_form_word list_form.Json = codes "json"
+
 abbrev pub slot_word : Slot → Text
 slot_word Zero = codes "0"
 slot_word One = codes "1"
@@ -357,44 +393,52 @@ abbrev pub from_word : Path → Option Text
 from_word [] = None
 from_word (part ∷ path) = Some (join_with_byte 47 (map encode_lower (part ∷ path)))
 
--- an option without a value, unless the layout is the plain one
-abbrev pub is_balanced : Layout → Bool
-is_balanced Plain = false
-is_balanced Balanced = true
+-- an option without a value for each kind of copy but the plain one
+abbrev pub is_for_bbolt : CopyKind → Bool
+is_for_bbolt kind.Plain = false
+is_for_bbolt kind.ForBbolt = true
+is_for_bbolt kind.EtcdSnapshot = false
+
+abbrev pub is_snapshot : CopyKind → Bool
+is_snapshot kind.Plain = false
+is_snapshot kind.ForBbolt = false
+is_snapshot kind.EtcdSnapshot = true
 
 -- the name of the command that does the job, the options of its line, its FILE, and the words behind that
 abbrev pub command_name : Asked → Text
 command_name (info file slot) = codes "info"
 command_name (page file id) = codes "page"
 command_name (pages file as_map) = codes "pages"
-command_name (check file slot all) = codes "check"
-command_name (buckets file slot path form) = codes "buckets"
-command_name (keys file slot path form) = codes "keys"
-command_name (get file slot path form) = codes "get"
+command_name (check file slot all snapshot) = codes "check"
+command_name (buckets file slot path form sizes) = codes "buckets"
+command_name (keys file slot path prefix form) = codes "keys"
+command_name (get file slot path form no_newline) = codes "get"
 command_name (stats file slot path) = codes "stats"
-command_name (list file slot from recover) = codes "list"
+command_name (list file slot form path from recover) = codes "list"
 command_name (compact file slot target size which recover) = codes "compact"
 
 abbrev pub settings : Asked → List Setting
 settings (info file slot) = meta_setting slot ∷ []
 settings (page file id) = []
 settings (pages file as_map) = alone (codes "map") as_map ∷ []
-settings (check file slot all) = meta_setting slot ∷ alone (codes "all") all ∷ []
-settings (buckets file slot path form) = meta_setting slot ∷ form_setting form ∷ parts_setting ∷ []
-settings (keys file slot path form) = meta_setting slot ∷ form_setting form ∷ parts_setting ∷ []
-settings (get file slot path form) = meta_setting slot ∷ form_setting form ∷ parts_setting ∷ []
+settings (check file slot all snapshot) = meta_setting slot ∷ alone (codes "all") all ∷ alone (codes "etcd-snapshot") snapshot ∷ []
+settings (buckets file slot path form sizes) = meta_setting slot ∷ form_setting form ∷ parts_setting ∷ alone (codes "sizes") sizes ∷ []
+settings (keys file slot path prefix form) = meta_setting slot ∷ form_setting form ∷ parts_setting ∷ valued (codes "prefix") (Some (encode_lower prefix)) ∷ []
+settings (get file slot path form no_newline) = meta_setting slot ∷ form_setting form ∷ parts_setting ∷ alone (codes "no-newline") no_newline ∷ []
 settings (stats file slot path) = meta_setting slot ∷ parts_setting ∷ []
-settings (list file slot from recover) = meta_setting slot ∷ valued (codes "from") (from_word from) ∷ alone (codes "recover") recover ∷ []
+settings (list file slot form path from recover) =
+    meta_setting slot ∷ valued (codes "form") (Some (list_form_word form)) ∷ parts_setting ∷ valued (codes "from") (from_word from) ∷ alone (codes "recover") recover ∷ []
 settings (compact file slot target size which recover) =
-    lettered 111 (codes "output") target ∷ meta_setting slot ∷ valued (codes "page-size") (option_map decimal size) ∷ alone (codes "for-bbolt") (is_balanced which)
-    ∷ alone (codes "recover") recover ∷ []
+    lettered 111 (codes "output") target ∷ meta_setting slot ∷ valued (codes "page-size") (option_map decimal size) ∷ alone (codes "for-bbolt") (is_for_bbolt which)
+    ∷ alone (codes "etcd-snapshot") (is_snapshot which) ∷ alone (codes "recover") recover ∷ []
 
 abbrev pub words_behind : Asked → List Text
 words_behind (page file id) = decimal id ∷ []
-words_behind (buckets file slot path form) = map encode_lower path
+words_behind (buckets file slot path form sizes) = map encode_lower path
 words_behind (stats file slot path) = map encode_lower path
-words_behind (keys file slot path form) = map encode_lower path
-words_behind (get file slot path form) = map encode_lower path
+words_behind (keys file slot path prefix form) = map encode_lower path
+words_behind (get file slot path form no_newline) = map encode_lower path
+words_behind (list file slot form path from recover) = map encode_lower path
 words_behind _ = []
 
 -- words that ask for the job, whatever its texts are
@@ -417,10 +461,10 @@ IsSize (Some size) = IsPageSize size
 -- word has a byte in each, and a page size is accepted.
 abbrev pub IsInRange : Asked → Type 0
 IsInRange (page file id) = id < 2 ^ 64
-IsInRange (buckets file slot path form) = All IsBytes path
+IsInRange (buckets file slot path form sizes) = All IsBytes path
 IsInRange (stats file slot path) = All IsBytes path
-IsInRange (keys file slot path form) = IsPath path
-IsInRange (get file slot path form) = IsPath path
-IsInRange (list file slot from recover) = All IsPart from
+IsInRange (keys file slot path prefix form) = IsPath path × IsBytes prefix
+IsInRange (get file slot path form no_newline) = IsPath path
+IsInRange (list file slot form path from recover) = All IsBytes path × All IsPart from
 IsInRange (compact file slot target size which recover) = IsSize size
 IsInRange _ = Unit {0}

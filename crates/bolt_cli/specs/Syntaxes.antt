@@ -3,7 +3,7 @@ use Rattle.std.specs.Prelude.{is_some, map}
 use Rattle.bolt_cli.specs.LineWords as plain
 use Rattle.bolt_cli.specs.declared.syntax.Choice.{Choice}
 use Rattle.bolt_cli.specs.declared.syntax.Flag.{Flag}
-use Rattle.bolt_cli.specs.declared.syntax.Flag.TheVariants.{Long, Short}
+use Rattle.bolt_cli.specs.declared.syntax.Flag.TheVariants.{Both, Long, Short}
 use Rattle.bolt_cli.specs.declared.syntax.Operand.{Operand}
 use Rattle.bolt_cli.specs.declared.syntax.Syntax.{Syntax}
 
@@ -13,6 +13,7 @@ operand_view o = record { name = o.name.now; several = o.several; required = o.r
 abbrev pub flag_view : Flag → plain.Flag
 flag_view (Long name) = plain.long name.now
 flag_view (Short letter) = plain.short letter
+flag_view (Both letter name) = plain.both letter name.now
 
 abbrev pub choice_view : Choice → plain.Choice
 choice_view o = record { name = o.name.now; flag = flag_view o.flag; has_value = is_some o.value; required = o.required }

@@ -38,6 +38,7 @@ fn option_arg<'a>(alloc: Global, option: &'a Choice) -> Arg<'a>
     match option.flag {
         Flag::Long(name) => arg.long(name),
         Flag::Short(letter) => arg.short(letter),
+        Flag::Both(letter, name) => arg.short(letter).long(name),
     }
 }
 

@@ -1,8 +1,9 @@
 //! The command `get`.
-ghost use Rattle.std.specs.Prelude.{IfErr, IfOk};
+ghost use Rattle.std.specs.Prelude.{◌≡◌, ◌⊎◌, IfErr, IfOk};
 ghost use Rattle.bolt_check.specs.CheckedFiles.{bytes_of, meta_of};
 ghost use Rattle.bolt_tree.specs.Entries.{Value};
-ghost use Rattle.bolt_cli.specs.Answers.{Answer, Does, HoldsIn, HoldsNone, IsGetAnswer, IsReadAnswer};
+ghost use Rattle.bolt_report.specs.Reports.{Reports};
+ghost use Rattle.bolt_cli.specs.Answers.{Answer, Does, HoldsIn, HoldsNone, IsGetAnswer, IsReadAnswer, value_shown};
 ghost use Rattle.bolt_cli.specs.PlainWords.{path_in};
 
 use crate::failure::Failure;
@@ -10,24 +11,43 @@ use crate::open_bucket::open_bucket;
 use crate::open_read::open_read;
 use bolt_check::Checked;
 use bolt_format::{Sink, Slot};
-use bolt_report::{Form, value};
+use bolt_report::{Form, ReportFault, item, value};
 use std::alloc::Global;
 
-/// Writes the value at a path.
+/// Writes the value at a path, and a line feed unless none is wanted.
 pub(crate) fn print_value<O: Sink>(
     alloc: Global,
     file: &[u8],
     slot: Option<Slot>,
     path: &[Vec<u8>],
     form: Form,
+    no_newline: bool,
     out: &mut O,
 ) -> Result<u8, Failure>
-    ensures { (answer : Answer) × IsReadAnswer file.now slot (IsGetAnswer file.now (path_in path.now) form) answer
+    ensures { (answer : Answer) × IsReadAnswer file.now slot (IsGetAnswer file.now (path_in path.now) form no_newline) answer
         × Does O.taken O.failed out.old out.new answer result }
 {
     let checked = open_read(alloc, file, slot)?;
-    value(alloc, find_value(checked, path)?, form, out)?;
+    put_value(alloc, find_value(checked, path)?, form, no_newline, out)?;
     Ok(0)
+}
+
+fn put_value<O: Sink>(
+    alloc: Global,
+    bytes: &[u8],
+    form: Form,
+    no_newline: bool,
+    out: &mut O,
+) -> Result<(), ReportFault>
+    ensures written { Reports O.taken O.failed out.old out.new (value_shown no_newline form bytes.now) result }
+    ensures fault { IfErr result (λ fault. (fault ≡ ReportFault.Sink) ⊎ ((fault ≡ ReportFault.NoMemory) × (form ≡ Form.Json))) }
+    ensures memory { IfErr result (λ fault. fault ≡ ReportFault.NoMemory → O.failed out.new ≡ O.failed out.old) }
+{
+    if no_newline {
+        item(alloc, bytes, form, out)
+    } else {
+        value(alloc, bytes, form, out)
+    }
 }
 
 /// The value at a path. The last part is its key.

@@ -1,9 +1,9 @@
 //! What a command line asks for.
 
+use crate::copy_kind::CopyKind;
 use crate::page_size::PageSize;
 use bolt_format::{METAS_END, Slot};
-use bolt_layout::Layout;
-use bolt_report::Form;
+use bolt_report::{Form, ListForm};
 
 /// What the words of a command line ask for (docs/COMMANDS.md). The file is read under the meta in
 /// `slot` or, without one, under the active meta.
@@ -24,18 +24,22 @@ pub enum Job {
         file: String,
         map: bool,
     },
-    /// Check whether the file is sound; with `all`, find everything that is lost of it.
+    /// Check whether the file is sound; with `all`, find everything that is lost of it. With
+    /// `snapshot`, first check that it ends with the SHA-256 of what is before it.
     Check {
         file: String,
         slot: Option<Slot>,
         all: bool,
+        snapshot: bool,
     },
-    /// Print the names of the buckets in the bucket at a path.
+    /// Print the names of the buckets in the bucket at a path, and before each name its sizes with
+    /// `sizes`.
     Buckets {
         file: String,
         slot: Option<Slot>,
         path: Vec<Vec<u8>>,
         form: Form,
+        sizes: bool,
     },
     /// Print the figures of the bucket at a path and of all in it. At the empty path they are those
     /// of the root's buckets, added up.
@@ -44,36 +48,41 @@ pub enum Job {
         slot: Option<Slot>,
         path: Vec<Vec<u8>>,
     },
-    /// Print the keys of the bucket at a path.
+    /// Print the keys of the bucket at a path that begin with `prefix`.
     Keys {
         file: String,
         slot: Option<Slot>,
         path: Vec<Vec<u8>>,
+        prefix: Vec<u8>,
         form: Form,
     },
-    /// Print the value at a path.
+    /// Print the value at a path, and a line feed unless `no_newline` is given.
     Get {
         file: String,
         slot: Option<Slot>,
         path: Vec<Vec<u8>>,
         form: Form,
+        no_newline: bool,
     },
-    /// Print the listing from a path on. From the empty path that is the whole listing. With
-    /// `recover` it is that of what is recovered of a damaged file.
+    /// Print the part of the listing at and below a path, without what comes before `from`. Both
+    /// paths are empty if the whole listing is wanted. With `recover` it is the listing of what is
+    /// recovered of a damaged file.
     List {
         file: String,
         slot: Option<Slot>,
+        form: ListForm,
+        path: Vec<Vec<u8>>,
         from: Vec<Vec<u8>>,
         recover: bool,
     },
-    /// Write a compact copy in a layout to another file. Without a page size it has that of the
-    /// file. With `recover` it is a copy of what is recovered of a damaged file.
+    /// Write a compact copy to another file. Without a page size it has that of the file. With
+    /// `recover` it is a copy of what is recovered of a damaged file.
     Compact {
         file: String,
         slot: Option<Slot>,
         target: String,
         page_size: Option<PageSize>,
-        layout: Layout,
+        kind: CopyKind,
         recover: bool,
     },
 }
@@ -100,17 +109,20 @@ impl Job {
                 file,
                 slot: _,
                 all: _,
+                snapshot: _,
             } => file.as_str(),
             Job::Buckets {
                 file,
                 slot: _,
                 path: _,
                 form: _,
+                sizes: _,
             } => file.as_str(),
             Job::Keys {
                 file,
                 slot: _,
                 path: _,
+                prefix: _,
                 form: _,
             } => file.as_str(),
             Job::Get {
@@ -118,10 +130,13 @@ impl Job {
                 slot: _,
                 path: _,
                 form: _,
+                no_newline: _,
             } => file.as_str(),
             Job::List {
                 file,
                 slot: _,
+                form: _,
+                path: _,
                 from: _,
                 recover: _,
             } => file.as_str(),
@@ -130,7 +145,7 @@ impl Job {
                 slot: _,
                 target: _,
                 page_size: _,
-                layout: _,
+                kind: _,
                 recover: _,
             } => file.as_str(),
         }
@@ -157,7 +172,7 @@ impl Job {
                 slot: _,
                 target,
                 page_size: _,
-                layout: _,
+                kind: _,
                 recover: _,
             } => Some(target.as_str()),
             _ => None,

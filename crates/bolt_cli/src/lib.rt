@@ -5,6 +5,7 @@ mod buckets_command;
 mod check_command;
 mod command_line;
 mod compact_command;
+mod copy_kind;
 mod decimals;
 mod failure;
 mod get_command;
@@ -28,6 +29,7 @@ mod status;
 mod syntax;
 mod words;
 
+pub use copy_kind::CopyKind;
 pub use failure::Failure;
 pub use job::Job;
 pub use page_size::PageSize;

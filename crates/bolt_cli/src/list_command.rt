@@ -6,28 +6,40 @@ ghost use Rattle.bolt_cli.specs.PlainWords.{path_in};
 ghost use Rattle.bolt_cli.specs.declared.failure.Failure.TheVariants.{Memory};
 
 use crate::failure::Failure;
+use crate::open_bucket::open_bucket;
 use crate::open_read::open_read;
 use crate::open_recovery::open_recovery;
 use bolt_format::{Sink, Slot};
-use bolt_report::{list, list_recovered};
+use bolt_report::{ListForm, list_part, list_recovered_part};
 use std::alloc::Global;
 
-/// Writes the listing from a path on: that of a sound file, or what is recovered of a damaged one.
+/// What `list` is to write.
+#[derive(Clone, Copy)]
+pub(crate) struct WantedList<'a> {
+    pub form: ListForm,
+    /// The path of the bucket whose part of the listing is written.
+    pub path: &'a [Vec<u8>],
+    /// The path to begin at.
+    pub from: &'a [Vec<u8>],
+    /// Whether to list what is recovered of a damaged file.
+    pub recover: bool,
+}
+
+/// Writes a part of the listing: that of a sound file, or of what is recovered of a damaged one.
 pub(crate) fn print_list<O: Sink>(
     alloc: Global,
     file: &[u8],
     slot: Option<Slot>,
-    from: &[Vec<u8>],
-    recover: bool,
+    wanted: &WantedList<'_>,
     out: &mut O,
 ) -> Result<u8, Failure>
-    ensures { (answer : Answer) × IsListedAnswer recover file.now slot (path_in from.now) answer
+    ensures { (answer : Answer) × IsListedAnswer wanted.now.recover file.now slot wanted.now.form (path_in wanted.now.path.now) (path_in wanted.now.from.now) answer
         × Does O.taken O.failed out.old out.new answer result }
 {
-    if recover {
-        print_recovered(alloc, file, slot, from, out)
+    if wanted.recover {
+        print_recovered(alloc, file, slot, wanted, out)
     } else {
-        print_sound(alloc, file, slot, from, out)
+        print_sound(alloc, file, slot, wanted, out)
     }
 }
 
@@ -35,15 +47,25 @@ fn print_sound<O: Sink>(
     alloc: Global,
     file: &[u8],
     slot: Option<Slot>,
-    from: &[Vec<u8>],
+    wanted: &WantedList<'_>,
     out: &mut O,
 ) -> Result<u8, Failure>
-    ensures { (answer : Answer) × IsReadAnswer file.now slot (IsListAnswer file.now (path_in from.now)) answer
+    ensures { (answer : Answer) × IsReadAnswer file.now slot (IsListAnswer file.now wanted.now.form (path_in wanted.now.path.now) (path_in wanted.now.from.now)) answer
         × Does O.taken O.failed out.old out.new answer result }
 {
     let checked = open_read(alloc, file, slot)?;
-    let path = slices(alloc, from)?;
-    list(alloc, checked, path.as_slice(), out)?;
+    // Only for the error if there is no such bucket.
+    open_bucket(checked, wanted.path)?;
+    let path = slices(alloc, wanted.path)?;
+    let from = slices(alloc, wanted.from)?;
+    list_part(
+        alloc,
+        checked,
+        path.as_slice(),
+        from.as_slice(),
+        wanted.form,
+        out,
+    )?;
     Ok(0)
 }
 
@@ -51,15 +73,25 @@ fn print_recovered<O: Sink>(
     alloc: Global,
     file: &[u8],
     slot: Option<Slot>,
-    from: &[Vec<u8>],
+    wanted: &WantedList<'_>,
     out: &mut O,
 ) -> Result<u8, Failure>
-    ensures { (answer : Answer) × IsRecoveredAnswer file.now slot (IsRecoveredList file.now (path_in from.now)) IsFileRefusal answer
+    ensures { (answer : Answer) × IsRecoveredAnswer file.now slot (IsRecoveredList file.now wanted.now.form (path_in wanted.now.path.now) (path_in wanted.now.from.now)) IsFileRefusal answer
         × Does O.taken O.failed out.old out.new answer result }
 {
     let mut recovery = open_recovery(alloc, file, slot)?;
-    let path = slices(alloc, from)?;
-    list_recovered(&mut recovery, path.as_slice(), out)?;
+    let path = slices(alloc, wanted.path)?;
+    let from = slices(alloc, wanted.from)?;
+    if !list_recovered_part(
+        alloc,
+        &mut recovery,
+        path.as_slice(),
+        from.as_slice(),
+        wanted.form,
+        out,
+    )? {
+        return Err(Failure::NoBucket);
+    }
     let losses = recovery.losses();
     if losses.is_empty() {
         return Ok(0);

@@ -2,7 +2,7 @@
 ghost use Rattle.std.specs.Prelude.{◌≡◌, ◌==◌, IfOk, length, map, option_map};
 ghost use Rattle.std.specs.List.{list_any, slice_split};
 ghost use Rattle.bolt_cli.specs.CommandLine.{Gives};
-ghost use Rattle.bolt_cli.specs.PathWords.{each_part, hex_bytes, hex_path_by, hex_path_of, part_of, parts_by};
+ghost use Rattle.bolt_cli.specs.PathWords.{each_part, hex_bytes, hex_path_by, hex_path_of, part_of, parts_by, prefix_of};
 ghost use Rattle.bolt_cli.specs.PlainWords.{path_in};
 
 use crate::parts::Parts;
@@ -42,6 +42,20 @@ fn read_part(alloc: Global, parts: Parts, word: &str) -> Result<Vec<u8>, Refusal
     match parts {
         Parts::Text => Ok(word.as_bytes().to_vec(alloc)?),
         Parts::Hex => read_hex(alloc, word),
+    }
+}
+
+/// The bytes that keys begin with, by the value of `--prefix`.
+pub(crate) fn read_prefix(
+    alloc: Global,
+    parts: Parts,
+    word: Option<&str>,
+) -> Result<Vec<u8>, Refusal>
+    ensures { Gives (λ prefix. prefix.items) (prefix_of parts (option_map (λ text. text.now) word.entry)) result }
+{
+    match word {
+        Some(word) => read_part(alloc, parts, word),
+        None => Ok(Vec::new(alloc)),
     }
 }
 

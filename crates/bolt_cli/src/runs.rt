@@ -10,7 +10,7 @@ use crate::get_command::print_value;
 use crate::info_command::print_info;
 use crate::job::Job;
 use crate::keys_command::print_keys;
-use crate::list_command::print_list;
+use crate::list_command::{WantedList, print_list};
 use crate::page_command::print_page;
 use crate::pages_command::print_pages;
 use crate::stats_command::print_stats;
@@ -67,42 +67,63 @@ fn do_job<O: Sink, T: Sink>(
             slot,
             path,
         } => print_stats(alloc, file, *slot, path.as_slice(), out),
-        Job::Check { file: _, slot, all } => print_check(alloc, file, *slot, *all, out),
+        Job::Check {
+            file: _,
+            slot,
+            all,
+            snapshot: _,
+        } => print_check(alloc, file, *slot, *all, out),
         Job::Buckets {
             file: _,
             slot,
             path,
             form,
-        } => print_buckets(alloc, file, *slot, path.as_slice(), *form, out),
+            sizes,
+        } => print_buckets(alloc, file, *slot, path.as_slice(), *form, *sizes, out),
         Job::Keys {
             file: _,
             slot,
             path,
+            prefix,
             form,
-        } => print_keys(alloc, file, *slot, path.as_slice(), *form, out),
+        } => {
+            let (path, prefix) = (path.as_slice(), prefix.as_slice());
+            print_keys(alloc, file, *slot, path, prefix, *form, out)
+        }
         Job::Get {
             file: _,
             slot,
             path,
             form,
-        } => print_value(alloc, file, *slot, path.as_slice(), *form, out),
+            no_newline,
+        } => print_value(alloc, file, *slot, path.as_slice(), *form, *no_newline, out),
         Job::List {
             file: _,
             slot,
+            form,
+            path,
             from,
             recover,
-        } => print_list(alloc, file, *slot, from.as_slice(), *recover, out),
+        } => {
+            let wanted = WantedList {
+                form: *form,
+                path: path.as_slice(),
+                from: from.as_slice(),
+                recover: *recover,
+            };
+            print_list(alloc, file, *slot, &wanted, out)
+        }
         Job::Compact {
             file: _,
             slot,
             target: _,
             page_size,
-            layout,
+            kind,
             recover,
         } => {
             let wanted = WantedCopy {
                 page_size: *page_size,
-                layout: *layout,
+                layout: kind.layout(),
                 recover: *recover,
             };
             write_copy(alloc, file, *slot, &wanted, out, target)

@@ -17,6 +17,8 @@ pub(crate) enum Flag {
     Long(&'static str),
     /// By one letter, as `-o`.
     Short(char),
+    /// In either way, as `-n` or `--no-newline`.
+    Both(char, &'static str),
 }
 
 /// An option of a command.
@@ -85,6 +87,38 @@ const FORM: Choice = Choice {
     required: false,
 };
 
+const LIST_FORM: Choice = Choice {
+    name: "form",
+    flag: Flag::Long("form"),
+    value: Some("F"),
+    help: "How to print each line: hex, or json (an object for each line) [default: hex]",
+    required: false,
+};
+
+const SIZES: Choice = Choice {
+    name: "sizes",
+    flag: Flag::Long("sizes"),
+    value: None,
+    help: "Before each name, print the bucket's number of keys, its bytes used and its bytes allocated, with all buckets in it",
+    required: false,
+};
+
+const PREFIX: Choice = Choice {
+    name: "prefix",
+    flag: Flag::Long("prefix"),
+    value: Some("K"),
+    help: "Print only the keys that begin with K, which is written as each PART is",
+    required: false,
+};
+
+const NO_NEWLINE: Choice = Choice {
+    name: "no-newline",
+    flag: Flag::Both('n', "no-newline"),
+    value: None,
+    help: "Print no line feed after the value",
+    required: false,
+};
+
 const PARTS: Choice = Choice {
     name: "parts",
     flag: Flag::Long("parts"),
@@ -138,6 +172,22 @@ const FOR_BBOLT: Choice = Choice {
     flag: Flag::Long("for-bbolt"),
     value: None,
     help: "Give each branch page at least two children, so that bbolt can write to the copy",
+    required: false,
+};
+
+const COPY_SNAPSHOT: Choice = Choice {
+    name: "etcd-snapshot",
+    flag: Flag::Long("etcd-snapshot"),
+    value: None,
+    help: "Write a snapshot that etcd restores: as with --for-bbolt, and then the SHA-256 of the copy",
+    required: false,
+};
+
+const CHECK_SNAPSHOT: Choice = Choice {
+    name: "etcd-snapshot",
+    flag: Flag::Long("etcd-snapshot"),
+    value: None,
+    help: "First check that the file ends with the SHA-256 of what is before it, as an etcd snapshot does",
     required: false,
 };
 
@@ -199,28 +249,28 @@ pub(crate) static SYNTAXES: [Syntax; 10] = [
         name: "check",
         about: "Check whether the file is sound; if it isn't, print what is wrong",
         operands: &[FILE],
-        options: &[ALL, META],
+        options: &[ALL, CHECK_SNAPSHOT, META],
         note: None,
     },
     Syntax {
         name: "buckets",
         about: "Print the names of the buckets in a bucket",
         operands: &[FILE, BUCKET_IN],
-        options: &[FORM, PARTS, META],
+        options: &[SIZES, FORM, PARTS, META],
         note: None,
     },
     Syntax {
         name: "keys",
         about: "Print the keys of a bucket, and the names of the buckets in it",
         operands: &[FILE, BUCKET_PART],
-        options: &[FORM, PARTS, META],
+        options: &[PREFIX, FORM, PARTS, META],
         note: None,
     },
     Syntax {
         name: "get",
         about: "Print the value of a key",
         operands: &[FILE, KEY_PART],
-        options: &[FORM, PARTS, META],
+        options: &[NO_NEWLINE, FORM, PARTS, META],
         note: None,
     },
     Syntax {
@@ -232,16 +282,16 @@ pub(crate) static SYNTAXES: [Syntax; 10] = [
     },
     Syntax {
         name: "list",
-        about: "Print everything in the file, one line for each path, in hex",
-        operands: &[FILE],
-        options: &[FROM, RECOVER, META],
+        about: "Print everything in the file or in a bucket, one line for each path, in hex or as JSON",
+        operands: &[FILE, BUCKET_IN],
+        options: &[FROM, LIST_FORM, PARTS, RECOVER, META],
         note: None,
     },
     Syntax {
         name: "compact",
         about: "Write a compact copy: everything in the file, and no free pages",
         operands: &[FILE],
-        options: &[OUTPUT, PAGE_SIZE, FOR_BBOLT, RECOVER, META],
+        options: &[OUTPUT, PAGE_SIZE, FOR_BBOLT, COPY_SNAPSHOT, RECOVER, META],
         note: Some(COPY_NOTE),
     },
 ];

@@ -3,16 +3,16 @@ ghost use Rattle.std.specs.Prelude.{◌≡◌, Err, IfErr, IfOk, MatchOption, Ma
 ghost use Rattle.clap.specs.Words.{fault_of, found_of, kind_of, rows_of, subcommand_rows_of};
 ghost use Rattle.bolt_cli.specs.CommandLine.{Asks, Gives, HasKindOf, IsRefusalOf, IsRefusedBy, asked_by, asked_by_subcommand, program, values_in};
 ghost use Rattle.bolt_cli.specs.LineWords.{Text};
-ghost use Rattle.bolt_cli.specs.PlainWords.{Asked, IsInRange, asked, asked_of, asks, asks_buckets, asks_check, asks_compact, asks_get, asks_info, asks_keys, asks_list, asks_page, asks_pages, asks_stats, first_of, form_by, form_of, layout_by, line_of, number_of, page_id, page_size_by, page_size_of, path_by, path_in, size_in, slot_by, text_by, words_for};
+ghost use Rattle.bolt_cli.specs.PlainWords.{Asked, IsInRange, asked, asked_of, asks, asks_buckets, asks_check, asks_compact, asks_get, asks_info, asks_keys, asks_list, asks_page, asks_pages, asks_stats, first_of, form_by, form_of, copy_kind_by, line_of, list_form_by, number_of, page_id, page_size_by, page_size_of, path_by, path_in, prefix_by, size_in, slot_by, text_by, words_for};
 ghost use Rattle.bolt_cli.specs.declared.words.Refusal.TheVariants.{Memory};
 
 use crate::command_line;
+use crate::copy_kind::CopyKind;
 use crate::job::Job;
 use crate::page_size::PageSize;
-use crate::path_words::{read_from, read_parts, read_path};
+use crate::path_words::{read_from, read_parts, read_path, read_prefix};
 use bolt_format::Slot;
-use bolt_layout::Layout;
-use bolt_report::Form;
+use bolt_report::{Form, ListForm};
 use clap::error::ErrorKind;
 use clap::{ArgMatches, Error};
 use std::alloc::{AllocError, AllocFailed, Global};
@@ -151,7 +151,13 @@ fn read_check(alloc: Global, matches: &ArgMatches<'_>) -> Result<Job, Refusal>
     let file = read_text(alloc, matches, "FILE")?;
     let slot = read_slot(choice(matches, "meta"))?;
     let all = choice(matches, "all").is_some();
-    Ok(Job::Check { file, slot, all })
+    let snapshot = choice(matches, "etcd-snapshot").is_some();
+    Ok(Job::Check {
+        file,
+        slot,
+        all,
+        snapshot,
+    })
 }
 
 fn read_buckets(alloc: Global, matches: &ArgMatches<'_>) -> Result<Job, Refusal>
@@ -161,11 +167,13 @@ fn read_buckets(alloc: Global, matches: &ArgMatches<'_>) -> Result<Job, Refusal>
     let slot = read_slot(choice(matches, "meta"))?;
     let form = read_form(choice(matches, "form"))?;
     let path = read_parts_of(alloc, matches)?;
+    let sizes = choice(matches, "sizes").is_some();
     Ok(Job::Buckets {
         file,
         slot,
         path,
         form,
+        sizes,
     })
 }
 
@@ -176,10 +184,12 @@ fn read_keys(alloc: Global, matches: &ArgMatches<'_>) -> Result<Job, Refusal>
     let slot = read_slot(choice(matches, "meta"))?;
     let form = read_form(choice(matches, "form"))?;
     let path = read_parts_of(alloc, matches)?;
+    let prefix = read_prefix_of(alloc, matches)?;
     Ok(Job::Keys {
         file,
         slot,
         path,
+        prefix,
         form,
     })
 }
@@ -191,11 +201,13 @@ fn read_get(alloc: Global, matches: &ArgMatches<'_>) -> Result<Job, Refusal>
     let slot = read_slot(choice(matches, "meta"))?;
     let form = read_form(choice(matches, "form"))?;
     let path = read_parts_of(alloc, matches)?;
+    let no_newline = choice(matches, "no-newline").is_some();
     Ok(Job::Get {
         file,
         slot,
         path,
         form,
+        no_newline,
     })
 }
 
@@ -204,11 +216,15 @@ fn read_list(alloc: Global, matches: &ArgMatches<'_>) -> Result<Job, Refusal>
 {
     let file = read_text(alloc, matches, "FILE")?;
     let slot = read_slot(choice(matches, "meta"))?;
+    let form = read_list_form(choice(matches, "form"))?;
+    let path = read_parts_of(alloc, matches)?;
     let from = read_from(alloc, choice(matches, "from"))?;
     let recover = choice(matches, "recover").is_some();
     Ok(Job::List {
         file,
         slot,
+        form,
+        path,
         from,
         recover,
     })
@@ -230,14 +246,17 @@ fn read_compact(alloc: Global, matches: &ArgMatches<'_>) -> Result<Job, Refusal>
     let slot = read_slot(choice(matches, "meta"))?;
     let target = read_text(alloc, matches, "output")?;
     let page_size = read_page_size(choice(matches, "page-size"))?;
-    let layout = read_layout(choice(matches, "for-bbolt"));
+    let kind = read_copy_kind(
+        choice(matches, "for-bbolt"),
+        choice(matches, "etcd-snapshot"),
+    );
     let recover = choice(matches, "recover").is_some();
     Ok(Job::Compact {
         file,
         slot,
         target,
         page_size,
-        layout,
+        kind,
         recover,
     })
 }
@@ -251,6 +270,14 @@ fn read_parts_of(alloc: Global, matches: &ArgMatches<'_>) -> Result<Vec<Vec<u8>>
         Some(words) => read_path(alloc, parts, words),
         None => Ok(Vec::new(alloc)),
     }
+}
+
+// The bytes that the word of `--prefix` stands for, which is written as those of PART are.
+fn read_prefix_of(alloc: Global, matches: &ArgMatches<'_>) -> Result<Vec<u8>, Refusal>
+    ensures { Gives (λ prefix. prefix.items) (prefix_by (values_in (rows_of (found_of matches.now)))) result }
+{
+    let parts = read_parts(choice(matches, "parts"))?;
+    read_prefix(alloc, parts, choice(matches, "prefix"))
 }
 
 fn read_text(alloc: Global, matches: &ArgMatches<'_>, id: &str) -> Result<String, Refusal>
@@ -297,13 +324,15 @@ fn read_page_size(word: Option<&str>) -> Result<Option<PageSize>, Refusal>
     }
 }
 
-// The layout of a copy: balanced if the option's word is given.
-fn read_layout(word: Option<&str>) -> Layout
-    ensures { result ≡ layout_by (option_map (λ text. text.now) word.entry) }
+// The kind of a copy, by the words of `--for-bbolt` and `--etcd-snapshot` if they are given. A
+// snapshot is for bbolt too.
+fn read_copy_kind(for_bbolt: Option<&str>, snapshot: Option<&str>) -> CopyKind
+    ensures { result ≡ copy_kind_by (option_map (λ text. text.now) for_bbolt.entry) (option_map (λ text. text.now) snapshot.entry) }
 {
-    match word {
-        Some(_) => Layout::Balanced,
-        None => Layout::Plain,
+    match (for_bbolt, snapshot) {
+        (_, Some(_)) => CopyKind::EtcdSnapshot,
+        (Some(_), None) => CopyKind::ForBbolt,
+        (None, None) => CopyKind::Plain,
     }
 }
 
@@ -344,6 +373,16 @@ fn read_form(word: Option<&str>) -> Result<Form, Refusal>
         Some("bytes") => Ok(Form::Bytes),
         Some("text") => Ok(Form::Text),
         Some("json") => Ok(Form::Json),
+        Some(_) => Err(Refusal::Word("bad form")),
+    }
+}
+
+fn read_list_form(word: Option<&str>) -> Result<ListForm, Refusal>
+    ensures { Gives (λ form. form) (list_form_by (option_map (λ text. text.now) word.entry)) result }
+{
+    match word {
+        None | Some("hex") => Ok(ListForm::Hex),
+        Some("json") => Ok(ListForm::Json),
         Some(_) => Err(Refusal::Word("bad form")),
     }
 }

@@ -1,0 +1,11 @@
+-- The kinds of copies: docs/COMMANDS.md, "What a run writes".
+use Rattle.bolt_layout.specs.declared.layout.Layout.{Layout}
+use Rattle.bolt_layout.specs.declared.layout.Layout.TheVariants.{Balanced, Plain}
+use Rattle.bolt_cli.specs.declared.copy_kind.CopyKind.{CopyKind}
+use Rattle.bolt_cli.specs.declared.copy_kind.CopyKind.TheVariants as kind
+
+-- only a plain copy has the plain layout
+abbrev pub layout_for : CopyKind → Layout
+layout_for kind.Plain = Plain
+layout_for kind.ForBbolt = Balanced
+layout_for kind.EtcdSnapshot = Balanced
