@@ -428,6 +428,20 @@ given_again (pair ∷ given) name = either_way (bytes_eq pair.0 name) (has (give
     either_way true b t = refl
     either_way false b t = t
 
+-- behind it each letter is a fault: another one is unknown, and the same one is given again
+letter_fault : (s : Syntax) → is_good s ≡ true → (o : Choice) (y char : ℕ) (left : Text) (h : Held) (next : Held → Kinds) → by_short y s.options ≡ Some o
+    → list_all (λ (p : Choice). has_only y p.flag) s.options ≡ true → o.has_value ≡ false → IsFault (react_fault (rules_in s) false (option_built o) [] h)
+    → (found : Option Choice) → by_short char s.options ≡ found → IsFault (short_fault (rules_in s) false (arg_by_short (rules_in s) char) left h next)
+letter_fault s good o y char left h next met only alone again None none =
+    subst (λ r. IsFault (short_fault (rules_in s) false r left h next)) (sym (short_in s good char ∙ ap (λ k. option_or_help k (104 == char)) none)) (unknown_short (rules_in s) (104 == char) left h next)
+letter_fault s good o y char left h next met only alone again (Some other) met2 =
+    let c = rules_in s in
+    let lettered = found_passes (λ (p : Choice). is_lettered char p.flag) s.options other met2 in
+    let is = the_letter char other.flag lettered y (all_found (λ (p : Choice). has_only y p.flag) (λ (p : Choice). is_lettered char p.flag) s.options other only met2) in
+    let own : arg_by_short c char ≡ Some (option_built o) = short_in s good char ∙ ap (λ (l : ℕ). option_or_help (by_short l s.options) (104 == char)) is ∙ ap (λ k. option_or_help k (104 == char)) met in
+    let takes : takes_values (option_built o) ≡ false = option_takes o.name o.flag o.has_value o.required ∙ alone in
+    subst (λ r. IsFault (short_fault c false r left h next)) (sym own) (subst (λ (b : Bool). IsFault (short_by b c (option_built o) left h next)) (sym takes) (fault_first _ _ again))
+
 -- no other letter can follow it in its word
 second_letter : (s : Syntax) → is_good s ≡ true → (given : Given) (h : Held) (y z : ℕ) (zs : Text) (o : Choice) → HasRows (settled (rules_in s) h).rows given → IsUtf8 (z ∷ zs)
     → by_short y s.options ≡ Some o → list_all (λ (p : Choice). has_only y p.flag) s.options ≡ true → o.has_value ≡ false
@@ -448,17 +462,7 @@ second_letter s good given h y z zs o says text met only alone =
           let (char, chars_after, are, same) = first_char z zs text in
           let left = drop (length (encode_utf8 char)) (z ∷ zs) in
           let next = flags_fault c false (length zs) left 0 in
-          let takes : takes_values a ≡ false = option_takes o.name o.flag o.has_value o.required ∙ alone in
-          let by : (found : Option Choice) → by_short char s.options ≡ found → IsFault (short_fault c false (arg_by_short c char) left h2 next) =
-          λ found. elim found [
-            | None ↦ λ none. subst (λ r. IsFault (short_fault c false r left h2 next)) (sym (short_in s good char ∙ ap (λ k. option_or_help k (104 == char)) none)) (unknown_short c (104 == char) left h2 next)
-            | Some other ↦ λ met2.
-                let lettered = found_passes (λ (p : Choice). is_lettered char p.flag) s.options other met2 in
-                let is = the_letter char other.flag lettered y (all_found (λ (p : Choice). has_only y p.flag) (λ (p : Choice). is_lettered char p.flag) s.options other only met2) in
-                let own : arg_by_short c char ≡ Some a = short_in s good char ∙ ap (λ (l : ℕ). option_or_help (by_short l s.options) (104 == char)) is ∙ ap (λ k. option_or_help k (104 == char)) met in
-                subst (λ r. IsFault (short_fault c false r left h2 next)) (sym own) (subst (λ (b : Bool). IsFault (short_by b c a left h2 next)) (sym takes) (fault_first _ _ (fault_second [] _ again)))
-          ] in
-          fault_second _ _ (subst (λ first. IsFault (bundle_step_fault c false first (z ∷ zs) 0 h2 (flags_fault c false (length zs)))) (sym (ap (λ (cs : List ℕ). slice_get cs 0) are)) (by (by_short char s.options) refl))
+          fault_second _ _ (subst (λ first. IsFault (bundle_step_fault c false first (z ∷ zs) 0 h2 (flags_fault c false (length zs)))) (sym (ap (λ (cs : List ℕ). slice_get cs 0) are)) (letter_fault s good o y char left h2 next met only alone (fault_second [] _ again) (by_short char s.options) refl))
     ]
 
 no_more : (kinds : Kinds) → or_else kinds [] ≡ kinds

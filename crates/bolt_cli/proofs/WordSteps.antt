@@ -62,22 +62,22 @@ pub one_option : (name : Text) (flag : Flag) (has_value required : Bool) → has
 one_option name flag false required valued rows word = absurd (search (rules, valued))
 one_option name (long own) true required valued rows word = refl
 one_option name (short letter) true required valued rows word = refl
-one_option name (both letter word) true required valued rows word = refl
+one_option name (both letter own) true required valued rows word = refl
 
 pub no_word : (name : Text) (flag : Flag) (has_value required : Bool) → has_value ≡ true → (rows : List Row)
     → IsFault (use_fault false (option_built (choice_of name flag has_value required)) [] rows)
 no_word name flag false required valued rows = absurd (search (rules, valued))
 no_word name (long own) true required valued rows = tt
 no_word name (short letter) true required valued rows = tt
-no_word name (both letter word) true required valued rows = tt
+no_word name (both letter own) true required valued rows = tt
 
 pub option_takes : (name : Text) (flag : Flag) (has_value required : Bool) → takes_values (option_built (choice_of name flag has_value required)) ≡ has_value
 option_takes name (long own) true required = refl
 option_takes name (long own) false required = refl
 option_takes name (short letter) true required = refl
-option_takes name (both letter word) true required = refl
+option_takes name (both letter own) true required = refl
 option_takes name (short letter) false required = refl
-option_takes name (both letter word) false required = refl
+option_takes name (both letter own) false required = refl
 
 -- an option without a value
 pub alone_once : (name : Text) (flag : Flag) (has_value required : Bool) → has_value ≡ false → (rows : List Row)
@@ -85,7 +85,7 @@ pub alone_once : (name : Text) (flag : Flag) (has_value required : Bool) → has
 alone_once name flag true required alone rows = absurd (search (rules, alone))
 alone_once name (long own) false required alone rows = refl
 alone_once name (short letter) false required alone rows = refl
-alone_once name (both letter word) false required alone rows = refl
+alone_once name (both letter own) false required alone rows = refl
 
 abbrev conflict_if : Bool → Kinds
 conflict_if again = or_else (if again && true then kind.ArgumentConflict ∷ [] else []) []
@@ -101,14 +101,14 @@ pub option_rows : (name : Text) (flag : Flag) (has_value required : Bool) → ha
 option_rows name flag false required valued rows word = absurd (search (rules, valued))
 option_rows name (long own) true required valued rows word = refl
 option_rows name (short letter) true required valued rows word = refl
-option_rows name (both letter word) true required valued rows word = refl
+option_rows name (both letter own) true required valued rows word = refl
 
 pub alone_rows : (name : Text) (flag : Flag) (has_value required : Bool) → has_value ≡ false → (rows : List Row)
     → used (option_built (choice_of name flag has_value required)) [] rows ≡ rows_with name (reading_by (option_built (choice_of name flag has_value required))) given_word rows
 alone_rows name flag true required alone rows = absurd (search (rules, alone))
 alone_rows name (long own) false required alone rows = refl
 alone_rows name (short letter) false required alone rows = refl
-alone_rows name (both letter word) false required alone rows = refl
+alone_rows name (both letter own) false required alone rows = refl
 
 -- ---- states
 

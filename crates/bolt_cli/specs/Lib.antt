@@ -1,5 +1,6 @@
 pub mod Answers
 pub mod CommandLine
+pub mod CopyKinds
 pub mod Failures
 pub mod LineWords
 pub mod Needs
