@@ -21,6 +21,7 @@ pub mod RestAnswers
 pub mod RootEntries
 pub mod SettingLemmas
 pub mod ShownTexts
+pub mod SnapshotCopies
 pub mod StatsAnswers
 pub mod WholeLines
 pub mod WordSteps
