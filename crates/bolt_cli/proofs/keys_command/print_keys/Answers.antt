@@ -1,4 +1,5 @@
 use Rattle.std.proofs.Common.{List, Err, Ok, inr, refl, subst₂}
+use Rattle.std.specs.Prelude.{⊤}
 use Rattle.bolt_check.specs.declared.checked_file.Checked.{Checked}
 use Rattle.bolt_format.specs.Elements.{LeafElement}
 use Rattle.bolt_report.specs.KeyLines.{keys_text}
@@ -32,9 +33,9 @@ returns-in_err-keys_beginning g c =
     let opened = c.in_ok-checked.ensures in
     let found = c.in_ok-bucket.ensures in
     entries_stopped c.args.file.now c.args.slot (path_in c.args.path.now) c.args.form (λ entries. keys_text c.args.form (beginning c.args.prefix.now entries)) c.in_ok-checked.checked opened.bytes opened.sound
-    c.in_ok-bucket.bucket found.file found.named c.args.out.now c.keys_beginning.new.sink _ _
-    (subst₂ (λ (file : Checked) (start : Start). ForEntries file start (λ entries. Reports g.O.Sink.taken g.O.Sink.failed c.args.out.now c.keys_beginning.new.sink (keys_text c.args.form (beginning c.args.prefix.now entries)) _))
-    c.cursor.ensures.checked c.cursor.ensures.start c.in_err-keys_beginning.ensures.written)
+    c.in_ok-bucket.bucket found.file found.named {A = ⊤} {taken = g.O.Sink.taken} {failed = g.O.Sink.failed} c.args.out.now c.keys_beginning.new.sink _ _
+    (subst₂ (λ (file : Checked) (start : Start). ForEntries file start (λ entries. Reports {A = ⊤} g.O.Sink.taken g.O.Sink.failed c.args.out.now c.keys_beginning.new.sink (keys_text c.args.form (beginning c.args.prefix.now entries)) (Err c.in_err-keys_beginning.field-0.0)))
+    c.cursor-cursor.ensures.checked c.cursor-cursor.ensures.start c.in_err-keys_beginning.ensures.written)
     c.in_err-keys_beginning.ensures.fault c.in_err-keys_beginning.ensures.memory c.from_residual-in_err-keys_beginning.ensures.1
 
 pub returns : goal.returns
@@ -42,6 +43,6 @@ returns g c =
     let opened = c.in_ok-checked.ensures in
     let found = c.in_ok-bucket.ensures in
     entries_whole c.args.file.now c.args.slot (path_in c.args.path.now) c.args.form (λ entries. keys_text c.args.form (beginning c.args.prefix.now entries)) c.in_ok-checked.checked opened.bytes opened.sound
-    c.in_ok-bucket.bucket found.file found.named c.args.out.now c.keys_beginning.new.sink _
-    (subst₂ (λ (file : Checked) (start : Start). ForEntries file start (λ entries. Reports g.O.Sink.taken g.O.Sink.failed c.args.out.now c.keys_beginning.new.sink (keys_text c.args.form (beginning c.args.prefix.now entries)) _))
-    c.cursor.ensures.checked c.cursor.ensures.start c.in_ok-keys_beginning.ensures.written)
+    c.in_ok-bucket.bucket found.file found.named {A = ⊤} {taken = g.O.Sink.taken} {failed = g.O.Sink.failed} c.args.out.now c.keys_beginning.new.sink tt
+    (subst₂ (λ (file : Checked) (start : Start). ForEntries file start (λ entries. Reports {A = ⊤} g.O.Sink.taken g.O.Sink.failed c.args.out.now c.keys_beginning.new.sink (keys_text c.args.form (beginning c.args.prefix.now entries)) (Ok tt)))
+    c.cursor-cursor.ensures.checked c.cursor-cursor.ensures.start c.in_ok-keys_beginning.ensures.written)
