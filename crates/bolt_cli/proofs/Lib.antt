@@ -22,6 +22,7 @@ pub mod RestAnswers
 pub mod RootEntries
 pub mod SettingLemmas
 pub mod ShownTexts
+pub mod SizesAnswers
 pub mod StatsAnswers
 pub mod WholeLines
 pub mod WordSteps

@@ -25,6 +25,7 @@ pub(crate) fn print_keys<O: Sink>(
 {
     let checked = open_read(alloc, file, slot)?;
     let bucket = open_bucket(checked, path)?;
-    keys_beginning(alloc, &mut bucket.cursor(), prefix, form, out)?;
+    let mut cursor = bucket.cursor();
+    keys_beginning(alloc, &mut cursor, prefix, form, out)?;
     Ok(0)
 }

@@ -19,7 +19,8 @@ use Rattle.bolt_tree.specs.Private.Behind.{behind}
 use Rattle.bolt_recover.specs.Private.Frames.{is_over, state_of}
 use Rattle.bolt_recover.specs.Recoveries.{recovery_left}
 use Rattle.bolt_recover.specs.declared.recovery.Recovery.{Recovery}
-use Rattle.bolt_report.specs.ListLines.{listing_text, member_line}
+use Rattle.bolt_report.specs.ListForms.{list_line, listing_lines}
+use Rattle.bolt_report.specs.declared.form.ListForm.{ListForm}
 
 -- one of the two holds
 either_of : (a b : Bool) → (a || b) ≡ true → (a ≡ true) ⊎ (b ≡ true)
@@ -99,11 +100,11 @@ module _ (below : Path) where
       with_by false before e h both = absurd (let f : false ≡ true = both in cc)
 
       -- and the line of one that is.
-      pub with_wanted : now ≡ true → (begins_with below m.0 && not (is_lt (path_cmp m.0 from))) ≡ true
-          → listing_text (rest_from from (left_part found (m ∷ ms))) ≡ member_line m ++ listing_text (rest_from from (left_part now ms))
-      with_wanted e both =
-          ap listing_text (ap (rest_from from) (left_by_next true e) ∙ with_by (begins_with below m.0) (is_lt (path_cmp m.0 from)) refl refl both)
-          ∙ ap (λ (members : List Member). member_line m ++ listing_text (rest_from from members)) (sym (left_now true e))
+      pub with_wanted : (form : ListForm) → now ≡ true → (begins_with below m.0 && not (is_lt (path_cmp m.0 from))) ≡ true
+          → listing_lines form (rest_from from (left_part found (m ∷ ms))) ≡ list_line form m ++ listing_lines form (rest_from from (left_part now ms))
+      with_wanted form e both =
+          ap (listing_lines form) (ap (rest_from from) (left_by_next true e) ∙ with_by (begins_with below m.0) (is_lt (path_cmp m.0 from)) refl refl both)
+          ∙ ap (λ (members : List Member). list_line form m ++ listing_lines form (rest_from from members)) (sym (left_now true e))
 
 -- what is left to a recovery rises
 left_if : (path : Path) (listing : List Member) (over : Bool) → Rises member_cmp listing → Rises member_cmp (if over then [] else behind path listing)

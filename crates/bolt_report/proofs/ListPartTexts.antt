@@ -6,7 +6,8 @@ use Rattle.bolt_tree.specs.Entries.{Item}
 use Rattle.bolt_tree.specs.Listing.{Member}
 use Rattle.bolt_tree.specs.ListingParts.{begins_with}
 use Rattle.bolt_tree.specs.Paths.{Path}
-use Rattle.bolt_report.specs.ListLines.{listing_text, member_line}
+use Rattle.bolt_report.specs.ListForms.{list_line, listing_lines}
+use Rattle.bolt_report.specs.declared.form.ListForm.{ListForm}
 
 module _ (below : Path) where
   abbrev pub front : List Member → List Member
@@ -16,17 +17,17 @@ module _ (below : Path) where
   first_of old new path told item given same = given ∙ ap (λ (p : Path). (p, item) ∷ new) (sym same)
 
   -- the line of a member that begins with the path, and then the text of the others;
-  pub front_text : (old new : List Member) (path told : Path) (item : Item) → old ≡ (path, item) ∷ new → told ≡ path → begins_with below told ≡ true
-      → listing_text (front old) ≡ member_line (told, item) ++ listing_text (front new)
-  front_text old new path told item given same begins =
+  pub front_text : (form : ListForm) (old new : List Member) (path told : Path) (item : Item) → old ≡ (path, item) ∷ new → told ≡ path → begins_with below told ≡ true
+      → listing_lines form (front old) ≡ list_line form (told, item) ++ listing_lines form (front new)
+  front_text form old new path told item given same begins =
       let kept : front ((told, item) ∷ new) ≡ (told, item) ∷ front new =
       take_while-cons (λ (m : Member). begins_with below m.0) (told, item) new ∙ ap (λ (b : Bool). cond b ((told, item) ∷ front new) []) begins in
-      ap (λ (ms : List Member). listing_text (front ms)) (first_of old new path told item given same) ∙ ap listing_text kept
+      ap (λ (ms : List Member). listing_lines form (front ms)) (first_of old new path told item given same) ∙ ap (listing_lines form) kept
 
   -- nothing from one on that doesn't.
-  pub front_over : (old new : List Member) (path told : Path) (item : Item) → old ≡ (path, item) ∷ new → told ≡ path → begins_with below told ≡ false
-      → listing_text (front old) ≡ []
-  front_over old new path told item given same apart =
+  pub front_over : (form : ListForm) (old new : List Member) (path told : Path) (item : Item) → old ≡ (path, item) ∷ new → told ≡ path → begins_with below told ≡ false
+      → listing_lines form (front old) ≡ []
+  front_over form old new path told item given same apart =
       let none : front ((told, item) ∷ new) ≡ [] =
       take_while-cons (λ (m : Member). begins_with below m.0) (told, item) new ∙ ap (λ (b : Bool). cond b ((told, item) ∷ front new) []) apart in
-      ap (λ (ms : List Member). listing_text (front ms)) (first_of old new path told item given same) ∙ ap listing_text none
+      ap (λ (ms : List Member). listing_lines form (front ms)) (first_of old new path told item given same) ∙ ap (listing_lines form) none

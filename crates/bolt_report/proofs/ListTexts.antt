@@ -2,10 +2,10 @@
 -- Rests on one text after another on a sink.
 use Rattle.std.proofs.Common.{◌≡◌, ◌∙◌, ℕ, List, [], ◌∷◌, ◌++◌, Bor, Option, Result, Ok, Err, flat_map, false, not, refl, sym, true, ap, subst, append-nil, append_assoc}
 use Rattle.std.specs.Ordering.{is_lt}
-use Rattle.std.specs.Prelude.{⊤, IsErr, IsErrAnd}
+use Rattle.std.specs.Prelude.{⊤, IsErrAnd}
 use Rattle.hex.specs.Hex.{encode_lower}
 use Rattle.bolt_format.specs.Writes.{Writes}
-use Rattle.bolt_format.proofs.WriteLemmas.{Writes-same, Writes-stop, Writes-then}
+use Rattle.bolt_format.proofs.WriteLemmas.{Writes-same, Writes-then}
 use Rattle.bolt_check.specs.CheckedFiles.{bytes_of, meta_of}
 use Rattle.bolt_check.specs.declared.checked_file.Checked.{Checked}
 use Rattle.bolt_tree.specs.Entries.{Item}
@@ -16,7 +16,6 @@ use Rattle.bolt_report.specs.ListForms.{list_line, listing_lines}
 use Rattle.bolt_report.specs.ListLines.{hex_path}
 use Rattle.bolt_report.specs.declared.form.ListForm.{ListForm}
 use Rattle.bolt_report.specs.Reports.{Reports}
-use Rattle.bolt_format.specs.declared.sink.SinkFault.{SinkFault}
 use Rattle.bolt_report.specs.declared.fault.ReportFault.{ReportFault}
 use Rattle.bolt_report.proofs.ReportLemmas.{Reports-stop, Reports-then, reports}
 
@@ -61,18 +60,11 @@ module _ {S : Type 0} (taken : S → Option (List ℕ)) (failed : S → ℕ) whe
   reports_whole old new whole written same w = reports taken failed old new whole (Ok tt) (Writes-same old new written whole (Ok tt) (sym (append-nil written) ∙ sym same) w)
 
   -- the next piece was not put whole
-  pub reports_stop : (old mid new : S) (whole written piece rest : List ℕ) (e : ReportFault) (result : Result ⊤ ReportFault) → whole ≡ written ++ (piece ++ rest)
+  pub reports_stop : {A : Type 0} (old mid new : S) (whole written piece rest : List ℕ) (e : ReportFault) (result : Result A ReportFault) → whole ≡ written ++ (piece ++ rest)
       → Writes {A = ⊤} {E = ReportFault} taken failed old mid written (Ok tt) → Reports {A = ⊤} taken failed mid new piece (Err e) → IsErrAnd result (λ f. f ≡ e) → Reports taken failed old new whole result
   reports_stop old mid new whole written piece rest e result same before one is =
       subst (λ (text : List ℕ). Reports taken failed old new text result) (sym same)
       (Reports-then old mid new written (piece ++ rest) tt result (reports taken failed old mid written (Ok tt) before) (Reports-stop mid new piece rest e result one is))
-
-  -- the same, of a piece that a sink refused
-  pub piece_stop : {A : Type 0} (old mid new : S) (whole written piece rest : List ℕ) (e : SinkFault) (result : Result A ReportFault) → whole ≡ written ++ (piece ++ rest)
-      → Writes {A = ⊤} {E = ReportFault} taken failed old mid written (Ok tt) → Writes {A = ⊤} {E = SinkFault} taken failed mid new piece (Err e) → IsErr result → Reports taken failed old new whole result
-  piece_stop old mid new whole written piece rest e result same before one err =
-      reports taken failed old new whole result (Writes-same old new (written ++ (piece ++ rest)) whole result (sym same)
-      (Writes-then old mid new written (piece ++ rest) tt result before (Writes-stop mid new piece rest e result one err)))
 
   -- it was
   pub more_written : (old mid new : S) (whole written piece rest : List ℕ) → whole ≡ written ++ (piece ++ rest) → Writes {A = ⊤} {E = ReportFault} taken failed old mid written (Ok tt)

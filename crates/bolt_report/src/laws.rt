@@ -1,4 +1,4 @@
-//! What the definitions of figures and of JSON lines imply.
+//! What the definitions of figures and of the lines of a listing imply.
 ghost use Rattle.std.specs.Prelude.{◌≡◌, ℕ, List, Some, option_and_then};
 ghost use Rattle.json.specs.Json.{document};
 ghost use Rattle.bolt_format.specs.declared.meta.Meta.{Meta};
@@ -6,8 +6,11 @@ ghost use Rattle.bolt_check.specs.Sound.{HasSoundTrees};
 ghost use Rattle.bolt_report.specs.Forms.{json_text};
 ghost use Rattle.bolt_report.specs.JsonLines.{member_json};
 ghost use Rattle.bolt_report.specs.JsonReadings.{IsMemberOfBytes, member_of};
+ghost use Rattle.bolt_report.specs.ListForms.{listing_lines};
+ghost use Rattle.bolt_report.specs.ListLines.{listing_text};
 ghost use Rattle.bolt_report.specs.StatsOf.{IsStatsOf};
 ghost use Rattle.bolt_report.specs.declared.figures.Stats.{Stats};
+ghost use Rattle.bolt_report.specs.declared.form.ListForm.TheVariants as ListForm;
 ghost use Rattle.bolt_tree.specs.Entries.{IsStart, Start};
 ghost use Rattle.bolt_tree.specs.Listing.{Member};
 
@@ -26,4 +29,9 @@ pub fn stats_exist()
 pub fn json_lines_read_back()
     ensures document { (m : Member) → IsMemberOfBytes m → document (json_text (member_json m)) ≡ Some (member_json m) }
     ensures member { (m : Member) → IsMemberOfBytes m → option_and_then member_of (document (json_text (member_json m))) ≡ Some m }
+{}
+
+/// The lines of a listing in hexadecimal are its text.
+pub fn hex_lines_are_the_listing_text()
+    ensures { (listing : List Member) → listing_lines ListForm.Hex listing ≡ listing_text listing }
 {}

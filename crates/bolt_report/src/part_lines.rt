@@ -10,58 +10,65 @@ ghost use Rattle.bolt_tree.specs.Paths.{path_cmp, path_of};
 ghost use Rattle.bolt_tree.specs.ShownEntries.{item_view};
 ghost use Rattle.bolt_recover.specs.Recovered.{ForRecovered};
 ghost use Rattle.bolt_recover.specs.Recoveries.{ForLosses, recovery_file, recovery_left, recovery_losses, recovery_meta};
-ghost use Rattle.bolt_report.specs.ListLines.{listing_text};
+ghost use Rattle.bolt_report.specs.ListForms.{lines_form, listing_lines};
 ghost use Rattle.bolt_report.specs.Reports.{Reports};
 
 use crate::fault::ReportFault;
-use crate::list_lines::{is_before, put_member};
+use crate::form::ListForm;
+use crate::list_lines::is_before;
+use crate::member_lines::MemberLines;
 use bolt_check::Checked;
 use bolt_format::Sink;
 use bolt_recover::{Members, Recovery};
 use bolt_tree::{Item, Walk};
 use std::alloc::Global;
 
-/// Writes a line for each path of a file that begins with `below` and doesn't come before `from`,
-/// as `list` does (docs/LISTING.md, "The part below a path"). The member at `below` comes first. If
-/// no path begins with `below`, the text is empty. It opens the pages on the way to the first line
-/// and reads on to the first path that doesn't begin with `below`. A line needs no memory.
+/// Writes a line in a form for each path of a file that begins with `below` and doesn't come before
+/// `from` (docs/LISTING.md, "The part below a path"): of every path if both are empty. The member
+/// at `below` comes first. If no path begins with `below`, the text is empty. It opens the pages on
+/// the way to the first line and reads on to the first path that doesn't begin with `below`. Only
+/// JSON lines need memory.
 ///
 /// # Errors
 ///
-/// `Sink` if the sink failed; `NoMemory` if memory ran out for the walk, and the sink had not
-/// failed. The sink has then accepted a prefix of the text. There is no other error.
+/// `Sink` if the sink failed; `NoMemory` if memory ran out for the walk or for a JSON line, and the
+/// sink had not failed. The sink has then accepted a prefix of the text. There is no other error.
 pub fn list_part<S: Sink>(
     alloc: Global,
     checked: Checked<'_>,
     below: &[&[u8]],
     from: &[&[u8]],
+    form: ListForm,
     sink: &mut S,
 ) -> Result<(), ReportFault>
-    ensures written { ForListing checked.entry (λ listing. Reports S.taken S.failed sink.old sink.new (listing_text (rest_from (path_of from.now) (part_below (path_of below.now) listing))) result) }
+    ensures written { ForListing checked.entry (λ listing. Reports S.taken S.failed sink.old sink.new (listing_lines form (rest_from (path_of from.now) (part_below (path_of below.now) listing))) result) }
     ensures fault { IfErr result (λ fault. (fault ≡ ReportFault.Sink) ⊎ (fault ≡ ReportFault.NoMemory)) }
     ensures memory { IfErr result (λ fault. fault ≡ ReportFault.NoMemory → S.failed sink.new ≡ S.failed sink.old) }
 {
     let mut walk = Walk::from(alloc, checked, later_of(from, below))?;
-    put_part(&mut walk, below, sink)
+    put_part(&mut walk, below, &mut MemberLines::new(alloc, form), sink)
 }
 
-/// Writes a line for each path that is left to a recovery, begins with `below` and doesn't come
-/// before `from`, as `list_part` does, with its errors. If it returns `Ok`, the recovery has
+/// Writes a line in a form for each path that is left to a recovery, begins with `below` and doesn't
+/// come before `from`, as `list_part` does, with its errors. If it returns `Ok`, the recovery has
 /// reported all losses, and the result says whether what was left has the bucket at `below`: always
 /// if `below` is empty. If it doesn't, the text is empty, even if there is a value at `below`.
 pub fn list_recovered_part<S: Sink>(
+    alloc: Global,
     recovery: &mut Recovery<'_>,
     below: &[&[u8]],
     from: &[&[u8]],
+    form: ListForm,
     sink: &mut S,
 ) -> Result<bool, ReportFault>
-    ensures written { ForRecovered (recovery_file recovery.old) (recovery_meta recovery.old) (λ listing. Reports S.taken S.failed sink.old sink.new (listing_text (rest_from (path_of from.now) (bucket_part (path_of below.now) (recovery_left recovery.old listing)))) result) }
+    ensures written { ForRecovered (recovery_file recovery.old) (recovery_meta recovery.old) (λ listing. Reports S.taken S.failed sink.old sink.new (listing_lines form (rest_from (path_of from.now) (bucket_part (path_of below.now) (recovery_left recovery.old listing)))) result) }
     ensures found { IfOk result (λ found. ForRecovered (recovery_file recovery.old) (recovery_meta recovery.old) (λ listing. found ≡ has_bucket (path_of below.now) (recovery_left recovery.old listing))) }
     ensures all { OnOk result (ForLosses (recovery_file recovery.old) (recovery_meta recovery.old) (λ losses. recovery_losses recovery.new ≡ losses)) }
     ensures fault { IfErr result (λ fault. (fault ≡ ReportFault.Sink) ⊎ (fault ≡ ReportFault.NoMemory)) }
     ensures memory { IfErr result (λ fault. fault ≡ ReportFault.NoMemory → S.failed sink.new ≡ S.failed sink.old) }
 {
-    put_bucket_part(recovery, below, from, sink)
+    let mut lines = MemberLines::new(alloc, form);
+    put_bucket_part(recovery, below, from, &mut lines, sink)
 }
 
 /// Writes a line for each member that is left, up to the first whose path doesn't begin with
@@ -69,9 +76,10 @@ pub fn list_recovered_part<S: Sink>(
 fn put_part<'a, M: Members<'a>, S: Sink>(
     members: &mut M,
     below: &[&[u8]],
+    lines: &mut MemberLines,
     sink: &mut S,
 ) -> Result<(), ReportFault>
-    ensures written { (listing : List Member) → M.lists members.old listing → Reports S.taken S.failed sink.old sink.new (listing_text (take_while (λ m. begins_with (path_of below.now) m.0) (M.left members.old listing))) result }
+    ensures written { (listing : List Member) → M.lists members.old listing → Reports S.taken S.failed sink.old sink.new (listing_lines (lines_form lines.old) (take_while (λ m. begins_with (path_of below.now) m.0) (M.left members.old listing))) result }
     ensures fault { IfErr result (λ fault. (fault ≡ ReportFault.Sink) ⊎ (fault ≡ ReportFault.NoMemory)) }
     ensures memory { IfErr result (λ fault. fault ≡ ReportFault.NoMemory → S.failed sink.new ≡ S.failed sink.old) }
 {
@@ -79,7 +87,7 @@ fn put_part<'a, M: Members<'a>, S: Sink>(
         if !is_below(members.path(), below) {
             return Ok(());
         }
-        put_member(members.path(), &item, sink)?;
+        lines.put(members.path(), &item, sink)?;
     }
     Ok(())
 }
@@ -90,10 +98,11 @@ fn put_bucket_part<'a, M: Members<'a>, S: Sink>(
     members: &mut M,
     below: &[&[u8]],
     from: &[&[u8]],
+    lines: &mut MemberLines,
     sink: &mut S,
 ) -> Result<bool, ReportFault>
     ensures written { (listing : List Member) → M.lists members.old listing → Rises member_cmp (M.left members.old listing)
-        → Reports S.taken S.failed sink.old sink.new (listing_text (rest_from (path_of from.now) (bucket_part (path_of below.now) (M.left members.old listing)))) result }
+        → Reports S.taken S.failed sink.old sink.new (listing_lines (lines_form lines.old) (rest_from (path_of from.now) (bucket_part (path_of below.now) (M.left members.old listing)))) result }
     ensures found { IfOk result (λ found. (listing : List Member) → M.lists members.old listing → found ≡ has_bucket (path_of below.now) (M.left members.old listing)) }
     ensures end { OnOk result (M.ends_as members.old members.new) }
     ensures fault { IfErr result (λ fault. (fault ≡ ReportFault.Sink) ⊎ (fault ≡ ReportFault.NoMemory)) }
@@ -103,7 +112,7 @@ fn put_bucket_part<'a, M: Members<'a>, S: Sink>(
     'part: while let Some(item) = members.next()? {
         found |= is_bucket_of(members.path(), &item, below);
         if found && is_wanted(members.path(), below, from) {
-            put_member(members.path(), &item, sink)?;
+            lines.put(members.path(), &item, sink)?;
         }
     }
     Ok(found)

@@ -2,8 +2,7 @@ use Rattle.std.proofs.Common.{List, inl, inr, refl, subst, sym}
 use Rattle.bolt_check.specs.CheckedFiles.{meta_of}
 use Rattle.bolt_check.specs.Sound.{HasSoundTrees}
 use Rattle.bolt_tree.specs.Entries.{Value}
-use Rattle.bolt_report.specs.Forms.{value_text}
-use Rattle.bolt_cli.specs.Answers.{IsGetAnswer, done, refused}
+use Rattle.bolt_cli.specs.Answers.{IsGetAnswer, done, refused, value_shown}
 use Rattle.bolt_cli.specs.PlainWords.{path_in}
 use Rattle.bolt_cli.proofs.AtPaths.{held_told}
 use Rattle.bolt_cli.proofs.Doing.{Does-nothing, Does-whole}
@@ -30,22 +29,22 @@ returns-in_err-find_value g c =
       inl (
         meta_of checked,
         under,
-        subst (λ (file : List _). IsGetAnswer file path c.args.form (meta_of checked) (refused failure)) c.in_ok-checked.ensures.bytes (inr (failure, c.in_err-find_value.ensures.refused, refl)),
+        subst (λ (file : List _). IsGetAnswer file path c.args.form c.args.no_newline (meta_of checked) (refused failure)) c.in_ok-checked.ensures.bytes (inr (failure, c.in_err-find_value.ensures.refused, refl)),
       ),
       Does-nothing g.O.Sink.taken g.O.Sink.failed c.args.out.now failure _ c.from_residual-in_err-find_value.ensures.1,
     )
 
-pub returns-in_err-value : goal.returns-in_err-value
-returns-in_err-value g c =
+pub returns-in_err-put_value : goal.returns-in_err-put_value
+returns-in_err-put_value g c =
     let checked = c.in_ok-checked.checked in
     let bytes = c.in_ok-checked.ensures.bytes in
     let under = c.in_ok-checked.ensures.sound in
     let path = path_in c.args.path.now in
     let value = c.in_ok-find_value.field-0.now in
     let held = held_told checked path (Value value) (subst (λ (file : List _). HasSoundTrees file (meta_of checked)) (sym bytes) (read_trees c.args.file.now c.args.slot (meta_of checked) under)) c.in_ok-find_value.ensures.held in
-    let (answer, shown, does) = shown_stopped c.args.form c.args.out.now c.value.new.sink (value_text c.args.form value) _ _ c.in_err-value.ensures.written c.in_err-value.ensures.fault c.in_err-value.ensures.memory c.from_residual-in_err-value.ensures.1 in (
+    let (answer, shown, does) = shown_stopped c.args.form c.args.out.now c.put_value.new.out (value_shown c.args.no_newline c.args.form value) _ _ c.in_err-put_value.ensures.written c.in_err-put_value.ensures.fault c.in_err-put_value.ensures.memory c.from_residual-in_err-put_value.ensures.1 in (
       answer,
-      inl (meta_of checked, under, subst (λ (file : List _). IsGetAnswer file path c.args.form (meta_of checked) answer) bytes (inl (value, held, shown))),
+      inl (meta_of checked, under, subst (λ (file : List _). IsGetAnswer file path c.args.form c.args.no_newline (meta_of checked) answer) bytes (inl (value, held, shown))),
       does,
     )
 
@@ -57,8 +56,8 @@ returns g c =
     let path = path_in c.args.path.now in
     let value = c.in_ok-find_value.field-0.now in
     let held = held_told checked path (Value value) (subst (λ (file : List _). HasSoundTrees file (meta_of checked)) (sym bytes) (read_trees c.args.file.now c.args.slot (meta_of checked) under)) c.in_ok-find_value.ensures.held in
-    let answer = done (value_text c.args.form value) in (
+    let answer = done (value_shown c.args.no_newline c.args.form value) in (
       answer,
-      inl (meta_of checked, under, subst (λ (file : List _). IsGetAnswer file path c.args.form (meta_of checked) answer) bytes (inl (value, held, inl refl))),
-      Does-whole _ _ answer _ c.in_ok-value.ensures.written,
+      inl (meta_of checked, under, subst (λ (file : List _). IsGetAnswer file path c.args.form c.args.no_newline (meta_of checked) answer) bytes (inl (value, held, inl refl))),
+      Does-whole _ _ answer _ c.in_ok-put_value.ensures.written,
     )

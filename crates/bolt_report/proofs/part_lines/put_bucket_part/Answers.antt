@@ -1,26 +1,30 @@
 -- The bucket at the path comes before all that begins with the path, so nothing is missed before it is found.
-use Rattle.std.proofs.Common.{◌≡◌, ◌∙◌, ◌++◌, ◌∷◌, ◌&&◌, ◌||◌, [], Bool, List, Bor, ap, sym, subst, refl, true, not, length, ℕ, ◌==◌}
+use Rattle.std.proofs.Common.{◌≡◌, ◌∙◌, ◌++◌, ◌∷◌, ◌&&◌, ◌||◌, [], Bool, List, Ok, Err, Bor, ap, sym, subst, refl, true, not, length, ℕ, ◌==◌}
 use Rattle.std.specs.List.{list_any}
+use Rattle.std.specs.Prelude.{⊤}
 use Rattle.std.specs.Ordering.{is_lt}
 use Rattle.std.proofs.lemmas.List.{length-map}
 use Rattle.bolt_format.proofs.WriteLemmas.{Writes-none}
-use Rattle.bolt_report.specs.ListLines.{listing_text, member_line}
+use Rattle.bolt_report.specs.ListForms.{lines_form, list_line, listing_lines}
+use Rattle.bolt_report.specs.Reports.{Reports}
+use Rattle.bolt_report.specs.declared.form.ListForm.{ListForm}
 use Rattle.bolt_tree.specs.Listing.{Member, member_cmp, rest_from}
 use Rattle.bolt_tree.specs.ListingParts.{begins_with, bucket_part, is_bucket_at}
 use Rattle.bolt_tree.specs.Order.{Rises}
 use Rattle.bolt_tree.specs.Paths.{Path, path_cmp, path_of}
 use Rattle.bolt_tree.specs.ShownEntries.{item_view}
-use Rattle.bolt_report.proofs.ReportLemmas.{reports_ok}
-use Rattle.bolt_report.proofs.ListTexts.{more_written, piece_stop}
+use Rattle.bolt_report.proofs.ListTexts.{more_written, reports_stop}
 use Rattle.bolt_report.proofs.BucketPartTexts.{before_bucket, has_next, left_part, over_unwanted, with_wanted}
 use Rattle.bolt_report.proofs.part_lines.put_bucket_part.Goals as goal
 use Rattle.bolt_report.proofs.part_lines.put_bucket_part.Goals.{else-found-via-then-found+else-is_wanted, else-found-via-else-found}
 
 pub part-init : goal.part-init
 part-init g c =
+    let form = lines_form c.args.lines.now in
     let below = path_of c.args.below.now in
     let root : (length below == 0) ≡ c.is_empty-found.result = ap (λ (n : ℕ). n == 0) (length-map c.args.below.now (λ (part : Bor (List ℕ)). part.now)) ∙ sym c.is_empty-found.ensures in
     record {
+      form = refl;
       same = λ listing. (λ is. is, λ is. is);
       end = λ end is. is;
       counted = refl;
@@ -28,13 +32,14 @@ part-init g c =
       rises = λ listing is up. up;
       put = λ listing is up. (
         [],
-        ap (λ (b : Bool). listing_text (rest_from (path_of c.args.from.now) (left_part below b (g.M.Members.left c.args.members.now listing)))) root,
+        ap (λ (b : Bool). listing_lines form (rest_from (path_of c.args.from.now) (left_part below b (g.M.Members.left c.args.members.now listing)))) root,
         Writes-none c.args.sink.now,
       );
     }
 
 pub part-preserved-then-is_wanted : goal.part-preserved-then-is_wanted
 part-preserved-then-is_wanted g c =
+    let form = lines_form c.args.lines.now in
     let below = path_of c.args.below.now in
     let from = path_of c.args.from.now in
     let told = path_of c.path-then-is_wanted.result.now in
@@ -50,28 +55,31 @@ part-preserved-then-is_wanted g c =
     λ listing lists.
     given listing ((c.part.invariant.same listing).1 lists) ∙ ap (λ (p : Path). (p, item_view c.in-Some.item) ∷ g.M.Members.left c.next.new.self listing) (sym c.path-then-is_wanted.ensures) in
     record {
+      form = c.put.ensures.form ∙ c.part.invariant.form;
       same = λ listing. (
         λ is. (c.part.invariant.same listing).0 ((c.next.ensures.listing listing).0 is),
         λ is. (c.next.ensures.listing listing).1 ((c.part.invariant.same listing).1 is),
       );
       end = λ end is. c.part.invariant.end end (c.next.ensures.same_end end is);
-      counted = c.in_ok-put_member.ensures.sound ∙ c.part.invariant.counted;
+      counted = c.in_ok-put.ensures.written.sound ∙ c.part.invariant.counted;
       has = λ listing lists.
           c.part.invariant.has listing lists ∙ ap (λ (ms : List Member). c.part.found || list_any (is_bucket_at below) ms) (first listing lists)
           ∙ has_next below c.part.found now m (g.M.Members.left c.next.new.self listing) is;
       rises = λ listing lists up. (subst (Rises member_cmp) (first listing lists) (c.part.invariant.rises listing lists up)).1;
       put = λ listing lists up.
           let new = g.M.Members.left c.next.new.self listing in
-          let text = ap (λ (ms : List Member). listing_text (rest_from from (left_part below c.part.found ms))) (first listing lists) ∙ with_wanted below c.part.found now m new is from c.if-found.true both in
+          let text = ap (λ (ms : List Member). listing_lines form (rest_from from (left_part below c.part.found ms))) (first listing lists) ∙ with_wanted below c.part.found now m new is from form c.if-found.true both in
           let (written, same, before) = c.part.invariant.put listing lists up in
-          let more = more_written g.S.Sink.taken g.S.Sink.failed c.args.sink.now c.part.sink c.put_member.new.sink
-          (listing_text (rest_from from (bucket_part below (g.M.Members.left c.args.members.now listing)))) written (member_line m) (listing_text (rest_from from (left_part below now new)))
-          (same ∙ ap (λ l. written ++ l) text) before (reports_ok g.S.Sink.taken g.S.Sink.failed c.part.sink c.put_member.new.sink (member_line m) c.in_ok-put_member.ensures) in
-          (written ++ member_line m, more.0, more.1);
+          let more = more_written g.S.Sink.taken g.S.Sink.failed c.args.sink.now c.part.sink c.put.new.sink
+          (listing_lines form (rest_from from (bucket_part below (g.M.Members.left c.args.members.now listing)))) written (list_line form m) (listing_lines form (rest_from from (left_part below now new)))
+          (same ∙ ap (λ l. written ++ l) text) before
+          (subst (λ (f : ListForm). Reports {A = ⊤} g.S.Sink.taken g.S.Sink.failed c.part.sink c.put.new.sink (list_line f m) (Ok tt)) c.part.invariant.form c.in_ok-put.ensures.written) in
+          (written ++ list_line form m, more.0, more.1);
     }
 
-pub returns-in_err-put_member-clause-written : goal.returns-in_err-put_member-clause-written
-returns-in_err-put_member-clause-written g c = λ listing lists up.
+pub returns-in_err-put-clause-written : goal.returns-in_err-put-clause-written
+returns-in_err-put-clause-written g c = λ listing lists up.
+    let form = lines_form c.args.lines.now in
     let below = path_of c.args.below.now in
     let from = path_of c.args.from.now in
     let told = path_of c.path-then-is_wanted.result.now in
@@ -85,14 +93,17 @@ returns-in_err-put_member-clause-written g c = λ listing lists up.
     let given = rw c.in-Some.is at c.in_ok-item.ensures.given in
     let new = g.M.Members.left c.next.new.self listing in
     let first = given listing ((c.part.invariant.same listing).1 lists) ∙ ap (λ (p : Path). (p, item_view c.in-Some.item) ∷ new) (sym c.path-then-is_wanted.ensures) in
-    let text = ap (λ (ms : List Member). listing_text (rest_from from (left_part below c.part.found ms))) first ∙ with_wanted below c.part.found now m new is from c.if-found.true both in
+    let text = ap (λ (ms : List Member). listing_lines form (rest_from from (left_part below c.part.found ms))) first ∙ with_wanted below c.part.found now m new is from form c.if-found.true both in
     let (written, same, before) = c.part.invariant.put listing lists up in
-    piece_stop g.S.Sink.taken g.S.Sink.failed c.args.sink.now c.part.sink c.put_member.new.sink (listing_text (rest_from from (bucket_part below (g.M.Members.left c.args.members.now listing)))) written
-    (member_line m) (listing_text (rest_from from (left_part below now new))) _ _
-    (same ∙ ap (λ l. written ++ l) text) before c.in_err-put_member.ensures c.from_residual-in_err-put_member.ensures.0
+    reports_stop g.S.Sink.taken g.S.Sink.failed c.args.sink.now c.part.sink c.put.new.sink (listing_lines form (rest_from from (bucket_part below (g.M.Members.left c.args.members.now listing)))) written
+    (list_line form m) (listing_lines form (rest_from from (left_part below now new))) _ _
+    (same ∙ ap (λ l. written ++ l) text) before
+    (subst (λ (f : ListForm). Reports {A = ⊤} g.S.Sink.taken g.S.Sink.failed c.part.sink c.put.new.sink (list_line f m) (Err c.in_err-put.field-0.0)) c.part.invariant.form c.in_err-put.ensures.written)
+    c.from_residual-in_err-put.ensures.1
 
 pub part-preserved : goal.part-preserved
 part-preserved g c =
+    let form = lines_form c.args.lines.now in
     let below = path_of c.args.below.now in
     let from = path_of c.args.from.now in
     let told = path_of c.path.result.now in
@@ -111,6 +122,7 @@ part-preserved g c =
       | else-found-via-else-found w ↦ ap (rest_from from) (before_bucket below c.part.found now m ms is w.if-found.false up)
     ] in
     record {
+      form = c.part.invariant.form;
       same = λ listing. (
         λ is. (c.part.invariant.same listing).0 ((c.next.ensures.listing listing).0 is),
         λ is. (c.next.ensures.listing listing).1 ((c.part.invariant.same listing).1 is),
@@ -125,5 +137,5 @@ part-preserved g c =
           let here = subst (Rises member_cmp) (first listing lists) (c.part.invariant.rises listing lists up) in
           let hidden = ap (λ (ms : List Member). rest_from from (left_part below c.part.found ms)) (first listing lists) ∙ passed (g.M.Members.left c.next.new.self listing) here in
           let (written, same, put) = c.part.invariant.put listing lists up in
-          (written, same ∙ ap (λ (ms : List Member). written ++ listing_text ms) hidden, put);
+          (written, same ∙ ap (λ (ms : List Member). written ++ listing_lines form ms) hidden, put);
     }

@@ -6,7 +6,7 @@ use Rattle.bolt_tree.specs.Listing.{Member, member_cmp, rest_from}
 use Rattle.bolt_tree.specs.ListingParts.{bucket_part, has_bucket, is_bucket_at}
 use Rattle.bolt_tree.specs.Order.{Rises}
 use Rattle.bolt_tree.specs.Paths.{path_of}
-use Rattle.bolt_report.specs.ListLines.{listing_text}
+use Rattle.bolt_report.specs.ListForms.{lines_form, listing_lines}
 use Rattle.bolt_report.specs.declared.fault.ReportFault.{ReportFault}
 use Rattle.bolt_report.proofs.BucketPartTexts.{left_part}
 use Rattle.bolt_report.proofs.part_lines.put_bucket_part.Given as goal
@@ -15,6 +15,7 @@ use Rattle.bolt_report.proofs.part_lines.put_bucket_part.Given as goal
 -- the bucket was there if it was found or is left
 abbrev pub invariant-part : goal.invariant-part
 invariant-part g l = record {
+  form : lines_form l.lines ≡ lines_form l.initial.lines;
   same : (listing : List Member) → g.M.Members.lists l.members listing ↔ g.M.Members.lists l.initial.members listing;
   end : (end : g.row.M.Denot) → g.M.Members.ends_as l.members end → g.M.Members.ends_as l.initial.members end;
   counted : g.S.Sink.failed l.sink ≡ g.S.Sink.failed l.initial.sink;
@@ -22,8 +23,8 @@ invariant-part g l = record {
       → has_bucket (path_of l.below) (g.M.Members.left l.initial.members listing) ≡ (l.found || list_any (is_bucket_at (path_of l.below)) (g.M.Members.left l.members listing));
   rises : (listing : List Member) → g.M.Members.lists l.initial.members listing → Rises member_cmp (g.M.Members.left l.initial.members listing) → Rises member_cmp (g.M.Members.left l.members listing);
   put : (listing : List Member) → g.M.Members.lists l.initial.members listing → Rises member_cmp (g.M.Members.left l.initial.members listing) → (written : List ℕ)
-      × (listing_text (rest_from (path_of l.from) (bucket_part (path_of l.below) (g.M.Members.left l.initial.members listing)))
-      ≡ written ++ listing_text (rest_from (path_of l.from) (left_part (path_of l.below) l.found (g.M.Members.left l.members listing))))
+      × (listing_lines (lines_form l.initial.lines) (rest_from (path_of l.from) (bucket_part (path_of l.below) (g.M.Members.left l.initial.members listing)))
+      ≡ written ++ listing_lines (lines_form l.initial.lines) (rest_from (path_of l.from) (left_part (path_of l.below) l.found (g.M.Members.left l.members listing))))
       × Writes {A = ⊤} {E = ReportFault} g.S.Sink.taken g.S.Sink.failed l.initial.sink l.sink written (Ok tt);
 }
 

@@ -4,7 +4,7 @@ use Rattle.bolt_cli.specs.Answers.{refused}
 use Rattle.bolt_cli.specs.PlainWords.{path_in}
 use Rattle.bolt_cli.proofs.Doing.{Does-nothing}
 use Rattle.bolt_cli.proofs.EntryAnswers.{entries_missing, entries_stopped, entries_whole}
-use Rattle.bolt_cli.proofs.buckets_command.print_buckets.Goals as goal
+use Rattle.bolt_cli.proofs.buckets_command.print_names.Goals as goal
 
 pub returns-in_err-checked : goal.returns-in_err-checked
 returns-in_err-checked g c =

@@ -1,0 +1,75 @@
+-- What is answered of the sizes of the buckets in the bucket at a path.
+use Rattle.std.proofs.Common.{◌⊎◌, ◌≡◌, ℕ, Err, List, Ok, Option, Result, ap, inl, inr, refl, subst, sym}
+use Rattle.std.specs.Result.{IsErrAnd}
+use Rattle.bolt_check.specs.CheckedFiles.{bytes_of, meta_of}
+use Rattle.bolt_check.specs.Sound.{HasSoundTrees}
+use Rattle.bolt_check.specs.declared.checked_file.Checked.{Checked}
+use Rattle.bolt_format.specs.Elements.{LeafElement}
+use Rattle.bolt_format.specs.declared.meta.Slot.{Slot}
+use Rattle.bolt_report.specs.Reports.{Reports}
+use Rattle.bolt_report.specs.SizeLines.{AreSized, Sized, sizes_text}
+use Rattle.bolt_report.specs.declared.form.Form.{Form}
+use Rattle.bolt_report.specs.declared.fault.ReportFault.{ReportFault}
+use Rattle.bolt_report.specs.declared.fault.ReportFault.TheVariants as report
+use Rattle.bolt_report.proofs.SizesExist.{sizes_exist}
+use Rattle.bolt_tree.specs.Buckets.{bucket_checked, bucket_start}
+use Rattle.bolt_tree.specs.Entries.{AreEntries, IsEntry, Root_page, Start}
+use Rattle.bolt_tree.specs.EntriesLeft.{ForEntries}
+use Rattle.bolt_tree.specs.Paths.{Path}
+use Rattle.bolt_tree.specs.declared.bucket.Bucket.{Bucket}
+use Rattle.bolt_tree.proofs.BucketWays.{root_starts, starts_named}
+use Rattle.bolt_cli.specs.Answers.{Answer, Does, Ending, IsReadAnswer, IsReadUnder, IsSizesAnswer, LeadsTo, refused}
+use Rattle.bolt_cli.specs.Failures.{reported}
+use Rattle.bolt_cli.specs.declared.failure.Failure.{Failure}
+use Rattle.bolt_cli.specs.declared.failure.Failure.TheVariants as failure
+use Rattle.bolt_cli.proofs.AtPaths.{at_path}
+use Rattle.bolt_cli.proofs.CutTexts.{text_stopped, text_whole}
+use Rattle.bolt_cli.proofs.Doing.{Does-nothing}
+use Rattle.bolt_cli.proofs.ReadFiles.{read_trees}
+
+module _ (file : List ℕ) (slot : Option Slot) (path : Path) (form : Form) (checked : Checked) (same : bytes_of checked ≡ file) (under : IsReadUnder file slot (meta_of checked)) where
+  abbrev SizesAnswer : {S : Type 0} → (taken : S → Option (List ℕ)) (failed : S → ℕ) (old new : S) → Ending → Type 0
+  SizesAnswer taken failed old new ending = (answer : Answer) × IsReadAnswer file slot (IsSizesAnswer file path form) answer × Does taken failed old new answer ending
+
+  of_file : (answer : Answer) → IsSizesAnswer (bytes_of checked) path form (meta_of checked) answer → IsReadAnswer file slot (IsSizesAnswer file path form) answer
+  of_file answer told = inl (meta_of checked, under, subst (λ (f : List ℕ). IsSizesAnswer f path form (meta_of checked) answer) same told)
+
+  -- the path leads to no bucket
+  pub sizes_missing : {S : Type 0} (taken : S → Option (List ℕ)) (failed : S → ℕ) (out : S) (told : Failure) (result : Ending)
+      → (told ≡ failure.NoBucket) × ((bucket : Start) → LeadsTo (bytes_of checked) (meta_of checked) path bucket → ⊥)
+      → IsErrAnd result (λ failure. failure ≡ told) → SizesAnswer taken failed out out result
+  sizes_missing taken failed out told result (is, nowhere) ends = (refused told, of_file (refused told) (inr (nowhere, ap refused is)), Does-nothing taken failed out told result ends)
+
+  trees : HasSoundTrees (bytes_of checked) (meta_of checked)
+  trees = subst (λ (f : List ℕ). HasSoundTrees f (meta_of checked)) (sym same) (read_trees file slot (meta_of checked) under)
+
+  -- the sizes of the entries at the path
+  own_sizes : (start : Start) (entries : List LeafElement) → LeadsTo (bytes_of checked) (meta_of checked) path start → AreEntries (IsEntry (bytes_of checked) (meta_of checked)) start entries
+      → (sized : List Sized) × AreSized (bytes_of checked) (meta_of checked) entries sized
+  own_sizes start entries names are =
+      let begins = starts_named (bytes_of checked) (meta_of checked) (Root_page (meta_of checked).root) path start (root_starts (bytes_of checked) (meta_of checked)) names in
+      sizes_exist (bytes_of checked) (meta_of checked) start trees begins entries are
+
+  module _ (bucket : Bucket) (in_file : bucket_checked bucket ≡ checked) (led : ∥ LeadsTo (bytes_of checked) (meta_of checked) path (bucket_start bucket) ∥₁) {S A : Type 0} {taken : S → Option (List ℕ)} {failed : S → ℕ} (old new : S) where
+    abbrev Written : Result A ReportFault → List LeafElement → Type 0
+    Written result entries = (sized : List Sized) → AreSized (bytes_of (bucket_checked bucket)) (meta_of (bucket_checked bucket)) entries sized → Reports {A = A} taken failed old new (sizes_text form sized) result
+
+    in_bucket : (entries : List LeafElement) (sized : List Sized) → AreSized (bytes_of checked) (meta_of checked) entries sized
+        → AreSized (bytes_of (bucket_checked bucket)) (meta_of (bucket_checked bucket)) entries sized
+    in_bucket entries sized sizes = subst (λ (c : Checked). AreSized (bytes_of c) (meta_of c) entries sized) (sym in_file) sizes
+
+    -- the sink failed, or memory ran out
+    pub sizes_stopped : (e : ReportFault) (result : Ending) → ForEntries (bucket_checked bucket) (bucket_start bucket) (Written (Err e))
+        → (e ≡ report.Sink) ⊎ (e ≡ report.NoMemory) → (e ≡ report.NoMemory → failed new ≡ failed old) → IsErrAnd result (λ failure. failure ≡ reported e) → SizesAnswer taken failed old new result
+    sizes_stopped e result put fault memory ends =
+        let (start, entries, names, are, here) = at_path checked path bucket (Written (Err e)) trees in_file led put in
+        let (sized, sizes) = own_sizes start entries names are in
+        let (answer, whole, does) = text_stopped {A = A} old new (sizes_text form sized) e result (here sized (in_bucket entries sized sizes)) fault memory ends in
+        (answer, of_file answer (inl (start, entries, sized, names, are, sizes, whole)), does)
+
+    pub sizes_whole : (x : A) → ForEntries (bucket_checked bucket) (bucket_start bucket) (Written (Ok x)) → SizesAnswer taken failed old new (Ok 0)
+    sizes_whole x put =
+        let (start, entries, names, are, here) = at_path checked path bucket (Written (Ok x)) trees in_file led put in
+        let (sized, sizes) = own_sizes start entries names are in
+        let (answer, whole, does) = text_whole old new (sizes_text form sized) x (here sized (in_bucket entries sized sizes)) in
+        (answer, of_file answer (inl (start, entries, sized, names, are, sizes, whole)), does)
