@@ -17,9 +17,10 @@ mod ReadLemmas
 mod ReadSums
 mod ReportLemmas
 mod ShownLemmas
-mod SizeLemmas
-mod StatsExist
-mod StatsOnce
+pub mod SizeLemmas
+pub mod SizesExist
+pub mod StatsExist
+pub mod StatsOnce
 mod TextLemmas
 mod TokenLemmas
 mod Utf8Lemmas

@@ -32,14 +32,14 @@ use Rattle.bolt_report.specs.declared.figures.Stats.{Stats}
 use Rattle.bolt_report.specs.declared.form.Form.{Form}
 use Rattle.bolt_report.proofs.StatsOnce.{one_stats}
 
-abbrev buckets_of : List LeafElement → List LeafElement
+abbrev pub buckets_of : List LeafElement → List LeafElement
 buckets_of entries = filter (λ (e : LeafElement). e.is_bucket) entries
 
-by_kind : (e : LeafElement) (entries : List LeafElement) (b : Bool) → e.is_bucket ≡ b → buckets_of (e ∷ entries) ≡ cond b (e ∷ buckets_of entries) (buckets_of entries)
+pub by_kind : (e : LeafElement) (entries : List LeafElement) (b : Bool) → e.is_bucket ≡ b → buckets_of (e ∷ entries) ≡ cond b (e ∷ buckets_of entries) (buckets_of entries)
 by_kind e entries b is = ap (λ (b : Bool). cond b (e ∷ buckets_of entries) (buckets_of entries)) is
 
 module _ (file : List ℕ) (meta : Meta) where
-  abbrev HasFigures : Sized → Type 0
+  abbrev pub HasFigures : Sized → Type 0
   HasFigures s = IsStatsOf file meta (start_of s.entry.value) s.figures
 
   -- ---- the buckets of one entry, and of those after it

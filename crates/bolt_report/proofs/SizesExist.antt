@@ -1,0 +1,88 @@
+-- The sizes of the buckets in a bucket of a sound file exist, and are one list.
+-- Rests on that each bucket of the tree has one set of figures (StatsExist, StatsOnce), and that a bucket in a bucket of the tree is one of the tree.
+use Rattle.std.proofs.Common.{◌≡◌, ◌∙◌, ℕ, Bool, true, false, List, [], ◌∷◌, ap, map, refl, subst, sym}
+use Rattle.std.proofs.Math.Logic.{∥∥₁_map, ∥∥₁_prop}
+use Rattle.std.specs.List.{AllByRecursion, Contains}
+use Rattle.bolt_format.specs.Elements.{LeafElement}
+use Rattle.bolt_format.specs.declared.meta.Meta.{Meta}
+use Rattle.bolt_check.specs.CheckedFiles.{bytes_of, meta_of}
+use Rattle.bolt_check.specs.Sound.{HasSoundTrees}
+use Rattle.bolt_check.proofs.CheckedLemmas.{with_trees}
+use Rattle.bolt_tree.specs.BucketViews.{entries_of}
+use Rattle.bolt_tree.specs.Buckets.{bucket_checked, bucket_start}
+use Rattle.bolt_tree.specs.Entries.{AreEntries, IsEntry, IsStart, Root_page, Start, start_of}
+use Rattle.bolt_tree.specs.Paths.{Names, Path}
+use Rattle.bolt_tree.specs.declared.bucket.Bucket.{Bucket}
+use Rattle.bolt_tree.proofs.BucketWays.{root_starts, starts_below, starts_named}
+use Rattle.bolt_tree.proofs.Lists.{contains_head, contains_tail}
+use Rattle.bolt_report.specs.SizeLines.{AreSized, Sized}
+use Rattle.bolt_report.specs.StatsOf.{IsStatsOf}
+use Rattle.bolt_report.proofs.SizeLemmas.{HasFigures, by_kind}
+use Rattle.bolt_report.proofs.StatsExist.{some_stats}
+use Rattle.bolt_report.proofs.StatsOnce.{one_stats}
+
+module _ (file : List ℕ) (meta : Meta) where
+  abbrev HasSizes : List LeafElement → Type 0
+  HasSizes entries = (sized : List Sized) × AreSized file meta entries sized
+
+  -- ---- there is one
+
+  module _ (trees : HasSoundTrees file meta) where
+    size_first : (e : LeafElement) (entries : List LeafElement) (b : Bool) → e.is_bucket ≡ b → (e.is_bucket ≡ true → IsStart file meta (start_of e.value)) → HasSizes entries → HasSizes (e ∷ entries)
+    size_first e entries false is on (sized, are) = (sized, record { buckets = are.buckets ∙ sym (by_kind e entries false is); figures = are.figures })
+    size_first e entries true is on (sized, are) =
+        let (own, known) = some_stats file meta (start_of e.value) trees (on is) in (
+          record { entry = e; figures = own } ∷ sized,
+          record {
+            buckets = ap (λ (l : List LeafElement). e ∷ l) are.buckets ∙ sym (by_kind e entries true is);
+            figures = (known, are.figures);
+          },
+        )
+
+    size_all : (start : Start) → IsStart file meta start → (entries : List LeafElement) → ((e : LeafElement) → Contains entries e → IsEntry file meta start e) → HasSizes entries
+    size_all start on [] has = ([], record { buckets = refl; figures = tt })
+    size_all start on (e ∷ entries) has =
+        size_first e entries e.is_bucket refl (λ is. starts_below file meta start e on (has e (contains_head e entries)) is)
+        (size_all start on entries (λ x h. has x (contains_tail e x entries h)))
+
+    -- of the entries of a bucket of the tree
+    pub some_sizes : (start : Start) (entries : List LeafElement) → IsStart file meta start → AreEntries (IsEntry file meta) start entries → (sized : List Sized) × AreSized file meta entries sized
+    some_sizes start entries on are = size_all start on entries (λ e h. (are.exact e).0 h)
+
+    -- of a bucket that a path leads to from the root
+    pub named_sizes : (path : Path) (bucket : Start) (entries : List LeafElement) → Names (IsEntry file meta) (Root_page meta.root) path bucket → AreEntries (IsEntry file meta) bucket entries
+        → (sized : List Sized) × AreSized file meta entries sized
+    named_sizes path bucket entries names are =
+        some_sizes bucket entries (starts_named file meta (Root_page meta.root) path bucket (root_starts file meta) names) are
+
+  -- ---- and no other
+
+  same_sized : (s t : Sized) → s.entry ≡ t.entry → HasFigures file meta s → HasFigures file meta t → s ≡ t
+  same_sized s t is a b =
+      let there = subst (λ (x : LeafElement). IsStatsOf file meta (start_of x.value) t.figures) (sym is) b in
+      let same = one_stats file meta (start_of s.entry.value) s.figures t.figures a there in
+      λ i. record { entry = is i; figures = same i }
+
+  one_by : (a b : List Sized) → map (λ (s : Sized). s.entry) a ≡ map (λ (s : Sized). s.entry) b → AllByRecursion (HasFigures file meta) a → AllByRecursion (HasFigures file meta) b → a ≡ b
+  one_by [] [] same h k = refl
+  one_by [] (t ∷ b) same h k = absurd (let c : [] ≡ t.entry ∷ map (λ (s : Sized). s.entry) b = same in cc)
+  one_by (s ∷ a) [] same h k = absurd (let c : s.entry ∷ map (λ (s : Sized). s.entry) a ≡ [] = same in cc)
+  one_by (s ∷ a) (t ∷ b) same h k =
+      let c : s.entry ∷ map (λ (s : Sized). s.entry) a ≡ t.entry ∷ map (λ (s : Sized). s.entry) b = same in
+      let head : s.entry ≡ t.entry = cc in
+      let tail : map (λ (s : Sized). s.entry) a ≡ map (λ (s : Sized). s.entry) b = cc in
+      let first : s ≡ t = same_sized s t head h.0 k.0 in
+      let rest : a ≡ b = one_by a b tail h.1 k.1 in
+      ap (λ (x : Sized). x ∷ a) first ∙ ap (λ (l : List Sized). t ∷ l) rest
+
+  pub one_sizes : (entries : List LeafElement) (a b : List Sized) → AreSized file meta entries a → AreSized file meta entries b → a ≡ b
+  one_sizes entries a b h k = one_by a b (h.buckets ∙ sym k.buckets) h.figures k.figures
+
+-- the sizes of a bucket of a checked file
+pub bucket_sizes : (bucket : Bucket) (entries : List LeafElement) → AreEntries (entries_of (bucket_checked bucket)) (bucket_start bucket) entries
+    → ∥ ((sized : List Sized) × AreSized (bytes_of (bucket_checked bucket)) (meta_of (bucket_checked bucket)) entries sized) ∥₁
+unfolding bucket_checked bucket_start
+bucket_sizes bucket entries are =
+    let checked = bucket_checked bucket in
+    with_trees checked (∥ ((sized : List Sized) × AreSized (bytes_of checked) (meta_of checked) entries sized) ∥₁) ∥∥₁_prop
+    (λ trees. ∥∥₁_map bucket.begins (λ on. some_sizes (bytes_of checked) (meta_of checked) trees (bucket_start bucket) entries on are))

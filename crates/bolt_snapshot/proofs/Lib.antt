@@ -1,0 +1,2 @@
+mod HashLemmas
+mod SnapshotLemmas

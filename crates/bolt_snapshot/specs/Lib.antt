@@ -1,0 +1,3 @@
+pub mod Hashes
+pub mod Hashings
+pub mod SnapshotFaults
