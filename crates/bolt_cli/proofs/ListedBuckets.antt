@@ -1,14 +1,15 @@
 -- A listing has the bucket at a path where the path leads to one.
-use Rattle.std.proofs.Common.{◌≡◌, ◌∙◌, ◌||◌, ◌&&◌, ◌⊎◌, ℕ, Bool, true, false, List, [], ◌∷◌, IsTrue, inl, inr, refl, sym, ap, subst, rules}
+use Rattle.std.proofs.Common.{arith, length, ◌==◌, ◌≡◌, ◌∙◌, ◌||◌, ◌&&◌, ◌⊎◌, ℕ, Bool, true, false, List, [], ◌∷◌, IsTrue, inl, inr, refl, sym, ap, subst, rules}
 use Rattle.std.specs.Cmp.Lexicographic.{pointwise}
 use Rattle.std.specs.List.{Contains, list_any}
 use Rattle.std.specs.Str.{bytes_eq}
 use Rattle.std.proofs.lemmas.Bool.{cases_Bool}
+use Rattle.std.proofs.lemmas.Bool.Decides.{nat_tests}
 use Rattle.std.proofs.lemmas.Slice.Eq.{bytes_eq-Decides, slice_eq-Decides}
-use Rattle.bolt_format.specs.Elements.{LeafElement}
+use Rattle.bolt_format.specs.Elements.{LeafElement, head_sequence}
 use Rattle.bolt_format.specs.declared.meta.Meta.{Meta}
 use Rattle.bolt_check.specs.Keys.{Key}
-use Rattle.bolt_tree.specs.Entries.{Bucket, IsEntry, Item, Root_page, Start, Value, head_sequence, item_of, start_of}
+use Rattle.bolt_tree.specs.Entries.{Bucket, IsEntry, Item, Root_page, Start, Value, item_of, start_of}
 use Rattle.bolt_tree.specs.Listing.{IsListing, Lists, Member}
 use Rattle.bolt_tree.specs.ListingParts.{has_bucket, is_bucket, is_bucket_at}
 use Rattle.bolt_tree.specs.Paths.{Holds, Names, Path}
@@ -44,8 +45,8 @@ bucket_item e b = let is : e.is_bucket ≡ true = b in rw is refl
 
 is_bucket_of : (e : LeafElement) (sequence : ℕ) → item_of e ≡ Bucket sequence → IsTrue e.is_bucket
 is_bucket_of e sequence is = elim (cases_Bool e.is_bucket) [
-  | inl yes ↦ yes
-  | inr no ↦ let bad = rw no at is in absurd (search (rules, bad))
+  | inl holds ↦ holds
+  | inr apart ↦ let bad = rw apart at is in absurd (search (rules, bad))
 ]
 
 module _ (Entry : Start → LeafElement → Type 0) where
@@ -75,17 +76,23 @@ bucket_in (Value value) t = absurd (let f : false ≡ true = t in cc)
 bucket_in (Bucket sequence) t = (sequence, refl)
 
 module _ (file : List ℕ) (meta : Meta) (listing : List Member) (is : IsListing file meta listing) where
+  -- but for the root bucket, by its members
+  by_members : (key : Key) (path : Path) → has_bucket (key ∷ path) listing ≡ list_any (is_bucket_at (key ∷ path)) listing
+  by_members key path =
+      let some : (length (key ∷ path) == 0) ≡ false = grind (arith, nat_tests) in
+      ap (λ (b : Bool). b || list_any (is_bucket_at (key ∷ path)) listing) some
+
   pub has_named : (path : Path) (bucket : Start) → LeadsTo file meta path bucket → has_bucket path listing ≡ true
   has_named [] bucket leads = refl
   has_named (key ∷ path) bucket leads =
       let (sequence, held) = held_of (IsEntry file meta) key path (Root_page meta.root) bucket leads in
-      any_of (is_bucket_at (key ∷ path)) listing (key ∷ path, Bucket sequence) ((is.exact (key ∷ path) (Bucket sequence)).1 held)
+      by_members key path ∙ any_of (is_bucket_at (key ∷ path)) listing (key ∷ path, Bucket sequence) ((is.exact (key ∷ path) (Bucket sequence)).1 held)
       (ap (λ (b : Bool). b && true) (same_path (key ∷ path)))
 
   pub named_has : (path : Path) → has_bucket path listing ≡ true → (bucket : Start) × LeadsTo file meta path bucket
   named_has [] has = (Root_page meta.root, refl)
   named_has (key ∷ path) has =
-      let (m, contained, at) = some_of (is_bucket_at (key ∷ path)) listing has in
+      let (m, contained, at) = some_of (is_bucket_at (key ∷ path)) listing (sym (by_members key path) ∙ has) in
       let parts = and_true (pointwise bytes_eq m.0 (key ∷ path)) (is_bucket m.1) at in
       let same : m.0 ≡ key ∷ path = (slice_eq-Decides bytes_eq-Decides m.0 (key ∷ path) (pointwise bytes_eq m.0 (key ∷ path)) refl).0 parts.0 in
       let (sequence, item) = bucket_in m.1 parts.1 in

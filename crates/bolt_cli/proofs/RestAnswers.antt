@@ -23,7 +23,7 @@ use Rattle.bolt_cli.specs.declared.failure.Failure.TheVariants as failure
 use Rattle.bolt_cli.proofs.CutTexts.{cut, ended_stopped, ended_whole}
 
 module _ (file : List ℕ) (meta : Meta) (form : ListForm) (path from : Path) where
-  recovered : (listing : List Member) × IsRecovered file meta listing
+  pub recovered : (listing : List Member) × IsRecovered file meta listing
   recovered = has_recovered file meta
 
   pub lost : (losses : List LossView) × AreLosses file meta losses

@@ -11,13 +11,12 @@ use Rattle.bolt_report.specs.SizeLines.{AreSized, Sized, sizes_text}
 use Rattle.bolt_report.specs.declared.form.Form.{Form}
 use Rattle.bolt_report.specs.declared.fault.ReportFault.{ReportFault}
 use Rattle.bolt_report.specs.declared.fault.ReportFault.TheVariants as report
-use Rattle.bolt_report.proofs.SizesExist.{sizes_exist}
+use Rattle.bolt_report.proofs.SizesExist.{named_sizes}
 use Rattle.bolt_tree.specs.Buckets.{bucket_checked, bucket_start}
-use Rattle.bolt_tree.specs.Entries.{AreEntries, IsEntry, Root_page, Start}
+use Rattle.bolt_tree.specs.Entries.{AreEntries, IsEntry, Start}
 use Rattle.bolt_tree.specs.EntriesLeft.{ForEntries}
 use Rattle.bolt_tree.specs.Paths.{Path}
 use Rattle.bolt_tree.specs.declared.bucket.Bucket.{Bucket}
-use Rattle.bolt_tree.proofs.BucketWays.{root_starts, starts_named}
 use Rattle.bolt_cli.specs.Answers.{Answer, Does, Ending, IsReadAnswer, IsReadUnder, IsSizesAnswer, LeadsTo, refused}
 use Rattle.bolt_cli.specs.Failures.{reported}
 use Rattle.bolt_cli.specs.declared.failure.Failure.{Failure}
@@ -46,9 +45,7 @@ module _ (file : List ℕ) (slot : Option Slot) (path : Path) (form : Form) (che
   -- the sizes of the entries at the path
   own_sizes : (start : Start) (entries : List LeafElement) → LeadsTo (bytes_of checked) (meta_of checked) path start → AreEntries (IsEntry (bytes_of checked) (meta_of checked)) start entries
       → (sized : List Sized) × AreSized (bytes_of checked) (meta_of checked) entries sized
-  own_sizes start entries names are =
-      let begins = starts_named (bytes_of checked) (meta_of checked) (Root_page (meta_of checked).root) path start (root_starts (bytes_of checked) (meta_of checked)) names in
-      sizes_exist (bytes_of checked) (meta_of checked) start trees begins entries are
+  own_sizes start entries names are = named_sizes (bytes_of checked) (meta_of checked) trees path start entries names are
 
   module _ (bucket : Bucket) (in_file : bucket_checked bucket ≡ checked) (led : ∥ LeadsTo (bytes_of checked) (meta_of checked) path (bucket_start bucket) ∥₁) {S A : Type 0} {taken : S → Option (List ℕ)} {failed : S → ℕ} (old new : S) where
     abbrev Written : Result A ReportFault → List LeafElement → Type 0

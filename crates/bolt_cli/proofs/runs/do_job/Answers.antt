@@ -1,7 +1,8 @@
 -- A path that was handed over as a slice is the job's.
-use Rattle.std.proofs.Common.{List, Vec, ℕ, Global, refl, subst, sym}
-use Rattle.bolt_cli.specs.Answers.{DoesJob, IsEntriesAnswer, IsGetAnswer, IsListedAnswer, IsReadAnswer, IsStatsAnswer}
-use Rattle.bolt_report.specs.KeyLines.{buckets_text, keys_text}
+use Rattle.std.proofs.Common.{List, Vec, ℕ, Global, refl, subst, subst₂, sym}
+use Rattle.bolt_cli.specs.Answers.{DoesJob, IsBucketsAnswer, IsEntriesAnswer, IsGetAnswer, IsListedAnswer, IsReadAnswer, IsStatsAnswer, MakesCopy}
+use Rattle.bolt_report.specs.KeyPrefixes.{beginning_text}
+use Rattle.bolt_layout.specs.declared.layout.Layout.{Layout}
 use Rattle.bolt_cli.specs.PlainWords.{path_in}
 use Rattle.bolt_cli.specs.declared.job.Job.{Job}
 use Rattle.bolt_cli.proofs.runs.do_job.Goals as goal
@@ -32,7 +33,7 @@ returns-in-Buckets g c =
     let (answer, is, does) = c.print_buckets.ensures in
     subst (λ (job : Job). DoesJob g.O.Sink.taken g.O.Sink.failed c.args.out.now c.print_buckets.new.out g.T.Sink.taken g.T.Sink.failed c.args.target.now c.args.target.now file job c.print_buckets.result) (sym c.in-Buckets.is) (
       answer,
-      subst (λ (path : Path). IsReadAnswer file c.in-Buckets.slot (IsEntriesAnswer file (path_in path) c.in-Buckets.form (buckets_text c.in-Buckets.form)) answer) c.as_slice-in-Buckets.ensures.value is,
+      subst (λ (path : Path). IsReadAnswer file c.in-Buckets.slot (IsBucketsAnswer file (path_in path) c.in-Buckets.form c.in-Buckets.sizes) answer) c.as_slice-in-Buckets.ensures.value is,
       does,
       refl,
     )
@@ -43,7 +44,7 @@ returns-in-Keys g c =
     let (answer, is, does) = c.print_keys.ensures in
     subst (λ (job : Job). DoesJob g.O.Sink.taken g.O.Sink.failed c.args.out.now c.print_keys.new.out g.T.Sink.taken g.T.Sink.failed c.args.target.now c.args.target.now file job c.print_keys.result) (sym c.in-Keys.is) (
       answer,
-      subst (λ (path : Path). IsReadAnswer file c.in-Keys.slot (IsEntriesAnswer file (path_in path) c.in-Keys.form (keys_text c.in-Keys.form)) answer) c.as_slice-in-Keys.ensures.value is,
+      subst₂ (λ (path : Path) (prefix : List ℕ). IsReadAnswer file c.in-Keys.slot (IsEntriesAnswer file (path_in path) c.in-Keys.form (beginning_text c.in-Keys.form prefix)) answer) c.as_slice-in-Keys.ensures.value c.as_slice-in-Keys-2.ensures.value is,
       does,
       refl,
     )
@@ -54,7 +55,7 @@ returns-in-Get g c =
     let (answer, is, does) = c.print_value.ensures in
     subst (λ (job : Job). DoesJob g.O.Sink.taken g.O.Sink.failed c.args.out.now c.print_value.new.out g.T.Sink.taken g.T.Sink.failed c.args.target.now c.args.target.now file job c.print_value.result) (sym c.in-Get.is) (
       answer,
-      subst (λ (path : Path). IsReadAnswer file c.in-Get.slot (IsGetAnswer file (path_in path) c.in-Get.form) answer) c.as_slice-in-Get.ensures.value is,
+      subst (λ (path : Path). IsReadAnswer file c.in-Get.slot (IsGetAnswer file (path_in path) c.in-Get.form c.in-Get.no_newline) answer) c.as_slice-in-Get.ensures.value is,
       does,
       refl,
     )
@@ -65,11 +66,13 @@ returns-in-List g c =
     let (answer, is, does) = c.print_list.ensures in
     subst (λ (job : Job). DoesJob g.O.Sink.taken g.O.Sink.failed c.args.out.now c.print_list.new.out g.T.Sink.taken g.T.Sink.failed c.args.target.now c.args.target.now file job c.print_list.result) (sym c.in-List.is) (
       answer,
-      subst (λ (path : Path). IsListedAnswer c.in-List.recover file c.in-List.slot (path_in path) answer) c.as_slice-in-List.ensures.value is,
+      subst₂ (λ (path from : Path). IsListedAnswer c.in-List.recover file c.in-List.slot c.in-List.form (path_in path) (path_in from) answer) c.as_slice-in-List.ensures.value c.as_slice-in-List-2.ensures.value is,
       does,
       refl,
     )
 
 pub returns-in-Compact : goal.returns-in-Compact
 returns-in-Compact g c =
-    subst (λ (job : Job). DoesJob g.O.Sink.taken g.O.Sink.failed c.args.out.now c.write_copy.new.out g.T.Sink.taken g.T.Sink.failed c.args.target.now c.write_copy.new.target c.args.file.now job c.write_copy.result) (sym c.in-Compact.is) c.write_copy.ensures
+    subst (λ (job : Job). DoesJob g.O.Sink.taken g.O.Sink.failed c.args.out.now c.write_copy.new.out g.T.Sink.taken g.T.Sink.failed c.args.target.now c.write_copy.new.target c.args.file.now job c.write_copy.result) (sym c.in-Compact.is)
+    (subst (λ (which : Layout). MakesCopy g.O.Sink.taken g.O.Sink.failed c.args.out.now c.write_copy.new.out g.T.Sink.taken g.T.Sink.failed c.args.target.now c.write_copy.new.target c.args.file.now c.in-Compact.slot c.in-Compact.page_size which c.in-Compact.recover c.write_copy.result)
+    c.layout.ensures c.write_copy.ensures)
