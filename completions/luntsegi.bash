@@ -8,7 +8,7 @@ _luntsegi_options() {
         check) echo --all --etcd-snapshot --meta ;;
         buckets) echo --sizes --form --parts --meta ;;
         keys) echo --prefix --form --parts --meta ;;
-        get) echo -n --no-newline --form --parts --meta ;;
+        get) echo --no-newline -n --form --parts --meta ;;
         stats) echo --parts --meta ;;
         list) echo --from --form --parts --recover --meta ;;
         compact) echo -o --page-size --for-bbolt --etcd-snapshot --recover --meta ;;
