@@ -1,4 +1,4 @@
-//! A snapshot of four pages with each of its bits changed, and with its end cut off at each byte.
+//! A snapshot of four pages with a bit of each byte changed, and with its end cut off at each byte.
 
 use crate::byte_sweeps::{INLINE_FILE, toggle};
 use crate::jobs::Line;
@@ -8,8 +8,6 @@ use std::alloc::Global;
 use std::process::Abort;
 use std::test::Fail;
 use test_files::samples::make;
-
-const BITS: [u8; 8] = [1, 2, 4, 8, 16, 32, 64, 128];
 
 /// The snapshot of a file that is laid out as its copy. It is right.
 fn snapshot_of(alloc: Global, file: &[u8]) -> Result<Vec<u8>, Fail> {
@@ -31,23 +29,17 @@ fn check_begins(rt: &impl Abort, alloc: Global, job: &Job, file: &[u8], line: &[
     );
 }
 
-fn change_byte(rt: &impl Abort, alloc: Global, job: &Job, snapshot: &mut Vec<u8>, at: usize) {
-    for bit in &BITS {
-        toggle(snapshot, at, *bit);
-        let line = b"snapshot hash differs\n";
-        check_begins(rt, alloc, job, snapshot.as_slice(), line, at);
-        toggle(snapshot, at, *bit);
-    }
-}
-
 #[test]
-fn each_changed_bit_of_a_snapshot_is_found(rt: HostRuntime) -> Result<(), Fail> {
+fn a_changed_bit_in_each_byte_of_a_snapshot_is_found(rt: HostRuntime) -> Result<(), Fail> {
     let alloc = rt.alloc();
     let file = make(alloc, &INLINE_FILE)?;
     let mut snapshot = snapshot_of(alloc, file.as_slice())?;
     let job = Line::CheckSnapshot.job(alloc)?;
     for at in 0..snapshot.len() {
-        change_byte(&rt, alloc, &job, &mut snapshot, at);
+        toggle(&mut snapshot, at, 1);
+        let line = b"snapshot hash differs\n";
+        check_begins(&rt, alloc, &job, snapshot.as_slice(), line, at);
+        toggle(&mut snapshot, at, 1);
     }
     Ok(())
 }
