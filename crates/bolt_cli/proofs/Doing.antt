@@ -1,14 +1,16 @@
 -- What jobs do with their text, and what is reported at the end of a run.
-use Rattle.std.proofs.Common.{◌≡◌, ◌∙◌, ℕ, List, Option, Result, Ok, Err, IfErr, inl, inr, ap, refl}
+use Rattle.std.proofs.Common.{◌≡◌, ◌∙◌, ◌++◌, ℕ, List, Option, Result, Ok, Err, IfErr, inl, inr, ap, refl, subst}
 use Rattle.std.specs.Result.{IsErrAnd}
 use Rattle.std.proofs.KnownBytes.{Appends-nil}
 use Rattle.bolt_format.specs.Writes.{Writes}
+use Rattle.bolt_format.proofs.WriteLemmas.{Writes-stop, Writes-then}
 use Rattle.bolt_report.specs.Reports.{Reports}
 use Rattle.bolt_report.specs.declared.fault.ReportFault.{ReportFault}
 use Rattle.bolt_report.specs.declared.fault.ReportFault.TheVariants as report
 use Rattle.bolt_cli.specs.Answers.{Answer, Does, Ending, Takes, refused}
 use Rattle.bolt_cli.specs.Failures.{reported}
 use Rattle.bolt_cli.specs.declared.failure.Failure.{Failure}
+use Rattle.bolt_cli.specs.declared.failure.Failure.TheVariants as failure
 
 -- a text that no other fault but the sink's can stop
 pub Writes-reported : {S A : Type 0} {taken : S → Option (List ℕ)} {failed : S → ℕ} (old new : S) (text : List ℕ) (result : Result A ReportFault)
@@ -27,6 +29,33 @@ pub Does-part : {S A : Type 0} {taken : S → Option (List ℕ)} {failed : S →
     → Does taken failed old new answer result
 Does-part {taken} {failed} old new answer e (Ok x) a only is = absurd is
 Does-part {taken} {failed} old new answer e (Err failure) a only is = inr (a.failure (ap Err only), a.beginning, ap Err (is ∙ ap reported only))
+
+-- a text that was written whole
+pub Does-written : {O E : Type 0} (taken : O → Option (List ℕ)) (failed : O → ℕ) (old new : O) (answer : Answer) (x : Unit {0}) → Writes {E = E} taken failed old new answer.out (Ok x) → Does taken failed old new answer answer.ending
+Does-written taken failed old new answer x line = inl (line.all, line.sound, refl)
+
+-- a text that wasn't
+pub Does-unwritten : {O A E : Type 0} (taken : O → Option (List ℕ)) (failed : O → ℕ) (old new : O) (answer : Answer) (e : E) (ending : Ending) → Writes {A = A} taken failed old new answer.out (Err e)
+    → IsErrAnd ending (λ reason. reason ≡ failure.Write) → Does taken failed old new answer ending
+Does-unwritten taken failed old new answer e (Ok x) line reason = absurd reason
+Does-unwritten taken failed old new answer e (Err why) line reason = inr (line.failure, line.beginning, ap Err reason)
+
+-- the first of two texts wasn't written whole
+pub Does-first_unwritten : {O A E : Type 0} (taken : O → Option (List ℕ)) (failed : O → ℕ) (old new : O) (first second : List ℕ) (end : Ending) (e : E) (ending : Ending)
+    → Writes {A = A} taken failed old new first (Err e) → IsErrAnd ending (λ reason. reason ≡ failure.Write) → Does taken failed old new (record { out = first ++ second; ending = end }) ending
+Does-first_unwritten {E} taken failed old new first second end e ending line reason =
+    let stop : Result (Unit {0}) E = Err e in
+    Does-unwritten taken failed old new (record { out = first ++ second; ending = end }) e ending (Writes-stop old new first second e stop line refl) reason
+
+-- the first was, and the second wasn't
+pub Does-second_unwritten : {O A B E : Type 0} (taken : O → Option (List ℕ)) (failed : O → ℕ) (old mid new : O) (first second : List ℕ) (end : Ending) (x : B) (e : ReportFault) (ending : Ending)
+    → Writes {A = B} {E = E} taken failed old mid first (Ok x) → Reports {A = A} taken failed mid new second (Err e) → e ≡ report.Sink
+    → IsErrAnd ending (λ reason. reason ≡ reported e) → Does taken failed old new (record { out = first ++ second; ending = end }) ending
+Does-second_unwritten {A} taken failed old mid new first second end x e ending line rest only reason =
+    let stop : Result A ReportFault = Err e in
+    Does-unwritten taken failed old new (record { out = first ++ second; ending = end }) e ending
+    (Writes-then old mid new first second x stop line (Writes-reported mid new second stop rest only))
+    (subst (λ (fault : ReportFault). IsErrAnd ending (λ why. why ≡ reported fault)) only reason)
 
 -- nothing was put
 pub Does-nothing : {S : Type 0} (taken : S → Option (List ℕ)) (failed : S → ℕ) (old : S) (failure : Failure) (result : Ending)

@@ -23,6 +23,7 @@ pub mod RootEntries
 pub mod SettingLemmas
 pub mod ShownTexts
 pub mod SizesAnswers
+pub mod SnapshotCopies
 pub mod StatsAnswers
 pub mod WholeLines
 pub mod WordSteps

@@ -47,26 +47,29 @@ module _ (file : List ℕ) (slot : Option Slot) (path : Path) (form : Form) (che
       → (sized : List Sized) × AreSized (bytes_of checked) (meta_of checked) entries sized
   own_sizes start entries names are = named_sizes (bytes_of checked) (meta_of checked) trees path start entries names are
 
-  module _ (bucket : Bucket) (in_file : bucket_checked bucket ≡ checked) (led : ∥ LeadsTo (bytes_of checked) (meta_of checked) path (bucket_start bucket) ∥₁) {S A : Type 0} {taken : S → Option (List ℕ)} {failed : S → ℕ} (old new : S) where
-    abbrev Written : Result A ReportFault → List LeafElement → Type 0
-    Written result entries = (sized : List Sized) → AreSized (bytes_of (bucket_checked bucket)) (meta_of (bucket_checked bucket)) entries sized → Reports {A = A} taken failed old new (sizes_text form sized) result
-
+  module _ (bucket : Bucket) (in_file : bucket_checked bucket ≡ checked) (led : ∥ LeadsTo (bytes_of checked) (meta_of checked) path (bucket_start bucket) ∥₁) where
     in_bucket : (entries : List LeafElement) (sized : List Sized) → AreSized (bytes_of checked) (meta_of checked) entries sized
         → AreSized (bytes_of (bucket_checked bucket)) (meta_of (bucket_checked bucket)) entries sized
     in_bucket entries sized sizes = subst (λ (c : Checked). AreSized (bytes_of c) (meta_of c) entries sized) (sym in_file) sizes
 
+    abbrev Written : {S A : Type 0} → (taken : S → Option (List ℕ)) (failed : S → ℕ) (old new : S) → Result A ReportFault → List LeafElement → Type 0
+    Written taken failed old new result entries =
+        (sized : List Sized) → AreSized (bytes_of (bucket_checked bucket)) (meta_of (bucket_checked bucket)) entries sized → Reports taken failed old new (sizes_text form sized) result
+
     -- the sink failed, or memory ran out
-    pub sizes_stopped : (e : ReportFault) (result : Ending) → ForEntries (bucket_checked bucket) (bucket_start bucket) (Written (Err e))
+    pub sizes_stopped : {S A : Type 0} {taken : S → Option (List ℕ)} {failed : S → ℕ} (old new : S) (e : ReportFault) (result : Ending)
+        → ForEntries (bucket_checked bucket) (bucket_start bucket) (Written {A = A} taken failed old new (Err e))
         → (e ≡ report.Sink) ⊎ (e ≡ report.NoMemory) → (e ≡ report.NoMemory → failed new ≡ failed old) → IsErrAnd result (λ failure. failure ≡ reported e) → SizesAnswer taken failed old new result
-    sizes_stopped e result put fault memory ends =
-        let (start, entries, names, are, here) = at_path checked path bucket (Written (Err e)) trees in_file led put in
+    sizes_stopped {A = A} {taken = taken} {failed = failed} old new e result put fault memory ends =
+        let (start, entries, names, are, here) = at_path checked path bucket (Written {A = A} taken failed old new (Err e)) trees in_file led put in
         let (sized, sizes) = own_sizes start entries names are in
         let (answer, whole, does) = text_stopped {A = A} old new (sizes_text form sized) e result (here sized (in_bucket entries sized sizes)) fault memory ends in
         (answer, of_file answer (inl (start, entries, sized, names, are, sizes, whole)), does)
 
-    pub sizes_whole : (x : A) → ForEntries (bucket_checked bucket) (bucket_start bucket) (Written (Ok x)) → SizesAnswer taken failed old new (Ok 0)
-    sizes_whole x put =
-        let (start, entries, names, are, here) = at_path checked path bucket (Written (Ok x)) trees in_file led put in
+    pub sizes_whole : {S A : Type 0} {taken : S → Option (List ℕ)} {failed : S → ℕ} (old new : S) (x : A)
+        → ForEntries (bucket_checked bucket) (bucket_start bucket) (Written taken failed old new (Ok x)) → SizesAnswer taken failed old new (Ok 0)
+    sizes_whole {taken = taken} {failed = failed} old new x put =
+        let (start, entries, names, are, here) = at_path checked path bucket (Written taken failed old new (Ok x)) trees in_file led put in
         let (sized, sizes) = own_sizes start entries names are in
         let (answer, whole, does) = text_whole old new (sizes_text form sized) x (here sized (in_bucket entries sized sizes)) in
         (answer, of_file answer (inl (start, entries, sized, names, are, sizes, whole)), does)

@@ -15,6 +15,7 @@ use Rattle.bolt_report.specs.declared.form.Form.TheVariants as form
 use Rattle.bolt_report.specs.declared.form.ListForm.{ListForm}
 use Rattle.bolt_report.specs.declared.form.ListForm.TheVariants as list_form
 use Rattle.bolt_cli.specs.CommandLine.{IsRefusalOf}
+use Rattle.bolt_cli.specs.CopyKinds.{is_snapshot}
 use Rattle.bolt_cli.specs.declared.copy_kind.CopyKind.{CopyKind}
 use Rattle.bolt_cli.specs.declared.copy_kind.CopyKind.TheVariants as kind
 use Rattle.bolt_cli.specs.declared.job.Job.{Job}
@@ -22,7 +23,7 @@ use Rattle.bolt_cli.specs.declared.words.Refusal.{Refusal}
 use Rattle.bolt_cli.specs.declared.words.Refusal.TheVariants.{Memory, Help, Version, Usage, Word}
 use Rattle.bolt_cli.specs.LineWords.{Choice, Operand, Syntax, Text, after, given_word, has, is_complete, known_after, values_of}
 use Rattle.bolt_cli.specs.PathWords.{hex_path_by}
-use Rattle.bolt_cli.specs.PlainWords.{Asked, IsInRange, IsPart, IsSize, Reading, Setting, buckets_line, check_line, compact_line, get_line, info_line, keys_line, list_line, pages_line, stats_line, asked, asked_of, asks, buckets, check, compact, file_operand, first_of, form_of, form_word, from_word, copy_kind_by, get, info, is_for_bbolt, is_given, is_snapshot, keys, line_of, list, list_form_of, list_form_word, page, page_size_by, pages, part_operand, reading_in, reading_of, refused, settings, settings_words, slot_by, slot_word, stats, unread, words_for}
+use Rattle.bolt_cli.specs.PlainWords.{Asked, IsInRange, IsPart, IsSize, Reading, Setting, buckets_line, check_line, compact_line, get_line, info_line, keys_line, list_line, pages_line, stats_line, asked, asked_of, asks, buckets, check, compact, file_operand, first_of, form_of, form_word, from_word, copy_kind_by, get, info, is_for_bbolt, is_given, keys, line_of, list, list_form_of, list_form_word, page, page_size_by, pages, part_operand, reading_in, reading_of, refused, settings, settings_words, slot_by, slot_word, stats, unread, words_for}
 use Rattle.bolt_cli.proofs.GivenRows.{Given, has-first}
 use Rattle.bolt_cli.proofs.LineReading.{new_name}
 use Rattle.bolt_cli.proofs.Numbers.{decimal_numerals, good_number, size_written}

@@ -22,8 +22,8 @@ use Rattle.bolt_recover.specs.Refusals.{IsSlotUnrecoverable, IsUnrecoverable, Ke
 use Rattle.bolt_report.specs.FaultWords.{findings_text}
 use Rattle.bolt_report.specs.Forms.{shown_as, value_text}
 use Rattle.bolt_report.specs.Figures.{add_stats, stats_text}
-use Rattle.bolt_report.specs.KeyLines.{buckets_text}
-use Rattle.bolt_report.specs.KeyPrefixes.{beginning_text}
+use Rattle.bolt_report.specs.KeyLines.{buckets_text, keys_text}
+use Rattle.bolt_report.specs.KeyPrefixes.{beginning}
 use Rattle.bolt_report.specs.ListForms.{listing_lines}
 use Rattle.bolt_report.specs.LossLines.{all_lost_text, counted_losses_text, losses_text}
 use Rattle.bolt_report.specs.MetaLines.{info_text}
@@ -36,12 +36,15 @@ use Rattle.bolt_report.specs.declared.figures.Stats.{Stats}
 use Rattle.bolt_report.specs.declared.form.Form.{Form}
 use Rattle.bolt_report.specs.declared.form.Form.TheVariants.{Json}
 use Rattle.bolt_report.specs.declared.form.ListForm.{ListForm}
+use Rattle.bolt_snapshot.specs.SnapshotFaults.{fault_lines}
+use Rattle.bolt_snapshot.specs.declared.fault.SnapshotFault.{SnapshotFault}
 use Rattle.bolt_tree.specs.Entries.{AreEntries, IsEntry, Item, Root_page, Start, Value, start_of}
 use Rattle.bolt_tree.specs.Listing.{IsListing, Member, rest_from}
 use Rattle.bolt_tree.specs.ListingParts.{bucket_part, has_bucket}
 use Rattle.bolt_tree.specs.Paths.{Holds, Names, Path}
-use Rattle.bolt_cli.specs.CopyKinds.{layout_for}
+use Rattle.bolt_cli.specs.CopyKinds.{is_snapshot, layout_for}
 use Rattle.bolt_cli.specs.Failures.{IsToldAs, failure_line}
+use Rattle.bolt_cli.specs.SnapshotAnswers.{copy_of, errors_in, hash_found}
 use Rattle.bolt_cli.specs.declared.failure.Failure.{Failure}
 use Rattle.bolt_cli.specs.declared.failure.Failure.TheVariants as failure
 use Rattle.bolt_cli.specs.declared.job.Job.{Job}
@@ -94,15 +97,20 @@ IsInfoAnswer file wanted answer =
 
 -- ---- the other commands, which check the file
 
--- what was found goes to standard output
-abbrev pub found : List Finding → Answer
-found findings = record { out = findings_text findings; ending = Ok 1 }
+-- what was found goes to standard output; what is wrong with the hash of a snapshot comes first, and is an error too
+abbrev pub found : Option SnapshotFault → List Finding → Answer
+found hash findings = record { out = fault_lines hash ++ findings_text (errors_in hash) findings; ending = Ok 1 }
 
-abbrev pub check_refusal : CheckFault → Answer
-check_refusal (check.Open fault) = refused (failure.Metas fault)
-check_refusal (check.Structure x) = found (x ∷ [])
-check_refusal (check.Accounts told) = found told.items
-check_refusal check.Memory = refused failure.Memory
+-- nothing else is wrong
+abbrev pub none_found : Option SnapshotFault → Answer
+none_found None = done (codes "OK\n")
+none_found (Some fault) = found (Some fault) []
+
+abbrev pub check_refusal : Option SnapshotFault → CheckFault → Answer
+check_refusal hash (check.Open fault) = record { out = fault_lines hash; ending = Err (failure.Metas fault) }
+check_refusal hash (check.Structure x) = found hash (x ∷ [])
+check_refusal hash (check.Accounts told) = found hash told.items
+check_refusal hash check.Memory = refused failure.Memory
 
 -- a path leads from the root bucket to this one; and what it holds
 abbrev pub LeadsTo : List ℕ → Meta → Path → Start → Type 0
@@ -257,10 +265,10 @@ IsReadAnswer file slot IsAccepted answer =
 
 -- ---- `check`, under the active meta or that of a slot
 
-abbrev pub IsFoundAnswer : List ℕ → Option Slot → Answer → Type 0
-IsFoundAnswer file slot answer =
-    ((meta : Meta) × IsReadUnder file slot meta × (answer ≡ done (codes "OK\n")))
-    ⊎ ((fault : CheckFault) × IsRefusedUnder file slot fault × (answer ≡ check_refusal fault))
+abbrev pub IsFoundAnswer : Option SnapshotFault → List ℕ → Option Slot → Answer → Type 0
+IsFoundAnswer hash file slot answer =
+    ((meta : Meta) × IsReadUnder file slot meta × (answer ≡ none_found hash))
+    ⊎ ((fault : CheckFault) × IsRefusedUnder file slot fault × (answer ≡ check_refusal hash fault))
 
 -- ---- what is recovered of a damaged file
 
@@ -289,24 +297,32 @@ IsRecoveredList file form path from meta answer =
     (listing : List Member) × (losses : List LossView) × IsRecovered file meta listing × AreLosses file meta losses
     × IsEndedOrCut (part_text form path from listing) (part_ending path listing (lost_ending losses)) answer
 
+-- each loss; what is wrong with the hash of a snapshot comes first, and is an error too
+abbrev pub losses_found : Option SnapshotFault → List LossView → Answer
+losses_found hash losses = record { out = fault_lines hash ++ counted_losses_text (errors_in hash) losses; ending = Ok 1 }
+
 -- each loss; if nothing is lost, what `check` writes; or nothing, if memory ran out
-abbrev pub AnswersLosses : List ℕ → Option Slot → List LossView → Answer → Type 0
-AnswersLosses file slot [] answer = IsFoundAnswer file slot answer
-AnswersLosses file slot (loss ∷ losses) answer = answer ≡ record { out = counted_losses_text (loss ∷ losses); ending = Ok 1 }
+abbrev pub AnswersLosses : Option SnapshotFault → List ℕ → Option Slot → List LossView → Answer → Type 0
+AnswersLosses hash file slot [] answer = IsFoundAnswer hash file slot answer
+AnswersLosses hash file slot (loss ∷ losses) answer = answer ≡ losses_found hash (loss ∷ losses)
 
-abbrev pub IsLossesAnswer : List ℕ → Option Slot → Meta → Answer → Type 0
-IsLossesAnswer file slot meta answer = ((losses : List LossView) × AreLosses file meta losses × AnswersLosses file slot losses answer) ⊎ (answer ≡ refused failure.Memory)
+abbrev pub IsLossesAnswer : Option SnapshotFault → List ℕ → Option Slot → Meta → Answer → Type 0
+IsLossesAnswer hash file slot meta answer = ((losses : List LossView) × AreLosses file meta losses × AnswersLosses hash file slot losses answer) ⊎ (answer ≡ refused failure.Memory)
 
-abbrev pub all_refusal : CheckFault → Answer
-all_refusal (check.Structure x) = record { out = all_lost_text x; ending = Ok 1 }
-all_refusal (check.Open fault) = check_refusal (check.Open fault)
-all_refusal (check.Accounts told) = check_refusal (check.Accounts told)
-all_refusal check.Memory = check_refusal check.Memory
+abbrev pub all_refusal : Option SnapshotFault → CheckFault → Answer
+all_refusal hash (check.Structure x) = record { out = fault_lines hash ++ all_lost_text (errors_in hash) x; ending = Ok 1 }
+all_refusal hash (check.Open fault) = check_refusal hash (check.Open fault)
+all_refusal hash (check.Accounts told) = check_refusal hash (check.Accounts told)
+all_refusal hash check.Memory = check_refusal hash check.Memory
 
--- `check` and `check --all`, `list` and `list --recover`
-abbrev pub IsCheckAnswer : Bool → List ℕ → Option Slot → Answer → Type 0
-IsCheckAnswer false file slot answer = IsFoundAnswer file slot answer
-IsCheckAnswer true file slot answer = IsRecoveredAnswer file slot (IsLossesAnswer file slot) (λ fault answer. answer ≡ all_refusal fault) answer
+-- `check` and `check --all` of a file whose hash was looked at
+abbrev pub IsCheckAnswerAfter : (all : Bool) → Option SnapshotFault → List ℕ → Option Slot → Answer → Type 0
+IsCheckAnswerAfter false hash file slot answer = IsFoundAnswer hash file slot answer
+IsCheckAnswerAfter true hash file slot answer = IsRecoveredAnswer file slot (IsLossesAnswer hash file slot) (λ fault answer. answer ≡ all_refusal hash fault) answer
+
+-- `check`, `check --all`, and either of a snapshot; `list` and `list --recover`
+abbrev pub IsCheckAnswer : (all snapshot : Bool) → List ℕ → Option Slot → Answer → Type 0
+IsCheckAnswer all snapshot file slot answer = IsCheckAnswerAfter all (hash_found snapshot file) file slot answer
 
 abbrev pub IsListedAnswer : Bool → List ℕ → Option Slot → ListForm → (path from : Path) → Answer → Type 0
 IsListedAnswer false file slot form path from answer = IsReadAnswer file slot (IsListAnswer file form path from) answer
@@ -337,10 +353,10 @@ StopsCopy failed old new layout failure.TooLarge = (too_many ≤ length layout) 
 StopsCopy failed old new layout failure.Write = 0 < failed new
 StopsCopy failed old new layout _ = ⊥
 
--- The target accepted a prefix of the layout that isn't the whole, and the failure says why. Of a layout with 2^63 bytes or more it
+-- The target accepted a prefix of the copy that isn't the whole, and the failure says why. Of a layout with 2^63 bytes or more it
 -- accepted nothing.
-pub record StopsShort {T : Type 0} (taken : T → Option (List ℕ)) (failed : T → ℕ) (old new : T) (layout : List ℕ) (failure : Failure) : Type 0 where
-  pub short : AppendsProperBeginning (taken old) (taken new) layout
+pub record StopsShort {T : Type 0} (taken : T → Option (List ℕ)) (failed : T → ℕ) (old new : T) (layout copy : List ℕ) (failure : Failure) : Type 0 where
+  pub short : AppendsProperBeginning (taken old) (taken new) copy
   pub why : StopsCopy failed old new layout failure
   pub large : too_many ≤ length layout → Keeps (taken old) (taken new)
 
@@ -362,51 +378,53 @@ module _ {O T : Type 0} (out_taken : O → Option (List ℕ)) (out_failed : O �
   abbrev pub Prints : (Answer → Type 0) → Ending → Type 0
   Prints IsWanted ending = (answer : Answer) × IsWanted answer × Does out_taken out_failed out_old out_new answer ending × (target_new ≡ target_old)
 
-  -- The target accepted the whole layout without a failure, which has fewer than 2^63 bytes, is sound and has this listing; and then
-  -- standard output is to accept the text of the answer. Or the target stopped short, standard output isn't touched, and the job ends with
-  -- the failure.
-  abbrev pub WritesCopy : (listing : List Member) → (layout : List ℕ) → Answer → Ending → Type 0
-  WritesCopy listing layout answer ending =
+  -- The target accepted the whole copy without a failure, which is the layout and, in a snapshot, its hash. The layout has fewer than 2^63
+  -- bytes, is sound and has this listing. Then standard output is to accept the text of the answer. Or the target stopped short, standard
+  -- output isn't touched, and the job ends with the failure.
+  abbrev pub WritesCopy : (listing : List Member) → (layout copy : List ℕ) → Answer → Ending → Type 0
+  WritesCopy listing layout copy answer ending =
       ((length layout < too_many) × ∥ AcceptsListing layout listing ∥₁
-      × Appends (target_taken target_old) (target_taken target_new) layout × (target_failed target_new ≡ target_failed target_old)
+      × Appends (target_taken target_old) (target_taken target_new) copy × (target_failed target_new ≡ target_failed target_old)
       × Does out_taken out_failed out_old out_new answer ending)
-      ⊎ ((failure : Failure) × StopsShort target_taken target_failed target_old target_new layout failure × (out_new ≡ out_old) × (ending ≡ Err failure))
+      ⊎ ((failure : Failure) × StopsShort target_taken target_failed target_old target_new layout copy failure × (out_new ≡ out_old) × (ending ≡ Err failure))
 
   -- The target accepts the layout that is asked for of the file's listing, at the copy's page size, which is sound and has the same
-  -- listing; or the file is refused, and neither is touched.
-  abbrev pub Compacts : List ℕ → Option Slot → Option PageSize → Layout → Ending → Type 0
-  Compacts file slot size which ending =
+  -- listing, and for a snapshot then its hash; or the file is refused, and neither is touched.
+  abbrev pub Compacts : List ℕ → Option Slot → Option PageSize → Layout → (snapshot : Bool) → Ending → Type 0
+  Compacts file slot size which snapshot ending =
       ((meta : Meta) × (listing : List Member) × IsReadUnder file slot meta × IsListing file meta listing
-      × (let layout = layout_of_listing which (copy_page_size size meta) listing meta.root_sequence in WritesCopy listing layout (done (lengths_line (length file) (length layout))) ending))
+      × (let layout = layout_of_listing which (copy_page_size size meta) listing meta.root_sequence in
+      let copy = copy_of snapshot layout in WritesCopy listing layout copy (done (lengths_line (length file) (length copy))) ending))
       ⊎ ((fault : CheckFault) × (failure : Failure) × IsRefusedUnder file slot fault × IsToldAs fault failure
       × (out_new ≡ out_old) × (target_new ≡ target_old) × (ending ≡ Err failure))
 
   -- the same of the recovered listing, and each loss is reported; or nothing is recovered
-  abbrev pub Recovers : List ℕ → Option Slot → Option PageSize → Layout → Ending → Type 0
-  Recovers file slot size which ending =
+  abbrev pub Recovers : List ℕ → Option Slot → Option PageSize → Layout → (snapshot : Bool) → Ending → Type 0
+  Recovers file slot size which snapshot ending =
       ((meta : Meta) × (listing : List Member) × (losses : List LossView) × IsRecoveredUnder file slot meta × IsRecovered file meta listing × AreLosses file meta losses
       × (let layout = layout_of_listing which (copy_page_size size meta) listing meta.root_sequence in
-      WritesCopy listing layout (record { out = losses_text losses ++ lengths_line (length file) (length layout); ending = Ok (lost_status losses) }) ending))
+      let copy = copy_of snapshot layout in
+      WritesCopy listing layout copy (record { out = losses_text losses ++ lengths_line (length file) (length copy); ending = Ok (lost_status losses) }) ending))
       ⊎ ((fault : CheckFault) × (failure : Failure) × IsUnrecoverableUnder file slot fault × IsToldAs fault failure
       × (out_new ≡ out_old) × (target_new ≡ target_old) × (ending ≡ Err failure))
 
   -- `compact` and `compact --recover`
-  abbrev pub MakesCopy : List ℕ → Option Slot → Option PageSize → Layout → Bool → Ending → Type 0
-  MakesCopy file slot size which false ending = Compacts file slot size which ending
-  MakesCopy file slot size which true ending = Recovers file slot size which ending
+  abbrev pub MakesCopy : List ℕ → Option Slot → Option PageSize → Layout → (snapshot recover : Bool) → Ending → Type 0
+  MakesCopy file slot size which snapshot false ending = Compacts file slot size which snapshot ending
+  MakesCopy file slot size which snapshot true ending = Recovers file slot size which snapshot ending
 
   -- what a job does, and how it ends
   abbrev pub DoesJob : List ℕ → Job → Ending → Type 0
   DoesJob file (job.Info name slot) = Prints (IsInfoAnswer file slot)
   DoesJob file (job.Page name id) = Prints (IsOpenAnswer file (λ slot meta. page_answer (page_text_fault file meta id) (page_text file meta id)))
   DoesJob file (job.Pages name as_map) = Prints (IsCheckedAnswer file (IsPagesAnswer file as_map) IsFileRefusal)
-  DoesJob file (job.Check name slot all snapshot) = Prints (IsCheckAnswer all file slot)
+  DoesJob file (job.Check name slot all snapshot) = Prints (IsCheckAnswer all snapshot file slot)
   DoesJob file (job.Buckets name slot path form sizes) = Prints (IsReadAnswer file slot (IsBucketsAnswer file (path_in path.items) form sizes))
   DoesJob file (job.Stats name slot path) = Prints (IsReadAnswer file slot (IsStatsAnswer file (path_in path.items)))
-  DoesJob file (job.Keys name slot path prefix form) = Prints (IsReadAnswer file slot (IsEntriesAnswer file (path_in path.items) form (beginning_text form prefix.items)))
+  DoesJob file (job.Keys name slot path prefix form) = Prints (IsReadAnswer file slot (IsEntriesAnswer file (path_in path.items) form (λ entries. keys_text form (beginning prefix.items entries))))
   DoesJob file (job.Get name slot path form no_newline) = Prints (IsReadAnswer file slot (IsGetAnswer file (path_in path.items) form no_newline))
   DoesJob file (job.List name slot form path from recover) = Prints (IsListedAnswer recover file slot form (path_in path.items) (path_in from.items))
-  DoesJob file (job.Compact name slot out size which recover) = MakesCopy file slot size (layout_for which) recover
+  DoesJob file (job.Compact name slot out size which recover) = MakesCopy file slot size (layout_for which) (is_snapshot which) recover
 
 -- ---- the end of a run
 

@@ -1,4 +1,5 @@
 -- The kinds of copies: docs/COMMANDS.md, "What a run writes".
+use Rattle.std.specs.Prelude.{Bool, true, false}
 use Rattle.bolt_layout.specs.declared.layout.Layout.{Layout}
 use Rattle.bolt_layout.specs.declared.layout.Layout.TheVariants.{Balanced, Plain}
 use Rattle.bolt_cli.specs.declared.copy_kind.CopyKind.{CopyKind}
@@ -9,3 +10,9 @@ abbrev pub layout_for : CopyKind → Layout
 layout_for kind.Plain = Plain
 layout_for kind.ForBbolt = Balanced
 layout_for kind.EtcdSnapshot = Balanced
+
+-- whether it ends with its hash
+abbrev pub is_snapshot : CopyKind → Bool
+is_snapshot kind.Plain = false
+is_snapshot kind.ForBbolt = false
+is_snapshot kind.EtcdSnapshot = true

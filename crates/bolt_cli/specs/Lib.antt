@@ -6,4 +6,5 @@ pub mod LineWords
 pub mod Needs
 pub mod PathWords
 pub mod PlainWords
+pub mod SnapshotAnswers
 pub mod Syntaxes

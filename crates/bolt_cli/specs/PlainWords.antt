@@ -15,6 +15,7 @@ use Rattle.bolt_report.specs.declared.form.ListForm.{ListForm}
 use Rattle.bolt_report.specs.declared.form.ListForm.TheVariants as list_form
 use Rattle.bolt_cli.specs.LineWords.{Choice, Known, Operand, Syntax, Text, both, is_complete, known_after, long, short, values_of}
 use Rattle.bolt_cli.specs.PathWords.{each_part, hex_path_by, part_of, parts_by, prefix_of, result_and_then}
+use Rattle.bolt_cli.specs.CopyKinds.{is_snapshot}
 use Rattle.bolt_cli.specs.declared.copy_kind.CopyKind.{CopyKind}
 use Rattle.bolt_cli.specs.declared.copy_kind.CopyKind.TheVariants as kind
 use Rattle.bolt_cli.specs.declared.job.Job.{Job}
@@ -398,11 +399,6 @@ abbrev pub is_for_bbolt : CopyKind → Bool
 is_for_bbolt kind.Plain = false
 is_for_bbolt kind.ForBbolt = true
 is_for_bbolt kind.EtcdSnapshot = false
-
-abbrev pub is_snapshot : CopyKind → Bool
-is_snapshot kind.Plain = false
-is_snapshot kind.ForBbolt = false
-is_snapshot kind.EtcdSnapshot = true
 
 -- the name of the command that does the job, the options of its line, its FILE, and the words behind that
 abbrev pub command_name : Asked → Text

@@ -1,34 +1,58 @@
 //! The command `check`.
-ghost use Rattle.std.specs.Prelude.{◌≡◌, OnOk, codes};
+ghost use Rattle.std.specs.Prelude.{◌≡◌, ◌≤◌, IfOk, OnOk, map};
+ghost use Rattle.bolt_check.specs.declared.fault.CheckFault.TheVariants as check;
+ghost use Rattle.bolt_format.specs.Writes.{Writes};
 ghost use Rattle.bolt_recover.specs.Recoveries.{ForLosses, recovery_file, recovery_losses, recovery_meta};
-ghost use Rattle.bolt_cli.specs.Answers.{Answer, Does, IsCheckAnswer, IsFoundAnswer, IsLossesAnswer, IsRecoveredAnswer, all_refusal, check_refusal, done, found};
+ghost use Rattle.bolt_recover.specs.ShownLosses.{loss_view};
+ghost use Rattle.bolt_snapshot.specs.SnapshotFaults.{fault_lines};
+ghost use Rattle.bolt_cli.specs.Answers.{Answer, Does, IsCheckAnswer, IsFoundAnswer, IsLossesAnswer, IsRecoveredAnswer, all_refusal, check_refusal, found, losses_found, none_found};
+ghost use Rattle.bolt_cli.specs.SnapshotAnswers.{errors_in, hash_found};
 
 use crate::failure::Failure;
 use crate::open_read::check_under;
 use crate::open_recovery::recovery_under;
 use bolt_check::{CheckFault, Finding, NoMemory};
-use bolt_format::{Sink, Slot};
-use bolt_recover::Recovery;
+use bolt_format::{MetaFault, Sink, SinkFault, Slot};
+use bolt_recover::{Loss, Recovery};
 use bolt_report::{all_lost_text, counted_losses_text, findings_text};
+use bolt_snapshot::{SnapshotFault, snapshot_fault};
 use std::alloc::Global;
 use std::slice;
 
-/// Writes `OK` if the file is sound. Otherwise it writes the findings, or with `all` each loss.
+/// The check that is asked for.
+#[derive(Clone, Copy, Debug)]
+pub(crate) struct WantedCheck {
+    /// Whether everything that is lost is to be found.
+    pub all: bool,
+    /// Whether the file is to be a snapshot, with its hash at the end.
+    pub snapshot: bool,
+}
+
+/// Writes `OK` if the file is sound. Otherwise it writes what is wrong with the hash of a snapshot,
+/// and then the findings, or with `all` each loss.
 pub(crate) fn print_check<O: Sink>(
     alloc: Global,
     file: &[u8],
     slot: Option<Slot>,
-    all: bool,
+    wanted: WantedCheck,
     out: &mut O,
 ) -> Result<u8, Failure>
-    ensures { (answer : Answer) × IsCheckAnswer all file.now slot answer
+    ensures { (answer : Answer) × IsCheckAnswer wanted.all wanted.snapshot file.now slot answer
         × Does O.taken O.failed out.old out.new answer result }
 {
-    if all {
-        print_losses(alloc, file, slot, out)
+    let hash = hash_found(wanted.snapshot, file);
+    if wanted.all {
+        print_losses(alloc, file, slot, hash, out)
     } else {
-        print_findings(alloc, file, slot, out)
+        print_findings(alloc, file, slot, hash, out)
     }
+}
+
+/// What is wrong with the hash, if the file is to be a snapshot.
+fn hash_found(snapshot: bool, file: &[u8]) -> Option<SnapshotFault>
+    ensures { result ≡ hash_found snapshot file.now }
+{
+    if snapshot { snapshot_fault(file) } else { None }
 }
 
 /// Writes `OK` if the file is sound, and otherwise the first finding of its trees or those of its
@@ -37,14 +61,15 @@ fn print_findings<O: Sink>(
     alloc: Global,
     file: &[u8],
     slot: Option<Slot>,
+    hash: Option<SnapshotFault>,
     out: &mut O,
 ) -> Result<u8, Failure>
-    ensures { (answer : Answer) × IsFoundAnswer file.now slot answer
+    ensures { (answer : Answer) × IsFoundAnswer hash file.now slot answer
         × Does O.taken O.failed out.old out.new answer result }
 {
     match check_under(alloc, file, slot) {
-        Ok(_) => put_ok(out),
-        Err(fault) => put_refusal(&fault, out),
+        Ok(_) => put_none_found(hash, out),
+        Err(fault) => put_refusal(&fault, hash, out),
     }
 }
 
@@ -53,22 +78,22 @@ fn print_losses<O: Sink>(
     alloc: Global,
     file: &[u8],
     slot: Option<Slot>,
+    hash: Option<SnapshotFault>,
     out: &mut O,
 ) -> Result<u8, Failure>
-    ensures { (answer : Answer) × IsRecoveredAnswer file.now slot (IsLossesAnswer file.now slot) (λ fault answer. answer ≡ all_refusal fault) answer
+    ensures { (answer : Answer) × IsRecoveredAnswer file.now slot (IsLossesAnswer hash file.now slot) (λ fault answer. answer ≡ all_refusal hash fault) answer
         × Does O.taken O.failed out.old out.new answer result }
 {
     let mut recovery = match recovery_under(alloc, file, slot) {
         Ok(recovery) => recovery,
-        Err(fault) => return put_all_lost(&fault, out),
+        Err(fault) => return put_all_lost(&fault, hash, out),
     };
     walk_to_end(&mut recovery)?;
     let losses = recovery.losses();
     if losses.is_empty() {
-        return print_findings(alloc, file, slot, out);
+        return print_findings(alloc, file, slot, hash, out);
     }
-    counted_losses_text(losses, out)?;
-    Ok(1)
+    put_losses(losses, hash, out)
 }
 
 /// Walks to the end of what is recovered, so that each loss is known.
@@ -81,39 +106,95 @@ fn walk_to_end(recovery: &mut Recovery<'_>) -> Result<(), NoMemory>
     Ok(())
 }
 
-/// Writes why nothing is recovered.
-fn put_all_lost<O: Sink>(fault: &CheckFault, out: &mut O) -> Result<u8, Failure>
-    ensures { Does O.taken O.failed out.old out.new (all_refusal fault.now) result }
+/// Writes that nothing else is wrong than the hash of a snapshot, or `OK`.
+fn put_none_found<O: Sink>(hash: Option<SnapshotFault>, out: &mut O) -> Result<u8, Failure>
+    ensures { Does O.taken O.failed out.old out.new (none_found hash) result }
 {
-    let CheckFault::Structure(finding) = fault else {
-        return put_refusal(fault, out);
-    };
-    all_lost_text(finding, out)?;
-    Ok(1)
-}
-
-fn put_ok<O: Sink>(out: &mut O) -> Result<u8, Failure>
-    ensures { Does O.taken O.failed out.old out.new (done (codes "OK\n")) result }
-{
+    if hash.is_some() {
+        return put_findings(&[], hash, out);
+    }
     out.put(b"OK\n")?;
     Ok(0)
 }
 
+/// Writes why nothing is recovered.
+fn put_all_lost<O: Sink>(
+    fault: &CheckFault,
+    hash: Option<SnapshotFault>,
+    out: &mut O,
+) -> Result<u8, Failure>
+    ensures { Does O.taken O.failed out.old out.new (all_refusal hash fault.now) result }
+{
+    let CheckFault::Structure(finding) = fault else {
+        return put_refusal(fault, hash, out);
+    };
+    let earlier = put_hash_fault(hash, out)?;
+    all_lost_text(finding, earlier, out)?;
+    Ok(1)
+}
+
 /// Writes the findings that a file is refused for.
-fn put_refusal<O: Sink>(fault: &CheckFault, out: &mut O) -> Result<u8, Failure>
-    ensures { Does O.taken O.failed out.old out.new (check_refusal fault.now) result }
+fn put_refusal<O: Sink>(
+    fault: &CheckFault,
+    hash: Option<SnapshotFault>,
+    out: &mut O,
+) -> Result<u8, Failure>
+    ensures { Does O.taken O.failed out.old out.new (check_refusal hash fault.now) result }
 {
     match fault {
-        CheckFault::Open(fault) => Err(Failure::Metas(*fault)),
-        CheckFault::Structure(finding) => put_findings(slice::from_ref(finding), out),
-        CheckFault::Accounts(findings) => put_findings(findings.as_slice(), out),
+        CheckFault::Open(fault) => put_unread(*fault, hash, out),
+        CheckFault::Structure(finding) => put_findings(slice::from_ref(finding), hash, out),
+        CheckFault::Accounts(findings) => put_findings(findings.as_slice(), hash, out),
         CheckFault::Memory => Err(Failure::Memory),
     }
 }
 
-fn put_findings<O: Sink>(findings: &[Finding], out: &mut O) -> Result<u8, Failure>
-    ensures { Does O.taken O.failed out.old out.new (found findings.now) result }
+/// Writes what is wrong with the hash of a file that has no valid meta. The failure says that.
+fn put_unread<O: Sink>(
+    fault: MetaFault,
+    hash: Option<SnapshotFault>,
+    out: &mut O,
+) -> Result<u8, Failure>
+    ensures { Does O.taken O.failed out.old out.new (check_refusal hash (check.Open fault)) result }
 {
-    findings_text(findings, out)?;
+    put_hash_fault(hash, out)?;
+    Err(Failure::Metas(fault))
+}
+
+fn put_findings<O: Sink>(
+    findings: &[Finding],
+    hash: Option<SnapshotFault>,
+    out: &mut O,
+) -> Result<u8, Failure>
+    ensures { Does O.taken O.failed out.old out.new (found hash findings.now) result }
+{
+    let earlier = put_hash_fault(hash, out)?;
+    findings_text(findings, earlier, out)?;
+    Ok(1)
+}
+
+fn put_losses<O: Sink>(
+    losses: &[Loss<'_>],
+    hash: Option<SnapshotFault>,
+    out: &mut O,
+) -> Result<u8, Failure>
+    ensures { Does O.taken O.failed out.old out.new (losses_found hash (map loss_view losses.now)) result }
+{
+    let earlier = put_hash_fault(hash, out)?;
+    counted_losses_text(losses, earlier, out)?;
+    Ok(1)
+}
+
+/// Writes the line of what is wrong with the hash of a snapshot, and returns how many errors that
+/// is.
+fn put_hash_fault<O: Sink>(hash: Option<SnapshotFault>, out: &mut O) -> Result<u64, SinkFault>
+    ensures line { Writes O.taken O.failed out.old out.new (fault_lines hash) result }
+    ensures errors { IfOk result (λ errors. errors ≡ errors_in hash) }
+    ensures few { IfOk result (λ errors. errors ≤ 1) }
+{
+    let Some(fault) = hash else {
+        return Ok(0);
+    };
+    out.put(fault.line())?;
     Ok(1)
 }

@@ -1,9 +1,14 @@
 //! The command `compact`.
-ghost use Rattle.std.specs.Prelude.{◌≡◌, map};
+ghost use Rattle.std.specs.Prelude.{◌≡◌, ◌+◌, ◌<◌, IfErr, IfOk, IsTrue, OnErr, OnOk, map};
+ghost use Rattle.std.specs.Io.KnownBytes.{Keeps};
+ghost use Rattle.bolt_bulk.specs.Compacting.{too_many};
 ghost use Rattle.bolt_format.specs.Metas.{IsPageSize};
 ghost use Rattle.bolt_format.specs.Writes.{Writes};
 ghost use Rattle.bolt_recover.specs.ShownLosses.{loss_view};
+ghost use Rattle.bolt_snapshot.specs.Hashes.{AppendsHashShort};
+ghost use Rattle.bolt_snapshot.specs.declared.hash_fault.HashFault.TheVariants as hash;
 ghost use Rattle.bolt_cli.specs.Answers.{Compacts, MakesCopy, Recovers, copy_page_size, lengths_line, lost_status};
+ghost use Rattle.bolt_cli.specs.SnapshotAnswers.{AppendsEnding, ending_length};
 
 use crate::decimals::put_number;
 use crate::failure::Failure;
@@ -15,6 +20,7 @@ use bolt_format::{Meta, Sink, SinkFault, Slot};
 use bolt_layout::Layout;
 use bolt_recover::Loss;
 use bolt_report::losses_text;
+use bolt_snapshot::{HASH_LEN, HashFault, SnapshotSink};
 use std::alloc::Global;
 
 /// The copy that is asked for.
@@ -23,12 +29,14 @@ pub(crate) struct WantedCopy {
     /// Its page size. Without one it has that of the file.
     pub page_size: Option<PageSize>,
     pub layout: Layout,
+    /// Whether it is a snapshot, which ends with the hash of its layout.
+    pub snapshot: bool,
     /// Whether it is of what a damaged file still holds.
     pub recover: bool,
 }
 
 /// Writes the compact copy that is asked for to `target`, and then what is reported of it to `out`.
-pub(crate) fn write_copy<O: Sink, T: Sink>(
+pub(crate) fn write_copy<O: Sink, T: SnapshotSink>(
     alloc: Global,
     file: &[u8],
     slot: Option<Slot>,
@@ -36,7 +44,7 @@ pub(crate) fn write_copy<O: Sink, T: Sink>(
     out: &mut O,
     target: &mut T,
 ) -> Result<u8, Failure>
-    ensures { MakesCopy O.taken O.failed out.old out.new T.taken T.failed target.old target.new file.now slot wanted.now.page_size wanted.now.layout wanted.now.recover result }
+    ensures { MakesCopy O.taken O.failed out.old out.new T.taken T.failed target.old target.new file.now slot wanted.now.page_size wanted.now.layout wanted.now.snapshot wanted.now.recover result }
 {
     if wanted.recover {
         write_recovered(alloc, file, slot, wanted, out, target)
@@ -46,7 +54,7 @@ pub(crate) fn write_copy<O: Sink, T: Sink>(
 }
 
 /// Writes the copy of a sound file, and then the lengths of the file and of the copy.
-fn write_sound<O: Sink, T: Sink>(
+fn write_sound<O: Sink, T: SnapshotSink>(
     alloc: Global,
     file: &[u8],
     slot: Option<Slot>,
@@ -54,17 +62,19 @@ fn write_sound<O: Sink, T: Sink>(
     out: &mut O,
     target: &mut T,
 ) -> Result<u8, Failure>
-    ensures { Compacts O.taken O.failed out.old out.new T.taken T.failed target.old target.new file.now slot wanted.now.page_size wanted.now.layout result }
+    ensures { Compacts O.taken O.failed out.old out.new T.taken T.failed target.old target.new file.now slot wanted.now.page_size wanted.now.layout wanted.now.snapshot result }
 {
     let checked = open_read(alloc, file, slot)?;
     let size = size_of_copy(&checked.meta(), wanted.page_size);
+    begin_copy(wanted.snapshot, target);
     let copy = compact_as(alloc, checked, wanted.layout, size, target)?;
-    put_lengths(file.len() as u64, copy.bytes, out)?;
+    let length = end_copy(wanted.snapshot, copy.bytes, target)?;
+    put_lengths(file.len() as u64, length, out)?;
     Ok(0)
 }
 
 /// Writes the copy of what a damaged file still holds, then the line of each loss, and the lengths.
-fn write_recovered<O: Sink, T: Sink>(
+fn write_recovered<O: Sink, T: SnapshotSink>(
     alloc: Global,
     file: &[u8],
     slot: Option<Slot>,
@@ -72,15 +82,44 @@ fn write_recovered<O: Sink, T: Sink>(
     out: &mut O,
     target: &mut T,
 ) -> Result<u8, Failure>
-    ensures { Recovers O.taken O.failed out.old out.new T.taken T.failed target.old target.new file.now slot wanted.now.page_size wanted.now.layout result }
+    ensures { Recovers O.taken O.failed out.old out.new T.taken T.failed target.old target.new file.now slot wanted.now.page_size wanted.now.layout wanted.now.snapshot result }
 {
     let mut recovery = open_recovery(alloc, file, slot)?;
     let size = size_of_copy(&recovery.meta(), wanted.page_size);
+    begin_copy(wanted.snapshot, target);
     let copy = compact_recovered(alloc, &mut recovery, wanted.layout, size, target)?;
+    let length = end_copy(wanted.snapshot, copy.bytes, target)?;
     let losses = recovery.losses();
     losses_text(losses, out)?;
-    put_lengths(file.len() as u64, copy.bytes, out)?;
+    put_lengths(file.len() as u64, length, out)?;
     Ok(status_of(losses))
+}
+
+/// Has the target hash a snapshot.
+fn begin_copy<T: SnapshotSink>(snapshot: bool, target: &mut T)
+    ensures kept { Keeps (T.taken target.old) (T.taken target.new) }
+    ensures sound { T.failed target.new ≡ T.failed target.old }
+{
+    if snapshot {
+        target.start_hash();
+    }
+}
+
+/// Writes what follows the layout in a copy, which is the hash in a snapshot, and returns the
+/// length of the whole. The layout has this many bytes.
+fn end_copy<T: SnapshotSink>(snapshot: bool, length: u64, target: &mut T) -> Result<u64, HashFault>
+    ensures whole { OnOk result (AppendsEnding snapshot (T.taken target.old) (T.taken target.new) length) }
+    ensures sound { OnOk result (T.failed target.new ≡ T.failed target.old) }
+    ensures length { IfOk result (λ whole. length < too_many → whole ≡ length + ending_length snapshot) }
+    ensures asked { OnErr result (IsTrue snapshot) }
+    ensures short { IfErr result (λ fault. fault ≡ hash.Sink → AppendsHashShort (T.taken target.old) (T.taken target.new) length × (0 < T.failed target.new)) }
+    ensures nothing { IfErr result (λ fault. fault ≡ hash.NotHashed → Keeps (T.taken target.old) (T.taken target.new) × (T.failed target.new ≡ T.failed target.old)) }
+{
+    if !snapshot {
+        return Ok(length);
+    }
+    target.put_hash(length)?;
+    Ok(length.saturating_add(HASH_LEN))
 }
 
 /// The status after these losses.

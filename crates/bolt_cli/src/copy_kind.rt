@@ -1,6 +1,6 @@
 //! The kinds of copies.
 ghost use Rattle.std.specs.Prelude.{◌≡◌};
-ghost use Rattle.bolt_cli.specs.CopyKinds.{layout_for};
+ghost use Rattle.bolt_cli.specs.CopyKinds.{is_snapshot, layout_for};
 
 use bolt_layout::Layout;
 
@@ -23,6 +23,16 @@ impl CopyKind {
         match self {
             CopyKind::Plain => Layout::Plain,
             CopyKind::ForBbolt | CopyKind::EtcdSnapshot => Layout::Balanced,
+        }
+    }
+
+    /// Whether the copy ends with its hash.
+    pub fn is_snapshot(self) -> bool
+        ensures { result ≡ is_snapshot self }
+    {
+        match self {
+            CopyKind::EtcdSnapshot => true,
+            CopyKind::Plain | CopyKind::ForBbolt => false,
         }
     }
 }

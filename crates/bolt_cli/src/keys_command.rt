@@ -1,5 +1,6 @@
 //! The command `keys`.
-ghost use Rattle.bolt_report.specs.KeyPrefixes.{beginning_text};
+ghost use Rattle.bolt_report.specs.KeyLines.{keys_text};
+ghost use Rattle.bolt_report.specs.KeyPrefixes.{beginning};
 ghost use Rattle.bolt_cli.specs.Answers.{Answer, Does, IsEntriesAnswer, IsReadAnswer};
 ghost use Rattle.bolt_cli.specs.PlainWords.{path_in};
 
@@ -20,7 +21,7 @@ pub(crate) fn print_keys<O: Sink>(
     form: Form,
     out: &mut O,
 ) -> Result<u8, Failure>
-    ensures { (answer : Answer) × IsReadAnswer file.now slot (IsEntriesAnswer file.now (path_in path.now) form (beginning_text form prefix.now)) answer
+    ensures { (answer : Answer) × IsReadAnswer file.now slot (IsEntriesAnswer file.now (path_in path.now) form (λ entries. keys_text form (beginning prefix.now entries))) answer
         × Does O.taken O.failed out.old out.new answer result }
 {
     let checked = open_read(alloc, file, slot)?;

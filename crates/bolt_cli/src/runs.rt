@@ -3,7 +3,7 @@ ghost use Rattle.std.specs.Prelude.{◌≡◌, Result};
 ghost use Rattle.bolt_cli.specs.Answers.{DoesJob, Ending, Takes, status_of, told};
 
 use crate::buckets_command::print_buckets;
-use crate::check_command::print_check;
+use crate::check_command::{WantedCheck, print_check};
 use crate::compact_command::{WantedCopy, write_copy};
 use crate::failure::{Failure, put_failure};
 use crate::get_command::print_value;
@@ -16,12 +16,13 @@ use crate::pages_command::print_pages;
 use crate::stats_command::print_stats;
 use crate::status::Status;
 use bolt_format::Sink;
+use bolt_snapshot::SnapshotSink;
 use std::alloc::Global;
 
 /// Does a job on the bytes of its file, and returns its status (docs/COMMANDS.md, "What a run
 /// writes"). It writes the text to `out`, the line of a failure to `err`, and a copy to `target`;
 /// other jobs don't touch `target`.
-pub fn run<O: Sink, E: Sink, T: Sink>(
+pub fn run<O: Sink, E: Sink, T: SnapshotSink>(
     alloc: Global,
     job: &Job,
     file: &[u8],
@@ -49,7 +50,7 @@ fn tell<E: Sink>(failure: &Failure, err: &mut E) -> Status
 }
 
 /// Does a job, and returns its status.
-fn do_job<O: Sink, T: Sink>(
+fn do_job<O: Sink, T: SnapshotSink>(
     alloc: Global,
     job: &Job,
     file: &[u8],
@@ -71,8 +72,14 @@ fn do_job<O: Sink, T: Sink>(
             file: _,
             slot,
             all,
-            snapshot: _,
-        } => print_check(alloc, file, *slot, *all, out),
+            snapshot,
+        } => {
+            let wanted = WantedCheck {
+                all: *all,
+                snapshot: *snapshot,
+            };
+            print_check(alloc, file, *slot, wanted, out)
+        }
         Job::Buckets {
             file: _,
             slot,
@@ -124,6 +131,7 @@ fn do_job<O: Sink, T: Sink>(
             let wanted = WantedCopy {
                 page_size: *page_size,
                 layout: kind.layout(),
+                snapshot: kind.is_snapshot(),
                 recover: *recover,
             };
             write_copy(alloc, file, *slot, &wanted, out, target)

@@ -12,6 +12,8 @@ mod PageMapLemmas
 mod PageTableLemmas
 mod PartTests
 mod Pieces
+mod PrefixLemmas
+mod PrefixSteps
 mod ReadDepths
 mod ReadLemmas
 mod ReadSums

@@ -1,5 +1,5 @@
 -- The words of faults: docs/COMMANDS.md, "Faults".
-use Rattle.std.specs.Prelude.{◌==◌, ℕ, List, [], ◌∷◌, ◌++◌, codes, decimal, flat_map, if◌then◌else◌, length}
+use Rattle.std.specs.Prelude.{◌==◌, ◌+◌, ℕ, List, [], ◌∷◌, ◌++◌, codes, decimal, flat_map, if◌then◌else◌, length}
 use Rattle.bolt_format.specs.declared.fault.PageFault.{PageFault}
 use Rattle.bolt_format.specs.declared.fault.TheConstants.PageFault.{RANGE, CUT, ID, PAGE_KIND, ELEMENT_CUT, DATA_ORDER, KEY_LENGTH, VALUE_LENGTH, LEAF_FLAGS, BUCKET_SHORT, INLINE_PAGE, INLINE_NESTED}
 use Rattle.bolt_check.specs.declared.finding.Finding.{Finding}
@@ -85,6 +85,6 @@ finding_text finding = line (finding_sentence finding)
 abbrev pub count_line : ℕ → List ℕ
 count_line count = line (decimal count ++ codes " errors found")
 
--- the line of each finding, and then how many there are
-abbrev pub findings_text : List Finding → List ℕ
-findings_text findings = flat_map finding_text findings ++ count_line (length findings)
+-- the line of each finding, and then how many errors there are with those before
+abbrev pub findings_text : (earlier : ℕ) → List Finding → List ℕ
+findings_text earlier findings = flat_map finding_text findings ++ count_line (earlier + length findings)

@@ -6,6 +6,7 @@ pub mod Forms
 pub mod JsonLines
 pub mod JsonReadings
 pub mod KeyLines
+pub mod KeyPrefixes
 pub mod Lines
 pub mod ListForms
 pub mod ListLines

@@ -1,5 +1,5 @@
 -- The lines of losses: docs/COMMANDS.md, "What is printed".
-use Rattle.std.specs.Prelude.{ℕ, List, [], ◌∷◌, ◌++◌, Option, Some, None, codes, flat_map, length}
+use Rattle.std.specs.Prelude.{◌+◌, ℕ, List, [], ◌∷◌, ◌++◌, Option, Some, None, codes, flat_map, length}
 use Rattle.hex.specs.Hex.{encode_lower}
 use Rattle.bolt_check.specs.Keys.{Key}
 use Rattle.bolt_check.specs.declared.finding.Finding.{Finding}
@@ -34,10 +34,10 @@ loss_text loss = lost_line loss.finding (bucket_words loss.bucket ++ bounds_word
 abbrev pub losses_text : List LossView → List ℕ
 losses_text losses = flat_map loss_text losses
 
--- and then how many there are
-abbrev pub counted_losses_text : List LossView → List ℕ
-counted_losses_text losses = losses_text losses ++ count_line (length losses)
+-- and then how many errors there are with those before
+abbrev pub counted_losses_text : (earlier : ℕ) → List LossView → List ℕ
+counted_losses_text earlier losses = losses_text losses ++ count_line (earlier + length losses)
 
 -- where the root page is lost, everything is
-abbrev pub all_lost_text : Finding → List ℕ
-all_lost_text finding = lost_line finding (codes "everything") ++ count_line 1
+abbrev pub all_lost_text : (earlier : ℕ) → Finding → List ℕ
+all_lost_text earlier finding = lost_line finding (codes "everything") ++ count_line (earlier + 1)

@@ -49,24 +49,31 @@ pub fn finding_text<S: Sink>(finding: &Finding, sink: &mut S) -> Result<(), Repo
     Ok(())
 }
 
-/// Writes the line of each finding, and then the line with their number, such as `2 errors found`.
+/// Writes the line of each finding, and then the line with the number of errors, such as `2 errors
+/// found`. The line of `earlier` errors was written before.
 ///
 /// # Errors
 ///
 /// `Sink` if the sink failed; it has then accepted a prefix of the text. There is no other error.
-pub fn findings_text<S: Sink>(findings: &[Finding], sink: &mut S) -> Result<(), ReportFault>
-    ensures written { Reports S.taken S.failed sink.old sink.new (findings_text findings.now) result }
+pub fn findings_text<S: Sink>(
+    findings: &[Finding],
+    earlier: u64,
+    sink: &mut S,
+) -> Result<(), ReportFault>
+    requires { earlier ≤ 1 }
+    ensures written { Reports S.taken S.failed sink.old sink.new (findings_text earlier findings.now) result }
     ensures fault { IfErr result (λ fault. fault ≡ ReportFault.Sink) }
 {
-    put_findings(findings, sink)?;
+    put_findings(findings, earlier, sink)?;
     Ok(())
 }
 
-fn put_findings<S: Sink>(findings: &[Finding], sink: &mut S) -> Result<(), SinkFault>
-    ensures { Writes S.taken S.failed sink.old sink.new (findings_text findings.now) result }
+fn put_findings<S: Sink>(findings: &[Finding], earlier: u64, sink: &mut S) -> Result<(), SinkFault>
+    requires { earlier ≤ 1 }
+    ensures { Writes S.taken S.failed sink.old sink.new (findings_text earlier findings.now) result }
 {
     put_finding_lines(findings, sink)?;
-    put(count_line(findings.len() as u64).as_slice(), sink)
+    put(count_line(earlier + findings.len() as u64).as_slice(), sink)
 }
 
 fn put_finding_lines<S: Sink>(findings: &[Finding], sink: &mut S) -> Result<(), SinkFault>

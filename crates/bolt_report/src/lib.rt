@@ -12,6 +12,7 @@ mod item_writer;
 mod json_text;
 mod json_tokens;
 mod key_lines;
+mod key_prefixes;
 pub mod laws;
 mod list_lines;
 mod loss_lines;
@@ -34,6 +35,7 @@ pub use fault_lines::{finding_text, findings_text, meta_fault_text, page_fault_t
 pub use figures::{Stats, add, stats_text};
 pub use form::{Form, ListForm};
 pub use key_lines::{buckets, keys};
+pub use key_prefixes::keys_beginning;
 pub use list_lines::{list, list_recovered};
 pub use loss_lines::{all_lost_text, counted_losses_text, losses_text};
 pub use maps::page_map;

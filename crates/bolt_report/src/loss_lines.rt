@@ -31,29 +31,41 @@ pub fn losses_text<S: Sink>(losses: &[Loss<'_>], sink: &mut S) -> Result<(), Rep
     Ok(())
 }
 
-/// Writes the line of each loss, and then the line of their number, as `2 errors found`.
+/// Writes the line of each loss, and then the line with the number of errors, as `2 errors found`.
+/// The line of `earlier` errors was written before.
 ///
 /// # Errors
 ///
 /// `Sink` if the sink failed, and no other. The sink has then accepted a prefix of the text.
-pub fn counted_losses_text<S: Sink>(losses: &[Loss<'_>], sink: &mut S) -> Result<(), ReportFault>
-    ensures written { Reports S.taken S.failed sink.old sink.new (counted_losses_text (map loss_view losses.now)) result }
+pub fn counted_losses_text<S: Sink>(
+    losses: &[Loss<'_>],
+    earlier: u64,
+    sink: &mut S,
+) -> Result<(), ReportFault>
+    requires { earlier ≤ 1 }
+    ensures written { Reports S.taken S.failed sink.old sink.new (counted_losses_text earlier (map loss_view losses.now)) result }
     ensures fault { IfErr result (λ fault. fault ≡ ReportFault.Sink) }
 {
-    put_counted_losses(losses, sink)?;
+    put_counted_losses(losses, earlier, sink)?;
     Ok(())
 }
 
-/// Writes the line of a lost root page, with which everything is lost, and then `1 errors found`.
+/// Writes the line of a lost root page, with which everything is lost, and then the line with the
+/// number of errors, as `1 errors found`. The line of `earlier` errors was written before.
 ///
 /// # Errors
 ///
 /// `Sink` if the sink failed, and no other. The sink has then accepted a prefix of the text.
-pub fn all_lost_text<S: Sink>(finding: &Finding, sink: &mut S) -> Result<(), ReportFault>
-    ensures written { Reports S.taken S.failed sink.old sink.new (all_lost_text finding.now) result }
+pub fn all_lost_text<S: Sink>(
+    finding: &Finding,
+    earlier: u64,
+    sink: &mut S,
+) -> Result<(), ReportFault>
+    requires { earlier ≤ 1 }
+    ensures written { Reports S.taken S.failed sink.old sink.new (all_lost_text earlier finding.now) result }
     ensures fault { IfErr result (λ fault. fault ≡ ReportFault.Sink) }
 {
-    put_all_lost(finding, sink)?;
+    put_all_lost(finding, earlier, sink)?;
     Ok(())
 }
 
@@ -66,18 +78,24 @@ fn put_losses<S: Sink>(losses: &[Loss<'_>], sink: &mut S) -> Result<(), SinkFaul
     Ok(())
 }
 
-fn put_counted_losses<S: Sink>(losses: &[Loss<'_>], sink: &mut S) -> Result<(), SinkFault>
-    ensures { Writes S.taken S.failed sink.old sink.new (counted_losses_text (map loss_view losses.now)) result }
+fn put_counted_losses<S: Sink>(
+    losses: &[Loss<'_>],
+    earlier: u64,
+    sink: &mut S,
+) -> Result<(), SinkFault>
+    requires { earlier ≤ 1 }
+    ensures { Writes S.taken S.failed sink.old sink.new (counted_losses_text earlier (map loss_view losses.now)) result }
 {
     put_losses(losses, sink)?;
-    put(count_line(losses.len() as u64).as_slice(), sink)
+    put(count_line(earlier + losses.len() as u64).as_slice(), sink)
 }
 
-fn put_all_lost<S: Sink>(finding: &Finding, sink: &mut S) -> Result<(), SinkFault>
-    ensures { Writes S.taken S.failed sink.old sink.new (all_lost_text finding.now) result }
+fn put_all_lost<S: Sink>(finding: &Finding, earlier: u64, sink: &mut S) -> Result<(), SinkFault>
+    requires { earlier ≤ 1 }
+    ensures { Writes S.taken S.failed sink.old sink.new (all_lost_text earlier finding.now) result }
 {
     put(all_lost_line(finding).as_slice(), sink)?;
-    put(count_line(1).as_slice(), sink)
+    put(count_line(earlier + 1).as_slice(), sink)
 }
 
 fn all_lost_line(finding: &Finding) -> Text

@@ -5,9 +5,9 @@ ghost use Rattle.bolt_snapshot.specs.SnapshotFaults.{IsSnapshot, fault_line, has
 use sha2::{Digest, Sha256};
 
 /// The number of bytes in a hash.
-const HASH_LEN: usize = 32;
+pub const HASH_LEN: u64 = 32;
 /// A database file has whole blocks of this many bytes.
-const BLOCK_LEN: usize = 512;
+const BLOCK_LEN: u64 = 512;
 
 /// Why a file is no snapshot (docs/COMMANDS.md, "Snapshots").
 #[derive(Clone, Copy, Debug, PartialEq, Eq)]
@@ -36,10 +36,11 @@ pub fn snapshot_fault(file: &[u8]) -> Option<SnapshotFault>
     ensures fault { result ≡ hash_fault file.now }
     ensures snapshot { result ≡ None ↔ IsSnapshot file.now }
 {
-    if file.len() % BLOCK_LEN != HASH_LEN {
+    let length = file.len() as u64;
+    if length % BLOCK_LEN != HASH_LEN {
         return Some(SnapshotFault::HashMissing);
     }
-    let (body, hash) = file.split_at(file.len() - HASH_LEN);
+    let (body, hash) = file.split_at((length - HASH_LEN) as usize);
     if Sha256::digest(body).as_slice() != hash {
         return Some(SnapshotFault::HashDiffers);
     }

@@ -8,7 +8,7 @@ mod hashed_sink;
 mod hashing;
 mod snapshot_sink;
 
-pub use fault::{SnapshotFault, snapshot_fault};
+pub use fault::{HASH_LEN, SnapshotFault, snapshot_fault};
 pub use hash_fault::HashFault;
 pub use hashed_sink::HashedSink;
 pub use snapshot_sink::SnapshotSink;

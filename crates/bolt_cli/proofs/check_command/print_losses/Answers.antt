@@ -2,10 +2,9 @@ use Rattle.std.proofs.Common.{arith, ◌≡◌, ◌≢◌, [], List, Ok, inl, in
 use Rattle.std.proofs.lemmas.Grind.{common_steps}
 use Rattle.bolt_recover.specs.Recoveries.{ForLosses, recovery_losses, recovery_meta}
 use Rattle.bolt_recover.specs.ShownLosses.{loss_view}
-use Rattle.bolt_report.specs.LossLines.{counted_losses_text}
-use Rattle.bolt_cli.specs.Answers.{Answer, refused}
+use Rattle.bolt_cli.specs.Answers.{losses_found, refused}
 use Rattle.bolt_cli.specs.declared.failure.Failure.TheVariants as failure
-use Rattle.bolt_cli.proofs.Doing.{Does-nothing, Does-part, Does-whole}
+use Rattle.bolt_cli.proofs.Doing.{Does-nothing}
 use Rattle.bolt_cli.proofs.LossAnswers.{lost_none, lost_some}
 use Rattle.bolt_cli.proofs.check_command.print_losses.Goals as goal
 
@@ -22,26 +21,14 @@ returns-then-is_empty g c =
     let all = subst (λ (f : List ℕ). ForLosses f meta (λ all. recovery_losses c.walk_to_end.new.recovery ≡ all)) c.in-Ok.ensures.file c.in_ok-walk_to_end.ensures.all in
     let none : c.losses-losses.result.now ≡ [] = grind (arith, common_steps, c.is_empty.ensures, c.if-is_empty.true) in
     let (answer, found, does) = c.print_findings.ensures in
-    (answer, inl (meta, c.in-Ok.ensures.meta, lost_none c.args.file.now c.args.slot meta (recovery_losses c.walk_to_end.new.recovery) c.losses-losses.result.now c.losses-losses.ensures.losses all none answer found), does)
-
-pub returns-in_err-counted_losses_text : goal.returns-in_err-counted_losses_text
-returns-in_err-counted_losses_text g c =
-    let meta = recovery_meta c.in-Ok.recovery in
-    let all = subst (λ (f : List ℕ). ForLosses f meta (λ all. recovery_losses c.walk_to_end.new.recovery ≡ all)) c.in-Ok.ensures.file c.in_ok-walk_to_end.ensures.all in
-    let some : c.losses-losses.result.now ≢ [] = (λ e. grind (arith, common_steps, c.is_empty.ensures, c.if-is_empty.false)) in
-    let answer : Answer = record { out = counted_losses_text (map loss_view c.losses-losses.result.now); ending = Ok 1 } in (
-      answer,
-      inl (meta, c.in-Ok.ensures.meta, lost_some c.args.file.now c.args.slot meta (recovery_losses c.walk_to_end.new.recovery) c.losses-losses.result.now c.losses-losses.ensures.losses all some),
-      Does-part c.args.out.now c.counted_losses_text.new.sink answer _ _ c.in_err-counted_losses_text.ensures.written c.in_err-counted_losses_text.ensures.fault c.from_residual-in_err-counted_losses_text.ensures.1,
-    )
+    (answer, inl (meta, c.in-Ok.ensures.meta, lost_none c.args.hash c.args.file.now c.args.slot meta (recovery_losses c.walk_to_end.new.recovery) c.losses-losses.result.now c.losses-losses.ensures.losses all none answer found), does)
 
 pub returns : goal.returns
 returns g c =
     let meta = recovery_meta c.in-Ok.recovery in
     let all = subst (λ (f : List ℕ). ForLosses f meta (λ all. recovery_losses c.walk_to_end.new.recovery ≡ all)) c.in-Ok.ensures.file c.in_ok-walk_to_end.ensures.all in
-    let some : c.losses-losses.result.now ≢ [] = (λ e. grind (arith, common_steps, c.is_empty.ensures, c.if-is_empty.false)) in
-    let answer : Answer = record { out = counted_losses_text (map loss_view c.losses-losses.result.now); ending = Ok 1 } in (
-      answer,
-      inl (meta, c.in-Ok.ensures.meta, lost_some c.args.file.now c.args.slot meta (recovery_losses c.walk_to_end.new.recovery) c.losses-losses.result.now c.losses-losses.ensures.losses all some),
-      Does-whole c.args.out.now c.counted_losses_text.new.sink answer _ c.in_ok-counted_losses_text.ensures.written,
+    let some : c.losses-losses.result.now ≢ [] = (λ e. grind (arith, common_steps, c.is_empty.ensures, c.if-is_empty.false)) in (
+      losses_found c.args.hash (map loss_view c.losses-losses.result.now),
+      inl (meta, c.in-Ok.ensures.meta, lost_some c.args.hash c.args.file.now c.args.slot meta (recovery_losses c.walk_to_end.new.recovery) c.losses-losses.result.now c.losses-losses.ensures.losses all some),
+      c.put_losses.ensures,
     )

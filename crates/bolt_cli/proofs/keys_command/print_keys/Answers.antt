@@ -1,7 +1,8 @@
 use Rattle.std.proofs.Common.{List, Err, Ok, inr, refl, subst₂}
 use Rattle.bolt_check.specs.declared.checked_file.Checked.{Checked}
 use Rattle.bolt_format.specs.Elements.{LeafElement}
-use Rattle.bolt_report.specs.KeyPrefixes.{beginning_text}
+use Rattle.bolt_report.specs.KeyLines.{keys_text}
+use Rattle.bolt_report.specs.KeyPrefixes.{beginning}
 use Rattle.bolt_report.specs.Reports.{Reports}
 use Rattle.bolt_tree.specs.Entries.{Start}
 use Rattle.bolt_tree.specs.EntriesLeft.{ForEntries}
@@ -23,16 +24,16 @@ returns-in_err-checked g c =
 pub returns-in_err-bucket : goal.returns-in_err-bucket
 returns-in_err-bucket g c =
     let opened = c.in_ok-checked.ensures in
-    entries_missing c.args.file.now c.args.slot (path_in c.args.path.now) c.args.form (beginning_text c.args.form c.args.prefix.now) c.in_ok-checked.checked opened.bytes opened.sound
+    entries_missing c.args.file.now c.args.slot (path_in c.args.path.now) c.args.form (λ entries. keys_text c.args.form (beginning c.args.prefix.now entries)) c.in_ok-checked.checked opened.bytes opened.sound
     g.O.Sink.taken g.O.Sink.failed c.args.out.now c.in_err-bucket.field-0.0 _ c.in_err-bucket.ensures.refused c.from_residual-in_err-bucket.ensures.1
 
 pub returns-in_err-keys_beginning : goal.returns-in_err-keys_beginning
 returns-in_err-keys_beginning g c =
     let opened = c.in_ok-checked.ensures in
     let found = c.in_ok-bucket.ensures in
-    entries_stopped c.args.file.now c.args.slot (path_in c.args.path.now) c.args.form (beginning_text c.args.form c.args.prefix.now) c.in_ok-checked.checked opened.bytes opened.sound
+    entries_stopped c.args.file.now c.args.slot (path_in c.args.path.now) c.args.form (λ entries. keys_text c.args.form (beginning c.args.prefix.now entries)) c.in_ok-checked.checked opened.bytes opened.sound
     c.in_ok-bucket.bucket found.file found.named c.args.out.now c.keys_beginning.new.sink _ _
-    (subst₂ (λ (file : Checked) (start : Start). ForEntries file start (λ entries. Reports g.O.Sink.taken g.O.Sink.failed c.args.out.now c.keys_beginning.new.sink (beginning_text c.args.form c.args.prefix.now entries) _))
+    (subst₂ (λ (file : Checked) (start : Start). ForEntries file start (λ entries. Reports g.O.Sink.taken g.O.Sink.failed c.args.out.now c.keys_beginning.new.sink (keys_text c.args.form (beginning c.args.prefix.now entries)) _))
     c.cursor.ensures.checked c.cursor.ensures.start c.in_err-keys_beginning.ensures.written)
     c.in_err-keys_beginning.ensures.fault c.in_err-keys_beginning.ensures.memory c.from_residual-in_err-keys_beginning.ensures.1
 
@@ -40,7 +41,7 @@ pub returns : goal.returns
 returns g c =
     let opened = c.in_ok-checked.ensures in
     let found = c.in_ok-bucket.ensures in
-    entries_whole c.args.file.now c.args.slot (path_in c.args.path.now) c.args.form (beginning_text c.args.form c.args.prefix.now) c.in_ok-checked.checked opened.bytes opened.sound
+    entries_whole c.args.file.now c.args.slot (path_in c.args.path.now) c.args.form (λ entries. keys_text c.args.form (beginning c.args.prefix.now entries)) c.in_ok-checked.checked opened.bytes opened.sound
     c.in_ok-bucket.bucket found.file found.named c.args.out.now c.keys_beginning.new.sink _
-    (subst₂ (λ (file : Checked) (start : Start). ForEntries file start (λ entries. Reports g.O.Sink.taken g.O.Sink.failed c.args.out.now c.keys_beginning.new.sink (beginning_text c.args.form c.args.prefix.now entries) _))
+    (subst₂ (λ (file : Checked) (start : Start). ForEntries file start (λ entries. Reports g.O.Sink.taken g.O.Sink.failed c.args.out.now c.keys_beginning.new.sink (keys_text c.args.form (beginning c.args.prefix.now entries)) _))
     c.cursor.ensures.checked c.cursor.ensures.start c.in_ok-keys_beginning.ensures.written)

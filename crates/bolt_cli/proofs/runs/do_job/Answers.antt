@@ -1,7 +1,8 @@
 -- A path that was handed over as a slice is the job's.
-use Rattle.std.proofs.Common.{List, Vec, ℕ, Global, refl, subst, subst₂, sym}
+use Rattle.std.proofs.Common.{Bool, List, Vec, ℕ, Global, refl, subst, subst₂, sym}
 use Rattle.bolt_cli.specs.Answers.{DoesJob, IsBucketsAnswer, IsEntriesAnswer, IsGetAnswer, IsListedAnswer, IsReadAnswer, IsStatsAnswer, MakesCopy}
-use Rattle.bolt_report.specs.KeyPrefixes.{beginning_text}
+use Rattle.bolt_report.specs.KeyLines.{keys_text}
+use Rattle.bolt_report.specs.KeyPrefixes.{beginning}
 use Rattle.bolt_layout.specs.declared.layout.Layout.{Layout}
 use Rattle.bolt_cli.specs.PlainWords.{path_in}
 use Rattle.bolt_cli.specs.declared.job.Job.{Job}
@@ -44,7 +45,7 @@ returns-in-Keys g c =
     let (answer, is, does) = c.print_keys.ensures in
     subst (λ (job : Job). DoesJob g.O.Sink.taken g.O.Sink.failed c.args.out.now c.print_keys.new.out g.T.Sink.taken g.T.Sink.failed c.args.target.now c.args.target.now file job c.print_keys.result) (sym c.in-Keys.is) (
       answer,
-      subst₂ (λ (path : Path) (prefix : List ℕ). IsReadAnswer file c.in-Keys.slot (IsEntriesAnswer file (path_in path) c.in-Keys.form (beginning_text c.in-Keys.form prefix)) answer) c.as_slice-in-Keys.ensures.value c.as_slice-in-Keys-2.ensures.value is,
+      subst₂ (λ (path : Path) (prefix : List ℕ). IsReadAnswer file c.in-Keys.slot (IsEntriesAnswer file (path_in path) c.in-Keys.form (λ entries. keys_text c.in-Keys.form (beginning prefix entries))) answer) c.as_slice-in-Keys.ensures.value c.as_slice-in-Keys-2.ensures.value is,
       does,
       refl,
     )
@@ -74,5 +75,5 @@ returns-in-List g c =
 pub returns-in-Compact : goal.returns-in-Compact
 returns-in-Compact g c =
     subst (λ (job : Job). DoesJob g.O.Sink.taken g.O.Sink.failed c.args.out.now c.write_copy.new.out g.T.Sink.taken g.T.Sink.failed c.args.target.now c.write_copy.new.target c.args.file.now job c.write_copy.result) (sym c.in-Compact.is)
-    (subst (λ (which : Layout). MakesCopy g.O.Sink.taken g.O.Sink.failed c.args.out.now c.write_copy.new.out g.T.Sink.taken g.T.Sink.failed c.args.target.now c.write_copy.new.target c.args.file.now c.in-Compact.slot c.in-Compact.page_size which c.in-Compact.recover c.write_copy.result)
-    c.layout.ensures c.write_copy.ensures)
+    (subst₂ (λ (which : Layout) (snapshot : Bool). MakesCopy g.O.Sink.taken g.O.Sink.failed c.args.out.now c.write_copy.new.out g.T.Sink.taken g.T.Sink.failed c.args.target.now c.write_copy.new.target c.args.file.now c.in-Compact.slot c.in-Compact.page_size which snapshot c.in-Compact.recover c.write_copy.result)
+    c.layout.ensures c.is_snapshot.ensures c.write_copy.ensures)

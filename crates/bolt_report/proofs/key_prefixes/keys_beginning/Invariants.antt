@@ -1,0 +1,27 @@
+use Rattle.std.proofs.Common.{◌≡◌, ◌+◌, List, Ok, length}
+use Rattle.std.specs.Option.{option_map}
+use Rattle.std.specs.Prelude.{⊤}
+use Rattle.bolt_format.specs.Elements.{LeafElement}
+use Rattle.bolt_format.specs.Writes.{Writes}
+use Rattle.bolt_tree.specs.Cursors.{cursor_bucket, cursor_checked, cursor_opened, cursor_place, cursor_start}
+use Rattle.bolt_tree.specs.EntriesLeft.{ForEntries, entries_left}
+use Rattle.bolt_tree.specs.ShownEntries.{shown_entry}
+use Rattle.bolt_report.specs.KeyLines.{keys_text}
+use Rattle.bolt_report.specs.declared.fault.ReportFault.{ReportFault}
+use Rattle.bolt_report.proofs.PrefixSteps.{Stage, cursor_entries, number_of}
+use Rattle.bolt_report.proofs.key_prefixes.keys_beginning.Given as goal
+
+-- of the entries that begin so, the lines of those that were gone over were put, and the cursor stands on the entry after them
+abbrev pub invariant-rest : goal.invariant-rest
+invariant-rest g l = record {
+  checked : cursor_checked l.cursor ≡ cursor_checked l.fn.cursor;
+  start : cursor_start l.cursor ≡ cursor_start l.fn.cursor;
+  form : l.items.form ≡ l.fn.form;
+  counted : g.S.Sink.failed l.sink ≡ g.S.Sink.failed l.fn.sink;
+  put : ForEntries (cursor_checked l.fn.cursor) (cursor_start l.fn.cursor) (λ entries. (done : List LeafElement)
+      × Stage (cursor_bucket l.fn.cursor) (cursor_opened l.fn.cursor) l.prefix entries (cursor_opened l.cursor) (cursor_place l.cursor) (option_map shown_entry l.found) done
+      × Writes {A = ⊤} {E = ReportFault} g.S.Sink.taken g.S.Sink.failed l.fn.sink l.sink (keys_text l.fn.form done) (Ok tt));
+}
+
+abbrev pub decreases-rest : goal.decreases-rest
+decreases-rest g l = length (entries_left (cursor_entries l.fn.cursor).0 (cursor_place l.cursor)) + number_of (option_map shown_entry l.found)

@@ -1,0 +1,24 @@
+-- The keys of a bucket that begin with given bytes: docs/COMMANDS.md, "What is printed".
+use Rattle.std.specs.Prelude.{◌≡◌, ◌==◌, ◌+◌, ℕ, suc, Bool, List, filter, length}
+use Rattle.std.specs.List.{starts_with}
+use Rattle.bolt_format.specs.Elements.{LeafElement}
+use Rattle.bolt_check.specs.Keys.{Key}
+use Rattle.bolt_tree.specs.BucketViews.{AreSorted, BucketView}
+use Rattle.bolt_tree.specs.Openings.{IsGap, IsSeekCount, sum_to}
+use Rattle.bolt_tree.specs.Pagers.{counted}
+use Rattle.bolt_tree.specs.Places.{least_from}
+
+abbrev pub begins : Key → LeafElement → Bool
+begins prefix e = starts_with (λ a b. a == b) e.key prefix
+
+-- the entries whose keys begin with these bytes
+abbrev pub beginning : Key → List LeafElement → List LeafElement
+beginning prefix entries = filter (begins prefix) entries
+
+-- What is opened for them: what a seek of these bytes opens, and then the pages between each of them and the entry after it, or the
+-- bucket's end.
+abbrev pub OpensBeginning : BucketView → Key → (old new : ℕ) → Type 0
+OpensBeginning b prefix old new =
+    (entries : List LeafElement) (seek : ℕ) (gap : ℕ → ℕ) → AreSorted b entries → IsSeekCount b.file b.meta b.start entries prefix seek
+    → ((i : ℕ) → IsGap b.file b.meta b.start entries i (gap i))
+    → new ≡ counted old (seek + sum_to (λ i. gap (suc (least_from prefix entries + i))) (length (beginning prefix entries)))
