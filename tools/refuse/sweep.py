@@ -30,7 +30,6 @@ MAY_BEGIN = {
     "buckets": ("--sizes", "json"),
     "keys": ("json",),
     "get": ("json",),
-    "check": ("--etcd-snapshot",),
 }
 
 # The lines that report the failure of a call; the first of them must come.
