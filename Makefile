@@ -62,10 +62,16 @@ DAMAGED = out/damaged.db
 REFUSE = out/refuse.so
 SWEEP = python3 -B tools/refuse/sweep.py $(PROGRAM) $(REFUSE)
 EACH_COMMAND = info "page 5" pages check buckets stats list "keys users" "get settings theme" \
-	"get settings none" "info --help" "info more" "list --from x"
+	"get settings none" "info --help" "info more" "list --from x" $(DAILY)
+
+# The daily questions.
+DAILY = "pages --map" "check --etcd-snapshot" "buckets --sizes" "buckets index --sizes --form json" \
+	"keys index by-name --prefix user" "get settings theme -n" "get settings theme -n --form json" \
+	"list settings" "list none" "list --form json"
 
 # What recovers a damaged file.
-RECOVERIES = "list --recover" "compact -o OUT --recover" "compact -o OUT --recover --for-bbolt"
+RECOVERIES = "list --recover" "compact -o OUT --recover" "compact -o OUT --recover --for-bbolt" \
+	"list key --recover --form json" "list none --recover" "compact -o OUT --recover --etcd-snapshot"
 
 # Tries files that can't be read or created, full devices, closed streams, readers that leave, and who
 # may read a copy. Then each write of each command fails in turn (a write has at most seven bytes), but
@@ -75,11 +81,11 @@ failures: $(PROGRAM) $(REFUSE) $(LISTED_LONG) $(DAMAGED)
 	sh tools/streams/try_failures.sh $(PROGRAM) examples/app.db $(LEAKED).db $(LISTED_LONG)
 	$(SWEEP) write 1 examples/app.db $(EACH_COMMAND)
 	$(SWEEP) write 1 $(LEAKED).db check list
-	$(SWEEP) write 10 examples/app.db "compact -o OUT"
+	$(SWEEP) write 10 examples/app.db "compact -o OUT" "compact -o OUT --etcd-snapshot"
 	$(SWEEP) write 1 $(DAMAGED) "check --all"
 	$(SWEEP) write 200 $(DAMAGED) $(RECOVERIES)
 	$(SWEEP) read 1 examples/app.db info list "compact -o OUT"
-	$(SWEEP) sync 1 examples/app.db "compact -o OUT"
+	$(SWEEP) sync 1 examples/app.db "compact -o OUT" "compact -o OUT --etcd-snapshot"
 	$(SWEEP) sync 1 $(DAMAGED) "compact -o OUT --recover"
 
 $(REFUSE): tools/refuse/refuse.c
@@ -189,13 +195,17 @@ REFUSED_ROWS = out/refused_rows
 # made before the calls that request nothing, and one after them.
 memory: $(PROGRAM) $(REFUSE) $(NESTED) $(DEEP) $(DAMAGED)
 	$(SWEEP) memory 1 $(NESTED) info "page 3" pages check buckets stats list "list --from 62/62" \
-		"keys b b" "get b x" "compact -o OUT"
-	$(SWEEP) memory 1 examples/app.db $(EACH_COMMAND) "compact -o OUT --page-size 1024"
+		"keys b b" "get b x" "compact -o OUT" "pages --map" "buckets --sizes" "buckets b b --sizes" \
+		"list --form json" "list b b" "list b b --form json --from 62/62/62" "keys b b --form json" \
+		"compact -o OUT --etcd-snapshot"
+	$(SWEEP) memory 1 examples/app.db $(EACH_COMMAND) "compact -o OUT --page-size 1024" \
+		"compact -o OUT --etcd-snapshot"
 	$(SWEEP) memory 1 $(LEAKED).db check "list --meta 1" "compact -o OUT --meta 1"
 	$(SWEEP) memory 1 $(DEEP) info check buckets stats
 	$(SWEEP) memory 1500 $(DEEP) "compact -o OUT"
 	$(SWEEP) memory 1 $(DAMAGED) "check --all" $(RECOVERIES)
-	$(SWEEP) memory 1 $(NESTED) "check --all" $(RECOVERIES)
+	$(SWEEP) memory 1 $(NESTED) "check --all" "check --all --etcd-snapshot" "list b b --recover" \
+		$(RECOVERIES)
 	-cd crates/test_calls && rt try --test --fail-alloc 1000 -- memory_rows > $(abspath $(REFUSED_ROWS)) 2>&1
 	grep -c "refused at depth ., and gives all" $(REFUSED_ROWS) | grep -x 6
 	grep -c "refused at its beginning, and gives the rest" $(REFUSED_ROWS) | grep -x 3

@@ -5,20 +5,23 @@ _luntsegi_options() {
     case $1 in
         info) echo --meta ;;
         pages) echo --map ;;
-        buckets | keys | get) echo --form --parts --meta ;;
-        check) echo --all --meta ;;
+        check) echo --all --etcd-snapshot --meta ;;
+        buckets) echo --sizes --form --parts --meta ;;
+        keys) echo --prefix --form --parts --meta ;;
+        get) echo --no-newline -n --form --parts --meta ;;
         stats) echo --parts --meta ;;
-        list) echo --from --recover --meta ;;
-        compact) echo -o --page-size --for-bbolt --recover --meta ;;
+        list) echo --from --form --parts --recover --meta ;;
+        compact) echo -o --page-size --for-bbolt --etcd-snapshot --recover --meta ;;
     esac
 }
 
-# The values of an option that has only a few. The value of -o is completed as a file name.
+# The values of a command's option that has only a few. The value of -o is completed as a file name.
 _luntsegi_values() {
-    case $1 in
-        --form) echo printable hex bytes text json ;;
-        --parts) echo text hex ;;
-        --meta) echo 0 1 ;;
+    case "$1 $2" in
+        "list --form") echo hex json ;;
+        *" --form") echo printable hex bytes text json ;;
+        *" --parts") echo text hex ;;
+        *" --meta") echo 0 1 ;;
     esac
 }
 
@@ -30,7 +33,7 @@ _luntsegi_wants_file() {
         word=${COMP_WORDS[at]}
         case $word in
             --) ;;
-            --form | --parts | --meta | --from | --page-size | -o)
+            --form | --parts | --meta | --from | --prefix | --page-size | -o)
                 [[ ${COMP_WORDS[at + 1]} == = ]] && ((at++))
                 ((at++))
                 ;;
@@ -78,8 +81,10 @@ _luntsegi_argument() {
     option=$(_luntsegi_option)
     case $option in
         -o) _luntsegi_files "$1" ;;
-        --form | --parts | --meta) _luntsegi_words "$(_luntsegi_values "$option")" "$1" ;;
-        --from | --page-size) ;;
+        --form | --parts | --meta)
+            _luntsegi_words "$(_luntsegi_values "${COMP_WORDS[1]}" "$option")" "$1"
+            ;;
+        --from | --prefix | --page-size) ;;
         *) _luntsegi_option_or_operand "$1" ;;
     esac
 }

@@ -4,11 +4,13 @@ import os
 
 from answers import entries_of, info_of, read, shown_tree
 from copies import compare_beginnings, compare_copy, compare_slot
+from daily import compare_daily
 from findings import ACCOUNT_FAULTS, compare_accounts, compare_bad_page, findings_of
 from listings import compare_keys, compare_missing, compare_order, compare_rests, compare_values
 from pages import compare_figures, compare_pages, compare_tree
 from program import want
 from recoveries import compare_pages_lost, compare_recovery, compare_refused
+from snapshots import compare_hash, compare_snapshot
 
 UNDER_ALL = ("pages", "buckets", "stats", "list")
 
@@ -23,6 +25,7 @@ def compare_sound(file):
     compare_keys(file, entries)
     compare_values(file, entries)
     compare_missing(file, entries)
+    compare_daily(file, listing, entries)
     tree = shown_tree(file, info)
     if tree:
         compare_tree(tree, entries)
@@ -30,6 +33,7 @@ def compare_sound(file):
     compare_figures(file, info, entries, kinds, tree)
     compare_copy(file, listing)
     compare_beginnings(file, os.path.join(file.folder, "copy.db"))
+    compare_snapshot(file, listing)
     for slot in (0, 1):
         listed = compare_slot(file, slot)
         is_same = listed.is_ok() and listed.out == listing
@@ -42,6 +46,7 @@ def compare_refusals(file, fault):
     copy = file.copy("copy.db")
     answers = [file.run(command) for command in UNDER_ALL]
     answers += [file.run("keys", "00"), file.run("get", "00"), file.run("compact", "-o", copy)]
+    answers += [file.run("buckets", "--sizes"), file.run("list", "--form", "json"), file.run("list", "00")]
     for answer in answers:
         want(answer.status == 1 and answer.err == fault, "told is", answer, "and not", fault)
     want(read(copy) == b"", "the copy of what is refused isn't empty")
@@ -101,6 +106,8 @@ def compare(file):
     else:
         kind = "refused"
         compare_unsound(file, checked)
+    compare_hash(file)
+    compare_hash(file, "--all")
     if not checked.err:
         compare_limits(file)
         compare_recovery(file, checked)

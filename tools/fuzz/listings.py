@@ -4,6 +4,10 @@ from answers import FORMS, entries_of, lines_in, word_of, words_of
 from program import want
 
 
+# Commands on a bucket, beside `keys`.
+IN_BUCKETS = (["list"], ["list", "--recover"], ["buckets", "--sizes"], ["stats"])
+
+
 def compare_order(listing):
     """Each path is listed once, in order, after the bucket that it is in."""
     paths = list(entries_of(listing))
@@ -62,8 +66,10 @@ def compare_missing(file, entries):
         words = words_of(file.draw, path)
         in_bucket = not path[:-1] or isinstance(entries.get(path[:-1]), int)
         got, keys = file.run("get", *words), file.run("keys", *words)
+        parts = [file.run(*command, *words) for command in IN_BUCKETS]
         if not isinstance(entries.get(path), bytes):
             fault = b"key not found" if in_bucket else b"bucket not found"
             want(got.err == b"error: " + fault + b"\n", "get", *words, "answered:", got)
         if not isinstance(entries.get(path), int):
-            want(keys.err == b"error: bucket not found\n", "keys", *words, "answered:", keys)
+            for answer in [keys, *parts]:
+                want(answer.err == b"error: bucket not found\n", "there is no bucket", *words, ":", answer)

@@ -7,6 +7,8 @@ SECONDS = 10
 
 HEX = rb"[0-9a-f]"
 ENTRY = rb"%b+(?:/%b+)*(?: = %b*| bucket \d+)\n" % (HEX, HEX, HEX)
+JSON_ENTRY = rb'\{"path":\[.+\],(?:"value":.+|"bucket":\d+)\}\n'
+HASH_FAULT = rb"snapshot hash (?:missing|differs)\n"
 ITEM = rb"(?:%b+ -> \d+|%b+ = %b*|%b+ bucket \d+ \d+|\d+)\n" % (HEX, HEX, HEX, HEX)
 FINDING = rb"pages? \d+(?: to \d+)?: [a-z ]+"
 LOSS = rb"%b; lost: (?:everything|(?:root bucket|bucket %b+(?:/%b+)*)(?:, keys from %b*(?: to below %b+)?)?)\n" % (
@@ -29,6 +31,7 @@ TEXTS = {
     "check": rb"OK\n",
     "stats": b"".join(figure.encode() + rb" \d+\n" for figure in FIGURES),
     "list": rb"(?:%b)*" % ENTRY,
+    "list json": rb"(?:%b)*" % JSON_ENTRY,
     "compact": rb"\d+ -> \d+ bytes\n",
 }
 LOSSES = rb"(?:%b)+" % LOSS
@@ -40,11 +43,11 @@ REFUSED = rb"file refused: " + FINDING
 FAULTS = {
     "page": FINDING,
     "pages": REFUSED,
-    "buckets": REFUSED,
+    "buckets": REFUSED + rb"|bucket not found",
     "keys": REFUSED + rb"|bucket not found",
     "get": REFUSED + rb"|bucket not found|key not found",
-    "stats": REFUSED,
-    "list": REFUSED,
+    "stats": REFUSED + rb"|bucket not found",
+    "list": REFUSED + rb"|bucket not found",
     "compact": REFUSED,
 }
 
@@ -53,7 +56,7 @@ FAULTS = {
 FAILED = {
     "check": (FINDINGS, b""),
     "check --all": (FINDINGS + rb"|%b\d+ errors found\n" % LOSSES, b""),
-    "list --recover": (TEXTS["list"], rb"error: pages lost: \d+\n"),
+    "list --recover": (TEXTS["list"] + b"|" + TEXTS["list json"], rb"error: pages lost: \d+\n"),
     "compact --recover": (LOSSES + TEXTS["compact"], b""),
 }
 
@@ -116,16 +119,33 @@ class Program:
 
 
 def form_of(words):
-    """The command of these words, with the option that changes what it prints."""
+    """The command of these words, with the option that changes what it prints if it fails."""
     option = next((word for word in words if word in ("--all", "--recover")), None)
     return f"{words[0]} {option}" if option else words[0]
+
+
+def text_form(words):
+    """The form of what these words print if they succeed, or nothing if it is compared whole."""
+    is_json = words[0] == "list" and "json" in words
+    return TEXTS["list json"] if is_json else TEXTS.get(words[0])
+
+
+def without_hash(words, answer):
+    """The answer without the line of a snapshot's hash, which `check --etcd-snapshot` may have first."""
+    line = re.match(HASH_FAULT, answer.out) if "--etcd-snapshot" in words and words[0] == "check" else None
+    if line is None:
+        return answer
+    rest = answer.out[line.end() :]
+    is_alone = rest == b"1 errors found\n"
+    return Answer(0 if is_alone else answer.status, b"OK\n" if is_alone else rest, answer.err)
 
 
 def is_stated(words, answer):
     """Whether the answer has a form that is documented for the command."""
     command = words[0]
+    answer = without_hash(words, answer)
     if answer.status == 0:
-        form = TEXTS.get(command)
+        form = text_form(words)
         return answer.err == b"" and (form is None or re.fullmatch(form, answer.out) is not None)
     if answer.status != 1:
         return False

@@ -3,9 +3,11 @@
 import os
 import re
 
-from answers import File, entries_of, info_of, read, rows_of, word_of
+from answers import File, entries_of, info_of, read, rows_of, word_of, words_of
+from daily import buckets_of, lines_of_json, part_of
 from listings import paths_between
 from program import want
+from snapshots import compare_hash, compare_snapshot
 
 LOSS = re.compile(
     r"(?P<finding>pages? (?P<page>\d+)(?: to \d+)?: [a-z ]+); lost: "
@@ -101,6 +103,23 @@ def compare_rests(file, words, listed, entries):
         want(is_rest, "list --recover --from", word_of(first), "answered:", answer)
 
 
+def compare_recovered_parts(file, words, listed, entries):
+    """The recovered listing of a bucket is the lines with its path, and as much is lost. If there is no
+    such bucket, this is reported and not what is lost."""
+    shown = file.run("list", "--recover", "--form", "json", *words)
+    is_same = (shown.status, shown.err) == (1, listed.err) and lines_of_json(shown.out) == listed.out
+    want(is_same, "list --recover --form json", *words, "answered:", shown)
+    for bucket in file.some(buckets_of(entries))[:MOST_RESTS]:
+        answer = file.run("list", "--recover", *words, *words_of(file.draw, bucket))
+        is_part = (answer.status, answer.out, answer.err) == (1, part_of(listed.out, bucket), listed.err)
+        want(is_part, "list --recover", word_of(bucket), "answered:", answer)
+    for path in list(paths_between(file.draw, file.some(entries)))[-MOST_RESTS:]:
+        if not isinstance(entries.get(path), int):
+            answer = file.run("list", "--recover", *words, *words_of(file.draw, path))
+            is_missing = (answer.status, answer.out, answer.err) == (1, b"", b"error: bucket not found\n")
+            want(is_missing, "list --recover", word_of(path), "answered:", answer)
+
+
 def compare_copies(file, words, lines, listing):
     """The copy of what is recovered reports the losses, is sound and lists the same."""
     for layout in ([], ["--for-bbolt"]):
@@ -136,11 +155,14 @@ def compare_lost(file, words, finding):
     want(paths == sorted(paths), "the paths of the recovered listing don't rise")
     compare_losses(lines, losses, entries)
     compare_rests(file, words, listed, entries)
+    compare_recovered_parts(file, words, listed, entries)
+    compare_snapshot(file, listed.out, "--recover", *words)
     compare_copies(file, words, lines, listed.out)
 
 
 def compare_under(file, words):
     """What is recovered under a meta, compared with what `check` finds under it."""
+    compare_hash(file, *words)
     checked = file.run("check", *words)
     if checked.err:
         want(same(file.run("check", "--all", *words), checked), "check --all", *words)

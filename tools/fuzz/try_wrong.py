@@ -362,6 +362,183 @@ def end_well(words, answer):
         answer.status = 0
 
 
+def drops_line_of_part(status, *options):
+    def drop(words, answer):
+        answer.out = b"".join(answer.out.splitlines(keepends=True)[:-1])
+
+    drop.__doc__ = f"list {' '.join(options)} of a bucket drops its last line, with status {status}"
+    alters("list", *options, status=status)(drop)
+
+
+drops_line_of_part(0, "--parts")
+drops_line_of_part(0, "--")
+drops_line_of_part(0, "--from", "--parts")
+drops_line_of_part(1, "--recover", "--parts")
+
+
+@alters("list", "--parts")
+def repeat_bucket(words, answer):
+    """list of a bucket repeats its first line"""
+    answer.out = b"".join(answer.out.splitlines(keepends=True)[:1]) + answer.out
+
+
+@alters("list", status=1)
+def find_no_bucket(words, answer):
+    """list tells that there is no key where there is no bucket"""
+    answer.err = answer.err.replace(b"bucket not", b"key not")
+
+
+@alters("list", status=1)
+def end_without_bucket(words, answer):
+    """list shows nothing where there is no bucket"""
+    if b"bucket not" in answer.err:
+        answer.status, answer.err = 0, b""
+
+
+@alters("list", "--recover", status=1)
+def tell_losses(words, answer):
+    """list --recover tells losses where there is no bucket"""
+    answer.err = answer.err.replace(b"bucket not found", b"pages lost: 1")
+
+
+@alters("list", "json")
+def drop_json(words, answer):
+    """list --form json drops its last line"""
+    answer.out = b"".join(answer.out.splitlines(keepends=True)[:-1])
+
+
+@alters("list", "json")
+def show_hex(words, answer):
+    """list --form json shows a value in hexadecimal as a string"""
+    answer.out = re.sub(rb'"value":\{"hex":("[0-9a-f]*")\}', rb'"value":\1', answer.out)
+
+
+@alters("list", "json")
+def lose_escape(words, answer):
+    """list --form json loses a control character"""
+    answer.out = answer.out.replace(rb"\u0000", b"")
+
+
+@alters("list", "json")
+def change_sequence(words, answer):
+    """list --form json shows another sequence"""
+    answer.out = re.sub(rb'"bucket":\d+', b'"bucket":5', answer.out)
+
+
+@alters("list", "--recover", "json", status=1)
+def drop_recovered_json(words, answer):
+    """list --recover --form json drops its last line of a damaged file"""
+    answer.out = b"".join(answer.out.splitlines(keepends=True)[:-1])
+
+
+@alters("keys", "--prefix")
+def drop_key(words, answer):
+    """keys --prefix drops its last key"""
+    answer.out = b"".join(answer.out.splitlines(keepends=True)[:-1])
+
+
+@alters("keys", "--prefix")
+def add_key(words, answer):
+    """keys --prefix adds a key"""
+    answer.out += b"more\n"
+
+
+def alters_size(column, name):
+    def add_one(words, answer):
+        lines = [line.split(b" ", 3) for line in answer.out.splitlines()]
+        for line in lines:
+            line[column] = b"%d" % (int(line[column]) + 1)
+        answer.out = b"".join(b" ".join(line) + b"\n" for line in lines)
+
+    add_one.__doc__ = f"buckets --sizes adds one to its {name}"
+    alters("buckets", "--sizes")(add_one)
+
+
+for column, name in enumerate(("keys", "bytes used", "bytes allocated")):
+    alters_size(column, name)
+
+
+@alters("buckets", "--sizes")
+def drop_size(words, answer):
+    """buckets --sizes drops its last bucket"""
+    answer.out = b"".join(answer.out.splitlines(keepends=True)[:-1])
+
+
+@alters("buckets", "--sizes")
+def swap_sizes(words, answer):
+    """buckets --sizes shows the first two buckets in another order"""
+    lines = answer.out.splitlines(keepends=True)
+    answer.out = b"".join(lines[1:2] + lines[:1] + lines[2:])
+
+
+@alters("get", "-n")
+def keep_newline(words, answer):
+    """get -n prints a line feed"""
+    answer.out += b"\n"
+
+
+@alters("get", "--no-newline")
+def drop_byte(words, answer):
+    """get --no-newline drops the last byte of the value"""
+    answer.out = answer.out[:-1]
+
+
+@alters("compact", "--etcd-snapshot")
+def change_hash(words, answer):
+    """compact --etcd-snapshot puts another last byte"""
+    set_bytes(out_of(words), -1, b"\1")
+
+
+@alters("compact", "--etcd-snapshot")
+def drop_hash(words, answer):
+    """compact --etcd-snapshot writes no hash"""
+    os.truncate(out_of(words), os.path.getsize(out_of(words)) - 32)
+
+
+@alters("compact", "--etcd-snapshot")
+def count_without_hash(words, answer):
+    """compact --etcd-snapshot doesn't count the hash"""
+    answer.out = re.sub(rb"> (\d+)", lambda found: b"> %d" % (int(found[1]) - 32), answer.out)
+
+
+@alters("compact", "--recover", "--etcd-snapshot", status=1)
+def change_recovered_hash(words, answer):
+    """compact --recover --etcd-snapshot puts another last byte"""
+    if answer.out:
+        set_bytes(out_of(words), -1, b"\1")
+
+
+@alters("check", "--etcd-snapshot", status=1)
+def accept_hash(words, answer):
+    """check --etcd-snapshot accepts every hash"""
+    answer.out = re.sub(rb"snapshot hash .*\n", b"", answer.out)
+
+
+@alters("check", "--etcd-snapshot", status=1)
+def call_missing(words, answer):
+    """check --etcd-snapshot calls a hash missing that differs"""
+    answer.out = answer.out.replace(b"hash differs", b"hash missing")
+
+
+@alters("check", "--etcd-snapshot", status=1)
+def count_hash(words, answer):
+    """check --etcd-snapshot doesn't count the hash"""
+    answer.out = re.sub(rb"(\d+) errors", lambda found: b"%d errors" % (int(found[1]) - 1), answer.out)
+
+
+@alters("check", "--etcd-snapshot", status=1)
+def stop_at_hash(words, answer):
+    """check --etcd-snapshot stops at a wrong hash"""
+    if answer.out.startswith(b"snapshot hash"):
+        answer.out, answer.err = answer.out.splitlines(keepends=True)[0] + b"1 errors found\n", b""
+
+
+@alters("check", "--etcd-snapshot")
+def refuse_hash(words, answer):
+    """check --etcd-snapshot refuses every hash"""
+    answer.status, answer.out = 1, b"snapshot hash differs\n1 errors found\n"
+
+
 def finds(path, alter, folder):
     """The number of the first file on which the comparisons find this alteration, and what they say."""
     program = Wrong(path, alter)

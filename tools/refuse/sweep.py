@@ -22,7 +22,15 @@ SECONDS = 60
 MOST_WRITTEN = "7"
 FULL = "the full answer"
 PART_OF_LINE = "a part of its line"
-MAY_BEGIN = ("list", "pages")
+# The commands that may have printed a part of their text when memory runs out: always, or with one of
+# these words.
+MAY_BEGIN = {
+    "list": None,
+    "pages": None,
+    "buckets": ("--sizes", "json"),
+    "keys": ("json",),
+    "get": ("json",),
+}
 
 # The lines that report the failure of a call; the first of them must come.
 LINES = {
@@ -68,6 +76,10 @@ class Command:
     def was_refused(self):
         return os.path.exists(self.mark)
 
+    def may_begin(self):
+        words = MAY_BEGIN.get(self.name, ())
+        return words is None or any(word in self.words for word in words)
+
     def outcome(self, full, answer):
         """How a run with a refusal ended, or nothing if it ended in no documented way."""
         status, out, err, copy = answer
@@ -75,7 +87,7 @@ class Command:
             return FULL
         if self.call == "write" and (status, out, copy) == (full[0], full[1], full[3]):
             return PART_OF_LINE if full[2].startswith(err) else None
-        may_begin = self.name in MAY_BEGIN if self.call == "memory" else self.call == "write"
+        may_begin = self.may_begin() if self.call == "memory" else self.call == "write"
         # If a fault follows the whole text, a call may be refused between the two.
         is_part = full[1].startswith(out) and (out != full[1] or full[2] != b"")
         is_begun = out == b"" or (may_begin and is_part)

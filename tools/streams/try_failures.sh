@@ -54,13 +54,33 @@ want_whole_copy() {
 	rm "$copy"
 }
 
+# OUT is a snapshot.
+want_whole_snapshot() {
+	"$program" check --etcd-snapshot "$copy" >"$folder/checked" 2>&1 || fail "OUT is no snapshot"
+}
+
+# OUT has a whole database, but not the hash of a snapshot.
+want_cut_snapshot() {
+	"$program" check "$copy" >"$folder/checked" 2>&1 || fail "OUT isn't whole"
+	"$program" check --etcd-snapshot "$copy" >"$folder/checked" 2>&1 && fail "OUT is accepted"
+	head -n 1 "$folder/checked" | grep -qx "snapshot hash missing" || fail "OUT has a hash"
+	rm "$copy"
+}
+
 # Standard output that can't be written is reported, whatever the command.
 full_output() {
 	out=/dev/full
-	for command in info pages check buckets stats list; do
+	for command in info pages check buckets stats list "pages --map" "check --etcd-snapshot" \
+		"buckets --sizes" "list --form json" "list --recover --form=json"; do
 		run $command "$sound"
 		want_fault "write failed"
 	done
+	run list "$sound" settings
+	want_fault "write failed"
+	run keys --prefix t "$sound" settings
+	want_fault "write failed"
+	run get -n "$sound" settings theme
+	want_fault "write failed"
 	run page "$sound" 0
 	want_fault "write failed"
 	run keys "$sound" settings
@@ -73,6 +93,10 @@ full_output() {
 	want_fault "write failed"
 	run compact -o "$copy" "$sound"
 	want_fault "write failed"
+	want_whole_copy
+	run compact --etcd-snapshot -o "$copy" "$sound"
+	want_fault "write failed"
+	want_whole_snapshot
 	want_whole_copy
 	out=$folder/out
 }
@@ -124,7 +148,8 @@ run_unread() {
 # A reader that has left before anything is written isn't reported either, whatever the command; OUT
 # is whole then. A fault that has nothing to do with it is reported.
 left_reader() {
-	for command in info pages check buckets stats list; do
+	for command in info pages check buckets stats list "pages --map" "check --etcd-snapshot" \
+		"buckets --sizes" "list --form json"; do
 		run_unread $command "$sound"
 		want_silence
 	done
@@ -195,6 +220,21 @@ full_target() {
 	done
 }
 
+# OUT has room for the database of a snapshot, which has 20,480 bytes, and for none of its hash.
+full_before_hash() {
+	begin compact --etcd-snapshot with 40 blocks
+	(
+		trap '' XFSZ
+		ulimit -f 40
+		timeout 10 "$program" compact --etcd-snapshot -o "$copy" "$sound" 2>&1 >"$out"
+		echo $?
+	) | cat >"$folder/told"
+	status=$(tail -n 1 "$folder/told")
+	head -n 1 "$folder/told" >"$err"
+	want_fault "write failed"
+	want_cut_snapshot
+}
+
 # OUT that can't be created, or exists.
 unmade_target() {
 	for target in "$folder/missing/copy.db" "$sound/copy.db" /proc/copy.db; do
@@ -221,11 +261,14 @@ copied_permissions() {
 			chmod "$2" "$folder/file.db"
 			was=$(umask)
 			umask "$1"
-			run compact -o "$copy" "$folder/file.db"
+			for command in compact "compact --etcd-snapshot"; do
+				run $command -o "$copy" "$folder/file.db"
+				made=$(stat -c %a "$copy")
+				[ "$made" = "$3" ] || fail "FILE has mode $2, the umask is $1: wants mode $3, not $made"
+				rm -f "$copy"
+			done
 			umask "$was"
-			made=$(stat -c %a "$copy")
-			[ "$made" = "$3" ] || fail "FILE has mode $2, the umask is $1: wants mode $3, not $made"
-			rm -f "$folder/file.db" "$copy"
+			rm -f "$folder/file.db"
 		done
 	done
 }
@@ -247,6 +290,7 @@ leaving_reader
 left_reader
 failing_error
 full_target
+full_before_hash
 unmade_target
 copied_permissions
 unread_file

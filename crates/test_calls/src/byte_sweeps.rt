@@ -75,7 +75,13 @@ fn is_read(at: usize) -> bool {
 }
 
 /// The commands that only read, beside those that are looked at more closely.
-const READERS: [Line; 3] = [Line::Pages, Line::Buckets, Line::Stats(&[])];
+const READERS: [Line; 5] = [
+    Line::Pages,
+    Line::Buckets,
+    Line::Sizes,
+    Line::Stats(&[]),
+    Line::ListJson,
+];
 
 /// What a job comes to on a file.
 fn run_line(alloc: Global, line: Line, file: &[u8]) -> Result<Ran, Fail> {

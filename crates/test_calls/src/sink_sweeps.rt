@@ -1,7 +1,7 @@
 //! Sinks that fail at each of their bytes, or at each call of their writer.
 
 use crate::copies::copy_to;
-use crate::jobs::{Line, OF_EACH_COMMAND};
+use crate::jobs::{Line, OF_DAILY_QUESTIONS, OF_EACH_COMMAND};
 use crate::ran::{Ran, check_run};
 use bolt_bulk::{BulkFault, Done};
 use bolt_check::{CheckFault, Checked, Finding, check};
@@ -271,15 +271,24 @@ fn fail_output(
     Ok(())
 }
 
-#[test]
-fn failing_outputs(rt: HostRuntime) -> Result<(), Fail> {
-    let alloc = rt.alloc();
+/// The output of each of these jobs on the forty values fails.
+fn fail_outputs(rt: &impl Abort, alloc: Global, jobs: &[(&'static str, Line)]) -> Result<(), Fail> {
     let file = forty_values(alloc)?;
-    for (name, line) in &OF_EACH_COMMAND {
+    for (name, line) in jobs {
         let job = line.job(alloc)?;
-        fail_output(&rt, alloc, name, &job, file.as_slice())?;
+        fail_output(rt, alloc, name, &job, file.as_slice())?;
     }
     Ok(())
+}
+
+#[test]
+fn failing_outputs(rt: HostRuntime) -> Result<(), Fail> {
+    fail_outputs(&rt, rt.alloc(), &OF_EACH_COMMAND)
+}
+
+#[test]
+fn failing_outputs_of_daily_questions(rt: HostRuntime) -> Result<(), Fail> {
+    fail_outputs(&rt, rt.alloc(), &OF_DAILY_QUESTIONS)
 }
 
 /// Two pages that are neither in use nor free.
@@ -337,11 +346,9 @@ fn failing_errors(rt: HostRuntime) -> Result<(), Fail> {
 }
 
 /// If both fail, the status is that of the failed output.
-#[test]
-fn failing_output_and_error(rt: HostRuntime) -> Result<(), Fail> {
-    let alloc = rt.alloc();
+fn fail_both(rt: &impl Abort, alloc: Global, jobs: &[(&'static str, Line)]) -> Result<(), Fail> {
     let file = forty_values(alloc)?;
-    for (name, line) in &OF_EACH_COMMAND {
+    for (name, line) in jobs {
         let job = line.job(alloc)?;
         let (out, err) = (MemSink::with_fuse(alloc, 1), MemSink::with_fuse(alloc, 0));
         let ran = Ran::over(alloc, &job, file.as_slice(), out, err);
@@ -349,4 +356,11 @@ fn failing_output_and_error(rt: HostRuntime) -> Result<(), Fail> {
         assert_eq!(rt; ran.out.bytes().len(), 1, "{name}");
     }
     Ok(())
+}
+
+#[test]
+fn failing_output_and_error(rt: HostRuntime) -> Result<(), Fail> {
+    let alloc = rt.alloc();
+    fail_both(&rt, alloc, &OF_EACH_COMMAND)?;
+    fail_both(&rt, alloc, &OF_DAILY_QUESTIONS)
 }

@@ -38,6 +38,7 @@ impl<'a> Want<'a> {
     /// | line | what is required |
     /// |---|---|
     /// | `> TEXT`, `! TEXT` | a line of standard output, or of standard error |
+    /// | `>- TEXT` | a text on standard output without a line feed |
     /// | `>* WORD ..` | a line of words, each of which may repeat its text, with nothing between |
     /// | `>> FIRST LAST` | a line for each of these numbers |
     /// | `>x FIRST LAST BEFORE BEHIND` | the same with five digits in hexadecimal, between two texts |
@@ -49,6 +50,7 @@ impl<'a> Want<'a> {
             let (mark, text) = halves(line, ' ');
             match mark {
                 ">" => push_line(&mut want.out, text)?,
+                ">-" => push_text(&mut want.out, text)?,
                 ">*" => want.push_repeated(text)?,
                 "!" => push_line(&mut want.err, text)?,
                 "=" => want.status = text,

@@ -6,6 +6,7 @@ use crate::tokens::{Fault, bytes_of};
 use crate::walks::{depths, look_ups, members};
 use bolt_cli::{Job, Refusal, read_words, run};
 use bolt_format::MemSink;
+use bolt_snapshot::HashedSink;
 use std::alloc::{AllocError, Global};
 use std::ops::RangeInclusive;
 
@@ -63,12 +64,12 @@ pub fn is_met_by_cuts(
 fn run_job(alloc: Global, file: &[u8], job: &Job) -> Result<Ran, AllocError> {
     let mut out = MemSink::new(alloc);
     let mut err = MemSink::new(alloc);
-    let mut target = MemSink::new(alloc);
+    let mut target = HashedSink::new(MemSink::new(alloc));
     let status = run(alloc, job, file, &mut out, &mut err, &mut target);
     Ok(Ran {
         out: out.bytes().to_vec(alloc)?,
         err: err.bytes().to_vec(alloc)?,
-        target: target.bytes().to_vec(alloc)?,
+        target: target.inner().bytes().to_vec(alloc)?,
         status: match status.code {
             0 => "0",
             1 => "1",
