@@ -38,7 +38,11 @@ mod meta_rows;
 #[cfg(test)]
 mod pager_rows;
 #[cfg(test)]
+mod part_rows;
+#[cfg(test)]
 mod plan_rows;
+#[cfg(test)]
+mod prefix_rows;
 #[cfg(test)]
 mod ran;
 #[cfg(test)]

@@ -1,10 +1,13 @@
 //! Texts of a file's content, and what sinks accept of them.
 
 use crate::bucket_at::bucket_at;
-use Text::{Buckets, Item, Keys, Lines, List, Value};
+use Text::{Beginning, Buckets, Item, Keys, Lines, List, Part, Value};
 use bolt_check::Checked;
 use bolt_format::{MemSink, Sink, WriteSink};
-use bolt_report::{Form, ListForm, MemberLines, ReportFault, buckets, item, keys, list, value};
+use bolt_report::{
+    Form, ListForm, MemberLines, ReportFault, buckets, item, keys, keys_beginning, list, list_part,
+    value,
+};
 use bolt_tree::Walk;
 use std::alloc::Global;
 use std::process::Abort;
@@ -15,8 +18,12 @@ use test_files::halting::{Halting, Refusal};
 pub enum Text<'a> {
     /// Everything in the file, from a path on.
     List(&'a [&'a [u8]]),
+    /// What begins with a path, from a path on.
+    Part(&'a [&'a [u8]], &'a [&'a [u8]], ListForm),
     /// The keys of the bucket at a path.
     Keys(&'a [&'a [u8]], Form),
+    /// Those keys that begin with these bytes.
+    Beginning(&'a [&'a [u8]], &'a [u8], Form),
     /// The names of the buckets in the bucket at a path.
     Buckets(&'a [&'a [u8]], Form),
     /// These bytes, and a line feed.
@@ -39,7 +46,12 @@ fn put_text<S: Sink>(
 ) -> Option<Result<(), ReportFault>> {
     let answer = match text {
         List(from) => list(alloc, checked, from, sink),
+        Part(below, from, form) => list_part(alloc, checked, below, from, form, sink),
         Keys(path, form) => keys(alloc, &bucket_at(checked, path)?, form, sink),
+        Beginning(path, prefix, form) => {
+            let mut cursor = bucket_at(checked, path)?.cursor();
+            keys_beginning(alloc, &mut cursor, prefix, form, sink)
+        }
         Buckets(path, form) => buckets(alloc, &bucket_at(checked, path)?, form, sink),
         Value(bytes, form) => value(alloc, bytes, form, sink),
         Item(bytes, form) => item(alloc, bytes, form, sink),
