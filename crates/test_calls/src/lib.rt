@@ -54,6 +54,8 @@ mod sink_sweeps;
 #[cfg(test)]
 mod size_rows;
 #[cfg(test)]
+mod snapshot_rows;
+#[cfg(test)]
 mod text_rows;
 #[cfg(test)]
 mod texts;

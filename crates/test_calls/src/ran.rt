@@ -2,12 +2,13 @@
 
 use bolt_cli::{Job, run};
 use bolt_format::{MemSink, Sink};
+use bolt_snapshot::{HashedSink, SnapshotSink};
 use std::alloc::Global;
 use std::test::Fail;
 
 /// The status of a run over these sinks. The proofs of tests don't read the contract of `run` but here,
 /// which is most of what they would take.
-pub fn status_of<O: Sink, T: Sink>(
+pub fn status_of<O: Sink, T: SnapshotSink>(
     alloc: Global,
     job: &Job,
     file: &[u8],
@@ -39,12 +40,12 @@ impl Ran {
 
     /// A run over this standard output and this standard error.
     pub fn over(alloc: Global, job: &Job, file: &[u8], mut out: MemSink, mut err: MemSink) -> Ran {
-        let mut target = MemSink::new(alloc);
+        let mut target = HashedSink::new(MemSink::new(alloc));
         let code = status_of(alloc, job, file, &mut out, &mut err, &mut target);
         Ran {
             out,
             err,
-            target,
+            target: target.into_inner(),
             code,
         }
     }
