@@ -11,7 +11,7 @@ set -u
 cd "$(dirname "$0")/../.."
 here=tools/wrong_bodies
 room=out/wrong_bodies
-[ $# -gt 0 ] || set -- bolt_format bolt_check bolt_tree bolt_recover bolt_bulk bolt_report bolt_cli
+[ $# -gt 0 ] || set -- bolt_format bolt_check bolt_tree bolt_recover bolt_bulk bolt_snapshot bolt_report bolt_cli
 
 stop() {
     echo "wrong bodies: $1" >&2

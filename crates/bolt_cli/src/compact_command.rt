@@ -1,5 +1,5 @@
 //! The command `compact`.
-ghost use Rattle.std.specs.Prelude.{◌≡◌, ◌+◌, ◌<◌, IfErr, IfOk, IsTrue, OnErr, OnOk, map};
+ghost use Rattle.std.specs.Prelude.{◌≡◌, ◌+◌, ◌<◌, IfErr, IfOk, IsTrue, OnErr, OnOk, Some, map};
 ghost use Rattle.std.specs.Io.KnownBytes.{Keeps};
 ghost use Rattle.bolt_bulk.specs.Compacting.{too_many};
 ghost use Rattle.bolt_format.specs.Metas.{IsPageSize};
@@ -99,6 +99,7 @@ fn write_recovered<O: Sink, T: SnapshotSink>(
 fn begin_copy<T: SnapshotSink>(snapshot: bool, target: &mut T)
     ensures kept { Keeps (T.taken target.old) (T.taken target.new) }
     ensures sound { T.failed target.new ≡ T.failed target.old }
+    ensures hashing { IsTrue snapshot → T.hashed target.new ≡ Some 0 }
 {
     if snapshot {
         target.start_hash();

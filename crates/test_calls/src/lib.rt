@@ -58,6 +58,8 @@ mod sink_sweeps;
 #[cfg(test)]
 mod size_rows;
 #[cfg(test)]
+mod snapshot_rows;
+#[cfg(test)]
 mod snapshot_sweeps;
 #[cfg(test)]
 mod text_rows;
