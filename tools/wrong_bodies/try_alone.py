@@ -310,9 +310,14 @@ def try_crate(crate):
     return trial
 
 
+def own_crates():
+    """The crates of the repository, without the copies that stand in its folder out."""
+    return [it for it in rt.rtlib.crates_below(TOP) if it.folder == f"{TOP}/crates/{it.name}"]
+
+
 def read_all():
     """Tells which edits of the gate and of the folders beside it can't be applied, and returns whether all can."""
-    crates = [it for it in rt.rtlib.crates_below(TOP) if os.path.isdir(f"{HERE}/{it.name}")]
+    crates = [it for it in own_crates() if os.path.isdir(f"{HERE}/{it.name}")]
     read = 0
     unread = []
     for crate in crates:
@@ -331,7 +336,7 @@ def main(words):
         return 0 if read_all() else 1
     number = os.environ.get("RT_JOBS", "")
     jobs = int(number) if number.isdigit() and int(number) else rt.processors()
-    known = {it.name: it for it in rt.rtlib.crates_below(TOP)}
+    known = {it.name: it for it in own_crates()}
     names = words or sorted(os.listdir(f"{HERE}/gate"))
     for name in names:
         if name not in known or not os.path.isdir(f"{HERE}/gate/{name}"):
