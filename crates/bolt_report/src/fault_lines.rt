@@ -50,7 +50,7 @@ pub fn finding_text<S: Sink>(finding: &Finding, sink: &mut S) -> Result<(), Repo
 }
 
 /// Writes the line of each finding, and then the line with the number of errors, such as `2 errors
-/// found`. The line of `earlier` errors was written before.
+/// found`. The line of `earlier` errors was written before: of one or of none.
 ///
 /// # Errors
 ///

@@ -32,7 +32,7 @@ pub fn losses_text<S: Sink>(losses: &[Loss<'_>], sink: &mut S) -> Result<(), Rep
 }
 
 /// Writes the line of each loss, and then the line with the number of errors, as `2 errors found`.
-/// The line of `earlier` errors was written before.
+/// The line of `earlier` errors was written before: of one or of none.
 ///
 /// # Errors
 ///
@@ -51,7 +51,8 @@ pub fn counted_losses_text<S: Sink>(
 }
 
 /// Writes the line of a lost root page, with which everything is lost, and then the line with the
-/// number of errors, as `1 errors found`. The line of `earlier` errors was written before.
+/// number of errors, as `1 errors found`. The line of `earlier` errors was written before: of one or
+/// of none.
 ///
 /// # Errors
 ///

@@ -21,7 +21,8 @@ pub struct HashedSink<S: Sink> {
 }
 
 impl<S: Sink> HashedSink<S> {
-    /// A sink over another one, which hashes nothing yet.
+    /// A sink over another one, which hashes nothing yet. The inner sink must show its bytes in all
+    /// states or in none.
     pub fn new(inner: S) -> Self
         requires { IsSteady S.taken }
         ensures taken { ⟦<HashedSink<S> as Sink>⟧.taken result ≡ S.taken inner }
