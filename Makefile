@@ -1,5 +1,7 @@
 # The targets (docs/CONTRIBUTING.md). They need the toolchain's command `rt` on the path.
 PREFIX ?= /usr/local
+# Runs a tool that makes files. They take the format's numbers from tools/format.
+MAKER = PYTHONPATH=tools/format python3 -B
 PROGRAM = crates/luntsegi/out/luntsegi
 SOUND = $(wildcard examples/*.buckets)
 LISTED = $(filter-out $(LEAKED).list,$(wildcard examples/*.list))
@@ -61,15 +63,16 @@ DAMAGED = out/damaged.db
 
 REFUSE = out/refuse.so
 SWEEP = python3 -B tools/refuse/sweep.py $(PROGRAM) $(REFUSE)
-EACH_COMMAND = info "page 5" pages check buckets stats list "keys users" "get settings theme" \
-	"get settings none" "info --help" "info more" "list --from x" $(DAILY)
 
-# The daily questions.
-DAILY = "pages --map" "check --etcd-snapshot" "buckets --sizes" "buckets index --sizes --form json" \
+# Commands on examples/app.db, each with the words that come after FILE: those that print something of
+# it, and those that don't.
+PRINTING = info "page 5" pages check buckets stats list "keys users" "get settings theme" \
+	"pages --map" "check --etcd-snapshot" "buckets --sizes" "buckets index --sizes --form json" \
 	"keys index by-name --prefix user" "get settings theme -n" "get settings theme -n --form json" \
-	"list settings" "list none" "list --form json"
+	"list settings" "list --form json" "list --recover --form json"
+EACH_COMMAND = $(PRINTING) "get settings none" "info --help" "info more" "list --from x" "list none"
 
-# What recovers a damaged file.
+# Commands that recover a damaged file.
 RECOVERIES = "list --recover" "compact -o OUT --recover" "compact -o OUT --recover --for-bbolt" \
 	"list key --recover --form json" "list none --recover" "compact -o OUT --recover --etcd-snapshot"
 
@@ -78,7 +81,7 @@ RECOVERIES = "list --recover" "compact -o OUT --recover" "compact -o OUT --recov
 # only each 10th of a copy, and each 200th of what is recovered. So do each read of FILE and the sync of
 # OUT.
 failures: $(PROGRAM) $(REFUSE) $(LISTED_LONG) $(DAMAGED)
-	sh tools/streams/try_failures.sh $(PROGRAM) examples/app.db $(LEAKED).db $(LISTED_LONG)
+	sh tools/streams/try_failures.sh $(PROGRAM) examples/app.db $(LEAKED).db $(LISTED_LONG) $(PRINTING)
 	$(SWEEP) write 1 examples/app.db $(EACH_COMMAND)
 	$(SWEEP) write 1 $(LEAKED).db check list
 	$(SWEEP) write 10 examples/app.db "compact -o OUT" "compact -o OUT --etcd-snapshot"
@@ -94,7 +97,7 @@ $(REFUSE): tools/refuse/refuse.c
 
 $(LISTED_LONG): tools/bench/make_wide.py
 	mkdir -p $(@D)
-	python3 -B tools/bench/make_wide.py $@ 5000
+	$(MAKER) tools/bench/make_wide.py $@ 5000
 
 # A real database in which a page of etcd's keys is overwritten with zeros.
 $(DAMAGED): examples/etcd.db
@@ -102,7 +105,7 @@ $(DAMAGED): examples/etcd.db
 	cp $< $@
 	dd if=/dev/zero of=$@ bs=4096 seek=9 count=1 conv=notrunc status=none
 
-FUZZ = PYTHONPATH=tools/bench python3 -B tools/fuzz
+FUZZ = $(MAKER) tools/fuzz
 SECONDS ?= 60
 SEED ?= $(shell date +%s)
 
@@ -150,49 +153,50 @@ LOST_LEAVES = out/lost_leaves.db
 # Times `info`, `check` and the commands that print, on three databases: 256 MB with a million small
 # entries, 200,000 buckets in the root bucket, and 256 MB with values of 100 KB. Then times compact
 # copies of the first and the last of these, of 256 MB that are mostly free pages, and of 50,000 buckets
-# one within another; and what is recovered of the first, also with a thousand lost leaves. All have pages of 4,096 bytes, as bbolt makes them on most machines. If `make
-# bbolt` has run, bbolt copies the same files.
+# one within another; and what is recovered of the first, also with a thousand lost leaves. All have
+# pages of 4,096 bytes, as bbolt makes them on most machines. If `make bbolt` has run, bbolt copies the
+# same files.
 bench: $(PROGRAM) $(LARGE) $(WIDE) $(LONG) $(SPARSE) $(VERY_DEEP) $(LOST_LEAVES)
-	python3 tools/bench/time_commands.py $(PROGRAM) $(LARGE) info check buckets pages stats list \
+	python3 -B tools/bench/time_commands.py $(PROGRAM) $(LARGE) info check buckets pages stats list \
 		"keys bucket-0" "get bucket-0 entry-000000000000100000"
-	python3 tools/bench/time_commands.py $(PROGRAM) $(WIDE) info check buckets pages stats list
-	python3 tools/bench/time_commands.py $(PROGRAM) $(LONG) info check buckets pages stats list
+	python3 -B tools/bench/time_commands.py $(PROGRAM) $(WIDE) info check buckets pages stats list
+	python3 -B tools/bench/time_commands.py $(PROGRAM) $(LONG) info check buckets pages stats list
 	python3 -B tools/bench/time_copies.py $(PROGRAM) $(LARGE) $(LONG) $(SPARSE) $(VERY_DEEP)
 	python3 -B tools/bench/time_recovery.py $(PROGRAM) $(LARGE) $(LOST_LEAVES) 1000
 
 $(LARGE): tools/bench/make_large.py
 	mkdir -p $(@D)
-	python3 tools/bench/make_large.py $@
+	$(MAKER) tools/bench/make_large.py $@
 
 $(LOST_LEAVES): tools/bench/zero_leaves.py $(LARGE)
-	python3 -B $< $(LARGE) $@ 1000
+	$(MAKER) $< $(LARGE) $@ 1000
 
 $(WIDE): tools/bench/make_wide.py
 	mkdir -p $(@D)
-	python3 -B tools/bench/make_wide.py $@
+	$(MAKER) tools/bench/make_wide.py $@
 
 $(LONG): tools/bench/make_long.py
 	mkdir -p $(@D)
-	python3 -B tools/bench/make_long.py $@
+	$(MAKER) tools/bench/make_long.py $@
 
 $(SPARSE): tools/bench/make_sparse.py
 	mkdir -p $(@D)
-	python3 -B tools/bench/make_sparse.py $@
+	$(MAKER) tools/bench/make_sparse.py $@
 
 $(VERY_DEEP): tools/bench/make_deep.py
 	mkdir -p $(@D)
-	python3 -B tools/bench/make_deep.py $@ 50000 4096
+	$(MAKER) tools/bench/make_deep.py $@ 50000 4096
 
 DEEP = out/deep.db
 NESTED = out/nested.db
-REFUSED_ROWS = out/refused_rows
+REFUSED_TESTS = out/refused_tests
 
 # Refuses each of the program's requests for memory in turn: under every command on a file of 60 nested
 # buckets and on a real one; on 20,000 nested buckets under the commands that make few requests; of
 # the many that a copy of these makes, each 1500th; and under the commands that recover a damaged file.
-# Then each row of memory_rows has its 1000th request
-# refused. Nine of these are requests of a walk, which is called again and goes on. Of two others one is
-# made before the calls that request nothing, and one after them.
+# Then each test of test_calls' module tree_memory has its 1000th request refused. Nine of these are
+# requests of a walk, which is called again and goes on. Of two others one is made before the calls that
+# request nothing, and one after them.
 memory: $(PROGRAM) $(REFUSE) $(NESTED) $(DEEP) $(DAMAGED)
 	$(SWEEP) memory 1 $(NESTED) info "page 3" pages check buckets stats list "list --from 62/62" \
 		"keys b b" "get b x" "compact -o OUT" "pages --map" "buckets --sizes" "buckets b b --sizes" \
@@ -206,19 +210,19 @@ memory: $(PROGRAM) $(REFUSE) $(NESTED) $(DEEP) $(DAMAGED)
 	$(SWEEP) memory 1 $(DAMAGED) "check --all" $(RECOVERIES)
 	$(SWEEP) memory 1 $(NESTED) "check --all" "check --all --etcd-snapshot" "list b b --recover" \
 		$(RECOVERIES)
-	-cd crates/test_calls && rt try --test --fail-alloc 1000 -- memory_rows > $(abspath $(REFUSED_ROWS)) 2>&1
-	grep -c "refused at depth ., and gives all" $(REFUSED_ROWS) | grep -x 6
-	grep -c "refused at its beginning, and gives the rest" $(REFUSED_ROWS) | grep -x 3
-	grep -c "refused before the calls" $(REFUSED_ROWS) | grep -x 1
-	grep -c "refused behind the calls" $(REFUSED_ROWS) | grep -x 1
+	-cd crates/test_calls && rt try --test --fail-alloc 1000 -- tree_memory > $(abspath $(REFUSED_TESTS)) 2>&1
+	grep -c "refused at depth ., and gives all" $(REFUSED_TESTS) | grep -x 6
+	grep -c "refused at its beginning, and gives the rest" $(REFUSED_TESTS) | grep -x 3
+	grep -c "refused before the calls" $(REFUSED_TESTS) | grep -x 1
+	grep -c "refused after the calls" $(REFUSED_TESTS) | grep -x 1
 
 $(NESTED): tools/bench/make_deep.py
 	mkdir -p $(@D)
-	python3 -B tools/bench/make_deep.py $@ 60
+	$(MAKER) tools/bench/make_deep.py $@ 60
 
 $(DEEP): tools/bench/make_deep.py
 	mkdir -p $(@D)
-	python3 -B tools/bench/make_deep.py $@
+	$(MAKER) tools/bench/make_deep.py $@
 
 # The folder where zsh looks for completions.
 ZSH_COMPLETIONS ?= $(PREFIX)/share/zsh/site-functions

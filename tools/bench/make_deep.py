@@ -8,12 +8,12 @@ own. The last one is empty and inline, on page 3. The root page is the last page
 default is 20,000 buckets and pages of 1,024 bytes.
 """
 
-import struct
 import sys
 
-from make_large import BUCKET_FLAGS, FREELIST, FREELIST_PAGE, HEADER, LEAF, LEAF_ELEMENT, META
-from make_large import MAGIC, META_RECORD, VERSION, checksum
+from file_format import BUCKET_FLAGS, BUCKET_HEAD, FREELIST, HEADER, LEAF, LEAF_ELEMENT, META
+from file_format import empty_bucket, meta_record
 
+FREELIST_PAGE = 2
 FIRST_PAGE = 3
 
 
@@ -23,10 +23,7 @@ def page(number, flags, count, body=b""):
 
 def meta(number, root, page_size):
     """A meta page; its number is its transaction too."""
-    record = META_RECORD.pack(
-        MAGIC, VERSION, page_size, 0, root, 0, FREELIST_PAGE, root + 1, number
-    )
-    return page(number, META, 0, record + struct.pack("<Q", checksum(record)))
+    return page(number, META, 0, meta_record(page_size, root, FREELIST_PAGE, root + 1, number))
 
 
 def leaf(number, value):
@@ -40,9 +37,9 @@ def pages(root, page_size):
     yield meta(0, root, page_size)
     yield meta(1, root, page_size)
     yield page(FREELIST_PAGE, FREELIST, 0)
-    yield leaf(FIRST_PAGE, bytes(16) + HEADER.pack(0, LEAF, 0, 0))
+    yield leaf(FIRST_PAGE, empty_bucket())
     for number in range(FIRST_PAGE + 1, root + 1):
-        yield leaf(number, struct.pack("<QQ", number - 1, 0))
+        yield leaf(number, BUCKET_HEAD.pack(number - 1, 0))
 
 
 def main():

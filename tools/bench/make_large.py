@@ -11,31 +11,15 @@ After the pages of each bucket a few pages are free.
 import struct
 import sys
 
+from file_format import BRANCH, BRANCH_ELEMENT, BUCKET_FLAGS, BUCKET_HEAD, FREELIST, HEADER, LEAF
+from file_format import LEAF_ELEMENT, META, VALUE_FLAGS, meta_record
+
 PAGE_SIZE = 4096
-BRANCH, LEAF, META, FREELIST = 0x01, 0x02, 0x04, 0x10
-
-HEADER = struct.Struct("<QHHI")
-BRANCH_ELEMENT = struct.Struct("<IIQ")
-LEAF_ELEMENT = struct.Struct("<IIII")
-META_RECORD = struct.Struct("<IIIIQQQQQ")
-
-MAGIC = 0xED0CDAED
-VERSION = 2
-VALUE_FLAGS, BUCKET_FLAGS = 0, 1
-
 FREELIST_PAGE = 2
 FIRST_PAGE = 3
 FREE_PAGES = 8
 BUCKETS = 4
 FILLING = bytes(range(256)) * 2
-
-
-def checksum(data):
-    """FNV-1a of 64 bits."""
-    state = 0xCBF29CE484222325
-    for byte in data:
-        state = (state ^ byte) * 0x100000001B3 % 2**64
-    return state
 
 
 class Pages:
@@ -146,12 +130,12 @@ def buckets(pages, count):
         behind = count * (number + 1) // BUCKETS
         root = put_bucket(pages, entries(first, behind - first))
         pages.leave_free(FREE_PAGES)
-        yield BUCKET_FLAGS, b"bucket-%d" % number, struct.pack("<QQ", root, 0)
+        yield BUCKET_FLAGS, b"bucket-%d" % number, BUCKET_HEAD.pack(root, 0)
 
 
 def put_meta(pages, number, root, freelist=FREELIST_PAGE):
-    record = META_RECORD.pack(MAGIC, VERSION, PAGE_SIZE, 0, root, 0, freelist, pages.next, number)
-    pages.put_at(number, META, 0, record + struct.pack("<Q", checksum(record)))
+    """A meta page; its number is its transaction too."""
+    pages.put_at(number, META, 0, meta_record(PAGE_SIZE, root, freelist, pages.next, number))
 
 
 def make(out, count):

@@ -10,8 +10,8 @@ leaf of its own whose span has 25 pages, below branches. The default is 2,600, i
 
 import sys
 
-from make_large import FREELIST, FREELIST_PAGE, LEAF, VALUE_FLAGS, Pages
-from make_large import leaf_body, put_branches, put_meta
+from file_format import FREELIST, LEAF, VALUE_FLAGS
+from make_large import FREELIST_PAGE, Pages, leaf_body, put_branches, put_meta
 
 VALUE = bytes(range(250)) * 400
 

@@ -11,7 +11,8 @@ pages there are FREE free pages, and then the freelist. The default is 60,000, i
 import struct
 import sys
 
-from make_large import FREELIST, Pages, entries, put_bucket, put_meta
+from file_format import FREELIST
+from make_large import FREELIST_PAGE, Pages, entries, put_bucket, put_meta
 
 ENTRIES = 100_000
 
@@ -21,7 +22,7 @@ def main():
     with open(sys.argv[1], "wb") as out:
         pages = Pages(out)
         root = put_bucket(pages, entries(0, ENTRIES))
-        pages.free.append(2)
+        pages.free.append(FREELIST_PAGE)
         pages.leave_free(free)
         ids = struct.pack("<%dQ" % len(pages.free), *pages.free)
         freelist = pages.put(FREELIST, len(pages.free), ids)

@@ -9,10 +9,8 @@ key order, below branches. The default is 200,000.
 
 import sys
 
-from make_large import BUCKET_FLAGS, FREELIST, FREELIST_PAGE, HEADER, LEAF, Pages
-from make_large import put_bucket, put_meta
-
-EMPTY = bytes(16) + HEADER.pack(0, LEAF, 0, 0)
+from file_format import BUCKET_FLAGS, FREELIST, empty_bucket
+from make_large import FREELIST_PAGE, Pages, put_bucket, put_meta
 
 
 def main():
@@ -20,7 +18,7 @@ def main():
     with open(sys.argv[1], "wb") as out:
         pages = Pages(out)
         names = (b"bucket-%012d" % number for number in range(count))
-        root = put_bucket(pages, ((BUCKET_FLAGS, name, EMPTY) for name in names))
+        root = put_bucket(pages, ((BUCKET_FLAGS, name, empty_bucket()) for name in names))
         pages.put_at(FREELIST_PAGE, FREELIST, 0, b"")
         put_meta(pages, 0, root)
         put_meta(pages, 1, root)

@@ -10,7 +10,8 @@ equal distances. The root page isn't among them.
 import shutil
 import sys
 
-from make_large import HEADER, LEAF, META_RECORD, PAGE_SIZE
+from file_format import HEADER, LEAF, META_RECORD
+from make_large import PAGE_SIZE
 
 
 def leaves_of(file):

@@ -1,9 +1,6 @@
 """Damages a file at random, in one to eight places."""
 
-import struct
-
-from make_large import META_RECORD, checksum
-from sound import HEADER, META_BYTES
+from file_format import CHECKSUM, HEADER, META_BYTES, META_RECORD, checksum
 
 MOST_PLACES = 8
 
@@ -75,7 +72,7 @@ def mend_sums(made):
     for place in (HEADER.size, made.page_size + HEADER.size):
         if place + META_BYTES <= len(made.data):
             end = place + META_RECORD.size
-            struct.pack_into("<Q", made.data, end, checksum(made.data[place:end]))
+            CHECKSUM.pack_into(made.data, end, checksum(made.data[place:end]))
 
 
 DAMAGES = [set_field] * 6 + [copy_field] * 2 + [set_byte] * 5 + [copy_page] * 2 + [set_metas, cut]

@@ -4,16 +4,12 @@ import struct
 from dataclasses import dataclass, field
 
 from buckets import Bucket, draw_number, draw_root
-from make_large import BRANCH, BRANCH_ELEMENT, BUCKET_FLAGS, FREELIST, HEADER, LEAF, LEAF_ELEMENT
-from make_large import MAGIC, META, META_RECORD, VALUE_FLAGS, VERSION, checksum
+from file_format import BRANCH, BRANCH_ELEMENT, BUCKET_FLAGS, BUCKET_HEAD, FREELIST, HEADER, LEAF
+from file_format import LEAF_ELEMENT, LONG_FORM, META, META_RECORD, NONE_WRITTEN, VALUE_FLAGS, meta_record
 
 PAGE_SIZES = [1024] * 6 + [2048, 4096, 4096, 8192, 16384]
-NONE_WRITTEN = 2**64 - 1
-LONG_FORM = 0xFFFF
 MOST_PAGES_ON_A_WAY = 64
 FIRST_PAGE = 2
-BUCKET_HEAD = struct.Struct("<QQ")
-META_BYTES = 80
 
 
 @dataclass(frozen=True)
@@ -317,11 +313,11 @@ class Image:
     def put_meta(self, slot, state, txid):
         draw = self.draw
         freelist = state.freelist.number if state.freelist else NONE_WRITTEN
-        record = META_RECORD.pack(
-            MAGIC, VERSION, self.made.page_size, draw.choice([0, draw.randrange(2**32)]),
-            state.root.number, state.tree.sequence, freelist, self.mark, txid,
+        flags = draw.choice([0, draw.randrange(2**32)])
+        record = meta_record(
+            self.made.page_size, state.root.number, freelist, self.mark, txid,
+            state.tree.sequence, flags,
         )
-        record += struct.pack("<Q", checksum(record))
         header = HEADER.pack(slot, META, 0, 0) if draw.random() < 0.9 else draw.randbytes(HEADER.size)
         place = slot * self.made.page_size
         self.put(place, header + record, fields_at("meta", META_RECORD, place + HEADER.size))

@@ -2,14 +2,16 @@
 # Makes the program's files and streams fail, and its readers leave, for `make failures`; and tests
 # who may read its copies.
 #
-#   try_failures.sh PROGRAM SOUND REFUSED LONG
+#   try_failures.sh PROGRAM SOUND REFUSED LONG COMMAND..
 #
 # SOUND is examples/app.db, REFUSED a file that isn't sound, and LONG a sound one whose listing is
-# longer than a pipe holds. Each case must have the status and the line of docs/COMMANDS.md. The first
-# that doesn't ends the script with status 1.
+# longer than a pipe holds. Each COMMAND prints something of SOUND; its words after the first come after
+# the file. Each case must have the status and the line of docs/COMMANDS.md. The first that doesn't ends
+# the script with status 1.
 
 set -u
 program=$1 sound=$2 refused=$3 long=$4
+shift 4
 folder=$(mktemp -d)
 trap 'rm -rf "$folder"' EXIT
 out=$folder/out err=$folder/err copy=$folder/copy.db
@@ -25,6 +27,15 @@ run() {
 	begin "$@"
 	timeout 10 "$program" "$@" >"$out" 2>"$err"
 	status=$?
+}
+
+# Calls `run` or `run_unread` with a COMMAND on a file.
+on_file() {
+	runner=$1 file=$2
+	set -- $3
+	name=$1
+	shift
+	"$runner" "$name" "$file" "$@"
 }
 
 fail() {
@@ -70,23 +81,10 @@ want_cut_snapshot() {
 # Standard output that can't be written is reported, whatever the command.
 full_output() {
 	out=/dev/full
-	for command in info pages check buckets stats list "pages --map" "check --etcd-snapshot" \
-		"buckets --sizes" "list --form json" "list --recover --form=json"; do
-		run $command "$sound"
+	for command in "$@"; do
+		on_file run "$sound" "$command"
 		want_fault "write failed"
 	done
-	run list "$sound" settings
-	want_fault "write failed"
-	run keys --prefix t "$sound" settings
-	want_fault "write failed"
-	run get -n "$sound" settings theme
-	want_fault "write failed"
-	run page "$sound" 0
-	want_fault "write failed"
-	run keys "$sound" settings
-	want_fault "write failed"
-	run get "$sound" settings theme
-	want_fault "write failed"
 	run check "$refused"
 	want_fault "write failed"
 	run --help
@@ -148,18 +146,11 @@ run_unread() {
 # A reader that has left before anything is written isn't reported either, whatever the command; OUT
 # is whole then. A fault that has nothing to do with it is reported.
 left_reader() {
-	for command in info pages check buckets stats list "pages --map" "check --etcd-snapshot" \
-		"buckets --sizes" "list --form json"; do
-		run_unread $command "$sound"
+	for command in "$@"; do
+		on_file run_unread "$sound" "$command"
 		want_silence
 	done
 	run_unread list "$long"
-	want_silence
-	run_unread page "$sound" 0
-	want_silence
-	run_unread keys "$sound" settings
-	want_silence
-	run_unread get "$sound" settings theme
 	want_silence
 	run_unread check "$refused"
 	want_silence
@@ -275,23 +266,23 @@ copied_permissions() {
 
 # FILE that can't be read; OUT isn't created then.
 unread_file() {
-	for file in "$folder/missing" "$folder" "$sound/file" ""; do
-		for command in info pages check buckets stats list "compact -o $copy"; do
-			run $command "$file"
-			want_fault "cannot read $file"
+	for unread in "$folder/missing" "$folder" "$sound/file" ""; do
+		for command in "$@" "compact -o $copy"; do
+			on_file run "$unread" "$command"
+			want_fault "cannot read $unread"
 		done
 	done
 	[ ! -e "$copy" ] || fail "made OUT"
 }
 
-full_output
+full_output "$@"
 closed_output
 leaving_reader
-left_reader
+left_reader "$@"
 failing_error
 full_target
 full_before_hash
 unmade_target
 copied_permissions
-unread_file
+unread_file "$@"
 echo "failures: all told"

@@ -5,9 +5,11 @@ use Rattle.bolt_format.specs.Elements.{BranchElement}
 use Rattle.bolt_format.specs.ElementPlaces.{branch_view}
 use Rattle.bolt_format.specs.declared.element.Branch.{Branch}
 use Rattle.bolt_layout.specs.Levels.{branch_view as branch_page_view}
-use Rattle.bolt_layout.specs.PageBytes.{branch_bytes, branch_data, branch_header, branch_headers, header_bytes, page_bytes}
+use Rattle.bolt_layout.specs.PageBytes.{branch_bytes, branch_data, branch_headers, page_bytes}
+use Rattle.bolt_format.specs.Written.{branch_header, header_bytes}
 use Rattle.bolt_layout.proofs.BranchLemmas.{length-branch_headers}
-use Rattle.bolt_layout.proofs.PageLemmas.{length-header_bytes}
+use Rattle.bolt_format.proofs.WrittenHeaders.{length-header_bytes}
+use Rattle.bolt_format.specs.declared.kind.Kind.TheVariants as kind
 use Rattle.bolt_bulk.proofs.PutParts.{filled_pieces, zeros}
 use Rattle.bolt_bulk.proofs.ElementPuts.{HeadsPut, data_of, headers_of, heads_next}
 
@@ -15,7 +17,7 @@ abbrev pub no_branch : Branch
 no_branch = record { key = record { ref_ptr = (0, 0); now = [] }; child = 0 }
 
 abbrev pub head_of : ℕ → Branch → List ℕ
-head_of pos x = branch_header pos (branch_view x)
+head_of pos x = branch_header pos (length x.key.now) x.child
 
 abbrev pub key_of : Branch → List ℕ
 key_of x = x.key.now
@@ -24,8 +26,8 @@ pub branch_heads : (xs : List Branch) (before : ℕ) → headers_of head_of key_
 branch_heads [] before = refl
 branch_heads (x ∷ xs) before =
     let n : length xs ≡ length (map branch_view xs) = sym (length-map xs branch_view) in
-    ap (λ (m : ℕ). branch_header (16 * suc m + before) (branch_view x) ++ headers_of head_of key_of (before + length x.key.now) xs) n
-    ∙ ap (λ (t : List ℕ). branch_header (16 * suc (length (map branch_view xs)) + before) (branch_view x) ++ t) (branch_heads xs (before + length x.key.now))
+    ap (λ (m : ℕ). head_of (16 * suc m + before) x ++ headers_of head_of key_of (before + length x.key.now) xs) n
+    ∙ ap (λ (t : List ℕ). head_of (16 * suc (length (map branch_view xs)) + before) x ++ t) (branch_heads xs (before + length x.key.now))
 
 pub branch_datum : (xs : List Branch) → data_of key_of xs ≡ branch_data (map branch_view xs)
 branch_datum [] = refl
@@ -33,26 +35,26 @@ branch_datum (x ∷ xs) = ap (λ (t : List ℕ). x.key.now ++ t) (branch_datum x
 
 -- The pieces of a branch page.
 pub branch_page_pieces : (page_size number further size : ℕ) (xs : List Branch) → size ≡ 16 + (16 * length xs + length (branch_data (map branch_view xs)))
-    → header_bytes number 1 (length xs) further ++ (branch_headers 0 (map branch_view xs) ++ (branch_data (map branch_view xs) ++ zeros ((1 + further) * page_size - size)))
+    → header_bytes number kind.Branch (length xs) further ++ (branch_headers 0 (map branch_view xs) ++ (branch_data (map branch_view xs) ++ zeros ((1 + further) * page_size - size)))
     ≡ page_bytes page_size number (branch_page_view further (map branch_view xs))
 unfolding page_bytes branch_bytes
 branch_page_pieces page_size number further size xs same =
     let es : List BranchElement = map branch_view xs in
     let n : ℕ = (1 + further) * page_size in
     let count : length xs ≡ length es = sym (length-map xs branch_view) in
-    let a = length-header_bytes number 1 (length es) further in
+    let a = length-header_bytes number kind.Branch (length es) further in
     let b = length-branch_headers 0 es in
-    ap (λ (m : ℕ). header_bytes number 1 m further ++ (branch_headers 0 es ++ (branch_data es ++ zeros (n - size)))) count
-    ∙ filled_pieces n size (header_bytes number 1 (length es) further) (branch_headers 0 es) (branch_data es) (omega arith)
+    ap (λ (m : ℕ). header_bytes number kind.Branch m further ++ (branch_headers 0 es ++ (branch_data es ++ zeros (n - size)))) count
+    ∙ filled_pieces n size (header_bytes number kind.Branch (length es) further) (branch_headers 0 es) (branch_data es) (omega arith)
 
 -- what is known of the next header, if all headers and keys are small
 pub record NextBranch (x : Branch) (pos : ℕ) : Type 0 where
   pub low : 16 ≤ pos
   pub fits : pos + length x.key.now < 4294967296
 
-pub next_branch : {S : Type 0} {taken : S → Option (List ℕ)} {failed : S → ℕ} (old new : S) (row : List ℕ) (xs : List Branch) (i pos : ℕ) → i < length xs
-    → HeadsPut head_of key_of taken failed old new row xs i pos → 16 * length xs + length (branch_data (map branch_view xs)) < 4294967296 → NextBranch (get_or xs i no_branch) pos
-next_branch old new row xs i pos h put small =
-    let next = heads_next old new row xs i pos no_branch (get_or xs i no_branch) h refl put in
+pub next_branch : {S : Type 0} {taken : S → Option (List ℕ)} {failed : S → ℕ} (old new : S) (buffer : List ℕ) (xs : List Branch) (i pos : ℕ) → i < length xs
+    → HeadsPut head_of key_of taken failed old new buffer xs i pos → 16 * length xs + length (branch_data (map branch_view xs)) < 4294967296 → NextBranch (get_or xs i no_branch) pos
+next_branch old new buffer xs i pos h put small =
+    let next = heads_next old new buffer xs i pos no_branch (get_or xs i no_branch) h refl put in
     let same = ap (λ (t : List ℕ). length t) (branch_datum xs) in
     let fits = next.fits in record { low = next.low; fits = omega arith }

@@ -2,8 +2,7 @@
 use Rattle.std.proofs.Common.{◌≡◌, ◌∙◌, ℕ, suc, ◌+◌, ◌<◌, ◌≤◌, true, false, List, [], ◌∷◌, ◌++◌, length, map, take, drop, get_or, set, if◌then◌else◌, zero, add-one, Option, Some, None, option_map, Ok, Err, refl, sym, ap, subst, inl, inr, arith, append_assoc}
 use Rattle.std.specs.List.{AllByRecursion}
 use Rattle.std.proofs.lemmas.Bool.{cases_Bool}
-use Rattle.std.proofs.lemmas.List.{length-map, drop_all, drop_more, drop-set-lt, set_split}
-use Rattle.std.proofs.Math.Seq.{take-length}
+use Rattle.std.proofs.lemmas.List.{length-map, drop_more, drop-set-lt, set_split}
 use Rattle.std.proofs.Math.ListN.{get_or-map}
 use Rattle.bolt_format.specs.ElementPlaces.{branch_view}
 use Rattle.bolt_format.specs.Elements.{BranchElement}
@@ -142,19 +141,6 @@ climb_large page_size limit fresh key e0 n0 rows0 old mid rows i e next none row
     let at : drop i rows ≡ row ∷ drop (i + 1) rows = drop_more rows i none h ∙ ap (λ (r : BranchRow). r ∷ drop (i + 1) rows) same in
     let g = taking_grows page_size key e next row (drop (i + 1) rows) in
     let n = c.nexts ∙ ap (λ (rs : List BranchRow). rows_next page_size key e next rs) at in omega arith
-
--- past the last run a new one takes the element
-pub climb_tops : {S B : Type 0} {taken : S → Option (List ℕ)} {failed : S → ℕ} (page_size : ℕ) (fresh : Option ℕ) (key : List ℕ) (e0 : BranchElement) (n0 : ℕ) (rows0 : List BranchRow) (old new : S) (rows : List BranchRow) (i : ℕ)
-    (e : BranchElement) (next : ℕ) (b : B) → i ≡ length rows → Climbing page_size fresh key e0 n0 rows0 taken failed old new rows i e next
-    → (rows_climb page_size fresh key e0 n0 rows0 ≡ rows ++ row_push (no_row fresh 0) e ∷ []) × (rows_next page_size key e0 n0 rows0 ≡ next)
-    × Puts taken failed old new (placed_bytes page_size (rows_put page_size key e0 n0 rows0)) (Ok b)
-climb_tops page_size fresh key e0 n0 rows0 old new rows i e next b top c =
-    let none : drop i rows ≡ [] = drop_all i rows (omega arith) in
-    let all : take i rows ≡ rows = ap (λ (n : ℕ). take n rows) top ∙ take-length rows in (
-      c.climbs ∙ (ap (λ (rs : List BranchRow). take i rows ++ rows_climb page_size fresh key e next rs) none ∙ ap (λ (rs : List BranchRow). rs ++ row_push (no_row fresh 0) e ∷ []) all),
-      c.nexts ∙ ap (λ (rs : List BranchRow). rows_next page_size key e next rs) none,
-      puts_whole old new _ _ b (ap (λ (rs : List BranchRow). placed_bytes page_size (rows_put page_size key e next rs)) none) c.front,
-    )
 
 -- the same of the runs that the code keeps
 pub row_at : (runs : List BranchRun) (i : ℕ) (run : BranchRun) → i < length runs → run ≡ get_or runs i run → get_or (map row_of runs) i (row_of run) ≡ row_of run

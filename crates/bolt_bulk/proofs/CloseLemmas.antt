@@ -1,6 +1,6 @@
 -- The end of a bucket: its open runs close, one after another.
-use Rattle.std.proofs.Common.{◌≡◌, ◌∙◌, ℕ, ◌+◌, ◌<◌, ◌≤◌, List, [], ◌∷◌, ◌++◌, length, drop, get_or, set, Option, Ok, Err, refl, sym, ap, subst, arith}
-use Rattle.std.proofs.lemmas.List.{drop_all, drop_more, drop-set-lt}
+use Rattle.std.proofs.Common.{◌≡◌, ◌∙◌, ℕ, ◌+◌, ◌<◌, ◌≤◌, List, [], ◌∷◌, ◌++◌, length, drop, get_or, set, Option, Ok, Err, sym, ap, subst, arith}
+use Rattle.std.proofs.lemmas.List.{drop_more, drop-set-lt}
 use Rattle.bolt_format.specs.Elements.{BranchElement}
 use Rattle.bolt_format.specs.Sinks.{AppendsProperBeginning}
 use Rattle.bolt_layout.specs.Levels.{overflow_of}
@@ -9,7 +9,7 @@ use Rattle.bolt_bulk.specs.Private.BranchRuns.{element_up, rows_end_next}
 use Rattle.bolt_bulk.specs.Puts.{Puts}
 use Rattle.bolt_bulk.specs.Private.Rows.{BranchRow, row_page, row_push, rows_close_put, rows_root}
 use Rattle.bolt_bulk.specs.declared.fault.BulkFault.{BulkFault}
-use Rattle.bolt_bulk.proofs.PutsLemmas.{PutsFront, bytes-append, front_none, front_puts, puts_stop, puts_whole, short_stop}
+use Rattle.bolt_bulk.proofs.PutsLemmas.{PutsFront, bytes-append, front_puts, puts_stop, short_stop}
 
 -- The whole end, from an element, a number and rows; and the end that is left, from the rows from number i on.
 pub record Closing {S : Type 0} (page_size : ℕ) (e0 : BranchElement) (n0 : ℕ) (rows0 : List BranchRow) (taken : S → Option (List ℕ)) (failed : S → ℕ) (old new : S)
@@ -17,10 +17,6 @@ pub record Closing {S : Type 0} (page_size : ℕ) (e0 : BranchElement) (n0 : ℕ
   pub roots : rows_root page_size e0 n0 rows0 ≡ rows_root page_size e next (drop i rows)
   pub nexts : rows_end_next page_size e0 n0 rows0 ≡ rows_end_next page_size e next (drop i rows)
   pub front : PutsFront taken failed old new (placed_bytes page_size (rows_close_put page_size e0 n0 rows0)) (placed_bytes page_size (rows_close_put page_size e next (drop i rows)))
-
-pub close_begins : {S : Type 0} {taken : S → Option (List ℕ)} {failed : S → ℕ} (page_size : ℕ) (e : BranchElement) (next : ℕ) (rows : List BranchRow) (old : S)
-    → Closing page_size e next rows taken failed old old rows 0 e next
-close_begins page_size e next rows old = record { roots = refl; nexts = refl; front = front_none old (placed_bytes page_size (rows_close_put page_size e next rows)) }
 
 at_row : (rows : List BranchRow) (i : ℕ) (none row : BranchRow) → i < length rows → get_or rows i none ≡ row → drop i rows ≡ row ∷ drop (i + 1) rows
 at_row rows i none row h same = drop_more rows i none h ∙ ap (λ (r : BranchRow). r ∷ drop (i + 1) rows) same
@@ -79,14 +75,3 @@ pub close_large : {S : Type 0} {taken : S → Option (List ℕ)} {failed : S →
 close_large page_size limit e0 n0 rows0 old mid rows i e next none row h same c large =
     let n = c.nexts ∙ ap (λ (rs : List BranchRow). rows_end_next page_size e next rs) (at_row rows i none row h same) in
     let g = end_grows page_size (element_up e next row) (next + (1 + overflow_of page_size (row_push row e).size)) (drop (i + 1) rows) in omega arith
-
--- after the last run all is closed
-pub close_ends : {S B : Type 0} {taken : S → Option (List ℕ)} {failed : S → ℕ} (page_size : ℕ) (e0 : BranchElement) (n0 : ℕ) (rows0 : List BranchRow) (old new : S) (rows : List BranchRow) (i : ℕ)
-    (e : BranchElement) (next : ℕ) (b : B) → length rows ≤ i → Closing page_size e0 n0 rows0 taken failed old new rows i e next
-    → (e.child ≡ rows_root page_size e0 n0 rows0) × (next ≡ rows_end_next page_size e0 n0 rows0) × Puts taken failed old new (placed_bytes page_size (rows_close_put page_size e0 n0 rows0)) (Ok b)
-close_ends page_size e0 n0 rows0 old new rows i e next b h c =
-    let none : drop i rows ≡ [] = drop_all i rows h in (
-      sym (c.roots ∙ ap (λ (rs : List BranchRow). rows_root page_size e next rs) none),
-      sym (c.nexts ∙ ap (λ (rs : List BranchRow). rows_end_next page_size e next rs) none),
-      puts_whole old new _ _ b (ap (λ (rs : List BranchRow). placed_bytes page_size (rows_close_put page_size e next rs)) none) c.front,
-    )

@@ -15,7 +15,8 @@ use Rattle.bolt_bulk.specs.declared.fault.PlanFault.{PlanFault}
 use Rattle.bolt_bulk.specs.declared.fault.PlanFault.TheVariants as planned
 use Rattle.bolt_bulk.specs.declared.outcome.Done.{Done}
 use Rattle.bolt_bulk.specs.Private.Stops.{stopped_by}
-use Rattle.bolt_bulk.proofs.PutsLemmas.{proper_first, proper_none, proper_same, proper_second}
+use Rattle.bolt_bulk.proofs.PutsLemmas.{proper_none, proper_same}
+use Rattle.bolt_bulk.proofs.WholePuts.{proper_first, proper_second}
 use Rattle.bolt_layout.specs.declared.layout.Layout.{Layout}
 
 pub layout_parts : (which : Layout) (page_size : ℕ) (tree : Tree) (sequence root mark : ℕ) → root ≡ layout_root which page_size tree → mark ≡ layout_mark which page_size tree

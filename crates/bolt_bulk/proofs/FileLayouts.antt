@@ -12,7 +12,7 @@ use Rattle.bolt_layout.specs.Copies.{IsAsked, IsOfOneTree, IsSoundCopy, RefusesB
 use Rattle.bolt_layout.specs.Layout.{layout_held, layout_mark, layout_of, layout_root}
 use Rattle.bolt_bulk.specs.Private.Endings.{IsFitMember}
 use Rattle.bolt_layout.specs.Storable.{IsStorable}
-use Rattle.bolt_layout.proofs.MetaLemmas.{size_bounds}
+use Rattle.bolt_format.proofs.PageSizes.{size_bounds}
 use Rattle.bolt_bulk.proofs.PassEnds.{members_fit}
 use Rattle.bolt_layout.specs.declared.layout.Layout.{Layout}
 use Rattle.bolt_layout.specs.declared.layout.Layout.TheVariants.{Balanced, Plain}

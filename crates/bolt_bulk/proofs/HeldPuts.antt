@@ -8,7 +8,7 @@ use Rattle.bolt_bulk.specs.declared.held.Stored.{Stored}
 use Rattle.bolt_bulk.specs.declared.held.Stored.TheVariants as stored
 use Rattle.bolt_bulk.specs.Private.HeldItems.{AreHeld, IsHeld, IsInlined, IsStored, stored_value}
 use Rattle.bolt_bulk.proofs.LeafPuts.{length-inline_value}
-use Rattle.bolt_layout.proofs.PageLemmas.{length-root_value}
+use Rattle.bolt_format.proofs.WrittenHeaders.{length-head_bytes}
 
 -- what stands for an entry or an item past the end
 abbrev pub no_entry : Leaf
@@ -28,7 +28,7 @@ length-entries inlined first count there =
     let rest = length-drop first inlined in length-take-le count (drop first inlined) (omega arith)
 
 pub root_len : (inlined : List Leaf) (s : Stored) (page sequence : ℕ) → s ≡ stored.Root page sequence → 16 ≡ length (stored_value inlined s)
-root_len inlined s page sequence e = sym (ap (λ (x : Stored). length (stored_value inlined x)) e ∙ length-root_value page sequence)
+root_len inlined s page sequence e = sym (ap (λ (x : Stored). length (stored_value inlined x)) e ∙ length-head_bytes page sequence)
 
 pub inline_len : (inlined : List Leaf) (s : Stored) (sequence first count size : ℕ) → s ≡ stored.Inline sequence first count size → IsStored inlined s
     → size ≡ length (stored_value inlined s)

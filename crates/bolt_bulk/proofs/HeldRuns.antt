@@ -6,16 +6,16 @@ use Rattle.std.proofs.lemmas.List.{drop-append-le, length-append, length-drop, l
 use Rattle.bolt_format.specs.ElementPlaces.{leaf_view}
 use Rattle.bolt_format.specs.Elements.{LeafElement}
 use Rattle.bolt_format.specs.declared.element.Leaf.{Leaf}
-use Rattle.bolt_layout.specs.PageBytes.{header_bytes, inline_value, leaf_bytes, leaf_data, root_value}
+use Rattle.bolt_format.specs.Written.{header_bytes, head_bytes}
+use Rattle.bolt_layout.specs.PageBytes.{inline_value, leaf_bytes, leaf_data}
 use Rattle.bolt_bulk.specs.Private.HeldItems.{AreHeld, IsHeld, IsInlined, IsStored, entries_in, held_view, held_views, inlined_by, inlined_in, is_stored_bucket, page_size_of, stored_value, value_item}
-use Rattle.bolt_bulk.specs.Private.OpenBuckets.{IsLeafRun}
 use Rattle.bolt_bulk.specs.Private.TakenItems.{entries_size, inline_element, inline_size}
 use Rattle.bolt_bulk.specs.declared.held.Held.{Held}
 use Rattle.bolt_bulk.specs.declared.held.Stored.{Stored}
 use Rattle.bolt_bulk.specs.declared.held.Stored.TheVariants as stored
-use Rattle.bolt_bulk.specs.declared.leaf_run.LeafRun.{LeafRun}
 use Rattle.bolt_layout.proofs.ListLemmas.{all_append}
-use Rattle.bolt_layout.proofs.PageLemmas.{length-header_bytes, length-root_value}
+use Rattle.bolt_format.proofs.WrittenHeaders.{length-header_bytes, length-head_bytes}
+use Rattle.bolt_format.specs.declared.kind.Kind.TheVariants as kind
 use Rattle.bolt_layout.proofs.SpanLemmas.{length-leaf_bytes}
 
 -- what is known of a run of items
@@ -113,11 +113,11 @@ entries_at inlined entries row first behind at =
 pub length-inline_value : (sequence : ℕ) (entries : List LeafElement) → length (inline_value sequence entries) ≡ inline_size entries
 unfolding inline_value
 length-inline_value sequence entries =
-    let root = length-root_value 0 sequence in
-    let head = length-header_bytes 0 2 (length entries) 0 in
+    let root = length-head_bytes 0 sequence in
+    let head = length-header_bytes 0 kind.Leaf (length entries) 0 in
     let all = length-leaf_bytes entries in
-    let a = length-append (root_value 0 sequence) (header_bytes 0 2 (length entries) 0 ++ leaf_bytes entries) in
-    let b = length-append (header_bytes 0 2 (length entries) 0) (leaf_bytes entries) in omega arith
+    let a = length-append (head_bytes 0 sequence) (header_bytes 0 kind.Leaf (length entries) 0 ++ leaf_bytes entries) in
+    let b = length-append (header_bytes 0 kind.Leaf (length entries) 0) (leaf_bytes entries) in omega arith
 
 -- such a bucket is an item,
 pub added_held : (inlined entries row : List Leaf) (first size : ℕ) → row ≡ inlined ++ entries → first ≡ length inlined → length entries < 65535 → size ≡ inline_size (map leaf_view entries) → size < 4294967296
@@ -168,12 +168,6 @@ data_least inlined (x ∷ items) all =
     let v = value_least inlined x.stored all.0.1 in
     let a = length-append x.key.now (stored_value inlined x.stored ++ leaf_data (held_views inlined items)) in
     let b = length-append (stored_value inlined x.stored) (leaf_data (held_views inlined items)) in omega arith
-
-pub held_least : (run : LeafRun) → IsLeafRun run → 16 + 16 * (length run.items.items + length run.inlined.items) ≤ run.size
-held_least run is =
-    let d = data_least run.inlined.items run.items.items is.held in
-    let s = is.sized in
-    let n = is.inlined in omega arith
 
 -- The items of values are these values,
 pub values_view : (entries : List Leaf) → AllByRecursion (λ (entry : Leaf). entry.is_bucket ≡ false) entries → held_views [] (map value_item entries) ≡ map leaf_view entries

@@ -18,8 +18,8 @@ use Rattle.bolt_bulk.specs.Private.OpenRuns.{climb, close, end_of, Frame, has_ro
 use Rattle.bolt_bulk.specs.Private.Passes.{AreWaiting}
 use Rattle.bolt_bulk.specs.declared.branch_runs.BranchRun.{BranchRun}
 use Rattle.bolt_bulk.specs.declared.open_bucket.OpenBucket.{OpenBucket}
-use Rattle.bolt_bulk.specs.declared.waiting.Waiting.{Waiting}
-use Rattle.bolt_bulk.proofs.RowLemmas.{length-elements}
+use Rattle.bolt_bulk.specs.declared.waiting_bucket.WaitingBucket.{WaitingBucket}
+use Rattle.bolt_layout.proofs.LaidItems.{length-elements}
 
 -- ---- runs
 
@@ -189,7 +189,7 @@ items_length bucket next b state rows =
     let e = ap (λ (es : List LeafElement). length es) rows.same in
     let k = length-elements state.run (b + numbers_in state.uppers) in omega arith
 
-pub around_length : (ws : List Waiting) (frames : List Frame) → AreWaiting ws frames → items_around ws ≡ length_frames frames
+pub around_length : (ws : List WaitingBucket) (frames : List Frame) → AreWaiting ws frames → items_around ws ≡ length_frames frames
 around_length [] [] waits = refl
 around_length [] (frame ∷ frames) waits = absurd waits
 around_length (w ∷ ws) [] waits = absurd waits

@@ -3,14 +3,16 @@ use Rattle.std.proofs.Common.{◌≡◌, ◌∙◌, ℕ, suc, ◌+◌, ◌-◌, 
 use Rattle.std.proofs.lemmas.List.{length-append, length-map}
 use Rattle.bolt_format.specs.Elements.{LeafElement}
 use Rattle.bolt_layout.specs.Levels.{leaf_view as leaf_page_view}
-use Rattle.bolt_layout.specs.PageBytes.{header_bytes, inline_value, leaf_bytes, leaf_data, leaf_header, leaf_headers, page_bytes, root_value}
+use Rattle.bolt_format.specs.Written.{header_bytes, leaf_header, head_bytes}
+use Rattle.bolt_layout.specs.PageBytes.{inline_value, leaf_bytes, leaf_data, leaf_headers, page_bytes}
 use Rattle.bolt_layout.proofs.LeafLemmas.{length-leaf_headers}
-use Rattle.bolt_layout.proofs.PageLemmas.{length-header_bytes, length-root_value}
+use Rattle.bolt_format.proofs.WrittenHeaders.{length-header_bytes, length-head_bytes}
+use Rattle.bolt_format.specs.declared.kind.Kind.TheVariants as kind
 use Rattle.bolt_bulk.proofs.PutParts.{filled_pieces, zeros}
 use Rattle.bolt_bulk.proofs.ElementPuts.{HeadsPut, data_of, headers_of, heads_next}
 
 abbrev pub head_of : {X : Type 0} → (X → LeafElement) → ℕ → X → List ℕ
-head_of view pos x = leaf_header pos (view x)
+head_of view pos x = leaf_header (view x).is_bucket pos (length (view x).key) (length (view x).value)
 
 abbrev pub datum_of : {X : Type 0} → (X → LeafElement) → X → List ℕ
 datum_of view x = (view x).key ++ (view x).value
@@ -20,9 +22,9 @@ leaf_heads view [] before = refl
 leaf_heads {X} view (x ∷ xs) before =
     let n : length xs ≡ length (map view xs) = sym (length-map xs view) in
     let d : length (datum_of view x) ≡ length (view x).key + length (view x).value = length-append (view x).key (view x).value in
-    ap (λ (m : ℕ). leaf_header (16 * suc m + before) (view x) ++ headers_of (head_of view) (datum_of view) (before + length (datum_of view x)) xs) n
-    ∙ (ap (λ (t : List ℕ). leaf_header (16 * suc (length (map view xs)) + before) (view x) ++ t) (leaf_heads view xs (before + length (datum_of view x)))
-    ∙ ap (λ (m : ℕ). leaf_header (16 * suc (length (map view xs)) + before) (view x) ++ leaf_headers (before + m) (map view xs)) d)
+    ap (λ (m : ℕ). head_of view (16 * suc m + before) x ++ headers_of (head_of view) (datum_of view) (before + length (datum_of view x)) xs) n
+    ∙ (ap (λ (t : List ℕ). head_of view (16 * suc (length (map view xs)) + before) x ++ t) (leaf_heads view xs (before + length (datum_of view x)))
+    ∙ ap (λ (m : ℕ). head_of view (16 * suc (length (map view xs)) + before) x ++ leaf_headers (before + m) (map view xs)) d)
 
 pub leaf_datum : {X : Type 0} (view : X → LeafElement) (xs : List X) → data_of (datum_of view) xs ≡ leaf_data (map view xs)
 leaf_datum view [] = refl
@@ -30,36 +32,36 @@ leaf_datum view (x ∷ xs) = ap (λ (t : List ℕ). datum_of view x ++ t) (leaf_
 
 -- The pieces of a leaf page.
 pub leaf_page_pieces : {X : Type 0} (view : X → LeafElement) (page_size number further size : ℕ) (xs : List X) → size ≡ 16 + (16 * length xs + length (leaf_data (map view xs)))
-    → header_bytes number 2 (length xs) further ++ (leaf_headers 0 (map view xs) ++ (leaf_data (map view xs) ++ zeros ((1 + further) * page_size - size)))
+    → header_bytes number kind.Leaf (length xs) further ++ (leaf_headers 0 (map view xs) ++ (leaf_data (map view xs) ++ zeros ((1 + further) * page_size - size)))
     ≡ page_bytes page_size number (leaf_page_view further (map view xs))
 unfolding page_bytes leaf_bytes
 leaf_page_pieces view page_size number further size xs same =
     let es : List LeafElement = map view xs in
     let n : ℕ = (1 + further) * page_size in
     let count : length xs ≡ length es = sym (length-map xs view) in
-    let a = length-header_bytes number 2 (length es) further in
+    let a = length-header_bytes number kind.Leaf (length es) further in
     let b = length-leaf_headers 0 es in
-    ap (λ (m : ℕ). header_bytes number 2 m further ++ (leaf_headers 0 es ++ (leaf_data es ++ zeros (n - size)))) count
-    ∙ filled_pieces n size (header_bytes number 2 (length es) further) (leaf_headers 0 es) (leaf_data es) (omega arith)
+    ap (λ (m : ℕ). header_bytes number kind.Leaf m further ++ (leaf_headers 0 es ++ (leaf_data es ++ zeros (n - size)))) count
+    ∙ filled_pieces n size (header_bytes number kind.Leaf (length es) further) (leaf_headers 0 es) (leaf_data es) (omega arith)
 
 -- The pieces of an inline value, and its length.
 pub inline_pieces : {X : Type 0} (view : X → LeafElement) (sequence : ℕ) (xs : List X)
-    → root_value 0 sequence ++ (header_bytes 0 2 (length xs) 0 ++ (leaf_headers 0 (map view xs) ++ leaf_data (map view xs))) ≡ inline_value sequence (map view xs)
+    → head_bytes 0 sequence ++ (header_bytes 0 kind.Leaf (length xs) 0 ++ (leaf_headers 0 (map view xs) ++ leaf_data (map view xs))) ≡ inline_value sequence (map view xs)
 unfolding inline_value leaf_bytes
 inline_pieces view sequence xs =
     let es : List LeafElement = map view xs in
-    ap (λ (m : ℕ). root_value 0 sequence ++ (header_bytes 0 2 m 0 ++ (leaf_headers 0 es ++ leaf_data es))) (sym (length-map xs view))
+    ap (λ (m : ℕ). head_bytes 0 sequence ++ (header_bytes 0 kind.Leaf m 0 ++ (leaf_headers 0 es ++ leaf_data es))) (sym (length-map xs view))
 
 pub length-inline_value : {X : Type 0} (view : X → LeafElement) (sequence : ℕ) (xs : List X) → length (inline_value sequence (map view xs)) ≡ 32 + (16 * length xs + length (leaf_data (map view xs)))
 length-inline_value view sequence xs =
     let es : List LeafElement = map view xs in
     let p = ap (λ (t : List ℕ). length t) (inline_pieces view sequence xs) in
-    let a = length-root_value 0 sequence in
-    let b = length-header_bytes 0 2 (length xs) 0 in
+    let a = length-head_bytes 0 sequence in
+    let b = length-header_bytes 0 kind.Leaf (length xs) 0 in
     let c = length-leaf_headers 0 es in
     let l = length-map xs view in
-    let d = length-append (root_value 0 sequence) (header_bytes 0 2 (length xs) 0 ++ (leaf_headers 0 es ++ leaf_data es)) in
-    let e = length-append (header_bytes 0 2 (length xs) 0) (leaf_headers 0 es ++ leaf_data es) in
+    let d = length-append (head_bytes 0 sequence) (header_bytes 0 kind.Leaf (length xs) 0 ++ (leaf_headers 0 es ++ leaf_data es)) in
+    let e = length-append (header_bytes 0 kind.Leaf (length xs) 0) (leaf_headers 0 es ++ leaf_data es) in
     let f = length-append (leaf_headers 0 es) (leaf_data es) in omega arith
 
 -- what is known of the next header, if all headers and data are small
@@ -67,12 +69,12 @@ pub record NextLeaf (e : LeafElement) (pos : ℕ) : Type 0 where
   pub low : 16 ≤ pos
   pub fits : pos + (length e.key + length e.value) < 4294967296
 
-pub next_leaf : {S X : Type 0} {taken : S → Option (List ℕ)} {failed : S → ℕ} (view : X → LeafElement) (old new : S) (row : List ℕ) (xs : List X) (i pos : ℕ) (none : X) → i < length xs
-    → HeadsPut (head_of view) (datum_of view) taken failed old new row xs i pos → 16 * length xs + length (leaf_data (map view xs)) < 4294967296
+pub next_leaf : {S X : Type 0} {taken : S → Option (List ℕ)} {failed : S → ℕ} (view : X → LeafElement) (old new : S) (buffer : List ℕ) (xs : List X) (i pos : ℕ) (none : X) → i < length xs
+    → HeadsPut (head_of view) (datum_of view) taken failed old new buffer xs i pos → 16 * length xs + length (leaf_data (map view xs)) < 4294967296
     → NextLeaf (view (get_or xs i none)) pos
-next_leaf {X} view old new row xs i pos none h put small =
+next_leaf {X} view old new buffer xs i pos none h put small =
     let x : X = get_or xs i none in
-    let next = heads_next old new row xs i pos none x h refl put in
+    let next = heads_next old new buffer xs i pos none x h refl put in
     let same = ap (λ (t : List ℕ). length t) (leaf_datum view xs) in
     let d = length-append (view x).key (view x).value in
     let fits = next.fits in record { low = next.low; fits = omega arith }

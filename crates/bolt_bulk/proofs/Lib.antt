@@ -7,7 +7,6 @@ mod ElementPuts
 mod FileLayouts
 mod FirstPuts
 mod Frames
-mod FullPages
 mod HeldPasses
 mod HeldPuts
 mod HeldRuns
@@ -17,7 +16,6 @@ mod LimitLemmas
 mod Members
 mod Ontos
 mod Openings
-mod OpenRowLemmas
 mod OpenRunLemmas
 mod PassAt
 mod PassEnds
@@ -28,7 +26,7 @@ mod PassSteps
 mod PutBefore
 mod PutParts
 mod PutsLemmas
-mod RowLemmas
+mod RowsAreRuns
 mod RunLemmas
 mod Tables
 mod ToldRuns

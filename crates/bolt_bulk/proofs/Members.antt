@@ -26,10 +26,6 @@ left_entered levels key sequence inside after =
     let own : Path = path_in levels ++ key ∷ [] in
     ap (λ (ms : List Member). (own, Bucket sequence) ∷ ms) (append_assoc (listing_below own inside) (listing_below (path_in levels) after) (behind_in levels))
 
--- and left
-pub left_left : (level : Level) (levels : List Level) → left_in (level ∷ levels) end ≡ left_in levels level.after
-left_left level levels = refl
-
 first_is : (path : Path) (item : Item) (member : Member) (xs ys : List Member) → (path, item) ∷ xs ≡ member ∷ ys → path ≡ member.0
 first_is path item member xs ys e = let same : (path, item) ≡ member = cc in ap (λ (m : Member). m.0) same
 

@@ -1,6 +1,6 @@
 -- The steps of a pass, over what the code keeps of it.
 use Rattle.std.proofs.Common.{◌≡◌, ◌∙◌, ℕ, suc, ◌+◌, ◌<◌, true, false, List, [], ◌∷◌, ◌++◌, length, map, max, min, reverse, Option, Some, None, Result, Ok, Err, Bor, Vec, Global, refl, sym, ap, subst, arith, append_assoc}
-use Rattle.std.specs.Prelude.{⊤, IfErr, IfOk, OnOk}
+use Rattle.std.specs.Prelude.{⊤, IfErr, OnOk}
 use Rattle.std.specs.List.{AllByRecursion}
 use Rattle.std.proofs.KnownBytes.{Appends-nil}
 use Rattle.std.proofs.lemmas.List.{append-nil, length-map, map-append, reverse-append}
@@ -30,8 +30,8 @@ use Rattle.bolt_bulk.specs.declared.fault.BulkFault.{BulkFault}
 use Rattle.bolt_bulk.specs.declared.fault.BulkFault.TheVariants as fault
 use Rattle.bolt_bulk.specs.declared.open_bucket.OpenBucket.{OpenBucket}
 use Rattle.bolt_bulk.specs.declared.pass.Pass.{Pass}
-use Rattle.bolt_bulk.specs.declared.pending.Pending.{Pending}
-use Rattle.bolt_bulk.specs.declared.waiting.Waiting.{Waiting}
+use Rattle.bolt_bulk.specs.declared.pending_bucket.PendingBucket.{PendingBucket}
+use Rattle.bolt_bulk.specs.declared.waiting_bucket.WaitingBucket.{WaitingBucket}
 use Rattle.bolt_bulk.proofs.Frames.{waiting}
 use Rattle.bolt_bulk.proofs.HeldPasses.{around_reverse}
 use Rattle.bolt_bulk.proofs.HeldSteps.{around_length, enters_held, items_length, leaves_held, takes_held}
@@ -44,8 +44,7 @@ use Rattle.bolt_bulk.specs.declared.told.Told.{Told}
 use Rattle.bolt_bulk.proofs.Tables.{BucketEnds, numbered_same, opened_most, room_known, told_enters, told_leaves}
 use Rattle.bolt_bulk.proofs.Openings.{around_at, coming_at, coming_onto, opened_inline, opened_onto, opened_rooted}
 use Rattle.bolt_bulk.proofs.PassSteps.{IsOn, inline_item, on_before, on_enters, on_leaves, on_numbers, on_takes, open_values, pass_takes_all, root_item, values_put, values_rows}
-use Rattle.bolt_bulk.proofs.PutBefore.{bytes-append}
-use Rattle.bolt_bulk.proofs.PutsLemmas.{puts_then}
+use Rattle.bolt_bulk.proofs.PutsLemmas.{bytes-append, puts_then}
 
 -- ---- results
 
@@ -60,10 +59,6 @@ on_ok_both (Err e) p q f = tt
 pub if_err_map : {A E : Type 0} {P Q : E → Type 0} (result : Result A E) → IfErr result P → ((e : E) → P e → Q e) → IfErr result Q
 if_err_map (Ok x) p f = tt
 if_err_map (Err e) p f = f e p
-
-pub if_ok_map : {A E : Type 0} {P Q : A → Type 0} (result : Result A E) → IfOk result P → ((x : A) → P x → Q x) → IfOk result Q
-if_ok_map (Ok x) p f = f x p
-if_ok_map (Err e) p f = tt
 
 -- ---- sinks
 
@@ -139,20 +134,20 @@ pub on_of : (wanted : Wanted) (pass : Pass) (levels : List Level) (left : Tree) 
     → (levels ≡ map level_of is.frames) × IsOn wanted.which pass.setup.page_size wanted.tree is.frames is.state (items_of wanted.which pass.setup.page_size left) (rows_of pass.bucket pass.next) put
     × IsComingFor wanted pass is.opened left is.frames
 on_of wanted pass levels left put is none =
-    let (same, rest) = subst (λ (p : Option Pending). IsPending p pass.entries.items (map level_of is.frames) is.rest levels left) none is.pends in
+    let (same, rest) = subst (λ (p : Option PendingBucket). IsPending p pass.entries.items (map level_of is.frames) is.rest levels left) none is.pends in
     let under = subst (λ (t : Tree). IsPass wanted.which pass.setup.page_size is.frames is.state (items_of wanted.which pass.setup.page_size t) (root_of wanted.which pass.setup.page_size wanted.tree)) rest is.under in
     (same, record { under = under; rows_are = is.rows; put_is = is.put_is }, coming_for wanted pass is.opened is.rest left is.frames rest is.coming is.around)
 
 -- with a bucket that may be inline
-abbrev pub HasPending : (wanted : Wanted) (pass : Pass) (levels : List Level) (left : Tree) (put : List Placed) (is : IsAt wanted pass levels left put) → Pending → Type 0
+abbrev pub HasPending : (wanted : Wanted) (pass : Pass) (levels : List Level) (left : Tree) (put : List Placed) (is : IsAt wanted pass levels left put) → PendingBucket → Type 0
 HasPending wanted pass levels left put is p = (after : Tree)
     × (levels ≡ record { key = p.key.now; after = after } ∷ map level_of is.frames)
     × IsOn wanted.which pass.setup.page_size wanted.tree is.frames is.state (items_of wanted.which pass.setup.page_size (with_bucket p.key.now p.sequence (onto (map leaf_view pass.entries.items) left) after)) (rows_of pass.bucket pass.next) put
     × IsComingFor wanted pass is.opened (with_bucket p.key.now p.sequence (onto (map leaf_view pass.entries.items) left) after) is.frames
 
-pending_of : (wanted : Wanted) (pass : Pass) (levels : List Level) (left : Tree) (put : List Placed) (p : Pending) (is : IsAt wanted pass levels left put) → pass.pending ≡ Some p → HasPending wanted pass levels left put is p
+pending_of : (wanted : Wanted) (pass : Pass) (levels : List Level) (left : Tree) (put : List Placed) (p : PendingBucket) (is : IsAt wanted pass levels left put) → pass.pending ≡ Some p → HasPending wanted pass levels left put is p
 pending_of wanted pass levels left put p is some =
-    let (after, same, rest) = subst (λ (q : Option Pending). IsPending q pass.entries.items (map level_of is.frames) is.rest levels left) some is.pends in
+    let (after, same, rest) = subst (λ (q : Option PendingBucket). IsPending q pass.entries.items (map level_of is.frames) is.rest levels left) some is.pends in
     let under = subst (λ (t : Tree). IsPass wanted.which pass.setup.page_size is.frames is.state (items_of wanted.which pass.setup.page_size t) (root_of wanted.which pass.setup.page_size wanted.tree)) rest is.under in
     (after, same, record { under = under; rows_are = is.rows; put_is = is.put_is }, coming_for wanted pass is.opened is.rest _ is.frames rest is.coming is.around)
 
@@ -194,7 +189,7 @@ shown_values [] all = tt
 shown_values (e ∷ entries) all = (all.0, shown_values entries all.1)
 
 -- what the code counts is what is in the open runs
-counted_items : (frames : List Frame) (state : Open) (waits : List Waiting) (bucket : OpenBucket) (next : ℕ) → AreWaiting (reverse waits) frames → IsOpenRows (rows_of bucket next) state (base_in frames)
+counted_items : (frames : List Frame) (state : Open) (waits : List WaitingBucket) (bucket : OpenBucket) (next : ℕ) → AreWaiting (reverse waits) frames → IsOpenRows (rows_of bucket next) state (base_in frames)
     → items_around waits + items_in bucket ≡ length_frames frames + length_open state
 counted_items frames state waits bucket next are rows =
     let a = around_length (reverse waits) frames are in
@@ -236,7 +231,7 @@ module _ {S : Type 0} (taken : S → Option (List ℕ)) (failed : S → ℕ) (wa
               waits = is.waits;
               put_is = then.put_is;
               held = takes_held P is.frames is.state (leaf_item key value false) pass.most counted.most refl is.held (k.most ∙ ap (λ (n : ℕ). max pass.most (capped n)) count);
-              pends = subst (λ (p : Option Pending). IsPending p pass.entries.items (map level_of is.frames) after levels after) (sym none) (same, refl);
+              pends = subst (λ (p : Option PendingBucket). IsPending p pass.entries.items (map level_of is.frames) after levels after) (sym none) (same, refl);
               opened = is.opened;
               opened_is = is.opened_is;
               coming = right.0;
@@ -250,7 +245,7 @@ module _ {S : Type 0} (taken : S → Option (List ℕ)) (failed : S → ℕ) (wa
       }
 
   -- ---- the end of a bucket that is inline
-  pub inline_steps : {A : Type 0} (level : Level) (levels : List Level) (p : Pending) (size : ℕ) (old new : S) (bucket : OpenBucket) (entries : Vec Leaf Global) (next : ℕ) (counted : Pass) (result : Result A BulkFault)
+  pub inline_steps : {A : Type 0} (level : Level) (levels : List Level) (p : PendingBucket) (size : ℕ) (old new : S) (bucket : OpenBucket) (entries : Vec Leaf Global) (next : ℕ) (counted : Pass) (result : Result A BulkFault)
       → IsAt wanted pass (level ∷ levels) end put → pass.pending ≡ Some p → IsSmall P p pass.entries.items → size ≡ length (inline_value p.sequence (map leaf_view pass.entries.items))
       → Puts taken failed old new (placed_bytes P (rows_room_put P rows_now p.key.now (16 + (length p.key.now + size)))) result
       → OnOk result (rows_of bucket next ≡ rows_taking P rows_now (inline_element p.key.now p.sequence (map leaf_view pass.entries.items)) (16 + (length p.key.now + size)))
@@ -314,17 +309,17 @@ module _ {S : Type 0} (taken : S → Option (List ℕ)) (failed : S → ℕ) (wa
   abbrev known_now : Tree → Known
   known_now left = record { limits = limits_now; leaves = leaf_pages P (items_of wanted.which P (onto (map leaf_view pass.entries.items) left)) }
 
-  abbrev opened_rows : Pending → ℕ → OpenRows
+  abbrev opened_rows : PendingBucket → ℕ → OpenRows
   opened_rows p next = record { leaves = record { elements = map leaf_view pass.entries.items; size = p.size }; uppers = []; limits = limits_now; next = next }
 
   -- where it is then
-  abbrev room_for : Pending → OpenRows
+  abbrev room_for : PendingBucket → OpenRows
   room_for p = rows_room P rows_now p.key.now (32 + length p.key.now)
 
-  abbrev frame_of : Pending → Tree → Tree → Open → Frame
+  abbrev frame_of : PendingBucket → Tree → Tree → Open → Frame
   frame_of p left after state = waiting P state p.key.now p.sequence (root_over wanted.which P (items_of wanted.which P (onto (map leaf_view pass.entries.items) left))) after
 
-  record HasOpened (levels : List Level) (left : Tree) (p : Pending) (is : IsAt wanted pass levels left put) : Type 0 where
+  record HasOpened (levels : List Level) (left : Tree) (p : PendingBucket) (is : IsAt wanted pass levels left put) : Type 0 where
     after : Tree
     same : levels ≡ record { key = p.key.now; after = after } ∷ map level_of is.frames
     outer : IsOpenRows (room_for p) (making_room P is.state p.key.now (32 + length p.key.now)) (base_in is.frames)
@@ -336,7 +331,7 @@ module _ {S : Type 0} (taken : S → Option (List ℕ)) (failed : S → ℕ) (wa
     on : IsOn wanted.which P wanted.tree (frame_of p left after is.state ∷ is.frames) (open_values (known_now left) (value_items (map leaf_view pass.entries.items))) (items_of wanted.which P left) (opened_rows p (room_for p).next)
         (put ++ rows_room_put P rows_now p.key.now (32 + length p.key.now))
 
-  has_opened : (levels : List Level) (left : Tree) (p : Pending) (is : IsAt wanted pass levels left put) → pass.pending ≡ Some p → IsSmall P p pass.entries.items → HasRoot wanted.which P (onto (map leaf_view pass.entries.items) left)
+  has_opened : (levels : List Level) (left : Tree) (p : PendingBucket) (is : IsAt wanted pass levels left put) → pass.pending ≡ Some p → IsSmall P p pass.entries.items → HasRoot wanted.which P (onto (map leaf_view pass.entries.items) left)
       → HasOpened levels left p is
   has_opened levels left p is some small rooted =
       let (after, same, on, right) = pending_of wanted pass levels left put p is some in
@@ -375,7 +370,7 @@ module _ {S : Type 0} (taken : S → Option (List ℕ)) (failed : S → ℕ) (wa
       }
 
   -- a fault on the way
-  pub open_stops : {A : Type 0} (levels : List Level) (left : Tree) (p : Pending) (old new : S) (At : List Placed → Type 0) (e : BulkFault)
+  pub open_stops : {A : Type 0} (levels : List Level) (left : Tree) (p : PendingBucket) (old new : S) (At : List Placed → Type 0) (e : BulkFault)
       → IsAt wanted pass levels left put → pass.pending ≡ Some p → IsSmall P p pass.entries.items → HasRoot wanted.which P (onto (map leaf_view pass.entries.items) left)
       → Puts {A = A} taken failed old new (placed_bytes P (rows_room_put P rows_now p.key.now (32 + length p.key.now))) (Err e)
       → (e ≡ fault.TooLarge → pass.setup.limit < (room_for p).next)
@@ -392,7 +387,7 @@ module _ {S : Type 0} (taken : S → Option (List ℕ)) (failed : S → ℕ) (wa
       }
 
   -- all went well
-  pub open_steps : (levels : List Level) (left : Tree) (p : Pending) (old new : S) (bucket : OpenBucket) (w : Waiting) (around : Vec Waiting Global) (entries : Vec Leaf Global) (next opened held : ℕ) (counted : Pass)
+  pub open_steps : (levels : List Level) (left : Tree) (p : PendingBucket) (old new : S) (bucket : OpenBucket) (w : WaitingBucket) (around : Vec WaitingBucket Global) (entries : Vec Leaf Global) (next opened held : ℕ) (counted : Pass)
       → IsAt wanted pass levels left put → pass.pending ≡ Some p → IsSmall P p pass.entries.items → HasRoot wanted.which P (onto (map leaf_view pass.entries.items) left)
       → Puts {A = ⊤} taken failed old new (placed_bytes P (rows_room_put P rows_now p.key.now (32 + length p.key.now))) (Ok tt)
       → around.items ≡ pass.waiting.items ++ w ∷ [] → rows_of w.bucket next ≡ room_for p → w.key.now ≡ p.key.now → w.sequence ≡ p.sequence → rows_of bucket next ≡ opened_rows p next
@@ -409,7 +404,7 @@ module _ {S : Type 0} (taken : S → Option (List ℕ)) (failed : S → ℕ) (wa
       let values : List (Laid LeafElement) = value_items (map leaf_view pass.entries.items) in
       let here : IsOpenRows (rows_of bucket next) state (base_in frames) = subst (λ (r : OpenRows). IsOpenRows r state (base_in frames)) (sym values_are)
       (values_rows (known_now left) (map leaf_view pass.entries.items) p.size (base_in frames) next then.values small.sized (next_is ∙ then.base)) in
-      let waits : AreWaiting (reverse around.items) frames = subst (λ (ws : List Waiting). AreWaiting ws frames) (sym (ap reverse items ∙ reverse-append pass.waiting.items (w ∷ []))) (
+      let waits : AreWaiting (reverse around.items) frames = subst (λ (ws : List WaitingBucket). AreWaiting ws frames) (sym (ap reverse items ∙ reverse-append pass.waiting.items (w ∷ []))) (
         subst (λ (n : ℕ). IsOpenRows (rows_of w.bucket n) frame.state (base_in is.frames)) (next_is ∙ then.base)
             (subst (λ (n : ℕ). IsOpenRows (rows_of w.bucket next) (making_room P is.state p.key.now n) (base_in is.frames)) room_is
             (subst (λ (r : OpenRows). IsOpenRows r (making_room P is.state p.key.now (32 + length p.key.now)) (base_in is.frames)) (sym rows) then.outer)),
@@ -448,7 +443,7 @@ module _ {S : Type 0} (taken : S → Option (List ℕ)) (failed : S → ℕ) (wa
       }
 
   -- ---- the open bucket ends, and the one around it goes on
-  pub leave_steps : {A : Type 0} (level : Level) (levels : List Level) (w : Waiting) (old new : S) (bucket : OpenBucket) (around : Vec Waiting Global) (next held : ℕ) (told : Told) (counted : Pass) (result : Result A BulkFault)
+  pub leave_steps : {A : Type 0} (level : Level) (levels : List Level) (w : WaitingBucket) (old new : S) (bucket : OpenBucket) (around : Vec WaitingBucket Global) (next held : ℕ) (told : Told) (counted : Pass) (result : Result A BulkFault)
       → IsAt wanted pass (level ∷ levels) end put → pass.pending ≡ None → pass.waiting.items ≡ around.items ++ w ∷ []
       → BucketEnds pass.told told pass.bucket.limits.bucket pass.bucket.uppers.items
       → Puts taken failed old new (placed_bytes P (rows_end_put P rows_now)) result
@@ -461,7 +456,7 @@ module _ {S : Type 0} (taken : S → Option (List ℕ)) (failed : S → ℕ) (wa
       let (frame, frames, more_frames, top) = first_frame level levels is.frames same in
       let ws : reverse pass.waiting.items ≡ w ∷ reverse around.items = ap reverse popped ∙ reverse-append around.items (w ∷ []) in
       let waits = subst (λ (fs : List Frame). AreWaiting (reverse pass.waiting.items) fs) more_frames is.waits in
-      let (outer, key, sequence, others) = subst (λ (l : List Waiting). AreWaiting l (frame ∷ frames)) ws waits in
+      let (outer, key, sequence, others) = subst (λ (l : List WaitingBucket). AreWaiting l (frame ∷ frames)) ws waits in
       let on2 = subst (λ (fs : List Frame). IsOn wanted.which P wanted.tree fs is.state [] rows_now put) more_frames on in
       let behind = subst (λ (fs : List Frame). AreComingAround wanted P (limits_by pass) (is.opened + 0) fs) more_frames right.1 in
       let states : List Open = map (λ (f : Frame). f.state) frames in
@@ -494,7 +489,7 @@ module _ {S : Type 0} (taken : S → Option (List ℕ)) (failed : S → ℕ) (wa
               waits = others;
               put_is = then.put_is;
               held = leaves_held P frame frames is.state pass.most counted.most is.under.begun so_far (k.most ∙ ap (λ (n : ℕ). max pass.most (capped n)) count);
-              pends = subst (λ (p : Option Pending). IsPending p pass.entries.items (map level_of frames) frame.after levels level.after) (sym none) top;
+              pends = subst (λ (p : Option PendingBucket). IsPending p pass.entries.items (map level_of frames) frame.after levels level.after) (sym none) top;
               opened = is.opened;
               opened_is = is.opened_is;
               coming = coming_at wanted P (limits_by pass) (is.opened + 0) is.opened frame.after (omega arith) behind.0;
@@ -511,11 +506,11 @@ module _ {S : Type 0} (taken : S → Option (List ℕ)) (failed : S → ℕ) (wa
 
 module _ (wanted : Wanted) (pass : Pass) (levels : List Level) (put : List Placed) where
   -- a value of a bucket that may be inline
-  pub keep_at : (key value : List ℕ) (after : Tree) (p : Pending) (entry : Leaf) (size : ℕ) (entries : Vec Leaf Global) → IsAt wanted pass levels (with_value key value after) put → pass.pending ≡ Some p
+  pub keep_at : (key value : List ℕ) (after : Tree) (p : PendingBucket) (entry : Leaf) (size : ℕ) (entries : Vec Leaf Global) → IsAt wanted pass levels (with_value key value after) put → pass.pending ≡ Some p
       → entries.items ≡ pass.entries.items ++ entry ∷ [] → leaf_view entry ≡ value_element key value
       → IsAt wanted (record { setup = pass.setup; limits = pass.limits; waiting = pass.waiting; bucket = pass.bucket; pending = Some (record { key = p.key; sequence = p.sequence; size = size }); entries = entries; next = pass.next; opened = pass.opened; around = pass.around; most = pass.most; told = pass.told }) levels after put
   keep_at key value after p entry size entries is some pushed view =
-      let (behind, same, rest) = subst (λ (q : Option Pending). IsPending q pass.entries.items (map level_of is.frames) is.rest levels (with_value key value after)) some is.pends in
+      let (behind, same, rest) = subst (λ (q : Option PendingBucket). IsPending q pass.entries.items (map level_of is.frames) is.rest levels (with_value key value after)) some is.pends in
       let shown : List LeafElement = map leaf_view pass.entries.items in
       let all : map leaf_view entries.items ≡ shown ++ value_element key value ∷ [] =
       ap (map leaf_view) pushed ∙ (map-append leaf_view pass.entries.items (entry ∷ []) ∙ ap (λ (e : LeafElement). shown ++ e ∷ []) view) in
@@ -545,7 +540,7 @@ module _ (wanted : Wanted) (pass : Pass) (levels : List Level) (put : List Place
       → IsAt wanted (record { setup = pass.setup; limits = pass.limits; waiting = pass.waiting; bucket = pass.bucket; pending = Some (record { key = key; sequence = sequence; size = 16 }); entries = pass.entries; next = pass.next; opened = pass.opened; around = pass.around; most = pass.most; told = pass.told })
       (record { key = key.now; after = after } ∷ levels) inside put
   begin_at key sequence inside after is none empty =
-      let (same, rest) = subst (λ (q : Option Pending). IsPending q pass.entries.items (map level_of is.frames) is.rest levels (with_bucket key.now sequence inside after)) none is.pends in
+      let (same, rest) = subst (λ (q : Option PendingBucket). IsPending q pass.entries.items (map level_of is.frames) is.rest levels (with_bucket key.now sequence inside after)) none is.pends in
       record {
         frames = is.frames;
         state = is.state;

@@ -33,12 +33,12 @@ use Rattle.bolt_bulk.specs.declared.pass.Ended.{Ended}
 use Rattle.bolt_bulk.specs.declared.pass.Pass.{Pass}
 use Rattle.bolt_bulk.specs.Private.RowLimits.{limit_in}
 use Rattle.bolt_bulk.specs.declared.limits.BucketLimits.{BucketLimits}
-use Rattle.bolt_bulk.specs.declared.pending.Pending.{Pending}
+use Rattle.bolt_bulk.specs.declared.pending_bucket.PendingBucket.{PendingBucket}
 use Rattle.bolt_bulk.specs.declared.told.Told.{Told}
 use Rattle.bolt_bulk.proofs.Frames.{pass_begins, pass_ends}
 use Rattle.bolt_bulk.proofs.HeldSteps.{end_held}
 use Rattle.bolt_bulk.proofs.Members.{all_left, next_bucket, next_short, next_value, none_at_all}
-use Rattle.bolt_bulk.proofs.OpenRowLemmas.{nothing_rows, rows_ended}
+use Rattle.bolt_bulk.proofs.RowsAreRuns.{nothing_rows, rows_ended}
 use Rattle.bolt_bulk.proofs.OpenRunLemmas.{ends}
 use Rattle.bolt_bulk.proofs.Openings.{all_coming, root_tells}
 use Rattle.bolt_bulk.proofs.PassAt.{on_of}
@@ -160,7 +160,7 @@ no_frames : (frames : List Frame) → [] ≡ map level_of frames → frames ≡ 
 no_frames [] e = refl
 no_frames (frame ∷ frames) e = absurd cc
 
-only_none : (pending : Option Pending) → pending_depth pending ≤ 0 → pending ≡ None
+only_none : (pending : Option PendingBucket) → pending_depth pending ≤ 0 → pending ≡ None
 only_none None h = refl
 only_none (Some p) h = absurd (omega arith)
 

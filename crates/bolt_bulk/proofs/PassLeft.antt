@@ -12,19 +12,19 @@ use Rattle.bolt_bulk.specs.Private.Passes.{Wanted, AreWaiting, HasLeft, IsAt, Is
 use Rattle.bolt_bulk.specs.declared.page_setup.PageSetup.{PageSetup}
 use Rattle.bolt_bulk.specs.declared.fault.BulkFault.{BulkFault}
 use Rattle.bolt_bulk.specs.declared.pass.Pass.{Pass}
-use Rattle.bolt_bulk.specs.declared.pending.Pending.{Pending}
-use Rattle.bolt_bulk.specs.declared.waiting.Waiting.{Waiting}
+use Rattle.bolt_bulk.specs.declared.pending_bucket.PendingBucket.{PendingBucket}
+use Rattle.bolt_bulk.specs.declared.waiting_bucket.WaitingBucket.{WaitingBucket}
 use Rattle.bolt_bulk.proofs.Members.{none_at_all, none_further}
 use Rattle.bolt_bulk.proofs.PassAt.{on_ok_map, steps_none}
 
 -- The depth that the code counts is that of the levels.
-waiting_frames : (waiting : List Waiting) (frames : List Frame) → AreWaiting waiting frames → length waiting ≡ length frames
+waiting_frames : (waiting : List WaitingBucket) (frames : List Frame) → AreWaiting waiting frames → length waiting ≡ length frames
 waiting_frames [] [] are = refl
 waiting_frames [] (frame ∷ frames) are = absurd are
 waiting_frames (w ∷ waiting) [] are = absurd are
 waiting_frames (w ∷ waiting) (frame ∷ frames) (rows, key, sequence, others) = let ih = waiting_frames waiting frames others in omega arith
 
-pending_levels : (pending : Option Pending) (entries : List Leaf) (outer : List Level) (rest : Tree) (levels : List Level) (left : Tree) → IsPending pending entries outer rest levels left
+pending_levels : (pending : Option PendingBucket) (entries : List Leaf) (outer : List Level) (rest : Tree) (levels : List Level) (left : Tree) → IsPending pending entries outer rest levels left
     → length levels ≡ pending_depth pending + length outer
 pending_levels None entries outer rest levels left (same, is) = let l = ap (λ (ls : List Level). length ls) same in omega arith
 pending_levels (Some p) entries outer rest levels left (after, same, is) = let l = ap (λ (ls : List Level). length ls) same in omega arith

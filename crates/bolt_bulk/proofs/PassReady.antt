@@ -1,5 +1,5 @@
 -- What is known of a pass without its tree, after a step.
-use Rattle.std.proofs.Common.{◌≡◌, ◌∙◌, ℕ, ◌+◌, ◌/◌, ◌≤◌, ◌<◌, false, List, [], ◌∷◌, ◌++◌, Bor, length, map, Option, Some, refl, sym, ap, subst, arith}
+use Rattle.std.proofs.Common.{◌≡◌, ◌∙◌, ℕ, ◌+◌, ◌/◌, ◌≤◌, ◌<◌, false, List, [], ◌∷◌, ◌++◌, length, map, Option, Some, sym, ap, subst, arith}
 use Rattle.std.specs.List.{AllByRecursion}
 use Rattle.std.proofs.lemmas.List.{length-append, length-map, map-append}
 use Rattle.bolt_format.specs.ElementPlaces.{leaf_view}
@@ -7,8 +7,8 @@ use Rattle.bolt_format.specs.Elements.{LeafElement}
 use Rattle.bolt_format.specs.declared.element.Leaf.{Leaf}
 use Rattle.bolt_layout.specs.PageBytes.{inline_value, leaf_data}
 use Rattle.bolt_bulk.specs.Private.Passes.{IsPendingSmall, IsSmall}
-use Rattle.bolt_bulk.specs.Private.TakenItems.{entries_size, inline_size}
-use Rattle.bolt_bulk.specs.declared.pending.Pending.{Pending}
+use Rattle.bolt_bulk.specs.Private.TakenItems.{entries_size}
+use Rattle.bolt_bulk.specs.declared.pending_bucket.PendingBucket.{PendingBucket}
 use Rattle.bolt_bulk.proofs.LeafPuts.{length-inline_value}
 use Rattle.bolt_layout.proofs.ListLemmas.{all_append}
 
@@ -24,11 +24,11 @@ data_push (x ∷ es) e =
     let d = length-append x.value (leaf_data es) in omega arith
 
 -- the bucket that may be inline
-pub small_of : (page_size : ℕ) (pending : Option Pending) (p : Pending) (entries : List Leaf) → pending ≡ Some p → IsPendingSmall page_size pending entries → IsSmall page_size p entries
-small_of page_size pending p entries some small = subst (λ (q : Option Pending). IsPendingSmall page_size q entries) some small
+pub small_of : (page_size : ℕ) (pending : Option PendingBucket) (p : PendingBucket) (entries : List Leaf) → pending ≡ Some p → IsPendingSmall page_size pending entries → IsSmall page_size p entries
+small_of page_size pending p entries some small = subst (λ (q : Option PendingBucket). IsPendingSmall page_size q entries) some small
 
 -- one more value
-pub small_push : (page_size size : ℕ) (p : Pending) (entries more : List Leaf) (entry : Leaf) → IsSmall page_size p entries → length entry.key.now ≤ 1073741824 → entry.is_bucket ≡ false
+pub small_push : (page_size size : ℕ) (p : PendingBucket) (entries more : List Leaf) (entry : Leaf) → IsSmall page_size p entries → length entry.key.now ≤ 1073741824 → entry.is_bucket ≡ false
     → size ≡ p.size + (16 + (length entry.key.now + length entry.value.now)) → size ≤ page_size / 4 → length entries < 65534 → more ≡ entries ++ entry ∷ []
     → IsSmall page_size (record { key = p.key; sequence = p.sequence; size = size }) more
 small_push page_size size p entries more entry is key value sized small few pushed =
@@ -47,17 +47,7 @@ small_push page_size size p entries more entry is key value sized small few push
       values = subst (λ (es : List Leaf). AllByRecursion (λ (e : Leaf). e.is_bucket ≡ false) es) (sym pushed) (all_append (λ (e : Leaf). e.is_bucket ≡ false) entries (entry ∷ []) is.values (value, tt));
     }
 
--- a bucket without entries
-pub small_begun : (page_size sequence : ℕ) (key : Bor (List ℕ)) (entries : List Leaf) → 1024 ≤ page_size → length key.now ≤ 1073741824 → entries ≡ []
-    → IsSmall page_size (record { key = key; sequence = sequence; size = 16 }) entries
-small_begun page_size sequence key entries low short none = subst (IsSmall page_size (record { key = key; sequence = sequence; size = 16 })) (sym none)
-    (record { key = short; sized = refl; small = omega arith; few = omega arith; keys = tt; values = tt })
-
--- the size of the value of an inline bucket
-pub inline_sized : (page_size : ℕ) (p : Pending) (entries : List Leaf) → IsSmall page_size p entries → p.size + 16 ≡ inline_size (map leaf_view entries)
-inline_sized page_size p entries is = let s = is.sized in omega arith
-
-pub inline_long : (page_size : ℕ) (p : Pending) (entries : List Leaf) → IsSmall page_size p entries → p.size + 16 ≡ length (inline_value p.sequence (map leaf_view entries))
+pub inline_long : (page_size : ℕ) (p : PendingBucket) (entries : List Leaf) → IsSmall page_size p entries → p.size + 16 ≡ length (inline_value p.sequence (map leaf_view entries))
 inline_long page_size p entries is =
     let s = is.sized in
     let l = length-inline_value leaf_view p.sequence entries in

@@ -4,7 +4,7 @@ use Rattle.bolt_bulk.specs.Private.OpenBuckets.{bucket_end_next, leaf_closed}
 use Rattle.bolt_layout.specs.Items.{leaf_item}
 use Rattle.bolt_layout.specs.Laid.{Laid, numbers_of}
 use Rattle.bolt_layout.specs.Levels.{branch_view, leaf_view, overflow_of, page_over, run_overflow}
-use Rattle.bolt_layout.specs.PageBytes.{root_value}
+use Rattle.bolt_format.specs.Written.{head_bytes}
 use Rattle.bolt_bulk.specs.Private.BranchRuns.{element_up, rows_end_next}
 use Rattle.bolt_format.specs.Elements.{BranchElement}
 use Rattle.bolt_bulk.specs.Private.Rows.{BranchRow, OpenRows, leaf_key, row_key, row_push, rows_end, rows_push, rows_room, rows_room_put}
@@ -12,8 +12,8 @@ use Rattle.bolt_bulk.specs.Private.OpenRuns.{Frame, Open, Upper, base_in, close,
 use Rattle.bolt_bulk.specs.Private.Coming.{held_item}
 use Rattle.bolt_bulk.specs.Private.OpenRows.{AreRows, IsKeyed, IsOpenRows}
 use Rattle.bolt_layout.proofs.OverRows.{numbers-append}
-use Rattle.bolt_bulk.proofs.RowLemmas.{key_same, row_pushed, same_element}
-use Rattle.bolt_bulk.proofs.OpenRowLemmas.{leaf_key_same, rows_ended, rows_have_room, rows_pushed}
+use Rattle.bolt_bulk.proofs.RowsAreRuns.{key_same, leaf_key_same, row_pushed, rows_ended, rows_have_room, rows_pushed}
+use Rattle.bolt_layout.proofs.BranchLemmas.{same_branch}
 
 -- a value, or an inline bucket
 pub take_is : (page_size : ℕ) (rows : OpenRows) (state : Open) (b : ℕ) (key value : List ℕ) (flag : Bool) → IsOpenRows rows state b
@@ -50,7 +50,7 @@ close_numbered page_size e next b q (row ∷ rows) (upper ∷ uppers) are keyed 
     let more = numbers-append run (q ∷ []) in
     let next_is : next ≡ m + numbers_of (run ++ q ∷ []) = omega arith in
     let over : overflow_of page_size (row_push row e).size ≡ run_overflow page_size (run ++ q ∷ []) = ap (overflow_of page_size) pushed.size_is in
-    let named : element_up e next row ≡ q2.element m = same_element (element_up e next row) (q2.element m) (ap row_key pushed.same ∙ key_same (run ++ q ∷ []) m pushed.keyed) next_is in
+    let named : element_up e next row ≡ q2.element m = same_branch (element_up e next row) (q2.element m) (ap row_key pushed.same ∙ key_same (run ++ q ∷ []) m pushed.keyed) next_is in
     close_numbered page_size (element_up e next row) (next + (1 + overflow_of page_size (row_push row e).size)) b q2 rows uppers are.1 (refl, λ n. refl) named (omega arith)
 
 pub end_numbered : (page_size : ℕ) (rows : OpenRows) (state : Open) (b : ℕ) → IsOpenRows rows state b → bucket_end_next page_size rows ≡ b + (end_of page_size state).numbers
@@ -58,14 +58,14 @@ end_numbered page_size rows state b is =
     let m : ℕ = b + numbers_in state.uppers in
     let q : Laid BranchElement = page_over leaf_view page_size state.run in
     let over : overflow_of page_size rows.leaves.size ≡ run_overflow page_size state.run = ap (overflow_of page_size) is.size_is in
-    let named : leaf_closed rows.leaves rows.next ≡ q.element m = same_element (leaf_closed rows.leaves rows.next) (q.element m) (ap leaf_key is.same ∙ leaf_key_same state.run m is.keyed) is.next_is in
+    let named : leaf_closed rows.leaves rows.next ≡ q.element m = same_branch (leaf_closed rows.leaves rows.next) (q.element m) (ap leaf_key is.same ∙ leaf_key_same state.run m is.keyed) is.next_is in
     let n = is.next_is in
     close_numbered page_size (leaf_closed rows.leaves rows.next) (rows.next + (1 + overflow_of page_size rows.leaves.size)) b q rows.uppers state.uppers is.above (refl, λ k. refl) named (omega arith)
 
 -- a bucket is left: the one that waits for it takes its item
 pub leave_is : (page_size : ℕ) (inner outer : OpenRows) (state : Open) (frame : Frame) (frames : List Frame) → IsOpenRows inner state (base_in (frame ∷ frames)) → IsOpenRows outer frame.state (base_in frames)
     → outer.next ≡ base_in (frame ∷ frames)
-    → IsOpenRows (rows_push outer (record { key = frame.key; value = root_value (rows_end page_size inner) frame.sequence; is_bucket = true }) (16 + (length frame.key + 16)) (bucket_end_next page_size inner))
+    → IsOpenRows (rows_push outer (record { key = frame.key; value = head_bytes (rows_end page_size inner) frame.sequence; is_bucket = true }) (16 + (length frame.key + 16)) (bucket_end_next page_size inner))
     (pushing frame.state (held_item frame (end_of page_size state))) (base_in frames)
 leave_is page_size inner outer state frame frames is waits base =
     let root : Laid BranchElement = end_of page_size state in
@@ -73,5 +73,5 @@ leave_is page_size inner outer state frame frames is waits base =
     let ended = rows_ended page_size inner state (base_in (frame ∷ frames)) is in
     let child : (root.element outer.next).child ≡ rows_end page_size inner = ap (λ (n : ℕ). (root.element n).child) base ∙ sym ended.1 in
     let next : outer.next + root.numbers ≡ bucket_end_next page_size inner = ap (λ (n : ℕ). n + root.numbers) base ∙ sym (end_numbered page_size inner state (base_in (frame ∷ frames)) is) in
-    let P : ℕ → ℕ → Type 0 = λ c n. IsOpenRows (rows_push outer (record { key = frame.key; value = root_value c frame.sequence; is_bucket = true }) (16 + (length frame.key + 16)) n) (pushing frame.state (held_item frame root)) (base_in frames) in
+    let P : ℕ → ℕ → Type 0 = λ c n. IsOpenRows (rows_push outer (record { key = frame.key; value = head_bytes c frame.sequence; is_bucket = true }) (16 + (length frame.key + 16)) n) (pushing frame.state (held_item frame root)) (base_in frames) in
     subst (λ (n : ℕ). P (rows_end page_size inner) n) next (subst (λ (c : ℕ). P c (outer.next + root.numbers)) child pushed)

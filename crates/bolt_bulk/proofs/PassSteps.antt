@@ -23,7 +23,7 @@ use Rattle.bolt_bulk.specs.Private.Rows.{OpenRows, rows_end, rows_end_put, rows_
 use Rattle.bolt_bulk.specs.Private.TakenItems.{entries_size, root_element, rows_taking}
 use Rattle.bolt_bulk.proofs.Frames.{pass_enters, pass_leaves, pass_takes, put_enters, put_leaves, put_takes, waiting}
 use Rattle.bolt_bulk.proofs.Ontos.{IsValue, ends_inline, onto_items, value_items, values_elements, values_keyed, values_numbers, values_pages, values_size}
-use Rattle.bolt_bulk.proofs.OpenRowLemmas.{rows_ended}
+use Rattle.bolt_bulk.proofs.RowsAreRuns.{rows_ended}
 use Rattle.bolt_bulk.proofs.PassRows.{enter_is, leave_is, take_is}
 use Rattle.bolt_bulk.proofs.PutBefore.{pass_before}
 use Rattle.bolt_layout.specs.declared.layout.Layout.{Layout}

@@ -9,8 +9,7 @@ use Rattle.bolt_layout.specs.Cut.{branch_cut, cut_from, join_last}
 use Rattle.bolt_layout.specs.Items.{items_of}
 use Rattle.bolt_layout.specs.Laid.{Laid, Placed, numbers_of, pages_of, size_of}
 use Rattle.bolt_layout.specs.Levels.{branch_view, leaf_view, next_level, page_over, top_in}
-use Rattle.bolt_layout.specs.Layout.{first_page, placed_bytes}
-use Rattle.bolt_layout.specs.PageBytes.{page_bytes}
+use Rattle.bolt_layout.specs.Layout.{first_page}
 use Rattle.bolt_bulk.specs.Private.RowLimits.{bucket_limit}
 use Rattle.bolt_bulk.specs.Private.OpenRuns.{Frame, Open, Upper, all_put, base_in, frames_put, next_number, numbers_in, own_page, pages_put, pushing, put_in}
 use Rattle.bolt_layout.proofs.OverRows.{numbers-append}
@@ -181,9 +180,3 @@ pass_before which page_size frames state items whole pass =
     let is = stack_before which page_size frames pass.root whole (pages_put state (base_in frames)) few pass.stack (put_before which page_size state items pass.root (base_in frames) pass.current) in
     let same : base_in frames + few ≡ next_number state (base_in frames) = omega arith in
     subst (λ (n : ℕ). IsBefore (all_put frames state) n (whole.pages first_page) (first_page + whole.numbers)) same is
-
--- the bytes of pages one after the other
-pub bytes-append : (page_size : ℕ) (xs ys : List Placed) → placed_bytes page_size (xs ++ ys) ≡ placed_bytes page_size xs ++ placed_bytes page_size ys
-bytes-append page_size [] ys = refl
-bytes-append page_size (x ∷ xs) ys =
-    ap (λ (bs : List ℕ). page_bytes page_size x.number x.view ++ bs) (bytes-append page_size xs ys) ∙ sym (append_assoc (page_bytes page_size x.number x.view) (placed_bytes page_size xs) (placed_bytes page_size ys))

@@ -11,37 +11,17 @@ use Rattle.bolt_format.specs.declared.kind.Kind.{Kind}
 use Rattle.bolt_format.specs.declared.kind.Kind.TheVariants as kind
 use Rattle.bolt_layout.specs.Laid.{Placed}
 use Rattle.bolt_layout.specs.Layout.{placed_bytes}
-use Rattle.bolt_layout.specs.PageBytes.{branch_bytes, content_bytes, header_bytes, leaf_bytes, page_bytes}
-use Rattle.bolt_bulk.specs.Puts.{Puts, PutsWhole}
+use Rattle.bolt_layout.specs.PageBytes.{branch_bytes, content_bytes, leaf_bytes, page_bytes}
+use Rattle.bolt_format.specs.Written.{header_bytes}
+use Rattle.bolt_bulk.proofs.WholePuts.{more_some, proper_first, proper_second}
+use Rattle.bolt_bulk.specs.Puts.{Puts}
 use Rattle.bolt_bulk.specs.declared.fault.BulkFault.{BulkFault}
 use Rattle.bolt_bulk.specs.declared.fault.BulkFault.TheVariants as fault
-use Rattle.bolt_layout.proofs.PageLemmas.{length-header_bytes}
+use Rattle.bolt_format.proofs.WrittenHeaders.{length-header_bytes}
 
 -- Nothing is a proper prefix of a text that has any bytes.
 pub proper_none : (old : Option (List ℕ)) (text : List ℕ) → text ≢ [] → AppendsProperBeginning old old text
 proper_none old text some = record { front = []; rest = text; parts = refl; short = some; taken = Appends-nil old }
-
-more_some : (xs ys : List ℕ) → xs ≢ [] → (xs ++ ys) ≢ []
-more_some [] ys some e = some refl
-more_some (x ∷ xs) ys some e = cc
-
-pub proper_first : (old new : Option (List ℕ)) (first second : List ℕ) → AppendsProperBeginning old new first → AppendsProperBeginning old new (first ++ second)
-proper_first old new first second a = record {
-  front = a.front;
-  rest = a.rest ++ second;
-  parts = ap (λ (text : List ℕ). text ++ second) a.parts ∙ append_assoc a.front a.rest second;
-  short = more_some a.rest second a.short;
-  taken = a.taken;
-}
-
-pub proper_second : (old mid new : Option (List ℕ)) (first second : List ℕ) → Appends old mid first → AppendsProperBeginning mid new second → AppendsProperBeginning old new (first ++ second)
-proper_second old mid new first second taken a = record {
-  front = first ++ a.front;
-  rest = a.rest;
-  parts = ap (λ (text : List ℕ). first ++ text) a.parts ∙ sym (append_assoc first a.front a.rest);
-  short = a.short;
-  taken = Appends-trans old mid new first a.front taken a.taken;
-}
 
 pub proper_same : (old new : Option (List ℕ)) (text same : List ℕ) → text ≡ same → AppendsProperBeginning old new text → AppendsProperBeginning old new same
 proper_same old new text same e a = subst (λ (l : List ℕ). AppendsProperBeginning old new l) e a
@@ -49,13 +29,13 @@ proper_same old new text same e a = subst (λ (l : List ℕ). AppendsProperBegin
 -- a page has a header
 content_some : (kind : Kind) (number : ℕ) (view : PageView) → 16 ≤ length (content_bytes kind number view)
 content_some kind.Branch number view =
-    let h = length-header_bytes number 1 view.count view.overflow in
-    let a = length-append (header_bytes number 1 view.count view.overflow) (branch_bytes view.branches) in omega arith
+    let h = length-header_bytes number kind.Branch view.count view.overflow in
+    let a = length-append (header_bytes number kind.Branch view.count view.overflow) (branch_bytes view.branches) in omega arith
 content_some kind.Leaf number view =
-    let h = length-header_bytes number 2 view.count view.overflow in
-    let a = length-append (header_bytes number 2 view.count view.overflow) (leaf_bytes view.leaves) in omega arith
-content_some kind.Meta number view = let h = length-header_bytes number 4 view.count view.overflow in omega arith
-content_some kind.Freelist number view = let h = length-header_bytes number 16 view.count view.overflow in omega arith
+    let h = length-header_bytes number kind.Leaf view.count view.overflow in
+    let a = length-append (header_bytes number kind.Leaf view.count view.overflow) (leaf_bytes view.leaves) in omega arith
+content_some kind.Meta number view = let h = length-header_bytes number kind.Meta view.count view.overflow in omega arith
+content_some kind.Freelist number view = let h = length-header_bytes number kind.Freelist view.count view.overflow in omega arith
 
 page_length : (page_size number : ℕ) (view : PageView) → 16 ≤ length (page_bytes page_size number view)
 unfolding page_bytes
@@ -82,10 +62,6 @@ bytes-append page_size (x ∷ xs) ys =
     ap (λ (bs : List ℕ). page_bytes page_size x.number x.view ++ bs) (bytes-append page_size xs ys) ∙ sym (append_assoc (page_bytes page_size x.number x.view) (placed_bytes page_size xs) (placed_bytes page_size ys))
 
 -- the same text in other words
-pub whole_same : {S A E : Type 0} {taken : S → Option (List ℕ)} {failed : S → ℕ} (old new : S) (text same : List ℕ) (result : Result A E) → text ≡ same → PutsWhole taken failed old new text result
-    → PutsWhole taken failed old new same result
-whole_same {taken = taken} {failed = failed} old new text same result e a = subst (λ (l : List ℕ). PutsWhole taken failed old new l result) e a
-
 pub puts_same : {S A : Type 0} {taken : S → Option (List ℕ)} {failed : S → ℕ} (old new : S) (text same : List ℕ) (result : Result A BulkFault) → text ≡ same → Puts taken failed old new text result → Puts taken failed old new same result
 puts_same {taken = taken} {failed = failed} old new text same result e a = subst (λ (l : List ℕ). Puts taken failed old new l result) e a
 

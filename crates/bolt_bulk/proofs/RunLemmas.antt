@@ -1,5 +1,5 @@
 -- A run of pages that takes one more, and closes if the next one doesn't join it.
-use Rattle.std.proofs.Common.{div-add-mod', add-mul, ◌≡◌, ◌∙◌, ◌⊎◌, ℕ, ◌+◌, ◌-◌, ◌*◌, ◌/◌, ◌<◌, ◌≤◌, ◌||◌, ◌&&◌, nat_lt, nat_le, Bool, true, false, Option, None, List, [], ◌∷◌, ◌++◌, length, refl, ap, inl, inr, arith}
+use Rattle.std.proofs.Common.{div-add-mod', add-mul, ◌≡◌, ◌∙◌, ◌⊎◌, ℕ, ◌+◌, ◌-◌, ◌*◌, ◌/◌, ◌<◌, ◌≤◌, ◌||◌, ◌&&◌, nat_lt, nat_le, Bool, true, false, None, List, [], ◌∷◌, ◌++◌, length, refl, ap, inl, inr, arith}
 use Rattle.std.proofs.lemmas.Bool.{cases_Bool, leb-true, ltb-true}
 use Rattle.std.proofs.lemmas.List.{length-append, append-nil}
 use Rattle.bolt_format.specs.Elements.{BranchElement}
@@ -8,7 +8,7 @@ use Rattle.bolt_layout.specs.Levels.{overflow_of}
 use Rattle.bolt_layout.specs.Limits.{is_out}
 use Rattle.bolt_layout.specs.PageBytes.{branch_data}
 use Rattle.bolt_bulk.specs.Private.BranchRuns.{HasSlack, IsPushed, IsSizedRow, IsStanding}
-use Rattle.bolt_bulk.specs.Private.Rows.{BranchRow, no_row, row_has_room, row_kept, row_key, row_push, row_stays}
+use Rattle.bolt_bulk.specs.Private.Rows.{BranchRow, row_has_room, row_kept, row_key, row_push, row_stays}
 use Rattle.bolt_layout.proofs.PageRows.{overflow_room, overflow_small}
 
 pub record OverflowFits (page_size size : ℕ) : Type 0 where
@@ -94,9 +94,6 @@ stays_standing page_size k row e high is key stays =
           let few = slack.few in
           let b = length-append row.elements (e ∷ []) in rw f (record { sized = p.sized; small = omega arith; few = omega arith; named = key_pushed row.elements e is.named key; slack = λ none. no_slack none }))
     ]
-
-pub no_row_standing : (left : Option ℕ) (closed : ℕ) → IsStanding (no_row left closed)
-no_row_standing left closed = record { sized = refl; small = omega arith; few = omega arith; named = omega arith; slack = λ out. record { small = omega arith; few = omega arith } }
 
 pub one_page : (page : List ℕ) → page ++ [] ≡ page
 one_page page = append-nil page

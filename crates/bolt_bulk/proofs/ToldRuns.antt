@@ -1,5 +1,5 @@
 -- At a bucket's end its open runs say of each row how many runs it has, and how many items the last one has.
-use Rattle.std.proofs.Common.{◌≡◌, ◌∙◌, ℕ, suc, Option, List, [], ◌∷◌, ◌++◌, length, map, refl, ap, arith}
+use Rattle.std.proofs.Common.{◌∙◌, ℕ, suc, Option, List, [], ◌∷◌, ◌++◌, length, map, ap, arith}
 use Rattle.std.proofs.lemmas.List.{length-append}
 use Rattle.bolt_format.specs.Elements.{BranchElement}
 use Rattle.bolt_layout.specs.Laid.{Laid}
@@ -9,11 +9,7 @@ use Rattle.bolt_layout.specs.declared.layout.Layout.TheVariants.{Plain}
 use Rattle.bolt_bulk.specs.Private.RowLimits.{bucket_limit}
 use Rattle.bolt_bulk.specs.Private.Coming.{Comes, IsOpen}
 use Rattle.bolt_bulk.specs.Private.OpenRuns.{Open, Upper, told_by}
-
-last_of_runs : {X : Type 0} (runs : List (List X)) (run : List X) → last_length (runs ++ run ∷ []) ≡ length run
-last_of_runs [] run = refl
-last_of_runs (first ∷ []) run = refl
-last_of_runs (first ∷ second ∷ runs) run = last_of_runs (second ∷ runs) run
+use Rattle.bolt_layout.proofs.LastItem.{last_append}
 
 rows_tell : (page_size : ℕ) (limits : ℕ → Option ℕ) (uppers : List Upper) (q : Laid BranchElement) (all : List (Laid BranchElement)) (root : Laid BranchElement)
     → Comes Plain page_size limits uppers all (q ∷ []) root → AreTold page_size all (map told_by uppers)
@@ -22,7 +18,7 @@ rows_tell page_size limits (upper ∷ uppers) q all root (stands, is) =
     let last : List (Laid BranchElement) = upper.run ++ q ∷ [] in
     let count = ap (λ (runs : List (List (Laid BranchElement))). length runs) stands.cut ∙ length-append stands.runs (last ∷ []) in
     let closed = stands.count in
-    let items = ap (λ (runs : List (List (Laid BranchElement))). last_length runs) stands.cut ∙ last_of_runs stands.runs last in
+    let items = ap (λ (runs : List (List (Laid BranchElement))). last_length runs) stands.cut ∙ last_append stands.runs last in
     let long = length-append upper.run (q ∷ []) in
     (stands.some, omega arith, omega arith, rows_tell page_size (λ k. limits (suc k)) uppers (page_over branch_view page_size last) _ root is)
 

@@ -6,24 +6,24 @@ use Rattle.std.proofs.KnownBytes.{Appends-nil, Appends-trans}
 use Rattle.bolt_format.specs.Sinks.{AppendsProperBeginning}
 use Rattle.bolt_bulk.specs.Puts.{PutsWhole}
 
-more_is_some : (xs ys : List ℕ) → xs ≢ [] → xs ++ ys ≢ []
-more_is_some [] ys some none = some refl
-more_is_some (x ∷ xs) ys some none = absurd (cc)
+pub more_some : (xs ys : List ℕ) → xs ≢ [] → xs ++ ys ≢ []
+more_some [] ys some none = some refl
+more_some (x ∷ xs) ys some none = absurd (cc)
 
 -- a proper prefix of the first text is one of both
-beginning_first : (old new : Option (List ℕ)) (first second : List ℕ) → AppendsProperBeginning old new first → AppendsProperBeginning old new (first ++ second)
-beginning_first old new first second begun = record {
+pub proper_first : (old new : Option (List ℕ)) (first second : List ℕ) → AppendsProperBeginning old new first → AppendsProperBeginning old new (first ++ second)
+proper_first old new first second begun = record {
   front = begun.front;
   rest = begun.rest ++ second;
   parts = ap (λ text. text ++ second) begun.parts ∙ append_assoc begun.front begun.rest second;
-  short = more_is_some begun.rest second begun.short;
+  short = more_some begun.rest second begun.short;
   taken = begun.taken;
 }
 
 -- and so is the whole first text with a proper prefix of the second
-beginning_second : (old mid new : Option (List ℕ)) (first second : List ℕ) → Appends old mid first → AppendsProperBeginning mid new second
+pub proper_second : (old mid new : Option (List ℕ)) (first second : List ℕ) → Appends old mid first → AppendsProperBeginning mid new second
     → AppendsProperBeginning old new (first ++ second)
-beginning_second old mid new first second taken begun = record {
+proper_second old mid new first second taken begun = record {
   front = first ++ begun.front;
   rest = begun.rest;
   parts = ap (λ text. first ++ text) begun.parts ∙ sym (append_assoc first begun.front begun.rest);
@@ -43,7 +43,7 @@ whole_then {taken} {failed} old mid new first second x (Ok y) a b = record {
 whole_then {taken} {failed} old mid new first second x (Err e) a b = record {
   all = tt;
   sound = tt;
-  short = beginning_second (taken old) (taken mid) (taken new) first second a.all b.short;
+  short = proper_second (taken old) (taken mid) (taken new) first second a.all b.short;
   failure = b.failure;
 }
 
@@ -54,7 +54,7 @@ whole_stop {taken} {failed} old new first second e (Ok y) a err = absurd (cc)
 whole_stop {taken} {failed} old new first second e (Err f) a err = record {
   all = tt;
   sound = tt;
-  short = beginning_first (taken old) (taken new) first second a.short;
+  short = proper_first (taken old) (taken new) first second a.short;
   failure = a.failure;
 }
 

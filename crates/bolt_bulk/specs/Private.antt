@@ -16,5 +16,5 @@ pub mod RowLimits
 pub mod Rows
 pub mod Stops
 pub mod TakenItems
-pub mod Waiting
+pub mod WaitingBuckets
 pub mod WholeListings

@@ -33,9 +33,9 @@ pub(crate) fn put_pages<'a, M: Members<'a>, S: Sink>(
     'members: loop {
         match members.next() {
             Err(_) => return Err(BulkFault::Memory),
-            Ok(None) => return pass.end(sink),
+            Ok(None) => return pass.end_all(sink),
             Ok(Some(item)) => {
-                if let Err(fault) = pass.take(members.path(), item, sink) {
+                if let Err(fault) = pass.take_member(members.path(), item, sink) {
                     return Err(fault);
                 }
             }

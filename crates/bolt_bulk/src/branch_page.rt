@@ -1,40 +1,25 @@
 //! A branch page, as it is written.
-ghost use Rattle.std.specs.Prelude.{◌≡◌, ◌+◌, ◌*◌, ◌<◌, ◌≤◌, ◌++◌, length, map};
+ghost use Rattle.std.specs.Prelude.{◌≡◌, ◌+◌, ◌*◌, ◌<◌, ◌≤◌, length, map};
 ghost use Rattle.bolt_format.specs.ElementPlaces.{branch_view};
 ghost use Rattle.bolt_layout.specs.Levels.{branch_view as branch_page_view};
-ghost use Rattle.bolt_layout.specs.PageBytes.{branch_data, branch_header, branch_headers, page_bytes};
+ghost use Rattle.bolt_layout.specs.PageBytes.{branch_data, branch_headers, page_bytes};
 ghost use Rattle.bolt_bulk.specs.Puts.{PutsWhole};
 
-use crate::pieces::{put, put_full, put_zeros};
-use crate::row::{BRANCH_FLAGS, ELEMENT_LEN, ROW_LEN, Row, header, push_u32, push_u64};
-use bolt_format::{Branch, Sink, SinkFault};
-
-/// Adds the header of an element.
-#[tactic(auto, unfolding(bolt_layout::specs::PageBytes::branch_header))]
-fn push_header(row: &mut Row, pos: u32, branch: &Branch<'_>)
-    requires room { length row.old.items + ELEMENT_LEN ≤ ROW_LEN }
-    requires key { length branch.now.key.now < 4294967296 }
-    ensures { row.new.items ≡ row.old.items ++ branch_header pos (branch_view branch.now) }
-{
-    push_u32(row, pos);
-    push_u32(row, branch.key.len() as u32);
-    push_u64(row, branch.child);
-}
+use crate::headers::Headers;
+use crate::pieces::{put, put_zeros};
+use bolt_format::{Branch, Kind, Sink, SinkFault, page_header};
 
 /// Writes the headers of elements. All keys are packed after the last header.
 fn put_headers<S: Sink>(branches: &[Branch<'_>], sink: &mut S) -> Result<(), SinkFault>
     requires { 16 * length branches.now + length (branch_data (map branch_view branches.now)) < 4294967296 }
     ensures { PutsWhole S.taken S.failed sink.old sink.new (branch_headers 0 (map branch_view branches.now)) result }
 {
-    let mut pos = ELEMENT_LEN * branches.len();
-    let mut row = Row::new();
+    let mut headers = Headers::new(branches.len());
     for i in 0..branches.len() {
-        put_full(&mut row, sink)?;
         let branch = &branches[i];
-        push_header(&mut row, pos as u32, branch);
-        pos = pos - ELEMENT_LEN + branch.key.len();
+        headers.put_branch(branch.key.len(), branch.child, sink)?;
     }
-    put(row.as_slice(), sink)
+    headers.put_rest(sink)
 }
 
 /// Writes the keys of elements.
@@ -63,8 +48,8 @@ pub(crate) fn put_branch_page<S: Sink>(
     requires fits { (1 + overflow) * page_size < 18446744073709551616 }
     ensures { PutsWhole S.taken S.failed sink.old sink.new (page_bytes page_size number (branch_page_view overflow (map branch_view branches.now))) result }
 {
-    let row = header(number, BRANCH_FLAGS, branches.len() as u16, overflow);
-    put(row.as_slice(), sink)?;
+    let header = page_header(number, Kind::Branch, branches.len() as u16, overflow);
+    put(&header, sink)?;
     put_headers(branches, sink)?;
     put_keys(branches, sink)?;
     put_zeros((1 + overflow as usize) * page_size - size, sink)

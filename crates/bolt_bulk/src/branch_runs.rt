@@ -17,7 +17,7 @@ use crate::branch_page::put_branch_page;
 use crate::fault::BulkFault;
 use crate::limits::BucketLimits;
 use crate::page_setup::{MAX_ITEMS, PageSetup, number_after, overflow};
-use bolt_format::{Branch, Sink, SinkFault};
+use bolt_format::{Branch, ELEMENT_LEN, HEADER_LEN, Sink, SinkFault};
 use std::alloc::Global;
 
 /// An open run of pages, the size of the page over it, and how many runs may come after it.
@@ -38,14 +38,14 @@ impl<'a> BranchRun<'a> {
     {
         BranchRun {
             elements: Vec::new(alloc),
-            size: 16,
+            size: HEADER_LEN,
             left,
             closed: 0,
         }
     }
 
     /// Adds the element of a page.
-    fn push(&mut self, page: Branch<'a>) -> Result<(), BulkFault>
+    fn push_page(&mut self, page: Branch<'a>) -> Result<(), BulkFault>
         requires size { self.old.size + length page.key.now < 9223372036854775808 }
         ensures row { OnOk result (row_of self.new ≡ row_push (row_of self.old) (branch_view page.entry)) }
         ensures fault { IfErr result (λ e. e ≡ fault.Memory) }
@@ -53,7 +53,7 @@ impl<'a> BranchRun<'a> {
         if self.elements.push(page).is_err() {
             return Err(BulkFault::Memory);
         }
-        self.size += 16 + page.key.len();
+        self.size += ELEMENT_LEN + page.key.len();
         Ok(())
     }
 
@@ -63,7 +63,8 @@ impl<'a> BranchRun<'a> {
         ensures { result ≡ row_has_room page_size (row_of self.now) (key_size key.now) }
     {
         self.elements.len() < 2
-            || (self.size + (16 + key.len()) <= page_size && self.elements.len() < MAX_ITEMS)
+            || (self.size + (ELEMENT_LEN + key.len()) <= page_size
+                && self.elements.len() < MAX_ITEMS)
     }
 
     /// Whether the run stays open for the next page, which has this first key: the run has room for
@@ -87,7 +88,7 @@ impl<'a> BranchRun<'a> {
     /// Takes the element of a page that has closed. The next page has this first key. If that page
     /// doesn't join the run, the run closes: its page is written, and the element of that page is
     /// returned.
-    fn take<S: Sink>(
+    fn take_page<S: Sink>(
         &mut self,
         setup: &PageSetup,
         key: &[u8],
@@ -107,7 +108,7 @@ impl<'a> BranchRun<'a> {
         ensures up { IfOk result (λ up. option_map branch_view up ≡ taking_up setup.now.page_size key.now (branch_view closed.entry) next.old (row_of self.old)) }
         ensures large { IfErr result (λ e. e ≡ fault.TooLarge → setup.now.limit < taking_next setup.now.page_size key.now (branch_view closed.entry) next.old (row_of self.old)) }
     {
-        self.push(closed)?;
+        self.push_page(closed)?;
         if self.stays(setup.page_size, key) {
             return Ok(None);
         }
@@ -117,7 +118,7 @@ impl<'a> BranchRun<'a> {
 
     /// Takes the element of the last page below, and closes the run: its page is written, and the
     /// element of that page is returned.
-    fn end<S: Sink>(
+    fn take_last_page<S: Sink>(
         &mut self,
         setup: &PageSetup,
         closed: Branch<'a>,
@@ -135,7 +136,7 @@ impl<'a> BranchRun<'a> {
         ensures within { OnOk result (next.new ≤ setup.now.limit) }
         ensures large { IfErr result (λ e. e ≡ fault.TooLarge → setup.now.limit < next.old + (1 + overflow_of setup.now.page_size (row_push (row_of self.old) (branch_view closed.entry)).size)) }
     {
-        self.push(closed)?;
+        self.push_page(closed)?;
         self.close(setup, next, sink)
     }
 
@@ -158,13 +159,13 @@ impl<'a> BranchRun<'a> {
     {
         let number = *next;
         let after = number_after(setup, self.size, number)?;
-        self.put(setup, number, sink)?;
+        self.put_page(setup, number, sink)?;
         let up = Branch {
             key: self.elements[0].key,
             child: number,
         };
         self.elements.clear();
-        self.size = 16;
+        self.size = HEADER_LEN;
         self.left = match self.left {
             Some(left) => Some(left.saturating_sub(1)),
             None => None,
@@ -175,7 +176,12 @@ impl<'a> BranchRun<'a> {
     }
 
     /// Writes the page over the run.
-    fn put<S: Sink>(&self, setup: &PageSetup, number: u64, sink: &mut S) -> Result<(), SinkFault>
+    fn put_page<S: Sink>(
+        &self,
+        setup: &PageSetup,
+        number: u64,
+        sink: &mut S,
+    ) -> Result<(), SinkFault>
         requires sized { IsSizedRow (row_of self.now) }
         requires small { self.now.size < 4294967296 }
         requires few { length self.now.elements.items < 65536 }
@@ -218,14 +224,14 @@ pub(crate) fn climb<'a, S: Sink>(
 {
     let mut closed = closed;
     for i in 0..uppers.len() {
-        match uppers[i].take(setup, key, closed, next, sink) {
+        match uppers[i].take_page(setup, key, closed, next, sink) {
             Err(fault) => return Err(fault),
             Ok(None) => return Ok(()),
             Ok(Some(up)) => closed = up,
         }
     }
     let mut run = BranchRun::new(setup.alloc, limits.at(uppers.len()));
-    run.push(closed)?;
+    run.push_page(closed)?;
     if uppers.push(run).is_err() {
         return Err(BulkFault::Memory);
     }
@@ -252,7 +258,7 @@ pub(crate) fn close_all<'a, S: Sink>(
 {
     let mut closed = closed;
     for i in 0..uppers.len() {
-        match uppers[i].end(setup, closed, next, sink) {
+        match uppers[i].take_last_page(setup, closed, next, sink) {
             Err(fault) => return Err(fault),
             Ok(up) => closed = up,
         }

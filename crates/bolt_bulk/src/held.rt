@@ -4,9 +4,9 @@ ghost use Rattle.std.specs.Prelude.{◌≡◌, List, length};
 ghost use Rattle.bolt_bulk.specs.Private.HeldItems.{IsStored, is_stored_bucket, stored_value};
 ghost use Rattle.bolt_bulk.specs.Puts.{PutsWhole};
 
-use crate::bucket_value::{ROOT_VALUE_LEN, put_inline_value, root_row};
+use crate::bucket_value::put_inline_value;
 use crate::pieces::put;
-use bolt_format::{Leaf, Sink, SinkFault};
+use bolt_format::{HEAD_LEN, Leaf, Sink, SinkFault, bucket_head};
 
 /// What is under a key in a copy.
 #[derive(Clone, Copy)]
@@ -42,7 +42,7 @@ impl<'a> Stored<'a> {
     {
         match *self {
             Stored::Value(value) => value.len(),
-            Stored::Root { .. } => ROOT_VALUE_LEN,
+            Stored::Root { .. } => HEAD_LEN,
             Stored::Inline { size, .. } => size,
         }
     }
@@ -64,7 +64,7 @@ impl<'a> Stored<'a> {
     {
         match *self {
             Stored::Value(value) => put(value, sink),
-            Stored::Root { page, sequence } => put(root_row(page, sequence).as_slice(), sink),
+            Stored::Root { page, sequence } => put(&bucket_head(page, sequence), sink),
             Stored::Inline {
                 sequence,
                 first,

@@ -5,10 +5,10 @@ ghost use Rattle.bolt_layout.specs.PageBytes.{leaf_data, leaf_headers, page_byte
 ghost use Rattle.bolt_bulk.specs.Private.HeldItems.{AreHeld, IsHeld, held_views, page_size_of, stored_value};
 ghost use Rattle.bolt_bulk.specs.Puts.{PutsWhole};
 
+use crate::headers::Headers;
 use crate::held::Held;
-use crate::pieces::{put, put_full, put_zeros};
-use crate::row::{ELEMENT_LEN, LEAF_FLAGS, Row, header, push_leaf_header};
-use bolt_format::{Leaf, Sink, SinkFault};
+use crate::pieces::{put, put_zeros};
+use bolt_format::{Kind, Leaf, Sink, SinkFault, page_header};
 
 /// Writes the headers of items. All their data is packed after the last header.
 fn put_headers<S: Sink>(
@@ -20,18 +20,13 @@ fn put_headers<S: Sink>(
     requires size { 16 * length items.now + length (leaf_data (held_views inlined.now items.now)) < 4294967296 }
     ensures { PutsWhole S.taken S.failed sink.old sink.new (leaf_headers 0 (held_views inlined.now items.now)) result }
 {
-    let mut pos = ELEMENT_LEN * items.len();
-    let mut row = Row::new();
+    let mut headers = Headers::new(items.len());
     for i in 0..items.len() {
-        put_full(&mut row, sink)?;
         let held = &items[i];
-        let key = held.key.len();
         let value = held.stored.len();
-        let is_bucket = held.stored.is_bucket();
-        push_leaf_header(&mut row, pos as u32, is_bucket, key as u32, value as u32);
-        pos = pos - ELEMENT_LEN + key + value;
+        headers.put_leaf(held.stored.is_bucket(), held.key.len(), value, sink)?;
     }
-    put(row.as_slice(), sink)
+    headers.put_rest(sink)
 }
 
 /// Writes the key and the value of an item.
@@ -77,8 +72,8 @@ pub(crate) fn put_leaf_page<S: Sink>(
     requires fits { (1 + overflow) * page_size < 18446744073709551616 }
     ensures { PutsWhole S.taken S.failed sink.old sink.new (page_bytes page_size number (leaf_page_view overflow (held_views inlined.now items.now))) result }
 {
-    let row = header(number, LEAF_FLAGS, items.len() as u16, overflow);
-    put(row.as_slice(), sink)?;
+    let header = page_header(number, Kind::Leaf, items.len() as u16, overflow);
+    put(&header, sink)?;
     put_headers(items, inlined, sink)?;
     put_data(items, inlined, sink)?;
     put_zeros((1 + overflow as usize) * page_size - size, sink)

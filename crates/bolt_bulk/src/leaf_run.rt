@@ -13,7 +13,7 @@ use crate::fault::BulkFault;
 use crate::held::Held;
 use crate::leaf_page::put_leaf_page;
 use crate::page_setup::{MAX_ITEMS, PageSetup, number_after, overflow};
-use bolt_format::{Branch, Leaf, Sink, SinkFault};
+use bolt_format::{Branch, HEADER_LEN, Leaf, Sink, SinkFault};
 
 /// An open run of items, the entries of the inline buckets among them, and the size of the page
 /// over it.
@@ -34,7 +34,12 @@ impl<'a> LeafRun<'a> {
     }
 
     /// Writes the page over the run.
-    fn put<S: Sink>(&self, setup: &PageSetup, number: u64, sink: &mut S) -> Result<(), SinkFault>
+    fn put_page<S: Sink>(
+        &self,
+        setup: &PageSetup,
+        number: u64,
+        sink: &mut S,
+    ) -> Result<(), SinkFault>
         requires run { IsLeafRun self.now }
         ensures { PutsWhole S.taken S.failed sink.old sink.new (page_bytes setup.now.page_size number (leaf_page setup.now.page_size (leaves_of self.now) number).view) result }
     {
@@ -71,14 +76,14 @@ impl<'a> LeafRun<'a> {
     {
         let number = *next;
         let after = number_after(setup, self.size, number)?;
-        self.put(setup, number, sink)?;
+        self.put_page(setup, number, sink)?;
         let key = match self.items.first() {
             Some(held) => held.key,
             None => &[],
         };
         self.items.clear();
         self.inlined.clear();
-        self.size = 16;
+        self.size = HEADER_LEN;
         *next = after;
         Ok(Branch { key, child: number })
     }

@@ -1,5 +1,9 @@
 //! The compact copy of a sound file, or of what a damaged one still holds: the calls that plan it,
 //! and those that write it page by page. `bolt_layout` defines its layout.
+//!
+//! The copy is bulk loaded: its members come once, in order, and each page is filled and written
+//! before any page above it. No page is written twice. Of each open bucket only the items of pages
+//! that aren't full yet are held.
 #![tactic(auto)]
 
 mod all_pages;
@@ -10,6 +14,7 @@ mod copy;
 mod fault;
 mod file_laws;
 mod first_pages;
+mod headers;
 mod held;
 mod held_count;
 mod leaf_page;
@@ -21,11 +26,10 @@ mod open_bucket;
 mod outcome;
 mod page_setup;
 mod pass;
-mod pending;
+mod pending_bucket;
 mod pieces;
-mod row;
 mod told;
-mod waiting;
+mod waiting_bucket;
 
 pub use copy::{compact, compact_as, compact_recovered, plan, plan_as};
 pub use fault::{BulkFault, PlanFault};

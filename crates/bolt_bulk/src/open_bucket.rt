@@ -10,7 +10,7 @@ ghost use Rattle.bolt_bulk.specs.Private.HeldItems.{IsHeld, held_view, inlined_b
 ghost use Rattle.bolt_bulk.specs.Private.OpenBuckets.{HasRoomFor, IsOpenBucket, bucket_end_next, leaves_of, rows_of};
 ghost use Rattle.bolt_bulk.specs.Private.Rows.{leaves_have_room, no_leaves, rows_end, rows_end_put, rows_push, rows_room, rows_room_put};
 ghost use Rattle.bolt_bulk.specs.Private.TakenItems.{entries_size, inline_element, inline_size, rows_taking, value_element};
-ghost use Rattle.bolt_bulk.specs.Private.Waiting.{IsWaiting};
+ghost use Rattle.bolt_bulk.specs.Private.WaitingBuckets.{IsWaiting};
 ghost use Rattle.bolt_bulk.specs.Puts.{Puts};
 ghost use Rattle.bolt_bulk.specs.declared.fault.BulkFault.TheVariants as fault;
 
@@ -20,9 +20,9 @@ use crate::held::{Held, Stored};
 use crate::leaf_run::LeafRun;
 use crate::limits::BucketLimits;
 use crate::page_setup::PageSetup;
-use crate::pending::Pending;
-use crate::waiting::Waiting;
-use bolt_format::{Leaf, Sink};
+use crate::pending_bucket::PendingBucket;
+use crate::waiting_bucket::{ROOT_ITEM_LEN, WaitingBucket};
+use bolt_format::{ELEMENT_LEN, HEAD_LEN, HEADER_LEN, Leaf, Sink};
 use std::alloc::Global;
 
 /// An open bucket.
@@ -54,7 +54,7 @@ fn value_items<'a>(alloc: Global, entries: &[Leaf<'a>]) -> Result<Vec<Held<'a>>,
 }
 
 impl<'a> OpenBucket<'a> {
-    /// A bucket that has taken no item yet.
+    /// A bucket that has no item yet.
     pub(crate) fn new(alloc: Global, limits: BucketLimits<'a>) -> OpenBucket<'a>
         ensures open { IsOpenBucket result }
         ensures rows { (next : ℕ) → rows_of result next ≡ record { leaves = no_leaves; uppers = []; limits = limits.entry; next = next } }
@@ -63,14 +63,14 @@ impl<'a> OpenBucket<'a> {
             leaves: LeafRun {
                 items: Vec::new(alloc),
                 inlined: Vec::new(alloc),
-                size: 16,
+                size: HEADER_LEN,
             },
             uppers: Vec::new(alloc),
             limits,
         }
     }
 
-    /// A bucket that has taken these values so far, in its first run. The page over them has `size`
+    /// A bucket that has these values so far, in its first run. The page over them has `size`
     /// bytes.
     pub(crate) fn of_values(
         alloc: Global,
@@ -169,7 +169,7 @@ impl<'a> OpenBucket<'a> {
     }
 
     /// Adds an item of this size, for which there is room. It isn't an inline bucket.
-    pub(crate) fn push(&mut self, held: Held<'a>, size: usize) -> Result<(), BulkFault>
+    pub(crate) fn push_item(&mut self, held: Held<'a>, size: usize) -> Result<(), BulkFault>
         requires open { IsOpenBucket self.old }
         requires held { IsHeld self.old.leaves.inlined.items held }
         requires apart { inlined_by held.stored ≡ 0 }
@@ -218,13 +218,13 @@ impl<'a> OpenBucket<'a> {
         if self.leaves.items.push(Held { key, stored }).is_err() {
             return Err(BulkFault::Memory);
         }
-        self.leaves.size += 16 + (key.len() + size);
+        self.leaves.size += ELEMENT_LEN + (key.len() + size);
         Ok(())
     }
 
-    /// Takes a value.
+    /// Adds a value, after it made room for it.
     #[inline(always)]
-    pub(crate) fn take_value<S: Sink>(
+    pub(crate) fn add_value<S: Sink>(
         &mut self,
         setup: &PageSetup,
         key: &'a [u8],
@@ -242,17 +242,17 @@ impl<'a> OpenBucket<'a> {
         ensures within { OnOk result (next.new ≤ setup.now.limit) }
         ensures large { IfErr result (λ e. e ≡ fault.TooLarge → setup.now.limit < (rows_room setup.now.page_size (rows_of self.old next.old) key.now (16 + (length key.now + length value.now))).next) }
     {
-        let size = 16 + (key.len() + value.len());
+        let size = ELEMENT_LEN + (key.len() + value.len());
         let stored = Stored::Value(value);
         self.make_room(setup, key, size, next, sink)?;
-        self.push(Held { key, stored }, size)
+        self.push_item(Held { key, stored }, size)
     }
 
-    /// Takes a bucket that is inline, with these entries.
-    pub(crate) fn take_inline<S: Sink>(
+    /// Adds a bucket that is inline, with these entries, after it made room for it.
+    pub(crate) fn add_inline<S: Sink>(
         &mut self,
         setup: &PageSetup,
-        pending: Pending<'a>,
+        pending: PendingBucket<'a>,
         entries: &[Leaf<'a>],
         next: &mut u64,
         sink: &mut S,
@@ -270,8 +270,8 @@ impl<'a> OpenBucket<'a> {
         ensures large { IfErr result (λ e. e ≡ fault.TooLarge → setup.now.limit < (rows_room setup.now.page_size (rows_of self.old next.old) pending.entry.key.now (16 + (length pending.entry.key.now + (pending.entry.size + 16)))).next) }
     {
         let key = pending.key;
-        let size = pending.size + 16;
-        self.make_room(setup, key, 16 + (key.len() + size), next, sink)?;
+        let size = pending.size + HEAD_LEN;
+        self.make_room(setup, key, ELEMENT_LEN + (key.len() + size), next, sink)?;
         self.push_inline(key, pending.sequence, entries, size)
     }
 
@@ -280,11 +280,11 @@ impl<'a> OpenBucket<'a> {
     pub(crate) fn enter<S: Sink>(
         self,
         setup: &PageSetup,
-        pending: Pending<'a>,
+        pending: PendingBucket<'a>,
         around: u64,
         next: &mut u64,
         sink: &mut S,
-    ) -> Result<Waiting<'a>, BulkFault>
+    ) -> Result<WaitingBucket<'a>, BulkFault>
         requires open { IsOpenBucket self }
         requires key { length pending.key.now ≤ 1073741824 }
         requires next { next.old ≤ setup.now.limit }
@@ -299,8 +299,8 @@ impl<'a> OpenBucket<'a> {
     {
         let mut bucket = self;
         let key = pending.key;
-        bucket.make_room(setup, key, 32 + key.len(), next, sink)?;
-        Ok(Waiting {
+        bucket.make_room(setup, key, ROOT_ITEM_LEN + key.len(), next, sink)?;
+        Ok(WaitingBucket {
             bucket,
             key,
             sequence: pending.sequence,
@@ -309,7 +309,7 @@ impl<'a> OpenBucket<'a> {
     }
 
     /// Closes all runs, up to the root page, and returns the number of that page.
-    pub(crate) fn end<S: Sink>(
+    pub(crate) fn close_runs<S: Sink>(
         &mut self,
         setup: &PageSetup,
         next: &mut u64,

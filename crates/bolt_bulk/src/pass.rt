@@ -6,10 +6,10 @@ use crate::fault::BulkFault;
 use crate::limits::{BucketLimits, Limits};
 use crate::open_bucket::OpenBucket;
 use crate::page_setup::{MAX_ITEMS, PageSetup};
-use crate::pending::Pending;
+use crate::pending_bucket::PendingBucket;
 use crate::told::Told;
-use crate::waiting::Waiting;
-use bolt_format::{Leaf, Sink};
+use crate::waiting_bucket::WaitingBucket;
+use bolt_format::{ELEMENT_LEN, HEADER_LEN, Leaf, Sink};
 use bolt_tree::Item;
 use std::mem;
 
@@ -32,10 +32,10 @@ pub(crate) struct Pass<'a> {
     pub setup: PageSetup,
     pub limits: &'a Limits,
     /// The buckets around the one that is open, the innermost last.
-    pub waiting: Vec<Waiting<'a>>,
+    pub waiting: Vec<WaitingBucket<'a>>,
     pub bucket: OpenBucket<'a>,
     /// The bucket within the open one that may be inline, and its entries so far.
-    pub pending: Option<Pending<'a>>,
+    pub pending: Option<PendingBucket<'a>>,
     pub entries: Vec<Leaf<'a>>,
     /// The number of the next page.
     pub next: u64,
@@ -120,7 +120,7 @@ impl<'a> Pass<'a> {
         let Some(pending) = self.pending else {
             return self.put_value(key, value, sink);
         };
-        let size = pending.size + (16 + (key.len() + value.len()));
+        let size = pending.size + (ELEMENT_LEN + (key.len() + value.len()));
         if size <= self.setup.page_size / 4 && self.entries.len() < MAX_ITEMS {
             return self.keep_value(pending, key, value, size);
         }
@@ -133,7 +133,7 @@ impl<'a> Pass<'a> {
     /// Takes a value of the pending bucket, which may still be inline with it.
     fn keep_value(
         &mut self,
-        pending: Pending<'a>,
+        pending: PendingBucket<'a>,
         key: &'a [u8],
         value: &'a [u8],
         size: usize,
@@ -159,7 +159,7 @@ impl<'a> Pass<'a> {
         if self.entries.push(entry).is_err() {
             return Err(BulkFault::Memory);
         }
-        self.pending = Some(Pending { size, ..pending });
+        self.pending = Some(PendingBucket { size, ..pending });
         Ok(())
     }
 
@@ -183,7 +183,7 @@ impl<'a> Pass<'a> {
     {
         let taken = self
             .bucket
-            .take_value(&self.setup, key, value, &mut self.next, sink);
+            .add_value(&self.setup, key, value, &mut self.next, sink);
         if let Err(fault) = taken {
             return Err(fault);
         }
@@ -230,16 +230,20 @@ impl<'a> Pass<'a> {
         ensures at { (wanted : Wanted) (inside after : Tree) (levels : List Level) (put : List Placed) → IsAt wanted self.old levels (with_bucket key.now sequence inside after) put
             → IsAt wanted self.new (record { key = key.now; after = after } ∷ levels) inside put }
     {
-        self.pending = Some(Pending {
+        self.pending = Some(PendingBucket {
             key,
             sequence,
-            size: 16,
+            size: HEADER_LEN,
         });
     }
 
     /// Opens the pending bucket with its entries so far, as it turns out to have a root page. The
     /// bucket around it waits.
-    fn open_pending<S: Sink>(&mut self, pending: Pending<'a>, sink: &mut S) -> Result<(), BulkFault>
+    fn open_pending<S: Sink>(
+        &mut self,
+        pending: PendingBucket<'a>,
+        sink: &mut S,
+    ) -> Result<(), BulkFault>
         requires ready { IsReady self.old }
         requires pending { self.old.pending ≡ Some pending }
         ensures setup { OnOk result (self.new.setup ≡ self.old.setup) }
@@ -283,7 +287,7 @@ impl<'a> Pass<'a> {
 
     /// Ends the innermost bucket.
     #[inline(never)]
-    fn leave<S: Sink>(&mut self, sink: &mut S) -> Result<(), BulkFault>
+    fn leave_bucket<S: Sink>(&mut self, sink: &mut S) -> Result<(), BulkFault>
         requires ready { IsReady self.old }
         requires within { 1 < depth_of self.old }
         ensures setup { OnOk result (self.new.setup ≡ self.old.setup) }
@@ -299,7 +303,11 @@ impl<'a> Pass<'a> {
     }
 
     /// Ends the pending bucket, which is inline.
-    fn end_inline<S: Sink>(&mut self, pending: Pending<'a>, sink: &mut S) -> Result<(), BulkFault>
+    fn end_inline<S: Sink>(
+        &mut self,
+        pending: PendingBucket<'a>,
+        sink: &mut S,
+    ) -> Result<(), BulkFault>
         requires ready { IsReady self.old }
         requires pending { self.old.pending ≡ Some pending }
         ensures setup { OnOk result (self.new.setup ≡ self.old.setup) }
@@ -308,7 +316,7 @@ impl<'a> Pass<'a> {
         ensures steps { (wanted : Wanted) (level : Level) (levels : List Level) (put : List Placed) → IsAt wanted self.old (level ∷ levels) end put
             → Steps wanted S.taken S.failed sink.old sink.new self.old.setup put (IsAt wanted self.new levels level.after) result }
     {
-        let taken = self.bucket.take_inline(
+        let taken = self.bucket.add_inline(
             &self.setup,
             pending,
             self.entries.as_slice(),
@@ -349,7 +357,7 @@ impl<'a> Pass<'a> {
             &mut self.bucket,
             OpenBucket::new(self.setup.alloc, waiting.bucket.limits),
         );
-        match waiting.leave(&self.setup, inner, &mut self.next, sink) {
+        match waiting.end_inner(&self.setup, inner, &mut self.next, sink) {
             Err(fault) => Err(fault),
             Ok(outer) => {
                 self.bucket = outer;
@@ -371,15 +379,15 @@ impl<'a> Pass<'a> {
             → Steps wanted S.taken S.failed sink.old sink.new self.old.setup put (HasLeft wanted self.new members) result }
     {
         'levels: while self.depth() > depth {
-            if let Err(fault) = self.leave(sink) {
+            if let Err(fault) = self.leave_bucket(sink) {
                 return Err(fault);
             }
         }
         Ok(())
     }
 
-    /// Takes the next member of a walk.
-    pub(crate) fn take<S: Sink>(
+    /// Takes the next member of a walk, after it ended the buckets that the member isn't in.
+    pub(crate) fn take_member<S: Sink>(
         &mut self,
         path: &[&'a [u8]],
         item: Item<'a>,
@@ -406,7 +414,7 @@ impl<'a> Pass<'a> {
     }
 
     /// Ends all buckets, up to the root page of the root bucket.
-    pub(crate) fn end<S: Sink>(&mut self, sink: &mut S) -> Result<Ended, BulkFault>
+    pub(crate) fn end_all<S: Sink>(&mut self, sink: &mut S) -> Result<Ended, BulkFault>
         requires { IsReady self.old }
         ensures { (wanted : Wanted) (put : List Placed) → HasLeft wanted self.old [] put → Ends wanted S.taken S.failed sink.old sink.new self.old.setup put result }
     {
@@ -419,13 +427,13 @@ impl<'a> Pass<'a> {
         if let Err(fault) = ended {
             return Err(fault);
         }
-        match self.bucket.end(&self.setup, &mut self.next, sink) {
+        match self.bucket.close_runs(&self.setup, &mut self.next, sink) {
             Err(fault) => Err(fault),
             Ok(root) => Ok(Ended {
                 root,
                 high_water: self.next,
                 held: self.most,
-                told: self.told.take(self.setup.alloc),
+                told: self.told.take_limits(self.setup.alloc),
             }),
         }
     }

@@ -1,9 +1,7 @@
 //! Bytes that are written piece by piece.
-ghost use Rattle.std.specs.Prelude.{◌+◌, ◌≤◌, length, replicate};
-ghost use Rattle.bolt_bulk.specs.Private.Gathering.{Gathers};
+ghost use Rattle.std.specs.Prelude.{replicate};
 ghost use Rattle.bolt_bulk.specs.Puts.{PutsWhole};
 
-use crate::row::{ELEMENT_LEN, ROW_LEN, Row};
 use bolt_format::{Sink, SinkFault};
 
 /// A block of zeros.
@@ -18,20 +16,6 @@ pub(crate) fn put<S: Sink>(bytes: &[u8], sink: &mut S) -> Result<(), SinkFault>
         return Ok(());
     }
     sink.put(bytes)
-}
-
-/// Makes room in a buffer row for the header of one more element. If it has none, it is written and
-/// emptied.
-pub(crate) fn put_full<S: Sink>(row: &mut Row, sink: &mut S) -> Result<(), SinkFault>
-    ensures gathers { Gathers S.taken S.failed sink.old sink.new row.old.items row.new.items result }
-    ensures room { length row.new.items + ELEMENT_LEN ≤ ROW_LEN }
-{
-    if row.len() + ELEMENT_LEN <= ROW_LEN {
-        return Ok(());
-    }
-    let done = put(row.as_slice(), sink);
-    row.clear();
-    done
 }
 
 /// Writes `count` zeros.

@@ -48,7 +48,7 @@ impl Told {
     }
 
     /// Returns the limits, and leaves none.
-    pub(crate) fn take(&mut self, alloc: Global) -> Limits
+    pub(crate) fn take_limits(&mut self, alloc: Global) -> Limits
         ensures { result ≡ self.old.limits }
     {
         mem::replace(&mut self.limits, Limits::none(alloc))

@@ -9,8 +9,8 @@ use Rattle.bolt_check.specs.AccountFindings.{IsAccountFinding, IsBefore, IsLost,
 use Rattle.bolt_check.specs.declared.finding.Finding.{Finding}
 use Rattle.bolt_check.specs.declared.finding.TheConstants.Finding.{UNREACHABLE}
 
--- what is told of the pages from one to before another
-pub record Tells (mark : ℕ) (in_use : ℕ → Type 0) (times : ℕ → ℕ) (from next : ℕ) (ys : List Finding) : Type 0 where
+-- what is reported of the pages from one to before another
+pub record Reports (mark : ℕ) (in_use : ℕ → Type 0) (times : ℕ → ℕ) (from next : ℕ) (ys : List Finding) : Type 0 where
   pub sound : All (IsAccountFinding mark in_use times) ys
   pub within : All (λ x. (from ≤ x.page) × (x.page < next)) ys
   pub complete : (x : Finding) → IsAccountFinding mark in_use times x → from ≤ x.page → x.page < next → Contains ys x
@@ -41,26 +41,26 @@ pub one_rises : (y : Finding) → AllPairs IsBefore (y ∷ [])
 one_rises y i j d h l = absurd (omega arith)
 
 module _ (mark : ℕ) (in_use : ℕ → Type 0) (times : ℕ → ℕ) where
-  pub told_append : (from next : ℕ) (findings ys : List Finding) → AreFindingsBelow mark in_use times from findings → from ≤ next → Tells mark in_use times from next ys
+  pub reported_append : (from next : ℕ) (findings ys : List Finding) → AreFindingsBelow mark in_use times from findings → from ≤ next → Reports mark in_use times from next ys
       → AreFindingsBelow mark in_use times next (findings ++ ys)
-  told_append from next findings ys told order more = record {
-    sound = All-append (IsAccountFinding mark in_use times) findings ys told.sound more.sound;
-    below = All-append (λ x. x.page < next) findings ys (All-weaker (λ x. x.page < from) (λ x. x.page < next) (λ x h. omega arith) findings told.below)
+  reported_append from next findings ys reported order more = record {
+    sound = All-append (IsAccountFinding mark in_use times) findings ys reported.sound more.sound;
+    below = All-append (λ x. x.page < next) findings ys (All-weaker (λ x. x.page < from) (λ x. x.page < next) (λ x h. omega arith) findings reported.below)
         (All-weaker (λ x. (from ≤ x.page) × (x.page < next)) (λ x. x.page < next) (λ x h. h.1) ys more.within);
     complete = λ x is h. elim (cases_lt x.page from) [
-      | inl before ↦ Contains-append_left findings ys x (told.complete x is before)
+      | inl before ↦ Contains-append_left findings ys x (reported.complete x is before)
       | inr after ↦ Contains-append_right findings ys x (more.complete x is after h)
     ];
-    rises = rises_append findings ys from told.rises more.rises told.below (All-weaker (λ x. (from ≤ x.page) × (x.page < next)) (λ x. from ≤ x.page) (λ x h. h.0) ys more.within);
+    rises = rises_append findings ys from reported.rises more.rises reported.below (All-weaker (λ x. (from ≤ x.page) × (x.page < next)) (λ x. from ≤ x.page) (λ x h. h.0) ys more.within);
     silent = λ e n h gone. let both = append_empty findings ys e in elim (cases_lt n from) [
-      | inl before ↦ told.silent both.0 n before gone
+      | inl before ↦ reported.silent both.0 n before gone
       | inr after ↦ more.silent both.1 n after h gone
     ];
   }
 
-  pub tells_none : (from next : ℕ) → ((n : ℕ) → from ≤ n → n < next → IsLost mark in_use times n → ⊥)
-      → ((x : Finding) → IsAccountFinding mark in_use times x → from ≤ x.page → x.page < next → ⊥) → Tells mark in_use times from next []
-  tells_none from next kept none = record {
+  pub reports_none : (from next : ℕ) → ((n : ℕ) → from ≤ n → n < next → IsLost mark in_use times n → ⊥)
+      → ((x : Finding) → IsAccountFinding mark in_use times x → from ≤ x.page → x.page < next → ⊥) → Reports mark in_use times from next []
+  reports_none from next kept none = record {
     sound = All-nil (IsAccountFinding mark in_use times);
     within = All-nil (λ x. (from ≤ x.page) × (x.page < next));
     complete = λ x is low high. absurd (none x is low high);
@@ -68,9 +68,9 @@ module _ (mark : ℕ) (in_use : ℕ → Type 0) (times : ℕ → ℕ) where
     silent = λ e. kept;
   }
 
-  pub tells_one : (from next : ℕ) (y : Finding) → IsAccountFinding mark in_use times y → from ≤ y.page → y.page < next
-      → ((x : Finding) → IsAccountFinding mark in_use times x → from ≤ x.page → x.page < next → x ≡ y) → Tells mark in_use times from next (y ∷ [])
-  tells_one from next y is low high only = record {
+  pub reports_one : (from next : ℕ) (y : Finding) → IsAccountFinding mark in_use times y → from ≤ y.page → y.page < next
+      → ((x : Finding) → IsAccountFinding mark in_use times x → from ≤ x.page → x.page < next → x ≡ y) → Reports mark in_use times from next (y ∷ [])
+  reports_one from next y is low high only = record {
     sound = All-cons (IsAccountFinding mark in_use times) y [] is (All-nil (IsAccountFinding mark in_use times));
     within = All-cons (λ x. (from ≤ x.page) × (x.page < next)) y [] (low, high) (All-nil (λ x. (from ≤ x.page) × (x.page < next)));
     complete = λ x is low high. is_one x y (only x is low high);
@@ -104,11 +104,11 @@ module _ (mark : ℕ) (in_use : ℕ → Type 0) (times : ℕ → ℕ) where
       unreachable (omega arith) (λ n low high. run.lost n low (omega arith)) (λ lost. ends (subst (IsLost mark in_use times) next lost)) run.begins
 
   -- the lost pages before a page that is not lost
-  pub tells_run : (from page : ℕ) → from ≤ page → IsRun mark in_use times from page → (IsLost mark in_use times page → ⊥)
-      → Tells mark in_use times from page (run_findings from page)
-  tells_run from page order run ends =
+  pub reports_run : (from page : ℕ) → from ≤ page → IsRun mark in_use times from page → (IsLost mark in_use times page → ⊥)
+      → Reports mark in_use times from page (run_findings from page)
+  reports_run from page order run ends =
       elim (cases_lt from page) [
-        | inl some ↦ rw (lt-ltb from page some) (tells_one from page (record { number = UNREACHABLE; page = from; last = page - 1 }) (run_found from page some run ends) (omega arith) some
+        | inl some ↦ rw (lt-ltb from page some) (reports_one from page (record { number = UNREACHABLE; page = from; last = page - 1 }) (run_found from page some run ends) (omega arith) some
             (run_is from page run ends))
-        | inr none ↦ rw (le-ltb from page none) (tells_none from page (λ n low high. absurd (omega arith)) (λ x is low high. absurd (omega arith)))
+        | inr none ↦ rw (le-ltb from page none) (reports_none from page (λ n low high. absurd (omega arith)) (λ x is low high. absurd (omega arith)))
       ]

@@ -7,7 +7,7 @@ use Rattle.bolt_check.specs.AccountFindings.{AreAccountFindings, IsBefore, IsFre
 use Rattle.bolt_check.specs.declared.finding.Finding.{Finding}
 use Rattle.bolt_check.proofs.AccountLemmas.{unwritten}
 
--- ---- findings and their lists can be told apart
+-- ---- findings and their lists can be reported apart
 
 differs : (n m : ℕ) → (n ≡ m) ⊎ (n ≢ m)
 differs n m = elim (cases_order n m) [
@@ -106,7 +106,7 @@ same_lists (x ∷ xs) (y ∷ ys) a b there back =
     ap₂ (λ (z : Finding) (zs : List Finding). z ∷ zs) same
     (same_lists xs ys (rest_rises x xs a) (rest_rises y ys b) (rest_in x y xs ys same a there) (rest_in y x ys xs (sym same) b back))
 
--- ---- what is told
+-- ---- what is reported
 
 by_ids : (file : List ℕ) (meta : Meta) (used : ℕ → Type 0) (xs ys : List Finding) (ids : Option (List ℕ)) → free_ids_of file meta ≡ ids
     → AreAccountFindings file meta used xs → AreAccountFindings file meta used ys → ((x : Finding) → IsFreelistFinding file meta used x → ⊥) → xs ≡ ys

@@ -42,52 +42,52 @@ module _ (mark : ℕ) (in_use also : ℕ → Type 0) (times counts : ℕ → ℕ
       unreachable order (λ n low high. lost_back n (lost n low high)) (λ is. after (lost_along (suc last) is)) (λ n e is. before n e (lost_along n is))
   finding_back x (out_of_range {n = n} out one) = out_of_range out (let e = same n in omega (arith, e, one))
 
-  pub told_along : (findings : List Finding) → AreAllFindings mark in_use times findings → AreAllFindings mark also counts findings
-  told_along findings told = record {
-    exact = λ x. (λ in_list. finding_along x ((told.exact x).0 in_list), λ is. (told.exact x).1 (finding_back x is));
-    rises = told.rises;
-    silent = λ e n is. told.silent e n (lost_back n is);
+  pub reported_along : (findings : List Finding) → AreAllFindings mark in_use times findings → AreAllFindings mark also counts findings
+  reported_along findings reported = record {
+    exact = λ x. (λ in_list. finding_along x ((reported.exact x).0 in_list), λ is. (reported.exact x).1 (finding_back x is));
+    rises = reported.rises;
+    silent = λ e n is. reported.silent e n (lost_back n is);
   }
 
 module _ (mark : ℕ) (in_use : ℕ → Type 0) (times : ℕ → ℕ) where
-  -- nothing is told,
-  none_told : AreAllFindings mark in_use times [] → (x : Finding) → IsAccountFinding mark in_use times x → ⊥
-  none_told told x is = let (k, h, e) = (told.exact x).1 is in omega (arith, h)
+  -- nothing is reported,
+  none_reported : AreAllFindings mark in_use times [] → (x : Finding) → IsAccountFinding mark in_use times x → ⊥
+  none_reported reported x is = let (k, h, e) = (reported.exact x).1 is in omega (arith, h)
 
   in_range : AreAllFindings mark in_use times [] → (n : ℕ) → 1 ≤ times n → IsInRange mark n
-  in_range told n one = elim (cases_lt n 2) [
-    | inl low ↦ absurd (none_told told _ (out_of_range (inl low) one))
+  in_range reported n one = elim (cases_lt n 2) [
+    | inl low ↦ absurd (none_reported reported _ (out_of_range (inl low) one))
     | inr high ↦ elim (cases_lt n mark) [
       | inl below ↦ (high, below)
-      | inr above ↦ absurd (none_told told _ (out_of_range (inr above) one))
+      | inr above ↦ absurd (none_reported reported _ (out_of_range (inr above) one))
     ]
   ]
 
   once_in : AreAllFindings mark in_use times [] → (n : ℕ) → times n ≤ 1
-  once_in told n = elim (cases_lt 1 (times n)) [
-    | inl more ↦ absurd (none_told told _ (freed_twice (in_range told n (omega arith)) (omega arith)))
+  once_in reported n = elim (cases_lt 1 (times n)) [
+    | inl more ↦ absurd (none_reported reported _ (freed_twice (in_range reported n (omega arith)) (omega arith)))
     | inr fewer ↦ fewer
   ]
 
   listed_in : AreAllFindings mark in_use times [] → (n : ℕ) → IsFree mark in_use n → 1 ≤ times n
-  listed_in told n free = elim (cases_lt 0 (times n)) [
+  listed_in reported n free = elim (cases_lt 0 (times n)) [
     | inl some ↦ omega arith
-    | inr zero ↦ absurd (told.silent refl n (record { free = free; unlisted = omega arith }))
+    | inr zero ↦ absurd (reported.silent refl n (record { free = free; unlisted = omega arith }))
   ]
 
   -- so the free pages are listed
   pub lists_free : AreAllFindings mark in_use times [] → ListsFree mark in_use times
-  lists_free told = record {
+  lists_free reported = record {
     free = λ n one. record {
-      above_metas = (in_range told n one).0;
-      below = (in_range told n one).1;
-      unused = λ used. none_told told _ (reached_freed (in_range told n one) one used);
+      above_metas = (in_range reported n one).0;
+      below = (in_range reported n one).1;
+      unused = λ used. none_reported reported _ (reached_freed (in_range reported n one) one used);
     };
-    once = once_in told;
-    listed = listed_in told;
+    once = once_in reported;
+    listed = listed_in reported;
   }
 
-  -- and where they are, nothing is told
+  -- and where they are, nothing is reported
   lists_none : ListsFree mark in_use times → (x : Finding) → IsAccountFinding mark in_use times x → ⊥
   lists_none lists x (freed_twice {n = n} range two) = let one = lists.once n in omega (arith, one, two)
   lists_none lists x (reached_freed {n = n} range one used) = (lists.free n one).unused used
@@ -97,8 +97,8 @@ module _ (mark : ℕ) (in_use : ℕ → Type 0) (times : ℕ → ℕ) where
   lists_none lists x (out_of_range {n = n} (inr high) one) = let below = (lists.free n one).below in omega (arith, high, below)
 
   pub finding_none : (findings : List Finding) → AreAllFindings mark in_use times findings → ListsFree mark in_use times → findings ≢ [] → ⊥
-  finding_none [] told lists some = some refl
-  finding_none (x ∷ findings) told lists some = lists_none lists x ((told.exact x).0 (0, omega arith, refl))
+  finding_none [] reported lists some = some refl
+  finding_none (x ∷ findings) reported lists some = lists_none lists x ((reported.exact x).0 (0, omega arith, refl))
 
 some_same : (a b : List ℕ) → Some a ≡ Some b → a ≡ b
 some_same a b e = cc
@@ -120,18 +120,10 @@ module _ (file : List ℕ) (meta : Meta) where
   pub written : (ids : List ℕ) → free_ids_of file meta ≡ Some ids → meta.freelist ≢ NO_FREELIST
   written ids e is = none_some ids (sym (cond-true (meta.freelist == NO_FREELIST) None (Some (free_ids_at file meta meta.freelist)) (eq-eqb meta.freelist NO_FREELIST is)) ∙ e)
 
-  -- the accounts are asked nothing where none was written
-  pub accounts_unwritten : (used : ℕ → Type 0) → freelist_fault_of file meta ≡ None → free_ids_of file meta ≡ None → HasAccounts file meta used
-  accounts_unwritten used good e = record {
-    good = good;
-    apart = λ n is. absurd (unwritten e is.written);
-    lists = λ ids f. absurd (none_some ids (sym e ∙ f));
-  }
-
   module _ (used : ℕ → Type 0) where
-    told_alone : (x : Finding) → meta.freelist ≢ NO_FREELIST → IsFreelistFinding file meta used x → ((y : Finding) → IsFreelistFinding file meta used y → y ≡ x)
+    reported_alone : (x : Finding) → meta.freelist ≢ NO_FREELIST → IsFreelistFinding file meta used x → ((y : Finding) → IsFreelistFinding file meta used y → y ≡ x)
         → AreAccountFindings file meta used (x ∷ [])
-    told_alone x ne is only = record {
+    reported_alone x ne is only = record {
       written = ne;
       of_page = λ y of. ap (λ (z : Finding). z ∷ []) (sym (only y of));
       rises = λ none. absurd (none x is);
@@ -143,9 +135,9 @@ module _ (file : List ℕ) (meta : Meta) where
     only_fault fault e y (shared {n = n} is at lowest) = absurd (no_fault fault (sym is.good ∙ e))
 
     -- the freelist's own page has a fault
-    pub told_fault : (fault : ℕ) → freelist_fault_of file meta ≡ Some fault → AreAccountFindings file meta used (finding fault meta.freelist ∷ [])
-    told_fault fault e =
-        told_alone (finding fault meta.freelist)
+    pub reported_fault : (fault : ℕ) → freelist_fault_of file meta ≡ Some fault → AreAccountFindings file meta used (finding fault meta.freelist ∷ [])
+    reported_fault fault e =
+        reported_alone (finding fault meta.freelist)
         (λ is. no_fault fault (sym (cond-true (meta.freelist == NO_FREELIST) None (freelist_fault file meta meta.freelist) (eq-eqb meta.freelist NO_FREELIST is)) ∙ e))
         (bad e) (only_fault fault e)
 
@@ -156,40 +148,40 @@ module _ (file : List ℕ) (meta : Meta) where
         let same : k ≡ n = (let a = lowest k also here in let b = least n is at in omega (arith, a, b)) in ap (λ (page : ℕ). finding TWICE page) same
 
     -- or its span shares a page
-    pub told_shared : (n : ℕ) → IsInFreelist file meta n → used n → ((k : ℕ) → IsInFreelist file meta k → used k → n ≤ k) → AreAccountFindings file meta used (finding TWICE n ∷ [])
-    told_shared n is at lowest = told_alone (finding TWICE n) is.written (shared is at lowest) (only_shared n is at lowest)
+    pub reported_shared : (n : ℕ) → IsInFreelist file meta n → used n → ((k : ℕ) → IsInFreelist file meta k → used k → n ≤ k) → AreAccountFindings file meta used (finding TWICE n ∷ [])
+    reported_shared n is at lowest = reported_alone (finding TWICE n) is.written (shared is at lowest) (only_shared n is at lowest)
 
   module _ (used : ℕ → Type 0) (ids : List ℕ) (good : freelist_fault_of file meta ≡ None) (are : free_ids_of file meta ≡ Some ids) where
     same_ids : (others : List ℕ) → free_ids_of file meta ≡ Some others → ids ≡ others
     same_ids others e = some_same ids others (sym are ∙ e)
 
-    module _ (apart : (n : ℕ) → IsInFreelist file meta n → used n → ⊥) (findings : List Finding) (told : AreAllFindings meta.high_water (IsInUse file meta used) (times_in ids) findings) where
+    module _ (apart : (n : ℕ) → IsInFreelist file meta n → used n → ⊥) (findings : List Finding) (reported : AreAllFindings meta.high_water (IsInUse file meta used) (times_in ids) findings) where
       pub accounts_right : findings ≡ [] → HasAccounts file meta used
       accounts_right e = record {
         good = good;
         apart = apart;
         lists = λ others f. subst (λ (xs : List ℕ). ListsFree meta.high_water (IsInUse file meta used) (times_in xs)) (same_ids others f)
-            (lists_free meta.high_water (IsInUse file meta used) (times_in ids) (subst (AreAllFindings meta.high_water (IsInUse file meta used) (times_in ids)) e told));
+            (lists_free meta.high_water (IsInUse file meta used) (times_in ids) (subst (AreAllFindings meta.high_water (IsInUse file meta used) (times_in ids)) e reported));
       }
 
       pub accounts_wrong : findings ≢ [] → HasAccounts file meta used → ⊥
-      accounts_wrong some has = finding_none meta.high_water (IsInUse file meta used) (times_in ids) findings told (has.lists ids are) some
+      accounts_wrong some has = finding_none meta.high_water (IsInUse file meta used) (times_in ids) findings reported (has.lists ids are) some
 
       no_page : (x : Finding) → IsFreelistFinding file meta used x → ⊥
       no_page x (bad fault) = absurd (cc)
       no_page x (shared {n = n} is at lowest) = apart n is at
 
-      pub accounts_told : AreAccountFindings file meta used findings
-      accounts_told = record {
+      pub accounts_reported : AreAccountFindings file meta used findings
+      accounts_reported = record {
         written = written ids are;
         of_page = λ x is. absurd (no_page x is);
-        rises = λ none. told.rises;
-        exact = λ none others e. subst (λ (xs : List ℕ). (x : Finding) → Contains findings x ↔ IsAccountFinding meta.high_water (IsInUse file meta used) (times_in xs) x) (same_ids others e) told.exact;
+        rises = λ none. reported.rises;
+        exact = λ none others e. subst (λ (xs : List ℕ). (x : Finding) → Contains findings x ↔ IsAccountFinding meta.high_water (IsInUse file meta used) (times_in xs) x) (same_ids others e) reported.exact;
       }
 
 -- once the freelist's span is claimed, all pages in use are claimed
-pub claims_told : (file : List ℕ) (meta : Meta) (old new : List PageUse) (ids : List ℕ) (findings : List Finding) → ClaimsFreelist file meta old new
+pub claims_reported : (file : List ℕ) (meta : Meta) (old new : List PageUse) (ids : List ℕ) (findings : List Finding) → ClaimsFreelist file meta old new
     → AreAllFindings meta.high_water (IsClaimed new) (times_in ids) findings → AreAllFindings meta.high_water (IsInUse file meta (IsClaimed old)) (times_in ids) findings
-claims_told file meta old new ids findings claims told =
-    told_along meta.high_water (IsClaimed new) (IsInUse file meta (IsClaimed old)) (times_in ids) (times_in ids) claims.split
-    (λ n in_use. elim in_use [ inl was ↦ claims.kept n was | inr is ↦ claims.span n is ]) (λ n. refl) findings told
+claims_reported file meta old new ids findings claims reported =
+    reported_along meta.high_water (IsClaimed new) (IsInUse file meta (IsClaimed old)) (times_in ids) (times_in ids) claims.split
+    (λ n in_use. elim in_use [ inl was ↦ claims.kept n was | inr is ↦ claims.span n is ]) (λ n. refl) findings reported

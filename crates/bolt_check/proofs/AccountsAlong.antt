@@ -44,12 +44,12 @@ module _ (file : List ℕ) (meta : Meta) (used also : ℕ → Type 0) (there : (
   page_finding_back x (shared {n = n} is at lowest) = shared is (back n at) (λ k in_span is. lowest k in_span (there k is))
 
   pub account_findings_along : (findings : List Finding) → AreAccountFindings file meta used findings → AreAccountFindings file meta also findings
-  account_findings_along findings told = record {
-    written = told.written;
-    of_page = λ x is. told.of_page x (page_finding_back x is);
-    rises = λ none. told.rises (λ x is. none x (page_finding_along x is));
+  account_findings_along findings reported = record {
+    written = reported.written;
+    of_page = λ x is. reported.of_page x (page_finding_back x is);
+    rises = λ none. reported.rises (λ x is. none x (page_finding_along x is));
     exact = λ none ids e x.
-        let exact = told.exact (λ y is. none y (page_finding_along y is)) ids e x in (
+        let exact = reported.exact (λ y is. none y (page_finding_along y is)) ids e x in (
           λ in_list. finding_along meta.high_water (IsInUse file meta used) (IsInUse file meta also) (times_in ids) (times_in ids) in_use_there in_use_back (λ n. refl) x (exact.0 in_list),
           λ is. exact.1 (finding_back meta.high_water (IsInUse file meta used) (IsInUse file meta also) (times_in ids) (times_in ids) in_use_there in_use_back (λ n. refl) x is),
         );

@@ -1,5 +1,5 @@
 -- What a checked file is known to be.
-use Rattle.std.proofs.Common.{◌≡◌, ℕ, List, [], Option, Some, None, Ok, refl, subst}
+use Rattle.std.proofs.Common.{◌≡◌, ℕ, List, Option, Some, None, Ok, refl, subst}
 use Rattle.std.specs.Prelude.{IsSome}
 use Rattle.std.proofs.Math.Logic.{∥∥₁_elim, ∥∥₁_map}
 use Rattle.std.proofs.Props.{props}
@@ -9,7 +9,7 @@ use Rattle.bolt_check.specs.CheckedFiles.{bytes_of, meta_of}
 use Rattle.bolt_check.specs.Nodes.{Node, node_at, node_seen}
 use Rattle.bolt_check.specs.OnWays.{IsOnWay}
 use Rattle.bolt_check.specs.Sound.{HasSoundTrees}
-use Rattle.bolt_check.specs.Ways.{At_page, PageSpot, reached, start_of}
+use Rattle.bolt_check.specs.Ways.{At_page, PageSpot, reached}
 use Rattle.bolt_check.specs.declared.checked_file.Checked.{Checked}
 
 seen : (view : Option PageView) (fault : Option ℕ) (node : Node) → node_seen view fault ≡ Ok node → IsSome view
@@ -33,11 +33,6 @@ checked_trees checked = ∥∥₁_map checked.sound (λ sound. sound.trees)
 -- what follows of sound trees, and has one proof, holds of a checked file
 pub with_trees : (checked : Checked) (P : Type 0) → IsProp P → (HasSoundTrees (bytes_of checked) (meta_of checked) → P) → P
 with_trees checked P prop f = ∥∥₁_elim (checked_trees checked) prop f
-
--- the root page is good
-pub good_root : (checked : Checked) → IsSome (page_at (bytes_of checked) (meta_of checked) (meta_of checked).root)
-good_root checked = with_trees checked (IsSome (page_at (bytes_of checked) (meta_of checked) (meta_of checked).root)) (Prim.hlevel props)
-    (λ trees. good_page (bytes_of checked) (meta_of checked) [] (start_of (meta_of checked).root) trees refl)
 
 -- a page that a way leads to is good
 pub good_on_way : (checked : Checked) (number : ℕ) → ∥ ((depth : ℕ) × IsOnWay (bytes_of checked) (meta_of checked) number depth) ∥₁ → IsSome (page_at (bytes_of checked) (meta_of checked) number)

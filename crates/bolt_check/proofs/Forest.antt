@@ -259,19 +259,19 @@ first_at_root : (nodes : Nodes) (c : ℕ → Type 0) (s : Spot) (x : Finding) (w
     → Tests nodes (IsClaimedBefore nodes (forest nodes (s ∷ [])) c w) spot x
     → ((v : List ℕ) (t : Spot) (y : Finding) → Before v w → forest nodes (s ∷ []) v ≡ Some t → Tests nodes (IsClaimedBefore nodes (forest nodes (s ∷ [])) c v) t y → ⊥)
     → IsFirst nodes (follow nodes (Some s)) c x
-first_at_root nodes c s x w way spot e leads told none = record {
+first_at_root nodes c s x w way spot e leads reported none = record {
   way = way;
   spot = spot;
   leads = rw e at leads;
-  told = tests_same nodes (IsClaimedBefore nodes (forest nodes (s ∷ [])) c (0 ∷ way)) (IsClaimedBefore nodes (follow nodes (Some s)) c way) spot x
-      (claimed_up nodes c s way) (claimed_down nodes c s way) (rw e at told);
+  reported = tests_same nodes (IsClaimedBefore nodes (forest nodes (s ∷ [])) c (0 ∷ way)) (IsClaimedBefore nodes (follow nodes (Some s)) c way) spot x
+      (claimed_up nodes c s way) (claimed_down nodes c s way) (rw e at reported);
   none_before = λ v t y lt l m. none (0 ∷ v) t y (rw e (inr (refl, lt))) l
       (tests_same nodes (IsClaimedBefore nodes (follow nodes (Some s)) c v) (IsClaimedBefore nodes (forest nodes (s ∷ [])) c (0 ∷ v)) t y
       (claimed_down nodes c s v) (claimed_up nodes c s v) m);
 }
 
 pub first_root : (nodes : Nodes) (c : ℕ → Type 0) (s : Spot) (x : Finding) → IsFirst nodes (forest nodes (s ∷ [])) c x → IsFirst nodes (follow nodes (Some s)) c x
-first_root nodes c s x h = let p = root_way nodes s h.way h.spot h.leads in first_at_root nodes c s x h.way p.0 h.spot p.1 h.leads h.told h.none_before
+first_root nodes c s x h = let p = root_way nodes s h.way h.spot h.leads in first_at_root nodes c s x h.way p.0 h.spot p.1 h.leads h.reported h.none_before
 
 -- what is covered stays the same
 pub covered_step : (nodes : Nodes) (c d : ℕ → Type 0) (s : PageSpot) (rest : List Spot) (node : Node) → nodes s.number ≡ Ok node

@@ -8,15 +8,15 @@ use Rattle.bolt_check.proofs.KeyLaws.{above_more}
 none_key : (x : Key) → None ≡ Some x → ⊥
 none_key x e = cc
 
-told : (x : ℕ) → Some x ≡ None → ⊥
-told x e = cc
+reported : (x : ℕ) → Some x ≡ None → ⊥
+reported x e = cc
 
 three_none : (x y z : ℕ) (a b c : Bool) → (if not a then Some x else (if not b then Some y else (if not c then Some z else None))) ≡ None
     → (a ≡ true) × (b ≡ true) × (c ≡ true)
 three_none x y z true true true e = (refl, refl, refl)
-three_none x y z true true false e = absurd (told z e)
-three_none x y z true false c e = absurd (told y e)
-three_none x y z false b c e = absurd (told x e)
+three_none x y z true true false e = absurd (reported z e)
+three_none x y z true false c e = absurd (reported y e)
+three_none x y z false b c e = absurd (reported x e)
 
 pub key_each : (before lower upper : Option Key) (keys : List Key) → keys_order_fault before lower upper keys ≡ None → (j : ℕ) (q : Key) → slice_get keys j ≡ Some q
     → (is_above before q ≡ true) × (is_from lower q ≡ true) × (is_below upper q ≡ true)

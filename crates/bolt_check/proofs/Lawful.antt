@@ -4,7 +4,7 @@ use Rattle.std.proofs.lemmas.Bool.Decides.{nat_tests}
 use Rattle.bolt_check.specs.Ways.{PageSpot}
 use Rattle.bolt_check.specs.declared.finding.Finding.{Finding}
 use Rattle.bolt_check.specs.Nodes.{Nodes, Node, Entry, IsInSpan}
-use Rattle.bolt_check.specs.Ways.{Spot, At_page, At_inline, SpanHas, step, step_at, step_entry, bucket_spot, child_spot, upper_from, follow, reached, start_of}
+use Rattle.bolt_check.specs.Ways.{Spot, At_page, At_inline, SpanHas, step, step_at, step_entry, bucket_spot, child_spot, upper_from, follow, reached, root_spot}
 use Rattle.bolt_check.specs.Findings.{keys_of, early_finding, node_finding, PagePasses, Passes, IsClaimedBefore, IsClean, IsFirst, IsMetaPage}
 use Rattle.bolt_check.specs.Keys.{Key, is_below, is_from, keys_order_fault, key_lt}
 use Rattle.bolt_check.specs.Shape.{leads, HasShape}
@@ -48,7 +48,7 @@ upper_is : (next : Option Entry) (upper : Option Key) (key : Key) → ((n : Entr
 upper_is None upper key h e = e
 upper_is (Some n) upper key h e = h n refl
 
-bucket_bounded : (nodes : Nodes) (host : ℕ) (e : Entry) (b : Bool) → Bounded nodes (if b then At_inline host e.inner else At_page (start_of e.child))
+bucket_bounded : (nodes : Nodes) (host : ℕ) (e : Entry) (b : Bool) → Bounded nodes (if b then At_inline host e.inner else At_page (root_spot e.child))
 bucket_bounded nodes host e true = tt
 bucket_bounded nodes host e false = λ address below j key under l u g. (refl, refl)
 
@@ -79,7 +79,7 @@ way_bounded nodes root shape (i ∷ w) way s e bound t f =
 
 all_bounded : (nodes : Nodes) (root : ℕ) → HasShape nodes root → (way : List ℕ) (t : Spot) → reached nodes root way ≡ Some t → Bounded nodes t
 all_bounded nodes root shape way t e =
-    way_bounded nodes root shape way [] (At_page (start_of root)) refl (λ address below j key under l u g. (refl, refl)) t e
+    way_bounded nodes root shape way [] (At_page (root_spot root)) refl (λ address below j key under l u g. (refl, refl)) t e
 
 suc_not_zero : (n : ℕ) → (suc n == 0) ≡ false
 suc_not_zero n = grind (arith, nat_tests)
@@ -127,10 +127,10 @@ passes nodes root shape way (At_page s) e = page_passes nodes root shape way s e
 passes nodes root shape way (At_inline host keys) e =
     let k = key_passes None None None keys (shape.rising_inline way host keys e) (λ j key at. (refl, refl, refl)) in rw k refl
 
--- where the shape is right, the tests tell nothing at any way
+-- where the shape is right, the tests report nothing at any way
 pub shape_passes : (nodes : Nodes) (root : ℕ) → HasShape nodes root → IsClean nodes (reached nodes root) IsMetaPage
 shape_passes nodes root shape = record { passes = passes nodes root shape }
 
-pub sound_tells_nothing : (nodes : Nodes) (root : ℕ) (x : Finding) → HasShape nodes root → IsFirst nodes (reached nodes root) IsMetaPage x → ⊥
-sound_tells_nothing nodes root x shape h =
-    passes_silent nodes (IsClaimedBefore nodes (reached nodes root) IsMetaPage h.way) h.spot x (passes nodes root shape h.way h.spot h.leads) h.told
+pub sound_reports_nothing : (nodes : Nodes) (root : ℕ) (x : Finding) → HasShape nodes root → IsFirst nodes (reached nodes root) IsMetaPage x → ⊥
+sound_reports_nothing nodes root x shape h =
+    passes_silent nodes (IsClaimedBefore nodes (reached nodes root) IsMetaPage h.way) h.spot x (passes nodes root shape h.way h.spot h.leads) h.reported

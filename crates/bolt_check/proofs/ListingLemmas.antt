@@ -14,8 +14,8 @@ use Rattle.bolt_check.specs.declared.listing.Listing.{Listing}
 use Rattle.bolt_check.specs.declared.table.PageUse.{PageUse}
 use Rattle.bolt_check.specs.declared.table.PageUse.TheVariants.{Unused, Branch, Leaf, Used, Free, FreeTwice, UsedFree, UsedFreeTwice}
 use Rattle.bolt_check.proofs.CountLemmas.{place_of, times_none, times_once, times_some, times_twice}
-use Rattle.bolt_check.proofs.PageLemmas.{twice, reached, lost, range, not_lost_listed, on_own_page, tells_page, tells_range, tells_twice, tells_well}
-use Rattle.bolt_check.proofs.AccountFindingLemmas.{Tells, told_append, tells_none, tells_run}
+use Rattle.bolt_check.proofs.PageLemmas.{twice, reached, lost, range, not_lost_listed, on_own_page, reports_page, reports_range, reports_twice, reports_well}
+use Rattle.bolt_check.proofs.AccountFindingLemmas.{Reports, reported_append, reports_none, reports_run}
 
 module _ (listing : Listing) (settled : IsSettled listing) where
   table_end : 2 ≤ length listing.table.now
@@ -59,23 +59,14 @@ module _ (listing : Listing) (settled : IsSettled listing) where
   kept_here n UsedFree h e ne gone = gone.free.unused (ap is_used e)
   kept_here n UsedFreeTwice h e ne gone = gone.free.unused (ap is_used e)
 
-  pub table_none : AreFindingsBelow listing.mark (is_in_use listing) (listed_times listing) 0 []
-  table_none = record {
-    sound = λ k d h. absurd (omega arith);
-    below = λ k d h. absurd (omega arith);
-    complete = λ x is h. absurd (omega arith);
-    rises = λ i j d h l. absurd (omega arith);
-    silent = λ e n h. absurd (omega arith);
-  }
-
   pub table_lost : (n from : ℕ) (findings : List Finding) → n < length listing.table.now → use_at listing.table.now n ≡ Unused
       → HasFindingsTo listing from n findings → HasFindingsTo listing from (suc n) findings
-  table_lost n from findings h e told = record {
-    told = told.told;
+  table_lost n from findings h e reported = record {
+    reported = reported.reported;
     run = record {
-      begins = told.run.begins;
+      begins = reported.run.begins;
       lost = λ k low high. elim (cases_lt k n) [
-        | inl before ↦ told.run.lost k low before
+        | inl before ↦ reported.run.lost k low before
         | inr here ↦ let same : n ≡ k = omega arith in subst (IsLost listing.mark (is_in_use listing) (listed_times listing)) same (lost_here n h e)
       ];
     };
@@ -87,26 +78,26 @@ module _ (listing : Listing) (settled : IsSettled listing) where
     lost = λ k low high. absurd (omega arith);
   }
 
-  pub table_told : (n from : ℕ) (findings : List Finding) (page_use : PageUse) → n < length listing.table.now → from ≤ n → use_at listing.table.now n ≡ page_use → (page_use ≡ Unused → ⊥)
+  pub table_reported : (n from : ℕ) (findings : List Finding) (page_use : PageUse) → n < length listing.table.now → from ≤ n → use_at listing.table.now n ≡ page_use → (page_use ≡ Unused → ⊥)
       → HasFindingsTo listing from n findings → HasFindingsTo listing (suc n) (suc n) ((findings ++ run_findings from n) ++ page_findings n page_use)
-  table_told n from findings page_use h order e ne told =
+  table_reported n from findings page_use h order e ne reported =
       let kept = kept_here n page_use h e ne in
-      let before = told_append listing.mark (is_in_use listing) (listed_times listing) from n findings (run_findings from n) told.told order
-      (tells_run listing.mark (is_in_use listing) (listed_times listing) from n order told.run kept) in
-      let here = tells_page listing.mark (is_in_use listing) (listed_times listing) n page_use (let end = settled.below in omega (arith, end)) (settled.metas n)
+      let before = reported_append listing.mark (is_in_use listing) (listed_times listing) from n findings (run_findings from n) reported.reported order
+      (reports_run listing.mark (is_in_use listing) (listed_times listing) from n order reported.run kept) in
+      let here = reports_page listing.mark (is_in_use listing) (listed_times listing) n page_use (let end = settled.below in omega (arith, end)) (settled.metas n)
       (times_table n h ∙ ap times_of e) (λ claimed. sym (ap is_used e) ∙ claimed) (λ used. ap is_used e ∙ used) ne in
       record {
-        told = told_append listing.mark (is_in_use listing) (listed_times listing) n (suc n) (findings ++ run_findings from n) (page_findings n page_use) before (omega arith) here;
+        reported = reported_append listing.mark (is_in_use listing) (listed_times listing) n (suc n) (findings ++ run_findings from n) (page_findings n page_use) before (omega arith) here;
         run = run_after n kept;
       }
 
   pub past_start : (from : ℕ) (findings : List Finding) → HasFindingsTo listing from (length listing.table.now) findings → IsPastTo listing from 0 findings
-  past_start from findings told = record {
-    told = told.told;
-    begins = told.run.begins;
+  past_start from findings reported = record {
+    reported = reported.reported;
+    begins = reported.run.begins;
     done = λ k h. absurd (omega arith);
     left = λ n low high none. elim (cases_lt n (length listing.table.now)) [
-      | inl inside ↦ told.run.lost n low inside
+      | inl inside ↦ reported.run.lost n low inside
       | inr past ↦ record {
         free = record { above_metas = let two = table_end in omega (arith, two); below = high; unused = unused_past n past };
         unlisted = times_past n past ∙ times_none listing.past.now n (λ k. none k (omega arith));
@@ -114,27 +105,9 @@ module _ (listing : Listing) (settled : IsSettled listing) where
     ];
   }
 
-  pub past_skip : (from i : ℕ) (findings : List Finding) → i < length listing.past.now
-      → ((from ≤ get_or listing.past.now i 0) → listing.mark ≤ get_or listing.past.now i 0) → IsPastTo listing from i findings → IsPastTo listing from (suc i) findings
-  past_skip from i findings h skipped told = record {
-    told = told.told;
-    begins = told.begins;
-    done = λ k l below. elim (cases_lt k i) [
-      | inl before ↦ told.done k before below
-      | inr here ↦ let same : k ≡ i = omega arith in elim (cases_lt (get_or listing.past.now k 0) from) [
-        | inl less ↦ less
-        | inr more ↦ let e = ap (λ j. get_or listing.past.now j 0) same in let above = skipped (omega (arith, e)) in absurd (omega (arith, e, above))
-      ]
-    ];
-    left = λ n low high none. told.left n low high (λ k order l e. elim (cases_lt i k) [
-      | inl later ↦ none k later l e
-      | inr here ↦ let same : k ≡ i = omega arith in let at = ap (λ j. get_or listing.past.now j 0) same in let above = skipped (omega (arith, at)) in omega (arith, at, above)
-    ]);
-  }
-
-  -- the id at place i, which is below the mark and untold
+  -- the id at place i, which is below the mark and unreported
   module _ (from i : ℕ) (findings : List Finding) (h : i < length listing.past.now) (order : from ≤ get_or listing.past.now i 0)
-      (below : get_or listing.past.now i 0 < listing.mark) (told : IsPastTo listing from i findings) where
+      (below : get_or listing.past.now i 0 < listing.mark) (reported : IsPastTo listing from i findings) where
     id_past : length listing.table.now ≤ get_or listing.past.now i 0
     id_past = settled.past i 0 h
 
@@ -142,7 +115,7 @@ module _ (listing : Listing) (settled : IsSettled listing) where
     id_in_range = (let two = table_end in let past = id_past in omega (arith, two, past), below)
 
     id_first : (k : ℕ) → k < i → get_or listing.past.now k 0 < get_or listing.past.now i 0
-    id_first k before = let up = settled.sorted k i 0 (omega arith) h in let done = told.done k before (omega (arith, up)) in omega (arith, done)
+    id_first k before = let up = settled.sorted k i 0 (omega arith) h in let done = reported.done k before (omega (arith, up)) in omega (arith, done)
 
     id_listed : 1 ≤ listed_times listing (get_or listing.past.now i 0)
     id_listed = let e = times_past (get_or listing.past.now i 0) id_past in let some = times_some listing.past.now (get_or listing.past.now i 0) i h refl in omega (arith, e, some)
@@ -152,20 +125,20 @@ module _ (listing : Listing) (settled : IsSettled listing) where
 
     run_before : IsRun listing.mark (is_in_use listing) (listed_times listing) from (get_or listing.past.now i 0)
     run_before = record {
-      begins = told.begins;
-      lost = λ n low high. told.left n low (omega arith) (λ k order l e. let up = settled.sorted i k 0 order l in omega (arith, up, e));
+      begins = reported.begins;
+      lost = λ n low high. reported.left n low (omega arith) (λ k order l e. let up = settled.sorted i k 0 order l in omega (arith, up, e));
     }
 
-    -- whatever is told of the id itself, all up to it is told
-    past_next : (ys : List Finding) → Tells listing.mark (is_in_use listing) (listed_times listing) (get_or listing.past.now i 0) (suc (get_or listing.past.now i 0)) ys
+    -- whatever is reported of the id itself, all up to it is reported
+    past_next : (ys : List Finding) → Reports listing.mark (is_in_use listing) (listed_times listing) (get_or listing.past.now i 0) (suc (get_or listing.past.now i 0)) ys
         → IsPastTo listing (suc (get_or listing.past.now i 0)) (suc i) ((findings ++ run_findings from (get_or listing.past.now i 0)) ++ ys)
     past_next ys here = record {
-      told = told_append listing.mark (is_in_use listing) (listed_times listing) (get_or listing.past.now i 0) (suc (get_or listing.past.now i 0)) (findings ++ run_findings from (get_or listing.past.now i 0)) ys
-          (told_append listing.mark (is_in_use listing) (listed_times listing) from (get_or listing.past.now i 0) findings (run_findings from (get_or listing.past.now i 0)) told.told order
-          (tells_run listing.mark (is_in_use listing) (listed_times listing) from (get_or listing.past.now i 0) order run_before id_kept)) (omega arith) here;
+      reported = reported_append listing.mark (is_in_use listing) (listed_times listing) (get_or listing.past.now i 0) (suc (get_or listing.past.now i 0)) (findings ++ run_findings from (get_or listing.past.now i 0)) ys
+          (reported_append listing.mark (is_in_use listing) (listed_times listing) from (get_or listing.past.now i 0) findings (run_findings from (get_or listing.past.now i 0)) reported.reported order
+          (reports_run listing.mark (is_in_use listing) (listed_times listing) from (get_or listing.past.now i 0) order run_before id_kept)) (omega arith) here;
       begins = (run_after (get_or listing.past.now i 0) id_kept).begins;
       done = λ k l under. (let up = settled.sorted k i 0 (omega arith) h in omega (arith, up));
-      left = λ n low high none. told.left n (omega arith) high (λ k after l e. elim (cases_lt i k) [
+      left = λ n low high none. reported.left n (omega arith) high (λ k after l e. elim (cases_lt i k) [
         | inl later ↦ none k later l e
         | inr here ↦ let same : k ≡ i = omega arith in let at = ap (λ j. get_or listing.past.now j 0) same in omega (arith, at, e)
       ]);
@@ -176,7 +149,7 @@ module _ (listing : Listing) (settled : IsSettled listing) where
     past_twice more same =
         let e = times_past (get_or listing.past.now i 0) id_past in let two = times_twice listing.past.now i more same in
         past_next (finding FREED_TWICE (get_or listing.past.now i 0) ∷ [])
-        (tells_twice listing.mark (is_in_use listing) (listed_times listing) (get_or listing.past.now i 0) (omega (arith, e, two)) (unused_past (get_or listing.past.now i 0) id_past) id_in_range)
+        (reports_twice listing.mark (is_in_use listing) (listed_times listing) (get_or listing.past.now i 0) (omega (arith, e, two)) (unused_past (get_or listing.past.now i 0) id_past) id_in_range)
 
     pub past_once : (suc i < length listing.past.now → get_or listing.past.now (suc i) 0 ≡ get_or listing.past.now i 0 → ⊥)
         → IsPastTo listing (suc (get_or listing.past.now i 0)) (suc i) (findings ++ run_findings from (get_or listing.past.now i 0))
@@ -184,11 +157,11 @@ module _ (listing : Listing) (settled : IsSettled listing) where
         let e = times_past (get_or listing.past.now i 0) id_past in
         let one = times_once listing.past.now i (λ j k. settled.sorted j k 0) h id_first other in
         subst (IsPastTo listing (suc (get_or listing.past.now i 0)) (suc i)) (append-nil (findings ++ run_findings from (get_or listing.past.now i 0))) (past_next []
-        (tells_well listing.mark (is_in_use listing) (listed_times listing) (get_or listing.past.now i 0) (omega (arith, e, one))
+        (reports_well listing.mark (is_in_use listing) (listed_times listing) (get_or listing.past.now i 0) (omega (arith, e, one))
         (λ claimed. absurd (unused_past (get_or listing.past.now i 0) id_past claimed)) id_kept id_in_range))
 
-    pub past_told : IsPastTo listing (suc (get_or listing.past.now i 0)) (suc i) ((findings ++ run_findings from (get_or listing.past.now i 0)) ++ repeat_findings listing.past.now i)
-    past_told = elim (cases_Bool (is_repeated listing.past.now i)) [
+    pub past_reported : IsPastTo listing (suc (get_or listing.past.now i 0)) (suc i) ((findings ++ run_findings from (get_or listing.past.now i 0)) ++ repeat_findings listing.past.now i)
+    past_reported = elim (cases_Bool (is_repeated listing.past.now i)) [
       | inl is ↦ (let both = and_parts (nat_lt (i + 1) (length listing.past.now)) (get_or listing.past.now (i + 1) 0 == get_or listing.past.now i 0) is in
           let more = ltb-true (i + 1) (length listing.past.now) both.0 in
           let same = eqb-true (get_or listing.past.now (i + 1) 0) (get_or listing.past.now i 0) both.1 in
@@ -201,38 +174,25 @@ module _ (listing : Listing) (settled : IsSettled listing) where
     ]
 
   pub past_end : (from i : ℕ) (findings : List Finding) → length listing.past.now ≤ i → IsPastTo listing from i findings → HasFindingsTo listing from listing.mark findings
-  past_end from i findings h told = record {
-    told = told.told;
-    run = record { begins = told.begins; lost = λ n low high. told.left n low high (λ k order l. absurd (omega arith)) };
+  past_end from i findings h reported = record {
+    reported = reported.reported;
+    run = record { begins = reported.begins; lost = λ n low high. reported.left n low high (λ k order l. absurd (omega arith)) };
   }
 
   -- the run of lost pages up to the mark
-  pub mark_told : (from : ℕ) (findings : List Finding) → from ≤ listing.mark → HasFindingsTo listing from listing.mark findings
+  pub mark_reported : (from : ℕ) (findings : List Finding) → from ≤ listing.mark → HasFindingsTo listing from listing.mark findings
       → AreFindingsBelow listing.mark (is_in_use listing) (listed_times listing) listing.mark (findings ++ run_findings from listing.mark)
-  mark_told from findings order told =
-      told_append listing.mark (is_in_use listing) (listed_times listing) from listing.mark findings (run_findings from listing.mark) told.told order
-      (tells_run listing.mark (is_in_use listing) (listed_times listing) from listing.mark order told.run (λ gone. (let under = gone.free.below in omega (arith, under))))
+  mark_reported from findings order reported =
+      reported_append listing.mark (is_in_use listing) (listed_times listing) from listing.mark findings (run_findings from listing.mark) reported.reported order
+      (reports_run listing.mark (is_in_use listing) (listed_times listing) from listing.mark order reported.run (λ gone. (let under = gone.free.below in omega (arith, under))))
 
   pub beyond_start : (findings : List Finding) → AreFindingsBelow listing.mark (is_in_use listing) (listed_times listing) listing.mark findings → IsBeyondTo listing 0 0 findings
-  beyond_start findings told =
+  beyond_start findings reported =
       let end = settled.below in let two = table_end in let same : listing.mark ≡ max listing.mark 1 = omega (arith, end, two) in
       record {
-        told = subst (λ (next : ℕ). AreFindingsBelow listing.mark (is_in_use listing) (listed_times listing) next findings) same told;
+        reported = subst (λ (next : ℕ). AreFindingsBelow listing.mark (is_in_use listing) (listed_times listing) next findings) same reported;
         done = λ k h. absurd (omega arith);
       }
-
-  pub beyond_skip : (last i : ℕ) (findings : List Finding) → (listing.mark ≤ get_or listing.past.now i 0 → get_or listing.past.now i 0 ≤ last)
-      → IsBeyondTo listing last i findings → IsBeyondTo listing last (suc i) findings
-  beyond_skip last i findings skipped told = record {
-    told = told.told;
-    done = λ k h. elim (cases_lt k i) [
-      | inl before ↦ told.done k before
-      | inr here ↦ let same : k ≡ i = omega arith in let at = ap (λ j. get_or listing.past.now j 0) same in elim (cases_lt (get_or listing.past.now i 0) listing.mark) [
-        | inl less ↦ omega (arith, at, less)
-        | inr more ↦ let le = skipped more in omega (arith, at, le)
-      ]
-    ];
-  }
 
   -- a listed page from the mark on has a place among the ids
   beyond_place : (n : ℕ) → listing.mark ≤ n → 1 ≤ listed_times listing n → (k : ℕ) × ((k < length listing.past.now) × (get_or listing.past.now k 0 ≡ n))
@@ -252,22 +212,22 @@ module _ (listing : Listing) (settled : IsSettled listing) where
     ])
   ]
 
-  pub beyond_told : (last i : ℕ) (findings : List Finding) → i < length listing.past.now → listing.mark ≤ get_or listing.past.now i 0 → last < get_or listing.past.now i 0
+  pub beyond_reported : (last i : ℕ) (findings : List Finding) → i < length listing.past.now → listing.mark ≤ get_or listing.past.now i 0 → last < get_or listing.past.now i 0
       → IsBeyondTo listing last i findings → IsBeyondTo listing (get_or listing.past.now i 0) (suc i) (findings ++ finding FREE_RANGE (get_or listing.past.now i 0) ∷ [])
-  beyond_told last i findings h above later told =
+  beyond_reported last i findings h above later reported =
       let end = settled.below in
       let e = times_past (get_or listing.past.now i 0) (omega (arith, end)) in
       let some = times_some listing.past.now (get_or listing.past.now i 0) i h refl in
-      let gap = tells_none listing.mark (is_in_use listing) (listed_times listing) (max listing.mark (suc last)) (get_or listing.past.now i 0)
-      (λ n low high gone. (let under = gone.free.below in omega (arith, under))) (gap_none last i h told.done) in
+      let gap = reports_none listing.mark (is_in_use listing) (listed_times listing) (max listing.mark (suc last)) (get_or listing.past.now i 0)
+      (λ n low high gone. (let under = gone.free.below in omega (arith, under))) (gap_none last i h reported.done) in
       let before = subst (AreFindingsBelow listing.mark (is_in_use listing) (listed_times listing) (get_or listing.past.now i 0)) (append-nil findings)
-      (told_append listing.mark (is_in_use listing) (listed_times listing) (max listing.mark (suc last)) (get_or listing.past.now i 0) findings [] told.told (omega arith) gap) in
-      let here = tells_range listing.mark (is_in_use listing) (listed_times listing) (get_or listing.past.now i 0) (omega (arith, e, some)) (inr above) (λ r. (let under = r.1 in omega (arith, under, above))) in
-      let after = told_append listing.mark (is_in_use listing) (listed_times listing) (get_or listing.past.now i 0) (suc (get_or listing.past.now i 0)) findings (finding FREE_RANGE (get_or listing.past.now i 0) ∷ [])
+      (reported_append listing.mark (is_in_use listing) (listed_times listing) (max listing.mark (suc last)) (get_or listing.past.now i 0) findings [] reported.reported (omega arith) gap) in
+      let here = reports_range listing.mark (is_in_use listing) (listed_times listing) (get_or listing.past.now i 0) (omega (arith, e, some)) (inr above) (λ r. (let under = r.1 in omega (arith, under, above))) in
+      let after = reported_append listing.mark (is_in_use listing) (listed_times listing) (get_or listing.past.now i 0) (suc (get_or listing.past.now i 0)) findings (finding FREE_RANGE (get_or listing.past.now i 0) ∷ [])
       before (omega arith) here in
       let next : suc (get_or listing.past.now i 0) ≡ max listing.mark (suc (get_or listing.past.now i 0)) = omega (arith, above) in
       record {
-        told = subst (λ (next : ℕ). AreFindingsBelow listing.mark (is_in_use listing) (listed_times listing) next (findings ++ finding FREE_RANGE (get_or listing.past.now i 0) ∷ [])) next after;
+        reported = subst (λ (next : ℕ). AreFindingsBelow listing.mark (is_in_use listing) (listed_times listing) next (findings ++ finding FREE_RANGE (get_or listing.past.now i 0) ∷ [])) next after;
         done = λ k l. (let up = settled.sorted k i 0 (omega arith) h in omega (arith, up));
       }
 
@@ -285,11 +245,11 @@ module _ (listing : Listing) (settled : IsSettled listing) where
   ]
 
   pub beyond_end : (last i : ℕ) (findings : List Finding) → length listing.past.now ≤ i → IsBeyondTo listing last i findings → AreAllFindings listing.mark (is_in_use listing) (listed_times listing) findings
-  beyond_end last i findings h told = record {
+  beyond_end last i findings h reported = record {
     exact = λ x. (
-      λ in_list. All-contains (IsAccountFinding listing.mark (is_in_use listing) (listed_times listing)) findings x told.told.sound in_list,
-      λ is. told.told.complete x is (all_below last i h told.done x is),
+      λ in_list. All-contains (IsAccountFinding listing.mark (is_in_use listing) (listed_times listing)) findings x reported.reported.sound in_list,
+      λ is. reported.reported.complete x is (all_below last i h reported.done x is),
     );
-    rises = told.told.rises;
-    silent = λ e n gone. told.told.silent e n (let under = gone.free.below in omega (arith, under)) gone;
+    rises = reported.reported.rises;
+    silent = λ e n gone. reported.reported.silent e n (let under = gone.free.below in omega (arith, under)) gone;
   }

@@ -9,7 +9,7 @@ use Rattle.bolt_format.specs.declared.kind.Kind.TheVariants as kind
 use Rattle.bolt_format.specs.declared.meta.Meta.{Meta}
 use Rattle.bolt_check.specs.Nodes.{Node, node_at, node_of, node_seen}
 use Rattle.bolt_check.specs.Findings.{IsClaimedBefore, IsClean, IsMetaPage, PagePasses}
-use Rattle.bolt_check.specs.Ways.{At_page, reached, start_of}
+use Rattle.bolt_check.specs.Ways.{At_page, reached, root_spot}
 
 abbrev node_overflow : Result Node ℕ → ℕ
 node_overflow (Ok node) = node.overflow
@@ -90,7 +90,7 @@ node_within file meta id node e =
 pub node_below : (file : List ℕ) (meta : Meta) (id : ℕ) (node : Node) → node_at file meta id ≡ Ok node → id < meta.high_water
 node_below file meta id node e = let within = (node_within file meta id node e).0 in omega (arith, within)
 
-root_passes : (file : List ℕ) (meta : Meta) → PagePasses (node_at file meta) (IsClaimedBefore (node_at file meta) (reached (node_at file meta) meta.root) IsMetaPage []) (start_of meta.root)
+root_passes : (file : List ℕ) (meta : Meta) → PagePasses (node_at file meta) (IsClaimedBefore (node_at file meta) (reached (node_at file meta) meta.root) IsMetaPage []) (root_spot meta.root)
     → 2 < meta.high_water
 root_passes file meta root =
     let below = node_below file meta meta.root root.node root.page in
@@ -101,4 +101,4 @@ root_passes file meta root =
 
 -- where the search finds nothing, the mark is above the metas
 pub mark_above : (file : List ℕ) (meta : Meta) → IsClean (node_at file meta) (reached (node_at file meta) meta.root) IsMetaPage → 2 < meta.high_water
-mark_above file meta clean = root_passes file meta (clean.passes [] (At_page (start_of meta.root)) refl)
+mark_above file meta clean = root_passes file meta (clean.passes [] (At_page (root_spot meta.root)) refl)

@@ -11,7 +11,7 @@ use Rattle.bolt_check.specs.declared.finding.Finding.{Finding}
 use Rattle.bolt_check.specs.declared.finding.TheConstants.Finding.{FREED_TWICE, FREE_RANGE, REACHED_FREED}
 use Rattle.bolt_check.specs.declared.table.PageUse.{PageUse}
 use Rattle.bolt_check.specs.declared.table.PageUse.TheVariants.{Unused, Branch, Leaf, Used, Free, FreeTwice, UsedFree, UsedFreeTwice}
-use Rattle.bolt_check.proofs.AccountFindingLemmas.{Tells, tells_none, tells_one, one_rises}
+use Rattle.bolt_check.proofs.AccountFindingLemmas.{Reports, reports_none, reports_one, one_rises}
 
 -- a finding on a page, by its number
 pub data OnPage (mark : ℕ) (in_use : ℕ → Type 0) (times : ℕ → ℕ) (x : Finding) (n : ℕ) : Type 0 where
@@ -41,42 +41,42 @@ module _ (mark : ℕ) (in_use : ℕ → Type 0) (times : ℕ → ℕ) where
   only_here n there k low high gone = let same : k ≡ n = omega arith in there (subst (IsLost mark in_use times) same gone)
 
   -- a page that is free and listed once, or used and not listed
-  pub tells_well : (n : ℕ) → times n ≤ 1 → (in_use n → times n ≡ 0) → (IsLost mark in_use times n → ⊥) → IsInRange mark n → Tells mark in_use times n (suc n) []
-  tells_well n once unlisted there in_range = tells_none mark in_use times n (suc n) (only_here n there) (λ x is low high. elim (on_page x n is low high) [
+  pub reports_well : (n : ℕ) → times n ≤ 1 → (in_use n → times n ≡ 0) → (IsLost mark in_use times n → ⊥) → IsInRange mark n → Reports mark in_use times n (suc n) []
+  reports_well n once unlisted there in_range = reports_none mark in_use times n (suc n) (only_here n there) (λ x is low high. elim (on_page x n is low high) [
     | twice e two r ↦ omega arith
     | reached e one used r ↦ let zero = unlisted used in omega (arith, zero, one)
     | lost gone ↦ there gone
     | range e one out ↦ elim out [ inl below ↦ (let a = in_range.0 in omega (arith, a, below)) | inr above ↦ (let a = in_range.1 in omega (arith, a, above)) ]
   ])
 
-  pub tells_twice : (n : ℕ) → 2 ≤ times n → (in_use n → ⊥) → IsInRange mark n → Tells mark in_use times n (suc n) (finding FREED_TWICE n ∷ [])
-  tells_twice n two unused in_range = tells_one mark in_use times n (suc n) (finding FREED_TWICE n) (freed_twice in_range two) (omega arith) (omega arith) (λ x is low high. elim (on_page x n is low high) [
+  pub reports_twice : (n : ℕ) → 2 ≤ times n → (in_use n → ⊥) → IsInRange mark n → Reports mark in_use times n (suc n) (finding FREED_TWICE n ∷ [])
+  reports_twice n two unused in_range = reports_one mark in_use times n (suc n) (finding FREED_TWICE n) (freed_twice in_range two) (omega arith) (omega arith) (λ x is low high. elim (on_page x n is low high) [
     | twice e t r ↦ e
     | reached e one used r ↦ absurd (unused used)
     | lost gone ↦ absurd (not_lost_listed n (omega arith) gone)
     | range e one out ↦ absurd (elim out as (λ _. ⊥) [ inl below ↦ (let a = in_range.0 in omega (arith, a, below)) | inr above ↦ (let a = in_range.1 in omega (arith, a, above)) ])
   ])
 
-  pub tells_reached : (n : ℕ) → times n ≡ 1 → in_use n → IsInRange mark n → Tells mark in_use times n (suc n) (finding REACHED_FREED n ∷ [])
-  tells_reached n one used in_range = tells_one mark in_use times n (suc n) (finding REACHED_FREED n) (reached_freed in_range (omega arith) used) (omega arith) (omega arith) (λ x is low high. elim (on_page x n is low high) [
+  pub reports_reached : (n : ℕ) → times n ≡ 1 → in_use n → IsInRange mark n → Reports mark in_use times n (suc n) (finding REACHED_FREED n ∷ [])
+  reports_reached n one used in_range = reports_one mark in_use times n (suc n) (finding REACHED_FREED n) (reached_freed in_range (omega arith) used) (omega arith) (omega arith) (λ x is low high. elim (on_page x n is low high) [
     | twice e t r ↦ absurd (omega arith)
     | reached e t u r ↦ e
     | lost gone ↦ absurd (not_lost_used n used gone)
     | range e t out ↦ absurd (elim out as (λ _. ⊥) [ inl below ↦ (let a = in_range.0 in omega (arith, a, below)) | inr above ↦ (let a = in_range.1 in omega (arith, a, above)) ])
   ])
 
-  tells_first : (n : ℕ) → 2 ≤ times n → in_use n → IsInRange mark n
+  reports_first : (n : ℕ) → 2 ≤ times n → in_use n → IsInRange mark n
       → (x : Finding) → IsAccountFinding mark in_use times x → n ≤ x.page → x.page < suc n → Contains (finding FREED_TWICE n ∷ finding REACHED_FREED n ∷ []) x
-  tells_first n two used in_range x is low high = elim (on_page x n is low high) [
+  reports_first n two used in_range x is low high = elim (on_page x n is low high) [
     | twice e t r ↦ (0, (omega arith), sym e)
     | reached e t u r ↦ (1, (omega arith), sym e)
     | lost gone ↦ absurd (not_lost_used n used gone)
     | range e t out ↦ absurd (elim out as (λ _. ⊥) [ inl below ↦ (let a = in_range.0 in omega (arith, a, below)) | inr above ↦ (let a = in_range.1 in omega (arith, a, above)) ])
   ]
 
-  pub tells_both : (n : ℕ) → 2 ≤ times n → in_use n → IsInRange mark n → Tells mark in_use times n (suc n) (finding FREED_TWICE n ∷ finding REACHED_FREED n ∷ [])
-  tells_both n two used in_range =
-      let after = tells_first n two used in_range in record {
+  pub reports_both : (n : ℕ) → 2 ≤ times n → in_use n → IsInRange mark n → Reports mark in_use times n (suc n) (finding FREED_TWICE n ∷ finding REACHED_FREED n ∷ [])
+  reports_both n two used in_range =
+      let after = reports_first n two used in_range in record {
         sound = All-cons (IsAccountFinding mark in_use times) (finding FREED_TWICE n) (finding REACHED_FREED n ∷ []) (freed_twice in_range two)
             (All-cons (IsAccountFinding mark in_use times) (finding REACHED_FREED n) [] (reached_freed in_range (omega arith) used) (All-nil (IsAccountFinding mark in_use times)));
         within = All-cons (λ x. (n ≤ x.page) × (x.page < suc n)) (finding FREED_TWICE n) (finding REACHED_FREED n ∷ []) (omega arith, omega arith)
@@ -86,16 +86,16 @@ module _ (mark : ℕ) (in_use : ℕ → Type 0) (times : ℕ → ℕ) where
         rises = AllPairs-cons IsBefore (finding FREED_TWICE n) (finding REACHED_FREED n ∷ []) (All-cons (IsBefore (finding FREED_TWICE n)) (finding REACHED_FREED n) [] (inr (refl, omega arith)) (All-nil (IsBefore (finding FREED_TWICE n)))) (one_rises (finding REACHED_FREED n));
       }
 
-  pub tells_range : (n : ℕ) → 1 ≤ times n → (n < 2) ⊎ (mark ≤ n) → (IsInRange mark n → ⊥) → Tells mark in_use times n (suc n) (finding FREE_RANGE n ∷ [])
-  tells_range n one out outside = tells_one mark in_use times n (suc n) (finding FREE_RANGE n) (out_of_range out one) (omega arith) (omega arith) (λ x is low high. elim (on_page x n is low high) [
+  pub reports_range : (n : ℕ) → 1 ≤ times n → (n < 2) ⊎ (mark ≤ n) → (IsInRange mark n → ⊥) → Reports mark in_use times n (suc n) (finding FREE_RANGE n ∷ [])
+  reports_range n one out outside = reports_one mark in_use times n (suc n) (finding FREE_RANGE n) (out_of_range out one) (omega arith) (omega arith) (λ x is low high. elim (on_page x n is low high) [
     | twice e t r ↦ absurd (outside r)
     | reached e t u r ↦ absurd (outside r)
     | lost gone ↦ absurd (not_lost_listed n one gone)
     | range e t o ↦ e
   ])
 
-  pub tells_unlisted : (n : ℕ) → times n ≡ 0 → (IsLost mark in_use times n → ⊥) → Tells mark in_use times n (suc n) []
-  tells_unlisted n zero there = tells_none mark in_use times n (suc n) (only_here n there) (λ x is low high. elim (on_page x n is low high) [
+  pub reports_unlisted : (n : ℕ) → times n ≡ 0 → (IsLost mark in_use times n → ⊥) → Reports mark in_use times n (suc n) []
+  reports_unlisted n zero there = reports_none mark in_use times n (suc n) (only_here n there) (λ x is low high. elim (on_page x n is low high) [
     | twice e two r ↦ omega arith
     | reached e one used r ↦ omega arith
     | lost gone ↦ there gone
@@ -105,31 +105,31 @@ module _ (mark : ℕ) (in_use : ℕ → Type 0) (times : ℕ → ℕ) where
   outside_metas : (n : ℕ) → n < 2 → IsInRange mark n → ⊥
   outside_metas n low in_range = let a = in_range.0 in omega (arith, a, low)
 
-  tells_meta : (n : ℕ) (page_use : PageUse) → n < 2 → times n ≡ times_of page_use → in_use n → is_used page_use ≡ true → Tells mark in_use times n (suc n) (meta_findings n page_use)
-  tells_meta n Unused low e used is = absurd (false≢true is)
-  tells_meta n Free low e used is = absurd (false≢true is)
-  tells_meta n FreeTwice low e used is = absurd (false≢true is)
-  tells_meta n Branch low e used is = tells_unlisted n e (not_lost_used n used)
-  tells_meta n Leaf low e used is = tells_unlisted n e (not_lost_used n used)
-  tells_meta n Used low e used is = tells_unlisted n e (not_lost_used n used)
-  tells_meta n UsedFree low e used is = tells_range n (omega arith) (inl low) (outside_metas n low)
-  tells_meta n UsedFreeTwice low e used is = tells_range n (omega arith) (inl low) (outside_metas n low)
+  reports_meta : (n : ℕ) (page_use : PageUse) → n < 2 → times n ≡ times_of page_use → in_use n → is_used page_use ≡ true → Reports mark in_use times n (suc n) (meta_findings n page_use)
+  reports_meta n Unused low e used is = absurd (false≢true is)
+  reports_meta n Free low e used is = absurd (false≢true is)
+  reports_meta n FreeTwice low e used is = absurd (false≢true is)
+  reports_meta n Branch low e used is = reports_unlisted n e (not_lost_used n used)
+  reports_meta n Leaf low e used is = reports_unlisted n e (not_lost_used n used)
+  reports_meta n Used low e used is = reports_unlisted n e (not_lost_used n used)
+  reports_meta n UsedFree low e used is = reports_range n (omega arith) (inl low) (outside_metas n low)
+  reports_meta n UsedFreeTwice low e used is = reports_range n (omega arith) (inl low) (outside_metas n low)
 
-  tells_use : (n : ℕ) (page_use : PageUse) → IsInRange mark n → times n ≡ times_of page_use → (in_use n → is_used page_use ≡ true) → (is_used page_use ≡ true → in_use n)
-      → (page_use ≡ Unused → ⊥) → Tells mark in_use times n (suc n) (use_findings n page_use)
-  tells_use n Unused in_range e there here ne = absurd (ne refl)
-  tells_use n Branch in_range e there here ne = tells_unlisted n e (not_lost_used n (here refl))
-  tells_use n Leaf in_range e there here ne = tells_unlisted n e (not_lost_used n (here refl))
-  tells_use n Used in_range e there here ne = tells_unlisted n e (not_lost_used n (here refl))
-  tells_use n Free in_range e there here ne = tells_well n (omega arith) (λ u. absurd (false≢true (there u))) (not_lost_listed n (omega arith)) in_range
-  tells_use n FreeTwice in_range e there here ne = tells_twice n (omega arith) (λ u. false≢true (there u)) in_range
-  tells_use n UsedFree in_range e there here ne = tells_reached n e (here refl) in_range
-  tells_use n UsedFreeTwice in_range e there here ne = tells_both n (omega arith) (here refl) in_range
+  reports_use : (n : ℕ) (page_use : PageUse) → IsInRange mark n → times n ≡ times_of page_use → (in_use n → is_used page_use ≡ true) → (is_used page_use ≡ true → in_use n)
+      → (page_use ≡ Unused → ⊥) → Reports mark in_use times n (suc n) (use_findings n page_use)
+  reports_use n Unused in_range e there here ne = absurd (ne refl)
+  reports_use n Branch in_range e there here ne = reports_unlisted n e (not_lost_used n (here refl))
+  reports_use n Leaf in_range e there here ne = reports_unlisted n e (not_lost_used n (here refl))
+  reports_use n Used in_range e there here ne = reports_unlisted n e (not_lost_used n (here refl))
+  reports_use n Free in_range e there here ne = reports_well n (omega arith) (λ u. absurd (false≢true (there u))) (not_lost_listed n (omega arith)) in_range
+  reports_use n FreeTwice in_range e there here ne = reports_twice n (omega arith) (λ u. false≢true (there u)) in_range
+  reports_use n UsedFree in_range e there here ne = reports_reached n e (here refl) in_range
+  reports_use n UsedFreeTwice in_range e there here ne = reports_both n (omega arith) (here refl) in_range
 
-  pub tells_page : (n : ℕ) (page_use : PageUse) → n < mark → (n < 2 → in_use n) → times n ≡ times_of page_use → (in_use n → is_used page_use ≡ true)
-      → (is_used page_use ≡ true → in_use n) → (page_use ≡ Unused → ⊥) → Tells mark in_use times n (suc n) (page_findings n page_use)
-  tells_page n page_use below meta e there here ne =
+  pub reports_page : (n : ℕ) (page_use : PageUse) → n < mark → (n < 2 → in_use n) → times n ≡ times_of page_use → (in_use n → is_used page_use ≡ true)
+      → (is_used page_use ≡ true → in_use n) → (page_use ≡ Unused → ⊥) → Reports mark in_use times n (suc n) (page_findings n page_use)
+  reports_page n page_use below meta e there here ne =
       elim (cases_lt n 2) [
-        | inl low ↦ rw (lt-ltb n 2 low) (tells_meta n page_use low e (meta low) (there (meta low)))
-        | inr high ↦ rw (le-ltb n 2 high) (tells_use n page_use (high, below) e there here ne)
+        | inl low ↦ rw (lt-ltb n 2 low) (reports_meta n page_use low e (meta low) (there (meta low)))
+        | inr high ↦ rw (le-ltb n 2 high) (reports_use n page_use (high, below) e there here ne)
       ]

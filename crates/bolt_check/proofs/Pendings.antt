@@ -3,9 +3,9 @@ use Rattle.std.proofs.Common.{◌≡◌, ℕ, zero, suc, ◌+◌, ◌<◌, ◌�
 use Rattle.std.proofs.lemmas.List.{reverse-append, drop_all}
 use Rattle.bolt_check.specs.Nodes.{Entry, Node}
 use Rattle.bolt_check.specs.Private.Pending.{kids, places, somes, spots_of}
-use Rattle.bolt_check.specs.Stops.{spot_at}
+use Rattle.bolt_check.specs.ShownSpots.{spot_at}
 use Rattle.bolt_check.specs.Ways.{PageSpot, Spot, step_entry, step_on}
-use Rattle.bolt_check.specs.declared.stop.Stop.{Stop}
+use Rattle.bolt_check.specs.declared.spot.Spot.{Spot as CodeSpot}
 
 pub places_drop : (is_leaf : Bool) (s : PageSpot) (entries : List Entry) (i : ℕ) → i < length entries
     → places is_leaf s (drop i entries) ≡ step_entry is_leaf s (slice_get entries i) (slice_get entries (suc i)) ∷ places is_leaf s (drop (suc i) entries)
@@ -13,8 +13,8 @@ places_drop is_leaf s [] i h = absurd (omega arith)
 places_drop is_leaf s (e ∷ entries) zero h = refl
 places_drop is_leaf s (e ∷ entries) (suc i) h = places_drop is_leaf s entries i (omega arith)
 
-pub spots_push : (stops : List Stop) (stop : Stop) → spots_of (stops ++ stop ∷ []) ≡ spot_at stop ∷ spots_of stops
-spots_push stops stop = ap (map spot_at) (reverse-append stops (stop ∷ []))
+pub spots_push : (spots : List CodeSpot) (spot : CodeSpot) → spots_of (spots ++ spot ∷ []) ≡ spot_at spot ∷ spots_of spots
+spots_push spots spot = ap (map spot_at) (reverse-append spots (spot ∷ []))
 
 -- the spots from entry i on
 abbrev pub kids_from : Node → PageSpot → ℕ → List Spot
@@ -24,7 +24,7 @@ pub kids_none : (node : Node) (s : PageSpot) (i : ℕ) → i < length node.entri
 kids_none node s i h e =
     rw (places_drop node.is_leaf s node.entries i h, ← e) (let d : suc i ≡ i + 1 = omega arith in ap (kids_from node s) d)
 
-pub kids_some : (node : Node) (s : PageSpot) (i : ℕ) (kid : Stop) → i < length node.entries → Some (spot_at kid) ≡ step_on node s i
+pub kids_some : (node : Node) (s : PageSpot) (i : ℕ) (kid : CodeSpot) → i < length node.entries → Some (spot_at kid) ≡ step_on node s i
     → kids_from node s i ≡ spot_at kid ∷ kids_from node s (i + 1)
 kids_some node s i kid h e =
     rw (places_drop node.is_leaf s node.entries i h, ← e)

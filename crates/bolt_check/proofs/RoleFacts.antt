@@ -11,7 +11,7 @@ use Rattle.bolt_check.specs.CheckedFiles.{bytes_of, has_accounts, meta_of}
 use Rattle.bolt_check.specs.Nodes.{Node, node_at}
 use Rattle.bolt_check.specs.Roles.{AreRoles, HasRole, IsFirstPage}
 use Rattle.bolt_check.specs.Sound.{HasRightAccounts, HasSoundTrees, IsSound}
-use Rattle.bolt_check.specs.Ways.{reached, start_of}
+use Rattle.bolt_check.specs.Ways.{reached, root_spot}
 use Rattle.bolt_check.specs.declared.checked_file.Checked.{Checked}
 use Rattle.bolt_check.specs.declared.role.Role.{Role}
 use Rattle.bolt_check.specs.declared.role.Role.TheVariants as role
@@ -56,7 +56,7 @@ module _ (file : List ℕ) (meta : Meta) where
 
   past_metas : (n : ℕ) → 0 < meta.page_size → HasSoundTrees file meta → n < 2 → length file ≤ n * meta.page_size → ⊥
   past_metas n positive trees low past =
-      let (node, page) = (trees.good [] (start_of meta.root) refl).1 in
+      let (node, page) = (trees.good [] (root_spot meta.root) refl).1 in
       let above : 2 ≤ meta.root = trees.above_metas [] meta.root (rw page (omega arith, omega arith)) in
       past_node meta.root n node positive page (omega (arith, low, above)) past
 

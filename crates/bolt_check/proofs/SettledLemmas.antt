@@ -16,7 +16,7 @@ use Rattle.bolt_check.specs.declared.listing.Listing.{Listing}
 use Rattle.bolt_check.specs.declared.table.PageUse.{PageUse}
 use Rattle.bolt_check.proofs.CountLemmas.{times_there}
 use Rattle.bolt_check.proofs.ListingLemmas.{times_past, times_table}
-use Rattle.bolt_check.proofs.AccountLemmas.{told_along}
+use Rattle.bolt_check.proofs.AccountLemmas.{reported_along}
 
 filter_step : (p : ℕ → Bool) (n x : ℕ) (xs : List ℕ) (b : Bool) → p n ≡ true → p x ≡ b → times_in (filter p xs) n ≡ times_in xs n
     → times_in (cond (p x) (x ∷ filter p xs) (filter p xs)) n ≡ times_in (x ∷ xs) n
@@ -60,11 +60,11 @@ module _ (old : List PageUse) (ids past items : List ℕ) (listing : Listing) (l
         omega (arith, e, same))
   ]
 
-  -- what is told of the listing is told of the ids
-  pub listing_told : IsSettled listing → ((n : ℕ) → n < length old → times_of (use_at listing.table.now n) ≡ min 2 (times_in ids n))
-      → (r : Result (Vec Finding Global) AllocError) → IfOk r (λ told. AreAllFindings listing.mark (is_in_use listing) (listed_times listing) told.items)
-      → IfOk r (λ told. AreAllFindings listing.mark (IsClaimed old) (times_in ids) told.items)
-  listing_told ok times r told =
-      IfOk-weaker r (λ told. AreAllFindings listing.mark (is_in_use listing) (listed_times listing) told.items) (λ told. AreAllFindings listing.mark (IsClaimed old) (times_in ids) told.items)
-      (λ v. told_along listing.mark (is_in_use listing) (IsClaimed old) (listed_times listing) (times_in ids) (λ n claimed. sym (used n) ∙ claimed) (λ n claimed. used n ∙ claimed)
-      (same_times ok times) v.items) told
+  -- what is reported of the listing is reported of the ids
+  pub listing_reported : IsSettled listing → ((n : ℕ) → n < length old → times_of (use_at listing.table.now n) ≡ min 2 (times_in ids n))
+      → (r : Result (Vec Finding Global) AllocError) → IfOk r (λ reported. AreAllFindings listing.mark (is_in_use listing) (listed_times listing) reported.items)
+      → IfOk r (λ reported. AreAllFindings listing.mark (IsClaimed old) (times_in ids) reported.items)
+  listing_reported ok times r reported =
+      IfOk-weaker r (λ reported. AreAllFindings listing.mark (is_in_use listing) (listed_times listing) reported.items) (λ reported. AreAllFindings listing.mark (IsClaimed old) (times_in ids) reported.items)
+      (λ v. reported_along listing.mark (is_in_use listing) (IsClaimed old) (listed_times listing) (times_in ids) (λ n claimed. sym (used n) ∙ claimed) (λ n claimed. used n ∙ claimed)
+      (same_times ok times) v.items) reported

@@ -6,7 +6,7 @@ use Rattle.bolt_check.specs.Ways.{PageSpot}
 use Rattle.bolt_check.specs.declared.finding.TheConstants.Finding.{EMPTY_BRANCH, TOO_DEEP}
 use Rattle.bolt_check.specs.declared.finding.Finding.{Finding}
 use Rattle.bolt_check.specs.Nodes.{Nodes, Node, Entry}
-use Rattle.bolt_check.specs.Ways.{Spot, At_page, At_inline, Reach, SpanHas, SpanAt, SpanOf, child_spot, step, upper_from, follow, reached, start_of}
+use Rattle.bolt_check.specs.Ways.{Spot, At_page, At_inline, Reach, SpanHas, SpanAt, SpanOf, child_spot, step, upper_from, follow, reached, root_spot}
 use Rattle.bolt_check.specs.Findings.{keys_of, early_finding, open_finding, node_finding, finding_of, finding, Passes, PagePasses, IsClaimedBefore, IsClean, IsMetaPage}
 use Rattle.bolt_check.specs.Keys.{Key, is_below, is_from, keys_order_fault, key_lt}
 use Rattle.bolt_check.specs.Shape.{child_of, child_in, child_at, leads, HasShape}
@@ -18,7 +18,7 @@ use Rattle.bolt_check.proofs.WayFacts.{follow_append, key_at, leads_none, none_n
 pub same_spot : (o : Option Spot) (s t : PageSpot) → o ≡ Some (At_page s) → o ≡ Some (At_page t) → s ≡ t
 same_spot o s t e h = cc
 
--- the content's tests tell nothing
+-- the content's tests report nothing
 pub finding_none : (o : Option ℕ) (page : ℕ) → finding_of o page ≡ None → o ≡ None
 finding_none None page e = refl
 finding_none (Some number) page e = absurd (cc)
@@ -90,7 +90,7 @@ pub snoc_reached : (nodes : Nodes) (root : ℕ) (way : List ℕ) (i : ℕ) (s : 
 snoc_reached nodes root way i s o e st v =
     let f : Option Spot → Option Spot = λ x. follow nodes x (i ∷ v) in
     let g : Option Spot → Option Spot = λ x. follow nodes x v in
-    follow_append nodes (Some (At_page (start_of root))) way (i ∷ v) ∙ (ap f e ∙ ap g st)
+    follow_append nodes (Some (At_page (root_spot root))) way (i ∷ v) ∙ (ap f e ∙ ap g st)
 
 early_depth : (nodes : Nodes) (s : PageSpot) → early_finding nodes s ≡ None → s.depth ≤ 64
 early_depth nodes s e =

@@ -54,9 +54,9 @@ at_one nodes reach start v w s t x y e f g h k =
 pub first_one : (nodes : Nodes) (reach : Reach) (start : ℕ → Type 0) (x y : Finding) → IsFirst nodes reach start x → IsFirst nodes reach start y → x ≡ y
 first_one nodes reach start x y h k =
     elim (before_total h.way k.way) [
-      | inl e ↦ at_one nodes reach start h.way k.way h.spot k.spot x y e h.leads k.leads h.told k.told
+      | inl e ↦ at_one nodes reach start h.way k.way h.spot k.spot x y e h.leads k.leads h.reported k.reported
       | inr d ↦ elim d [
-        | inl lt ↦ absurd (k.none_before h.way h.spot x lt h.leads h.told)
-        | inr gt ↦ absurd (h.none_before k.way k.spot y gt k.leads k.told)
+        | inl lt ↦ absurd (k.none_before h.way h.spot x lt h.leads h.reported)
+        | inr gt ↦ absurd (h.none_before k.way k.spot y gt k.leads k.reported)
       ]
     ]

@@ -23,9 +23,9 @@ pub wrong_of : (file : List ℕ) (meta : Meta) (table : List PageUse) → ((n : 
     → (HasAccounts file meta (IsClaimed table) → ⊥) → HasRightAccounts file meta → ⊥
 wrong_of file meta table same wrong right = wrong (has_accounts_along file meta (IsUsed file meta) (IsClaimed table) (λ n. (same n).1) (λ n. (same n).0) right)
 
-pub findings_of_file : (file : List ℕ) (meta : Meta) (table : List PageUse) (told : List Finding) → ((n : ℕ) → IsClaimed table n ↔ IsUsed file meta n)
-    → AreAccountFindings file meta (IsClaimed table) told → AreAccountFindings file meta (IsUsed file meta) told
-findings_of_file file meta table told same = account_findings_along file meta (IsClaimed table) (IsUsed file meta) (λ n. (same n).0) (λ n. (same n).1) told
+pub findings_of_file : (file : List ℕ) (meta : Meta) (table : List PageUse) (reported : List Finding) → ((n : ℕ) → IsClaimed table n ↔ IsUsed file meta n)
+    → AreAccountFindings file meta (IsClaimed table) reported → AreAccountFindings file meta (IsUsed file meta) reported
+findings_of_file file meta table reported same = account_findings_along file meta (IsClaimed table) (IsUsed file meta) (λ n. (same n).0) (λ n. (same n).1) reported
 
 pub sound_of : (file : List ℕ) (slot : Slot) (meta : Meta) (table : List PageUse) → IsChosen file slot meta
     → IsClean (node_at file meta) (reached (node_at file meta) meta.root) IsMetaPage → ((n : ℕ) → IsClaimed table n ↔ IsUsed file meta n)
@@ -37,12 +37,12 @@ sound_of file slot meta table chosen clean same accounts = record {
   right = λ _. right_of file meta table same accounts;
 }
 
-pub no_items : (told : List Finding) → length told ≡ 0 → told ≡ []
+pub no_items : (reported : List Finding) → length reported ≡ 0 → reported ≡ []
 no_items [] e = refl
-no_items (x ∷ told) e = absurd (cc)
+no_items (x ∷ reported) e = absurd (cc)
 
 yes_not : (n : ℕ) → n ≡ 0 → (n == 0) ≡ false → ⊥
 yes_not n e not = let h : (0 == 0) ≡ false = subst (λ (m : ℕ). (m == 0) ≡ false) e not in cc
 
-pub some_items : (told : List Finding) (n : ℕ) → n ≡ length told → (n == 0) ≡ false → told ≢ []
-some_items told n long not e = let zero : length told ≡ 0 = ap length e in let none : n ≡ 0 = long ∙ zero in yes_not n none not
+pub some_items : (reported : List Finding) (n : ℕ) → n ≡ length reported → (n == 0) ≡ false → reported ≢ []
+some_items reported n long not e = let zero : length reported ≡ 0 = ap length e in let none : n ≡ 0 = long ∙ zero in yes_not n none not

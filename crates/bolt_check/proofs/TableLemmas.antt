@@ -1,9 +1,9 @@
 -- Claiming lowers the count of what is unclaimed.
-use Rattle.std.proofs.Common.{◌≡◌, ◌≢◌, ℕ, ◌+◌, ◌<◌, ◌≤◌, List, length, set, refl, arith, cond, not, true, inl, inr, ap, get_or-set_same, get_or-set_other}
+use Rattle.std.proofs.Common.{◌≡◌, ◌≢◌, ℕ, ◌<◌, ◌≤◌, List, length, set, arith, cond, not, true, inl, inr, ap, get_or-set_other}
 use Rattle.std.proofs.lemmas.List.{set_past}
 use Rattle.std.proofs.lemmas.List.Sums.{sum_by-set}
 use Rattle.std.proofs.lemmas.Bool.{cases_lt}
-use Rattle.bolt_check.specs.Private.Tables.{IsClaimed, IsUnclaimed, is_used, unclaimed, use_at}
+use Rattle.bolt_check.specs.Private.Tables.{IsUnclaimed, is_used, unclaimed, use_at}
 use Rattle.bolt_check.specs.declared.table.PageUse.{PageUse}
 use Rattle.bolt_check.specs.declared.table.PageUse.TheVariants.{Unused, Used}
 
@@ -22,14 +22,6 @@ unclaimed_set t i =
     elim (cases_lt i (length t)) [
       | inl h ↦ let k = sum_by-set weight t i Used Unused h in omega (arith, k)
       | inr h ↦ rw (set_past t i Used h) (omega arith)
-    ]
-
-pub span_more : (t : List PageUse) (from n : ℕ) → n < length t → ((k : ℕ) → from ≤ k → k < n → IsClaimed t k)
-    → (k : ℕ) → from ≤ k → k < n + 1 → IsClaimed (set t n Used) k
-span_more t from n h before k a b =
-    elim (cases_lt k n) [
-      | inl lt ↦ let ne : k ≢ n = omega arith in rw get_or-set_other (before k a lt)
-      | inr ge ↦ let e : k ≡ n = omega arith in rw (e, get_or-set_same t n Used Unused h) refl
     ]
 
 pub other_kept : (t : List PageUse) (n k : ℕ) (u : PageUse) → k ≢ n → use_at t k ≡ u → use_at (set t n Used) k ≡ u

@@ -8,7 +8,7 @@ use Rattle.bolt_check.specs.Private.Pending.{forest, places, somes}
 use Rattle.bolt_check.specs.Sound.{HasSoundTrees}
 use Rattle.bolt_check.specs.Subtrees.{Has}
 use Rattle.bolt_check.specs.Tours.{IsTour}
-use Rattle.bolt_check.specs.Ways.{At_inline, At_page, Before, PageSpot, Reach, SpanHas, Spot, follow, reached, start_of}
+use Rattle.bolt_check.specs.Ways.{At_inline, At_page, Before, PageSpot, Reach, SpanHas, Spot, follow, reached, root_spot}
 use Rattle.bolt_check.proofs.Forest.{forest_empty, inline_visits, kids_step, nothing_is, root_way, visits}
 use Rattle.bolt_check.proofs.MarkLemmas.{node_below}
 use Rattle.bolt_check.proofs.WayFacts.{follow_append}
@@ -153,7 +153,7 @@ module _ (nodes : Nodes) where
 
   pub tour_of : (left : List ℕ) (root : ℕ) → Fits left (reached nodes root) → (tour : Ways) × IsTour (reached nodes root) tour
   tour_of left root fits =
-      let s = At_page (start_of root) in
+      let s = At_page (root_spot root) in
       let r = found HasTour tours (suc (length left)) left (s ∷ []) (omega arith) (fits_root left s fits) in
       (map tail r.0, root_tour s r.0 r.1)
 
@@ -184,13 +184,13 @@ cancel [] v w e = e
 cancel (i ∷ u) v w e = cancel u v w (ap rest_of e)
 
 -- a bucket that a way leads to has a tour of its own
-pub bucket_tour : (file : List ℕ) (meta : Meta) → HasSoundTrees file meta → (way : List ℕ) (root : ℕ) → reached (node_at file meta) meta.root way ≡ Some (At_page (start_of root))
+pub bucket_tour : (file : List ℕ) (meta : Meta) → HasSoundTrees file meta → (way : List ℕ) (root : ℕ) → reached (node_at file meta) meta.root way ≡ Some (At_page (root_spot root))
     → (tour : Ways) × IsTour (reached (node_at file meta) root) tour
 bucket_tour file meta trees way root leads =
     let nodes = node_at file meta in
     let fits = sound_fits file meta trees in
     let join : (v : List ℕ) → reached nodes meta.root (way ++ v) ≡ reached nodes root v
-    = λ v. follow_append nodes (Some (At_page (start_of meta.root))) way v ∙ ap (λ (o : Option Spot). follow nodes o v) leads in
+    = λ v. follow_append nodes (Some (At_page (root_spot meta.root))) way v ∙ ap (λ (o : Option Spot). follow nodes o v) leads in
     tour_of nodes (numbers meta.high_water) root (record {
       good = λ v s e. fits.good (way ++ v) s (join v ∙ e);
       within = λ v s e. fits.within (way ++ v) s (join v ∙ e);

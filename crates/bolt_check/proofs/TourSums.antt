@@ -10,7 +10,7 @@ use Rattle.bolt_check.specs.Private.Pending.{forest, places, somes}
 use Rattle.bolt_check.specs.Sound.{HasSoundTrees}
 use Rattle.bolt_check.specs.Subtrees.{Enough, Has, kid_pages, kids_at, root_page, weight}
 use Rattle.bolt_check.specs.Tours.{IsIn, IsTour}
-use Rattle.bolt_check.specs.Ways.{At_inline, At_page, PageSpot, Reach, Spot, follow, reached, start_of, step}
+use Rattle.bolt_check.specs.Ways.{At_inline, At_page, PageSpot, Reach, Spot, follow, reached, root_spot, step}
 use Rattle.bolt_check.proofs.Forest.{flat, inline_visits, kids_step, visits}
 use Rattle.bolt_check.proofs.MarkLemmas.{node_page}
 use Rattle.bolt_check.proofs.TourExists.{Anything, Fits, Holds, cancel, fits_root, found, no_tour, numbers, root_tour, shorter, sound_fits, still, tail, tail_leads, without}
@@ -33,7 +33,7 @@ pages_append (At_page s ∷ a) b = ap (λ (l : List ℕ). s.number ∷ l) (pages
 pages_append (At_inline host keys ∷ a) b = pages_append a b
 
 somes_bucket : (bucket small : Bool) (host : ℕ) (e : Entry) (os : List (Option Spot))
-    → pages_of (somes (cond bucket (Some (cond small (At_inline host e.inner) (At_page (start_of e.child)))) None ∷ os)) ≡ cond bucket (cond small [] (e.child ∷ [])) [] ++ pages_of (somes os)
+    → pages_of (somes (cond bucket (Some (cond small (At_inline host e.inner) (At_page (root_spot e.child)))) None ∷ os)) ≡ cond bucket (cond small [] (e.child ∷ [])) [] ++ pages_of (somes os)
 somes_bucket false small host e os = refl
 somes_bucket true true host e os = refl
 somes_bucket true false host e os = refl
@@ -194,8 +194,8 @@ module _ (nodes : Nodes) where
     pub sum_from : (left : List ℕ) (root : ℕ) → length left ≤ k → Fits nodes left (reached nodes root)
         → Enough nodes k root × ((tour : Ways) × IsTour (reached nodes root) tour × (sum_by (λ way. spot_weight own (reached nodes root way)) tour ≡ weight nodes own k root))
     sum_from left root le fits =
-        let s = At_page (start_of root) in
-        let good : Enough nodes k root = enough k left (start_of root) le fits in
+        let s = At_page (root_spot root) in
+        let good : Enough nodes k root = enough k left (root_spot root) le fits in
         let (tour, is, sum) = found nodes HasSum sums (suc (length left)) left (s ∷ []) (omega arith) (fits_root nodes left s fits) (λ m h. elim h [ inl e ↦ subst (Enough nodes k) (sym e) good | inr i ↦ absurd i ]) in
         let moved = sum_map (tail nodes) (λ way. spot_weight own (reached nodes root way)) (λ way. spot_weight own (forest nodes (s ∷ []) way)) tour (λ way i.
         let (t, e) = is.only way i in ap (spot_weight own) (tail_leads nodes s way t e ∙ sym e)) in
@@ -207,14 +207,14 @@ length-numbers zero = refl
 length-numbers (suc k) = let h = length-numbers k in omega (arith, h)
 
 -- a bucket of sound trees, wherever a way leads to its root page: the mark is enough steps, and each sum over its tour is that over its pages
-pub bucket_sum : (file : List ℕ) (meta : Meta) → HasSoundTrees file meta → (way : List ℕ) (root : ℕ) → reached (node_at file meta) meta.root way ≡ Some (At_page (start_of root)) → (own : ℕ → ℕ)
+pub bucket_sum : (file : List ℕ) (meta : Meta) → HasSoundTrees file meta → (way : List ℕ) (root : ℕ) → reached (node_at file meta) meta.root way ≡ Some (At_page (root_spot root)) → (own : ℕ → ℕ)
     → Enough (node_at file meta) meta.high_water root × ((tour : Ways) × IsTour (reached (node_at file meta) root) tour
     × (sum_by (λ way. spot_weight (node_at file meta) own (reached (node_at file meta) root way)) tour ≡ weight (node_at file meta) own meta.high_water root))
 bucket_sum file meta trees way root leads own =
     let nodes = node_at file meta in
     let fits = sound_fits file meta trees in
     let join : (v : List ℕ) → reached nodes meta.root (way ++ v) ≡ reached nodes root v
-    = λ v. follow_append nodes (Some (At_page (start_of meta.root))) way v ∙ ap (λ (o : Option Spot). follow nodes o v) leads in
+    = λ v. follow_append nodes (Some (At_page (root_spot meta.root))) way v ∙ ap (λ (o : Option Spot). follow nodes o v) leads in
     sum_from nodes own meta.high_water (numbers meta.high_water) root (let h = length-numbers meta.high_water in omega (arith, h)) (record {
       good = λ v s e. fits.good (way ++ v) s (join v ∙ e);
       within = λ v s e. fits.within (way ++ v) s (join v ∙ e);

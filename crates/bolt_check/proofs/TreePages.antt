@@ -12,7 +12,7 @@ use Rattle.bolt_check.specs.Nodes.{Entry, Node, Nodes, branch_entry, leaf_entry,
 use Rattle.bolt_check.specs.OnWays.{IsOnWay}
 use Rattle.bolt_check.specs.Shape.{child_at, child_in, leads}
 use Rattle.bolt_check.specs.Sound.{HasSoundTrees}
-use Rattle.bolt_check.specs.Ways.{At_inline, At_page, PageSpot, Spot, bucket_spot, child_spot, reached, start_of, step, upper_from}
+use Rattle.bolt_check.specs.Ways.{At_inline, At_page, PageSpot, Spot, bucket_spot, child_spot, reached, root_spot, step, upper_from}
 use Rattle.bolt_check.proofs.WayFacts.{follow_append, key_at, leads_none, none_number, step_child}
 
 abbrev pub leaf_node : PageView → Node
@@ -70,7 +70,7 @@ step_bucket nodes s i node e q leaf g b = rw (q, leaf, g, b) refl
 -- one step after a way
 pub step_after : (nodes : Nodes) (root i : ℕ) (way : List ℕ) (s : Spot) (o : Option Spot) → reached nodes root way ≡ Some s → step nodes (Some s) i ≡ o → reached nodes root (way ++ i ∷ []) ≡ o
 step_after nodes root i way s o led st =
-    follow_append nodes (Some (At_page (start_of root))) way (i ∷ []) ∙ (ap (λ (x : Option Spot). step nodes x i) led ∙ st)
+    follow_append nodes (Some (At_page (root_spot root))) way (i ∷ []) ∙ (ap (λ (x : Option Spot). step nodes x i) led ∙ st)
 
 module _ (file : List ℕ) (meta : Meta) where
   -- the node of a page on a way, by its spot
@@ -103,7 +103,7 @@ module _ (file : List ℕ) (meta : Meta) where
       → slice_get view.leaves i ≡ Some e → e.is_bucket ≡ true → (head_root e.value == 0) ≡ false → IsOnWay file meta (head_root e.value) 1
   on_bucket number depth i view e on node g b own = record {
     way = on.way ++ i ∷ [];
-    spot = start_of (head_root e.value);
+    spot = root_spot (head_root e.value);
     led = after_bucket number depth i view e on node g b ∙ rw own refl;
     is = refl;
     deep = refl;

@@ -6,8 +6,8 @@ use Rattle.bolt_check.specs.Nodes.{Node, Nodes}
 use Rattle.bolt_check.specs.Private.Pending.{Claims, forest, kids, places, spots_of}
 use Rattle.bolt_check.specs.Private.Tables.{IsClaimed, use_at}
 use Rattle.bolt_check.specs.Private.Uses.{HasUse, IsMetaUse, IsNoted, Notes, UseAt, UseOf, use_of}
-use Rattle.bolt_check.specs.Ways.{At_inline, At_page, PageSpot, Reach, Spot, follow, reached, start_of}
-use Rattle.bolt_check.specs.declared.stop.Stop.{Stop}
+use Rattle.bolt_check.specs.Ways.{At_inline, At_page, PageSpot, Reach, Spot, follow, reached, root_spot}
+use Rattle.bolt_check.specs.declared.spot.Spot.{Spot as CodeSpot}
 use Rattle.bolt_check.specs.declared.table.PageUse.{PageUse}
 use Rattle.bolt_check.specs.declared.table.PageUse.TheVariants.{Used}
 use Rattle.bolt_check.proofs.Forest.{follow_none, inline_visits, kids_step, visits}
@@ -47,13 +47,13 @@ uses_to_old nodes old new c d first s f v a b split n u (inr (way, h)) =
     let p = use_spot nodes (new way) n u h in
     inr (f way, use_back nodes (old (f way)) p.0 n u (v.same way p.0 p.1.0) p.1.1)
 
-pub page_uses : (nodes : Nodes) (s : PageSpot) (node : Node) (rest after : List Spot) (table new kept : List PageUse) → kept ≡ new → nodes s.number ≡ Ok node
+pub page_uses : (nodes : Nodes) (s : PageSpot) (node : Node) (rest after : List Spot) (table new : List PageUse) → nodes s.number ≡ Ok node
     → after ≡ kids node s ++ rest → Claims nodes (At_page s) table new → Notes nodes (At_page s) table new
-    → (n : ℕ) (u : PageUse) → HasUse nodes (forest nodes after) (IsNoted kept) n u → HasUse nodes (forest nodes (At_page s ∷ rest)) (IsNoted table) n u
+    → (n : ℕ) (u : PageUse) → HasUse nodes (forest nodes after) (IsNoted new) n u → HasUse nodes (forest nodes (At_page s ∷ rest)) (IsNoted table) n u
 unfolding kids
-page_uses nodes s node rest after table new kept k page pushed claims notes n u h =
+page_uses nodes s node rest after table new page pushed claims notes n u h =
     let os = places node.is_leaf s node.entries in
-    let h2 : HasUse nodes (forest nodes (kids node s ++ rest)) (IsNoted new) n u = rw (k, pushed) at h in
+    let h2 : HasUse nodes (forest nodes (kids node s ++ rest)) (IsNoted new) n u = rw pushed at h in
     uses_to_old nodes (forest nodes (At_page s ∷ rest)) (forest nodes (kids node s ++ rest)) (IsClaimed table) (IsClaimed new) (0 ∷ []) (At_page s) _
     (visits nodes (IsClaimed table) (IsClaimed new) (At_page s) rest os (kids_step nodes s node page) claims.split claims.kept claims.span)
     (IsNoted table) (IsNoted new) notes.split n u h2
@@ -72,8 +72,8 @@ uses_up nodes a b s n u to (inr (zero ∷ v, h)) = inr (v, h)
 uses_up nodes a b s n u to (inr (suc k ∷ v, h)) = absurd (let P : Option Spot → Type 0 = λ o. UseOf nodes o n u in subst P (follow_none nodes v) h)
 
 -- the beginning of the search: the root alone
-pub begin_uses : (nodes : Nodes) (root : ℕ) (items : List Stop) (table : List PageUse) → spots_of items ≡ At_page (start_of root) ∷ []
+pub begin_uses : (nodes : Nodes) (root : ℕ) (items : List CodeSpot) (table : List PageUse) → spots_of items ≡ At_page (root_spot root) ∷ []
     → ((n : ℕ) (u : PageUse) → IsNoted table n u → IsMetaUse n u)
     → (n : ℕ) (u : PageUse) → HasUse nodes (forest nodes (spots_of items)) (IsNoted table) n u → HasUse nodes (reached nodes root) IsMetaUse n u
 begin_uses nodes root items table e metas n u h =
-    uses_up nodes (IsNoted table) IsMetaUse (At_page (start_of root)) n u (metas n u) (rw e at h)
+    uses_up nodes (IsNoted table) IsMetaUse (At_page (root_spot root)) n u (metas n u) (rw e at h)

@@ -74,8 +74,8 @@ first_back nodes old new c d first s f v h x g = record {
   way = f g.way;
   spot = g.spot;
   leads = v.same g.way g.spot g.leads;
-  told = tests_same nodes (IsClaimedBefore nodes new d g.way) (IsClaimedBefore nodes old c (f g.way)) g.spot x
-      (claimed_to_old nodes old new c d first s f v g.way g.spot g.leads) (claimed_to_new nodes old new c d first s f v g.way) g.told;
+  reported = tests_same nodes (IsClaimedBefore nodes new d g.way) (IsClaimedBefore nodes old c (f g.way)) g.spot x
+      (claimed_to_old nodes old new c d first s f v g.way g.spot g.leads) (claimed_to_new nodes old new c d first s f v g.way) g.reported;
   none_before = λ a t y lt e m. elim (v.all a t e) [
     | inl q ↦
         let l : old first ≡ Some s = v.leads in
@@ -103,7 +103,7 @@ found_here nodes old c first s x leads none m = record {
   way = first;
   spot = s;
   leads = leads;
-  told = tests_same nodes c (IsClaimedBefore nodes old c first) s x (λ n h. inl h) (only_start nodes old c first none) m;
+  reported = tests_same nodes c (IsClaimedBefore nodes old c first) s x (λ n h. inl h) (only_start nodes old c first none) m;
   none_before = λ v t y lt e _. none v t lt e;
 }
 

@@ -86,6 +86,6 @@ pub record IsFirst (nodes : Nodes) (reach : Reach) (start : ℕ → Type 0) (x :
   pub way : List ℕ
   pub spot : Spot
   pub leads : reach way ≡ Some spot
-  pub told : Tests nodes (IsClaimedBefore nodes reach start way) spot x
+  pub reported : Tests nodes (IsClaimedBefore nodes reach start way) spot x
   pub none_before : (v : List ℕ) (s : Spot) (y : Finding) → Before v way → reach v ≡ Some s
       → Tests nodes (IsClaimedBefore nodes reach start v) s y → ⊥

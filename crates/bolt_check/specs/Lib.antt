@@ -11,8 +11,8 @@ pub mod RoledFiles
 pub mod Roles
 pub mod Shape
 pub mod ShownNodes
+pub mod ShownSpots
 pub mod Sound
-pub mod Stops
 pub mod Subtrees
 pub mod Tours
 pub mod TreeKinds

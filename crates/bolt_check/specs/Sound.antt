@@ -44,14 +44,14 @@ pub record IsSound (file : List ℕ) (meta : Meta) (accounts : Bool) : Type 0 wh
 abbrev pub IsRefused : List ℕ → CheckFault → Type 0
 IsRefused file (Open fault) = HasMetaFault file 0 fault × ((slot : Slot) (meta : Meta) → IsInSlot file slot meta → ⊥)
 IsRefused file (Structure x) = (slot : Slot) × (meta : Meta) × IsChosen file slot meta × IsFirstFinding file meta x
-IsRefused file (Accounts told) =
+IsRefused file (Accounts reported) =
     (slot : Slot) × (meta : Meta) × IsChosen file slot meta × HasSoundTrees file meta × (HasRightAccounts file meta → ⊥)
-    × AreAccountFindings file meta (IsUsed file meta) told.items × (told.items ≢ [])
+    × AreAccountFindings file meta (IsUsed file meta) reported.items × (reported.items ≢ [])
 IsRefused file Memory = Unit {0}
 
 -- why the trees of the file aren't sound for the meta of this slot
 abbrev pub IsSlotRefused : List ℕ → Slot → CheckFault → Type 0
 IsSlotRefused file slot (Open fault) = HasSlotFault file slot fault × ((meta : Meta) → IsInSlot file slot meta → ⊥)
 IsSlotRefused file slot (Structure x) = (meta : Meta) × IsInSlot file slot meta × IsFirstFinding file meta x
-IsSlotRefused file slot (Accounts told) = ⊥
+IsSlotRefused file slot (Accounts reported) = ⊥
 IsSlotRefused file slot Memory = Unit {0}

@@ -16,8 +16,8 @@ pub data Spot : Type 0 where
   At_inline : ℕ → List Key → Spot
 
 -- a bucket's root page has depth 1 and no bounds
-abbrev pub start_of : ℕ → PageSpot
-start_of number = record { number = number; depth = 1; lower = None; upper = None }
+abbrev pub root_spot : ℕ → PageSpot
+root_spot number = record { number = number; depth = 1; lower = None; upper = None }
 
 -- the upper bound of a child: the key of the next entry or, after the last, the page's own bound
 abbrev pub upper_from : Option Entry → Option Key → Option Key
@@ -25,7 +25,7 @@ upper_from (Some next) upper = Some next.key
 upper_from None upper = upper
 
 abbrev pub bucket_spot : ℕ → Entry → Spot
-bucket_spot host e = if e.child == 0 then At_inline host e.inner else At_page (start_of e.child)
+bucket_spot host e = if e.child == 0 then At_inline host e.inner else At_page (root_spot e.child)
 
 abbrev pub bucket_spots : ℕ → Entry → Option Spot
 bucket_spots host e = if e.is_bucket then Some (bucket_spot host e) else None
@@ -68,7 +68,7 @@ abbrev pub Reach : Type 0
 Reach = List ℕ → Option Spot
 
 abbrev pub reached : Nodes → ℕ → Reach
-reached nodes root way = follow nodes (Some (At_page (start_of root))) way
+reached nodes root way = follow nodes (Some (At_page (root_spot root))) way
 
 -- ways are ordered as lists of numbers; a list comes before those that it is a prefix of
 abbrev pub Before : List ℕ → List ℕ → Type 0

@@ -10,8 +10,8 @@ ghost use Rattle.bolt_check.specs.Private.Tables.{HasRoom, IsClaimed};
 
 use crate::finding::Finding;
 use crate::listing::{Listing, list_ids};
+use crate::listing_findings::report_listing;
 use crate::table::{PageUse, claim, first_claimed};
-use crate::telling::tell_listing;
 use bolt_format::{FreeIds, Meta, free_ids, known};
 use std::alloc::{AllocError, Global};
 
@@ -27,9 +27,9 @@ pub(crate) fn test_accounts(
     requires metas { (n : ℕ) → n < 2 → IsClaimed table.old n }
     requires below { length table.old ≤ meta.now.high_water }
     requires room { HasRoom file.now meta.now table.old }
-    ensures right { IfOk result (λ told. told.items ≡ [] → HasAccounts file.now meta.now (IsClaimed table.old)) }
-    ensures wrong { IfOk result (λ told. told.items ≢ [] → HasAccounts file.now meta.now (IsClaimed table.old) → ⊥) }
-    ensures told { IfOk result (λ told. told.items ≢ [] → AreAccountFindings file.now meta.now (IsClaimed table.old) told.items) }
+    ensures right { IfOk result (λ reported. reported.items ≡ [] → HasAccounts file.now meta.now (IsClaimed table.old)) }
+    ensures wrong { IfOk result (λ reported. reported.items ≢ [] → HasAccounts file.now meta.now (IsClaimed table.old) → ⊥) }
+    ensures reported { IfOk result (λ reported. reported.items ≢ [] → AreAccountFindings file.now meta.now (IsClaimed table.old) reported.items) }
 {
     let ids = match free_ids(file, meta) {
         Ok(Some(ids)) => ids,
@@ -44,7 +44,7 @@ pub(crate) fn test_accounts(
 
 /// A list of one finding.
 fn alone(alloc: Global, finding: Finding) -> Result<Vec<Finding>, AllocError>
-    ensures { IfOk result (λ told. told.items ≡ finding ∷ []) }
+    ensures { IfOk result (λ reported. reported.items ≡ finding ∷ []) }
 {
     let mut findings = Vec::new(alloc);
     findings.push(finding)?;
@@ -80,7 +80,7 @@ fn test_ids(
     requires unlisted { IsUnlisted table.old }
     requires metas { (n : ℕ) → n < 2 → IsClaimed table.old n }
     requires below { length table.old ≤ mark }
-    ensures { IfOk result (λ told. AreAllFindings mark (IsClaimed table.old) (times_in (shown_ids ids.entry)) told.items) }
+    ensures { IfOk result (λ reported. AreAllFindings mark (IsClaimed table.old) (times_in (shown_ids ids.entry)) reported.items) }
 {
     let mut past = list_ids(alloc, ids, table)?;
     past.sort_unstable();
@@ -89,5 +89,5 @@ fn test_ids(
         past: &past,
         mark,
     };
-    tell_listing(alloc, &listing)
+    report_listing(alloc, &listing)
 }

@@ -7,13 +7,13 @@ ghost use Rattle.bolt_check.specs.Findings.{IsMetaPage, PagePasses, PageTests};
 ghost use Rattle.bolt_check.specs.Nodes.{node_at};
 ghost use Rattle.bolt_check.specs.Private.Tables.{HasRoom};
 ghost use Rattle.bolt_check.specs.ShownNodes.{shown_node};
-ghost use Rattle.bolt_check.specs.Stops.{page_spot};
+ghost use Rattle.bolt_check.specs.ShownSpots.{page_spot};
 ghost use Rattle.bolt_check.specs.Ways.{At_page, SpanAt};
 
 use crate::finding::Finding;
 use crate::no_memory::NoMemory;
 use crate::search::new_table;
-use crate::stop::PageStop;
+use crate::spot::PageSpot;
 use crate::table::PageUse;
 use crate::tree_page::TreePage;
 use crate::visit::visit;
@@ -61,19 +61,19 @@ impl<'a> Claims<'a> {
     /// Tests a page that a way leads to, and claims its span if the tests find nothing. If they
     /// find something, no page is claimed.
     #[tactic(auto, unfolding(crate::specs::Claims::claims_file, crate::specs::Claims::claims_meta, crate::specs::Claims::is_claimed, crate::specs::Claims::pages_left))]
-    pub fn visit(&mut self, stop: &PageStop<'_>) -> Result<TreePage<'a>, Finding>
+    pub fn visit(&mut self, spot: &PageSpot<'_>) -> Result<TreePage<'a>, Finding>
         ensures file { claims_file self.new ≡ claims_file self.old }
         ensures meta { claims_meta self.new ≡ claims_meta self.old }
-        ensures found { IfErr result (PageTests (node_at (claims_file self.old) (claims_meta self.old)) (λ n. is_claimed self.old n ≡ true) (page_spot stop.now)) }
+        ensures found { IfErr result (PageTests (node_at (claims_file self.old) (claims_meta self.old)) (λ n. is_claimed self.old n ≡ true) (page_spot spot.now)) }
         ensures same { OnErr result ((n : ℕ) → is_claimed self.new n ≡ is_claimed self.old n) }
         ensures left { OnErr result (pages_left self.new ≡ pages_left self.old) }
-        ensures passes { OnOk result (PagePasses (node_at (claims_file self.old) (claims_meta self.old)) (λ n. is_claimed self.old n ≡ true) (page_spot stop.now)) }
-        ensures node { IfOk result (λ node. node_at (claims_file self.old) (claims_meta self.old) stop.now.number ≡ Ok (shown_node node)) }
-        ensures page { IfOk result (λ node. page_at (claims_file self.old) (claims_meta self.old) stop.now.number ≡ Some (shown node.page)) }
-        ensures claims { OnOk result ((n : ℕ) → (is_claimed self.new n ≡ true) ↔ ((is_claimed self.old n ≡ true) ⊎ SpanAt (node_at (claims_file self.old) (claims_meta self.old)) (At_page (page_spot stop.now)) n)) }
+        ensures passes { OnOk result (PagePasses (node_at (claims_file self.old) (claims_meta self.old)) (λ n. is_claimed self.old n ≡ true) (page_spot spot.now)) }
+        ensures node { IfOk result (λ node. node_at (claims_file self.old) (claims_meta self.old) spot.now.number ≡ Ok (shown_node node)) }
+        ensures page { IfOk result (λ node. page_at (claims_file self.old) (claims_meta self.old) spot.now.number ≡ Some (shown node.page)) }
+        ensures claims { OnOk result ((n : ℕ) → (is_claimed self.new n ≡ true) ↔ ((is_claimed self.old n ≡ true) ⊎ SpanAt (node_at (claims_file self.old) (claims_meta self.old)) (At_page (page_spot spot.now)) n)) }
         ensures fewer { OnOk result (pages_left self.new < pages_left self.old) }
-        ensures shallow { OnOk result (stop.now.depth ≤ 64) }
+        ensures shallow { OnOk result (spot.now.depth ≤ 64) }
     {
-        visit(self.file, &self.meta, stop, &mut self.table)
+        visit(self.file, &self.meta, spot, &mut self.table)
     }
 }

@@ -24,6 +24,22 @@ pub enum CheckFault {
     Memory,
 }
 
+impl From<MetaFault> for CheckFault {
+    ghost from_gives = { λ fault gives. gives ≡ refused.Open fault };
+
+    fn from(fault: MetaFault) -> Self {
+        CheckFault::Open(fault)
+    }
+}
+
+impl From<Finding> for CheckFault {
+    ghost from_gives = { λ finding gives. gives ≡ refused.Structure finding };
+
+    fn from(finding: Finding) -> Self {
+        CheckFault::Structure(finding)
+    }
+}
+
 impl From<AllocError> for CheckFault {
     ghost from_gives = { λ _ fault. fault ≡ refused.Memory };
 

@@ -10,7 +10,7 @@ ghost use Rattle.bolt_check.specs.OnWays.{IsOnWay};
 ghost use Rattle.bolt_check.specs.Roles.{AreRoles, HasRole};
 ghost use Rattle.bolt_check.specs.Sound.{HasRightAccounts, HasSoundTrees, IsFirstFinding, IsUsed, PassesTests};
 ghost use Rattle.bolt_check.specs.Tours.{IsTour};
-ghost use Rattle.bolt_check.specs.Ways.{At_page, Reach, reached, start_of};
+ghost use Rattle.bolt_check.specs.Ways.{At_page, Reach, reached, root_spot};
 ghost use Rattle.bolt_check.specs.declared.finding.Finding.{Finding};
 ghost use Rattle.bolt_check.specs.declared.role.Role.{Role};
 
@@ -63,7 +63,7 @@ pub fn ways_go_on()
 
 /// In sound trees each bucket has a tour.
 pub fn tour_exists()
-    ensures { (file : List ℕ) (meta : Meta) (way : List ℕ) (root : ℕ) → HasSoundTrees file meta → reached (node_at file meta) meta.root way ≡ Some (At_page (start_of root))
+    ensures { (file : List ℕ) (meta : Meta) (way : List ℕ) (root : ℕ) → HasSoundTrees file meta → reached (node_at file meta) meta.root way ≡ Some (At_page (root_spot root))
         → (tour : _) × IsTour (reached (node_at file meta) root) tour }
 {}
 

@@ -4,40 +4,38 @@ ghost use Rattle.bolt_check.specs.Findings.{IsClean, IsCovered, IsFirst, IsMetaP
 ghost use Rattle.bolt_check.specs.Nodes.{node_at};
 ghost use Rattle.bolt_check.specs.Private.Listings.{IsUnlisted};
 ghost use Rattle.bolt_check.specs.Private.Pending.{forest, kids, spots_of};
-ghost use Rattle.bolt_check.specs.Stops.{page_spot, spot_at};
+ghost use Rattle.bolt_check.specs.ShownSpots.{page_spot, spot_at};
 ghost use Rattle.bolt_check.specs.Private.SearchFaults.{IsSearchFault};
 ghost use Rattle.bolt_check.specs.ShownNodes.{shown_node};
 ghost use Rattle.bolt_check.specs.Private.Tables.{HasRoom, IsClaimed, table_length, unclaimed};
 ghost use Rattle.bolt_check.specs.Private.Uses.{HasUse, IsMetaUse, IsNoted};
-ghost use Rattle.bolt_check.specs.Ways.{At_page, reached, start_of};
+ghost use Rattle.bolt_check.specs.Ways.{At_page, reached, root_spot};
 ghost use Rattle.bolt_check.specs.declared.table.PageUse.{PageUse};
 ghost use Rattle.bolt_check.specs.declared.finding.Finding.{Finding};
 
 use crate::fault::CheckFault;
-use crate::finding::Finding;
-use crate::keys::test_inline_keys;
-use crate::stop::{PageStop, Stop};
+use crate::spot::{PageSpot, Spot};
 use crate::table::PageUse;
 use crate::tree_page::TreePage;
 use crate::visit::visit;
 use bolt_format::Meta;
 use std::alloc::{AllocError, Global};
 
-/// Pushes what a page leads to onto the pending stops, in reverse, so that the first is on top.
+/// Pushes what a page leads to onto the pending spots, in reverse, so that the first is on top.
 #[tactic(auto, using(crate::proofs::Pendings::kids_none, crate::proofs::Pendings::kids_some, crate::proofs::Pendings::kids_end, crate::proofs::Pendings::kids_all, crate::proofs::Pendings::spots_push))]
 fn push_kids<'a>(
     node: &TreePage<'a>,
-    stop: &PageStop<'a>,
-    pending: &mut Vec<Stop<'a>>,
+    spot: &PageSpot<'a>,
+    pending: &mut Vec<Spot<'a>>,
 ) -> Result<(), AllocError>
-    requires { stop.now.depth ≤ 64 }
-    ensures kids { OnOk result (spots_of pending.new.items ≡ kids (shown_node node.now) (page_spot stop.now) ++ spots_of pending.old.items) }
+    requires { spot.now.depth ≤ 64 }
+    ensures kids { OnOk result (spots_of pending.new.items ≡ kids (shown_node node.now) (page_spot spot.now) ++ spots_of pending.old.items) }
     ensures few { OnOk result (vec_len pending.new < vec_len pending.old + 65536) }
 {
     let mut i = node.count();
     while i > 0 {
         i -= 1;
-        if let Some(kid) = node.stop(i, stop) {
+        if let Some(kid) = node.spot(i, spot) {
             pending.push(kid)?;
         }
     }
@@ -61,12 +59,12 @@ pub(crate) fn new_table(alloc: Global, file: &[u8], meta: &Meta) -> Result<Vec<P
     Ok(table)
 }
 
-/// The pending stops at the start: the root page alone.
-fn new_pending<'a>(alloc: Global, root: u64) -> Result<Vec<Stop<'a>>, AllocError>
-    ensures { IfOk result (λ pending. spots_of pending.items ≡ At_page (start_of root) ∷ []) }
+/// The pending spots at the start: the root page alone.
+fn new_pending<'a>(alloc: Global, root: u64) -> Result<Vec<Spot<'a>>, AllocError>
+    ensures { IfOk result (λ pending. spots_of pending.items ≡ At_page (root_spot root) ∷ []) }
 {
     let mut pending = Vec::new(alloc);
-    pending.push(Stop::Page(PageStop {
+    pending.push(Spot::Page(PageSpot {
         number: root,
         depth: 1,
         lower: None,
@@ -75,42 +73,39 @@ fn new_pending<'a>(alloc: Global, root: u64) -> Result<Vec<Stop<'a>>, AllocError
     Ok(pending)
 }
 
-/// Visits the stop that was popped from the pending stops, and pushes what it leads to.
+/// Visits the spot that was popped from the pending spots, and pushes what it leads to.
 fn step<'a>(
     file: &'a [u8],
     meta: &Meta,
-    stop: Stop<'a>,
-    table: &mut Vec<PageUse>,
-    pending: &mut Vec<Stop<'a>>,
+    spot: Spot<'a>,
+    table: &mut [PageUse],
+    pending: &mut Vec<Spot<'a>>,
 ) -> Result<(), CheckFault>
-    requires { HasRoom file.now meta.now table.old.items }
-    ensures room { OnOk result (HasRoom file.now meta.now table.new.items) }
-    ensures unlisted { OnOk result (IsUnlisted table.old.items → IsUnlisted table.new.items) }
-    ensures length { OnOk result (length table.new.items ≡ length table.old.items) }
-    ensures less { OnOk result (unclaimed table.new.items * 65536 + vec_len pending.new ≤ unclaimed table.old.items * 65536 + vec_len pending.old) }
-    ensures clean { OnOk result (IsClean (node_at file.now meta.now) (forest (node_at file.now meta.now) (spots_of pending.new.items)) (IsClaimed table.new.items)
-        → IsClean (node_at file.now meta.now) (forest (node_at file.now meta.now) (spot_at stop.entry ∷ spots_of pending.old.items)) (IsClaimed table.old.items)) }
-    ensures first { OnOk result ((x : Finding) → IsFirst (node_at file.now meta.now) (forest (node_at file.now meta.now) (spots_of pending.new.items)) (IsClaimed table.new.items) x
-        → IsFirst (node_at file.now meta.now) (forest (node_at file.now meta.now) (spot_at stop.entry ∷ spots_of pending.old.items)) (IsClaimed table.old.items) x) }
-    ensures covered { OnOk result ((n : ℕ) → IsCovered (node_at file.now meta.now) (forest (node_at file.now meta.now) (spots_of pending.new.items)) (IsClaimed table.new.items) n
-        ↔ IsCovered (node_at file.now meta.now) (forest (node_at file.now meta.now) (spot_at stop.entry ∷ spots_of pending.old.items)) (IsClaimed table.old.items) n) }
-    ensures uses { OnOk result ((n : ℕ) (u : PageUse) → HasUse (node_at file.now meta.now) (forest (node_at file.now meta.now) (spots_of pending.new.items)) (IsNoted table.new.items) n u
-        → HasUse (node_at file.now meta.now) (forest (node_at file.now meta.now) (spot_at stop.entry ∷ spots_of pending.old.items)) (IsNoted table.old.items) n u) }
-    ensures told { IfErr result (IsSearchFault (node_at file.now meta.now) (forest (node_at file.now meta.now) (spot_at stop.entry ∷ spots_of pending.old.items)) (IsClaimed table.old.items)) }
+    requires { HasRoom file.now meta.now table.old }
+    ensures room { OnOk result (HasRoom file.now meta.now table.new) }
+    ensures unlisted { OnOk result (IsUnlisted table.old → IsUnlisted table.new) }
+    ensures length { OnOk result (length table.new ≡ length table.old) }
+    ensures less { OnOk result (unclaimed table.new * 65536 + vec_len pending.new ≤ unclaimed table.old * 65536 + vec_len pending.old) }
+    ensures clean { OnOk result (IsClean (node_at file.now meta.now) (forest (node_at file.now meta.now) (spots_of pending.new.items)) (IsClaimed table.new)
+        → IsClean (node_at file.now meta.now) (forest (node_at file.now meta.now) (spot_at spot.entry ∷ spots_of pending.old.items)) (IsClaimed table.old)) }
+    ensures first { OnOk result ((x : Finding) → IsFirst (node_at file.now meta.now) (forest (node_at file.now meta.now) (spots_of pending.new.items)) (IsClaimed table.new) x
+        → IsFirst (node_at file.now meta.now) (forest (node_at file.now meta.now) (spot_at spot.entry ∷ spots_of pending.old.items)) (IsClaimed table.old) x) }
+    ensures covered { OnOk result ((n : ℕ) → IsCovered (node_at file.now meta.now) (forest (node_at file.now meta.now) (spots_of pending.new.items)) (IsClaimed table.new) n
+        ↔ IsCovered (node_at file.now meta.now) (forest (node_at file.now meta.now) (spot_at spot.entry ∷ spots_of pending.old.items)) (IsClaimed table.old) n) }
+    ensures uses { OnOk result ((n : ℕ) (u : PageUse) → HasUse (node_at file.now meta.now) (forest (node_at file.now meta.now) (spots_of pending.new.items)) (IsNoted table.new) n u
+        → HasUse (node_at file.now meta.now) (forest (node_at file.now meta.now) (spot_at spot.entry ∷ spots_of pending.old.items)) (IsNoted table.old) n u) }
+    ensures reported { IfErr result (IsSearchFault (node_at file.now meta.now) (forest (node_at file.now meta.now) (spot_at spot.entry ∷ spots_of pending.old.items)) (IsClaimed table.old)) }
 {
-    match stop {
-        Stop::Page(stop) => {
-            let node = match visit(file, meta, &stop, table) {
-                Ok(node) => node,
-                Err(finding) => return Err(CheckFault::Structure(finding)),
-            };
-            push_kids(&node, &stop, pending)?;
+    match spot {
+        Spot::Page(spot) => {
+            let node = visit(file, meta, &spot, table)?;
+            push_kids(&node, &spot, pending)?;
             Ok(())
         }
-        Stop::Bucket(stop) => match test_inline_keys(&stop.page) {
-            Ok(()) => Ok(()),
-            Err(number) => Err(CheckFault::Structure(Finding::of_page(number, stop.host))),
-        },
+        Spot::Bucket(spot) => {
+            spot.test()?;
+            Ok(())
+        }
     }
 }
 
@@ -128,8 +123,8 @@ pub(crate) fn search(alloc: Global, file: &[u8], meta: &Meta) -> Result<Vec<Page
 {
     let mut table = new_table(alloc, file, meta)?;
     let mut pending = new_pending(alloc, meta.root)?;
-    while let Some(stop) = pending.pop() {
-        step(file, meta, stop, &mut table, &mut pending)?;
+    while let Some(spot) = pending.pop() {
+        step(file, meta, spot, &mut table, &mut pending)?;
     }
     Ok(table)
 }

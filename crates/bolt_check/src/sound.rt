@@ -28,10 +28,7 @@ pub fn check<'a>(alloc: Global, file: &'a [u8]) -> Result<Checked<'a>, CheckFaul
     ensures accounts { IfOk result (λ checked. has_accounts checked ≡ true) }
     ensures refused { IfErr result (IsRefused file.now) }
 {
-    let meta = match choose(file) {
-        Ok((_, meta)) => meta,
-        Err(fault) => return Err(CheckFault::Open(fault)),
-    };
+    let (_, meta) = choose(file)?;
     let mut table = search(alloc, file, &meta)?;
     let findings = test_accounts(alloc, file, &meta, &mut table)?;
     if !findings.is_empty() {
@@ -58,10 +55,7 @@ pub fn check_slot<'a>(alloc: Global, file: &'a [u8], slot: Slot) -> Result<Check
     ensures accounts { IfOk result (λ checked. has_accounts checked ≡ false) }
     ensures refused { IfErr result (IsSlotRefused file.now slot) }
 {
-    let meta = match slot_meta(file, slot) {
-        Ok(meta) => meta,
-        Err(fault) => return Err(CheckFault::Open(fault)),
-    };
+    let meta = slot_meta(file, slot)?;
     search(alloc, file, &meta)?;
     Ok(Checked {
         bytes: file,

@@ -7,11 +7,11 @@ ghost use Rattle.bolt_format.specs.Elements.{IsBucketValue, LeafElement};
 ghost use Rattle.bolt_format.specs.Shown.{shown};
 ghost use Rattle.bolt_check.specs.Findings.{keys_of};
 ghost use Rattle.bolt_check.specs.Nodes.{leaf_entry};
-ghost use Rattle.bolt_check.specs.Stops.{IsInner, bound_of, page_spot, spot_at};
+ghost use Rattle.bolt_check.specs.ShownSpots.{IsInner, bound_of, page_spot, spot_at};
 ghost use Rattle.bolt_check.specs.TreeKinds.{tree_kind};
 ghost use Rattle.bolt_check.specs.Ways.{At_page, bucket_spots, step_on, upper_from};
 
-use crate::stop::{BucketStop, PageStop, Stop};
+use crate::spot::{BucketSpot, PageSpot, Spot};
 use bolt_format::{Leaf, Page, head, inline};
 
 /// A page that is a branch or a leaf.
@@ -46,35 +46,35 @@ impl<'a> TreePage<'a> {
         }
     }
 
-    /// What element `i` leads to from a stop at this page: a child of a branch, or a bucket on a
+    /// What element `i` leads to from a spot at this page: a child of a branch, or a bucket on a
     /// leaf. An element that is a value leads nowhere.
     #[tactic(auto, unfolding(crate::specs::ShownNodes::shown_node))]
-    pub fn stop(&self, i: u16, stop: &PageStop<'a>) -> Option<Stop<'a>>
+    pub fn spot(&self, i: u16, spot: &PageSpot<'a>) -> Option<Spot<'a>>
         requires below { i < length (shown_node self.now).entries }
-        requires shallow { stop.now.depth ≤ 64 }
-        ensures leads { option_map spot_at result ≡ step_on (shown_node self.now) (page_spot stop.now) i }
-        ensures inner { IfSome result (λ stop. (e : LeafElement) → slice_get (shown self.now.page).leaves i ≡ Some e → IsInner e.value stop) }
+        requires shallow { spot.now.depth ≤ 64 }
+        ensures leads { option_map spot_at result ≡ step_on (shown_node self.now) (page_spot spot.now) i }
+        ensures inner { IfSome result (λ spot. (e : LeafElement) → slice_get (shown self.now.page).leaves i ≡ Some e → IsInner e.value spot) }
     {
         if self.is_leaf {
-            bucket_stop(self.page.leaf(i), stop)
+            bucket_spot(self.page.leaf(i), spot)
         } else {
-            Some(Stop::Page(self.child(i, stop)))
+            Some(Spot::Page(self.child(i, spot)))
         }
     }
 
-    /// The stop at the child of branch element `i`.
-    fn child(&self, i: u16, stop: &PageStop<'a>) -> PageStop<'a>
+    /// The spot at the child of branch element `i`.
+    fn child(&self, i: u16, spot: &PageSpot<'a>) -> PageSpot<'a>
         requires branch { self.now.is_leaf ≡ false }
         requires below { i < length (shown_node self.now).entries }
-        requires shallow { stop.now.depth ≤ 64 }
-        ensures { step_on (shown_node self.now) (page_spot stop.now) i ≡ Some (At_page (page_spot result)) }
+        requires shallow { spot.now.depth ≤ 64 }
+        ensures { step_on (shown_node self.now) (page_spot spot.now) i ≡ Some (At_page (page_spot result)) }
     {
         let element = self.page.branch(i);
-        PageStop {
+        PageSpot {
             number: element.child,
-            depth: stop.depth + 1,
+            depth: spot.depth + 1,
             lower: Some(element.key),
-            upper: self.upper(i, stop.upper),
+            upper: self.upper(i, spot.upper),
         }
     }
 
@@ -91,11 +91,11 @@ impl<'a> TreePage<'a> {
     }
 }
 
-/// The stop at a bucket on a leaf, from a stop at that leaf, or `None` for a value. Its root page
+/// The spot at a bucket on a leaf, from a spot at that leaf, or `None` for a value. Its root page
 /// has depth 1, and no bounds.
-fn bucket_stop<'a>(leaf: Leaf<'a>, stop: &PageStop<'a>) -> Option<Stop<'a>>
+fn bucket_spot<'a>(leaf: Leaf<'a>, spot: &PageSpot<'a>) -> Option<Spot<'a>>
     requires { IsTrue leaf.is_bucket → IsBucketValue leaf.value.now }
-    ensures leads { option_map spot_at result ≡ bucket_spots stop.now.number (leaf_entry (leaf_view leaf.entry)) }
+    ensures leads { option_map spot_at result ≡ bucket_spots spot.now.number (leaf_entry (leaf_view leaf.entry)) }
     ensures inner { IfSome result (IsInner leaf.entry.value.now) }
 {
     if !leaf.is_bucket {
@@ -103,12 +103,12 @@ fn bucket_stop<'a>(leaf: Leaf<'a>, stop: &PageStop<'a>) -> Option<Stop<'a>>
     }
     let head = head(leaf.value);
     if head.root == 0 {
-        return Some(Stop::Bucket(BucketStop {
-            host: stop.number,
+        return Some(Spot::Bucket(BucketSpot {
+            host: spot.number,
             page: inline(leaf.value),
         }));
     }
-    Some(Stop::Page(PageStop {
+    Some(Spot::Page(PageSpot {
         number: head.root,
         depth: 1,
         lower: None,

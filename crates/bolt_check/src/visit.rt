@@ -7,7 +7,7 @@ ghost use Rattle.bolt_check.specs.Findings.{PagePasses, PageTests, node_finding}
 ghost use Rattle.bolt_check.specs.Nodes.{node_at};
 ghost use Rattle.bolt_check.specs.Private.Listings.{IsUnlisted};
 ghost use Rattle.bolt_check.specs.Private.Pending.{Claims};
-ghost use Rattle.bolt_check.specs.Stops.{page_spot};
+ghost use Rattle.bolt_check.specs.ShownSpots.{page_spot};
 ghost use Rattle.bolt_check.specs.ShownNodes.{shown_node};
 ghost use Rattle.bolt_check.specs.Private.Tables.{HasRoom, IsClaimed, unclaimed};
 ghost use Rattle.bolt_check.specs.Private.Uses.{Notes, use_of};
@@ -16,48 +16,43 @@ ghost use Rattle.bolt_check.specs.Ways.{At_page};
 use crate::finding::Finding;
 use crate::keys::test_keys;
 use crate::node::open;
-use crate::stop::PageStop;
+use crate::spot::{MAX_DEPTH, PageSpot};
 use crate::table::{PageUse, claim, first_claimed};
 use crate::tree_page::TreePage;
 use bolt_format::Meta;
-
-/// The greatest depth of a page. The root page of a bucket has depth 1.
-const MAX_DEPTH: u8 = 64;
 
 /// Tests a page, and claims its span if the tests find nothing.
 pub(crate) fn visit<'a>(
     file: &'a [u8],
     meta: &Meta,
-    stop: &PageStop<'_>,
+    spot: &PageSpot<'_>,
     table: &mut [PageUse],
 ) -> Result<TreePage<'a>, Finding>
     requires { HasRoom file.now meta.now table.old }
-    ensures found { IfErr result (PageTests (node_at file.now meta.now) (IsClaimed table.old) (page_spot stop.now)) }
+    ensures found { IfErr result (PageTests (node_at file.now meta.now) (IsClaimed table.old) (page_spot spot.now)) }
     ensures same { OnErr result (table.new ≡ table.old) }
-    ensures page { IfOk result (λ node. page_at file.now meta.now stop.now.number ≡ Some (shown node.page)) }
-    ensures node { IfOk result (λ node. node_at file.now meta.now stop.now.number ≡ Ok (shown_node node)) }
-    ensures passes { OnOk result (PagePasses (node_at file.now meta.now) (IsClaimed table.old) (page_spot stop.now)) }
-    ensures claims { OnOk result (Claims (node_at file.now meta.now) (At_page (page_spot stop.now)) table.old table.new) }
-    ensures notes { OnOk result (Notes (node_at file.now meta.now) (At_page (page_spot stop.now)) table.old table.new) }
+    ensures page { IfOk result (λ node. page_at file.now meta.now spot.now.number ≡ Some (shown node.page)) }
+    ensures node { IfOk result (λ node. node_at file.now meta.now spot.now.number ≡ Ok (shown_node node)) }
+    ensures passes { OnOk result (PagePasses (node_at file.now meta.now) (IsClaimed table.old) (page_spot spot.now)) }
+    ensures claims { OnOk result (Claims (node_at file.now meta.now) (At_page (page_spot spot.now)) table.old table.new) }
+    ensures notes { OnOk result (Notes (node_at file.now meta.now) (At_page (page_spot spot.now)) table.old table.new) }
     ensures fewer { OnOk result (unclaimed table.new < unclaimed table.old) }
     ensures unlisted { OnOk result (IsUnlisted table.old → IsUnlisted table.new) }
-    ensures shallow { OnOk result (stop.now.depth ≤ 64) }
+    ensures shallow { OnOk result (spot.now.depth ≤ 64) }
 {
-    if stop.depth > MAX_DEPTH {
-        return Err(Finding::of_page(Finding::TOO_DEEP, stop.number));
+    if usize::from(spot.depth) > MAX_DEPTH {
+        return Err(Finding::of_page(Finding::TOO_DEEP, spot.number));
     }
-    let node = match open(file, meta, stop.number) {
+    let node = match open(file, meta, spot.number) {
         Ok(node) => node,
-        Err(number) => return Err(Finding::of_page(number, stop.number)),
+        Err(number) => return Err(Finding::of_page(number, spot.number)),
     };
-    let from = stop.number as usize;
+    let from = spot.number as usize;
     let last = from + node.page.overflow() as usize;
     if let Some(n) = first_claimed(table, from, last) {
         return Err(Finding::of_page(Finding::TWICE, n as u64));
     }
-    if let Err(finding) = test_node(&node, stop) {
-        return Err(finding);
-    }
+    test_node(&node, spot)?;
     claim(table, from, last, first_use(&node));
     Ok(node)
 }
@@ -75,14 +70,14 @@ fn first_use(node: &TreePage<'_>) -> PageUse
 
 /// Tests the content of a page: a branch has an element, and then the keys.
 #[tactic(auto, unfolding(crate::specs::ShownNodes::shown_node))]
-fn test_node(node: &TreePage<'_>, stop: &PageStop<'_>) -> Result<(), Finding>
-    ensures { result_err result ≡ node_finding (shown_node node.now) (page_spot stop.now) }
+fn test_node(node: &TreePage<'_>, spot: &PageSpot<'_>) -> Result<(), Finding>
+    ensures { result_err result ≡ node_finding (shown_node node.now) (page_spot spot.now) }
 {
     if !node.is_leaf && node.count() == 0 {
-        return Err(Finding::of_page(Finding::EMPTY_BRANCH, stop.number));
+        return Err(Finding::of_page(Finding::EMPTY_BRANCH, spot.number));
     }
-    match test_keys(node, stop.lower, stop.upper) {
+    match test_keys(node, spot.lower, spot.upper) {
         Ok(()) => Ok(()),
-        Err(number) => Err(Finding::of_page(number, stop.number)),
+        Err(number) => Err(Finding::of_page(number, spot.number)),
     }
 }

@@ -98,6 +98,6 @@ pub agrees_waiting : (s : Syntax) (k : Known) (h : Held) (p : ℕ) (only : Bool)
 agrees_waiting s k h p only words agrees =
     let same = reads_same s h p only words in
     let end = fold (after s) k words in
-    let Told : Kinds → Held → Type 0 = λ faults held. ReadsAs (is_complete s end) end.given (faults_at s faults (place_of held idle 0 false)) (finished (rules_in s) held) in
+    let Agreed : Kinds → Held → Type 0 = λ faults held. ReadsAs (is_complete s end) end.given (faults_at s faults (place_of held idle 0 false)) (finished (rules_in s) held) in
     let there = (fold (walked (rules_in s) []) (place_of h positional p only) words).held in
-    subst (λ faults. Told faults there) (sym same.0) (subst (Told (walk_fault (line_shape s) [] (place_of h idle p only) words)) (sym same.1) agrees)
+    subst (λ faults. Agreed faults there) (sym same.0) (subst (Agreed (walk_fault (line_shape s) [] (place_of h idle p only) words)) (sym same.1) agrees)

@@ -14,7 +14,7 @@ use Rattle.bolt_tree.specs.Buckets.{bucket_checked, bucket_start}
 use Rattle.bolt_tree.specs.BucketViews.{entries_of}
 use Rattle.bolt_tree.specs.Entries.{AreEntries, Item, Start, Value, item_of, start_of}
 use Rattle.bolt_tree.specs.EntriesLeft.{ForEntries}
-use Rattle.bolt_tree.specs.FileListings.{root_of}
+use Rattle.bolt_tree.specs.FileListings.{root_start}
 use Rattle.bolt_tree.specs.Lookups.{IsBucketAt, IsValueAt}
 use Rattle.bolt_tree.specs.Paths.{Path}
 use Rattle.bolt_tree.specs.declared.bucket.Bucket.{Bucket}
@@ -42,13 +42,13 @@ module _ (checked : Checked) where
       → ∥ LeadsIn (path ++ key ∷ []) (bucket_start inner) ∥₁
   leads_further path key bucket inner known found =
       ∥∥₁_elim known (hlevel props) (λ names. ∥∥₁_map found (λ (e, is, k, b, start, sequence).
-      subst (λ (s : Start). LeadsIn (path ++ key ∷ []) s) (sym start) (subst (λ (x : Key). LeadsIn (path ++ x ∷ []) (start_of e.value)) k (names_push Entry (root_of checked) path bucket e names is b))))
+      subst (λ (s : Start). LeadsIn (path ++ key ∷ []) s) (sym start) (subst (λ (x : Key). LeadsIn (path ++ x ∷ []) (start_of e.value)) k (names_push Entry (root_start checked) path bucket e names is b))))
 
   pub leads_nowhere : (path : Path) (key : Key) (rest : Path) (bucket : Start) → ∥ LeadsIn path bucket ∥₁ → IsBucketAt Entry bucket key None
       → (there : Start) → LeadsIn (path ++ key ∷ rest) there → ⊥
   leads_nowhere path key rest bucket known none there names =
       ∥∥₁_elim known (hlevel props) (λ here. ∥∥₁_elim (checked_entries checked) (hlevel props) (λ all.
-      names_no_further Entry (root_of checked) path bucket key rest all here none there names))
+      names_no_further Entry (root_start checked) path bucket key rest all here none there names))
 
   item_value : (e : LeafElement) (value : List ℕ) → e.is_bucket ≡ false → e.value ≡ value → item_of e ≡ Value value
   item_value e value is_value same = rw is_value (ap Value same)
@@ -60,33 +60,33 @@ module _ (checked : Checked) where
       → ∥ HoldsAt (path ++ key ∷ []) (Value value) ∥₁
   value_held path key bucket value known found =
       ∥∥₁_elim known (hlevel props) (λ names. ∥∥₁_map found (λ (e, is, k, is_value, same).
-      held_up Entry (root_of checked) path bucket key [] (Value value) names (e, is, k, item_value e value is_value same)))
+      held_up Entry (root_start checked) path bucket key [] (Value value) names (e, is, k, item_value e value is_value same)))
 
   pub no_value_held : (path : Path) (key : Key) (bucket : Start) → ∥ LeadsIn path bucket ∥₁ → IsValueAt Entry bucket key None
       → (value : List ℕ) → HoldsAt (path ++ key ∷ []) (Value value) → ⊥
   no_value_held path key bucket known none value held =
       ∥∥₁_elim known (hlevel props) (λ names. ∥∥₁_elim (checked_entries checked) (hlevel props) (λ all.
-      let (e, is, k, same) = held_down Entry (root_of checked) path bucket key [] (Value value) all names held in
+      let (e, is, k, same) = held_down Entry (root_start checked) path bucket key [] (Value value) all names held in
       no_value_of e value (none e is k) same))
 
-  -- ---- where trees are sound, what is only known to be can be told
+  -- ---- if trees are sound, what is only known to be can be named
 
-  pub lead_told : (path : Path) (bucket : Start) → HasSoundTrees (bytes_of checked) (meta_of checked) → ∥ LeadsIn path bucket ∥₁ → LeadsIn path bucket
-  lead_told path bucket trees known =
+  pub lead_named : (path : Path) (bucket : Start) → HasSoundTrees (bytes_of checked) (meta_of checked) → ∥ LeadsIn path bucket ∥₁ → LeadsIn path bucket
+  lead_named path bucket trees known =
       let all = all_entries (bytes_of checked) (meta_of checked) trees in
-      elim (named_or_none Entry (root_of checked) path all) [
+      elim (named_or_none Entry (root_start checked) path all) [
         | inl (there, names) ↦
-            let same = start_known there bucket (∥∥₁_map known (λ here. named_once Entry (root_of checked) path there bucket all names here)) in
+            let same = start_known there bucket (∥∥₁_map known (λ here. named_once Entry (root_start checked) path there bucket all names here)) in
             subst (LeadsIn path) same names
         | inr none ↦ absurd (∥∥₁_elim known (hlevel props) (λ here. none bucket here))
       ]
 
-  pub held_told : (path : Path) (item : Item) → HasSoundTrees (bytes_of checked) (meta_of checked) → ∥ HoldsAt path item ∥₁ → HoldsAt path item
-  held_told path item trees known =
+  pub held_at : (path : Path) (item : Item) → HasSoundTrees (bytes_of checked) (meta_of checked) → ∥ HoldsAt path item ∥₁ → HoldsAt path item
+  held_at path item trees known =
       let all = all_entries (bytes_of checked) (meta_of checked) trees in
-      elim (held_or_none Entry (root_of checked) path all) [
+      elim (held_or_none Entry (root_start checked) path all) [
         | inl (there, held) ↦
-            let same = item_known there item (∥∥₁_map known (λ here. held_once Entry (root_of checked) path there item all held here)) in
+            let same = item_known there item (∥∥₁_map known (λ here. held_once Entry (root_start checked) path there item all held here)) in
             subst (HoldsAt path) same held
         | inr none ↦ absurd (∥∥₁_elim known (hlevel props) (λ here. none item here))
       ]
@@ -96,7 +96,7 @@ module _ (checked : Checked) where
       → ∥ LeadsIn path (bucket_start bucket) ∥₁ → ForEntries (bucket_checked bucket) (bucket_start bucket) P
       → (start : Start) × (entries : List LeafElement) × LeadsIn path start × AreEntries Entry start entries × P entries
   at_path path bucket P trees is known promised =
-      let names = lead_told path (bucket_start bucket) trees known in
+      let names = lead_named path (bucket_start bucket) trees known in
       let (entries, are) = all_entries (bytes_of checked) (meta_of checked) trees path (bucket_start bucket) names in
       let here = subst (λ (c : Checked). ForEntries c (bucket_start bucket) P) is promised in
       (bucket_start bucket, entries, names, are, here entries are)
@@ -134,7 +134,7 @@ module _ (checked : Checked) where
   IsReason path reason = HoldsNone (bytes_of checked) path (meta_of checked) reason
 
   pub none_at_root : {Z : Type 0} (path : List (Vec ℕ Z)) → length path ≡ 0 → IsReason (path_in path) failure.NoKey
-  none_at_root path none = subst (λ (p : Path). IsReason p failure.NoKey) (sym (no_parts path none)) (inl (refl, λ value held. held, (root_of checked, ∣ refl ∣₁)))
+  none_at_root path none = subst (λ (p : Path). IsReason p failure.NoKey) (sym (no_parts path none)) (inl (refl, λ value held. held, (root_start checked, ∣ refl ∣₁)))
 
   module _ {Z : Type 0} (path parents : List (Vec ℕ Z)) (key : Vec ℕ Z) (is : path ≡ parents ++ key ∷ []) where
     last_part : path_in path ≡ path_in parents ++ key.items ∷ []
@@ -143,10 +143,10 @@ module _ (checked : Checked) where
     parents_in : parents_of (path_in path) ≡ path_in parents
     parents_in = ap parents_of last_part ∙ parents_are (path_in parents) key.items
 
-    pub reason_told : {X : Type 0} (told : Failure) (result : Result X Failure) → (told ≡ failure.NoBucket) × ((bucket : Start) → LeadsIn checked (path_in parents) bucket → ⊥)
-        → IsErrAnd result (λ reason. reason ≡ told) → IfErr result (IsReason (path_in path))
-    reason_told told (Ok x) refused is = tt
-    reason_told told (Err reason) (no_bucket, none) is = inr (is ∙ no_bucket, λ bucket names. none bucket (subst (λ (p : Path). LeadsIn checked p bucket) parents_in names))
+    pub reason_named : {X : Type 0} (said : Failure) (result : Result X Failure) → (said ≡ failure.NoBucket) × ((bucket : Start) → LeadsIn checked (path_in parents) bucket → ⊥)
+        → IsErrAnd result (λ reason. reason ≡ said) → IfErr result (IsReason (path_in path))
+    reason_named said (Ok x) refused is = tt
+    reason_named said (Err reason) (no_bucket, none) is = inr (is ∙ no_bucket, λ bucket names. none bucket (subst (λ (p : Path). LeadsIn checked p bucket) parents_in names))
 
     pub value_at : (bucket : Bucket) (value : List ℕ) → bucket_checked bucket ≡ checked → ∥ LeadsIn checked (path_in parents) (bucket_start bucket) ∥₁
         → IsValueAt (entries_of (bucket_checked bucket)) (bucket_start bucket) key.items (Some value) → ∥ HoldsAt checked (path_in path) (Value value) ∥₁

@@ -108,7 +108,7 @@ has_one_letter options (both letter name) = list_all (λ (o : Choice). has_only 
 abbrev all_ascii : List Choice → Bool
 all_ascii options = list_all (λ (o : Choice). has_ascii o.flag) options
 
--- an option without a value has the only letter of the line, or none: a letter behind it in one word would be read as an option too
+-- an option without a value has the only letter of the line, or none: a letter after it in one word would be read as an option too
 abbrev pub valued_or_only : List Choice → Choice → Bool
 valued_or_only options o = o.has_value || has_one_letter options o.flag
 

@@ -49,9 +49,9 @@ module _ {T O : Type 0} (taken : T → Option (List ℕ)) (failed : T → ℕ) (
   abbrev IsSound : Type 0
   IsSound = ∥ IsSoundCopy which page_size (tree_of listing) sequence listing ∥₁
 
-  stopped : (reason : Failure) (answer : Answer) (ending : Ending) → StopsShort taken failed old new own_layout own_copy reason → IsErrAnd ending (λ told. told ≡ reason) → Ends out answer ending
-  stopped reason answer (Ok x) stops told = absurd told
-  stopped reason answer (Err why) stops told = inr (reason, stops, refl, ap Err told)
+  stopped : (reason : Failure) (answer : Answer) (ending : Ending) → StopsShort taken failed old new own_layout own_copy reason → IsErrAnd ending (λ said. said ≡ reason) → Ends out answer ending
+  stopped reason answer (Ok x) stops said = absurd said
+  stopped reason answer (Err why) stops said = inr (reason, stops, refl, ap Err said)
 
   written : (count : ℕ) (out_after : O) (answer : Answer) (ending : Ending) → IsWholeCopy taken failed old new own_layout own_copy count → IsSound → Does out_taken out_failed out out_after answer ending → Ends out_after answer ending
   written count out_after answer ending whole sound does =
@@ -97,8 +97,8 @@ module _ (file : List ℕ) (slot : Option Slot) (size : Option PageSize) (which 
       as_sound out_after ending ends = inl (meta_of checked, own_listing.0, under, own_listing.1, subst (λ (n : ℕ). EndsAt n out_after ending) is ends)
 
       pub copy_stopped : (reason : Failure) (ending : Ending) → IsStopped reason → IsErrAnd ending (λ why. why ≡ reason) → SoundEnds out ending
-      copy_stopped reason ending promised told =
-          as_sound out ending (stopped taken failed old new out_taken out_failed out which snapshot page_size (meta_of checked).root_sequence own_listing.0 reason (done (text_at page_size)) ending (here promised) told)
+      copy_stopped reason ending promised said =
+          as_sound out ending (stopped taken failed old new out_taken out_failed out which snapshot page_size (meta_of checked).root_sequence own_listing.0 reason (done (text_at page_size)) ending (here promised) said)
 
       abbrev Line : {E : Type 0} → ℕ → O → Result (Unit {0}) E → Type 0
       Line count out_after result = Writes out_taken out_failed out out_after (lengths_line (length file) count) result
@@ -108,21 +108,21 @@ module _ (file : List ℕ) (slot : Option Slot) (size : Option PageSize) (which 
       own_line count out_after result promised line =
           subst (λ (n : ℕ). Writes out_taken out_failed out out_after (lengths_line (length file) n) result) (here promised).long line
 
-      told : (count : ℕ) (out_after : O) (ending : Ending) → IsWhole count → IsAccepted → Does out_taken out_failed out out_after (done (text_at page_size)) ending → SoundEnds out_after ending
-      told count out_after ending promised accepted does =
+      said : (count : ℕ) (out_after : O) (ending : Ending) → IsWhole count → IsAccepted → Does out_taken out_failed out out_after (done (text_at page_size)) ending → SoundEnds out_after ending
+      said count out_after ending promised accepted does =
           as_sound out_after ending
           (written taken failed old new out_taken out_failed out which snapshot page_size (meta_of checked).root_sequence own_listing.0 count out_after (done (text_at page_size)) ending (here promised) (here accepted) does)
 
       -- the copy was written whole
       pub copy_whole : {E : Type 0} (count : ℕ) (out_after : O) (x : Unit {0}) → IsWhole count → IsAccepted → Line {E = E} count out_after (Ok x) → SoundEnds out_after (Ok 0)
       copy_whole {E} count out_after x promised accepted line =
-          told count out_after (Ok 0) promised accepted (Does-written {E = E} out_taken out_failed out out_after (done (text_at page_size)) x (own_line {E = E} count out_after (Ok x) promised line))
+          said count out_after (Ok 0) promised accepted (Does-written {E = E} out_taken out_failed out out_after (done (text_at page_size)) x (own_line {E = E} count out_after (Ok x) promised line))
 
       -- the copy was written whole, and the line wasn't
-      pub copy_untold : {E : Type 0} (count : ℕ) (out_after : O) (e : E) (ending : Ending) → IsWhole count → IsAccepted → Line count out_after (Err e)
+      pub copy_unreported : {E : Type 0} (count : ℕ) (out_after : O) (e : E) (ending : Ending) → IsWhole count → IsAccepted → Line count out_after (Err e)
           → IsErrAnd ending (λ reason. reason ≡ failure.Write) → SoundEnds out_after ending
-      copy_untold count out_after e ending promised accepted line reason =
-          told count out_after ending promised accepted (Does-unwritten out_taken out_failed out out_after (done (text_at page_size)) e ending (own_line count out_after (Err e) promised line) reason)
+      copy_unreported count out_after e ending promised accepted line reason =
+          said count out_after ending promised accepted (Does-unwritten out_taken out_failed out out_after (done (text_at page_size)) e ending (own_line count out_after (Err e) promised line) reason)
 
 -- ---- the copy of what is recovered
 
@@ -168,8 +168,8 @@ module _ (file : List ℕ) (slot : Option Slot) (size : Option PageSize) (which 
       as_rest out_after ending ends = inl (meta, recovered.0, lost.0, under, recovered.1, lost.1, subst (λ (n : ℕ). RestEndsAt n out_after ending) is ends)
 
       pub rest_stopped : (reason : Failure) (ending : Ending) → IsStoppedRest reason → IsErrAnd ending (λ why. why ≡ reason) → RestEnds out ending
-      rest_stopped reason ending promised told =
-          as_rest out ending (stopped taken failed old new out_taken out_failed out which snapshot page_size meta.root_sequence recovered.0 reason (rest_answer page_size) ending (there promised) told)
+      rest_stopped reason ending promised said =
+          as_rest out ending (stopped taken failed old new out_taken out_failed out which snapshot page_size meta.root_sequence recovered.0 reason (rest_answer page_size) ending (there promised) said)
 
       abbrev RestText : {E : Type 0} → List LossView → ℕ → O → Result (Unit {0}) E → Type 0
       RestText views count out_after result = Writes out_taken out_failed out out_after (losses_text views ++ lengths_line (length file) count) result
@@ -179,8 +179,8 @@ module _ (file : List ℕ) (slot : Option Slot) (size : Option PageSize) (which 
       own_text views count out_after result own promised text =
           subst₂ (λ (n : ℕ) (ls : List LossView). Writes out_taken out_failed out out_after (losses_text ls ++ lengths_line (length file) n) result) (there promised).long (sym own) text
 
-      rest_told : (count : ℕ) (out_after : O) (ending : Ending) → IsWholeRest count → IsAcceptedRest → Does out_taken out_failed out out_after (rest_answer page_size) ending → RestEnds out_after ending
-      rest_told count out_after ending promised accepted does =
+      rest_reported : (count : ℕ) (out_after : O) (ending : Ending) → IsWholeRest count → IsAcceptedRest → Does out_taken out_failed out out_after (rest_answer page_size) ending → RestEnds out_after ending
+      rest_reported count out_after ending promised accepted does =
           as_rest out_after ending
           (written taken failed old new out_taken out_failed out which snapshot page_size meta.root_sequence recovered.0 count out_after (rest_answer page_size) ending (there promised) (there accepted) does)
 
@@ -189,10 +189,10 @@ module _ (file : List ℕ) (slot : Option Slot) (size : Option PageSize) (which 
           → RestText {E = E} views count out_after (Ok x) → ending ≡ Ok (lost_status views) → RestEnds out_after ending
       rest_whole {E} views count out_after x ending own promised accepted text ends =
           subst (RestEnds out_after) (ap (λ (ls : List LossView). Ok (lost_status ls)) own ∙ sym ends)
-          (rest_told count out_after (Ok (lost_status lost.0)) promised accepted (Does-written {E = E} out_taken out_failed out out_after (rest_answer page_size) x (own_text {E = E} views count out_after (Ok x) own promised text)))
+          (rest_reported count out_after (Ok (lost_status lost.0)) promised accepted (Does-written {E = E} out_taken out_failed out out_after (rest_answer page_size) x (own_text {E = E} views count out_after (Ok x) own promised text)))
 
       -- the copy was written whole, and the text wasn't
-      pub rest_untold : {E : Type 0} (views : List LossView) (count : ℕ) (out_after : O) (e : E) (ending : Ending) → lost.0 ≡ views → IsWholeRest count → IsAcceptedRest
+      pub rest_unreported : {E : Type 0} (views : List LossView) (count : ℕ) (out_after : O) (e : E) (ending : Ending) → lost.0 ≡ views → IsWholeRest count → IsAcceptedRest
           → RestText views count out_after (Err e) → IsErrAnd ending (λ reason. reason ≡ failure.Write) → RestEnds out_after ending
-      rest_untold views count out_after e ending own promised accepted text reason =
-          rest_told count out_after ending promised accepted (Does-unwritten out_taken out_failed out out_after (rest_answer page_size) e ending (own_text views count out_after (Err e) own promised text) reason)
+      rest_unreported views count out_after e ending own promised accepted text reason =
+          rest_reported count out_after ending promised accepted (Does-unwritten out_taken out_failed out out_after (rest_answer page_size) e ending (own_text views count out_after (Err e) own promised text) reason)

@@ -25,10 +25,10 @@ pub ended_stopped : {S A : Type 0} {taken : S → Option (List ℕ)} {failed : S
     → Reports {A = A} taken failed old new text (Err e) → (e ≡ report.Sink) ⊎ (e ≡ report.NoMemory) → (e ≡ report.NoMemory → failed new ≡ failed old)
     → IsErrAnd result (λ failure. failure ≡ reported e) → DoesEnded taken failed old new text wanted result
 ended_stopped old new text wanted e (Ok x) put fault memory is = absurd is
-ended_stopped {A = A} old new text wanted e (Err told) put (inl sink) memory is =
+ended_stopped {A = A} old new text wanted e (Err said) put (inl sink) memory is =
     let answer : Answer = record { out = text; ending = wanted } in
-    (answer, inl refl, Does-part old new answer e (Err told) put sink is)
-ended_stopped old new text wanted e (Err told) put (inr full) memory is =
+    (answer, inl refl, Does-part old new answer e (Err said) put sink is)
+ended_stopped old new text wanted e (Err said) put (inr full) memory is =
     let begun = put.beginning in (
       cut begun.front,
       inr (begun.front, begun.rest, begun.parts, refl),

@@ -1,5 +1,5 @@
 -- What jobs do with their text, and what is reported at the end of a run.
-use Rattle.std.proofs.Common.{◌≡◌, ◌∙◌, ◌++◌, ℕ, List, Option, Result, Ok, Err, IfErr, inl, inr, ap, refl, subst}
+use Rattle.std.proofs.Common.{◌⊎◌, ◌≡◌, ◌∙◌, ◌++◌, ℕ, List, Option, Result, Ok, Err, IfErr, inl, inr, ap, refl, subst}
 use Rattle.std.specs.Result.{IsErrAnd}
 use Rattle.std.proofs.KnownBytes.{Appends-nil}
 use Rattle.bolt_format.specs.Writes.{Writes}
@@ -7,8 +7,9 @@ use Rattle.bolt_format.proofs.WriteLemmas.{Writes-stop, Writes-then}
 use Rattle.bolt_report.specs.Reports.{Reports}
 use Rattle.bolt_report.specs.declared.fault.ReportFault.{ReportFault}
 use Rattle.bolt_report.specs.declared.fault.ReportFault.TheVariants as report
-use Rattle.bolt_cli.specs.Answers.{Answer, Does, Ending, Takes, refused}
-use Rattle.bolt_cli.specs.Failures.{reported}
+use Rattle.bolt_cli.specs.Answers.{Accepts, Answer, Does, Ending, IsFileRefusal, refused}
+use Rattle.bolt_check.specs.declared.fault.CheckFault.{CheckFault}
+use Rattle.bolt_cli.specs.Failures.{IsFailureOf, reported}
 use Rattle.bolt_cli.specs.declared.failure.Failure.{Failure}
 use Rattle.bolt_cli.specs.declared.failure.Failure.TheVariants as failure
 
@@ -59,12 +60,13 @@ Does-second_unwritten {A} taken failed old mid new first second end x e ending l
 
 -- nothing was put
 pub Does-nothing : {S : Type 0} (taken : S → Option (List ℕ)) (failed : S → ℕ) (old : S) (failure : Failure) (result : Ending)
-    → IsErrAnd result (λ told. told ≡ failure) → Does taken failed old old (refused failure) result
+    → IsErrAnd result (λ said. said ≡ failure) → Does taken failed old old (refused failure) result
 Does-nothing taken failed old failure (Ok x) is = absurd is
-Does-nothing taken failed old failure (Err told) is = inl (Appends-nil (taken old), refl, ap Err is)
+Does-nothing taken failed old failure (Err said) is = inl (Appends-nil (taken old), refl, ap Err is)
 
--- a text, whether it was put whole or not
-pub Takes-put : {S A E : Type 0} {taken : S → Option (List ℕ)} {failed : S → ℕ} (old new : S) (text : List ℕ) (result : Result A E)
-    → Writes taken failed old new text result → Takes taken failed old new text
-Takes-put {taken} {failed} old new text (Ok x) a = inl (a.all, a.sound)
-Takes-put {taken} {failed} old new text (Err e) a = inr (a.failure, a.beginning)
+-- the file is refused, and only the first finding is reported
+pub Does-refused : {S : Type 0} {IsAccepted : Answer → Type 0} {IsRefusal : CheckFault → Type 0} (taken : S → Option (List ℕ)) (failed : S → ℕ) (old : S) (failure : Failure) (ending : Ending)
+    → ((fault : CheckFault) × IsRefusal fault × IsFailureOf fault failure) → IsErrAnd ending (λ said. said ≡ failure)
+    → (answer : Answer) × (IsAccepted answer ⊎ ((fault : CheckFault) × IsRefusal fault × IsFileRefusal fault answer)) × Does taken failed old old answer ending
+Does-refused taken failed old failure ending (fault, is, names) ends =
+    (refused failure, inr (fault, is, (failure, names, refl)), Does-nothing taken failed old failure ending ends)

@@ -30,13 +30,13 @@ module _ (file : List ℕ) (slot : Option Slot) (path : Path) (form : Form) (tex
   EntriesAnswer taken failed old new ending = (answer : Answer) × IsReadAnswer file slot (IsEntriesAnswer file path form text) answer × Does taken failed old new answer ending
 
   of_file : (answer : Answer) → IsEntriesAnswer (bytes_of checked) path form text (meta_of checked) answer → IsReadAnswer file slot (IsEntriesAnswer file path form text) answer
-  of_file answer told = inl (meta_of checked, under, subst (λ (f : List ℕ). IsEntriesAnswer f path form text (meta_of checked) answer) same told)
+  of_file answer said = inl (meta_of checked, under, subst (λ (f : List ℕ). IsEntriesAnswer f path form text (meta_of checked) answer) same said)
 
   -- the path leads to no bucket
-  pub entries_missing : {S : Type 0} (taken : S → Option (List ℕ)) (failed : S → ℕ) (out : S) (told : Failure) (result : Ending)
-      → (told ≡ failure.NoBucket) × ((bucket : Start) → LeadsTo (bytes_of checked) (meta_of checked) path bucket → ⊥)
-      → IsErrAnd result (λ failure. failure ≡ told) → EntriesAnswer taken failed out out result
-  entries_missing taken failed out told result (is, nowhere) ends = (refused told, of_file (refused told) (inr (nowhere, ap refused is)), Does-nothing taken failed out told result ends)
+  pub entries_missing : {S : Type 0} (taken : S → Option (List ℕ)) (failed : S → ℕ) (out : S) (said : Failure) (result : Ending)
+      → (said ≡ failure.NoBucket) × ((bucket : Start) → LeadsTo (bytes_of checked) (meta_of checked) path bucket → ⊥)
+      → IsErrAnd result (λ failure. failure ≡ said) → EntriesAnswer taken failed out out result
+  entries_missing taken failed out said result (is, nowhere) ends = (refused said, of_file (refused said) (inr (nowhere, ap refused is)), Does-nothing taken failed out said result ends)
 
   module _ (bucket : Bucket) (in_file : bucket_checked bucket ≡ checked) (led : ∥ LeadsTo (bytes_of checked) (meta_of checked) path (bucket_start bucket) ∥₁) {S A : Type 0} {taken : S → Option (List ℕ)} {failed : S → ℕ} (old new : S) where
     -- the sink failed, or memory ran out

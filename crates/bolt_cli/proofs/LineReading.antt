@@ -158,13 +158,13 @@ pub operand_agrees : (s : Syntax) → is_good s ≡ true → (given : Given) (ah
     ≡ to_positional (rules_in s) (arg_by_index (rules_in s) (suc d)) word (walk_at rows pending idle (suc d) only) (held rows pending)
     → after s (known given None ahead only) word ≡ take_next word (known given None ahead only) ahead
     → Agrees s (known given None ahead only) (walk_at rows pending idle (suc d) only) (word ∷ words)
-operand_agrees s good given ahead only rows pending d word words rest texts later turn moves told =
+operand_agrees s good given ahead only rows pending d word words rest texts later turn moves said =
     let k = known given None ahead only in
     let here = walk_at rows pending idle (suc d) only in
     let h = held rows pending in
     elim (next_of d s.operands) [
       | inl (no_more, none) ↦
-          let refused : (after s k word).is_refused ≡ true = ap (λ (x : Known). x.is_refused) told ∙ ap (λ (os : List Operand). (take_next word k os).is_refused) (rest.place ∙ none) in
+          let refused : (after s k word).is_refused ≡ true = ap (λ (x : Known). x.is_refused) said ∙ ap (λ (os : List Operand). (take_next word k os).is_refused) (rest.place ∙ none) in
           agrees_stop s k here word words refused (subst IsFault (sym (turn ∙ operand_fault s good h d ∙ ap (value_fault s h (suc d)) no_more)) tt)
       | inr (o, met, ahead_is) ↦
           let few : d < 9 = operand_few s good d o met in
@@ -172,7 +172,7 @@ operand_agrees s good given ahead only rows pending d word words rest texts late
           let index = place_in s good d ∙ ap (option_map (operand_built (suc d))) met in
           let there = walk_at (settled (rules_in s) h).rows (Some (o.name, word ∷ [])) (waiting_after o.several) (place_after o.several d) only in
           let moved = moves ∙ ap (λ a. to_positional (rules_in s) a word here h) index ∙ operand_moves s rows pending only d o.name o.several o.required word few in
-          let next : after s k word ≡ take_next word k (o ∷ drop (suc d) s.operands) = told ∙ ap (take_next word k) (rest.place ∙ ahead_is) in
+          let next : after s k word ≡ take_next word k (o ∷ drop (suc d) s.operands) = said ∙ ap (take_next word k) (rest.place ∙ ahead_is) in
           agrees_along s k _ here there word words next clean moved
           (operand_later s good given ahead only (settled (rules_in s) h).rows d o.name o.several o.required word words met rest.has rest.place texts later)
     ]
@@ -203,23 +203,23 @@ option_agrees : (s : Syntax) → is_good s ≡ true → (given : Given) (ahead :
     → IsAtRest s given ahead rows pending d → LaterAgrees s words → (o : Choice) (v : Option Text) → o.has_value ≡ true → arg_by_id (rules_in s) o.name ≡ Some (option_built o)
     → OptionTurn s rows pending d word o v → after s (known given None ahead false) word ≡ take_with o.name v (known given None ahead false)
     → Agrees s (known given None ahead false) (walk_at rows pending idle (suc d) false) (word ∷ words)
-option_agrees s good given ahead rows pending d word words rest later o None valued by_id (turn, moves) told =
+option_agrees s good given ahead rows pending d word words rest later o None valued by_id (turn, moves) said =
     let there = walk_at (settled (rules_in s) (held rows pending)).rows (Some (o.name, [])) (option o.name) (suc d) false in
     let waits : IsAwaited s given ahead (settled (rules_in s) (held rows pending)).rows o.name d = record { choice = o; by_name = by_id; is = refl; valued = valued; has = rest.has; place = rest.place } in
-    agrees_along s (known given None ahead false) (known given (Some o.name) ahead false) (walk_at rows pending idle (suc d) false) there word words told (turn ∙ ap (λ x. or_else x []) rest.settles) moves (later.awaited given ahead _ o.name d waits)
-option_agrees s good given ahead rows pending d word words rest later o (Some v) valued by_id (turn, moves) told =
+    agrees_along s (known given None ahead false) (known given (Some o.name) ahead false) (walk_at rows pending idle (suc d) false) there word words said (turn ∙ ap (λ x. or_else x []) rest.settles) moves (later.awaited given ahead _ o.name d waits)
+option_agrees s good given ahead rows pending d word words rest later o (Some v) valued by_id (turn, moves) said =
     let before = settled (rules_in s) (held rows pending) in
     let now = used (option_built o) (v ∷ []) before.rows in
     let how = reading_by (option_built o) in
     let once = one_option o.name o.flag o.has_value o.required valued before.rows v in
     elim (cases_Bool (has given o.name)) [
-      | inl old ↦ agrees_stop s (known given None ahead false) (walk_at rows pending idle (suc d) false) word words (ap (λ (k : Known). k.is_refused) told ∙ old_name given None ahead false o.name v old)
+      | inl old ↦ agrees_stop s (known given None ahead false) (walk_at rows pending idle (suc d) false) word words (ap (λ (k : Known). k.is_refused) said ∙ old_name given None ahead false o.name v old)
           (subst IsFault (sym turn) (fault_first _ _ (fault_second (settle_fault (rules_in s) false (held rows pending)) _ (subst IsFault (sym once) (old_use before.rows given o.name rest.has old)))))
       | inr new ↦
           let more = given ++ (o.name, v) ∷ [] in
           let says : HasRows now more = subst (λ (rs : List Row). HasRows rs more) (sym (option_rows o.name o.flag o.has_value o.required valued before.rows v)) (rows_added before.rows given o.name how v rest.has new) in
           let next : IsAtRest s more ahead now None d = record { settles = refl; has = says; place = rest.place } in
-          agrees_along s (known given None ahead false) (known more None ahead false) (walk_at rows pending idle (suc d) false) (walk_at now None idle (suc d) false) word words (told ∙ new_name given None ahead false o.name v new)
+          agrees_along s (known given None ahead false) (known more None ahead false) (walk_at rows pending idle (suc d) false) (walk_at now None idle (suc d) false) word words (said ∙ new_name given None ahead false o.name v new)
           (turn ∙ none_left _ _ rest.settles (once ∙ new_use before.rows given o.name rest.has new)) moves (later.at_rest more ahead false now None d next)
     ]
 
@@ -237,9 +237,9 @@ alone_agrees : (s : Syntax) (given : Given) (ahead : List Operand) (rows : List 
     → IsAtRest s given ahead rows pending d → LaterAgrees s words → (o : Choice) (v : Option Text) → o.has_value ≡ false
     → AloneTurn s rows pending d word o v → after s (known given None ahead false) word ≡ take_alone o.name v (known given None ahead false)
     → Agrees s (known given None ahead false) (walk_at rows pending idle (suc d) false) (word ∷ words)
-alone_agrees s given ahead rows pending d word words rest later o (Some v) alone (turn, moves) told =
-    agrees_stop s (known given None ahead false) (walk_at rows pending idle (suc d) false) word words (ap (λ (k : Known). k.is_refused) told) (subst IsFault (sym turn) tt)
-alone_agrees s given ahead rows pending d word words rest later o None alone (turn, moves) told =
+alone_agrees s given ahead rows pending d word words rest later o (Some v) alone (turn, moves) said =
+    agrees_stop s (known given None ahead false) (walk_at rows pending idle (suc d) false) word words (ap (λ (k : Known). k.is_refused) said) (subst IsFault (sym turn) tt)
+alone_agrees s given ahead rows pending d word words rest later o None alone (turn, moves) said =
     let k = known given None ahead false in
     let here = walk_at rows pending idle (suc d) false in
     let before = settled (rules_in s) (held rows pending) in
@@ -247,13 +247,13 @@ alone_agrees s given ahead rows pending d word words rest later o None alone (tu
     let how = reading_by (option_built o) in
     let once = alone_once o.name o.flag o.has_value o.required alone before.rows in
     elim (cases_Bool (has given o.name)) [
-      | inl old ↦ agrees_stop s k here word words (ap (λ (k : Known). k.is_refused) told ∙ old_name given None ahead false o.name given_word old)
+      | inl old ↦ agrees_stop s k here word words (ap (λ (k : Known). k.is_refused) said ∙ old_name given None ahead false o.name given_word old)
           (subst IsFault (sym turn) (fault_first _ _ (fault_second (settle_fault (rules_in s) false (held rows pending)) _ (subst IsFault (sym once) (old_use before.rows given o.name rest.has old)))))
       | inr new ↦
           let more = given ++ (o.name, given_word) ∷ [] in
           let says : HasRows now more = subst (λ (rs : List Row). HasRows rs more) (sym (alone_rows o.name o.flag o.has_value o.required alone before.rows)) (rows_added before.rows given o.name how given_word rest.has new) in
           let next : IsAtRest s more ahead now None d = record { settles = refl; has = says; place = rest.place } in
-          agrees_along s k (known more None ahead false) here (walk_at now None idle (suc d) false) word words (told ∙ new_name given None ahead false o.name given_word new)
+          agrees_along s k (known more None ahead false) here (walk_at now None idle (suc d) false) word words (said ∙ new_name given None ahead false o.name given_word new)
           (turn ∙ none_left _ _ rest.settles (once ∙ new_use before.rows given o.name rest.has new)) moves (later.at_rest more ahead false now None d next)
     ]
 
@@ -304,12 +304,12 @@ long_agrees s good given ahead rows pending d z zs words rest later (Some o) met
     ∙ ap₂ (λ (f : Kinds) (m : Held × Outcome). let met = after_flag c idle word m.0 m.1 in or_else f (step_fault (line_shape s) (suc d) met.0 met.1)) (fault b is) (meets b is) in
     let moves = λ (b : Bool) (is : o.has_value ≡ b). ap (λ (m : Held × Outcome). let met = after_flag c idle word m.0 m.1 in after_step c word here met.0 met.1) (meets b is) in
     let k = known given None ahead false in
-    let told : (b : Bool) → o.has_value ≡ b → after s k word ≡ taken_as b o v k =
+    let said : (b : Bool) → o.has_value ≡ b → after s k word ≡ taken_as b o v k =
     λ b is. ap (λ (o : Option Choice). take_option (option_map (λ o. (o, v)) o) k) met ∙ ap (λ b. taken_as b o v k) is in
     elim (cases_Bool o.has_value) [
       | inl valued ↦ option_agrees s good given ahead rows pending d word words rest later o v valued
-          (id_in s good (λ (a : Rule). not (is_some a.index) && has_long a (long_name (z ∷ zs))) (option_built o) found) (turn true valued, moves true valued) (told true valued)
-      | inr alone ↦ alone_agrees s given ahead rows pending d word words rest later o v alone (turn false alone, moves false alone) (told false alone)
+          (id_in s good (λ (a : Rule). not (is_some a.index) && has_long a (long_name (z ∷ zs))) (option_built o) found) (turn true valued, moves true valued) (said true valued)
+      | inr alone ↦ alone_agrees s given ahead rows pending d word words rest later o v alone (turn false alone, moves false alone) (said false alone)
     ]
 
 -- ---- an option of one letter
@@ -428,7 +428,7 @@ given_again (pair ∷ given) name = either_way (bytes_eq pair.0 name) (has (give
     either_way true b t = refl
     either_way false b t = t
 
--- behind it each letter is a fault: another one is unknown, and the same one is given again
+-- after it each letter is a fault: another one is unknown, and the same one is given again
 letter_fault : (s : Syntax) → is_good s ≡ true → (o : Choice) (y char : ℕ) (left : Text) (h : Held) (next : Held → Kinds) → by_short y s.options ≡ Some o
     → list_all (λ (p : Choice). has_only y p.flag) s.options ≡ true → o.has_value ≡ false → IsFault (react_fault (rules_in s) false (option_built o) [] h)
     → (found : Option Choice) → by_short char s.options ≡ found → IsFault (short_fault (rules_in s) false (arg_by_short (rules_in s) char) left h next)
@@ -525,11 +525,11 @@ lone_letter_agrees s good given ahead rows pending d y (z ∷ zs) words rest lat
     ∙ ap (λ a. short_fault c false a after_letter h (flags_fault c false (length (z ∷ zs)) after_letter 0)) found
     ∙ ap (λ b. short_by b c a after_letter h (flags_fault c false (length (z ∷ zs)) after_letter 0)) takes
     ∙ ap (λ (t : Text). or_else (react_fault c false a [] h) (flags_fault c false (length (z ∷ zs)) t 0 (reacted c a [] h))) (one_byte char y same ascii (z ∷ zs)) in
-    let behind : IsUtf8 (z ∷ zs) = IsUtf8-past_char (y ∷ z ∷ zs) (z ∷ zs) y text (ap (λ (e : Text). e ++ z ∷ zs) (sym (encode_ascii y ascii))) in
+    let past : IsUtf8 (z ∷ zs) = IsUtf8-past_char (y ∷ z ∷ zs) (z ∷ zs) y text (ap (λ (e : Text). e ++ z ∷ zs) (sym (encode_ascii y ascii))) in
     agrees_stop s k (walk_at rows pending idle (suc d) false) word words
     (ap (λ (x : Known). x.is_refused) (short_taken s k y (z ∷ zs) apart ∙ ap (λ (o : Option Choice). take_option (option_map (λ o. (o, v)) o) k) met ∙ ap (λ b. taken_as b o v k) alone))
     (subst IsFault (sym (idle_word s rows pending (suc d) word (ap (λ b. b && bytes_eq (z ∷ zs) []) apart)))
-    (fault_first _ _ (subst IsFault (sym letters) (second_letter s good given h y z zs o rest.has behind met only alone))))
+    (fault_first _ _ (subst IsFault (sym letters) (second_letter s good given h y z zs o rest.has past met only alone))))
 
 pub short_agrees : (s : Syntax) → is_good s ≡ true → (given : Given) (ahead : List Operand) (rows : List Row) (pending : Option (Text × List Text)) (d : ℕ) (y : ℕ) (ys : Text) (words : List Text)
     → IsAtRest s given ahead rows pending d → LaterAgrees s words → (y == 45) ≡ false → IsUtf8 (y ∷ ys) → (found : Option Choice) → by_short y s.options ≡ found

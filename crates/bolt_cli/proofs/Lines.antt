@@ -18,8 +18,8 @@ use Rattle.clap.specs.declared.error.ErrorKind.{ErrorKind}
 use Rattle.clap.specs.declared.error.ErrorKind.TheVariants as kind
 use Rattle.clap.proofs.OnLiterals.{clap_on_literals}
 use Rattle.bolt_cli.specs.declared.job.Job.{Job}
-use Rattle.bolt_cli.specs.declared.words.Refusal.{Refusal}
-use Rattle.bolt_cli.specs.declared.words.Refusal.TheVariants.{Memory, Help, Version, Usage, Word}
+use Rattle.bolt_cli.specs.declared.refusal.Refusal.{Refusal}
+use Rattle.bolt_cli.specs.declared.refusal.Refusal.TheVariants.{Memory, Help, Version, Usage, Word}
 use Rattle.bolt_cli.specs.CommandLine.{Asks, IsRefusalOf, IsRefusedBy, asked_by, asked_by_subcommand, program, values_in}
 use Rattle.bolt_cli.specs.LineWords.{Syntax, is_complete, is_dashes, is_option, known_after, long_name, long_value, values_of}
 use Rattle.bolt_cli.specs.PlainWords.{Asked, Reading, asked, asked_of, asks, line_of, reading_by, reading_of, refused, syntaxes, unread}
@@ -40,14 +40,8 @@ all_good = refl
 abbrev is_named : Text → Syntax → Bool
 is_named name s = bytes_eq s.name name
 
-subs_are : top.subs ≡ map line_shape syntaxes
-subs_are = refl
-
 abbrev label : Syntax → Text × List Text
 label s = (s.name, [])
-
-names_are : names_of top ≡ map label syntaxes
-names_are = refl
 
 label_here : (b : Bool) (s : Syntax) (later : Option Syntax) → cond (b || false) (Some (label s)) (option_map label later) ≡ option_map label (cond b (Some s) later)
 label_here true s later = refl
@@ -182,7 +176,7 @@ version_built = filled version_rule
 
 -- the program's own options
 abbrev own_option : Bool → Bool → Option Rule
-own_option helps tells = cond helps (Some help_built) (cond tells (Some version_built) None)
+own_option helps versions = cond helps (Some help_built) (cond versions (Some version_built) None)
 
 abbrev is_help : Text → Bool
 is_help name = bytes_eq (codes "help") name
@@ -197,16 +191,16 @@ own_short : (letter : ℕ) → arg_by_short top.top.rules letter ≡ own_option 
 own_short letter = ap₂ own_option (either_false (104 == letter)) (either_false (86 == letter))
 
 -- neither they nor other options give a line
-long_strays : (helps tells : Bool) (v : Option Text) → IsFault (long_fault top.top.rules false (own_option helps tells) v nothing_held)
+long_strays : (helps versions : Bool) (v : Option Text) → IsFault (long_fault top.top.rules false (own_option helps versions) v nothing_held)
 long_strays false false v = tt
-long_strays true tells None = tt
-long_strays true tells (Some v) = tt
+long_strays true versions None = tt
+long_strays true versions (Some v) = tt
 long_strays false true None = tt
 long_strays false true (Some v) = tt
 
-short_strays : (helps tells : Bool) (rest : Text) (later : Held → Kinds) → IsFault (short_fault top.top.rules false (own_option helps tells) rest nothing_held later)
+short_strays : (helps versions : Bool) (rest : Text) (later : Held → Kinds) → IsFault (short_fault top.top.rules false (own_option helps versions) rest nothing_held later)
 short_strays false false rest later = tt
-short_strays true tells rest later = tt
+short_strays true versions rest later = tt
 short_strays false true rest later = tt
 
 option_unknown : (word : Text) → IsUtf8 word → is_option word ≡ true → is_dashes word ≡ false → IsFault (flag_word_fault top.top.rules false (long_of word) word nothing_held)

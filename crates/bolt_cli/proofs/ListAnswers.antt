@@ -71,8 +71,8 @@ module _ (file : List ℕ) (checked : Checked) (form : ListForm) (path from : Pa
         → Written {A = A} taken failed old new (Err e)
         → (e ≡ report.Sink) ⊎ (e ≡ report.NoMemory) → (e ≡ report.NoMemory → failed new ≡ failed old) → IsErrAnd result (λ failure. failure ≡ reported e)
         → ListAnswer taken failed old new result
-    list_stopped {A = A} old new e result put fault memory told =
-        let (answer, is, does) = ended_stopped {A = A} old new own_text own_ending e result (text_put old new (Err e) put) fault memory told in
+    list_stopped {A = A} old new e result put fault memory said =
+        let (answer, is, does) = ended_stopped {A = A} old new own_text own_ending e result (text_put old new (Err e) put) fault memory said in
         (answer, (own_listing.0, own_listing.1, is), does)
 
     pub list_whole : {S A : Type 0} {taken : S → Option (List ℕ)} {failed : S → ℕ} (old new : S) (x : A) → Written taken failed old new (Ok x) → ListAnswer taken failed old new (Ok 0)

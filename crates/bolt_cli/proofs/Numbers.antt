@@ -65,12 +65,6 @@ size_read word n is accepted = ap₂ size_when (tested word n is ∙ accepted) (
 size_refused : (word : Text) (n : ℕ) → number_of word ≡ Some n → (IsPageSize n → ⊥) → page_size_of word ≡ Err (codes "bad page size")
 size_refused word n is refused = ap₂ size_when (tested word n is ∙ false_from_ne_true _ refused) (number_parts word n is).1
 
-pub size_missing : (word : Text) → number_of word ≡ None → page_size_of word ≡ Err (codes "bad page size")
-size_missing word none = elim (cases_Bool (is_number word)) [
-  | inl good ↦ let read : number_of word ≡ Some (decimal_value word) = rw good refl in absurd (cc)
-  | inr bad ↦ ap (λ (b : Bool). size_when (b && list_any (λ size. size == decimal_value word) page_sizes) (decimal_value word)) bad
-]
-
 one_below : (bound : ℕ) (sizes : List ℕ) (n : ℕ) → list_all (λ size. nat_lt size bound) sizes ≡ true → list_any (λ size. size == n) sizes ≡ true → n < bound
 one_below bound [] n all any = absurd (cc)
 one_below bound (size ∷ sizes) n all any =

@@ -10,9 +10,9 @@ use Rattle.bolt_cli.specs.Failures.{reported}
 use Rattle.bolt_cli.specs.declared.failure.Failure.TheVariants as failure
 use Rattle.bolt_cli.proofs.Doing.{Does-nothing, Does-part, Does-whole}
 
--- the page is told as bad just where it has a fault
-abbrev TellsPage : {A : Type 0} → Result A ReportFault → Option PageFault → Type 0
-TellsPage result found = (fault : PageFault) → (result ≡ Err (report.Page fault)) ↔ (found ≡ Some fault)
+-- the page is reported as bad just if it has a fault
+abbrev NamesFault : {A : Type 0} → Result A ReportFault → Option PageFault → Type 0
+NamesFault result found = (fault : PageFault) → (result ≡ Err (report.Page fault)) ↔ (found ≡ Some fault)
 
 abbrev refused_by : (A : Type 0) → ReportFault → Result A ReportFault
 refused_by A e = Err e
@@ -22,20 +22,20 @@ fault_in (Ok x) other = other
 fault_in (Err e) other = e
 
 pub Does-page_whole : {S A : Type 0} (taken : S → Option (List ℕ)) (failed : S → ℕ) (old new : S) (found : Option PageFault) (text : List ℕ) (x : A)
-    → Reports {A = A} taken failed old new text (Ok x) → TellsPage {A = A} (Ok x) found
+    → Reports {A = A} taken failed old new text (Ok x) → NamesFault {A = A} (Ok x) found
     → Does taken failed old new (page_answer found text) (Ok 0)
-Does-page_whole taken failed old new None text x a tells = Does-whole old new (done text) x a
-Does-page_whole taken failed old new (Some fault) text x a tells = let bad = (tells fault).1 refl in absurd (cc)
+Does-page_whole taken failed old new None text x a names = Does-whole old new (done text) x a
+Does-page_whole taken failed old new (Some fault) text x a names = let bad = (names fault).1 refl in absurd (cc)
 
 pub Does-page_part : {S A : Type 0} (taken : S → Option (List ℕ)) (failed : S → ℕ) (old new : S) (found : Option PageFault) (text : List ℕ) (e : ReportFault) (result : Ending)
-    → Reports {A = A} taken failed old new text (Err e) → refused_by A e ≢ Err report.NoMemory → TellsPage {A = A} (Err e) found
-    → ((fault : PageFault) → refused_by A e ≡ Err (report.Page fault) → new ≡ old) → IsErrAnd result (λ told. told ≡ reported e)
+    → Reports {A = A} taken failed old new text (Err e) → refused_by A e ≢ Err report.NoMemory → NamesFault {A = A} (Err e) found
+    → ((fault : PageFault) → refused_by A e ≡ Err (report.Page fault) → new ≡ old) → IsErrAnd result (λ said. said ≡ reported e)
     → Does taken failed old new (page_answer found text) result
-Does-page_part taken failed old new None text report.Sink result a memory tells untouched is = Does-part old new (done text) report.Sink result a refl is
-Does-page_part taken failed old new None text report.NoMemory result a memory tells untouched is = absurd (memory refl)
-Does-page_part taken failed old new None text (report.Page fault) result a memory tells untouched is = let bad = (tells fault).0 refl in absurd (cc)
-Does-page_part {A = A} taken failed old new (Some found) text e result a memory tells untouched is =
-    let same : refused_by A e ≡ Err (report.Page found) = (tells found).1 refl in
-    let told : reported e ≡ failure.Page found = ap (λ (r : Result A ReportFault). reported (fault_in r e)) same in
+Does-page_part taken failed old new None text report.Sink result a memory names untouched is = Does-part old new (done text) report.Sink result a refl is
+Does-page_part taken failed old new None text report.NoMemory result a memory names untouched is = absurd (memory refl)
+Does-page_part taken failed old new None text (report.Page fault) result a memory names untouched is = let bad = (names fault).0 refl in absurd (cc)
+Does-page_part {A = A} taken failed old new (Some found) text e result a memory names untouched is =
+    let same : refused_by A e ≡ Err (report.Page found) = (names found).1 refl in
+    let said : reported e ≡ failure.Page found = ap (λ (r : Result A ReportFault). reported (fault_in r e)) same in
     subst (λ s. Does taken failed old s (page_answer (Some found) text) result) (sym (untouched found same))
-    (Does-nothing taken failed old (failure.Page found) result (subst (λ f. IsErrAnd result (λ t. t ≡ f)) told is))
+    (Does-nothing taken failed old (failure.Page found) result (subst (λ f. IsErrAnd result (λ t. t ≡ f)) said is))

@@ -32,8 +32,8 @@ module _ (file : List ℕ) (as_map : Bool) (checked : Checked) (same : bytes_of 
       → ForRoles checked (λ roles. Reports {A = A} taken failed old new (pages_shown as_map (bytes_of checked) (meta_of checked) roles) (Err e))
       → (e ≡ report.Sink) ⊎ (e ≡ report.NoMemory) → (e ≡ report.NoMemory → failed new ≡ failed old) → IsErrAnd result (λ failure. failure ≡ reported e)
       → PagesAnswer taken failed old new result
-  pages_stopped {taken = taken} {failed = failed} old new e result put fault memory told =
-      as_answer taken failed old new result (text_stopped old new _ e result (put own_roles.0 own_roles.1) fault memory told)
+  pages_stopped {taken = taken} {failed = failed} old new e result put fault memory said =
+      as_answer taken failed old new result (text_stopped old new _ e result (put own_roles.0 own_roles.1) fault memory said)
 
   pub pages_whole : {S A : Type 0} {taken : S → Option (List ℕ)} {failed : S → ℕ} (old new : S) (x : A)
       → ForRoles checked (λ roles. Reports taken failed old new (pages_shown as_map (bytes_of checked) (meta_of checked) roles) (Ok x)) → PagesAnswer taken failed old new (Ok 0)

@@ -9,36 +9,32 @@ use Rattle.bolt_cli.specs.LineWords.{Text}
 use Rattle.bolt_cli.specs.CommandLine.{Gives}
 use Rattle.bolt_cli.specs.PathWords.{each_part, hex_path_of, part_of, result_and_then}
 use Rattle.bolt_cli.specs.declared.parts.Parts.TheVariants as parts
-use Rattle.bolt_cli.specs.declared.words.Refusal.{Refusal}
+use Rattle.bolt_cli.specs.declared.refusal.Refusal.{Refusal}
 
--- what is read of the words that are left, behind the parts so far
-abbrev pub behind : Path → Result Path Text → Result Path Text
-behind front = result_and_then (λ path. Ok (front ++ path))
+-- what is read of the words that are left, after the parts so far
+abbrev pub continued : Path → Result Path Text → Result Path Text
+continued front = result_and_then (λ path. Ok (front ++ path))
 
-pub behind_none : (rest : Result Path Text) → behind [] rest ≡ rest
-behind_none (Ok path) = refl
-behind_none (Err why) = refl
-
-one_behind : (front : Path) (part : Key) (rest : Result Path Text)
-    → behind front (result_and_then (λ path. Ok (part ∷ path)) rest) ≡ behind (front ++ part ∷ []) rest
-one_behind front part (Ok path) = ap Ok (sym (append_assoc front (part ∷ []) path))
-one_behind front part (Err why) = refl
+one_continued : (front : Path) (part : Key) (rest : Result Path Text)
+    → continued front (result_and_then (λ path. Ok (part ∷ path)) rest) ≡ continued (front ++ part ∷ []) rest
+one_continued front part (Ok path) = ap Ok (sym (append_assoc front (part ∷ []) path))
+one_continued front part (Err why) = refl
 
 module _ (read : Text → Result Key Text) (word : Text) (words : List Text) where
-  pub behind_one : (front : Path) (part : Key) → read word ≡ Ok part → behind front (each_part read (word ∷ words)) ≡ behind (front ++ part ∷ []) (each_part read words)
-  behind_one front part is =
-      ap (λ r. behind front (result_and_then (λ part. result_and_then (λ path. Ok (part ∷ path)) (each_part read words)) r)) is ∙ one_behind front part (each_part read words)
+  pub continued_one : (front : Path) (part : Key) → read word ≡ Ok part → continued front (each_part read (word ∷ words)) ≡ continued (front ++ part ∷ []) (each_part read words)
+  continued_one front part is =
+      ap (λ r. continued front (result_and_then (λ part. result_and_then (λ path. Ok (part ∷ path)) (each_part read words)) r)) is ∙ one_continued front part (each_part read words)
 
-  pub behind_bad : (front : Path) (why : Text) → read word ≡ Err why → behind front (each_part read (word ∷ words)) ≡ Err why
-  behind_bad front why is = ap (λ r. behind front (result_and_then (λ part. result_and_then (λ path. Ok (part ∷ path)) (each_part read words)) r)) is
+  pub continued_bad : (front : Path) (why : Text) → read word ≡ Err why → continued front (each_part read (word ∷ words)) ≡ Err why
+  continued_bad front why is = ap (λ r. continued front (result_and_then (λ part. result_and_then (λ path. Ok (part ∷ path)) (each_part read words)) r)) is
 
-  -- a part that can't be read is told of the whole
+  -- a part that can't be read is reported of the whole
   pub part_refused : {T U : Type 0} (view : T → Path) (part_view : U → Key) (front : Path) (whole : Result Path Text) (refusal : Refusal) (result : Result T Refusal)
-      → Gives part_view (read word) (Err refusal) → behind front (each_part read (word ∷ words)) ≡ whole → IsErrAnd result (λ told. told ≡ refusal) → Gives view whole result
+      → Gives part_view (read word) (Err refusal) → continued front (each_part read (word ∷ words)) ≡ whole → IsErrAnd result (λ said. said ≡ refusal) → Gives view whole result
   part_refused view part_view front whole refusal (Ok path) gives same is = absurd is
-  part_refused view part_view front whole refusal (Err told) gives same is = elim gives [
+  part_refused view part_view front whole refusal (Err said) gives same is = elim gives [
     | inl full ↦ inl (is ∙ full)
-    | inr (why, is_word, bad) ↦ inr (why, is ∙ is_word, sym same ∙ behind_bad front why.now bad)
+    | inr (why, is_word, bad) ↦ inr (why, is ∙ is_word, sym same ∙ continued_bad front why.now bad)
   ]
 
 -- a path in one word, by the parts between its slashes

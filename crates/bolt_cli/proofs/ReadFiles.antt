@@ -12,7 +12,7 @@ use Rattle.bolt_format.specs.declared.meta.Slot.{Slot}
 use Rattle.bolt_check.specs.declared.fault.CheckFault.{CheckFault}
 use Rattle.bolt_check.specs.declared.fault.CheckFault.TheVariants as check
 use Rattle.bolt_cli.specs.Answers.{IsReadUnder, IsRecoveredUnder, IsUnrecoverableUnder}
-use Rattle.bolt_cli.specs.Failures.{TellsSome}
+use Rattle.bolt_cli.specs.Failures.{HasFinding}
 
 pub read_trees : (file : List ℕ) (slot : Option Slot) (meta : Meta) → IsReadUnder file slot meta → HasSoundTrees file meta
 read_trees file None meta (slot, chosen, sound) = sound.trees
@@ -32,15 +32,11 @@ pub checked_page_size : (checked : Checked) → IsPageSize (meta_of checked).pag
 unfolding meta_of
 checked_page_size checked = ∥∥₁_elim checked.sound (hlevel props) (λ sound. slot_page_size checked.bytes.now sound.slot checked.meta sound.valid)
 
-pub recovered_page_size : (file : List ℕ) (slot : Option Slot) (meta : Meta) → IsRecoveredUnder file slot meta → IsPageSize meta.page_size
-recovered_page_size file None meta (slot, chosen, keeps) = slot_page_size file slot meta chosen.valid
-recovered_page_size file (Some slot) meta (valid, keeps) = slot_page_size file slot meta valid
-
 -- ---- why nothing is recovered
 
-pub unrecoverable_tells : (file : List ℕ) (slot : Option Slot) (fault : CheckFault) → IsUnrecoverableUnder file slot fault → TellsSome fault
-unrecoverable_tells file slot (check.Open fault) is = tt
-unrecoverable_tells file slot (check.Structure x) is = tt
-unrecoverable_tells file None (check.Accounts told) is = absurd is
-unrecoverable_tells file (Some slot) (check.Accounts told) is = absurd is
-unrecoverable_tells file slot check.Memory is = tt
+pub unrecoverable_finding : (file : List ℕ) (slot : Option Slot) (fault : CheckFault) → IsUnrecoverableUnder file slot fault → HasFinding fault
+unrecoverable_finding file slot (check.Open fault) is = tt
+unrecoverable_finding file slot (check.Structure x) is = tt
+unrecoverable_finding file None (check.Accounts findings) is = absurd is
+unrecoverable_finding file (Some slot) (check.Accounts findings) is = absurd is
+unrecoverable_finding file slot check.Memory is = tt

@@ -59,8 +59,8 @@ module _ (file : List ℕ) (meta : Meta) (form : ListForm) (path from : Path) wh
     pub rest_stopped : {S A : Type 0} {taken : S → Option (List ℕ)} {failed : S → ℕ} (old new : S) (e : ReportFault) (result : Ending) → Written {A = A} taken failed old new (Err e)
         → (e ≡ report.Sink) ⊎ (e ≡ report.NoMemory) → (e ≡ report.NoMemory → failed new ≡ failed old) → IsErrAnd result (λ failure. failure ≡ reported e)
         → RestAnswer taken failed old new result
-    rest_stopped {A = A} old new e result put fault memory told =
-        let (answer, is, does) = ended_stopped {A = A} old new rest_text rest_ending e result (own_text old new (Err e) put) fault memory told in
+    rest_stopped {A = A} old new e result put fault memory said =
+        let (answer, is, does) = ended_stopped {A = A} old new rest_text rest_ending e result (own_text old new (Err e) put) fault memory said in
         (answer, (recovered.0, lost.0, recovered.1, lost.1, is), does)
 
     pub rest_whole : {S A : Type 0} {taken : S → Option (List ℕ)} {failed : S → ℕ} (old new : S) (x : A) (result : Ending) → Written taken failed old new (Ok x)
@@ -71,18 +71,18 @@ module _ (file : List ℕ) (meta : Meta) (form : ListForm) (path from : Path) wh
 
     -- whether the bucket was found
     own_found : (found : Bool) → ForRecovered read meta (λ listing. found ≡ has_bucket shown_path (left listing)) → found ≡ has_bucket path recovered.0
-    own_found found told =
+    own_found found said =
         subst (λ (p : Path). found ≡ has_bucket p recovered.0) is_path
-        (subst (λ (ms : List Member). found ≡ has_bucket shown_path ms) (all recovered.0 own_recovered) (told recovered.0 own_recovered))
+        (subst (λ (ms : List Member). found ≡ has_bucket shown_path ms) (all recovered.0 own_recovered) (said recovered.0 own_recovered))
 
     abbrev ending_by : Bool → Ending
     ending_by found = if found then lost_ending lost.0 else Err failure.NoBucket
 
     pub ending_missing : (found : Bool) → ForRecovered read meta (λ listing. found ≡ has_bucket shown_path (left listing)) → found ≡ false → Err failure.NoBucket ≡ rest_ending
-    ending_missing found told none = ap ending_by (sym none ∙ own_found found told)
+    ending_missing found said none = ap ending_by (sym none ∙ own_found found said)
 
     pub ending_found : (found : Bool) (ending : Ending) → ForRecovered read meta (λ listing. found ≡ has_bucket shown_path (left listing)) → found ≡ true → ending ≡ lost_ending lost.0 → ending ≡ rest_ending
-    ending_found found ending told there is = is ∙ ap ending_by (sym there ∙ own_found found told)
+    ending_found found ending said there is = is ∙ ap ending_by (sym there ∙ own_found found said)
 
     -- the ending, by the number of losses that the recovery shows at its end
     own_losses : (views : List LossView) (losses : List Loss) → map loss_view losses ≡ views → ForLosses read meta (λ all. views ≡ all) → lost.0 ≡ map loss_view losses

@@ -3,7 +3,7 @@ use Rattle.std.proofs.Common.{◌≡◌, List, ℕ, [], refl, subst, sym}
 use Rattle.bolt_check.specs.CheckedFiles.{bytes_of, meta_of}
 use Rattle.bolt_check.specs.OnWays.{IsOnWay}
 use Rattle.bolt_check.specs.Sound.{HasSoundTrees}
-use Rattle.bolt_check.specs.Ways.{start_of}
+use Rattle.bolt_check.specs.Ways.{root_spot}
 use Rattle.bolt_check.specs.declared.checked_file.Checked.{Checked}
 use Rattle.bolt_format.specs.Elements.{LeafElement}
 use Rattle.bolt_format.specs.declared.meta.Meta.{Meta}
@@ -16,7 +16,7 @@ use Rattle.bolt_tree.proofs.SortedLemmas.{sorted}
 
 pub root_entries : (file : List ℕ) (meta : Meta) → HasSoundTrees file meta → (entries : List LeafElement) × AreEntries (IsEntry file meta) (Root_page meta.root) entries
 root_entries file meta trees =
-    let root : IsOnWay file meta meta.root 1 = record { way = []; spot = start_of meta.root; led = refl; is = refl; deep = refl } in
+    let root : IsOnWay file meta meta.root 1 = record { way = []; spot = root_spot meta.root; led = refl; is = refl; deep = refl } in
     (elements_of (pages_at file meta (Root_page meta.root)), sorted file meta trees (Root_page meta.root) root)
 
 -- what is promised of a bucket's entries, where it is the root bucket of this file

@@ -15,8 +15,8 @@ pub shown_stopped : {S A : Type 0} {taken : S → Option (List ℕ)} {failed : S
     → Reports {A = A} taken failed old new text (Err e) → (e ≡ report.Sink) ⊎ ((e ≡ report.NoMemory) × (form ≡ Json)) → (e ≡ report.NoMemory → failed new ≡ failed old)
     → IsErrAnd result (λ failure. failure ≡ reported e) → (answer : Answer) × IsShownText form text answer × Does taken failed old new answer result
 shown_stopped form old new text e (Ok x) put fault memory is = absurd is
-shown_stopped form old new text e (Err told) put (inl sink) memory is = (done text, inl refl, Does-part old new (done text) e (Err told) put sink is)
-shown_stopped form old new text e (Err told) put (inr (full, json)) memory is =
+shown_stopped form old new text e (Err said) put (inl sink) memory is = (done text, inl refl, Does-part old new (done text) e (Err said) put sink is)
+shown_stopped form old new text e (Err said) put (inr (full, json)) memory is =
     let begun = put.beginning in (
       cut begun.front,
       inr (json, begun.front, begun.rest, begun.parts, refl),

@@ -31,13 +31,13 @@ module _ (file : List ℕ) (slot : Option Slot) (path : Path) (form : Form) (che
   SizesAnswer taken failed old new ending = (answer : Answer) × IsReadAnswer file slot (IsSizesAnswer file path form) answer × Does taken failed old new answer ending
 
   of_file : (answer : Answer) → IsSizesAnswer (bytes_of checked) path form (meta_of checked) answer → IsReadAnswer file slot (IsSizesAnswer file path form) answer
-  of_file answer told = inl (meta_of checked, under, subst (λ (f : List ℕ). IsSizesAnswer f path form (meta_of checked) answer) same told)
+  of_file answer said = inl (meta_of checked, under, subst (λ (f : List ℕ). IsSizesAnswer f path form (meta_of checked) answer) same said)
 
   -- the path leads to no bucket
-  pub sizes_missing : {S : Type 0} (taken : S → Option (List ℕ)) (failed : S → ℕ) (out : S) (told : Failure) (result : Ending)
-      → (told ≡ failure.NoBucket) × ((bucket : Start) → LeadsTo (bytes_of checked) (meta_of checked) path bucket → ⊥)
-      → IsErrAnd result (λ failure. failure ≡ told) → SizesAnswer taken failed out out result
-  sizes_missing taken failed out told result (is, nowhere) ends = (refused told, of_file (refused told) (inr (nowhere, ap refused is)), Does-nothing taken failed out told result ends)
+  pub sizes_missing : {S : Type 0} (taken : S → Option (List ℕ)) (failed : S → ℕ) (out : S) (said : Failure) (result : Ending)
+      → (said ≡ failure.NoBucket) × ((bucket : Start) → LeadsTo (bytes_of checked) (meta_of checked) path bucket → ⊥)
+      → IsErrAnd result (λ failure. failure ≡ said) → SizesAnswer taken failed out out result
+  sizes_missing taken failed out said result (is, nowhere) ends = (refused said, of_file (refused said) (inr (nowhere, ap refused is)), Does-nothing taken failed out said result ends)
 
   trees : HasSoundTrees (bytes_of checked) (meta_of checked)
   trees = subst (λ (f : List ℕ). HasSoundTrees f (meta_of checked)) (sym same) (read_trees file slot (meta_of checked) under)

@@ -1,8 +1,7 @@
 -- The figures of a bucket's buckets, added up entry by entry.
-use Rattle.std.proofs.Common.{◌≡◌, ◌∙◌, ◌⊎◌, inl, inr, ap, ℕ, Vec, length, zero, suc, false, IsTrue, List, [], ◌∷◌, Some, drop, refl, sym, subst, rules}
+use Rattle.std.proofs.Common.{◌≡◌, ◌∙◌, ◌⊎◌, inl, inr, ap, ℕ, Vec, length, false, IsTrue, List, [], ◌∷◌, Some, refl, sym, subst}
 use Rattle.std.proofs.Math.Logic.{∥∥₁_elim, ∥∥₁_map}
 use Rattle.std.proofs.Props.{props}
-use Rattle.std.specs.List.{Contains}
 use Rattle.bolt_check.specs.CheckedFiles.{bytes_of, meta_of}
 use Rattle.bolt_check.specs.Keys.{Key}
 use Rattle.bolt_check.specs.declared.checked_file.Checked.{Checked}
@@ -11,12 +10,10 @@ use Rattle.bolt_format.specs.declared.meta.Meta.{Meta}
 use Rattle.bolt_tree.specs.Buckets.{bucket_checked, bucket_start}
 use Rattle.bolt_tree.specs.BucketViews.{entries_of}
 use Rattle.bolt_tree.specs.Entries.{Root_page, Start, start_of}
-use Rattle.bolt_tree.specs.EntriesLeft.{ForEntries, entries_left}
+use Rattle.bolt_tree.specs.EntriesLeft.{ForEntries}
 use Rattle.bolt_tree.specs.Lookups.{IsBucketAt}
-use Rattle.bolt_tree.specs.Places.{Fresh, On, Past, Place}
 use Rattle.bolt_tree.specs.declared.bucket.Bucket.{Bucket}
 use Rattle.bolt_tree.proofs.Leaving.{the_entries}
-use Rattle.bolt_tree.proofs.Lists.{contains_head, contains_tail}
 use Rattle.bolt_tree.proofs.Named.{entry_once}
 use Rattle.bolt_report.specs.Figures.{add_stats}
 use Rattle.bolt_report.specs.StatsOf.{IsStatsOf}
@@ -61,18 +58,6 @@ module _ (bucket : Bucket) where
       let at = subst (λ (s : Start). IsStatsOf file_in meta_in s own) start own_are in
       subst (AddsEntry file_in meta_in e before) (sym is)
       (subst (λ (y : LeafElement). AddsEntry file_in meta_in y before (add_stats before own)) one (adds_bucket file_in meta_in x own before is_bucket at)))))
-
--- ---- the entries that are left
-
-in_rest : (n : ℕ) (entries : List LeafElement) (e : LeafElement) (left : List LeafElement) → drop n entries ≡ e ∷ left → Contains entries e
-in_rest zero entries e left is = subst (λ (xs : List LeafElement). Contains xs e) (sym is) (contains_head e left)
-in_rest (suc n) [] e left is = absurd (search (rules, is))
-in_rest (suc n) (x ∷ entries) e left is = contains_tail x e entries (in_rest n entries e left is)
-
-pub first_left : (entries : List LeafElement) (place : Place) (e : LeafElement) (left : List LeafElement) → entries_left entries place ≡ e ∷ left → Contains entries e
-first_left entries Fresh e left is = in_rest zero entries e left is
-first_left entries (On i) e left is = in_rest (suc i) entries e left is
-first_left entries Past e left is = absurd (search (rules, is))
 
 -- what is left makes the whole, so it does with the next entry
 pub total_more : (file : List ℕ) (meta : Meta) (old new : List LeafElement) (e : LeafElement) (before after total : Stats) → old ≡ e ∷ new → ∥ AddsEntry file meta e before after ∥₁

@@ -166,7 +166,7 @@ faults_from s place words = faults_at s (walk_fault (line_shape s) [] place word
 abbrev pub rows_from : Syntax → Walk → List Text → List Row
 rows_from s place words = finished (rules_in s) (fold (walked (rules_in s) []) place words).held
 
--- what is told of the line, and what `clap` finds
+-- what is said of the line, and what `clap` finds
 abbrev pub ReadsAs : Bool → Given → Kinds → List Row → Type 0
 ReadsAs true given kinds rows = (kinds ≡ []) × HasRows rows given
 ReadsAs false given kinds rows = IsFault kinds
@@ -179,14 +179,14 @@ stays_refused s k [] is = is
 stays_refused s k (word ∷ words) is =
     stays_refused s (after s k word) words (ap (λ b. (if b then k else take_by s word k k.waiting).is_refused) is ∙ is)
 
--- what was refused is told as such
+-- what was refused is reported as such
 pub agrees_refused : (s : Syntax) (k : Known) (place : Walk) (words : List Text) → k.is_refused ≡ true → IsFault (faults_from s place words) → Agrees s k place words
 agrees_refused s k place words is fault =
     let end = fold (after s) k words in
     let incomplete : is_complete s end ≡ false = ap (λ b. not b && (not (is_some end.waiting) && is_whole s end)) (stays_refused s k words is) in
     subst (λ b. ReadsAs b end.given (faults_from s place words) (rows_from s place words)) (sym incomplete) fault
 
--- a word that is refused, and told so sooner or later
+-- a word that is refused, and reported sooner or later
 pub agrees_dead : (s : Syntax) (k : Known) (place : Walk) (word : Text) (words : List Text) → (after s k word).is_refused ≡ true
     → IsFault (faults_from s place (word ∷ words)) → Agrees s k place (word ∷ words)
 agrees_dead s k place word words is fault =
@@ -206,11 +206,11 @@ pub agrees_along : (s : Syntax) (k next : Known) (place there : Walk) (word : Te
     → Agrees s next there words → Agrees s k place (word ∷ words)
 unfolding walk_fault
 agrees_along s k next place there word words is clean moves agrees =
-    let Told : Known → Kinds → Walk → Type 0 = λ x f w. let end = fold (after s) x words in
+    let Agreed : Known → Kinds → Walk → Type 0 = λ x f w. let end = fold (after s) x words in
     ReadsAs (is_complete s end) end.given (faults_at s (or_else f (walk_fault (line_shape s) [] w words)) (fold (walked (rules_in s) []) w words)) (rows_from s w words) in
     let turn = turn_fault (line_shape s) [] place word in
     let after_word = walked (rules_in s) [] place word in
-    subst (λ x. Told x turn after_word) (sym is) (subst (λ f. Told next f after_word) (sym clean) (subst (λ w. Told next [] w) (sym moves) agrees))
+    subst (λ x. Agreed x turn after_word) (sym is) (subst (λ f. Agreed next f after_word) (sym clean) (subst (λ w. Agreed next [] w) (sym moves) agrees))
 
 -- ---- what a word looks like
 
@@ -345,9 +345,6 @@ option_cases P two one (x ∷ y ∷ rest) text hyphen other =
     let From : ℕ → Type 0 = λ first. IsUtf8 (first ∷ y ∷ rest) → is_dashes (first ∷ y ∷ rest) ≡ false → P (first ∷ y ∷ rest) in
     subst From (sym (eqb-true x 45 hyphen)) (hyphen_cases P two one y rest) text other
 
-abbrev long_word_parts : Text → Option (Text × Option Text)
-long_word_parts rest = Some (long_name rest, long_value rest)
-
 -- the word with one hyphen is no long one
 pub one_hyphen : (y : ℕ) (ys : Text) → (y == 45) ≡ false → (long_of (45 ∷ y ∷ ys) ≡ None) × (short_of (45 ∷ y ∷ ys) ≡ Some (y ∷ ys))
 one_hyphen y ys other = (
@@ -412,7 +409,7 @@ unfolding walk_fault
 bad_after_dashes s good rows pending waiting d [] bad = fault_first _ _ bad
 bad_after_dashes s good rows pending waiting d (word ∷ words) bad = fault_first _ _ (fault_first _ _ (bad_operand s good (held rows pending) d bad))
 
--- what is wrong with what is held is told sooner or later
+-- what is wrong with what is held is reported sooner or later
 pub bad_line : (s : Syntax) → is_good s ≡ true → (rows : List Row) (pending : Option (Text × List Text)) (d : ℕ) (only : Bool) (words : List Text) → All IsUtf8 words
     → IsFault (settle_fault (rules_in s) false (held rows pending)) → IsFault (faults_from s (walk_at rows pending idle (suc d) only) words)
 unfolding walk_fault walked

@@ -19,8 +19,8 @@ use Rattle.bolt_cli.specs.CopyKinds.{is_snapshot}
 use Rattle.bolt_cli.specs.declared.copy_kind.CopyKind.{CopyKind}
 use Rattle.bolt_cli.specs.declared.copy_kind.CopyKind.TheVariants as kind
 use Rattle.bolt_cli.specs.declared.job.Job.{Job}
-use Rattle.bolt_cli.specs.declared.words.Refusal.{Refusal}
-use Rattle.bolt_cli.specs.declared.words.Refusal.TheVariants.{Memory, Help, Version, Usage, Word}
+use Rattle.bolt_cli.specs.declared.refusal.Refusal.{Refusal}
+use Rattle.bolt_cli.specs.declared.refusal.Refusal.TheVariants.{Memory, Help, Version, Usage, Word}
 use Rattle.bolt_cli.specs.LineWords.{Choice, Operand, Syntax, Text, after, given_word, has, is_complete, known_after, values_of}
 use Rattle.bolt_cli.specs.PathWords.{hex_path_by}
 use Rattle.bolt_cli.specs.PlainWords.{Asked, IsInRange, IsPart, IsSize, Reading, Setting, buckets_line, check_line, compact_line, get_line, info_line, keys_line, list_line, pages_line, stats_line, asked, asked_of, asks, buckets, check, compact, file_operand, first_of, form_of, form_word, from_word, copy_kind_by, get, info, is_for_bbolt, is_given, keys, line_of, list, list_form_of, list_form_word, page, page_size_by, pages, part_operand, reading_in, reading_of, refused, settings, settings_words, slot_by, slot_word, stats, unread, words_for}
@@ -70,12 +70,12 @@ size_read : (size : Option ℕ) → IsSize size → page_size_by (option_map dec
 size_read None accepted = refl
 size_read (Some size) accepted = size_written size accepted
 
--- ---- the words behind the settings
+-- ---- the words after the settings
 
 abbrev part_pair : Text → Text × Text
 part_pair word = (codes "PART", word)
 
--- behind `--` each word that is left is a part
+-- after `--` each word that is left is a part
 parts_taken : (s : Syntax) (required : Bool) (given : Given) (words : List Text)
     → fold (after s) (known given None (part_operand required ∷ []) true) words ≡ known (given ++ map part_pair words) None (part_operand required ∷ []) true
 parts_taken s required given [] = ap (λ (g : Given). known g None (part_operand required ∷ []) true) (sym (append-nil given))
@@ -129,7 +129,7 @@ module _ (name : Text) (ops : List Operand) (options : List Choice) where
       settings_taken line_by (file_operand ∷ ops) (codes "--" ∷ file ∷ words) ss are apart
       ∙ ap (λ k. fold (after line_by) k words) (new_name (settings_given ss) None ops true (codes "FILE") file none)
 
-  -- a line without words behind FILE
+  -- a line without words after FILE
   line_read : (ss : List Setting) (file : Text) (wanted : Asked) → AreOptions line_by ss → AreApart ss → value_in ss (codes "FILE") ≡ None
       → is_complete line_by (known (line_given ss file []) None ops true) ≡ true → asked name (values_of (line_given ss file [])) ≡ Ok wanted
       → reading_in line_by (known_after line_by (settings_words ss (codes "--" ∷ file ∷ []))) ≡ asks wanted
@@ -139,7 +139,7 @@ module _ (name : Text) (ops : List Operand) (options : List Choice) where
       ∙ ap reading_of is
 
 module _ (name : Text) (required : Bool) (options : List Choice) where
-  -- a line with parts behind FILE
+  -- a line with parts after FILE
   path_read : (ss : List Setting) (file : Text) (words : List Text) (wanted : Asked) → (let line = line_by name (part_operand required ∷ []) options in AreOptions line ss → AreApart ss → value_in ss (codes "FILE") ≡ None
       → is_complete line (known (line_given ss file words) None (part_operand required ∷ []) true) ≡ true → asked name (values_of (line_given ss file words)) ≡ Ok wanted
       → reading_in line (known_after line (settings_words ss (codes "--" ∷ file ∷ words))) ≡ asks wanted)

@@ -84,10 +84,3 @@ pub word_read : (part : Key) (path : Path) → All IsPart (part ∷ path) → he
 word_read part path parts =
     let bytes = all_bytes (part ∷ path) parts in
     path_cut (one_word (part ∷ path)) (hex_words (part ∷ path)) false (sym (word_parts part path bytes)) (none_empty (part ∷ path) parts) ∙ parts_read (part ∷ path) bytes
-
--- the word begins with a digit
-pub is_no_option : (part : Key) (path : Path) → All IsPart (part ∷ path) → is_option (one_word (part ∷ path)) ≡ false
-unfolding encode_with
-is_no_option [] path parts = absurd (let some = (All-head IsPart [] path parts).0 in omega (arith, some))
-is_no_option (b ∷ bytes) [] parts = digit_is_no 45 (b / 16) refl (high_digit b (head_byte b bytes (All-head IsPart (b ∷ bytes) [] parts).1))
-is_no_option (b ∷ bytes) (next ∷ path) parts = digit_is_no 45 (b / 16) refl (high_digit b (head_byte b bytes (All-head IsPart (b ∷ bytes) (next ∷ path) parts).1))

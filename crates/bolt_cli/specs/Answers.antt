@@ -43,7 +43,7 @@ use Rattle.bolt_tree.specs.Listing.{IsListing, Member, rest_from}
 use Rattle.bolt_tree.specs.ListingParts.{bucket_part, has_bucket}
 use Rattle.bolt_tree.specs.Paths.{Holds, Names, Path}
 use Rattle.bolt_cli.specs.CopyKinds.{is_snapshot, layout_for}
-use Rattle.bolt_cli.specs.Failures.{IsToldAs, failure_line}
+use Rattle.bolt_cli.specs.Failures.{IsFailureOf, failure_line}
 use Rattle.bolt_cli.specs.SnapshotAnswers.{copy_of, errors_in, hash_found}
 use Rattle.bolt_cli.specs.declared.failure.Failure.{Failure}
 use Rattle.bolt_cli.specs.declared.failure.Failure.TheVariants as failure
@@ -109,7 +109,7 @@ none_found (Some fault) = found (Some fault) []
 abbrev pub check_refusal : Option SnapshotFault → CheckFault → Answer
 check_refusal hash (check.Open fault) = record { out = fault_lines hash; ending = Err (failure.Metas fault) }
 check_refusal hash (check.Structure x) = found hash (x ∷ [])
-check_refusal hash (check.Accounts told) = found hash told.items
+check_refusal hash (check.Accounts findings) = found hash findings.items
 check_refusal hash check.Memory = refused failure.Memory
 
 -- a path leads from the root bucket to this one; and what it holds
@@ -247,7 +247,7 @@ IsCheckedAnswer file IsAccepted IsRefusal answer =
 
 -- only the first finding is reported
 abbrev pub IsFileRefusal : CheckFault → Answer → Type 0
-IsFileRefusal fault answer = (failure : Failure) × IsToldAs fault failure × (answer ≡ refused failure)
+IsFileRefusal fault answer = (failure : Failure) × IsFailureOf fault failure × (answer ≡ refused failure)
 
 -- the meta that the file is read under: that of the slot that is named, or the active one, and then accounts count too
 abbrev pub IsReadUnder : List ℕ → Option Slot → Meta → Type 0
@@ -312,7 +312,7 @@ IsLossesAnswer hash file slot meta answer = ((losses : List LossView) × AreLoss
 abbrev pub all_refusal : Option SnapshotFault → CheckFault → Answer
 all_refusal hash (check.Structure x) = record { out = fault_lines hash ++ all_lost_text (errors_in hash) x; ending = Ok 1 }
 all_refusal hash (check.Open fault) = check_refusal hash (check.Open fault)
-all_refusal hash (check.Accounts told) = check_refusal hash (check.Accounts told)
+all_refusal hash (check.Accounts findings) = check_refusal hash (check.Accounts findings)
 all_refusal hash check.Memory = check_refusal hash check.Memory
 
 -- `check` and `check --all` of a file whose hash was looked at
@@ -395,7 +395,7 @@ module _ {O T : Type 0} (out_taken : O → Option (List ℕ)) (out_failed : O �
       ((meta : Meta) × (listing : List Member) × IsReadUnder file slot meta × IsListing file meta listing
       × (let layout = layout_of_listing which (copy_page_size size meta) listing meta.root_sequence in
       let copy = copy_of snapshot layout in WritesCopy listing layout copy (done (lengths_line (length file) (length copy))) ending))
-      ⊎ ((fault : CheckFault) × (failure : Failure) × IsRefusedUnder file slot fault × IsToldAs fault failure
+      ⊎ ((fault : CheckFault) × (failure : Failure) × IsRefusedUnder file slot fault × IsFailureOf fault failure
       × (out_new ≡ out_old) × (target_new ≡ target_old) × (ending ≡ Err failure))
 
   -- the same of the recovered listing, and each loss is reported; or nothing is recovered
@@ -405,7 +405,7 @@ module _ {O T : Type 0} (out_taken : O → Option (List ℕ)) (out_failed : O �
       × (let layout = layout_of_listing which (copy_page_size size meta) listing meta.root_sequence in
       let copy = copy_of snapshot layout in
       WritesCopy listing layout copy (record { out = losses_text losses ++ lengths_line (length file) (length copy); ending = Ok (lost_status losses) }) ending))
-      ⊎ ((fault : CheckFault) × (failure : Failure) × IsUnrecoverableUnder file slot fault × IsToldAs fault failure
+      ⊎ ((fault : CheckFault) × (failure : Failure) × IsUnrecoverableUnder file slot fault × IsFailureOf fault failure
       × (out_new ≡ out_old) × (target_new ≡ target_old) × (ending ≡ Err failure))
 
   -- `compact` and `compact --recover`
@@ -433,12 +433,12 @@ status_of (Ok status) = status
 status_of (Err failure) = 1
 
 -- what is printed on standard error
-abbrev pub told : Ending → List ℕ
-told (Ok status) = []
-told (Err failure) = failure_line failure
+abbrev pub error_text : Ending → List ℕ
+error_text (Ok status) = []
+error_text (Err failure) = failure_line failure
 
 -- a sink accepted a text without a failure, or it failed and accepted a prefix of it
-abbrev pub Takes : {S : Type 0} → (taken : S → Option (List ℕ)) (failed : S → ℕ) (old new : S) → List ℕ → Type 0
-Takes taken failed old new text =
+abbrev pub Accepts : {S : Type 0} → (taken : S → Option (List ℕ)) (failed : S → ℕ) (old new : S) → List ℕ → Type 0
+Accepts taken failed old new text =
     (Appends (taken old) (taken new) text × (failed new ≡ failed old))
     ⊎ ((0 < failed new) × AppendsBeginning (taken old) (taken new) text)

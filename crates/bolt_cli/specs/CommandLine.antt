@@ -9,8 +9,8 @@ use Rattle.clap.specs.declared.builder.Command.TheViews.{out-Command}
 use Rattle.clap.specs.declared.error.ErrorKind.{ErrorKind}
 use Rattle.clap.specs.declared.error.ErrorKind.TheVariants as kind
 use Rattle.bolt_cli.specs.declared.job.Job.{Job}
-use Rattle.bolt_cli.specs.declared.words.Refusal.{Refusal}
-use Rattle.bolt_cli.specs.declared.words.Refusal.TheVariants.{Memory, Help, Version, Usage, Word}
+use Rattle.bolt_cli.specs.declared.refusal.Refusal.{Refusal}
+use Rattle.bolt_cli.specs.declared.refusal.Refusal.TheVariants.{Memory, Help, Version, Usage, Word}
 use Rattle.bolt_cli.specs.LineWords.{Choice, Flag, Operand, Syntax, Text, both, given_word, long, short}
 use Rattle.bolt_cli.specs.PlainWords.{Asked, Reading, Values, asked, asked_of, refused, syntaxes, unread}
 
@@ -21,7 +21,7 @@ abbrev pub action_of : Bool → Option ArgAction
 action_of several = if several then Some Append else None
 
 abbrev pub operand_rule : Operand → Rule
-operand_rule o = record (new_rule o.name) { required = o.required; action = action_of o.several }
+operand_rule o = record (new_rule o.name) { required = o.required; action = action_of o.several; value_names = 1 }
 
 abbrev long_of : Flag → Option Text
 long_of (long name) = Some name

@@ -46,20 +46,20 @@ hash_failed hash.Sink = Write
 hash_failed hash.NotHashed = Memory
 
 -- of the findings the first is reported
-abbrev pub TellsFirst : List Finding → Failure → Type 0
-TellsFirst [] failure = ⊥
-TellsFirst (x ∷ more) failure = failure ≡ File x
+abbrev pub IsOfFirst : List Finding → Failure → Type 0
+IsOfFirst [] failure = ⊥
+IsOfFirst (x ∷ more) failure = failure ≡ File x
 
 -- the failure of a job whose file is refused
-abbrev pub IsToldAs : CheckFault → Failure → Type 0
-IsToldAs (check.Open fault) failure = failure ≡ Metas fault
-IsToldAs (check.Structure x) failure = failure ≡ File x
-IsToldAs (check.Accounts told) failure = TellsFirst told.items failure
-IsToldAs check.Memory failure = failure ≡ Memory
+abbrev pub IsFailureOf : CheckFault → Failure → Type 0
+IsFailureOf (check.Open fault) failure = failure ≡ Metas fault
+IsFailureOf (check.Structure x) failure = failure ≡ File x
+IsFailureOf (check.Accounts findings) failure = IsOfFirst findings.items failure
+IsFailureOf check.Memory failure = failure ≡ Memory
 
 -- if accounts are reported, there is a finding
-abbrev pub TellsSome : CheckFault → Type 0
-TellsSome (check.Open fault) = Unit {0}
-TellsSome (check.Structure x) = Unit {0}
-TellsSome (check.Accounts told) = told.items ≢ []
-TellsSome check.Memory = Unit {0}
+abbrev pub HasFinding : CheckFault → Type 0
+HasFinding (check.Open fault) = Unit {0}
+HasFinding (check.Structure x) = Unit {0}
+HasFinding (check.Accounts findings) = findings.items ≢ []
+HasFinding check.Memory = Unit {0}

@@ -400,7 +400,7 @@ is_for_bbolt kind.Plain = false
 is_for_bbolt kind.ForBbolt = true
 is_for_bbolt kind.EtcdSnapshot = false
 
--- the name of the command that does the job, the options of its line, its FILE, and the words behind that
+-- the name of the command that does the job, the options of its line, its FILE, and the words after that
 abbrev pub command_name : Asked → Text
 command_name (info file slot) = codes "info"
 command_name (page file id) = codes "page"
@@ -428,18 +428,18 @@ settings (compact file slot target size which recover) =
     lettered 111 (codes "output") target ∷ meta_setting slot ∷ valued (codes "page-size") (option_map decimal size) ∷ alone (codes "for-bbolt") (is_for_bbolt which)
     ∷ alone (codes "etcd-snapshot") (is_snapshot which) ∷ alone (codes "recover") recover ∷ []
 
-abbrev pub words_behind : Asked → List Text
-words_behind (page file id) = decimal id ∷ []
-words_behind (buckets file slot path form sizes) = map encode_lower path
-words_behind (stats file slot path) = map encode_lower path
-words_behind (keys file slot path prefix form) = map encode_lower path
-words_behind (get file slot path form no_newline) = map encode_lower path
-words_behind (list file slot form path from recover) = map encode_lower path
-words_behind _ = []
+abbrev pub words_after : Asked → List Text
+words_after (page file id) = decimal id ∷ []
+words_after (buckets file slot path form sizes) = map encode_lower path
+words_after (stats file slot path) = map encode_lower path
+words_after (keys file slot path prefix form) = map encode_lower path
+words_after (get file slot path form no_newline) = map encode_lower path
+words_after (list file slot form path from recover) = map encode_lower path
+words_after _ = []
 
 -- words that ask for the job, whatever its texts are
 abbrev pub words_for : Text → Asked → List Text
-words_for name wanted = name ∷ command_name wanted ∷ settings_words (settings wanted) (codes "--" ∷ asked_file wanted ∷ words_behind wanted)
+words_for name wanted = name ∷ command_name wanted ∷ settings_words (settings wanted) (codes "--" ∷ asked_file wanted ∷ words_after wanted)
 
 abbrev pub IsPath : Path → Type 0
 IsPath [] = ⊥

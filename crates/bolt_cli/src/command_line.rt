@@ -15,6 +15,7 @@ fn operand_arg<'a>(alloc: Global, operand: &'a Operand) -> Arg<'a>
     ensures local { result.global ≡ false }
 {
     let arg = Arg::new(alloc, operand.name)
+        .value_name(operand.shown)
         .required(operand.required)
         .help(operand.help);
     if operand.several {

@@ -2,12 +2,12 @@
 ghost use Rattle.std.specs.Prelude.{◌≡◌, ◌++◌, codes, decimal};
 ghost use Rattle.bolt_format.specs.Writes.{Writes};
 ghost use Rattle.bolt_report.specs.FaultWords.{finding_text};
-ghost use Rattle.bolt_cli.specs.Failures.{copied, failure_line, failure_text, hash_failed, reported};
+ghost use Rattle.bolt_cli.specs.Failures.{HasFinding, IsFailureOf, copied, failure_line, failure_text, hash_failed, reported};
 ghost use Rattle.bolt_cli.specs.declared.failure.Failure.TheVariants as failure;
 
 use crate::decimals::put_number;
 use bolt_bulk::BulkFault;
-use bolt_check::{Finding, NoMemory};
+use bolt_check::{CheckFault, Finding, NoMemory};
 use bolt_format::{MetaFault, PageFault, Sink, SinkFault};
 use bolt_report::{ReportFault, finding_text, meta_fault_text, page_fault_text};
 use bolt_snapshot::HashFault;
@@ -102,6 +102,19 @@ impl From<HashFault> for Failure {
             HashFault::Sink => Failure::Write,
             HashFault::NotHashed => Failure::Memory,
         }
+    }
+}
+
+/// The failure of a job whose file is refused: only the first finding is reported.
+pub(crate) fn failure_of(fault: &CheckFault) -> Failure
+    requires { HasFinding fault.now }
+    ensures { IsFailureOf fault.now result }
+{
+    match fault {
+        CheckFault::Open(fault) => Failure::Metas(*fault),
+        CheckFault::Structure(finding) => Failure::File(*finding),
+        CheckFault::Accounts(findings) => Failure::File(findings.as_slice()[0]),
+        CheckFault::Memory => Failure::Memory,
     }
 }
 

@@ -14,21 +14,29 @@ use bolt_format::{Sink, Slot};
 use bolt_report::{Form, ReportFault, item, value};
 use std::alloc::Global;
 
+/// What `get` is to write.
+#[derive(Clone, Copy)]
+pub(crate) struct WantedValue<'a> {
+    /// The path of the value.
+    pub path: &'a [Vec<u8>],
+    pub form: Form,
+    pub no_newline: bool,
+}
+
 /// Writes the value at a path, and a line feed unless none is wanted.
 pub(crate) fn print_value<O: Sink>(
     alloc: Global,
     file: &[u8],
     slot: Option<Slot>,
-    path: &[Vec<u8>],
-    form: Form,
-    no_newline: bool,
+    wanted: &WantedValue<'_>,
     out: &mut O,
 ) -> Result<u8, Failure>
-    ensures { (answer : Answer) × IsReadAnswer file.now slot (IsGetAnswer file.now (path_in path.now) form no_newline) answer
+    ensures { (answer : Answer) × IsReadAnswer file.now slot (IsGetAnswer file.now (path_in wanted.now.path.now) wanted.now.form wanted.now.no_newline) answer
         × Does O.taken O.failed out.old out.new answer result }
 {
     let checked = open_read(alloc, file, slot)?;
-    put_value(alloc, find_value(checked, path)?, form, no_newline, out)?;
+    let value = find_value(checked, wanted.path)?;
+    put_value(alloc, value, wanted.form, wanted.no_newline, out)?;
     Ok(0)
 }
 

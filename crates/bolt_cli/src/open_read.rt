@@ -1,15 +1,30 @@
-//! Opens a file for the commands that read its entries.
-ghost use Rattle.std.specs.Prelude.{◌≡◌, IfErr, IfOk};
-ghost use Rattle.bolt_check.specs.CheckedFiles.{bytes_of, meta_of};
+//! Opens a file for the commands that read what it holds.
+ghost use Rattle.std.specs.Prelude.{◌≡◌, IfErr, IfOk, true};
+ghost use Rattle.bolt_check.specs.CheckedFiles.{bytes_of, has_accounts, meta_of};
+ghost use Rattle.bolt_check.specs.Sound.{IsRefused, IsSound};
 ghost use Rattle.bolt_check.specs.declared.fault.CheckFault.{CheckFault};
+ghost use Rattle.bolt_format.specs.Metas.{IsChosen};
+ghost use Rattle.bolt_format.specs.declared.meta.Slot.{Slot};
 ghost use Rattle.bolt_cli.specs.Answers.{IsReadUnder, IsRefusedUnder};
-ghost use Rattle.bolt_cli.specs.Failures.{IsToldAs};
+ghost use Rattle.bolt_cli.specs.Failures.{IsFailureOf};
 
-use crate::failure::Failure;
-use crate::open_checked::{first_told, open_checked};
+use crate::failure::{Failure, failure_of};
 use bolt_check::{CheckFault, Checked, check, check_slot};
 use bolt_format::Slot;
 use std::alloc::Global;
+
+/// The file, if it is sound under the active meta.
+pub(crate) fn open_checked(alloc: Global, file: &[u8]) -> Result<Checked<'_>, Failure>
+    ensures bytes { IfOk result (λ checked. bytes_of checked ≡ file.now) }
+    ensures sound { IfOk result (λ checked. (slot : Slot) × IsChosen file.now slot (meta_of checked) × IsSound file.now (meta_of checked) true) }
+    ensures accounts { IfOk result (λ checked. has_accounts checked ≡ true) }
+    ensures refused { IfErr result (λ failure. (fault : CheckFault) × IsRefused file.now fault × IsFailureOf fault failure) }
+{
+    match check(alloc, file) {
+        Ok(checked) => Ok(checked),
+        Err(fault) => Err(failure_of(&fault)),
+    }
+}
 
 /// Checks the file under the meta in a slot, whose trees must be sound. Without a slot, checks it
 /// under the active meta, and its accounts too.
@@ -18,6 +33,7 @@ pub(crate) fn check_under(
     file: &[u8],
     slot: Option<Slot>,
 ) -> Result<Checked<'_>, CheckFault>
+    ensures bytes { IfOk result (λ checked. bytes_of checked ≡ file.now) }
     ensures sound { IfOk result (λ checked. IsReadUnder file.now slot (meta_of checked)) }
     ensures refused { IfErr result (IsRefusedUnder file.now slot) }
 {
@@ -27,8 +43,7 @@ pub(crate) fn check_under(
     }
 }
 
-/// Opens the file under the meta of a slot, if its trees are sound. Without a slot, opens it under
-/// the active meta, if its accounts are right too.
+/// The same, with the failure that is reported if the file is refused.
 pub(crate) fn open_read(
     alloc: Global,
     file: &[u8],
@@ -36,21 +51,10 @@ pub(crate) fn open_read(
 ) -> Result<Checked<'_>, Failure>
     ensures bytes { IfOk result (λ checked. bytes_of checked ≡ file.now) }
     ensures sound { IfOk result (λ checked. IsReadUnder file.now slot (meta_of checked)) }
-    ensures refused { IfErr result (λ failure. (fault : CheckFault) × IsRefusedUnder file.now slot fault × IsToldAs fault failure) }
+    ensures refused { IfErr result (λ failure. (fault : CheckFault) × IsRefusedUnder file.now slot fault × IsFailureOf fault failure) }
 {
-    match slot {
-        None => open_checked(alloc, file),
-        Some(slot) => open_slot(alloc, file, slot),
-    }
-}
-
-fn open_slot(alloc: Global, file: &[u8], slot: Slot) -> Result<Checked<'_>, Failure>
-    ensures bytes { IfOk result (λ checked. bytes_of checked ≡ file.now) }
-    ensures sound { IfOk result (λ checked. IsReadUnder file.now (Some slot) (meta_of checked)) }
-    ensures refused { IfErr result (λ failure. (fault : CheckFault) × IsRefusedUnder file.now (Some slot) fault × IsToldAs fault failure) }
-{
-    match check_slot(alloc, file, slot) {
+    match check_under(alloc, file, slot) {
         Ok(checked) => Ok(checked),
-        Err(fault) => Err(first_told(&fault)),
+        Err(fault) => Err(failure_of(&fault)),
     }
 }

@@ -4,10 +4,9 @@ ghost use Rattle.bolt_check.specs.declared.fault.CheckFault.{CheckFault};
 ghost use Rattle.bolt_recover.specs.Recovered.{ForRecovered};
 ghost use Rattle.bolt_recover.specs.Recoveries.{recovery_file, recovery_left, recovery_losses, recovery_meta};
 ghost use Rattle.bolt_cli.specs.Answers.{IsRecoveredUnder, IsUnrecoverableUnder};
-ghost use Rattle.bolt_cli.specs.Failures.{IsToldAs};
+ghost use Rattle.bolt_cli.specs.Failures.{IsFailureOf};
 
-use crate::failure::Failure;
-use crate::open_checked::first_told;
+use crate::failure::{Failure, failure_of};
 use bolt_check::CheckFault;
 use bolt_format::Slot;
 use bolt_recover::Recovery;
@@ -44,10 +43,10 @@ pub(crate) fn open_recovery(
     ensures file { IfOk result (λ recovery. recovery_file recovery ≡ file.now) }
     ensures meta { IfOk result (λ recovery. IsRecoveredUnder file.now slot (recovery_meta recovery)) }
     ensures all { IfOk result (λ recovery. ForRecovered file.now (recovery_meta recovery) (λ listing. recovery_left recovery listing ≡ listing)) }
-    ensures refused { IfErr result (λ failure. (fault : CheckFault) × IsUnrecoverableUnder file.now slot fault × IsToldAs fault failure) }
+    ensures refused { IfErr result (λ failure. (fault : CheckFault) × IsUnrecoverableUnder file.now slot fault × IsFailureOf fault failure) }
 {
     match recovery_under(alloc, file, slot) {
         Ok(recovery) => Ok(recovery),
-        Err(fault) => Err(first_told(&fault)),
+        Err(fault) => Err(failure_of(&fault)),
     }
 }

@@ -6,7 +6,7 @@ ghost use Rattle.bolt_report.specs.Reports.{Reports};
 ghost use Rattle.bolt_cli.specs.Answers.{Answer, Does, IsCheckedAnswer, IsFileRefusal, IsPagesAnswer, pages_shown};
 
 use crate::failure::Failure;
-use crate::open_checked::open_checked;
+use crate::open_read::open_checked;
 use bolt_check::Checked;
 use bolt_format::Sink;
 use bolt_report::{ReportFault, page_map, pages};

@@ -6,7 +6,7 @@ ghost use Rattle.bolt_cli.specs.PathWords.{each_part, hex_bytes, hex_path_by, he
 ghost use Rattle.bolt_cli.specs.PlainWords.{path_in};
 
 use crate::parts::Parts;
-use crate::words::Refusal;
+use crate::refusal::Refusal;
 use hex::FromHexError;
 use std::alloc::{AllocError, Global};
 

@@ -1,15 +1,15 @@
 //! Runs a job.
 ghost use Rattle.std.specs.Prelude.{◌≡◌, Result};
-ghost use Rattle.bolt_cli.specs.Answers.{DoesJob, Ending, Takes, status_of, told};
+ghost use Rattle.bolt_cli.specs.Answers.{DoesJob, Ending, Accepts, error_text, status_of};
 
-use crate::buckets_command::print_buckets;
+use crate::buckets_command::{WantedBuckets, print_buckets};
 use crate::check_command::{WantedCheck, print_check};
 use crate::compact_command::{WantedCopy, write_copy};
 use crate::failure::{Failure, put_failure};
-use crate::get_command::print_value;
+use crate::get_command::{WantedValue, print_value};
 use crate::info_command::print_info;
 use crate::job::Job;
-use crate::keys_command::print_keys;
+use crate::keys_command::{WantedKeys, print_keys};
 use crate::list_command::{WantedList, print_list};
 use crate::page_command::print_page;
 use crate::pages_command::print_pages;
@@ -32,18 +32,18 @@ pub fn run<O: Sink, E: Sink, T: SnapshotSink>(
 ) -> Status
     ensures { (ending : Ending)
         × DoesJob O.taken O.failed out.old out.new T.taken T.failed target.old target.new file.now job.now ending
-        × (result.code ≡ status_of ending) × Takes E.taken E.failed err.old err.new (told ending) }
+        × (result.code ≡ status_of ending) × Accepts E.taken E.failed err.old err.new (error_text ending) }
 {
     match do_job(alloc, job, file, out, target) {
         Ok(code) => Status { code },
-        Err(failure) => tell(&failure, err),
+        Err(failure) => report(&failure, err),
     }
 }
 
 /// Reports a failure. The status is the same if its line can't be written.
-fn tell<E: Sink>(failure: &Failure, err: &mut E) -> Status
+fn report<E: Sink>(failure: &Failure, err: &mut E) -> Status
     ensures status { result.code ≡ 1 }
-    ensures line { Takes E.taken E.failed err.old err.new (told (Err failure.now)) }
+    ensures line { Accepts E.taken E.failed err.old err.new (error_text (Err failure.now)) }
 {
     let _ = put_failure(failure, err);
     Status { code: 1 }
@@ -86,7 +86,14 @@ fn do_job<O: Sink, T: SnapshotSink>(
             path,
             form,
             sizes,
-        } => print_buckets(alloc, file, *slot, path.as_slice(), *form, *sizes, out),
+        } => {
+            let wanted = WantedBuckets {
+                path: path.as_slice(),
+                form: *form,
+                sizes: *sizes,
+            };
+            print_buckets(alloc, file, *slot, &wanted, out)
+        }
         Job::Keys {
             file: _,
             slot,
@@ -94,8 +101,12 @@ fn do_job<O: Sink, T: SnapshotSink>(
             prefix,
             form,
         } => {
-            let (path, prefix) = (path.as_slice(), prefix.as_slice());
-            print_keys(alloc, file, *slot, path, prefix, *form, out)
+            let wanted = WantedKeys {
+                path: path.as_slice(),
+                prefix: prefix.as_slice(),
+                form: *form,
+            };
+            print_keys(alloc, file, *slot, &wanted, out)
         }
         Job::Get {
             file: _,
@@ -103,7 +114,14 @@ fn do_job<O: Sink, T: SnapshotSink>(
             path,
             form,
             no_newline,
-        } => print_value(alloc, file, *slot, path.as_slice(), *form, *no_newline, out),
+        } => {
+            let wanted = WantedValue {
+                path: path.as_slice(),
+                form: *form,
+                no_newline: *no_newline,
+            };
+            print_value(alloc, file, *slot, &wanted, out)
+        }
         Job::List {
             file: _,
             slot,

@@ -4,6 +4,8 @@
 #[derive(Clone, Copy, Debug)]
 pub(crate) struct Operand {
     pub name: &'static str,
+    /// What help calls it.
+    pub shown: &'static str,
     /// Whether it is one word, or as many as follow.
     pub several: bool,
     pub required: bool,
@@ -46,6 +48,7 @@ pub(crate) struct Syntax {
 
 const FILE: Operand = Operand {
     name: "FILE",
+    shown: "FILE",
     several: false,
     required: true,
     help: "The database file, which is never written to",
@@ -53,6 +56,7 @@ const FILE: Operand = Operand {
 
 const ID: Operand = Operand {
     name: "ID",
+    shown: "ID",
     several: false,
     required: true,
     help: "The page number, in decimal",
@@ -60,6 +64,7 @@ const ID: Operand = Operand {
 
 const BUCKET_PART: Operand = Operand {
     name: "PART",
+    shown: "BUCKET",
     several: true,
     required: true,
     help: "The path to the bucket: the names of buckets, from the root bucket down",
@@ -67,6 +72,7 @@ const BUCKET_PART: Operand = Operand {
 
 const KEY_PART: Operand = Operand {
     name: "PART",
+    shown: "KEY",
     several: true,
     required: true,
     help: "The path to the key: the names of buckets, from the root bucket down, and then the key",
@@ -74,6 +80,7 @@ const KEY_PART: Operand = Operand {
 
 const BUCKET_IN: Operand = Operand {
     name: "PART",
+    shown: "BUCKET",
     several: true,
     required: false,
     help: "The path to a bucket: the names of buckets, from the root bucket down [default: the root bucket]",
@@ -107,7 +114,7 @@ const PREFIX: Choice = Choice {
     name: "prefix",
     flag: Flag::Long("prefix"),
     value: Some("K"),
-    help: "Print only the keys that begin with K, which is written as each PART is",
+    help: "Print only the keys that begin with K, which is written as the path is",
     required: false,
 };
 
@@ -123,7 +130,7 @@ const PARTS: Choice = Choice {
     name: "parts",
     flag: Flag::Long("parts"),
     value: Some("P"),
-    help: "How each PART is written: text or hex [default: text]",
+    help: "How the path is written: text or hex [default: text]",
     required: false,
 };
 

@@ -4,50 +4,19 @@ ghost use Rattle.clap.specs.Words.{fault_of, found_of, kind_of, rows_of, subcomm
 ghost use Rattle.bolt_cli.specs.CommandLine.{Asks, Gives, HasKindOf, IsRefusalOf, IsRefusedBy, asked_by, asked_by_subcommand, program, values_in};
 ghost use Rattle.bolt_cli.specs.LineWords.{Text};
 ghost use Rattle.bolt_cli.specs.PlainWords.{Asked, IsInRange, asked, asked_of, asks, asks_buckets, asks_check, asks_compact, asks_get, asks_info, asks_keys, asks_list, asks_page, asks_pages, asks_stats, first_of, form_by, form_of, copy_kind_by, line_of, list_form_by, number_of, page_id, page_size_by, page_size_of, path_by, path_in, prefix_by, size_in, slot_by, text_by, words_for};
-ghost use Rattle.bolt_cli.specs.declared.words.Refusal.TheVariants.{Memory};
+ghost use Rattle.bolt_cli.specs.declared.refusal.Refusal.TheVariants.{Memory};
 
 use crate::command_line;
 use crate::copy_kind::CopyKind;
 use crate::job::Job;
 use crate::page_size::PageSize;
 use crate::path_words::{read_from, read_parts, read_path, read_prefix};
+use crate::refusal::Refusal;
 use bolt_format::Slot;
 use bolt_report::{Form, ListForm};
 use clap::error::ErrorKind;
 use clap::{ArgMatches, Error};
-use std::alloc::{AllocError, AllocFailed, Global};
-
-/// Why words aren't a job.
-#[derive(Debug, Drop)]
-pub enum Refusal {
-    /// Memory ran out.
-    Memory,
-    /// Help was asked for. This is its text.
-    Help(String),
-    /// The version was asked for. This is its line.
-    Version(String),
-    /// The words are no line of a command. This text says why.
-    Usage(String),
-    /// The words are a line of a command, but one of them can't be read. This says what is wrong
-    /// with it.
-    Word(&'static str),
-}
-
-impl From<AllocError> for Refusal {
-    ghost from_gives = { λ _ refusal. refusal ≡ Memory };
-
-    fn from(_error: AllocError) -> Refusal {
-        Refusal::Memory
-    }
-}
-
-impl<T: Drop> From<AllocFailed<T>> for Refusal {
-    ghost from_gives = { λ _ refusal. refusal ≡ Memory };
-
-    fn from(_error: AllocFailed<T>) -> Refusal {
-        Refusal::Memory
-    }
-}
+use std::alloc::{AllocError, Global};
 
 /// Reads the words of a command line. The first one is the program's name. docs/COMMANDS.md has the
 /// commands, and says how each word is written.

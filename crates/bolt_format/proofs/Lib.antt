@@ -3,6 +3,8 @@ pub mod FaultLemmas
 mod FreeLemmas
 mod GoodPages
 pub mod ListLemmas
+pub mod NumberLemmas
+pub mod PageSizes
 mod MetaFaultLemmas
 mod MetaLemmas
 mod MetaPrefix
@@ -10,3 +12,5 @@ pub mod PageFacts
 pub mod PageLaws
 pub mod SinkLemmas
 pub mod WriteLemmas
+pub mod WrittenHeaders
+pub mod WrittenMetas

@@ -1,19 +1,17 @@
 -- The metas of a file lie in a prefix of it.
-use Rattle.std.proofs.Common.{◌≡◌, ◌∙◌, ◌⊎◌, ◌==◌, ℕ, zero, suc, ◌+◌, ◌-◌, ◌*◌, ◌^◌, ◌≤◌, List, [], ◌∷◌, map, take, drop, IsTrue, arith, sym, ap, inl, inr, subst, refl}
-use Rattle.std.specs.List.{AllByRecursion, list_any, range_with_len}
-use Rattle.std.proofs.Math.Nat.{pow-le-pow_right}
-use Rattle.std.proofs.lemmas.Bool.{eqb-true, or_cases}
+use Rattle.std.proofs.Common.{◌≡◌, ◌∙◌, ◌⊎◌, ℕ, ◌+◌, ◌-◌, ◌≤◌, List, take, drop, arith, sym, ap, inl, inr, subst, refl}
 use Rattle.std.proofs.lemmas.List.{drop-take, length-take, take-take}
 use Rattle.byteorder.specs.Endian.{little_number}
 use Rattle.byteorder.specs.Numbers.{little_from-take}
 use Rattle.bolt_format.specs.Bytes.{fnv_of, number_at}
-use Rattle.bolt_format.specs.Metas.{HasMetaFault, HasSlotFault, IsChosen, IsInOne, IsInSlot, IsLoneMeta, IsMeta, IsPageSize, IsPlaced, IsWhole, meta_fields, other_slot, page_size_count, page_sizes, size_at}
+use Rattle.bolt_format.specs.Metas.{HasMetaFault, HasSlotFault, IsChosen, IsInOne, IsInSlot, IsLoneMeta, IsMeta, IsPageSize, IsPlaced, IsWhole, meta_fields, other_slot, size_at}
 use Rattle.bolt_format.specs.declared.meta.Meta.{Meta}
 use Rattle.bolt_format.specs.declared.meta.MetaFault.{MetaFault}
 use Rattle.bolt_format.specs.declared.meta.MetaFault.TheVariants.{Cut, Magic, Version, Sum, PageSize}
 use Rattle.bolt_format.specs.declared.meta.Slot.{Slot}
 use Rattle.bolt_format.specs.declared.meta.Slot.TheVariants.{Zero, One}
 use Rattle.bolt_format.specs.declared.meta.TheConstants.{METAS_END}
+use Rattle.bolt_format.proofs.PageSizes.{size_bounds}
 
 -- ---- two files with the same record at a byte
 
@@ -140,26 +138,9 @@ same_record file end at h =
       hashed = prefix_hashed file end (at + 16) 56 (omega (arith, h));
     }
 
--- an accepted page size is at most the greatest of the table
-sizes_below : (k n : ℕ) → k + n ≤ page_size_count → AllByRecursion (λ size. size ≤ 33554432) (map (λ k. 1024 * 2 ^ k) (range_with_len k n))
-sizes_below k zero h = tt
-sizes_below k (suc n) h =
-    let high : 2 ^ k ≤ 2 ^ 15 = pow-le-pow_right {n = 2} (omega arith) {i = k} {j = 15} (omega arith) in
-    (omega arith, sizes_below (k + 1) n (omega arith))
-
-one_below : (sizes : List ℕ) (n : ℕ) → AllByRecursion (λ size. size ≤ 33554432) sizes → IsTrue (list_any (λ size. size == n) sizes) → n ≤ 33554432
-one_below [] n all h = absurd (cc)
-one_below (x ∷ sizes) n all h = elim (or_cases (x == n) (list_any (λ size. size == n) sizes) h) [
-  | inl same ↦ (let e = eqb-true x n same in let a = all.0 in omega arith)
-  | inr rest ↦ one_below sizes n all.1 rest
-]
-
-size_below : (n : ℕ) → IsPageSize n → n ≤ 33554432
-size_below n h = one_below page_sizes n (sizes_below 0 page_size_count (omega arith)) h
-
 pub same_metas : (file : List ℕ) → SameMetas file (take METAS_END file)
 same_metas file at (inl first) = same_record file METAS_END at (omega (arith, first))
-same_metas file at (inr size) = same_record file METAS_END at (omega (arith, size_below at size))
+same_metas file at (inr size) = same_record file METAS_END at (omega (arith, size_bounds at size))
 
 pub metas_same : (file : List ℕ) → SameMetas (take METAS_END file) file
 metas_same file = metas_back file (take METAS_END file) (same_metas file)

@@ -3,7 +3,8 @@
 use Rattle.std.specs.Prelude.{◌≡◌, ◌==◌, ℕ, zero, suc, ◌+◌, ◌*◌, Bool, not, ◌||◌, nat_lt, List, map, length, drop, Option, Some, None, if◌then◌else◌, is_some, slice_range}
 use Rattle.std.specs.List.{list_any, range_with_len}
 use Rattle.bolt_format.specs.Bytes.{number_at}
-use Rattle.bolt_format.specs.Headers.{count_field, flags_field}
+use Rattle.bolt_format.specs.Headers.{count_field, flags_field, flags_of}
+use Rattle.bolt_format.specs.declared.kind.Kind.TheVariants as kind
 use Rattle.bolt_format.specs.declared.fault.TheConstants.PageFault.{ELEMENT_CUT, DATA_ORDER, KEY_LENGTH, VALUE_LENGTH, LEAF_FLAGS, BUCKET_SHORT, INLINE_PAGE, INLINE_NESTED}
 
 -- the first fault of two
@@ -154,7 +155,7 @@ head_fault value = if nat_lt (length value) 16 then Some BUCKET_SHORT else None
 -- The page in the value of a bucket whose root is 0 has the header of a leaf, and its elements are good.
 abbrev pub inline_page_fault : List ℕ → Option ℕ
 inline_page_fault bytes =
-    if nat_lt (length bytes) 16 || (not (flags_field bytes == 2) || is_some (leaves_fault head_fault bytes (count_field bytes))) then Some INLINE_PAGE
+    if nat_lt (length bytes) 16 || (not (flags_field bytes == flags_of kind.Leaf) || is_some (leaves_fault head_fault bytes (count_field bytes))) then Some INLINE_PAGE
     else None
 
 abbrev pub has_bucket : List ℕ → ℕ → Bool

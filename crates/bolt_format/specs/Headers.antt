@@ -18,10 +18,16 @@ abbrev pub overflow_field : List ℕ → ℕ
 overflow_field bytes = number_at bytes 12 4
 
 -- flags are exactly one of four
+abbrev pub flags_of : Kind → ℕ
+flags_of kind.Branch = 0x01
+flags_of kind.Leaf = 0x02
+flags_of kind.Meta = 0x04
+flags_of kind.Freelist = 0x10
+
 abbrev pub kind_of : ℕ → Option Kind
 kind_of flags =
-    if flags == 0x01 then Some kind.Branch
-    else (if flags == 0x02 then Some kind.Leaf
-    else (if flags == 0x04 then Some kind.Meta
-    else (if flags == 0x10 then Some kind.Freelist
+    if flags == flags_of kind.Branch then Some kind.Branch
+    else (if flags == flags_of kind.Leaf then Some kind.Leaf
+    else (if flags == flags_of kind.Meta then Some kind.Meta
+    else (if flags == flags_of kind.Freelist then Some kind.Freelist
     else None)))

@@ -7,8 +7,10 @@ pub mod Headers
 pub mod Metas
 pub mod Pages
 pub mod Private
+pub mod ReadBack
 pub mod Shown
 pub mod ShownIds
 pub mod ShownInline
 pub mod Sinks
 pub mod Writes
+pub mod Written

@@ -22,11 +22,17 @@ IsPageSize n = IsTrue (list_any (λ size. size == n) page_sizes)
 abbrev pub IsWhole : List ℕ → ℕ → Type 0
 IsWhole file at = at + 80 ≤ length file
 
+abbrev pub magic : ℕ
+magic = 0xED0CDAED
+
 abbrev pub HasMagic : List ℕ → ℕ → Type 0
-HasMagic file at = number_at file (at + 16) 4 ≡ 0xED0CDAED
+HasMagic file at = number_at file (at + 16) 4 ≡ magic
+
+abbrev pub version : ℕ
+version = 2
 
 abbrev pub HasVersion : List ℕ → ℕ → Type 0
-HasVersion file at = number_at file (at + 20) 4 ≡ 2
+HasVersion file at = number_at file (at + 20) 4 ≡ version
 
 -- the checksum is that of the 56 bytes before it
 abbrev pub HasSum : List ℕ → ℕ → Type 0

@@ -6,8 +6,8 @@ ghost use Rattle.bolt_format.specs.ElementPlaces.{leaf_view};
 
 use crate::element::{Leaf, leaf_at};
 
-/// The bytes of a bucket's value before its inline page.
-pub(crate) const HEAD_LEN: usize = 16;
+/// The length of a bucket's root page and sequence, with which its value begins.
+pub const HEAD_LEN: usize = 16;
 
 /// The first 16 bytes of a bucket's value (docs/FORMAT.md, "Buckets").
 #[derive(Clone, Copy, Debug, PartialEq, Eq)]

@@ -9,7 +9,7 @@ use crate::bucket::HEAD_LEN;
 use crate::bytes::u64_at;
 use crate::element::{is_bucket, test_branch, test_leaf, test_table};
 use crate::fault::PageFault;
-use crate::header::{HEADER_LEN, Header, LEAF_FLAGS};
+use crate::header::{HEADER_LEN, Header};
 use crate::kind::Kind;
 
 /// Tests the content of a page: its elements, if it is a branch or a leaf.
@@ -111,7 +111,7 @@ fn test_inline_page(bytes: &[u8]) -> Result<u16, u8>
         return Err(PageFault::INLINE_PAGE);
     }
     let header = Header::read(bytes);
-    if header.flags != LEAF_FLAGS {
+    if header.flags != Kind::Leaf.flags() {
         return Err(PageFault::INLINE_PAGE);
     }
     match test_inline_leaves(bytes, header.count) {

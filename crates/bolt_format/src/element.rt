@@ -7,15 +7,16 @@ ghost use Rattle.bolt_format.specs.ElementPlaces.{IsBranchPlace, IsLeafPlace, br
 
 use crate::bytes::{u32_at, u64_at};
 use crate::fault::PageFault;
+use crate::header::HEADER_LEN;
 
-/// The length of an element's header, and of the page header before the table.
-const ELEMENT_LEN: usize = 16;
+/// The length of an element's header.
+pub const ELEMENT_LEN: usize = 16;
 /// The length of the longest key.
 const MAX_KEY_LEN: usize = 0x4000_0000;
 /// The length of the longest value.
 const MAX_VALUE_LEN: usize = 0x7FFF_FFFE;
 /// The flags of a leaf element that is a bucket.
-const BUCKET_FLAGS: u32 = 1;
+pub(crate) const BUCKET_FLAGS: u32 = 1;
 
 /// An element of a branch page. It leads to a child, whose keys are not below `key`.
 #[derive(Clone, Copy, Debug)]
@@ -54,7 +55,7 @@ pub(crate) struct LeafPlace {
 pub(crate) fn element_offset(i: u16) -> usize
     ensures { result ≡ element_at i }
 {
-    ELEMENT_LEN + ELEMENT_LEN * usize::from(i)
+    HEADER_LEN + ELEMENT_LEN * usize::from(i)
 }
 
 /// Tests that a table of elements lies within the bytes, and returns where it ends.

@@ -6,10 +6,7 @@ use crate::bytes::{u16_at, u32_at, u64_at};
 use crate::kind::Kind;
 
 /// The length of a page's header.
-pub(crate) const HEADER_LEN: usize = 16;
-
-/// The flags of a page that holds leaf elements.
-pub(crate) const LEAF_FLAGS: u16 = 0x02;
+pub const HEADER_LEN: usize = 16;
 
 /// The fields of a page's header (docs/FORMAT.md, "Page header").
 #[derive(Clone, Copy)]
@@ -45,12 +42,6 @@ impl Header {
     pub fn kind(self) -> Option<Kind>
         ensures { result ≡ kind_of self.flags }
     {
-        match self.flags {
-            0x01 => Some(Kind::Branch),
-            LEAF_FLAGS => Some(Kind::Leaf),
-            0x04 => Some(Kind::Meta),
-            0x10 => Some(Kind::Freelist),
-            _ => None,
-        }
+        Kind::from_flags(self.flags)
     }
 }

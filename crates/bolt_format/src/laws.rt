@@ -1,10 +1,13 @@
-//! What the definitions of metas and of pages imply.
-ghost use Rattle.std.specs.Prelude.{◌≡◌, ◌↔◌, ℕ, false, IsTrue, List, Some, Contains, take};
+//! What the definitions of metas and of pages imply, and that what is written reads back.
+ghost use Rattle.std.specs.Prelude.{◌≡◌, ◌⊎◌, ◌↔◌, ◌<◌, ◌≤◌, ◌^◌, ℕ, ◌+◌, ◌++◌, Bool, false, IsTrue, List, Some, Contains, drop, length, take};
 ghost use Rattle.bolt_format.specs.Bytes.{IsBytes};
 ghost use Rattle.bolt_format.specs.ElementLengths.{HasFitLengths};
-ghost use Rattle.bolt_format.specs.Elements.{IsBucketValue, LeafElement, head_root, inline_elements};
+ghost use Rattle.bolt_format.specs.Elements.{IsBucketValue, LeafElement, element_at, head_root, inline_elements};
 ghost use Rattle.bolt_format.specs.Metas.{HasMetaFault, HasSlotFault, IsChosen, IsInSlot, IsMeta};
 ghost use Rattle.bolt_format.specs.Pages.{PageView, page_at};
+ghost use Rattle.bolt_format.specs.ReadBack.{IsBranchHeader, IsBranchHeaderFit, IsHead, IsHeader, IsHeaderFit, IsLeafHeader, IsLeafHeaderFit, IsMetaFit};
+ghost use Rattle.bolt_format.specs.Written.{branch_header, head_bytes, header_bytes, leaf_header, meta_bytes};
+ghost use Rattle.bolt_format.specs.declared.kind.Kind.{Kind};
 ghost use Rattle.bolt_format.specs.declared.kind.Kind.TheVariants as kind;
 ghost use Rattle.bolt_format.specs.declared.meta.Meta.{Meta};
 ghost use Rattle.bolt_format.specs.declared.meta.MetaFault.{MetaFault};
@@ -52,4 +55,33 @@ pub fn good_elements_fit()
         → IsBytes e.value }
     ensures inline { (value : List ℕ) (e : LeafElement) → IsBucketValue value → head_root value ≡ 0
         → Contains (inline_elements value) e → HasFitLengths e × (e.is_bucket ≡ false) }
+{}
+
+/// The header of a page reads back: its number, its kind, its count and its overflow.
+pub fn page_headers_read_back()
+    ensures { (bytes rest : List ℕ) (number : ℕ) (is : Kind) (count overflow : ℕ)
+        → bytes ≡ header_bytes number is count overflow ++ rest → IsHeaderFit number count overflow
+        → IsHeader bytes number is count overflow × (drop 16 bytes ≡ rest) }
+{}
+
+/// The headers of elements read back.
+pub fn element_headers_read_back()
+    ensures branch { (bytes rest : List ℕ) (i pos key child : ℕ)
+        → drop (element_at i) bytes ≡ branch_header pos key child ++ rest → IsBranchHeaderFit pos key child
+        → IsBranchHeader bytes i pos key child × (drop (element_at (i + 1)) bytes ≡ rest) }
+    ensures leaf { (bytes rest : List ℕ) (i : ℕ) (is_bucket : Bool) (pos key value : ℕ)
+        → drop (element_at i) bytes ≡ leaf_header is_bucket pos key value ++ rest → IsLeafHeaderFit pos key value
+        → IsLeafHeader bytes i is_bucket pos key value × (drop (element_at (i + 1)) bytes ≡ rest) }
+{}
+
+/// The head of a bucket's value reads back: its root page and its sequence.
+pub fn bucket_heads_read_back()
+    ensures { (value rest : List ℕ) (root sequence : ℕ) → value ≡ head_bytes root sequence ++ rest
+        → root < 2 ^ 64 → sequence < 2 ^ 64 → IsHead value root sequence rest }
+{}
+
+/// A meta page is a valid meta with these fields, at byte 0 and at its page size.
+pub fn meta_pages_are_valid()
+    ensures { (file rest : List ℕ) (at number : ℕ) (meta : Meta) → drop at file ≡ meta_bytes number meta ++ rest
+        → IsMetaFit meta → (at ≡ 0) ⊎ (at ≡ meta.page_size) → at ≤ length file → IsMeta file at meta }
 {}

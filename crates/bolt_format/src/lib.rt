@@ -1,5 +1,6 @@
-//! The bytes of a bbolt database file: metas, pages and elements, and the sinks that output is
-//! written to. The crates above this one see what a page shows, not how it is laid out.
+//! The bytes of a bbolt database file, read and written: metas, pages and elements; and the sinks
+//! that output is written to. The crates above this one see what a page shows, not how it is laid
+//! out.
 #![tactic(auto)]
 
 mod bucket;
@@ -20,21 +21,24 @@ mod open_freelist;
 mod open_page;
 mod sink;
 mod write_sink;
+mod written;
 
-pub use bucket::{Head, Inline};
+pub use bucket::{HEAD_LEN, Head, Inline};
 pub use checksum::fnv1a;
-pub use element::{Branch, Leaf};
+pub use element::{Branch, ELEMENT_LEN, Leaf};
 pub use fault::PageFault;
 pub use freelist::FreeIds;
 pub use good_page::Page;
+pub use header::HEADER_LEN;
 pub use kind::Kind;
 pub use mem_sink::MemSink;
 pub use meta::{
-    METAS_END, Meta, MetaFault, NO_FREELIST, PAGE_SIZES, Slot, choose, meta_at, page_size_ok,
-    slot_meta,
+    META_LEN, METAS_END, Meta, MetaFault, NO_FREELIST, PAGE_SIZES, Slot, choose, meta_at,
+    page_size_ok, slot_meta,
 };
 pub use open_bucket::{head, inline};
 pub use open_freelist::free_ids;
 pub use open_page::{known, page};
 pub use sink::{Sink, SinkFault};
 pub use write_sink::WriteSink;
+pub use written::{branch_header, bucket_head, leaf_header, meta_page, page_header};

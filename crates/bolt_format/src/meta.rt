@@ -19,11 +19,11 @@ pub const METAS_END: u64 = 33_554_512;
 pub const NO_FREELIST: u64 = u64::MAX;
 
 /// The length of a page header and a meta record.
-const META_LEN: usize = 80;
+pub const META_LEN: usize = 80;
 
-const MAGIC: u32 = 0xED0C_DAED;
+pub(crate) const MAGIC: u32 = 0xED0C_DAED;
 
-const VERSION: u32 = 2;
+pub(crate) const VERSION: u32 = 2;
 
 /// The fields of a meta record: the state of the database at one commit (docs/FORMAT.md, "Meta
 /// pages").

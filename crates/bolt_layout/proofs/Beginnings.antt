@@ -16,12 +16,15 @@ use Rattle.bolt_check.specs.Findings.{PageTests, finding}
 use Rattle.bolt_check.specs.Nodes.{node_at}
 use Rattle.bolt_check.specs.Sound.{IsFirstFinding, IsRefused}
 use Rattle.bolt_check.specs.declared.fault.CheckFault.TheVariants.{Structure}
-use Rattle.bolt_check.specs.Ways.{At_page, start_of}
-use Rattle.bolt_layout.specs.PageBytes.{header_bytes, meta_bytes}
+use Rattle.bolt_check.specs.Ways.{At_page, root_spot}
+use Rattle.bolt_format.specs.Written.{header_bytes, meta_bytes}
 use Rattle.bolt_layout.specs.Layout.{layout_mark, layout_of, layout_root, placed_bytes}
 use Rattle.bolt_layout.specs.Copies.{IsAsked, RefusesBeginnings}
-use Rattle.bolt_layout.proofs.PageLemmas.{IsHeaderFit, header_written, length-header_bytes}
-use Rattle.bolt_layout.proofs.MetaLemmas.{chosen_of, length-meta_bytes, meta_of, meta_written, size_bounds}
+use Rattle.bolt_format.specs.ReadBack.{IsHeaderFit}
+use Rattle.bolt_format.proofs.WrittenHeaders.{header_written, length-header_bytes}
+use Rattle.bolt_format.proofs.WrittenMetas.{chosen_of, length-meta_bytes, meta_written}
+use Rattle.bolt_layout.specs.PageBytes.{meta_of}
+use Rattle.bolt_format.proofs.PageSizes.{size_bounds}
 use Rattle.bolt_layout.proofs.PageRows.{IsInARow, IsPageFit, last_written, page_headed, row_last}
 use Rattle.bolt_layout.proofs.Soundness.{IsLaidOut, laid_out}
 use Rattle.bolt_layout.specs.Laid.{Placed}
@@ -43,19 +46,19 @@ cut_short file meta id below short =
     let t2 : nat_lt (length file) (id * meta.page_size + 16) ≡ true = lt-ltb (length file) (id * meta.page_size + 16) short in
     rw (t1, t2) refl
 
-cut_late : (file : List ℕ) (meta : Meta) (id flag n more : ℕ) (is : Kind) (behind : List ℕ) → drop (id * meta.page_size) file ≡ header_bytes id flag n more ++ behind
-    → IsHeaderFit id flag n more → kind_of flag ≡ Some is → id + more < meta.high_water → id * meta.page_size + 16 ≤ length file
+cut_late : (file : List ℕ) (meta : Meta) (id : ℕ) (is : Kind) (n more : ℕ) (behind : List ℕ) → drop (id * meta.page_size) file ≡ header_bytes id is n more ++ behind
+    → IsHeaderFit id n more → id + more < meta.high_water → id * meta.page_size + 16 ≤ length file
     → length file < (id + 1 + more) * meta.page_size → span_fault file meta id ≡ Some CUT
 unfolding span_fault
-cut_late file meta id flag n more is behind h fit known below header short =
+cut_late file meta id is n more behind h fit below header short =
     let size : ℕ = meta.page_size in
-    let read = (header_written (from_page file meta id) behind id flag n more h fit).0 in
+    let read = (header_written (from_page file meta id) behind id is n more h fit).0 in
     let same : page_overflow file meta id ≡ more = read.overflow in
     let end : (id + 1 + page_overflow file meta id) * size ≡ (id + 1 + more) * size = ap (λ (m : ℕ). (id + 1 + m) * size) same in
     let t1 : nat_le meta.high_water id ≡ false = lt-leb meta.high_water id (omega arith) in
     let t2 : nat_lt (length file) (id * size + 16) ≡ false = le-ltb (length file) (id * size + 16) header in
     let t3 : (id_field (from_page file meta id) == id) ≡ true = eq-eqb (id_field (from_page file meta id)) id read.id in
-    let t4 : is_some (kind_of (flags_field (from_page file meta id))) ≡ true = ap (λ (o : Option Kind). is_some o) (ap kind_of read.flags ∙ known) in
+    let t4 : is_some (kind_of (flags_field (from_page file meta id))) ≡ true = ap (λ (o : Option Kind). is_some o) read.kind in
     let t5 : nat_le meta.high_water (id + page_overflow file meta id) ≡ false = lt-leb meta.high_water (id + page_overflow file meta id) (omega arith) in
     let t6 : nat_lt (length file) ((id + 1 + page_overflow file meta id) * size) ≡ true = lt-ltb (length file) ((id + 1 + page_overflow file meta id) * size) (omega arith) in
     rw (t1, t2, t3, t4, t5, t6) refl
@@ -69,9 +72,9 @@ cut_node file meta id h = rw h refl
 cut_first : (file : List ℕ) (meta : Meta) → node_at file meta meta.root ≡ Err CUT → IsFirstFinding file meta (finding CUT meta.root)
 cut_first file meta h = record {
   way = [];
-  spot = At_page (start_of meta.root);
+  spot = At_page (root_spot meta.root);
   leads = refl;
-  told = PageTests.early (rw h refl);
+  reported = PageTests.early (rw h refl);
   none_before = λ v s y less. absurd less;
 }
 
@@ -123,16 +126,16 @@ root_cut which page_size tree sequence n txid size laid less =
     let begins = here ∙ head.begins in
     let below = laid.below in
     let place : own.number * page_size ≡ root * page_size = ap (λ (m : ℕ). m * page_size) number in
-    let at : drop (root * page_size) file ≡ header_bytes root head.flag head.n own.view.overflow ++ head.behind =
-    subst (λ (m : ℕ). drop (m * page_size) file ≡ header_bytes m head.flag head.n own.view.overflow ++ head.behind) number begins in
+    let at : drop (root * page_size) file ≡ header_bytes root head.is head.n own.view.overflow ++ head.behind =
+    subst (λ (m : ℕ). drop (m * page_size) file ≡ header_bytes m head.is head.n own.view.overflow ++ head.behind) number begins in
     let end : (root + 1 + own.view.overflow) * page_size ≡ mark * page_size = (let e : root + 1 + own.view.overflow ≡ mark = omega arith in ap (λ (m : ℕ). m * page_size) e) in
-    let l = length-header_bytes root head.flag head.n own.view.overflow in
+    let l = length-header_bytes root head.is head.n own.view.overflow in
     cut_node torn meta root (elim (cases_lt n (root * page_size + 16)) [
       | inl short ↦ cut_short torn meta root below (omega arith)
       | inr enough ↦
-          let torn_at = cut_front file (header_bytes root head.flag head.n own.view.overflow) head.behind (root * page_size) n at (omega arith) in
-          let fits2 : IsHeaderFit root head.flag head.n own.view.overflow = record { id = omega arith; flags = head.small_flag; count = head.few; overflow = head.narrow } in
-          cut_late torn meta root head.flag head.n own.view.overflow head.is _ torn_at fits2 head.known (omega arith) (omega arith) (omega arith)
+          let torn_at = cut_front file (header_bytes root head.is head.n own.view.overflow) head.behind (root * page_size) n at (omega arith) in
+          let fits2 : IsHeaderFit root head.n own.view.overflow = record { id = omega arith; count = head.few; overflow = head.narrow } in
+          cut_late torn meta root head.is head.n own.view.overflow _ torn_at fits2 (omega arith) (omega arith) (omega arith)
     ])
 
 first_there : (which : Layout) (page_size : ℕ) (tree : Tree) (sequence n : ℕ) → IsLaidOut which page_size tree sequence → n < length (layout_of which page_size tree sequence) → 80 ≤ n
@@ -141,10 +144,10 @@ first_there which page_size tree sequence n laid less whole =
     let file : List ℕ = layout_of which page_size tree sequence in
     let root : ℕ = layout_root which page_size tree in
     let mark : ℕ = layout_mark which page_size tree in
-    let l = length-meta_bytes page_size root sequence mark 0 in
+    let l = length-meta_bytes 0 (meta_of page_size root sequence mark 0) in
     let fit = laid.fits in
-    meta_written (take n file) _ 0 page_size root sequence mark 0 (cut_front file (meta_bytes page_size root sequence mark 0) laid.file.behind_first 0 n laid.file.first_bytes (omega arith))
-    (record { size = fit.size; root_fits = fit.root_fits; sequence_fits = fit.sequence_fits; mark_fits = fit.mark_fits; txid_fits = omega arith }) (inl refl) (omega arith)
+    meta_written (take n file) _ 0 0 (meta_of page_size root sequence mark 0) (cut_front file (meta_bytes 0 (meta_of page_size root sequence mark 0)) laid.file.behind_first 0 n laid.file.first_bytes (omega arith))
+    (record { size = fit.size; root = fit.root; sequence = fit.sequence; freelist = fit.freelist; mark = fit.mark; txid = omega arith }) (inl refl) (omega arith)
 
 second_there : (which : Layout) (page_size : ℕ) (tree : Tree) (sequence n : ℕ) → IsLaidOut which page_size tree sequence → n < length (layout_of which page_size tree sequence) → page_size + 80 ≤ n
     → IsMeta (take n (layout_of which page_size tree sequence)) page_size (meta_of page_size (layout_root which page_size tree) sequence (layout_mark which page_size tree) 1)
@@ -152,9 +155,9 @@ second_there which page_size tree sequence n laid less whole =
     let file : List ℕ = layout_of which page_size tree sequence in
     let root : ℕ = layout_root which page_size tree in
     let mark : ℕ = layout_mark which page_size tree in
-    let l = length-meta_bytes page_size root sequence mark 1 in
+    let l = length-meta_bytes 1 (meta_of page_size root sequence mark 1) in
     let cut : length (take n file) ≡ n = length-take n file ∙ omega arith in
-    meta_written (take n file) _ page_size page_size root sequence mark 1 (cut_front file (meta_bytes page_size root sequence mark 1) laid.file.behind_second page_size n laid.file.second_bytes (omega arith))
+    meta_written (take n file) _ page_size 1 (meta_of page_size root sequence mark 1) (cut_front file (meta_bytes 1 (meta_of page_size root sequence mark 1)) laid.file.behind_second page_size n laid.file.second_bytes (omega arith))
     laid.fits (inr refl) (omega arith)
 
 torn_root : (which : Layout) (page_size : ℕ) (tree : Tree) (sequence n : ℕ) → IsPageSize page_size → IsLaidOut which page_size tree sequence → n < length (layout_of which page_size tree sequence) → 80 ≤ n

@@ -3,10 +3,13 @@ use Rattle.std.proofs.Common.{◌≡◌, ◌∙◌, ℕ, suc, ◌+◌, ◌-◌, 
 use Rattle.std.specs.List.{AllByRecursion, range_with_len, slice_range}
 use Rattle.std.proofs.lemmas.Bool.{le-ltb}
 use Rattle.std.proofs.lemmas.List.{length-append}
-use Rattle.bolt_format.specs.Elements.{BranchElement, branch_child, branch_element, branch_elements, branch_end, branch_fault, branch_key_length, branch_key_start, branches_fault, element_at, faults_from, key_length_fault, table_fault}
-use Rattle.bolt_layout.specs.PageBytes.{number_bytes, branch_bytes, branch_header, branch_headers, branch_data, key_pos}
-use Rattle.bolt_layout.proofs.NumberLemmas.{length-number_bytes, number_read, number_next, part_next, part_read, part_within}
+use Rattle.bolt_format.specs.Elements.{BranchElement, branch_element, branch_elements, branch_end, branch_fault, branch_key_length, branch_key_start, branches_fault, element_at, faults_from, key_length_fault, table_fault}
+use Rattle.bolt_format.specs.Written.{branch_header}
+use Rattle.bolt_layout.specs.PageBytes.{branch_bytes, branch_headers, branch_data, key_pos}
+use Rattle.bolt_format.proofs.NumberLemmas.{part_next, part_read, part_within}
 use Rattle.bolt_format.proofs.FaultLemmas.{first_of-both}
+use Rattle.bolt_format.specs.ReadBack.{IsBranchHeader}
+use Rattle.bolt_format.proofs.WrittenHeaders.{branch_header_written, length-branch_header}
 use Rattle.bolt_layout.proofs.LeafLemmas.{data_passes, key_passes}
 
 pub record IsBranchFit (e : BranchElement) : Type 0 where
@@ -14,40 +17,18 @@ pub record IsBranchFit (e : BranchElement) : Type 0 where
   pub key : length e.key ≤ 0x40000000
   pub child : e.child < 256 ^ 8
 
--- the numbers of element i
-record IsBranchHead (bytes : List ℕ) (i pos : ℕ) (e : BranchElement) : Type 0 where
-  pub start : branch_key_start bytes i ≡ element_at i + pos
-  pub key : branch_key_length bytes i ≡ length e.key
-  pub child : branch_child bytes i ≡ e.child
-
-branch_head : (bytes rest : List ℕ) (i pos : ℕ) (e : BranchElement) → drop (element_at i) bytes ≡ branch_header pos e ++ rest
-    → pos < 0x100000000 → IsBranchFit e → IsBranchHead bytes i pos e × (drop (element_at (suc i)) bytes ≡ rest)
-unfolding branch_header branch_key_start branch_key_length branch_child
-branch_head bytes rest i pos e h small fit =
-    let d0 : drop (element_at i) bytes ≡ number_bytes 4 pos ++ (number_bytes 4 (length e.key) ++ (number_bytes 8 e.child ++ rest)) = h ∙ simp append_assoc in
-    let d1 = number_next bytes _ (element_at i) 4 pos (element_at i + 4) d0 refl in
-    let d2 = number_next bytes _ (element_at i + 4) 4 (length e.key) (element_at i + 8) d1 (omega arith) in
-    let d3 = number_next bytes rest (element_at i + 8) 8 e.child (element_at (suc i)) d2 (omega arith) in
-    let key = fit.key in (
-      record {
-        start = ap (λ (n : ℕ). element_at i + n) (number_read bytes _ (element_at i) 4 pos d0 (omega arith));
-        key = number_read bytes _ (element_at i + 4) 4 (length e.key) d1 (omega arith);
-        child = number_read bytes rest (element_at i + 8) 8 e.child d2 fit.child;
-      },
-      d3,
-    )
-
 record IsBranchRead (bytes : List ℕ) (i end : ℕ) (e : BranchElement) : Type 0 where
   pub element : branch_element bytes i ≡ e
   pub ends : branch_end bytes i ≡ end
   pub passes : (free : ℕ) → free ≤ branch_key_start bytes i → branch_fault bytes free i ≡ None
 
-same_branch : (a b : BranchElement) → a.key ≡ b.key → a.child ≡ b.child → a ≡ b
+-- elements with the same key and child are the same
+pub same_branch : (a b : BranchElement) → a.key ≡ b.key → a.child ≡ b.child → a ≡ b
 same_branch a b p q =
     let f : List ℕ → ℕ → BranchElement = λ x y. record { key = x; child = y } in
     ap (λ (x : List ℕ). f x a.child) p ∙ ap (f b.key) q
 
-branch_read : (bytes rest : List ℕ) (i pos : ℕ) (e : BranchElement) → IsBranchHead bytes i pos e → IsBranchFit e
+branch_read : (bytes rest : List ℕ) (i pos : ℕ) (e : BranchElement) → IsBranchHeader bytes i pos (length e.key) e.child → IsBranchFit e
     → drop (element_at i + pos) bytes ≡ e.key ++ rest → element_at i + pos ≤ length bytes
     → IsBranchRead bytes i (element_at i + pos + length e.key) e
 unfolding branch_fault
@@ -65,20 +46,12 @@ branch_read bytes rest i pos e head fit text within =
           (data_passes bytes free (branch_key_start bytes i) (branch_end bytes i) before (omega arith));
     }
 
-length-branch_header : (pos : ℕ) (e : BranchElement) → length (branch_header pos e) ≡ 16
-unfolding branch_header
-length-branch_header pos e =
-    let a = length-number_bytes 4 pos in
-    let b = length-number_bytes 4 (length e.key) in
-    let c = length-number_bytes 8 e.child in
-    simp length-append (omega (arith, a, b, c))
-
 pub length-branch_headers : (before : ℕ) (es : List BranchElement) → length (branch_headers before es) ≡ 16 * length es
 length-branch_headers before [] = refl
 length-branch_headers before (e ∷ es) =
-    let h = length-branch_header (key_pos (e ∷ es) before) e in
+    let h = length-branch_header (key_pos (e ∷ es) before) (length e.key) e.child in
     let r = length-branch_headers (before + length e.key) es in
-    length-append (branch_header (key_pos (e ∷ es) before) e) (branch_headers (before + length e.key) es) ∙ omega arith
+    length-append (branch_header (key_pos (e ∷ es) before) (length e.key) e.child) (branch_headers (before + length e.key) es) ∙ omega arith
 
 branch_run : (bytes : List ℕ) (es : List BranchElement) (i before free : ℕ) (tail rest : List ℕ)
     → drop (element_at i) bytes ≡ branch_headers before es ++ tail
@@ -92,9 +65,11 @@ branch_run bytes [] i before free tail rest heads text fits small within first =
 branch_run bytes (e ∷ es) i before free tail rest heads text fits small within first =
     let pos : ℕ = key_pos (e ∷ es) before in
     let fit : IsBranchFit e = fits.0 in
-    let regrouped : drop (element_at i) bytes ≡ branch_header pos e ++ (branch_headers (before + length e.key) es ++ tail) = heads ∙ append_assoc (branch_header pos e) _ tail in
+    let regrouped : drop (element_at i) bytes ≡ branch_header pos (length e.key) e.child ++ (branch_headers (before + length e.key) es ++ tail) = heads ∙ append_assoc (branch_header pos (length e.key) e.child) _ tail in
     let data_length : length (branch_data (e ∷ es)) ≡ length e.key + length (branch_data es) = length-append e.key (branch_data es) in
-    let head = branch_head bytes _ i pos e regrouped (omega arith) fit in
+    let key = fit.key in
+    let head = branch_header_written bytes _ i pos (length e.key) e.child regrouped (record { start = omega arith; key = omega arith; child = fit.child }) in
+    let next : drop (element_at (suc i)) bytes ≡ branch_headers (before + length e.key) es ++ tail = ap (λ (k : ℕ). drop (element_at k) bytes) (sym (add-one i)) ∙ head.1 in
     let place : element_at (i + length (e ∷ es)) + before ≡ element_at i + pos = omega arith in
     let here : drop (element_at i + pos) bytes ≡ e.key ++ (branch_data es ++ rest) =
     ap (λ (n : ℕ). drop n bytes) (sym place) ∙ (text ∙ append_assoc e.key (branch_data es) rest) in
@@ -103,7 +78,7 @@ branch_run bytes (e ∷ es) i before free tail rest heads text fits small within
     let behind : drop (element_at (suc i + length es) + (before + length e.key)) bytes ≡ branch_data es ++ rest =
     part_next bytes e.key (branch_data es ++ rest) (element_at i + pos) _ here (omega arith) in
     let ends = one.ends in
-    let more = branch_run bytes es (suc i) (before + length e.key) (branch_end bytes i) tail rest head.1 behind fits.1 (omega arith) (omega arith) (omega arith) in
+    let more = branch_run bytes es (suc i) (before + length e.key) (branch_end bytes i) tail rest next behind fits.1 (omega arith) (omega arith) (omega arith) in
     let start = head.0.start in
     let elements : map (branch_element bytes) (range_with_len (i + 1) (length es)) ≡ es = ap (λ (k : ℕ). map (branch_element bytes) (range_with_len k (length es))) (add-one i) ∙ more.0 in (
       ap (λ (x : BranchElement). x ∷ map (branch_element bytes) (range_with_len (i + 1) (length es))) one.element ∙ ap (λ (xs : List BranchElement). e ∷ xs) elements,

@@ -22,7 +22,7 @@ use Rattle.bolt_layout.specs.Storable.{IsStorable}
 use Rattle.bolt_layout.proofs.Cutting.{branches_divide, branches_halve, cut_divides}
 use Rattle.bolt_layout.proofs.ListLemmas.{all_split}
 use Rattle.bolt_layout.proofs.OverRows.{pages_count, runs_numbers, runs_some}
-use Rattle.bolt_layout.proofs.MetaLemmas.{size_bounds}
+use Rattle.bolt_format.proofs.PageSizes.{size_bounds}
 use Rattle.bolt_layout.proofs.Soundness.{layout_length}
 use Rattle.bolt_layout.specs.declared.layout.Layout.{Layout}
 

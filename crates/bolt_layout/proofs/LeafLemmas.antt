@@ -1,12 +1,15 @@
 -- The elements of a leaf page that was written are read back, and pass their tests.
-use Rattle.std.proofs.Common.{◌≡◌, ◌∙◌, ℕ, suc, ◌+◌, ◌-◌, ◌*◌, ◌^◌, ◌<◌, ◌≤◌, ◌==◌, nat_lt, Bool, true, false, cond, List, [], ◌∷◌, ◌++◌, length, map, drop, take, Option, None, refl, sym, ap, arith, append_assoc, add-one}
+use Rattle.std.proofs.Common.{◌≡◌, ◌∙◌, ℕ, suc, ◌+◌, ◌-◌, ◌*◌, ◌<◌, ◌≤◌, ◌==◌, nat_lt, Bool, true, false, cond, List, [], ◌∷◌, ◌++◌, length, map, drop, take, Option, None, refl, sym, ap, arith, append_assoc, add-one}
 use Rattle.std.specs.List.{AllByRecursion, range_with_len, slice_range}
 use Rattle.std.proofs.lemmas.Bool.{le-ltb, ne_eqb}
 use Rattle.std.proofs.lemmas.List.{length-append}
 use Rattle.bolt_format.specs.Elements.{LeafElement, leaf_elements, leaves_fault, table_fault, data_fault, element_at, faults_from, is_bucket_at, key_length_fault, leaf_element, leaf_end, leaf_fault, leaf_flags, leaf_flags_fault, leaf_key_length, leaf_key_start, leaf_value, leaf_value_length, leaf_value_start, plain_leaf_fault, value_length_fault}
 use Rattle.bolt_format.proofs.FaultLemmas.{first_of-both}
-use Rattle.bolt_layout.specs.PageBytes.{number_bytes, leaf_bytes, leaf_flag, leaf_header, leaf_headers, leaf_data, key_pos}
-use Rattle.bolt_layout.proofs.NumberLemmas.{length-number_bytes, number_read, number_next, part_next, part_read, part_within}
+use Rattle.bolt_format.specs.Written.{leaf_flag, leaf_header}
+use Rattle.bolt_layout.specs.PageBytes.{leaf_bytes, leaf_headers, leaf_data, key_pos}
+use Rattle.bolt_format.proofs.NumberLemmas.{part_next, part_read, part_within}
+use Rattle.bolt_format.specs.ReadBack.{IsLeafHeader}
+use Rattle.bolt_format.proofs.WrittenHeaders.{leaf_header_written, length-leaf_header}
 
 -- an element whose numbers pass the tests
 pub record IsLeafFit (bucket_fault : List ℕ → Option ℕ) (e : LeafElement) : Type 0 where
@@ -15,45 +18,10 @@ pub record IsLeafFit (bucket_fault : List ℕ → Option ℕ) (e : LeafElement) 
   pub value : length e.value ≤ 0x7FFFFFFE
   pub bucket : e.is_bucket ≡ true → bucket_fault e.value ≡ None
 
--- the numbers of element i
-record IsLeafHead (bytes : List ℕ) (i pos : ℕ) (e : LeafElement) : Type 0 where
-  pub flags : leaf_flags bytes i ≡ leaf_flag e.is_bucket
-  pub start : leaf_key_start bytes i ≡ element_at i + pos
-  pub key : leaf_key_length bytes i ≡ length e.key
-  pub value : leaf_value_length bytes i ≡ length e.value
-
-flag_small : (b : Bool) → leaf_flag b < 256 ^ 4
-flag_small true = omega arith
-flag_small false = omega arith
-
--- the header's four numbers
-leaf_head : (bytes rest : List ℕ) (i pos : ℕ) (e : LeafElement) → drop (element_at i) bytes ≡ leaf_header pos e ++ rest
-    → pos < 0x100000000 → length e.key ≤ 0x40000000 → length e.value ≤ 0x7FFFFFFE
-    → IsLeafHead bytes i pos e × (drop (element_at (suc i)) bytes ≡ rest)
-unfolding leaf_header leaf_flags leaf_key_start leaf_key_length leaf_value_length
-leaf_head bytes rest i pos e h small key value =
-    let d0 : drop (element_at i) bytes ≡ number_bytes 4 (leaf_flag e.is_bucket) ++ (number_bytes 4 pos ++ (number_bytes 4 (length e.key) ++ (number_bytes 4 (length e.value) ++ rest))) = h ∙ simp append_assoc in
-    let d1 = number_next bytes _ (element_at i) 4 (leaf_flag e.is_bucket) (element_at i + 4) d0 refl in
-    let d2 = number_next bytes _ (element_at i + 4) 4 pos (element_at i + 8) d1 (omega arith) in
-    let d3 = number_next bytes _ (element_at i + 8) 4 (length e.key) (element_at i + 12) d2 (omega arith) in
-    let d4 = number_next bytes rest (element_at i + 12) 4 (length e.value) (element_at (suc i)) d3 (omega arith) in (
-      record {
-        flags = number_read bytes _ (element_at i) 4 (leaf_flag e.is_bucket) d0 (flag_small e.is_bucket);
-        start = ap (λ (n : ℕ). element_at i + n) (number_read bytes _ (element_at i + 4) 4 pos d1 (omega arith));
-        key = number_read bytes _ (element_at i + 8) 4 (length e.key) d2 (omega arith);
-        value = number_read bytes _ (element_at i + 12) 4 (length e.value) d3 (omega arith);
-      },
-      d4,
-    )
-
 -- its tests
 flags_pass : (b : Bool) → leaf_flags_fault (leaf_flag b) ≡ None
 flags_pass true = refl
 flags_pass false = refl
-
-flag_bucket : (b : Bool) → (leaf_flag b == 1) ≡ b
-flag_bucket true = refl
-flag_bucket false = refl
 
 pub key_passes : (n : ℕ) → 1 ≤ n → n ≤ 0x40000000 → key_length_fault n ≡ None
 key_passes n some most =
@@ -85,7 +53,7 @@ same_leaf a b p q r =
     let f : List ℕ → List ℕ → Bool → LeafElement = λ x y z. record { key = x; value = y; is_bucket = z } in
     ap (λ (x : List ℕ). f x a.value a.is_bucket) p ∙ (ap (λ (y : List ℕ). f b.key y a.is_bucket) q ∙ ap (f b.key b.value) r)
 
-leaf_read : (bucket_fault : List ℕ → Option ℕ) (bytes rest : List ℕ) (i pos : ℕ) (e : LeafElement) → IsLeafHead bytes i pos e → IsLeafFit bucket_fault e
+leaf_read : (bucket_fault : List ℕ → Option ℕ) (bytes rest : List ℕ) (i pos : ℕ) (e : LeafElement) → IsLeafHeader bytes i e.is_bucket pos (length e.key) (length e.value) → IsLeafFit bucket_fault e
     → drop (element_at i + pos) bytes ≡ e.key ++ (e.value ++ rest) → element_at i + pos ≤ length bytes
     → IsLeafRead bucket_fault bytes i (element_at i + pos + (length e.key + length e.value)) e
 unfolding plain_leaf_fault
@@ -100,7 +68,7 @@ leaf_read bucket_fault bytes rest i pos e head fit text within =
     ap (λ (n : ℕ). take (leaf_value_start bytes i - leaf_key_start bytes i) (drop n bytes)) start ∙ part_read bytes e.key (e.value ++ rest) (element_at i + pos) (leaf_value_start bytes i - leaf_key_start bytes i) text (let k = head.key in omega arith) in
     let value : leaf_value bytes i ≡ e.value =
     ap (λ (n : ℕ). take (leaf_end bytes i - leaf_value_start bytes i) (drop n bytes)) middle ∙ part_read bytes e.value rest (element_at i + pos + length e.key) (leaf_end bytes i - leaf_value_start bytes i) behind (let k = head.value in omega arith) in
-    let bucket : is_bucket_at bytes i ≡ e.is_bucket = ap (λ (n : ℕ). n == 1) head.flags ∙ flag_bucket e.is_bucket in
+    let bucket = head.bucket in
     record {
       element = same_leaf (leaf_element bytes i) e key value bucket;
       ends = end;
@@ -113,21 +81,12 @@ leaf_read bucket_fault bytes rest i pos e head fit text within =
           (chosen_none (is_bucket_at bytes i) (bucket_fault (leaf_value bytes i)) (λ h. ap bucket_fault value ∙ fit.bucket (sym bucket ∙ h)));
     }
 
-pub length-leaf_header : (pos : ℕ) (e : LeafElement) → length (leaf_header pos e) ≡ 16
-unfolding leaf_header
-length-leaf_header pos e =
-    let a = length-number_bytes 4 (leaf_flag e.is_bucket) in
-    let b = length-number_bytes 4 pos in
-    let c = length-number_bytes 4 (length e.key) in
-    let d = length-number_bytes 4 (length e.value) in
-    simp length-append (omega (arith, a, b, c, d))
-
 pub length-leaf_headers : (before : ℕ) (es : List LeafElement) → length (leaf_headers before es) ≡ 16 * length es
 length-leaf_headers before [] = refl
 length-leaf_headers before (e ∷ es) =
-    let h = length-leaf_header (key_pos (e ∷ es) before) e in
+    let h = length-leaf_header e.is_bucket (key_pos (e ∷ es) before) (length e.key) (length e.value) in
     let r = length-leaf_headers (before + (length e.key + length e.value)) es in
-    length-append (leaf_header (key_pos (e ∷ es) before) e) (leaf_headers (before + (length e.key + length e.value)) es) ∙ omega arith
+    length-append (leaf_header e.is_bucket (key_pos (e ∷ es) before) (length e.key) (length e.value)) (leaf_headers (before + (length e.key + length e.value)) es) ∙ omega arith
 
 -- Elements es from number i on, where those before them have this much data: they are read, and pass.
 leaf_run : (bucket_fault : List ℕ → Option ℕ) (bytes : List ℕ) (es : List LeafElement) (i before free : ℕ) (tail rest : List ℕ)
@@ -142,9 +101,12 @@ leaf_run bucket_fault bytes [] i before free tail rest heads text fits small wit
 leaf_run bucket_fault bytes (e ∷ es) i before free tail rest heads text fits small within first =
     let pos : ℕ = key_pos (e ∷ es) before in
     let fit : IsLeafFit bucket_fault e = fits.0 in
-    let regrouped : drop (element_at i) bytes ≡ leaf_header pos e ++ (leaf_headers (before + (length e.key + length e.value)) es ++ tail) = heads ∙ append_assoc (leaf_header pos e) _ tail in
+    let regrouped : drop (element_at i) bytes ≡ leaf_header e.is_bucket pos (length e.key) (length e.value) ++ (leaf_headers (before + (length e.key + length e.value)) es ++ tail) = heads ∙ append_assoc (leaf_header e.is_bucket pos (length e.key) (length e.value)) _ tail in
     let data_length : length (leaf_data (e ∷ es)) ≡ length e.key + (length e.value + length (leaf_data es)) = length-append e.key (e.value ++ leaf_data es) ∙ ap (λ (n : ℕ). length e.key + n) (length-append e.value (leaf_data es)) in
-    let head = leaf_head bytes _ i pos e regrouped (omega arith) fit.key fit.value in
+    let key = fit.key in
+    let value = fit.value in
+    let head = leaf_header_written bytes _ i e.is_bucket pos (length e.key) (length e.value) regrouped (record { start = omega arith; key = omega arith; value = omega arith }) in
+    let next : drop (element_at (suc i)) bytes ≡ leaf_headers (before + (length e.key + length e.value)) es ++ tail = ap (λ (k : ℕ). drop (element_at k) bytes) (sym (add-one i)) ∙ head.1 in
     let place : element_at (i + length (e ∷ es)) + before ≡ element_at i + pos = omega arith in
     let here : drop (element_at i + pos) bytes ≡ e.key ++ (e.value ++ (leaf_data es ++ rest)) =
     ap (λ (n : ℕ). drop n bytes) (sym place) ∙ (text ∙ (append_assoc e.key (e.value ++ leaf_data es) rest ∙ ap (λ (xs : List ℕ). e.key ++ xs) (append_assoc e.value (leaf_data es) rest))) in
@@ -155,7 +117,7 @@ leaf_run bucket_fault bytes (e ∷ es) i before free tail rest heads text fits s
     let behind : drop (element_at (suc i + length es) + (before + (length e.key + length e.value))) bytes ≡ leaf_data es ++ rest =
     part_next bytes e.value (leaf_data es ++ rest) (element_at i + pos + length e.key) _ behind_key (omega arith) in
     let ends = one.ends in
-    let more = leaf_run bucket_fault bytes es (suc i) (before + (length e.key + length e.value)) (leaf_end bytes i) tail rest head.1 behind fits.1 (omega arith) (omega arith) (omega arith) in
+    let more = leaf_run bucket_fault bytes es (suc i) (before + (length e.key + length e.value)) (leaf_end bytes i) tail rest next behind fits.1 (omega arith) (omega arith) (omega arith) in
     let start = head.0.start in
     let elements : map (leaf_element bytes) (range_with_len (i + 1) (length es)) ≡ es = ap (λ (k : ℕ). map (leaf_element bytes) (range_with_len k (length es))) (add-one i) ∙ more.0 in (
       ap (λ (x : LeafElement). x ∷ map (leaf_element bytes) (range_with_len (i + 1) (length es))) one.element ∙ ap (λ (xs : List LeafElement). e ∷ xs) elements,

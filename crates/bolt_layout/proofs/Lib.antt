@@ -1,10 +1,11 @@
 mod Beginnings
 mod BranchPages
 mod FileTrees
+mod FullPages
 mod HeldBounds
 mod Holding
+mod InlineLemmas
 mod KeyLaws
-mod LaidItems
 mod LaidPages
 mod LeafPages
 mod Parts
@@ -19,17 +20,15 @@ pub mod BalancedRows
 pub mod BranchLemmas
 pub mod Cutting
 pub mod Faces
+pub mod LaidItems
 pub mod LastItem
 pub mod LeafLemmas
 pub mod LimitedRows
 pub mod ListLemmas
-pub mod MetaLemmas
 pub mod NotMuchLarger
-pub mod NumberLemmas
 pub mod OneCut
 pub mod OpenedBuckets
 pub mod OverRows
-pub mod PageLemmas
 pub mod PageRows
 pub mod PlainNumbers
 pub mod PlainRows

@@ -15,7 +15,7 @@ use Rattle.bolt_layout.proofs.Faces.{Face, face, face_size, map_cut, sum_map}
 use Rattle.bolt_layout.proofs.HeldBounds.{level_numbers}
 use Rattle.bolt_layout.proofs.LaidItems.{IsItem}
 use Rattle.bolt_layout.proofs.ListLemmas.{all_weaker}
-use Rattle.bolt_layout.proofs.MetaLemmas.{largest_page, size_bounds}
+use Rattle.bolt_format.proofs.PageSizes.{largest_page, size_bounds}
 use Rattle.bolt_layout.proofs.OverRows.{HasShortKey}
 use Rattle.bolt_layout.proofs.PlainNumbers.{leaves_numbers, plain_most}
 use Rattle.bolt_layout.proofs.SameFaces.{inline_alike, items_alike}

@@ -1,19 +1,19 @@
 -- Pages in a row: each begins where the span of the one before it ends. In the file each shows what was written.
-use Rattle.std.proofs.Common.{◌≡◌, ◌∙◌, ◌⊎◌, ℕ, ◌+◌, ◌-◌, ◌*◌, ◌^◌, ◌/◌, ◌<◌, ◌≤◌, List, [], ◌∷◌, ◌++◌, length, drop, replicate, Some, refl, sym, ap, subst, inl, inr, arith, append_assoc}
+use Rattle.std.proofs.Common.{◌≡◌, ◌∙◌, ◌⊎◌, ℕ, ◌+◌, ◌-◌, ◌*◌, ◌^◌, ◌/◌, ◌<◌, ◌≤◌, List, [], ◌∷◌, ◌++◌, length, drop, replicate, sym, ap, subst, inl, inr, arith, append_assoc}
 use Rattle.std.specs.List.{AllByRecursion}
 use Rattle.std.proofs.Math.Nat.{add-mul, div-add-mod', div-le_self, mod-lt}
 use Rattle.bolt_format.specs.Elements.{BranchElement, LeafElement, value_fault}
 use Rattle.bolt_format.specs.Pages.{PageView}
-use Rattle.bolt_format.specs.Headers.{kind_of}
 use Rattle.bolt_format.specs.declared.kind.Kind.{Kind}
 use Rattle.bolt_format.specs.declared.kind.Kind.TheVariants as kind
 use Rattle.bolt_format.specs.declared.meta.Meta.{Meta}
-use Rattle.bolt_layout.specs.PageBytes.{branch_data, branch_bytes, content_bytes, header_bytes, leaf_bytes, leaf_data, page_bytes}
+use Rattle.bolt_layout.specs.PageBytes.{branch_data, branch_bytes, content_bytes, leaf_bytes, leaf_data, page_bytes}
+use Rattle.bolt_format.specs.Written.{header_bytes}
 use Rattle.bolt_layout.specs.Layout.{placed_bytes}
-use Rattle.bolt_layout.proofs.NumberLemmas.{part_next, part_within}
+use Rattle.bolt_format.proofs.NumberLemmas.{part_next, part_within}
 use Rattle.bolt_layout.proofs.LeafLemmas.{IsLeafFit}
 use Rattle.bolt_layout.proofs.BranchLemmas.{IsBranchFit}
-use Rattle.bolt_layout.proofs.PageLemmas.{length-header_bytes}
+use Rattle.bolt_format.proofs.WrittenHeaders.{length-header_bytes}
 use Rattle.bolt_layout.proofs.SpanLemmas.{IsShown, branch_shown, leaf_shown, length-branch_bytes, length-filled, length-leaf_bytes}
 use Rattle.std.proofs.lemmas.List.{length-append}
 use Rattle.bolt_layout.specs.Laid.{Placed}
@@ -63,16 +63,16 @@ HasRoom page_size page = length (content_bytes page.view.kind page.number page.v
 pub leaf_room : (page_size number further : ℕ) (es : List LeafElement) → 16 + (16 * length es + length (leaf_data es)) ≤ (1 + further) * page_size
     → HasRoom page_size (record { number = number; view = leaf_view further es })
 leaf_room page_size number further es room =
-    let a = length-header_bytes number 2 (length es) further in
+    let a = length-header_bytes number kind.Leaf (length es) further in
     let b = length-leaf_bytes es in
-    let c = length-append (header_bytes number 2 (length es) further) (leaf_bytes es) in omega arith
+    let c = length-append (header_bytes number kind.Leaf (length es) further) (leaf_bytes es) in omega arith
 
 pub branch_room : (page_size number further : ℕ) (es : List BranchElement) → 16 + (16 * length es + length (branch_data es)) ≤ (1 + further) * page_size
     → HasRoom page_size (record { number = number; view = branch_view further es })
 branch_room page_size number further es room =
-    let a = length-header_bytes number 1 (length es) further in
+    let a = length-header_bytes number kind.Branch (length es) further in
     let b = length-branch_bytes es in
-    let c = length-append (header_bytes number 1 (length es) further) (branch_bytes es) in omega arith
+    let c = length-append (header_bytes number kind.Branch (length es) further) (branch_bytes es) in omega arith
 
 fit_room : (page_size : ℕ) (page : Placed) → IsPageFit page_size page → HasRoom page_size page
 fit_room page_size page (inl leaf) =
@@ -166,13 +166,10 @@ last_written file page_size from to (page ∷ front) own rest row fits h =
 
 -- A page begins with its header.
 pub record IsHeaded (bytes : List ℕ) (page : Placed) : Type 0 where
-  pub flag : ℕ
-  pub n : ℕ
   pub is : Kind
+  pub n : ℕ
   pub behind : List ℕ
-  pub begins : bytes ≡ header_bytes page.number flag n page.view.overflow ++ behind
-  pub known : kind_of flag ≡ Some is
-  pub small_flag : flag < 256 ^ 2
+  pub begins : bytes ≡ header_bytes page.number is n page.view.overflow ++ behind
   pub few : n < 256 ^ 2
   pub narrow : page.view.overflow < 256 ^ 4
 
@@ -180,16 +177,13 @@ leaf_headed : (page_size number further : ℕ) (es : List LeafElement) (rest : L
     → IsHeaded (page_bytes page_size number (leaf_view further es) ++ rest) (record { number = number; view = leaf_view further es })
 unfolding page_bytes
 leaf_headed page_size number further es rest few narrow =
-    let content : List ℕ = header_bytes number 2 (length es) further ++ leaf_bytes es in
+    let content : List ℕ = header_bytes number kind.Leaf (length es) further ++ leaf_bytes es in
     let zeros : List ℕ = replicate ((1 + further) * page_size - length content) 0 in
     record {
-      flag = 2;
-      n = length es;
       is = kind.Leaf;
+      n = length es;
       behind = leaf_bytes es ++ (zeros ++ rest);
-      begins = append_assoc content zeros rest ∙ append_assoc (header_bytes number 2 (length es) further) (leaf_bytes es) (zeros ++ rest);
-      known = refl;
-      small_flag = omega arith;
+      begins = append_assoc content zeros rest ∙ append_assoc (header_bytes number kind.Leaf (length es) further) (leaf_bytes es) (zeros ++ rest);
       few = few;
       narrow = narrow;
     }
@@ -198,16 +192,13 @@ branch_headed : (page_size number further : ℕ) (es : List BranchElement) (rest
     → IsHeaded (page_bytes page_size number (branch_view further es) ++ rest) (record { number = number; view = branch_view further es })
 unfolding page_bytes
 branch_headed page_size number further es rest few narrow =
-    let content : List ℕ = header_bytes number 1 (length es) further ++ branch_bytes es in
+    let content : List ℕ = header_bytes number kind.Branch (length es) further ++ branch_bytes es in
     let zeros : List ℕ = replicate ((1 + further) * page_size - length content) 0 in
     record {
-      flag = 1;
-      n = length es;
       is = kind.Branch;
+      n = length es;
       behind = branch_bytes es ++ (zeros ++ rest);
-      begins = append_assoc content zeros rest ∙ append_assoc (header_bytes number 1 (length es) further) (branch_bytes es) (zeros ++ rest);
-      known = refl;
-      small_flag = omega arith;
+      begins = append_assoc content zeros rest ∙ append_assoc (header_bytes number kind.Branch (length es) further) (branch_bytes es) (zeros ++ rest);
       few = few;
       narrow = narrow;
     }

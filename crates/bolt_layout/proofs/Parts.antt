@@ -3,9 +3,10 @@ use Rattle.std.proofs.Common.{◌≡◌, ◌∙◌, ℕ, zero, suc, ◌+◌, ◌
 use Rattle.std.proofs.lemmas.Bool.{cases_lt, cases_order}
 use Rattle.bolt_check.specs.Nodes.{IsInSpan, Node, Nodes}
 use Rattle.bolt_check.specs.Keys.{Key}
-use Rattle.bolt_check.specs.Ways.{At_inline, At_page, Before, PageSpot, SpanHas, SpanOf, Spot, follow, reached, start_of, step}
+use Rattle.bolt_check.specs.Ways.{At_inline, At_page, Before, PageSpot, SpanHas, SpanOf, Spot, follow, reached, root_spot, step}
 use Rattle.bolt_check.proofs.WayOrder.{before_irreflexive}
 use Rattle.bolt_check.specs.Findings.{IsClaimedBefore, IsClean, IsMetaPage, Passes, node_finding, early_finding, inline_finding}
+use Rattle.bolt_check.proofs.Forest.{follow_none}
 
 -- the tests that look at one page alone
 pub record IsFinePage (nodes : Nodes) (s : PageSpot) : Type 0 where
@@ -37,10 +38,6 @@ AreParts nodes (o ∷ os) from to = (mid : ℕ) × IsPartOrNone nodes o from mid
 abbrev pub spot_in : Option (Option Spot) → Option Spot
 spot_in None = None
 spot_in (Some o) = o
-
-follow_none : (nodes : Nodes) (way : List ℕ) → follow nodes None way ≡ None
-follow_none nodes [] = refl
-follow_none nodes (i ∷ way) = follow_none nodes way
 
 nothing : (nodes : Nodes) (way : List ℕ) (n : ℕ) → SpanHas nodes (follow nodes None way) n → ⊥
 nothing nodes way n h = let none : SpanHas nodes None n = subst (λ (o : Option Spot). SpanHas nodes o n) (follow_none nodes way) h in none
@@ -206,7 +203,7 @@ part_page nodes s node os from page early content steps parts =
     }
 
 -- A part that begins above the meta pages and is the tree of the root is clean.
-clean_page : (nodes : Nodes) (root from to : ℕ) → IsPart nodes (At_page (start_of root)) from to → 2 ≤ from
+clean_page : (nodes : Nodes) (root from to : ℕ) → IsPart nodes (At_page (root_spot root)) from to → 2 ≤ from
     → (way : List ℕ) (t : Spot) → reached nodes root way ≡ Some t → Passes nodes (IsClaimedBefore nodes (reached nodes root) IsMetaPage way) t
 clean_page nodes root from to part above way (At_inline host keys) e = part.passes way (At_inline host keys) e
 clean_page nodes root from to part above way (At_page s) e =
@@ -225,5 +222,5 @@ clean_page nodes root from to part above way (At_page s) e =
       content = fine.content;
     }
 
-pub part_clean : (nodes : Nodes) (root from to : ℕ) → IsPart nodes (At_page (start_of root)) from to → 2 ≤ from → IsClean nodes (reached nodes root) IsMetaPage
+pub part_clean : (nodes : Nodes) (root from to : ℕ) → IsPart nodes (At_page (root_spot root)) from to → 2 ≤ from → IsClean nodes (reached nodes root) IsMetaPage
 part_clean nodes root from to part above = record { passes = clean_page nodes root from to part above }

@@ -213,11 +213,6 @@ pub limits_alike : (page_size : ℕ) (plain balanced : List (Laid BranchElement)
     → HaveRightLimits Balanced page_size (limit_at (limits_told false rows)) balanced
 limits_alike page_size plain balanced rows told same = rows_limited page_size rows false plain balanced told same
 
--- so for the row itself.
-pub right_limits : (page_size : ℕ) (pages : List (Laid BranchElement)) (rows : List (ℕ × ℕ)) → AreTold page_size pages rows
-    → HaveRightLimits Balanced page_size (limit_at (limits_told false rows)) pages
-right_limits page_size pages rows told = limits_alike page_size pages pages rows told refl
-
 -- The plain rows need no limit.
 pub plain_limits : (page_size : ℕ) (pages : List (Laid BranchElement)) → HaveRightLimits Plain page_size (λ k. None) pages
 plain_limits page_size pages k = row_free page_size size_of (level_up Plain page_size k pages)

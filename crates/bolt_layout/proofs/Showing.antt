@@ -15,16 +15,17 @@ use Rattle.bolt_tree.proofs.Lists.{contains_cases, contains_none}
 use Rattle.bolt_layout.specs.Items.{bucket_item, holds_bucket, is_inline, items_of, stored_bucket}
 use Rattle.bolt_layout.specs.Laid.{Laid, elements_of}
 use Rattle.bolt_layout.specs.Levels.{root_over}
-use Rattle.bolt_layout.specs.PageBytes.{inline_value, root_value}
+use Rattle.bolt_layout.specs.PageBytes.{inline_value}
+use Rattle.bolt_format.specs.Written.{head_bytes}
 use Rattle.bolt_layout.specs.Storable.{HasLengths, RisesInside, keys_in}
 use Rattle.bolt_layout.proofs.Holding.{AreOf, ArePages, Holds, over_holds}
 use Rattle.bolt_layout.proofs.KeyLaws.{IsBelowItem, Rise}
 use Rattle.bolt_layout.proofs.LaidItems.{IsItem}
 use Rattle.bolt_layout.proofs.LaidPages.{limit}
 use Rattle.bolt_layout.proofs.ListLemmas.{all_weaker}
-use Rattle.bolt_layout.proofs.MetaLemmas.{largest_page}
+use Rattle.bolt_format.proofs.PageSizes.{largest_page}
 use Rattle.bolt_layout.proofs.OverRows.{HasShortKey, IsAtMost, root_is_over}
-use Rattle.bolt_layout.proofs.PageLemmas.{head_written}
+use Rattle.bolt_format.proofs.WrittenHeaders.{head_written}
 use Rattle.bolt_layout.proofs.TreeItems.{inline_read, root_page, tree_items, tree_rise}
 use Rattle.bolt_layout.specs.declared.layout.Layout.{Layout}
 
@@ -133,12 +134,12 @@ module _ (file : List ℕ) (meta : Meta) where
       let (height, low, page) = root_page which page_size items sized small all rise in
       let c = page.child n in
       let child : ℕ = (root.element n).child in
-      let value : List ℕ = root_value child sequence in
+      let value : List ℕ = head_bytes child sequence in
       let head = head_written value [] child sequence (sym (append-nil value)) (omega arith) narrow in
       let held = root_holds which page_size n items small all some room shown in
-      let there = subst (λ (s : Start). AreEntries (IsEntry file meta) s held.es) (sym (root_start value child head.0 (omega arith)))
+      let there = subst (λ (s : Start). AreEntries (IsEntry file meta) s held.es) (sym (root_start value child head.root (omega arith)))
       (held_entries page_size child items held all rise) in
-      subst (ShowsBucket key sequence inside) (sym same) (refl, refl, head.1, (held.es, there, ih held.es held.are))
+      subst (ShowsBucket key sequence inside) (sym same) (refl, refl, head.sequence, (held.es, there, ih held.es held.are))
 
   stored_shows : (which : Layout) (page_size sequence n : ℕ) (key : Key) (inside : Tree) (e : LeafElement) → 0 < page_size → page_size ≤ largest_page → sequence < 256 ^ 8 → HasLengths inside
       → AllByRecursion (IsItem page_size) (items_of which page_size inside) → Rise (items_of which page_size inside)

@@ -14,7 +14,7 @@ use Rattle.bolt_layout.specs.Layout.{layout_meta, layout_of, layout_pages, layou
 use Rattle.bolt_layout.specs.Storable.{IsStorable}
 use Rattle.bolt_layout.proofs.Holding.{ArePages}
 use Rattle.bolt_layout.proofs.ListLemmas.{all_weaker}
-use Rattle.bolt_layout.proofs.MetaLemmas.{size_bounds}
+use Rattle.bolt_format.proofs.PageSizes.{size_bounds}
 use Rattle.bolt_layout.proofs.Showing.{root_tree}
 use Rattle.bolt_layout.proofs.Soundness.{IsSoundLayout, PassingIsSound, laid_out, layout_sound}
 use Rattle.bolt_layout.proofs.SpanLemmas.{IsShown}

@@ -13,13 +13,17 @@ use Rattle.bolt_format.specs.declared.meta.Slot.TheVariants.{One}
 use Rattle.bolt_check.specs.Accounts.{IsInUse, ListsFree, times_in}
 use Rattle.bolt_check.specs.Nodes.{node_at, node_of, node_seen}
 use Rattle.bolt_check.specs.Sound.{HasRightAccounts, HasSoundTrees, IsUsed, PassesTests}
-use Rattle.bolt_check.specs.Ways.{At_page, start_of}
-use Rattle.bolt_layout.specs.PageBytes.{freelist_page, header_bytes, meta_bytes, meta_page}
+use Rattle.bolt_check.specs.Ways.{At_page, root_spot}
+use Rattle.bolt_layout.specs.PageBytes.{freelist_page, meta_page, meta_of}
+use Rattle.bolt_format.specs.Written.{header_bytes, meta_bytes}
 use Rattle.bolt_layout.specs.Layout.{file_bytes, layout_mark, layout_meta, layout_of, layout_pages, layout_root, placed_bytes}
-use Rattle.bolt_layout.proofs.NumberLemmas.{part_next}
-use Rattle.bolt_layout.proofs.PageLemmas.{length-header_bytes}
+use Rattle.bolt_format.proofs.NumberLemmas.{part_next}
+use Rattle.bolt_format.proofs.WrittenHeaders.{length-header_bytes}
 use Rattle.bolt_layout.proofs.SpanLemmas.{IsEmptyFreelist, IsShown, freelist_shown, length-filled}
-use Rattle.bolt_layout.proofs.MetaLemmas.{IsMetaFit, chosen_of, length-meta_bytes, meta_of, meta_written, size_bounds}
+use Rattle.bolt_format.specs.ReadBack.{IsMetaFit}
+use Rattle.bolt_format.proofs.WrittenMetas.{chosen_of, length-meta_bytes, meta_written}
+use Rattle.bolt_format.proofs.PageSizes.{size_bounds}
+use Rattle.bolt_format.specs.declared.kind.Kind.TheVariants as kind
 use Rattle.bolt_layout.proofs.Parts.{IsPart, part_clean}
 use Rattle.bolt_layout.proofs.PageRows.{IsInARow, IsPageFit, length-placed, row_shown}
 use Rattle.bolt_layout.proofs.LeafPages.{IsPage}
@@ -36,26 +40,26 @@ use Rattle.bolt_layout.specs.declared.layout.Layout.{Layout}
 length-meta_page : (page_size root sequence mark txid : ℕ) → 80 ≤ page_size → length (meta_page page_size root sequence mark txid) ≡ page_size
 unfolding meta_page
 length-meta_page page_size root sequence mark txid room =
-    let a = length-meta_bytes page_size root sequence mark txid in
-    length-filled page_size (meta_bytes page_size root sequence mark txid) (omega arith)
+    let a = length-meta_bytes txid (meta_of page_size root sequence mark txid) in
+    length-filled page_size (meta_bytes txid (meta_of page_size root sequence mark txid)) (omega arith)
 
 -- a meta page begins with its record
-meta_begins : (page_size root sequence mark txid : ℕ) (rest : List ℕ) → (behind : List ℕ) × (meta_page page_size root sequence mark txid ++ rest ≡ meta_bytes page_size root sequence mark txid ++ behind)
+meta_begins : (page_size root sequence mark txid : ℕ) (rest : List ℕ) → (behind : List ℕ) × (meta_page page_size root sequence mark txid ++ rest ≡ meta_bytes txid (meta_of page_size root sequence mark txid) ++ behind)
 unfolding meta_page
 meta_begins page_size root sequence mark txid rest =
-    let bytes : List ℕ = meta_bytes page_size root sequence mark txid in
+    let bytes : List ℕ = meta_bytes txid (meta_of page_size root sequence mark txid) in
     (replicate (page_size - length bytes) 0 ++ rest, append_assoc bytes (replicate (page_size - length bytes) 0) rest)
 
 length-freelist_page : (page_size number : ℕ) → 16 ≤ page_size → length (freelist_page page_size number) ≡ page_size
 unfolding freelist_page
-length-freelist_page page_size number room = let a = length-header_bytes number 16 0 0 in length-filled page_size (header_bytes number 16 0 0) (omega arith)
+length-freelist_page page_size number room = let a = length-header_bytes number kind.Freelist 0 0 in length-filled page_size (header_bytes number kind.Freelist 0 0) (omega arith)
 
 -- Where the pieces stand in a file.
 pub record IsFile (page_size root sequence mark : ℕ) (pages : List Placed) (file : List ℕ) : Type 0 where
   pub behind_first : List ℕ
-  pub first_bytes : drop 0 file ≡ meta_bytes page_size root sequence mark 0 ++ behind_first
+  pub first_bytes : drop 0 file ≡ meta_bytes 0 (meta_of page_size root sequence mark 0) ++ behind_first
   pub behind_second : List ℕ
-  pub second_bytes : drop page_size file ≡ meta_bytes page_size root sequence mark 1 ++ behind_second
+  pub second_bytes : drop page_size file ≡ meta_bytes 1 (meta_of page_size root sequence mark 1) ++ behind_second
   pub first : IsMeta file 0 (meta_of page_size root sequence mark 0)
   pub second : IsMeta file page_size (meta_of page_size root sequence mark 1)
   pub free : drop (2 * page_size) file ≡ freelist_page page_size 2 ++ placed_bytes page_size pages
@@ -88,8 +92,8 @@ pieces_stand page_size root sequence mark pages size r s m =
       first_bytes = d0 ∙ e0;
       behind_second = b1;
       second_bytes = d1 ∙ e1;
-      first = meta_written file b0 0 page_size root sequence mark 0 (d0 ∙ e0) (record { size = size; root_fits = r; sequence_fits = s; mark_fits = m; txid_fits = omega arith }) (inl refl) (omega arith);
-      second = meta_written file b1 page_size page_size root sequence mark 1 (d1 ∙ e1) (record { size = size; root_fits = r; sequence_fits = s; mark_fits = m; txid_fits = omega arith }) (inr refl) (omega arith);
+      first = meta_written file b0 0 0 (meta_of page_size root sequence mark 0) (d0 ∙ e0) (record { size = size; root = r; sequence = s; freelist = omega arith; mark = m; txid = omega arith }) (inl refl) (omega arith);
+      second = meta_written file b1 page_size 1 (meta_of page_size root sequence mark 1) (d1 ∙ e1) (record { size = size; root = r; sequence = s; freelist = omega arith; mark = m; txid = omega arith }) (inr refl) (omega arith);
       free = d2;
       placed = d3 ∙ sym (append-nil rest);
       long = omega arith;
@@ -109,7 +113,7 @@ some_same : {X : Type 0} (a b : X) → ◌≡◌ {A = Option X} (Some a) (Some b
 some_same a b e = cc
 
 accounts_of : (file : List ℕ) (page_size root sequence mark txid : ℕ) → IsEmptyFreelist file (meta_of page_size root sequence mark txid) 2
-    → IsPart (node_at file (meta_of page_size root sequence mark txid)) (At_page (start_of root)) 3 mark → HasRightAccounts file (meta_of page_size root sequence mark txid)
+    → IsPart (node_at file (meta_of page_size root sequence mark txid)) (At_page (root_spot root)) 3 mark → HasRightAccounts file (meta_of page_size root sequence mark txid)
 accounts_of file page_size root sequence mark txid free part =
     let meta : Meta = meta_of page_size root sequence mark txid in
     let good : freelist_fault_of file meta ≡ None = free.good in
@@ -141,7 +145,7 @@ PassingIsSound = (file : List ℕ) (meta : Meta) → PassesTests file meta → H
 -- what is known of the file before anything is read
 pub record IsLaidOut (which : Layout) (page_size : ℕ) (tree : Tree) (sequence : ℕ) : Type 0 where
   pub room : layout_mark which page_size tree ≤ limit
-  pub fits : IsMetaFit page_size (layout_root which page_size tree) sequence (layout_mark which page_size tree) 1
+  pub fits : IsMetaFit (meta_of page_size (layout_root which page_size tree) sequence (layout_mark which page_size tree) 1)
   pub above : 3 ≤ layout_root which page_size tree
   pub below : layout_root which page_size tree < layout_mark which page_size tree
   pub row : IsInARow 3 (layout_pages which page_size tree) (layout_mark which page_size tree)
@@ -199,7 +203,7 @@ laid_out which page_size tree sequence size storable sized short =
     let fits = page.pages.fits 3 (omega arith) (omega arith) in
     record {
       room = omega arith;
-      fits = record { size = size; root_fits = omega arith; sequence_fits = omega arith; mark_fits = omega arith; txid_fits = omega arith };
+      fits = record { size = size; root = omega arith; sequence = omega arith; freelist = omega arith; mark = omega arith; txid = omega arith };
       above = omega arith;
       below = omega arith;
       row = row;
@@ -236,7 +240,7 @@ layout_sound law which page_size tree sequence size laid =
     let below = laid.below in
     let shown = row_shown file meta 3 mark pages [] laid.row laid.pages stand.placed (omega arith) (omega arith) (omega arith) in
     let nodes = nodes_shown file meta pages shown in
-    let part = laid.page.part (node_at file meta) 3 (start_of root) refl (omega arith) (omega arith) nodes (let deep = laid.low in omega arith) (within_none items) in
+    let part = laid.page.part (node_at file meta) 3 (root_spot root) refl (omega arith) (omega arith) nodes (let deep = laid.low in omega arith) (within_none items) in
     let free = freelist_shown file meta 2 (placed_bytes page_size pages) stand.free (record { number = omega arith; further = omega arith; below = omega arith; within = omega arith }) (omega arith) in
     record {
       chosen = chosen_of file page_size (meta_of page_size root sequence mark 0) (meta_of page_size root sequence mark 1) stand.first stand.second refl (omega arith);

@@ -11,12 +11,14 @@ use Rattle.bolt_format.specs.Pages.{PageView, content_fault, fault_as, from_page
 use Rattle.bolt_format.specs.declared.kind.Kind.{Kind}
 use Rattle.bolt_format.specs.declared.kind.Kind.TheVariants as kind
 use Rattle.bolt_format.specs.declared.meta.Meta.{Meta}
-use Rattle.bolt_layout.specs.PageBytes.{branch_bytes, branch_data, filled, freelist_page, header_bytes, leaf_bytes, leaf_data, leaf_headers, branch_headers, page_bytes}
-use Rattle.bolt_layout.proofs.NumberLemmas.{part_read, part_within}
+use Rattle.bolt_layout.specs.PageBytes.{branch_bytes, branch_data, filled, freelist_page, leaf_bytes, leaf_data, leaf_headers, branch_headers, page_bytes}
+use Rattle.bolt_format.specs.Written.{header_bytes}
+use Rattle.bolt_format.proofs.NumberLemmas.{part_read, part_within}
 use Rattle.bolt_format.proofs.FaultLemmas.{first_of-both}
 use Rattle.bolt_layout.proofs.LeafLemmas.{IsLeafFit, leaves_written, length-leaf_headers}
 use Rattle.bolt_layout.proofs.BranchLemmas.{IsBranchFit, branches_written, length-branch_headers}
-use Rattle.bolt_layout.proofs.PageLemmas.{IsHeaderFit, header_written, length-header_bytes}
+use Rattle.bolt_format.specs.ReadBack.{IsHeaderFit}
+use Rattle.bolt_format.proofs.WrittenHeaders.{header_written, length-header_bytes}
 use Rattle.bolt_layout.specs.Levels.{branch_view, leaf_view}
 
 pub length-filled : (n : ℕ) (bytes : List ℕ) → length bytes ≤ n → length (filled n bytes) ≡ n
@@ -32,22 +34,22 @@ pub record IsSpanRead (file : List ℕ) (meta : Meta) (id : ℕ) (is : Kind) (n 
   pub long : length (span_bytes file meta id) ≡ (1 + more) * meta.page_size
   pub end : (id + 1 + more) * meta.page_size ≤ length file
 
-pub span_written : (file : List ℕ) (meta : Meta) (id flag n more : ℕ) (is : Kind) (content rest : List ℕ)
-    → drop (id * meta.page_size) file ≡ filled ((1 + more) * meta.page_size) (header_bytes id flag n more ++ content) ++ rest
-    → 16 + length content ≤ (1 + more) * meta.page_size → IsHeaderFit id flag n more → kind_of flag ≡ Some is
+pub span_written : (file : List ℕ) (meta : Meta) (id : ℕ) (is : Kind) (n more : ℕ) (content rest : List ℕ)
+    → drop (id * meta.page_size) file ≡ filled ((1 + more) * meta.page_size) (header_bytes id is n more ++ content) ++ rest
+    → 16 + length content ≤ (1 + more) * meta.page_size → IsHeaderFit id n more
     → id + more < meta.high_water → id * meta.page_size ≤ length file
-    → IsSpanRead file meta id is n more content (replicate ((1 + more) * meta.page_size - length (header_bytes id flag n more ++ content)) 0)
+    → IsSpanRead file meta id is n more content (replicate ((1 + more) * meta.page_size - length (header_bytes id is n more ++ content)) 0)
 unfolding span_fault
-span_written file meta id flag n more is content rest h room fit known below within =
+span_written file meta id is n more content rest h room fit below within =
     let size : ℕ = meta.page_size in
-    let zeros : List ℕ = replicate ((1 + more) * size - length (header_bytes id flag n more ++ content)) 0 in
-    let written : List ℕ = filled ((1 + more) * size) (header_bytes id flag n more ++ content) in
-    let l = length-header_bytes id flag n more in
-    let content_long : length (header_bytes id flag n more ++ content) ≡ 16 + length content = length-append (header_bytes id flag n more) content ∙ omega (arith, l) in
-    let long : length written ≡ (1 + more) * size = length-filled ((1 + more) * size) (header_bytes id flag n more ++ content) (omega arith) in
-    let here : from_page file meta id ≡ header_bytes id flag n more ++ (content ++ (zeros ++ rest)) =
-    h ∙ (append_assoc (header_bytes id flag n more ++ content) zeros rest ∙ append_assoc (header_bytes id flag n more) content (zeros ++ rest)) in
-    let header = (header_written (from_page file meta id) (content ++ (zeros ++ rest)) id flag n more here fit).0 in
+    let zeros : List ℕ = replicate ((1 + more) * size - length (header_bytes id is n more ++ content)) 0 in
+    let written : List ℕ = filled ((1 + more) * size) (header_bytes id is n more ++ content) in
+    let l = length-header_bytes id is n more in
+    let content_long : length (header_bytes id is n more ++ content) ≡ 16 + length content = length-append (header_bytes id is n more) content ∙ omega (arith, l) in
+    let long : length written ≡ (1 + more) * size = length-filled ((1 + more) * size) (header_bytes id is n more ++ content) (omega arith) in
+    let here : from_page file meta id ≡ header_bytes id is n more ++ (content ++ (zeros ++ rest)) =
+    h ∙ (append_assoc (header_bytes id is n more ++ content) zeros rest ∙ append_assoc (header_bytes id is n more) content (zeros ++ rest)) in
+    let header = (header_written (from_page file meta id) (content ++ (zeros ++ rest)) id is n more here fit).0 in
     let end_is : (id + 1 + more) * size ≡ id * size + (1 + more) * size =
     (let a : id + 1 + more ≡ id + (1 + more) = omega arith in ap (λ (x : ℕ). x * size) a) ∙ add-mul id (1 + more) size in
     let same : page_overflow file meta id ≡ more = header.overflow in
@@ -58,7 +60,7 @@ span_written file meta id flag n more is content rest h room fit known below wit
     let t1 : nat_le meta.high_water id ≡ false = lt-leb meta.high_water id (omega arith) in
     let t2 : nat_lt (length file) (id * size + 16) ≡ false = le-ltb (length file) (id * size + 16) (omega arith) in
     let t3 : (id_field (from_page file meta id) == id) ≡ true = eq-eqb (id_field (from_page file meta id)) id header.id in
-    let kind_is : kind_of (flags_field (from_page file meta id)) ≡ Some is = ap kind_of header.flags ∙ known in
+    let kind_is = header.kind in
     let t4 : is_some (kind_of (flags_field (from_page file meta id))) ≡ true = ap (λ (o : Option Kind). is_some o) kind_is in
     let t5 : nat_le meta.high_water (id + page_overflow file meta id) ≡ false = lt-leb meta.high_water (id + page_overflow file meta id) (omega arith) in
     let t6 : nat_lt (length file) ((id + 1 + page_overflow file meta id) * size) ≡ false = le-ltb (length file) ((id + 1 + page_overflow file meta id) * size) (omega arith) in
@@ -67,7 +69,7 @@ span_written file meta id flag n more is content rest h room fit known below wit
       kind = kind_is;
       count = header.count;
       overflow = same;
-      behind = ap (λ (xs : List ℕ). drop 16 xs) (span ∙ append_assoc (header_bytes id flag n more) content zeros) ∙ drop_at (header_bytes id flag n more) (content ++ zeros) 16 l;
+      behind = ap (λ (xs : List ℕ). drop 16 xs) (span ∙ append_assoc (header_bytes id is n more) content zeros) ∙ drop_at (header_bytes id is n more) (content ++ zeros) 16 l;
       long = ap (λ (xs : List ℕ). length xs) span ∙ long;
       end = omega arith;
     }
@@ -127,8 +129,8 @@ pub leaf_shown : (file : List ℕ) (meta : Meta) (id more : ℕ) (es : List Leaf
 unfolding page_bytes
 leaf_shown file meta id more es rest h place few room small fits =
     let l = length-leaf_bytes es in
-    let fit : IsHeaderFit id 2 (length es) more = record { id = place.number; flags = omega arith; count = few; overflow = place.further } in
-    let span = span_written file meta id 2 (length es) more kind.Leaf (leaf_bytes es) rest h (omega arith) fit refl place.below place.within in
+    let fit : IsHeaderFit id (length es) more = record { id = place.number; count = few; overflow = place.further } in
+    let span = span_written file meta id kind.Leaf (length es) more (leaf_bytes es) rest h (omega arith) fit place.below place.within in
     let spanned = span.long in
     let written = leaves_written value_fault (span_bytes file meta id) es _ span.behind (omega arith) fits small in
     shown_with file meta id (length es) more kind.Leaf (leaf_bytes es) _ (leaf_view more es) span written.1 (ap (leaf_view_of more es) written.0)
@@ -142,8 +144,8 @@ pub branch_shown : (file : List ℕ) (meta : Meta) (id more : ℕ) (es : List Br
 unfolding page_bytes
 branch_shown file meta id more es rest h place few room small fits =
     let l = length-branch_bytes es in
-    let fit : IsHeaderFit id 1 (length es) more = record { id = place.number; flags = omega arith; count = few; overflow = place.further } in
-    let span = span_written file meta id 1 (length es) more kind.Branch (branch_bytes es) rest h (omega arith) fit refl place.below place.within in
+    let fit : IsHeaderFit id (length es) more = record { id = place.number; count = few; overflow = place.further } in
+    let span = span_written file meta id kind.Branch (length es) more (branch_bytes es) rest h (omega arith) fit place.below place.within in
     let spanned = span.long in
     let written = branches_written (span_bytes file meta id) es _ span.behind (omega arith) fits small in
     shown_with file meta id (length es) more kind.Branch (branch_bytes es) _ (branch_view more es) span written.1 (ap (branch_view_of more es) written.0)
@@ -160,10 +162,10 @@ unfolding freelist_page freelist_fault ids_fault free_ids_at
 freelist_shown file meta id rest h place room =
     let size : ℕ = meta.page_size in
     let one : (1 + 0) * size ≡ size = omega arith in
-    let written : drop (id * size) file ≡ filled ((1 + 0) * size) (header_bytes id 16 0 0 ++ []) ++ rest =
-    h ∙ ap (λ (xs : List ℕ). filled size xs ++ rest) (sym (append-nil (header_bytes id 16 0 0))) ∙ ap (λ (n : ℕ). filled n (header_bytes id 16 0 0 ++ []) ++ rest) (sym one) in
-    let fit : IsHeaderFit id 16 0 0 = record { id = place.number; flags = omega arith; count = omega arith; overflow = omega arith } in
-    let span = span_written file meta id 16 0 0 kind.Freelist [] rest written (omega arith) fit refl place.below place.within in
+    let written : drop (id * size) file ≡ filled ((1 + 0) * size) (header_bytes id kind.Freelist 0 0 ++ []) ++ rest =
+    h ∙ ap (λ (xs : List ℕ). filled size xs ++ rest) (sym (append-nil (header_bytes id kind.Freelist 0 0))) ∙ ap (λ (n : ℕ). filled n (header_bytes id kind.Freelist 0 0 ++ []) ++ rest) (sym one) in
+    let fit : IsHeaderFit id 0 0 = record { id = place.number; count = omega arith; overflow = omega arith } in
+    let span = span_written file meta id kind.Freelist 0 0 [] rest written (omega arith) fit place.below place.within in
     let spanned = span.long in
     let enough : nat_lt (length (span_bytes file meta id)) 16 ≡ false = le-ltb (length (span_bytes file meta id)) 16 (omega arith) in
     let ids : ids_fault (count_field (from_page file meta id)) (span_bytes file meta id) ≡ None =

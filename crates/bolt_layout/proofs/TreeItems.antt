@@ -8,11 +8,13 @@ use Rattle.std.proofs.Math.Nat.{div-le_self}
 use Rattle.bolt_format.specs.Elements.{LeafElement, head_root, head_sequence, inline_elements, value_fault}
 use Rattle.bolt_check.specs.Keys.{Key, key_cmp, key_lt}
 use Rattle.bolt_check.specs.Nodes.{leaf_entry}
-use Rattle.bolt_check.specs.Ways.{At_inline, At_page, Spot, bucket_spots, start_of}
+use Rattle.bolt_check.specs.Ways.{At_inline, At_page, Spot, bucket_spots, root_spot}
 use Rattle.bolt_check.specs.Findings.{inline_finding, keys_of, finding_of}
 use Rattle.bolt_layout.specs.Cut.{max_items, run_size}
-use Rattle.bolt_layout.specs.PageBytes.{header_bytes, inline_value, leaf_bytes, leaf_data, root_value}
-use Rattle.bolt_layout.proofs.PageLemmas.{IsFlat, head_written, inline_written, length-header_bytes, length-root_value, root_passes}
+use Rattle.bolt_format.specs.Written.{header_bytes, head_bytes}
+use Rattle.bolt_layout.specs.PageBytes.{inline_value, leaf_bytes, leaf_data}
+use Rattle.bolt_layout.proofs.InlineLemmas.{IsFlat, inline_written}
+use Rattle.bolt_format.proofs.WrittenHeaders.{head_written, length-header_bytes, length-head_bytes, root_passes}
 use Rattle.bolt_layout.proofs.SpanLemmas.{length-leaf_bytes}
 use Rattle.bolt_layout.proofs.KeyLaws.{IsBelowItem, IsWithin, Rise}
 use Rattle.bolt_layout.proofs.ListLemmas.{all_weaker}
@@ -20,7 +22,8 @@ use Rattle.bolt_layout.proofs.OverRows.{HasShortKey, IsAtMost, root_is_over}
 use Rattle.bolt_layout.proofs.Parts.{IsPartOrNone, part_inline}
 use Rattle.bolt_tree.specs.Order.{IsBelow, Rises}
 use Rattle.bolt_tree.proofs.Lists.{contains_head, contains_tail}
-use Rattle.bolt_layout.proofs.MetaLemmas.{largest_page}
+use Rattle.bolt_format.proofs.PageSizes.{largest_page}
+use Rattle.bolt_format.specs.declared.kind.Kind.TheVariants as kind
 use Rattle.bolt_layout.proofs.LaidPages.{limit}
 use Rattle.bolt_layout.proofs.LaidItems.{IsItem, items_size, length-elements}
 use Rattle.bolt_layout.proofs.LeafPages.{IsPage, above_none, items_keys}
@@ -63,11 +66,11 @@ within_none (item ∷ items) = ((refl, refl), within_none items)
 length-inline_value : (sequence : ℕ) (es : List LeafElement) → length (inline_value sequence es) ≡ 32 + (16 * length es + length (leaf_data es))
 unfolding inline_value
 length-inline_value sequence es =
-    let a = length-root_value 0 sequence in
-    let b = length-header_bytes 0 2 (length es) 0 in
+    let a = length-head_bytes 0 sequence in
+    let b = length-header_bytes 0 kind.Leaf (length es) 0 in
     let c = length-leaf_bytes es in
-    let d = length-append (root_value 0 sequence) (header_bytes 0 2 (length es) 0 ++ leaf_bytes es) in
-    let e = length-append (header_bytes 0 2 (length es) 0) (leaf_bytes es) in omega arith
+    let d = length-append (head_bytes 0 sequence) (header_bytes 0 kind.Leaf (length es) 0 ++ leaf_bytes es) in
+    let e = length-append (header_bytes 0 kind.Leaf (length es) 0) (leaf_bytes es) in omega arith
 
 inline_spot : (host : ℕ) (e : LeafElement) (keys : List Key) → e.is_bucket ≡ true → head_root e.value ≡ 0 → map (λ (i : LeafElement). i.key) (inline_elements e.value) ≡ keys
     → bucket_spots host (leaf_entry e) ≡ Some (At_inline host keys)
@@ -134,8 +137,8 @@ root_page which page_size items sized small all rise =
     let (height, low, over) = root_is_over which page_size items (omega arith) keys sizes in
     (height, low, over_page page_size sized height (root_over which page_size items) items over all rise)
 
-root_spot : (host root : ℕ) (e : LeafElement) → e.is_bucket ≡ true → head_root e.value ≡ root → 1 ≤ root → bucket_spots host (leaf_entry e) ≡ Some (At_page (start_of (head_root e.value)))
-root_spot host root e bucket same some = let z : (head_root e.value == 0) ≡ false = ne_eqb (head_root e.value) 0 (λ zero_root. omega arith) in rw (bucket, z) refl
+spot_of_root : (host root : ℕ) (e : LeafElement) → e.is_bucket ≡ true → head_root e.value ≡ root → 1 ≤ root → bucket_spots host (leaf_entry e) ≡ Some (At_page (root_spot (head_root e.value)))
+spot_of_root host root e bucket same some = let z : (head_root e.value == 0) ≡ false = ne_eqb (head_root e.value) 0 (λ zero_root. omega arith) in rw (bucket, z) refl
 
 root_item : (which : Layout) (page_size : ℕ) (key : List ℕ) (sequence : ℕ) (items : List (Laid LeafElement)) → 0 < page_size → page_size ≤ largest_page → 1 ≤ length key → length key ≤ 0x40000000 → sequence < 256 ^ 8
     → AllByRecursion (IsItem page_size) items → Rise items → IsItem page_size (bucket_item key sequence (root_over which page_size items))
@@ -143,9 +146,9 @@ root_item which page_size key sequence items sized small some short narrow all r
     let root = root_over which page_size items in
     let (height, low, page) = root_page which page_size items sized small all rise in
     let item = bucket_item key sequence root in
-    let value : ℕ → List ℕ = λ n. root_value (root.element n).child sequence in
+    let value : ℕ → List ℕ = λ n. head_bytes (root.element n).child sequence in
     let head : (n : ℕ) → (root.element n).child < 256 ^ 8 → (head_root (value n) ≡ (root.element n).child) =
-    λ n h. (head_written (value n) [] (root.element n).child sequence (sym (append-nil (value n))) h narrow).0 in
+    λ n h. (head_written (value n) [] (root.element n).child sequence (sym (append-nil (value n))) h narrow).root in
     record {
       pages = record {
         row = page.pages.row;
@@ -156,17 +159,17 @@ root_item which page_size key sequence items sized small some short narrow all r
       short = short;
       most = omega arith;
       key = λ n. refl;
-      size = λ n. (let l = length-root_value (root.element n).child sequence in omega arith);
+      size = λ n. (let l = length-head_bytes (root.element n).child sequence in omega arith);
       fit = λ n any h.
           let c = page.child n in
-          let l = length-root_value (root.element n).child sequence in
+          let l = length-head_bytes (root.element n).child sequence in
           record { some = some; key = short; value = omega arith; bucket = λ e. root_passes (root.element n).child sequence (omega arith) (omega arith) narrow };
       part = λ nodes n host any h shown.
           let c = page.child n in
           let same = head n (omega arith) in
           let e : LeafElement = item.element n in
-          subst (λ (o : Option Spot). IsPartOrNone nodes o n (n + root.numbers)) (sym (root_spot host (root.element n).child e refl same (omega arith)))
-          (page.part nodes n (start_of (head_root e.value)) same any h shown (let deep = low (omega arith) in omega arith) (within_none items));
+          subst (λ (o : Option Spot). IsPartOrNone nodes o n (n + root.numbers)) (sym (spot_of_root host (root.element n).child e refl same (omega arith)))
+          (page.part nodes n (root_spot (head_root e.value)) same any h shown (let deep = low (omega arith) in omega arith) (within_none items));
     }
 
 -- the items of a tree

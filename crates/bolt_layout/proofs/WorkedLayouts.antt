@@ -7,7 +7,8 @@ use Rattle.bolt_tree.specs.Tree.{Tree, end, with_bucket, with_value}
 use Rattle.bolt_layout.specs.Items.{root_of}
 use Rattle.bolt_layout.specs.Layout.{layout_held, layout_mark, layout_of, layout_root}
 use Rattle.bolt_layout.specs.Levels.{overflow_of, root_over}
-use Rattle.bolt_layout.specs.PageBytes.{branch_bytes, branch_header, freelist_page, header_bytes, inline_value, leaf_bytes, leaf_header, meta_bytes, meta_page, meta_record, number_bytes, page_bytes, root_value}
+use Rattle.bolt_layout.specs.PageBytes.{branch_bytes, freelist_page, inline_value, leaf_bytes, meta_page, page_bytes}
+use Rattle.bolt_format.specs.Written.{branch_header, header_bytes, leaf_header, meta_bytes, meta_record, number_bytes, head_bytes}
 use Rattle.bolt_layout.specs.declared.layout.Layout.{Layout}
 use Rattle.bolt_layout.specs.declared.layout.Layout.TheVariants.{Plain, Balanced}
 
@@ -112,7 +113,7 @@ layouts_are :
     × IsWorked Balanced 1024 seven_leaves 0 10409730401809140747 18 19 5
     × IsWorked Plain 1024 eleven_leaves 0 8461296673094134919 36 37 4
     × IsWorked Balanced 1024 eleven_leaves 0 8172358324331492310 30 31 6
-unfolding fnv_of fnv_step overflow_of root_of root_over layout_of branch_bytes branch_header freelist_page header_bytes inline_value leaf_bytes leaf_header meta_bytes meta_page meta_record number_bytes page_bytes root_value
+unfolding fnv_of fnv_step overflow_of root_of root_over layout_of branch_bytes branch_header freelist_page header_bytes inline_value leaf_bytes leaf_header meta_bytes meta_page meta_record number_bytes page_bytes head_bytes
 layouts_are = (
   (refl, refl, refl, refl),
   (refl, refl, refl, refl),

@@ -5,7 +5,8 @@ use Rattle.bolt_tree.specs.Tree.{Tree, end, with_value, with_bucket}
 use Rattle.bolt_layout.specs.Cut.{max_items, run_size}
 use Rattle.bolt_layout.specs.Laid.{Laid, elements_of, size_of}
 use Rattle.bolt_layout.specs.Levels.{root_over}
-use Rattle.bolt_layout.specs.PageBytes.{inline_value, root_value}
+use Rattle.bolt_layout.specs.PageBytes.{inline_value}
+use Rattle.bolt_format.specs.Written.{head_bytes}
 use Rattle.bolt_layout.specs.declared.layout.Layout.{Layout}
 
 -- a value, or a bucket within its own value, has no pages below it
@@ -27,7 +28,7 @@ bucket_item key sequence root = record {
   numbers = root.numbers;
   held = root.held;
   pages = root.pages;
-  element = λ number. record { key = key; value = root_value (root.element number).child sequence; is_bucket = true };
+  element = λ number. record { key = key; value = head_bytes (root.element number).child sequence; is_bucket = true };
 }
 
 abbrev pub holds_bucket : Tree → Bool

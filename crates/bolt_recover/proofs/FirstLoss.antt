@@ -70,7 +70,7 @@ module _ (nodes : Nodes) (root : Option Spot) (survey : List Visit) (surveys : S
         way = way;
         spot = only.0;
         leads = only.1;
-        told = tests_same nodes (IsClaimedIn nodes (follow nodes root) survey way) (IsClaimedBefore nodes (follow nodes root) IsMetaPage way) only.0 x
+        reported = tests_same nodes (IsClaimedIn nodes (follow nodes root) survey way) (IsClaimedBefore nodes (follow nodes root) IsMetaPage way) only.0 x
             (claimed_before nodes (follow nodes root) survey way) (claimed_in way (λ u h. h)) only.2;
         none_before = λ u s y lt led test.
             let p = (surveys.only (kept u) (keeps u s led lt)).1 in passes_before u s p.0 y lt led p.1 p.2 test;

@@ -12,7 +12,7 @@ use Rattle.bolt_format.specs.declared.kind.Kind.TheVariants as kind
 use Rattle.bolt_format.specs.declared.meta.Meta.{Meta}
 use Rattle.bolt_check.specs.Nodes.{Entry, Node, Nodes, leaf_entry, node_at}
 use Rattle.bolt_check.specs.Shape.{child_at, child_in, child_of, leads}
-use Rattle.bolt_check.specs.Ways.{At_inline, At_page, PageSpot, Spot, bucket_spots, start_of as page_start, step_at, step_entry, step_from}
+use Rattle.bolt_check.specs.Ways.{At_inline, At_page, PageSpot, Spot, bucket_spots, root_spot, step_at, step_entry, step_from}
 use Rattle.bolt_tree.specs.Entries.{Inline_page, IsEntry, Item, Root_page, ShowsEntry, Start, start_of}
 use Rattle.bolt_tree.specs.Paths.{Holds, Names, Path}
 use Rattle.bolt_tree.proofs.Lists.{contains_none}
@@ -73,7 +73,7 @@ module _ (file : List ℕ) (meta : Meta) where
       let start : start_of e.value ≡ Inline_page (inline_elements e.value) = rw at refl in
       subst IsNamed (some_place _ t (sym (ap (place_on file meta path (Some e)) spot) ∙ there)) (Inline_page (inline_elements e.value), subst (λ (s : Start). Names (IsEntry file meta) (Root_page meta.root) (path ++ e.key ∷ []) s) start names, refl)
   inside_at path e host false r at bucket is names t there =
-      let spot : r ≡ Some (At_page (page_start (head_root e.value))) = is ∙ (rw (bucket, at) refl) in
+      let spot : r ≡ Some (At_page (root_spot (head_root e.value))) = is ∙ (rw (bucket, at) refl) in
       let start : start_of e.value ≡ Root_page (head_root e.value) = rw at refl in
       subst IsNamed (some_place _ t (sym (ap (place_on file meta path (Some e)) spot) ∙ there)) (Root_page (head_root e.value), subst (λ (s : Start). Names (IsEntry file meta) (Root_page meta.root) (path ++ e.key ∷ []) s) start names, ([], refl))
 

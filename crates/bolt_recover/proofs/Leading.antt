@@ -9,17 +9,17 @@ use Rattle.bolt_format.proofs.PageLaws.{length-shown_leaves}
 use Rattle.bolt_check.specs.Keys.{Key}
 use Rattle.bolt_check.specs.Nodes.{Entry, node_at}
 use Rattle.bolt_check.specs.ShownNodes.{shown_node}
-use Rattle.bolt_check.specs.Stops.{IsInner, page_spot, spot_at}
+use Rattle.bolt_check.specs.ShownSpots.{IsInner, page_spot, spot_at}
 use Rattle.bolt_check.specs.TreeKinds.{tree_kind}
 use Rattle.bolt_check.specs.Ways.{At_inline, PageSpot, step_entry, step_on}
-use Rattle.bolt_check.specs.declared.stop.PageStop.{PageStop}
-use Rattle.bolt_check.specs.declared.stop.Stop.{Stop}
-use Rattle.bolt_check.specs.declared.stop.Stop.TheVariants as stop
+use Rattle.bolt_check.specs.declared.spot.PageSpot.{PageSpot as CodePageSpot}
+use Rattle.bolt_check.specs.declared.spot.Spot.{Spot}
+use Rattle.bolt_check.specs.declared.spot.Spot.TheVariants as spots
 use Rattle.bolt_check.specs.declared.tree_page.TreePage.{TreePage}
 use Rattle.bolt_check.proofs.NodeLemmas.{length-leaf}
 use Rattle.bolt_tree.specs.Paths.{Path}
 use Rattle.bolt_recover.specs.Places.{place_on, step_place}
-use Rattle.bolt_recover.specs.Private.Frames.{content_place, step_path, stop_place}
+use Rattle.bolt_recover.specs.Private.Frames.{content_place, step_path, spot_place}
 use Rattle.bolt_recover.specs.declared.open_page.Content.TheVariants.{Page}
 
 -- only an element of a leaf leads to an inline bucket
@@ -35,21 +35,21 @@ no_leaf page i is below none =
       | inr (past, h) ↦ absurd (omega (arith, past, below, length-leaf page is, length-shown_leaves page.page (page.kind ∙ ap tree_kind is)))
     ]
 
-place_of : (file : List ℕ) (meta : Meta) (path : Path) (o : Option LeafElement) (r : Option Stop)
-    → ((s : Stop) → r ≡ Some s → o ≡ None → (host : ℕ) (keys : List Key) → spot_at s ≡ At_inline host keys → ⊥)
-    → IfSome r (λ (s : Stop). (e : LeafElement) → o ≡ Some e → IsInner e.value s)
-    → place_on file meta path o (option_map spot_at r) ≡ option_map (stop_place file meta (step_path path o)) r
+place_of : (file : List ℕ) (meta : Meta) (path : Path) (o : Option LeafElement) (r : Option Spot)
+    → ((s : Spot) → r ≡ Some s → o ≡ None → (host : ℕ) (keys : List Key) → spot_at s ≡ At_inline host keys → ⊥)
+    → IfSome r (λ (s : Spot). (e : LeafElement) → o ≡ Some e → IsInner e.value s)
+    → place_on file meta path o (option_map spot_at r) ≡ option_map (spot_place file meta (step_path path o)) r
 place_of file meta path o None not inner = refl
-place_of file meta path None (Some (stop.Page s)) not inner = refl
-place_of file meta path None (Some (stop.Bucket s)) not inner = absurd (not (stop.Bucket s) refl refl _ _ refl)
-place_of file meta path (Some e) (Some (stop.Page s)) not inner = refl
-place_of file meta path (Some e) (Some (stop.Bucket s)) not inner = rw (inner e refl) refl
+place_of file meta path None (Some (spots.Page s)) not inner = refl
+place_of file meta path None (Some (spots.Bucket s)) not inner = absurd (not (spots.Bucket s) refl refl _ _ refl)
+place_of file meta path (Some e) (Some (spots.Page s)) not inner = refl
+place_of file meta path (Some e) (Some (spots.Bucket s)) not inner = rw (inner e refl) refl
 
-pub leads_to : (file : List ℕ) (meta : Meta) (path : Path) (page : TreePage) (s : PageStop) (i : ℕ) (r : Option Stop)
+pub leads_to : (file : List ℕ) (meta : Meta) (path : Path) (page : TreePage) (s : CodePageSpot) (i : ℕ) (r : Option Spot)
     → node_at file meta s.number ≡ Ok (shown_node page) → i < length (shown_node page).entries
     → option_map spot_at r ≡ step_on (shown_node page) (page_spot s) i
-    → IfSome r (λ (stop : Stop). (e : LeafElement) → slice_get (shown page.page).leaves i ≡ Some e → IsInner e.value stop)
-    → step_place file meta (content_place path (Page page s)) i ≡ option_map (stop_place file meta (step_path path (slice_get (shown page.page).leaves i))) r
+    → IfSome r (λ (spot : Spot). (e : LeafElement) → slice_get (shown page.page).leaves i ≡ Some e → IsInner e.value spot)
+    → step_place file meta (content_place path (Page page s)) i ≡ option_map (spot_place file meta (step_path path (slice_get (shown page.page).leaves i))) r
 unfolding shown_node
 leads_to file meta path page s i r node below leads inner =
     rw (node, ← leads) (place_of file meta path (slice_get (shown page.page).leaves i) r

@@ -24,7 +24,7 @@ use Rattle.bolt_tree.specs.Entries.{item_of}
 use Rattle.bolt_tree.specs.Listing.{Member, member_cmp}
 use Rattle.bolt_tree.specs.Order.{Rises}
 use Rattle.bolt_tree.specs.Paths.{Path, path_cmp}
-use Rattle.bolt_tree.specs.Private.Behind.{behind}
+use Rattle.bolt_tree.specs.Private.RestAfter.{rest_after}
 use Rattle.bolt_tree.proofs.Filters.{filter_all, filter_same, lt_of, not_lt_of}
 use Rattle.bolt_tree.proofs.Lists.{contains_head, contains_tail}
 use Rattle.bolt_tree.proofs.PathOrder.{flip_less, less_lt, path_total}
@@ -66,7 +66,7 @@ has_open_prop s = hlevel (props, open_prop)
 -- the recovered listing and the losses of a file, and the run that comes to them
 record IsAll (file : List ℕ) (meta : Meta) (listing : List Member) (losses : List LossView) : Type 0 where
   recovered : IsRecovered file meta listing
-  told : AreLosses file meta losses
+  reported : AreLosses file meta losses
   visits : List (Visited NoWay)
   run : RunsAll file meta stay tt visits listing
   all : losses ≡ losses_in visits
@@ -78,7 +78,7 @@ all_of file meta =
       losses_in visits,
       record {
         recovered = recovers file meta visits members run;
-        told = (visits_of visits, surveyed file meta visits members run, all_losses file meta visits members run);
+        reported = (visits_of visits, surveyed file meta visits members run, all_losses file meta visits members run);
         visits = map blind_visit visits;
         run = forgotten file meta visits members run;
         all = sym (same_losses visits);
@@ -91,40 +91,40 @@ one_losses file meta a b (s, is_s, of_s) (t, is_t, of_t) =
 
 -- each recovered listing and losses come of a run
 all_from : (file : List ℕ) (meta : Meta) (listing : List Member) (losses : List LossView) → IsRecovered file meta listing → AreLosses file meta losses → IsAll file meta listing losses
-all_from file meta listing losses recovered told =
+all_from file meta listing losses recovered reported =
     let (members, views, all) = all_of file meta in
-    subst₂ (IsAll file meta) (one_recovered file meta members listing all.recovered recovered) (one_losses file meta views losses all.told told) all
+    subst₂ (IsAll file meta) (one_recovered file meta members listing all.recovered recovered) (one_losses file meta views losses all.reported reported) all
 
 -- all members come after the empty path
 behind_nothing : (path rest : Path) (key : Key) → is_lt (path_cmp [] (path ++ key ∷ rest)) ≡ true
 behind_nothing [] rest key = refl
 behind_nothing (x ∷ path) rest key = refl
 
-behind_start : (file : List ℕ) (meta : Meta) (listing : List Member) → IsRecovered file meta listing → behind [] listing ≡ listing
+behind_start : (file : List ℕ) (meta : Meta) (listing : List Member) → IsRecovered file meta listing → rest_after [] listing ≡ listing
 behind_start file meta listing recovered =
     filter_all (λ (m : Member). is_lt (path_cmp [] m.0)) listing (λ m has.
     let is = (recovered.exact m.0 m.1).0 has in
     subst (λ (path : Path). is_lt (path_cmp [] path) ≡ true) (sym is.named) (behind_nothing is.place.path [] is.element.key))
 
-left_more : (s : State) (listing : List Member) → is_over s ≡ false → left_by s listing ≡ behind s.path listing
-left_more s listing more = ap (λ (b : Bool). if b then [] else behind s.path listing) more
+left_more : (s : State) (listing : List Member) → is_over s ≡ false → left_by s listing ≡ rest_after s.path listing
+left_more s listing more = ap (λ (b : Bool). if b then [] else rest_after s.path listing) more
 
 left_over : (s : State) (listing : List Member) → is_over s ≡ true → left_by s listing ≡ []
-left_over s listing over = ap (λ (b : Bool). if b then [] else behind s.path listing) over
+left_over s listing over = ap (λ (b : Bool). if b then [] else rest_after s.path listing) over
 
 -- at the start all is left
 pub left_all : (s : State) (file : List ℕ) (meta : Meta) (listing : List Member) → is_over s ≡ false → s.path ≡ [] → IsRecovered file meta listing → left_by s listing ≡ listing
 left_all s file meta listing more path recovered =
-    left_more s listing more ∙ ap (λ (p : Path). behind p listing) path ∙ behind_start file meta listing recovered
+    left_more s listing more ∙ ap (λ (p : Path). rest_after p listing) path ∙ behind_start file meta listing recovered
 
 pub begun : (s : State) (file : List ℕ) (meta : Meta) → s.file ≡ file → s.meta ≡ meta → HasOpen s → is_over s ≡ false → s.path ≡ []
     → ((visits : List (Visited NoWay)) (members : List Member) → RunsAll file meta stay tt visits members → ComesTo s members (losses_in visits)) → IsOn s meta
 begun s file meta of_file of_meta placed more path comes = record {
   meta = of_meta;
   placed = placed;
-  comes = λ listing losses recovered told.
+  comes = λ listing losses recovered reported.
       let here = subst (λ (f : List ℕ). IsRecovered f meta listing) of_file recovered in
-      let all = all_from file meta listing losses here (subst (λ (f : List ℕ). AreLosses f meta losses) of_file told) in
+      let all = all_from file meta listing losses here (subst (λ (f : List ℕ). AreLosses f meta losses) of_file reported) in
       subst₂ (ComesTo s) (sym (left_all s file meta listing more path here)) (sym all.all) (comes all.visits listing all.run);
 }
 
@@ -160,13 +160,13 @@ module _ {A : Type 0} {cmp : A → A → Ordering} (o : IsTotalOrder cmp) (f : A
   filter_behind (y ∷ ys) rises e = behind_first y ys (f y) refl rises e (λ later. filter_behind ys rises.1 later)
 
 -- the rest of what was left comes after what was returned
-given_left : (path : Path) (listing : List Member) (m : Member) (rest : List Member) → Rises member_cmp listing → behind path listing ≡ m ∷ rest → behind m.0 listing ≡ rest
+given_left : (path : Path) (listing : List Member) (m : Member) (rest : List Member) → Rises member_cmp listing → rest_after path listing ≡ m ∷ rest → rest_after m.0 listing ≡ rest
 given_left path listing m rest rises e =
     let kept = (filter_has (λ (x : Member). is_lt (path_cmp path x.0)) listing m rest e).1 in
     let after : path_cmp path m.0 ≡ Less = less_lt (path_cmp path m.0) kept in
     filter_behind member_total (λ (x : Member). is_lt (path_cmp path x.0)) m rest (λ x less. lt_of (path_cmp path x.0) (path_total.trans path m.0 x.0 after less)) listing rises e
 
-left_given : (s : State) (listing : List Member) (m : Member) (rest : List Member) → Rises member_cmp listing → left_by s listing ≡ m ∷ rest → behind m.0 listing ≡ rest
+left_given : (s : State) (listing : List Member) (m : Member) (rest : List Member) → Rises member_cmp listing → left_by s listing ≡ m ∷ rest → rest_after m.0 listing ≡ rest
 left_given s listing m rest rises e =
     elim (cases_Bool (is_over s)) [
       | inl over ↦ absurd (let f : [] ≡ m ∷ rest = sym (left_over s listing over) ∙ e in cc)
@@ -177,8 +177,8 @@ module _ (old new : State) (meta : Meta) (on : IsOn old meta) where
   -- after an element was returned
   given_next : (e : LeafElement) → GivesHead old new e → (listing : List Member) (losses : List LossView) → IsRecovered old.file meta listing → AreLosses old.file meta losses
       → (left_by old listing ≡ (new.path, item_of e) ∷ left_by new listing) × ComesTo new (left_by new listing) losses
-  given_next e gives listing losses recovered told =
-      let (rest, was, comes) = gives.head (left_by old listing) losses (on.comes listing losses recovered told) in
+  given_next e gives listing losses recovered reported =
+      let (rest, was, comes) = gives.head (left_by old listing) losses (on.comes listing losses recovered reported) in
       let same : left_by new listing ≡ rest = left_more new listing gives.more ∙ left_given old listing (new.path, item_of e) rest recovered.rises was in
       (was ∙ ap (λ (ms : List Member). (new.path, item_of e) ∷ ms) (sym same), subst (λ (ms : List Member). ComesTo new ms losses) (sym same) comes)
 
@@ -186,18 +186,18 @@ module _ (old new : State) (meta : Meta) (on : IsOn old meta) where
   to_old listing on recovered = subst (λ (f : List ℕ). IsRecovered f meta listing) on.file recovered
 
   losses_old : (losses : List LossView) → StaysOn old new → AreLosses new.file meta losses → AreLosses old.file meta losses
-  losses_old losses on told = subst (λ (f : List ℕ). AreLosses f meta losses) on.file told
+  losses_old losses on reported = subst (λ (f : List ℕ). AreLosses f meta losses) on.file reported
 
   pub on_given : (e : LeafElement) → GivesHead old new e → IsOn new meta
   on_given e gives = record {
     meta = gives.on.meta ∙ on.meta;
     placed = gives.on.placed;
-    comes = λ listing losses recovered told. (given_next e gives listing losses (to_old listing gives.on recovered) (losses_old losses gives.on told)).1;
+    comes = λ listing losses recovered reported. (given_next e gives listing losses (to_old listing gives.on recovered) (losses_old losses gives.on reported)).1;
   }
 
   pub left_next : (e : LeafElement) → GivesHead old new e → (listing : List Member) → IsRecovered old.file meta listing → left_by old listing ≡ (new.path, item_of e) ∷ left_by new listing
   left_next e gives listing recovered =
-      let (members, losses, all) = all_of old.file meta in (given_next e gives listing losses recovered all.told).0
+      let (members, losses, all) = all_of old.file meta in (given_next e gives listing losses recovered all.reported).0
 
   -- after the end
   over_new : Ends old new → is_over new ≡ true
@@ -207,28 +207,28 @@ module _ (old new : State) (meta : Meta) (on : IsOn old meta) where
   on_ended h = record {
     meta = h.on.meta ∙ on.meta;
     placed = h.on.placed;
-    comes = λ listing losses recovered told.
-        let here = on.comes listing losses (to_old listing h.on recovered) (losses_old losses h.on told) in
+    comes = λ listing losses recovered reported.
+        let here = on.comes listing losses (to_old listing h.on recovered) (losses_old losses h.on reported) in
         subst (λ (ms : List Member). ComesTo new ms losses) (sym (left_over new listing (over_new h))) (h.none (left_by old listing) losses here).1;
   }
 
   pub left_none : Ends old new → (listing : List Member) → IsRecovered old.file meta listing → (left_by old listing ≡ []) × (left_by new listing ≡ []) × (new.path ≡ [])
   left_none h listing recovered =
       let (members, losses, all) = all_of old.file meta in
-      ((h.none (left_by old listing) losses (on.comes listing losses recovered all.told)).0, left_over new listing (over_new h), h.ended.path)
+      ((h.none (left_by old listing) losses (on.comes listing losses recovered all.reported)).0, left_over new listing (over_new h), h.ended.path)
 
   -- if nothing is left to be done, everything is reported
-  told_all : (s : State) (members : List Member) (losses : List LossView) → s.ahead ≡ None → s.pages ≡ [] → ComesTo s members losses → (members ≡ []) × (s.losses ≡ losses)
-  told_all s members losses ahead pages comes =
+  reported_all : (s : State) (members : List Member) (losses : List LossView) → s.ahead ≡ None → s.pages ≡ [] → ComesTo s members losses → (members ≡ []) × (s.losses ≡ losses)
+  reported_all s members losses ahead pages comes =
       let run = subst (λ (ts : List (Task NoWay)). Runs s.file s.meta stay s.claimed ts comes.visits members)
       (ap (λ (o : Option Ahead). ahead_tasks s.file s.meta s.path o (open_tasks s.file s.meta s.path s.pages [])) ahead ∙ ap (λ (ps : List OpenPage). open_tasks s.file s.meta s.path ps []) pages) comes.run in
       let over = ends s.file s.meta stay s.claimed comes.visits members run in
       (over.1, sym (comes.all ∙ ap (λ (vs : List (Visited NoWay)). s.losses ++ losses_in vs) over.0 ∙ append-nil s.losses))
 
-  pub told_ended : Ends old new → (losses : List LossView) → AreLosses old.file meta losses → new.losses ≡ losses
-  told_ended h losses told =
+  pub reported_ended : Ends old new → (losses : List LossView) → AreLosses old.file meta losses → new.losses ≡ losses
+  reported_ended h losses reported =
       let (members, views, all) = all_of old.file meta in
-      (told_all new [] losses h.ended.ahead h.ended.pages (h.none (left_by old members) losses (on.comes members losses all.recovered told)).1).1
+      (reported_all new [] losses h.ended.ahead h.ended.pages (h.none (left_by old members) losses (on.comes members losses all.recovered reported)).1).1
 
   -- after memory ran out
   over_parts : (o : Option Ahead) (pages : List OpenPage) → over_by o pages ≡ true → (o ≡ None) × (pages ≡ [])
@@ -239,10 +239,10 @@ module _ (old new : State) (meta : Meta) (on : IsOn old meta) where
   left_still : GoesOn old new → (listing : List Member) (losses : List LossView) → ComesTo new (left_by old listing) losses → left_by new listing ≡ left_by old listing
   left_still h listing losses comes =
       elim (cases_Bool (is_over new)) [
-        | inl over ↦ let (ahead, pages) = over_parts new.ahead new.pages over in left_over new listing over ∙ sym (told_all new (left_by old listing) losses ahead pages comes).0
+        | inl over ↦ let (ahead, pages) = over_parts new.ahead new.pages over in left_over new listing over ∙ sym (reported_all new (left_by old listing) losses ahead pages comes).0
         | inr more ↦ elim (cases_Bool (is_over old)) [
           | inl over ↦ absurd (let f : true ≡ false = sym (h.over over) ∙ more in cc)
-          | inr going ↦ left_more new listing more ∙ ap (λ (p : Path). behind p listing) h.path ∙ sym (left_more old listing going)
+          | inr going ↦ left_more new listing more ∙ ap (λ (p : Path). rest_after p listing) h.path ∙ sym (left_more old listing going)
         ]
       ]
 
@@ -250,14 +250,14 @@ module _ (old new : State) (meta : Meta) (on : IsOn old meta) where
   on_same h = record {
     meta = h.on.meta ∙ on.meta;
     placed = h.on.placed;
-    comes = λ listing losses recovered told.
-        let here = h.same (left_by old listing) losses (on.comes listing losses (to_old listing h.on recovered) (losses_old losses h.on told)) in
+    comes = λ listing losses recovered reported.
+        let here = h.same (left_by old listing) losses (on.comes listing losses (to_old listing h.on recovered) (losses_old losses h.on reported)) in
         subst (λ (ms : List Member). ComesTo new ms losses) (sym (left_still h listing losses here)) here;
   }
 
   pub left_same : GoesOn old new → (listing : List Member) → IsRecovered old.file meta listing → left_by new listing ≡ left_by old listing
   left_same h listing recovered =
-      let (members, losses, all) = all_of old.file meta in left_still h listing losses (h.same (left_by old listing) losses (on.comes listing losses recovered all.told))
+      let (members, losses, all) = all_of old.file meta in left_still h listing losses (h.same (left_by old listing) losses (on.comes listing losses recovered all.reported))
 
   -- whatever comes of a call
   pub on_advanced : {E : Type 0} (result : Result (Option Leaf) E) → IfOk result (Advances old new) → OnErr result (GoesOn old new) → IsOn new meta
@@ -272,10 +272,10 @@ file_advanced old new (Ok None) given same = given.on.file
 file_advanced old new (Err e) given same = same.on.file
 
 -- the losses reported so far are the first of all losses
-pub told_first : (s : State) (meta : Meta) → IsOn s meta → (losses : List LossView) → AreLosses s.file meta losses → AreFirst s.losses losses
-told_first s meta on losses told =
+pub reported_first : (s : State) (meta : Meta) → IsOn s meta → (losses : List LossView) → AreLosses s.file meta losses → AreFirst s.losses losses
+reported_first s meta on losses reported =
     let (members, views, all) = all_of s.file meta in
-    let comes = on.comes members losses all.recovered told in
+    let comes = on.comes members losses all.recovered reported in
     let short : length s.losses ≤ length s.losses = omega arith in
     sym (ap (take (length s.losses)) comes.all ∙ take-append-le (length s.losses) s.losses (losses_in comes.visits) short ∙ take_all (length s.losses) s.losses short)
 

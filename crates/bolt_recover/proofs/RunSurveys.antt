@@ -230,9 +230,6 @@ module _ (file : List ℕ) (meta : Meta) (survey : List Visit) where
     ]),
   )
 
-  visit_way : (u : Visit) (w : Way) (f : Option Finding) → u ≡ record { way = w; found = f } → u.way ≡ w
-  visit_way u w f e = ap (λ (z : Visit). z.way) e
-
   only_first : (w : Way) (p : Place) (f : Option Finding) (u : Visit) → IsOpen survey w → place_at file meta w ≡ Some p → Gives nodes (IsClaimedIn nodes reach survey w) p.spot f
       → u ≡ record { way = w; found = f } → IsOpen survey u.way × ((s : Spot) × (reach u.way ≡ Some s) × Gives nodes (IsClaimedIn nodes reach survey u.way) s u.found)
   only_first w p f u opened at gives same =

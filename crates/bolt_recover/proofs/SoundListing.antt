@@ -11,7 +11,7 @@ use Rattle.bolt_check.specs.Keys.{Key}
 use Rattle.bolt_check.specs.Nodes.{Entry, Node, Nodes, leaf_entry, node_at}
 use Rattle.bolt_check.specs.Shape.{child_in, child_of, leads}
 use Rattle.bolt_check.specs.Sound.{HasSoundTrees}
-use Rattle.bolt_check.specs.Ways.{At_inline, At_page, PageSpot, Spot, bucket_spots, child_spot, follow, reached, start_of as page_start, step_at, step_entry, step_from, upper_from}
+use Rattle.bolt_check.specs.Ways.{At_inline, At_page, PageSpot, Spot, bucket_spots, child_spot, follow, reached, root_spot, step_at, step_entry, step_from, upper_from}
 use Rattle.bolt_check.specs.declared.finding.Finding.{Finding}
 use Rattle.bolt_check.proofs.Forest.{follow_some}
 use Rattle.bolt_check.proofs.Lawful.{shape_passes}
@@ -55,7 +55,7 @@ module _ (file : List ℕ) (meta : Meta) where
 
   -- a bucket begins at a way with this place; an inline one is in a leaf
   abbrev AtStart : Start → Place → Type 0
-  AtStart (Root_page r) p = p.spot ≡ At_page (page_start r)
+  AtStart (Root_page r) p = p.spot ≡ At_page (root_spot r)
   AtStart (Inline_page own) p = (p.elements ≡ own)
       × ((n : ℕ) × (outer : LeafElement) × ShowsEntry file meta n outer × IsTrue outer.is_bucket × (head_root outer.value ≡ 0) × (own ≡ inline_elements outer.value))
 
@@ -146,7 +146,7 @@ module _ (file : List ℕ) (meta : Meta) where
         on = inr (flat file meta n outer e shows bucket root (subst (λ (xs : List LeafElement). Contains xs e) same is));
       }
   entry_there (Root_page r) way p e at spot (address, n, lead, (view, page, leaf, is)) =
-      let (w, q, s, found, stands, number, named) = down address way p (page_start r) n at spot lead in
+      let (w, q, s, found, stands, number, named) = down address way p (root_spot r) n at spot lead in
       let elements : q.elements ≡ view.leaves = tidy_page w q s found stands ∙ ap (λ (m : ℕ). leaves_of (page_at file meta m)) number ∙ ap leaves_of page in
       let has = subst (λ (xs : List LeafElement). Contains xs e) (sym elements) is in
       let (i, lt, get) = slice_of q.elements e has in
@@ -164,7 +164,7 @@ module _ (file : List ℕ) (meta : Meta) where
       subst₂ (λ (from : Start) (o : Option Spot). HasStart from (path ++ e.key ∷ []) (place_on file meta path (Some e) o)) (sym start) (sym spot)
       (_, refl, (refl, (n, e, shows, bucket, eqb-true (head_root e.value) 0 zero, refl)), refl)
   start_of_value path e n host false zero bucket shows =
-      let spot : bucket_spots host (leaf_entry e) ≡ Some (At_page (page_start (head_root e.value))) = rw (bucket, zero) refl in
+      let spot : bucket_spots host (leaf_entry e) ≡ Some (At_page (root_spot (head_root e.value))) = rw (bucket, zero) refl in
       let start : start_of e.value ≡ Root_page (head_root e.value) = rw zero refl in
       subst₂ (λ (from : Start) (o : Option Spot). HasStart from (path ++ e.key ∷ []) (place_on file meta path (Some e) o)) (sym start) (sym spot) (_, refl, refl, refl)
 
@@ -238,7 +238,7 @@ pub sound_listing : (file : List ℕ) (meta : Meta) (listing : List Member) → 
 sound_listing file meta listing trees recovered =
     let nodes = node_at file meta in
     let none = none_lost nodes (reached nodes meta.root) recovered.survey (shape_passes nodes meta.root trees) recovered.surveys in
-    let all = all_kept nodes (Some (At_page (page_start meta.root))) recovered.survey recovered.surveys none in
+    let all = all_kept nodes (Some (At_page (root_spot meta.root))) recovered.survey recovered.surveys none in
     record {
       rises = recovered.rises;
       exact = λ path item. (

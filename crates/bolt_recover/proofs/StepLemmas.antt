@@ -10,24 +10,24 @@ use Rattle.bolt_check.specs.declared.claims.Claims.{Claims}
 use Rattle.bolt_check.proofs.Judging.{passes_fewer, tests_same}
 use Rattle.bolt_check.specs.Findings.{IsMetaPage, Passes, Tests}
 use Rattle.bolt_check.specs.Nodes.{node_at}
-use Rattle.bolt_check.specs.Stops.{page_spot, spot_at}
-use Rattle.bolt_check.specs.Ways.{At_page, start_of}
-use Rattle.bolt_check.specs.declared.stop.PageStop.{PageStop}
+use Rattle.bolt_check.specs.ShownSpots.{page_spot, spot_at}
+use Rattle.bolt_check.specs.Ways.{At_page, root_spot}
+use Rattle.bolt_check.specs.declared.spot.PageSpot.{PageSpot}
 use Rattle.std.proofs.lemmas.Bool.Decides.{nat_tests}
 use Rattle.bolt_check.specs.declared.finding.Finding.{Finding}
-use Rattle.bolt_check.specs.declared.stop.Stop.{Stop}
-use Rattle.bolt_check.specs.declared.stop.Stop.TheVariants as stop
+use Rattle.bolt_check.specs.declared.spot.Spot.{Spot}
+use Rattle.bolt_check.specs.declared.spot.Spot.TheVariants as spots
 use Rattle.bolt_tree.specs.Listing.{Member}
 use Rattle.bolt_tree.specs.Paths.{Path}
 use Rattle.bolt_recover.specs.Losses.{LossView, loss_of}
 use Rattle.bolt_recover.specs.Places.{Place, leaves_of, step_place}
-use Rattle.bolt_recover.specs.Private.Frames.{AreOpen, ComesTo, Ends, GivesHead, GoesOn, HasOpen, IsContent, IsGoodContent, IsGoodPage, IsShallow, NoWay, State, StaysOn, ahead_level, ahead_tasks, ahead_weight, claims_nodes, content_elements, content_place, content_size, content_spot, is_over, lost_state, open_tasks, over_by, page_tasks, page_weight, state_tasks, stay, stop_place}
+use Rattle.bolt_recover.specs.Private.Frames.{AreOpen, ComesTo, Ends, GivesHead, GoesOn, HasOpen, IsContent, IsGoodContent, IsGoodPage, IsShallow, NoWay, State, StaysOn, ahead_level, ahead_tasks, ahead_weight, claims_nodes, content_elements, content_place, content_size, content_spot, is_over, lost_state, open_tasks, over_by, page_tasks, page_weight, state_tasks, stay, spot_place}
 use Rattle.bolt_recover.specs.Private.Runs.{Runs, RunsAll, Task, To_visit, Visited, claimed_with, entry_tasks, gives_at, losses_in, meta_pages, place_size, place_tasks, tasks_from, visits_at}
 use Rattle.bolt_recover.specs.declared.open_page.Content.{Content}
 use Rattle.bolt_recover.specs.declared.open_page.Content.TheVariants.{Bucket, Page}
 use Rattle.bolt_recover.specs.declared.open_page.OpenPage.{OpenPage}
 use Rattle.bolt_recover.specs.declared.steps.Ahead.{Ahead}
-use Rattle.bolt_recover.proofs.RunSteps.{ends, gives, keeps, loses}
+use Rattle.bolt_recover.proofs.RunSteps.{gives, keeps, loses}
 
 -- the innermost page is the last one
 open_last : (file : List ℕ) (meta : Meta) (path : Path) (pages : List OpenPage) (page : OpenPage) (rest : List (Task NoWay))
@@ -75,11 +75,11 @@ size_is : (file : List ℕ) (meta : Meta) (content : Content) → IsGoodContent 
 size_is file meta (Page page s) good = rw good.0 refl
 size_is file meta (Bucket s) good = refl
 
-opened : (file : List ℕ) (meta : Meta) (path : Path) (s : Stop) (content : Content) (level count : ℕ) → IsContent file meta s content → count ≡ content_size content
-    → page_tasks file meta path (record { content = content; level = level; count = count; next = 0 }) ≡ place_tasks file meta stay tt (stop_place file meta (take level path) s)
+opened : (file : List ℕ) (meta : Meta) (path : Path) (s : Spot) (content : Content) (level count : ℕ) → IsContent file meta s content → count ≡ content_size content
+    → page_tasks file meta path (record { content = content; level = level; count = count; next = 0 }) ≡ place_tasks file meta stay tt (spot_place file meta (take level path) s)
 opened file meta path s content level count is long =
     let none : count - 0 ≡ count = omega arith in
-    let place : content_place (take level path) content ≡ stop_place file meta (take level path) s = λ i. record { spot = is.spot i; path = take level path; elements = is.elements i } in
+    let place : content_place (take level path) content ≡ spot_place file meta (take level path) s = λ i. record { spot = is.spot i; path = take level path; elements = is.elements i } in
     rw (none, long, size_is file meta content is.good) (ap (λ (p : Place). place_tasks file meta stay tt p) place)
 
 same_claims : (file : List ℕ) (meta : Meta) (a b : ℕ → Bool) (tasks : List (Task NoWay)) (visits : List (Visited NoWay)) (members : List Member)
@@ -101,8 +101,8 @@ not_open s front top is pages over =
 
 -- what was ahead is open
 pub entered_page : (s : State) (ahead : Ahead) (content : Content) (count : ℕ) (claimed : ℕ → Bool) → HasOpen s → s.ahead ≡ Some ahead
-    → Passes (node_at s.file s.meta) (λ n. s.claimed n ≡ true) (spot_at ahead.stop) → IsContent s.file s.meta ahead.stop content
-    → ((n : ℕ) → claimed n ≡ claimed_with (node_at s.file s.meta) s.claimed (spot_at ahead.stop) n) → count ≡ content_size content → count < 65536
+    → Passes (node_at s.file s.meta) (λ n. s.claimed n ≡ true) (spot_at ahead.spot) → IsContent s.file s.meta ahead.spot content
+    → ((n : ℕ) → claimed n ≡ claimed_with (node_at s.file s.meta) s.claimed (spot_at ahead.spot) n) → count ≡ content_size content → count < 65536
     → GoesOn s (record s { claimed = claimed; ahead = None; pages = s.pages ++ record { content = content; level = ahead.level; count = count; next = 0 } ∷ [] })
 entered_page s ahead content count claimed has is passes content_is claims long fits =
     let page : OpenPage = record { content = content; level = ahead.level; count = count; next = 0 } in
@@ -122,12 +122,12 @@ entered_page s ahead content count claimed has is passes content_is claims long 
       over = λ over. absurd (not_ahead s ahead is over);
       same = λ members losses comes.
           let first = subst (λ (o : Option Ahead). Runs s.file s.meta stay s.claimed (ahead_tasks s.file s.meta s.path o (open_tasks s.file s.meta s.path s.pages [])) comes.visits members) is comes.run in
-          let next = keeps s.file s.meta stay s.claimed tt (stop_place s.file s.meta (take ahead.level s.path) ahead.stop) (open_tasks s.file s.meta s.path s.pages []) comes.visits members passes first in
+          let next = keeps s.file s.meta stay s.claimed tt (spot_place s.file s.meta (take ahead.level s.path) ahead.spot) (open_tasks s.file s.meta s.path s.pages []) comes.visits members passes first in
           record {
             visits = next.0;
-            run = same_claims s.file s.meta (claimed_with (node_at s.file s.meta) s.claimed (spot_at ahead.stop)) claimed _ next.0 members claims
-                (subst (λ (ts : List (Task NoWay)). Runs s.file s.meta stay (claimed_with (node_at s.file s.meta) s.claimed (spot_at ahead.stop)) ts next.0 members)
-                (sym (open_last s.file s.meta s.path s.pages page [] ∙ ap (λ (ts : List (Task NoWay)). ts ++ open_tasks s.file s.meta s.path s.pages []) (opened s.file s.meta s.path ahead.stop content ahead.level count content_is long)))
+            run = same_claims s.file s.meta (claimed_with (node_at s.file s.meta) s.claimed (spot_at ahead.spot)) claimed _ next.0 members claims
+                (subst (λ (ts : List (Task NoWay)). Runs s.file s.meta stay (claimed_with (node_at s.file s.meta) s.claimed (spot_at ahead.spot)) ts next.0 members)
+                (sym (open_last s.file s.meta s.path s.pages page [] ∙ ap (λ (ts : List (Task NoWay)). ts ++ open_tasks s.file s.meta s.path s.pages []) (opened s.file s.meta s.path ahead.spot content ahead.level count content_is long)))
                 next.2);
             all = comes.all ∙ ap (λ (vs : List (Visited NoWay)). s.losses ++ losses_in vs) next.1;
           };
@@ -135,12 +135,12 @@ entered_page s ahead content count claimed has is passes content_is claims long 
 
 -- what was ahead is lost
 pub entered_lost : (s : State) (ahead : Ahead) (x : Finding) (claimed : ℕ → Bool) → HasOpen s → s.ahead ≡ Some ahead
-    → Tests (node_at s.file s.meta) (λ n. s.claimed n ≡ true) (spot_at ahead.stop) x → ((n : ℕ) → claimed n ≡ s.claimed n)
+    → Tests (node_at s.file s.meta) (λ n. s.claimed n ≡ true) (spot_at ahead.spot) x → ((n : ℕ) → claimed n ≡ s.claimed n)
     → GoesOn s (lost_state (record s { claimed = claimed }) ahead x)
 entered_lost s ahead x claimed has is tests claims =
     let are = rw is at has.pages in
     let within = rw is at has.within in
-    let place : Place = stop_place s.file s.meta (take ahead.level s.path) ahead.stop in
+    let place : Place = spot_place s.file s.meta (take ahead.level s.path) ahead.spot in
     record {
       on = record { file = refl; meta = refl; placed = record { pages = are_open_up s.file s.meta 0 s.pages ahead.level (length s.path) are within; within = omega arith } };
       path = refl;
@@ -177,17 +177,6 @@ run_top : (s : State) (front : List OpenPage) (top : OpenPage) (visits : List (V
 run_top s front top visits members is pages run =
     subst (λ (ts : List (Task NoWay)). Runs s.file s.meta stay s.claimed ts visits members)
     (ap (λ (ps : List OpenPage). open_tasks s.file s.meta s.path ps []) pages ∙ open_last s.file s.meta s.path front top []) (run_open s visits members is run)
-
--- nothing was open
-pub took_none : (s : State) → HasOpen s → s.ahead ≡ None → s.pages ≡ [] → Ends s (record s { ahead = None; pages = []; path = [] })
-took_none s has is none = record {
-  on = record { file = refl; meta = refl; placed = record { pages = omega arith; within = omega arith } };
-  ended = record { ahead = refl; pages = refl; path = refl };
-  none = λ members losses comes.
-      let open_run = subst (λ (ps : List OpenPage). Runs s.file s.meta stay s.claimed (open_tasks s.file s.meta s.path ps []) comes.visits members) none (run_open s comes.visits members is comes.run) in
-      let over = ends s.file s.meta stay s.claimed comes.visits members open_run in
-      (over.1, record { visits = comes.visits; run = subst (λ (ms : List Member). Runs s.file s.meta stay s.claimed [] comes.visits ms) over.1 open_run; all = comes.all });
-}
 
 pub top_of : (s : State) (front : List OpenPage) (top : OpenPage) → HasOpen s → s.ahead ≡ None → s.pages ≡ front ++ top ∷ [] → Innermost s.file s.meta 0 front top (length s.path)
 top_of s front top has is pages =
@@ -258,25 +247,25 @@ module _ (s : State) (front : List OpenPage) (top : OpenPage) (has : HasOpen s) 
       ∙ sym (open_last s.file s.meta path front moved [])
 
   -- where the element leads is ahead
-  abbrev ahead_of : ℕ → Option Stop → Option Ahead
-  ahead_of level r = option_map (λ (stop : Stop). record { stop = stop; level = level }) r
+  abbrev ahead_of : ℕ → Option Spot → Option Ahead
+  ahead_of level r = option_map (λ (spot : Spot). record { spot = spot; level = level }) r
 
-  visits_ahead : (path : Path) (level : ℕ) (r : Option Stop) (rest : List (Task NoWay)) → visits_at s.file s.meta stay tt (option_map (stop_place s.file s.meta (take level path)) r) ++ rest
+  visits_ahead : (path : Path) (level : ℕ) (r : Option Spot) (rest : List (Task NoWay)) → visits_at s.file s.meta stay tt (option_map (spot_place s.file s.meta (take level path)) r) ++ rest
       ≡ ahead_tasks s.file s.meta path (ahead_of level r) rest
   visits_ahead path level None rest = refl
-  visits_ahead path level (Some stop) rest = refl
+  visits_ahead path level (Some spot) rest = refl
 
-  ahead_within : (level : ℕ) (r : Option Stop) (high : ℕ) → level ≤ high → ahead_level (ahead_of level r) high ≤ high
+  ahead_within : (level : ℕ) (r : Option Spot) (high : ℕ) → level ≤ high → ahead_level (ahead_of level r) high ≤ high
   ahead_within level None high le = omega arith
-  ahead_within level (Some stop) high le = le
+  ahead_within level (Some spot) high le = le
 
-  ahead_above : (low level : ℕ) (r : Option Stop) (high : ℕ) → low ≤ level → level ≤ high → low ≤ ahead_level (ahead_of level r) high
+  ahead_above : (low level : ℕ) (r : Option Spot) (high : ℕ) → low ≤ level → level ≤ high → low ≤ ahead_level (ahead_of level r) high
   ahead_above low level None high le up = omega (arith, le, up)
-  ahead_above low level (Some stop) high le up = le
+  ahead_above low level (Some spot) high le up = le
 
   -- an element of a branch
-  pub took_branch : (r : Option Stop) → slice_get (content_elements top.content) top.next ≡ None
-      → step_place s.file s.meta here top.next ≡ option_map (stop_place s.file s.meta (take top.level s.path)) r
+  pub took_branch : (r : Option Spot) → slice_get (content_elements top.content) top.next ≡ None
+      → step_place s.file s.meta here top.next ≡ option_map (spot_place s.file s.meta (take top.level s.path)) r
       → GoesOn s (record s { ahead = ahead_of top.level r; pages = front ++ moved ∷ [] })
   took_branch r none leads =
       let within = inner.within in
@@ -304,8 +293,8 @@ module _ (s : State) (front : List OpenPage) (top : OpenPage) (has : HasOpen s) 
       }
 
   -- an element of a leaf
-  pub took_leaf : (e : LeafElement) (r : Option Stop) → slice_get (content_elements top.content) top.next ≡ Some e
-      → step_place s.file s.meta here top.next ≡ option_map (stop_place s.file s.meta (take top.level s.path ++ e.key ∷ [])) r
+  pub took_leaf : (e : LeafElement) (r : Option Spot) → slice_get (content_elements top.content) top.next ≡ Some e
+      → step_place s.file s.meta here top.next ≡ option_map (spot_place s.file s.meta (take top.level s.path ++ e.key ∷ [])) r
       → GivesHead s (record s { ahead = ahead_of (top.level + 1) r; pages = front ++ moved ∷ []; path = take top.level s.path ++ e.key ∷ [] }) e
   took_leaf e r some leads =
       let within = inner.within in
@@ -332,7 +321,7 @@ module _ (s : State) (front : List OpenPage) (top : OpenPage) (has : HasOpen s) 
               record {
                 visits = comes.visits;
                 run = subst (λ (ts : List (Task NoWay)). Runs s.file s.meta stay s.claimed ts comes.visits next.0)
-                    (ap (λ (o : Option Place). visits_at s.file s.meta stay tt o ++ rest_tasks) (leads ∙ ap (λ (p : Path). option_map (stop_place s.file s.meta p) r) (sym whole))
+                    (ap (λ (o : Option Place). visits_at s.file s.meta stay tt o ++ rest_tasks) (leads ∙ ap (λ (p : Path). option_map (spot_place s.file s.meta p) r) (sym whole))
                     ∙ visits_ahead path (top.level + 1) r rest_tasks
                     ∙ ap (ahead_tasks s.file s.meta path (ahead_of (top.level + 1) r)) (moved_tasks path (λ n le. take_below top.level n s.path (e.key ∷ []) within le)))
                     next.2;
@@ -349,11 +338,11 @@ as_state P t file meta ahead pages path losses f m a g p l h =
     subst P (λ i. record { file = f i; meta = m i; claimed = t.claimed; ahead = a i; pages = g i; path = p i; losses = l i }) h
 
 -- the root page alone is ahead
-abbrev pub start_state : List ℕ → Meta → PageStop → State
+abbrev pub start_state : List ℕ → Meta → PageSpot → State
 start_state file meta root =
-    record { file = file; meta = meta; claimed = meta_pages; ahead = Some (record { stop = stop.Page root; level = 0 }); pages = []; path = []; losses = [] }
+    record { file = file; meta = meta; claimed = meta_pages; ahead = Some (record { spot = spots.Page root; level = 0 }); pages = []; path = []; losses = [] }
 
-pub started : (file : List ℕ) (meta : Meta) (root : PageStop) → page_spot root ≡ start_of meta.root → root.number ≡ meta.root → (visits : List (Visited NoWay)) (members : List Member)
+pub started : (file : List ℕ) (meta : Meta) (root : PageSpot) → page_spot root ≡ root_spot meta.root → root.number ≡ meta.root → (visits : List (Visited NoWay)) (members : List Member)
     → RunsAll file meta stay tt visits members → ComesTo (start_state file meta root) members (losses_in visits)
 started file meta root spot number visits members run = record {
   visits = visits;
@@ -361,9 +350,6 @@ started file meta root spot number visits members run = record {
       (λ i. record { spot = At_page (sym spot i); path = []; elements = leaves_of (page_at file meta (sym number i)) }) run;
   all = refl;
 }
-
-pub started_open : (file : List ℕ) (meta : Meta) (root : PageStop) → HasOpen (start_state file meta root)
-started_open file meta root = record { pages = omega arith; within = omega arith }
 
 -- the meta pages alone are claimed
 pub same_test : (a b : Bool) → (a ≡ true → b ≡ true) → (b ≡ true → a ≡ true) → a ≡ b
@@ -375,32 +361,32 @@ pub of_metas : (claimed : ℕ → Bool) → ((n : ℕ) → (claimed n ≡ true) 
 of_metas claimed metas n = same_test (claimed n) (meta_pages n) (λ h. let is = (metas n).0 h in grind (arith, nat_tests)) (λ h. (metas n).1 (grind (arith, nat_tests)))
 
 pub root_refused : (claims : Claims) (file : List ℕ) (meta : Meta) (x : Finding) → claims_file claims ≡ file → claims_meta claims ≡ meta
-    → ((n : ℕ) → (is_claimed claims n ≡ true) ↔ IsMetaPage n) → Tests (claims_nodes claims) (λ n. is_claimed claims n ≡ true) (At_page (start_of meta.root)) x
-    → Tests (node_at file meta) IsMetaPage (At_page (start_of meta.root)) x
+    → ((n : ℕ) → (is_claimed claims n ≡ true) ↔ IsMetaPage n) → Tests (claims_nodes claims) (λ n. is_claimed claims n ≡ true) (At_page (root_spot meta.root)) x
+    → Tests (node_at file meta) IsMetaPage (At_page (root_spot meta.root)) x
 root_refused claims file meta x f m metas h =
-    tests_same (node_at file meta) (λ n. is_claimed claims n ≡ true) IsMetaPage (At_page (start_of meta.root)) x (λ n. (metas n).0) (λ n. (metas n).1)
-    (subst₂ (λ (a : List ℕ) (b : Meta). Tests (node_at a b) (λ n. is_claimed claims n ≡ true) (At_page (start_of meta.root)) x) f m h)
+    tests_same (node_at file meta) (λ n. is_claimed claims n ≡ true) IsMetaPage (At_page (root_spot meta.root)) x (λ n. (metas n).0) (λ n. (metas n).1)
+    (subst₂ (λ (a : List ℕ) (b : Meta). Tests (node_at a b) (λ n. is_claimed claims n ≡ true) (At_page (root_spot meta.root)) x) f m h)
 
 pub root_kept : (claims : Claims) (file : List ℕ) (meta : Meta) → claims_file claims ≡ file → claims_meta claims ≡ meta
-    → ((n : ℕ) → (is_claimed claims n ≡ true) ↔ IsMetaPage n) → Passes (claims_nodes claims) (λ n. is_claimed claims n ≡ true) (At_page (start_of meta.root))
-    → Passes (node_at file meta) IsMetaPage (At_page (start_of meta.root))
+    → ((n : ℕ) → (is_claimed claims n ≡ true) ↔ IsMetaPage n) → Passes (claims_nodes claims) (λ n. is_claimed claims n ≡ true) (At_page (root_spot meta.root))
+    → Passes (node_at file meta) IsMetaPage (At_page (root_spot meta.root))
 root_kept claims file meta f m metas h =
-    passes_fewer (node_at file meta) (λ n. is_claimed claims n ≡ true) IsMetaPage (At_page (start_of meta.root)) (λ n. (metas n).1)
-    (subst₂ (λ (a : List ℕ) (b : Meta). Passes (node_at a b) (λ n. is_claimed claims n ≡ true) (At_page (start_of meta.root))) f m h)
+    passes_fewer (node_at file meta) (λ n. is_claimed claims n ≡ true) IsMetaPage (At_page (root_spot meta.root)) (λ n. (metas n).1)
+    (subst₂ (λ (a : List ℕ) (b : Meta). Passes (node_at a b) (λ n. is_claimed claims n ≡ true) (At_page (root_spot meta.root))) f m h)
 
 pub either : {A X E P Q : Type 0} (result : Result X E) → OnOk result P → OnErr result Q → (P → A) → (Q → A) → A
 either (Ok x) p q f g = f p
 either (Err e) p q f g = g q
 
 -- the root page is open
-pub begins : (file f : List ℕ) (meta m : Meta) (before claimed : ℕ → Bool) (root : PageStop) (content : Content) (count : ℕ) → f ≡ file → m ≡ meta → ((n : ℕ) → before n ≡ meta_pages n)
-    → page_spot root ≡ start_of meta.root → root.number ≡ meta.root → Passes (node_at f m) (λ n. before n ≡ true) (At_page (page_spot root)) → IsContent f m (stop.Page root) content
+pub begins : (file f : List ℕ) (meta m : Meta) (before claimed : ℕ → Bool) (root : PageSpot) (content : Content) (count : ℕ) → f ≡ file → m ≡ meta → ((n : ℕ) → before n ≡ meta_pages n)
+    → page_spot root ≡ root_spot meta.root → root.number ≡ meta.root → Passes (node_at f m) (λ n. before n ≡ true) (At_page (page_spot root)) → IsContent f m (spots.Page root) content
     → ((n : ℕ) → claimed n ≡ claimed_with (node_at f m) before (At_page (page_spot root)) n) → count ≡ content_size content → count < 65536
     → (visits : List (Visited NoWay)) (members : List Member) → RunsAll file meta stay tt visits members
     → ComesTo (record { file = f; meta = m; claimed = claimed; ahead = None; pages = record { content = content; level = 0; count = count; next = 0 } ∷ []; path = []; losses = [] }) members (losses_in visits)
 begins file f meta m before claimed root content count e h metas spot number passes is claims long fits visits members run =
     let s : State = record (start_state f m root) { claimed = before } in
-    let ahead : Ahead = record { stop = stop.Page root; level = 0 } in
+    let ahead : Ahead = record { spot = spots.Page root; level = 0 } in
     let here : ComesTo s members (losses_in visits) =
     subst (λ (t : State). ComesTo t members (losses_in visits))
     (λ i. record { file = sym e i; meta = sym h i; claimed = λ n. sym (metas n) i; ahead = Some ahead; pages = []; path = []; losses = [] }) (started file meta root spot number visits members run) in
@@ -420,20 +406,17 @@ none_is f None e = refl
 none_is f (Some x) e = absurd (cc)
 
 -- an element that is taken was worth more than where it leads
-pub moved_weight : (file : List ℕ) (meta : Meta) (path under : Path) (content : Content) (level above count next : ℕ) (r : Option Stop)
-    → step_place file meta (content_place path content) next ≡ option_map (stop_place file meta under) r → next + 1 ≤ count
-    → ahead_weight (option_map (λ (stop : Stop). record { stop = stop; level = above }) r) + page_weight (record { content = content; level = level; count = count; next = next + 1 })
+pub moved_weight : (file : List ℕ) (meta : Meta) (path under : Path) (content : Content) (level above count next : ℕ) (r : Option Spot)
+    → step_place file meta (content_place path content) next ≡ option_map (spot_place file meta under) r → next + 1 ≤ count
+    → ahead_weight (option_map (λ (spot : Spot). record { spot = spot; level = above }) r) + page_weight (record { content = content; level = level; count = count; next = next + 1 })
     < page_weight (record { content = content; level = level; count = count; next = next })
 moved_weight file meta path under (Page page s) level above count next None leads le = omega arith
-moved_weight file meta path under (Page page s) level above count next (Some (stop.Page t)) leads le = omega arith
-moved_weight file meta path under (Page page s) level above count next (Some (stop.Bucket t)) leads le = omega arith
+moved_weight file meta path under (Page page s) level above count next (Some (spots.Page t)) leads le = omega arith
+moved_weight file meta path under (Page page s) level above count next (Some (spots.Bucket t)) leads le = omega arith
 moved_weight file meta path under (Bucket s) level above count next r leads le =
-    let none = none_is (stop_place file meta under) r leads in rw none (omega arith)
+    let none = none_is (spot_place file meta under) r leads in rw none (omega arith)
 
 -- one step after another
-pub unmoved : (s : State) → HasOpen s → GoesOn s s
-unmoved s has = record { on = record { file = refl; meta = refl; placed = has }; path = refl; over = λ over. over; same = λ members losses comes. comes }
-
 on_from : (a b c : State) → StaysOn a b → StaysOn b c → StaysOn a c
 on_from a b c h k = record { file = k.file ∙ h.file; meta = k.meta ∙ h.meta; placed = k.placed }
 

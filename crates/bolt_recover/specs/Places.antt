@@ -4,7 +4,7 @@ use Rattle.bolt_format.specs.Elements.{LeafElement, inline_elements}
 use Rattle.bolt_format.specs.Pages.{PageView, page_at}
 use Rattle.bolt_format.specs.declared.meta.Meta.{Meta}
 use Rattle.bolt_check.specs.Nodes.{node_at}
-use Rattle.bolt_check.specs.Ways.{At_inline, At_page, Spot, start_of, step_from}
+use Rattle.bolt_check.specs.Ways.{At_inline, At_page, Spot, root_spot, step_from}
 use Rattle.bolt_tree.specs.Paths.{Path}
 
 -- The spot, the path of the bucket that it lies in, and the elements of the leaf page or inline page there; a branch has none.
@@ -40,7 +40,7 @@ follow_places file meta here [] = here
 follow_places file meta here (i ∷ way) = follow_places file meta (next_place file meta here i) way
 
 abbrev pub root_place : List ℕ → Meta → Place
-root_place file meta = record { spot = At_page (start_of meta.root); path = []; elements = leaves_of (page_at file meta meta.root) }
+root_place file meta = record { spot = At_page (root_spot meta.root); path = []; elements = leaves_of (page_at file meta meta.root) }
 
 -- what a way leads to
 abbrev pub place_at : List ℕ → Meta → List ℕ → Option Place

@@ -35,4 +35,4 @@ ForLosses file meta P = (losses : List LossView) → AreLosses file meta losses 
 
 -- these are the first of all losses
 abbrev pub AreFirst : List LossView → List LossView → Type 0
-AreFirst told losses = told ≡ take (length told) losses
+AreFirst reported losses = reported ≡ take (length reported) losses

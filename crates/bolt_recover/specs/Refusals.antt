@@ -5,28 +5,28 @@ use Rattle.bolt_format.specs.declared.meta.Meta.{Meta}
 use Rattle.bolt_format.specs.declared.meta.Slot.{Slot}
 use Rattle.bolt_check.specs.Findings.{IsMetaPage, Passes, Tests}
 use Rattle.bolt_check.specs.Nodes.{node_at}
-use Rattle.bolt_check.specs.Ways.{At_page, start_of}
+use Rattle.bolt_check.specs.Ways.{At_page, root_spot}
 use Rattle.bolt_check.specs.declared.fault.CheckFault.{CheckFault}
 use Rattle.bolt_check.specs.declared.fault.CheckFault.TheVariants.{Accounts, Memory, Open, Structure}
 use Rattle.bolt_check.specs.declared.finding.Finding.{Finding}
 
 -- The root page, to which the empty way leads, is kept, or lost with this finding. The meta pages alone are claimed before.
 abbrev pub KeepsRoot : List ℕ → Meta → Type 0
-KeepsRoot file meta = Passes (node_at file meta) IsMetaPage (At_page (start_of meta.root))
+KeepsRoot file meta = Passes (node_at file meta) IsMetaPage (At_page (root_spot meta.root))
 
 abbrev pub LosesRoot : List ℕ → Meta → Finding → Type 0
-LosesRoot file meta x = Tests (node_at file meta) IsMetaPage (At_page (start_of meta.root)) x
+LosesRoot file meta x = Tests (node_at file meta) IsMetaPage (At_page (root_spot meta.root)) x
 
 -- why nothing is recovered under the active meta
 abbrev pub IsUnrecoverable : List ℕ → CheckFault → Type 0
 IsUnrecoverable file (Open fault) = HasMetaFault file 0 fault × ((slot : Slot) (meta : Meta) → IsInSlot file slot meta → ⊥)
 IsUnrecoverable file (Structure x) = (slot : Slot) × (meta : Meta) × IsChosen file slot meta × LosesRoot file meta x
-IsUnrecoverable file (Accounts told) = ⊥
+IsUnrecoverable file (Accounts reported) = ⊥
 IsUnrecoverable file Memory = Unit {0}
 
 -- and under the meta of this slot
 abbrev pub IsSlotUnrecoverable : List ℕ → Slot → CheckFault → Type 0
 IsSlotUnrecoverable file slot (Open fault) = HasSlotFault file slot fault × ((meta : Meta) → IsInSlot file slot meta → ⊥)
 IsSlotUnrecoverable file slot (Structure x) = (meta : Meta) × IsInSlot file slot meta × LosesRoot file meta x
-IsSlotUnrecoverable file slot (Accounts told) = ⊥
+IsSlotUnrecoverable file slot (Accounts reported) = ⊥
 IsSlotUnrecoverable file slot Memory = Unit {0}

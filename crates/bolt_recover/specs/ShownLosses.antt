@@ -1,5 +1,5 @@
 -- A loss of the code as it is shown.
-use Rattle.bolt_check.specs.Stops.{bound_of}
+use Rattle.bolt_check.specs.ShownSpots.{bound_of}
 use Rattle.bolt_tree.specs.Paths.{path_of}
 use Rattle.bolt_recover.specs.Losses.{LossView}
 use Rattle.bolt_recover.specs.declared.loss.Loss.{Loss}

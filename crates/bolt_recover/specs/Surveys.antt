@@ -46,7 +46,3 @@ pub record Surveys (nodes : Nodes) (reach : Reach) (survey : List Visit) : Type 
 -- the survey of a file under a meta
 abbrev pub IsSurvey : List ℕ → Meta → List Visit → Type 0
 IsSurvey file meta survey = Surveys (node_at file meta) (reached (node_at file meta) meta.root) survey
-
--- What is promised of the survey of a file is promised for each survey of it; there is exactly one (`laws`).
-abbrev pub ForSurvey : List ℕ → Meta → (List Visit → Type 0) → Type 0
-ForSurvey file meta P = (survey : List Visit) → IsSurvey file meta survey → P survey

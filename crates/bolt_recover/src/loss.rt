@@ -1,11 +1,11 @@
 //! What is reported of a lost page.
 ghost use Rattle.std.specs.Prelude.{◌≡◌, IfOk};
-ghost use Rattle.bolt_check.specs.Stops.{spot_at};
+ghost use Rattle.bolt_check.specs.ShownSpots.{spot_at};
 ghost use Rattle.bolt_tree.specs.Paths.{path_of};
 ghost use Rattle.bolt_recover.specs.Losses.{lower_of, upper_of};
 ghost use Rattle.bolt_recover.specs.ShownLosses.{loss_view};
 
-use bolt_check::{Finding, NoMemory, Stop};
+use bolt_check::{Finding, NoMemory, Spot};
 use std::alloc::Global;
 
 /// A lost page, or the lost page of an inline bucket, with everything below it (docs/RECOVERY.md,
@@ -24,7 +24,7 @@ pub struct Loss<'a> {
 }
 
 impl<'a> Loss<'a> {
-    /// The loss of what a stop leads to, in the bucket with this path.
+    /// The loss of what a spot leads to, in the bucket with this path.
     ///
     /// # Errors
     ///
@@ -33,15 +33,15 @@ impl<'a> Loss<'a> {
         alloc: Global,
         finding: Finding,
         bucket: &[&'a [u8]],
-        stop: &Stop<'a>,
+        spot: &Spot<'a>,
     ) -> Result<Loss<'a>, NoMemory>
-        ensures { IfOk result (λ loss. loss_view loss ≡ record { finding = finding; bucket = path_of bucket.now; lower = lower_of (spot_at stop.now); upper = upper_of (spot_at stop.now) }) }
+        ensures { IfOk result (λ loss. loss_view loss ≡ record { finding = finding; bucket = path_of bucket.now; lower = lower_of (spot_at spot.now); upper = upper_of (spot_at spot.now) }) }
     {
         let mut path = Vec::new(alloc);
         path.extend_from_slice(bucket)?;
-        let (lower, upper) = match stop {
-            Stop::Page(page) => (page.lower, page.upper),
-            Stop::Bucket(_) => (None, None),
+        let (lower, upper) = match spot {
+            Spot::Page(page) => (page.lower, page.upper),
+            Spot::Bucket(_) => (None, None),
         };
         Ok(Loss {
             finding,

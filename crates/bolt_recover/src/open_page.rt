@@ -6,20 +6,20 @@ ghost use Rattle.bolt_format.specs.ElementPlaces.{leaf_view};
 ghost use Rattle.bolt_format.specs.declared.meta.Meta.{Meta};
 ghost use Rattle.bolt_check.specs.Claims.{claims_file, claims_meta, is_claimed, pages_left};
 ghost use Rattle.bolt_check.specs.Findings.{Passes, Tests};
-ghost use Rattle.bolt_check.specs.Stops.{spot_at};
+ghost use Rattle.bolt_check.specs.ShownSpots.{spot_at};
 ghost use Rattle.bolt_tree.specs.Paths.{Path};
 ghost use Rattle.bolt_recover.specs.Places.{step_place};
-ghost use Rattle.bolt_recover.specs.Private.Frames.{IsContent, IsGoodContent, IsShallow, claims_nodes, content_elements, content_place, content_size, pages_in, step_path, stop_place};
+ghost use Rattle.bolt_recover.specs.Private.Frames.{IsContent, IsGoodContent, IsShallow, claims_nodes, content_elements, content_place, content_size, pages_in, step_path, spot_place};
 ghost use Rattle.bolt_recover.specs.Private.Runs.{claimed_with};
 
-use bolt_check::{BucketStop, Claims, Finding, PageStop, Stop, TreePage};
+use bolt_check::{BucketSpot, Claims, Finding, PageSpot, Spot, TreePage};
 use bolt_format::Leaf;
 
-/// A page that passed its tests, or the page of an inline bucket, with the stop that led to it.
+/// A page that passed its tests, or the page of an inline bucket, with the spot that led to it.
 #[derive(Clone, Copy)]
 pub(crate) enum Content<'a> {
-    Page(TreePage<'a>, PageStop<'a>),
-    Bucket(BucketStop<'a>),
+    Page(TreePage<'a>, PageSpot<'a>),
+    Bucket(BucketSpot<'a>),
 }
 
 /// An open page on the current way.
@@ -36,24 +36,24 @@ pub(crate) struct OpenPage<'a> {
 
 impl<'a> Content<'a> {
     /// Tests what a way leads to. If the tests find nothing, the page is claimed.
-    pub fn visit(claims: &mut Claims<'a>, stop: Stop<'a>) -> Result<Content<'a>, Finding>
+    pub fn visit(claims: &mut Claims<'a>, spot: Spot<'a>) -> Result<Content<'a>, Finding>
         ensures file { claims_file claims.new ≡ claims_file claims.old }
         ensures meta { claims_meta claims.new ≡ claims_meta claims.old }
-        ensures found { IfErr result (Tests (claims_nodes claims.old) (λ n. is_claimed claims.old n ≡ true) (spot_at stop.entry)) }
+        ensures found { IfErr result (Tests (claims_nodes claims.old) (λ n. is_claimed claims.old n ≡ true) (spot_at spot.entry)) }
         ensures same { OnErr result ((n : ℕ) → is_claimed claims.new n ≡ is_claimed claims.old n) }
         ensures left { OnErr result (pages_left claims.new ≡ pages_left claims.old) }
-        ensures passes { OnOk result (Passes (claims_nodes claims.old) (λ n. is_claimed claims.old n ≡ true) (spot_at stop.entry)) }
-        ensures content { IfOk result (IsContent (claims_file claims.old) (claims_meta claims.old) stop.entry) }
-        ensures claims { OnOk result ((n : ℕ) → is_claimed claims.new n ≡ claimed_with (claims_nodes claims.old) (is_claimed claims.old) (spot_at stop.entry) n) }
+        ensures passes { OnOk result (Passes (claims_nodes claims.old) (λ n. is_claimed claims.old n ≡ true) (spot_at spot.entry)) }
+        ensures content { IfOk result (IsContent (claims_file claims.old) (claims_meta claims.old) spot.entry) }
+        ensures claims { OnOk result ((n : ℕ) → is_claimed claims.new n ≡ claimed_with (claims_nodes claims.old) (is_claimed claims.old) (spot_at spot.entry) n) }
         ensures fewer { IfOk result (λ content. pages_left claims.new + pages_in content ≤ pages_left claims.old) }
     {
-        match stop {
-            Stop::Page(stop) => match claims.visit(&stop) {
-                Ok(page) => Ok(Content::Page(page, stop)),
+        match spot {
+            Spot::Page(spot) => match claims.visit(&spot) {
+                Ok(page) => Ok(Content::Page(page, spot)),
                 Err(finding) => Err(finding),
             },
-            Stop::Bucket(stop) => match stop.test() {
-                Ok(()) => Ok(Content::Bucket(stop)),
+            Spot::Bucket(spot) => match spot.test() {
+                Ok(()) => Ok(Content::Bucket(spot)),
                 Err(finding) => Err(finding),
             },
         }
@@ -65,7 +65,7 @@ impl<'a> Content<'a> {
     {
         match self {
             Content::Page(page, _) => page.count(),
-            Content::Bucket(stop) => stop.page.count(),
+            Content::Bucket(spot) => spot.page.count(),
         }
     }
 
@@ -78,19 +78,19 @@ impl<'a> Content<'a> {
         match self {
             Content::Page(page, _) if page.is_leaf => Some(page.page.leaf(i)),
             Content::Page(_, _) => None,
-            Content::Bucket(stop) => Some(stop.page.leaf(i)),
+            Content::Bucket(spot) => Some(spot.page.leaf(i)),
         }
     }
 
     /// What element `i` leads to, if anything.
-    pub fn stop(&self, i: u16) -> Option<Stop<'a>>
+    pub fn spot(&self, i: u16) -> Option<Spot<'a>>
         requires shallow { IsShallow self.now }
         requires below { i < content_size self.now }
         ensures { (file : List ℕ) (meta : Meta) (path : Path) → IsGoodContent file meta self.now
-            → step_place file meta (content_place path self.now) i ≡ option_map (stop_place file meta (step_path path (slice_get (content_elements self.now) i))) result }
+            → step_place file meta (content_place path self.now) i ≡ option_map (spot_place file meta (step_path path (slice_get (content_elements self.now) i))) result }
     {
         match self {
-            Content::Page(page, stop) => page.stop(i, stop),
+            Content::Page(page, spot) => page.spot(i, spot),
             Content::Bucket(_) => None,
         }
     }

@@ -51,10 +51,8 @@ impl<'a> Recovery<'a> {
         ensures root { IfOk result (λ recovery. KeepsRoot file.now (recovery_meta recovery)) }
         ensures refused { IfErr result (IsUnrecoverable file.now) }
     {
-        match choose(file) {
-            Ok((_, meta)) => Recovery::under(alloc, file, meta),
-            Err(fault) => Err(CheckFault::Open(fault)),
-        }
+        let (_, meta) = choose(file)?;
+        Recovery::under(alloc, file, meta)
     }
 
     /// A walk under the meta of a slot, active or not.
@@ -71,10 +69,8 @@ impl<'a> Recovery<'a> {
         ensures root { IfOk result (λ recovery. KeepsRoot file.now (recovery_meta recovery)) }
         ensures refused { IfErr result (IsSlotUnrecoverable file.now slot) }
     {
-        match slot_meta(file, slot) {
-            Ok(meta) => Recovery::under(alloc, file, meta),
-            Err(fault) => Err(CheckFault::Open(fault)),
-        }
+        let meta = slot_meta(file, slot)?;
+        Recovery::under(alloc, file, meta)
     }
 
     /// A walk under a valid meta.

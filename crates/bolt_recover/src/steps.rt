@@ -2,7 +2,7 @@
 ghost use Rattle.std.specs.Prelude.{◌≡◌, ◌≤◌, ◌<◌, ℕ, List, [], false, None, IfOk, IfErr, IfSome, IsTrue, OnErr, OnOk, MatchResult, length};
 ghost use Rattle.std.specs.Option.{option_map};
 ghost use Rattle.bolt_check.specs.Claims.{claims_file, claims_meta, is_claimed};
-ghost use Rattle.bolt_check.specs.Stops.{spot_at};
+ghost use Rattle.bolt_check.specs.ShownSpots.{spot_at};
 ghost use Rattle.bolt_format.specs.ElementPlaces.{leaf_view};
 ghost use Rattle.bolt_format.specs.Elements.{IsBucketValue};
 ghost use Rattle.bolt_tree.specs.Listing.{Member};
@@ -13,25 +13,25 @@ ghost use Rattle.bolt_recover.specs.Private.Runs.{RunsAll, Visited, losses_in};
 
 use crate::loss::Loss;
 use crate::open_page::{Content, OpenPage};
-use bolt_check::{CheckFault, Claims, Finding, NoMemory, PageStop, Stop};
+use bolt_check::{CheckFault, Claims, Finding, NoMemory, PageSpot, Spot};
 use bolt_format::{Leaf, Meta};
 use std::alloc::Global;
 
 /// What is to be visited next.
 #[derive(Clone, Copy)]
 pub(crate) struct Ahead<'a> {
-    pub stop: Stop<'a>,
+    pub spot: Spot<'a>,
     /// The number of parts of its bucket's path.
     pub level: usize,
 }
 
 impl<'a> Ahead<'a> {
     /// What an element leads to, if anything.
-    fn of(stop: Option<Stop<'a>>, level: usize) -> Option<Ahead<'a>>
-        ensures { result ≡ option_map (λ stop. record { stop = stop; level = level }) stop.entry }
+    fn of(spot: Option<Spot<'a>>, level: usize) -> Option<Ahead<'a>>
+        ensures { result ≡ option_map (λ spot. record { spot = spot; level = level }) spot.entry }
     {
-        match stop {
-            Some(stop) => Some(Ahead { stop, level }),
+        match spot {
+            Some(spot) => Some(Ahead { spot, level }),
             None => None,
         }
     }
@@ -82,16 +82,13 @@ impl<'a> Steps<'a> {
         let Ok(mut claims) = Claims::new(alloc, file, meta) else {
             return Err(CheckFault::Memory);
         };
-        let root = PageStop {
+        let root = PageSpot {
             number: meta.root,
             depth: 1,
             lower: None,
             upper: None,
         };
-        let content = match Content::visit(&mut claims, Stop::Page(root)) {
-            Ok(content) => content,
-            Err(finding) => return Err(CheckFault::Structure(finding)),
-        };
+        let content = Content::visit(&mut claims, Spot::Page(root))?;
         let mut open = Vec::new(alloc);
         open.reserve(1)?;
         open.push_reserved(OpenPage {
@@ -116,12 +113,12 @@ impl<'a> Steps<'a> {
         ensures claims { self.new.claims ≡ self.old.claims }
         ensures open { self.new.open.items ≡ self.old.open.items }
         ensures ahead { OnOk result (self.new.ahead ≡ None) }
-        ensures told { OnOk result (state_of self.new ≡ lost_state (state_of self.old) ahead.now finding) }
+        ensures reported { OnOk result (state_of self.new ≡ lost_state (state_of self.old) ahead.now finding) }
         ensures same { OnErr result (state_of self.new ≡ state_of self.old) }
     {
         self.losses.reserve(1)?;
         let bucket = &self.path.as_slice()[..ahead.level];
-        let loss = Loss::new(self.alloc, finding, bucket, &ahead.stop)?;
+        let loss = Loss::new(self.alloc, finding, bucket, &ahead.spot)?;
         self.losses.push_reserved(loss);
         self.ahead = None;
         Ok(())
@@ -138,7 +135,7 @@ impl<'a> Steps<'a> {
             return Ok(());
         };
         self.open.reserve(1)?;
-        let content = match Content::visit(&mut self.claims, ahead.stop) {
+        let content = match Content::visit(&mut self.claims, ahead.spot) {
             Ok(content) => content,
             Err(finding) => return self.lose(finding, &ahead),
         };
@@ -173,14 +170,14 @@ impl<'a> Steps<'a> {
             next: top.next + 1,
             ..top
         });
-        let stop = top.content.stop(top.next);
+        let spot = top.content.spot(top.next);
         let Some(leaf) = top.content.leaf(top.next) else {
-            self.ahead = Ahead::of(stop, top.level);
+            self.ahead = Ahead::of(spot, top.level);
             return Ok(Taken::Nothing);
         };
         self.path.truncate(top.level);
         self.path.push_reserved(leaf.key);
-        self.ahead = Ahead::of(stop, top.level + 1);
+        self.ahead = Ahead::of(spot, top.level + 1);
         Ok(Taken::Leaf(leaf))
     }
 

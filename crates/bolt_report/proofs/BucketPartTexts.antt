@@ -15,7 +15,7 @@ use Rattle.bolt_tree.specs.Paths.{Path, path_cmp}
 use Rattle.bolt_tree.proofs.Filters.{not_true}
 use Rattle.bolt_tree.proofs.Lists.{contains_head, contains_tail}
 use Rattle.bolt_tree.proofs.PartLemmas.{begins_after, filter_rises}
-use Rattle.bolt_tree.specs.Private.Behind.{behind}
+use Rattle.bolt_tree.specs.Private.RestAfter.{rest_after}
 use Rattle.bolt_recover.specs.Private.Frames.{is_over, state_of}
 use Rattle.bolt_recover.specs.Recoveries.{recovery_left}
 use Rattle.bolt_recover.specs.declared.recovery.Recovery.{Recovery}
@@ -107,7 +107,7 @@ module _ (below : Path) where
           ∙ ap (λ (members : List Member). list_line form m ++ listing_lines form (rest_from from members)) (sym (left_now true e))
 
 -- what is left to a recovery rises
-left_if : (path : Path) (listing : List Member) (over : Bool) → Rises member_cmp listing → Rises member_cmp (if over then [] else behind path listing)
+left_if : (path : Path) (listing : List Member) (over : Bool) → Rises member_cmp listing → Rises member_cmp (if over then [] else rest_after path listing)
 left_if path listing true rises = tt
 left_if path listing false rises = filter_rises member_cmp (λ (m : Member). is_lt (path_cmp path m.0)) listing rises
 

@@ -5,7 +5,7 @@ use Rattle.std.proofs.lemmas.Bool.{cases_lt}
 use Rattle.bolt_check.specs.Nodes.{Entry, Node, Nodes}
 use Rattle.bolt_check.specs.Shape.{child_at, child_in, child_of, leads}
 use Rattle.bolt_check.specs.Subtrees.{Enough, Has, kid_pages, root_page}
-use Rattle.bolt_check.specs.Ways.{At_page, PageSpot, Spot, child_spot, follow, start_of, step, upper_from}
+use Rattle.bolt_check.specs.Ways.{At_page, PageSpot, Spot, child_spot, follow, root_spot, step, upper_from}
 use Rattle.bolt_check.proofs.TourSums.{enough_kids, enough_node, has_right}
 use Rattle.bolt_check.proofs.WayFacts.{follow_append, leads_follow, leads_none, none_number, step_child}
 use Rattle.bolt_report.specs.Deepest.{deepest_from, greatest, height_from, inline_depth, inline_in_bucket, leaf_depth}
@@ -139,10 +139,10 @@ module _ (nodes : Nodes) where
             (page_has e.child node.is_leaf node.entries (child_has node.is_leaf node.entries 0 e is at)) in
             (0 ∷ address, child_leaf s.number 0 node e address page is at leaf)
 
-    height_is : (root : ℕ) → Enough nodes steps root → AllFilled (start_of root) → IsHeight nodes root (height_from nodes 1 steps root)
+    height_is : (root : ℕ) → Enough nodes steps root → AllFilled (root_spot root) → IsHeight nodes root (height_from nodes 1 steps root)
     height_is root h filled =
         elim (height_met steps 1 root h h) [
-          | inl z ↦ let (address, leaf) = some_leaf steps (start_of root) filled h in let up = height_above address 1 root h leaf in absurd (let no : ⊥ = omega (arith, z, up) in no)
+          | inl z ↦ let (address, leaf) = some_leaf steps (root_spot root) filled h in let up = height_above address 1 root h leaf in absurd (let no : ⊥ = omega (arith, z, up) in no)
           | inr (address, (leaf, deep)) ↦ record { address = address; longest = leaf; height = sym deep; least = λ other is. height_above other 1 root h is }
         ]
 
@@ -287,15 +287,15 @@ module _ (nodes : Nodes) where
     bucket_has (x ∷ entries) (suc place) c e at is child = has_right (suc c) (root_page x) (kid_pages true entries) (bucket_has entries place c e at is child)
 
     bucket_step : (s : PageSpot) (place c : ℕ) (node : Node) (e : Entry) → nodes s.number ≡ Ok node → node.is_leaf ≡ true → slice_get node.entries place ≡ Some e → e.is_bucket ≡ true → e.child ≡ suc c
-        → step nodes (Some (At_page s)) place ≡ Some (At_page (start_of (suc c)))
+        → step nodes (Some (At_page s)) place ≡ Some (At_page (root_spot (suc c)))
     bucket_step s place c node e page leaf at is child = rw (page, leaf, at, is, child, eqb-suc-zero c) refl
 
-    bucket_filled : (root c : ℕ) (e : Entry) (is : IsBucketIn nodes root e) → e.child ≡ suc c → AllFilled (start_of root) → AllFilled (start_of (suc c))
+    bucket_filled : (root c : ℕ) (e : Entry) (is : IsBucketIn nodes root e) → e.child ≡ suc c → AllFilled (root_spot root) → AllFilled (root_spot (suc c))
     bucket_filled root c e is child filled way u node f =
-        let (t, on, number) = leads_follow nodes (start_of root) is.address is.leaf.number is.leaf.leads in
+        let (t, on, number) = leads_follow nodes (root_spot root) is.address is.leaf.number is.leaf.leads in
         let next = bucket_step t is.place c is.leaf.node e (ap nodes number ∙ is.leaf.page) is.leaf.leaf is.entry is.bucket child in
         filled (is.address ++ is.place ∷ way) u node
-        (follow_append nodes (Some (At_page (start_of root))) is.address (is.place ∷ way) ∙ ap (λ (o : Option Spot). follow nodes o (is.place ∷ way)) on ∙ ap (λ (o : Option Spot). follow nodes o way) next ∙ f)
+        (follow_append nodes (Some (At_page (root_spot root))) is.address (is.place ∷ way) ∙ ap (λ (o : Option Spot). follow nodes o (is.place ∷ way)) on ∙ ap (λ (o : Option Spot). follow nodes o way) next ∙ f)
 
     bucket_low : (k root c : ℕ) (e : Entry) (is : IsBucketIn nodes root e) → e.child ≡ suc c → Enough nodes (suc k) root → Enough nodes k (suc c)
     bucket_low k root c e is child h =
@@ -315,7 +315,7 @@ module _ (nodes : Nodes) where
         enough_kids nodes steps is.leaf.number is.leaf.node is.leaf.page (enough_leaf steps is.address root is.leaf.number h is.leaf.leads) (suc c)
         (subst (λ (b : Bool). Has (suc c) (kid_pages b is.leaf.node.entries)) (sym is.leaf.leaf) (bucket_has is.leaf.node.entries is.place c e is.entry is.bucket child))
 
-    depth_below : (k root : ℕ) → Enough nodes k root → Enough nodes steps root → AllFilled (start_of root) → root ≢ 0 → IsDepth nodes root (depth_from nodes steps root)
+    depth_below : (k root : ℕ) → Enough nodes k root → Enough nodes steps root → AllFilled (root_spot root) → root ≢ 0 → IsDepth nodes root (depth_from nodes steps root)
     depth_below zero root low h filled ne = absurd low
     depth_below (suc k) root low h filled ne =
         paged (height_from nodes 1 steps root) (deepest_from nodes steps root) (λ (e : Entry). child_depth e.child) ne (height_is root h filled)
@@ -329,5 +329,5 @@ module _ (nodes : Nodes) where
         inner e is below zero child = rw child inline
         inner e is below (suc c) child = rw child (below c child)
 
-    pub depth_is : (root : ℕ) → Enough nodes steps root → AllFilled (start_of root) → root ≢ 0 → IsDepth nodes root (depth_from nodes steps root)
+    pub depth_is : (root : ℕ) → Enough nodes steps root → AllFilled (root_spot root) → root ≢ 0 → IsDepth nodes root (depth_from nodes steps root)
     depth_is root h filled ne = depth_below steps root h h filled ne

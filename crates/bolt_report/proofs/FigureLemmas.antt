@@ -3,10 +3,6 @@ use Rattle.std.proofs.Common.{◌≡◌, ℕ, ◌+◌, refl, arith}
 use Rattle.bolt_report.specs.Figures.{Figure, add_stats, buckets, inline_buckets, inline_used, keys, branch_pages, branch_overflow, branch_allocated, branch_used, leaf_pages, leaf_overflow, leaf_allocated, leaf_used, capped, figure}
 use Rattle.bolt_report.specs.declared.figures.Stats.{Stats}
 
--- a sum of sums
-pub capped_more : (a b : ℕ) → capped (capped a + b) ≡ capped (a + b)
-capped_more a b = omega arith
-
 pub figure_add : (f : Figure) (a b : Stats) → figure f (add_stats a b) ≡ capped (figure f a + figure f b)
 figure_add buckets a b = refl
 figure_add inline_buckets a b = refl

@@ -13,21 +13,21 @@ module _ (below : Path) where
   abbrev pub front : List Member → List Member
   front members = take_while (λ (m : Member). begins_with below m.0) members
 
-  first_of : (old new : List Member) (path told : Path) (item : Item) → old ≡ (path, item) ∷ new → told ≡ path → old ≡ (told, item) ∷ new
-  first_of old new path told item given same = given ∙ ap (λ (p : Path). (p, item) ∷ new) (sym same)
+  first_of : (old new : List Member) (path reported : Path) (item : Item) → old ≡ (path, item) ∷ new → reported ≡ path → old ≡ (reported, item) ∷ new
+  first_of old new path reported item given same = given ∙ ap (λ (p : Path). (p, item) ∷ new) (sym same)
 
   -- the line of a member that begins with the path, and then the text of the others;
-  pub front_text : (form : ListForm) (old new : List Member) (path told : Path) (item : Item) → old ≡ (path, item) ∷ new → told ≡ path → begins_with below told ≡ true
-      → listing_lines form (front old) ≡ list_line form (told, item) ++ listing_lines form (front new)
-  front_text form old new path told item given same begins =
-      let kept : front ((told, item) ∷ new) ≡ (told, item) ∷ front new =
-      take_while-cons (λ (m : Member). begins_with below m.0) (told, item) new ∙ ap (λ (b : Bool). cond b ((told, item) ∷ front new) []) begins in
-      ap (λ (ms : List Member). listing_lines form (front ms)) (first_of old new path told item given same) ∙ ap (listing_lines form) kept
+  pub front_text : (form : ListForm) (old new : List Member) (path reported : Path) (item : Item) → old ≡ (path, item) ∷ new → reported ≡ path → begins_with below reported ≡ true
+      → listing_lines form (front old) ≡ list_line form (reported, item) ++ listing_lines form (front new)
+  front_text form old new path reported item given same begins =
+      let kept : front ((reported, item) ∷ new) ≡ (reported, item) ∷ front new =
+      take_while-cons (λ (m : Member). begins_with below m.0) (reported, item) new ∙ ap (λ (b : Bool). cond b ((reported, item) ∷ front new) []) begins in
+      ap (λ (ms : List Member). listing_lines form (front ms)) (first_of old new path reported item given same) ∙ ap (listing_lines form) kept
 
   -- nothing from one on that doesn't.
-  pub front_over : (form : ListForm) (old new : List Member) (path told : Path) (item : Item) → old ≡ (path, item) ∷ new → told ≡ path → begins_with below told ≡ false
+  pub front_over : (form : ListForm) (old new : List Member) (path reported : Path) (item : Item) → old ≡ (path, item) ∷ new → reported ≡ path → begins_with below reported ≡ false
       → listing_lines form (front old) ≡ []
-  front_over form old new path told item given same apart =
-      let none : front ((told, item) ∷ new) ≡ [] =
-      take_while-cons (λ (m : Member). begins_with below m.0) (told, item) new ∙ ap (λ (b : Bool). cond b ((told, item) ∷ front new) []) apart in
-      ap (λ (ms : List Member). listing_lines form (front ms)) (first_of old new path told item given same) ∙ ap (listing_lines form) none
+  front_over form old new path reported item given same apart =
+      let none : front ((reported, item) ∷ new) ≡ [] =
+      take_while-cons (λ (m : Member). begins_with below m.0) (reported, item) new ∙ ap (λ (b : Bool). cond b ((reported, item) ∷ front new) []) apart in
+      ap (λ (ms : List Member). listing_lines form (front ms)) (first_of old new path reported item given same) ∙ ap (listing_lines form) none

@@ -34,19 +34,19 @@ pub from_the_root : (members : List Member) → rest_from [] members ≡ members
 from_the_root members = filter_all (λ (m : Member). not (is_lt (path_cmp m.0 []))) members (λ m has. ap not (never_before m.0))
 
 -- The text of what is left from a path on, where its first member is returned: the line of a member that doesn't come before that path,
-pub next_text : (form : ListForm) (from : Path) (old new : List Member) (path told : Path) (item : Item) → old ≡ (path, item) ∷ new → told ≡ path → is_lt (path_cmp told from) ≡ false
-    → listing_lines form (rest_from from old) ≡ list_line form (told, item) ++ listing_lines form (rest_from from new)
-next_text form from old new path told item given same after =
-    let first : old ≡ (told, item) ∷ new = given ∙ ap (λ (p : Path). (p, item) ∷ new) (sym same) in
-    let kept : rest_from from ((told, item) ∷ new) ≡ (told, item) ∷ rest_from from new = (rw after refl) in
+pub next_text : (form : ListForm) (from : Path) (old new : List Member) (path reported : Path) (item : Item) → old ≡ (path, item) ∷ new → reported ≡ path → is_lt (path_cmp reported from) ≡ false
+    → listing_lines form (rest_from from old) ≡ list_line form (reported, item) ++ listing_lines form (rest_from from new)
+next_text form from old new path reported item given same after =
+    let first : old ≡ (reported, item) ∷ new = given ∙ ap (λ (p : Path). (p, item) ∷ new) (sym same) in
+    let kept : rest_from from ((reported, item) ∷ new) ≡ (reported, item) ∷ rest_from from new = (rw after refl) in
     ap (λ (ms : List Member). listing_lines form (rest_from from ms)) first ∙ ap (listing_lines form) kept
 
 -- and nothing of one that does.
-pub next_hidden : (from : Path) (old new : List Member) (path told : Path) (item : Item) → old ≡ (path, item) ∷ new → told ≡ path → is_lt (path_cmp told from) ≡ true
+pub next_hidden : (from : Path) (old new : List Member) (path reported : Path) (item : Item) → old ≡ (path, item) ∷ new → reported ≡ path → is_lt (path_cmp reported from) ≡ true
     → rest_from from old ≡ rest_from from new
-next_hidden from old new path told item given same before =
-    let first : old ≡ (told, item) ∷ new = given ∙ ap (λ (p : Path). (p, item) ∷ new) (sym same) in
-    let dropped : rest_from from ((told, item) ∷ new) ≡ rest_from from new = (rw before refl) in
+next_hidden from old new path reported item given same before =
+    let first : old ≡ (reported, item) ∷ new = given ∙ ap (λ (p : Path). (p, item) ∷ new) (sym same) in
+    let dropped : rest_from from ((reported, item) ∷ new) ≡ rest_from from new = (rw before refl) in
     ap (rest_from from) first ∙ dropped
 
 -- the listing of the same file

@@ -18,7 +18,7 @@ page_at-fault file meta id fault e =
     shown_as-fault fault (kind_of (flags_field (from_page file meta id))) (count_field (from_page file meta id)) (page_overflow file meta id)
     (span_bytes file meta id) (page_fault file meta id) e
 
--- that fault is the one that is told
+-- that fault is the one that is reported
 pub page_text_fault-bad : (file : List ℕ) (meta : Meta) (id : ℕ) (fault : PageFault) → (page_fault file meta id ≡ Some fault.number) × (fault.page ≡ id)
     → page_text_fault file meta id ≡ Some fault
 page_text_fault-bad file meta id fault e =

@@ -7,7 +7,6 @@ use mathlib.Core.HLevel.{Σ_prop_path}
 use Rattle.std.specs.List.{Contains}
 use Rattle.std.specs.Option.{option_map}
 use Rattle.std.specs.Prelude.{⊤, IfErr, IsErrAnd}
-use Rattle.std.proofs.lemmas.Bool.Decides.{nat_tests}
 use Rattle.std.proofs.lemmas.Grind.{flat_map-append}
 use Rattle.std.proofs.lemmas.List.{drop_all}
 use Rattle.bolt_format.specs.Elements.{LeafElement}
@@ -29,6 +28,7 @@ use Rattle.bolt_tree.specs.ShownEntries.{shown_entry}
 use Rattle.bolt_tree.specs.declared.cursor.Cursor.{Cursor}
 use Rattle.bolt_tree.specs.declared.entry.Entry.{Entry}
 use Rattle.bolt_tree.proofs.AllEntries.{sorted_at}
+use Rattle.bolt_tree.proofs.CursorMoves.{none_past, not_below}
 use Rattle.bolt_tree.proofs.Lists.{contains_head, contains_tail}
 use Rattle.bolt_tree.proofs.PagerLemmas.{counted_more}
 use Rattle.bolt_tree.proofs.SortedLemmas.{sorted_one}
@@ -69,18 +69,9 @@ abbrev pub StandsAt : List LeafElement → ℕ → Place → Option EntryView �
 StandsAt entries n place None = drop n entries ≡ []
 StandsAt entries n place (Some v) = (e : LeafElement) × (v ≡ entry_view e) × (place ≡ On n) × (drop n entries ≡ e ∷ drop (suc n) entries)
 
-none_from : (entries : List LeafElement) (n : ℕ) → slice_get entries n ≡ None → drop n entries ≡ []
-none_from [] zero at = refl
-none_from [] (suc n) at = refl
-none_from (e ∷ entries) zero at = absurd (let c : Some e ≡ None = at in cc)
-none_from (e ∷ entries) (suc n) at = none_from entries n at
-
-not_within : (m n : ℕ) → nat_lt m n ≡ false → n ≤ m
-not_within m n e = grind (arith, nat_tests)
-
 shows_by : (entries : List LeafElement) (n : ℕ) (place : Place) (x : Option EntryView) (o : Option LeafElement) → slice_get entries n ≡ o → place ≡ On n → x ≡ option_map entry_view o
     → StandsAt entries n place x
-shows_by entries n place None None at on is = none_from entries n at
+shows_by entries n place None None at on is = drop_all n entries (none_past entries n (sym at))
 shows_by entries n place None (Some e) at on is = absurd (let c : None ≡ Some (entry_view e) = is in cc)
 shows_by entries n place (Some v) None at on is = absurd (let c : Some v ≡ None = is in cc)
 shows_by entries n place (Some v) (Some e) at on is =
@@ -91,7 +82,7 @@ shows_by entries n place (Some v) (Some e) at on is =
 stands_by : (entries : List LeafElement) (n : ℕ) (place other : Place) (x : Option EntryView) (b : Bool) → nat_lt n (length entries) ≡ b
     → place ≡ (cond b (onto entries n) (nothing_at other)).place → x ≡ option_map entry_view (cond b (onto entries n) (nothing_at other)).answer → StandsAt entries n place x
 stands_by entries n place other x true t p a = shows_by entries n place x (slice_get entries n) refl p a
-stands_by entries n place other None false t p a = drop_all n entries (not_within n (length entries) t)
+stands_by entries n place other None false t p a = drop_all n entries (not_below n (length entries) t)
 stands_by entries n place other (Some v) false t p a = absurd (let c : Some v ≡ None = a in cc)
 
 pub sought : (prefix : Key) (entries : List LeafElement) (place : Place) (x : Option EntryView)

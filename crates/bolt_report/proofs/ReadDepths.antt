@@ -6,9 +6,9 @@ use Rattle.bolt_check.specs.Nodes.{Node, Nodes, node_at}
 use Rattle.bolt_check.specs.Subtrees.{Enough}
 use Rattle.bolt_report.specs.Deepest.{deepest_of, depth_of, greatest, height_from, height_of, inner_inline, leaf_at, leaf_depth, pages_at}
 use Rattle.bolt_report.specs.Figures.{capped}
-use Rattle.bolt_report.specs.Readings.{inner_pages, inner_roots, numbers_of, open_bucket, open_page}
-use Rattle.bolt_report.specs.declared.tour.OpenBucket.{OpenBucket}
-use Rattle.bolt_report.specs.declared.tour.OpenPage.{OpenPage}
+use Rattle.bolt_report.specs.Readings.{inner_pages, inner_roots, numbers_of, unread_bucket, unread_page}
+use Rattle.bolt_report.specs.declared.bucket_figures.UnreadBucket.{UnreadBucket}
+use Rattle.bolt_report.specs.declared.bucket_figures.UnreadPage.{UnreadPage}
 use Rattle.bolt_report.proofs.DepthSums.{deepest_kids, greatest_append, greatest_map, height_kids}
 
 -- a depth that is capped counts the same
@@ -33,35 +33,35 @@ height_capped nodes a b (suc k) n same =
     omega (arith, own, below)
 
 -- the numbers of pages that were opened
-opened_numbers : (depth : ℕ) (ns : List ℕ) → numbers_of (map (open_page depth) ns) ≡ ns
+opened_numbers : (depth : ℕ) (ns : List ℕ) → numbers_of (map (unread_page depth) ns) ≡ ns
 opened_numbers depth [] = refl
 opened_numbers depth (n ∷ ns) = ap (λ (l : List ℕ). n ∷ l) (opened_numbers depth ns)
 
-pub numbers_opened : (old new : List OpenPage) (depth : ℕ) (ns : List ℕ) → new ≡ old ++ map (open_page depth) ns → numbers_of new ≡ numbers_of old ++ ns
+pub numbers_opened : (old new : List UnreadPage) (depth : ℕ) (ns : List ℕ) → new ≡ old ++ map (unread_page depth) ns → numbers_of new ≡ numbers_of old ++ ns
 numbers_opened old new depth ns e =
-    ap numbers_of e ∙ map-append (λ (p : OpenPage). p.number) old (map (open_page depth) ns) ∙ ap (λ (l : List ℕ). numbers_of old ++ l) (opened_numbers depth ns)
+    ap numbers_of e ∙ map-append (λ (p : UnreadPage). p.number) old (map (unread_page depth) ns) ∙ ap (λ (l : List ℕ). numbers_of old ++ l) (opened_numbers depth ns)
 
 module _ (file : List ℕ) (meta : Meta) where
-  abbrev pub page_height : OpenPage → ℕ
+  abbrev pub page_height : UnreadPage → ℕ
   page_height p = height_of file meta p.depth p.number
 
-  abbrev pub bucket_end : OpenBucket → ℕ
+  abbrev pub bucket_end : UnreadBucket → ℕ
   bucket_end b = b.above + depth_of file meta b.root
 
   -- the first page is the bucket's own
-  pub first_height : (old new : List OpenPage) (p : OpenPage) → old ≡ [] → new ≡ old ++ p ∷ [] → greatest page_height new ≡ page_height p
-  first_height old new p none e = let all = ap (greatest page_height) (e ∙ ap (λ (l : List OpenPage). l ++ p ∷ []) none) in omega (arith, all)
+  pub first_height : (old new : List UnreadPage) (p : UnreadPage) → old ≡ [] → new ≡ old ++ p ∷ [] → greatest page_height new ≡ page_height p
+  first_height old new p none e = let all = ap (greatest page_height) (e ∙ ap (λ (l : List UnreadPage). l ++ p ∷ []) none) in omega (arith, all)
 
   -- the height of a page's own, and then of what is left, are that of what was left
-  pub read_height : (rest old new : List OpenPage) (p : OpenPage) (node : Node) (h : ℕ) → node_at file meta p.number ≡ Ok node → Enough (node_at file meta) meta.high_water p.number
-      → old ≡ rest ++ p ∷ [] → new ≡ rest ++ map (open_page (capped (p.depth + 1))) (inner_pages node) → h ≡ leaf_depth node.is_leaf p.depth
+  pub read_height : (rest old new : List UnreadPage) (p : UnreadPage) (node : Node) (h : ℕ) → node_at file meta p.number ≡ Ok node → Enough (node_at file meta) meta.high_water p.number
+      → old ≡ rest ++ p ∷ [] → new ≡ rest ++ map (unread_page (capped (p.depth + 1))) (inner_pages node) → h ≡ leaf_depth node.is_leaf p.depth
       → capped (max h (greatest page_height new)) ≡ capped (greatest page_height old)
   read_height rest old new p node h page enough before after own =
       let nodes = node_at file meta in
       let d = capped (p.depth + 1) in
       let whole = height_kids nodes p.depth meta.high_water p.number node page enough in
-      let all = ap (greatest page_height) after ∙ greatest_append page_height rest (map (open_page d) (inner_pages node)) in
-      let kids = greatest_map page_height (open_page d) (inner_pages node) in
+      let all = ap (greatest page_height) after ∙ greatest_append page_height rest (map (unread_page d) (inner_pages node)) in
+      let kids = greatest_map page_height (unread_page d) (inner_pages node) in
       let same = greatest_capped (height_of file meta d) (height_of file meta (suc p.depth)) (inner_pages node) (λ m. height_capped nodes d (suc p.depth) meta.high_water m (omega arith)) in
       let was = ap (greatest page_height) before ∙ greatest_append page_height rest (p ∷ []) in
       omega (arith, whole, all, kids, same, was, own)
@@ -90,10 +90,10 @@ module _ (file : List ℕ) (meta : Meta) where
   under above d f (x ∷ roots) = let rest = under above d f roots in omega (arith, rest)
 
   -- a bucket's own depth, and those of the buckets found in it, are its depth
-  pub read_end : (old rest new : List OpenBucket) (b : OpenBucket) (found : List ℕ) (height above d deep : ℕ)
+  pub read_end : (old rest new : List UnreadBucket) (b : UnreadBucket) (found : List ℕ) (height above d deep : ℕ)
       → capped height ≡ capped (height_of file meta 1 b.root) → max d (greatest (depth_of file meta) found) ≡ deepest_of file meta b.root
       → above ≡ capped (b.above + height) → deep ≡ capped (above + d) → old ≡ rest ++ b ∷ []
-      → greatest bucket_end new ≡ max (greatest bucket_end rest) (greatest (λ (root : ℕ). bucket_end (open_bucket above root)) found)
+      → greatest bucket_end new ≡ max (greatest bucket_end rest) (greatest (λ (root : ℕ). bucket_end (unread_bucket above root)) found)
       → capped (max deep (greatest bucket_end new)) ≡ capped (greatest bucket_end old)
   read_end old rest new b found height above d deep high most sum end before after =
       let others = greatest (λ (root : ℕ). above + depth_of file meta root) found in
@@ -103,9 +103,9 @@ module _ (file : List ℕ) (meta : Meta) where
       all_kept deep others (greatest bucket_end rest) (greatest bucket_end new) (greatest bucket_end old) (bucket_end b) after was one
 
 -- a root page goes over to the open buckets
-pub moved_depth : (before more : List OpenBucket) (roots rest : List ℕ) (root : ℕ) (f : OpenBucket → ℕ) (above : ℕ) → roots ≡ rest ++ root ∷ [] → more ≡ before ++ open_bucket above root ∷ []
-    → max (greatest f more) (greatest (λ (n : ℕ). f (open_bucket above n)) rest) ≡ max (greatest f before) (greatest (λ (n : ℕ). f (open_bucket above n)) roots)
+pub moved_depth : (before more : List UnreadBucket) (roots rest : List ℕ) (root : ℕ) (f : UnreadBucket → ℕ) (above : ℕ) → roots ≡ rest ++ root ∷ [] → more ≡ before ++ unread_bucket above root ∷ []
+    → max (greatest f more) (greatest (λ (n : ℕ). f (unread_bucket above n)) rest) ≡ max (greatest f before) (greatest (λ (n : ℕ). f (unread_bucket above n)) roots)
 moved_depth before more roots rest root f above popped pushed =
-    let p = ap (greatest f) pushed ∙ greatest_append f before (open_bucket above root ∷ []) in
-    let q = ap (greatest (λ (n : ℕ). f (open_bucket above n))) popped ∙ greatest_append (λ (n : ℕ). f (open_bucket above n)) rest (root ∷ []) in
+    let p = ap (greatest f) pushed ∙ greatest_append f before (unread_bucket above root ∷ []) in
+    let q = ap (greatest (λ (n : ℕ). f (unread_bucket above n))) popped ∙ greatest_append (λ (n : ℕ). f (unread_bucket above n)) rest (root ∷ []) in
     omega (arith, p, q)

@@ -10,13 +10,13 @@ use Rattle.bolt_check.specs.Subtrees.{Enough, kid_pages}
 use Rattle.bolt_check.proofs.TourSums.{enough_node}
 use Rattle.bolt_check.proofs.TreePages.{node_is}
 use Rattle.bolt_report.specs.Deepest.{greatest, inline_depth}
-use Rattle.bolt_report.specs.Readings.{open_page, root_of}
-use Rattle.bolt_report.specs.declared.tour.OpenPage.{OpenPage}
+use Rattle.bolt_report.specs.Readings.{unread_page, root_of}
+use Rattle.bolt_report.specs.declared.bucket_figures.UnreadPage.{UnreadPage}
 use Rattle.bolt_report.proofs.DepthSums.{greatest_append}
 use Rattle.bolt_report.proofs.ListWrites.{flat_map-take_more, take_more}
 
 -- one child more was opened
-pub children_next : (cur new old : List OpenPage) (p : OpenPage) (opened : BranchElement → OpenPage) (xs : List BranchElement) (i : ℕ) (e : BranchElement)
+pub children_next : (cur new old : List UnreadPage) (p : UnreadPage) (opened : BranchElement → UnreadPage) (xs : List BranchElement) (i : ℕ) (e : BranchElement)
     → new ≡ cur ++ p ∷ [] → p ≡ opened e → slice_get xs i ≡ Some e → cur ≡ old ++ map opened (take i xs) → new ≡ old ++ map opened (take (i + 1) xs)
 children_next cur new old p opened xs i e pushed same found before =
     let more : map opened (take (i + 1) xs) ≡ map opened (take i xs) ++ opened e ∷ [] = ap (λ k. map opened (take k xs)) (add-one i) ∙ ap (map opened) (take_more xs i e found) ∙ map-append opened (take i xs) (e ∷ []) in
@@ -29,9 +29,9 @@ roots_next cur new old xs i e pushed found before =
     let more = ap (λ k. flat_map root_of (take k xs)) (add-one i) ∙ flat_map-take_more root_of xs i e found in
     pushed ∙ ap (λ l. l ++ root_of e) before ∙ append_assoc old (flat_map root_of (take i xs)) (root_of e) ∙ ap (λ l. old ++ l) (sym more)
 
-pub branch_kids : (depth : ℕ) (xs : List BranchElement) → map (open_page depth) (kid_pages false (map branch_entry xs)) ≡ map (λ (x : BranchElement). open_page depth x.child) xs
+pub branch_kids : (depth : ℕ) (xs : List BranchElement) → map (unread_page depth) (kid_pages false (map branch_entry xs)) ≡ map (λ (x : BranchElement). unread_page depth x.child) xs
 branch_kids depth [] = refl
-branch_kids depth (x ∷ xs) = ap (λ (l : List OpenPage). open_page depth x.child ∷ l) (branch_kids depth xs)
+branch_kids depth (x ∷ xs) = ap (λ (l : List UnreadPage). unread_page depth x.child ∷ l) (branch_kids depth xs)
 
 -- the depth of the inline buckets of one element more
 pub inline_next : (old new here : ℕ) (xs : List LeafElement) (i : ℕ) (e : LeafElement) → here ≡ inline_depth (leaf_entry e) → new ≡ max old here → slice_get xs i ≡ Some e

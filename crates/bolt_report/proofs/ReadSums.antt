@@ -10,17 +10,17 @@ use Rattle.bolt_check.proofs.TourSums.{enough_kids, has_either, has_left, has_ri
 use Rattle.bolt_report.specs.Figures.{Figure, bucket_figure, buckets, inline_buckets, inline_used, keys, branch_pages, branch_overflow, branch_allocated, branch_used, leaf_pages, leaf_overflow, leaf_allocated, leaf_used, figure}
 use Rattle.bolt_report.specs.Readings.{AreGood, inner_pages, inner_roots, numbers_of, pages_in_bucket, roots_in_bucket, roots_of, total_of}
 use Rattle.bolt_report.specs.declared.figures.Stats.{Stats}
-use Rattle.bolt_report.specs.declared.tour.OpenBucket.{OpenBucket}
-use Rattle.bolt_report.specs.declared.tour.OpenPage.{OpenPage}
+use Rattle.bolt_report.specs.declared.bucket_figures.UnreadBucket.{UnreadBucket}
+use Rattle.bolt_report.specs.declared.bucket_figures.UnreadPage.{UnreadPage}
 use Rattle.bolt_report.proofs.DepthSums.{page_has, root_has}
 
 -- the last page was taken
-pub popped : (old new : List OpenPage) (p : OpenPage) → old ≡ new ++ p ∷ [] → numbers_of old ≡ numbers_of new ++ p.number ∷ []
-popped old new p e = ap (map (λ (q : OpenPage). q.number)) e ∙ map-append (λ (q : OpenPage). q.number) new (p ∷ [])
+pub popped : (old new : List UnreadPage) (p : UnreadPage) → old ≡ new ++ p ∷ [] → numbers_of old ≡ numbers_of new ++ p.number ∷ []
+popped old new p e = ap (map (λ (q : UnreadPage). q.number)) e ∙ map-append (λ (q : UnreadPage). q.number) new (p ∷ [])
 
 -- the first page was opened
-pub started : (old new : List OpenPage) (p : OpenPage) → old ≡ [] → new ≡ old ++ p ∷ [] → numbers_of new ≡ p.number ∷ []
-started old new p none e = ap numbers_of (e ∙ ap (λ (l : List OpenPage). l ++ p ∷ []) none)
+pub started : (old new : List UnreadPage) (p : UnreadPage) → old ≡ [] → new ≡ old ++ p ∷ [] → numbers_of new ≡ p.number ∷ []
+started old new p none e = ap numbers_of (e ∙ ap (λ (l : List UnreadPage). l ++ p ∷ []) none)
 
 module _ (file : List ℕ) (meta : Meta) where
   inner_sum : (own : ℕ → ℕ) (is_leaf : Bool) (entries : List Entry)
@@ -91,9 +91,9 @@ none_left items rest n z r e =
     rw r0 at e
 
 -- a root page goes over to the open buckets
-module _ (before more : List OpenBucket) (b : OpenBucket) (roots rest : List ℕ) (root : ℕ) (popped_ : roots ≡ rest ++ root ∷ []) (pushed : more ≡ before ++ b ∷ []) (same : b.root ≡ root) where
+module _ (before more : List UnreadBucket) (b : UnreadBucket) (roots rest : List ℕ) (root : ℕ) (popped_ : roots ≡ rest ++ root ∷ []) (pushed : more ≡ before ++ b ∷ []) (same : b.root ≡ root) where
   opened : roots_of more ≡ roots_of before ++ root ∷ []
-  opened = ap (map (λ (x : OpenBucket). x.root)) pushed ∙ map-append (λ (x : OpenBucket). x.root) before (b ∷ []) ∙ ap (λ n. roots_of before ++ n ∷ []) same
+  opened = ap (map (λ (x : UnreadBucket). x.root)) pushed ∙ map-append (λ (x : UnreadBucket). x.root) before (b ∷ []) ∙ ap (λ n. roots_of before ++ n ∷ []) same
 
   pub moved_sum : (w : ℕ → ℕ) → sum_by w (roots_of more) + sum_by w rest ≡ sum_by w (roots_of before) + sum_by w roots
   moved_sum w =
@@ -137,8 +137,8 @@ first_figure leaf_allocated s (a, (b, (c, (d, (e, (g, (h, (i, (j, (k, (l, (m, n)
 first_figure leaf_used s (a, (b, (c, (d, (e, (g, (h, (i, (j, (k, (l, (m, n)))))))))))) = n
 
 module _ (file : List ℕ) (meta : Meta) where
-  pub open_popped : (old new : List OpenBucket) (b : OpenBucket) → old ≡ new ++ b ∷ [] → roots_of old ≡ roots_of new ++ b.root ∷ []
-  open_popped old new b e = ap (map (λ (x : OpenBucket). x.root)) e ∙ map-append (λ (x : OpenBucket). x.root) new (b ∷ [])
+  pub unread_popped : (old new : List UnreadBucket) (b : UnreadBucket) → old ≡ new ++ b ∷ [] → roots_of old ≡ roots_of new ++ b.root ∷ []
+  unread_popped old new b e = ap (map (λ (x : UnreadBucket). x.root)) e ∙ map-append (λ (x : UnreadBucket). x.root) new (b ∷ [])
 
   pub total_popped : (own : ℕ → ℕ) (old rest : List ℕ) (n : ℕ) → old ≡ rest ++ n ∷ [] → total_of file meta own old ≡ total_of file meta own rest + total_of file meta own (n ∷ [])
   total_popped own old rest n e = let w = weight (node_at file meta) own meta.high_water in ap (sum_by w) e ∙ sum_append w rest (n ∷ [])

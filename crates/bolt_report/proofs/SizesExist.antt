@@ -77,12 +77,3 @@ module _ (file : List ℕ) (meta : Meta) where
 
   pub one_sizes : (entries : List LeafElement) (a b : List Sized) → AreSized file meta entries a → AreSized file meta entries b → a ≡ b
   one_sizes entries a b h k = one_by a b (h.buckets ∙ sym k.buckets) h.figures k.figures
-
--- the sizes of a bucket of a checked file
-pub bucket_sizes : (bucket : Bucket) (entries : List LeafElement) → AreEntries (entries_of (bucket_checked bucket)) (bucket_start bucket) entries
-    → ∥ ((sized : List Sized) × AreSized (bytes_of (bucket_checked bucket)) (meta_of (bucket_checked bucket)) entries sized) ∥₁
-unfolding bucket_checked bucket_start
-bucket_sizes bucket entries are =
-    let checked = bucket_checked bucket in
-    with_trees checked (∥ ((sized : List Sized) × AreSized (bytes_of checked) (meta_of checked) entries sized) ∥₁) ∥∥₁_prop
-    (λ trees. ∥∥₁_map bucket.begins (λ on. some_sizes (bytes_of checked) (meta_of checked) trees (bucket_start bucket) entries on are))

@@ -5,7 +5,7 @@ use Rattle.bolt_check.specs.Nodes.{Entry, Node, Nodes, node_at}
 use Rattle.bolt_check.specs.OnWays.{IsOnWay}
 use Rattle.bolt_check.specs.Sound.{HasSoundTrees}
 use Rattle.bolt_check.specs.Subtrees.{Enough, weight}
-use Rattle.bolt_check.specs.Ways.{At_inline, At_page, PageSpot, SpanHas, Spot, follow, reached, start_of, step, step_at, step_entry}
+use Rattle.bolt_check.specs.Ways.{At_inline, At_page, PageSpot, SpanHas, Spot, follow, reached, root_spot, step, step_at, step_entry}
 use Rattle.std.proofs.lemmas.List.Sums.{sum_by-cons}
 use Rattle.bolt_check.proofs.TourLemmas.{one_tour}
 use Rattle.bolt_check.proofs.TourSums.{bucket_sum, spot_weight}
@@ -21,14 +21,14 @@ use Rattle.bolt_report.proofs.DepthExists.{AllFilled, depth_is}
 
 -- A page that a way leads to is its bucket's root page, or at depth 2 or more.
 abbrev IsRootOrBelow : PageSpot → Type 0
-IsRootOrBelow s = (s ≡ start_of s.number) ⊎ (2 ≤ s.depth)
+IsRootOrBelow s = (s ≡ root_spot s.number) ⊎ (2 ≤ s.depth)
 
 abbrev Stands : Option Spot → Type 0
 Stands None = Unit {0}
 Stands (Some (At_page s)) = IsRootOrBelow s
 Stands (Some (At_inline host inner)) = Unit {0}
 
-bucket_stands : (host : ℕ) (e : Entry) (b small : Bool) → Stands (if b then Some (if small then At_inline host e.inner else At_page (start_of e.child)) else None)
+bucket_stands : (host : ℕ) (e : Entry) (b small : Bool) → Stands (if b then Some (if small then At_inline host e.inner else At_page (root_spot e.child)) else None)
 bucket_stands host e false small = tt
 bucket_stands host e true true = tt
 bucket_stands host e true false = inl refl
@@ -60,11 +60,11 @@ module _ (file : List ℕ) (meta : Meta) where
   nodes = node_at file meta
 
   -- so a page at depth 1 is its bucket's root page
-  root_on_way : (root : ℕ) → IsOnWay file meta root 1 → (way : List ℕ) × (reached nodes meta.root way ≡ Some (At_page (start_of root)))
-  root_on_way root on = (on.way, on.led ∙ ap (λ (s : PageSpot). Some (At_page s)) (is_start (subst Stands on.led (follow_stands nodes (Some (At_page (start_of meta.root))) on.way (inl refl)))))
+  root_on_way : (root : ℕ) → IsOnWay file meta root 1 → (way : List ℕ) × (reached nodes meta.root way ≡ Some (At_page (root_spot root)))
+  root_on_way root on = (on.way, on.led ∙ ap (λ (s : PageSpot). Some (At_page s)) (is_start (subst Stands on.led (follow_stands nodes (Some (At_page (root_spot meta.root))) on.way (inl refl)))))
     where
-      is_start : IsRootOrBelow on.spot → on.spot ≡ start_of root
-      is_start (inl e) = e ∙ ap start_of on.is
+      is_start : IsRootOrBelow on.spot → on.spot ≡ root_spot root
+      is_start (inl e) = e ∙ ap root_spot on.is
       is_start (inr deep) = let one = on.deep in absurd (let no : ⊥ = omega (arith, deep, one) in no)
 
   module _ (trees : HasSoundTrees file meta) (root : ℕ) (on : IsOnWay file meta root 1) where
@@ -75,16 +75,16 @@ module _ (file : List ℕ) (meta : Meta) where
     are_good m (inl e) = subst (Enough nodes meta.high_water) (sym e) good_pages
     are_good m (inr h) = absurd h
 
-    all_filled : AllFilled nodes meta.high_water (start_of root)
+    all_filled : AllFilled nodes meta.high_water (root_spot root)
     all_filled v s node leads page leaf =
         let (way, at) = root_on_way root on in
-        trees.filled (way ++ v) s node (follow_append nodes (Some (At_page (start_of meta.root))) way v ∙ ap (λ (o : Option Spot). follow nodes o v) at ∙ leads) page leaf
+        trees.filled (way ++ v) s node (follow_append nodes (Some (At_page (root_spot meta.root))) way v ∙ ap (λ (o : Option Spot). follow nodes o v) at ∙ leads) page leaf
 
     not_zero : root ≢ 0
     not_zero e =
         let (way, at) = root_on_way root on in
-        let good = (trees.good way (start_of root) at).1 in
-        let two = trees.above_metas way root (subst (λ (o : Option Spot). SpanHas nodes o root) (sym at) (in_own_span nodes (start_of root) good.0 good.1)) in
+        let good = (trees.good way (root_spot root) at).1 in
+        let two = trees.above_metas way root (subst (λ (o : Option Spot). SpanHas nodes o root) (sym at) (in_own_span nodes (root_spot root) good.0 good.1)) in
         omega (arith, two, e)
 
     root_depth : IsDepth nodes root (depth_of file meta root)

@@ -6,21 +6,21 @@ use Rattle.bolt_format.specs.declared.meta.Meta.{Meta}
 use Rattle.bolt_check.specs.Nodes.{Entry, Node, node_at}
 use Rattle.bolt_check.specs.Subtrees.{Enough, Has, kid_pages, weight}
 use Rattle.bolt_report.specs.Figures.{Figure, page_figure}
-use Rattle.bolt_report.specs.declared.tour.OpenBucket.{OpenBucket}
-use Rattle.bolt_report.specs.declared.tour.OpenPage.{OpenPage}
+use Rattle.bolt_report.specs.declared.bucket_figures.UnreadBucket.{UnreadBucket}
+use Rattle.bolt_report.specs.declared.bucket_figures.UnreadPage.{UnreadPage}
 
 -- the pages and the buckets of the code, by their numbers
-abbrev pub numbers_of : List OpenPage → List ℕ
-numbers_of pages = map (λ (p : OpenPage). p.number) pages
+abbrev pub numbers_of : List UnreadPage → List ℕ
+numbers_of pages = map (λ (p : UnreadPage). p.number) pages
 
-abbrev pub roots_of : List OpenBucket → List ℕ
-roots_of buckets = map (λ (b : OpenBucket). b.root) buckets
+abbrev pub roots_of : List UnreadBucket → List ℕ
+roots_of buckets = map (λ (b : UnreadBucket). b.root) buckets
 
-abbrev pub open_page : ℕ → ℕ → OpenPage
-open_page depth n = record { number = n; depth = depth }
+abbrev pub unread_page : ℕ → ℕ → UnreadPage
+unread_page depth n = record { number = n; depth = depth }
 
-abbrev pub open_bucket : ℕ → ℕ → OpenBucket
-open_bucket above n = record { root = n; above = above }
+abbrev pub unread_bucket : ℕ → ℕ → UnreadBucket
+unread_bucket above n = record { root = n; above = above }
 
 -- these pages and all pages below them are good
 abbrev pub AreGood : List ℕ → Meta → List ℕ → Type 0

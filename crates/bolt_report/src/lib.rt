@@ -2,11 +2,12 @@
 //! accepted a prefix of the text.
 #![tactic(auto)]
 
+mod bucket_figures;
 mod elements;
-pub mod fault;
-pub mod fault_lines;
+mod fault;
+mod fault_lines;
 mod figures;
-pub mod form;
+mod form;
 mod hexadecimal;
 mod item_writer;
 mod json_text;
@@ -17,19 +18,19 @@ pub mod laws;
 mod list_lines;
 mod loss_lines;
 mod maps;
-pub mod member_lines;
-pub mod metas;
+mod member_lines;
+mod metas;
 mod page_figures;
-pub mod page_lines;
+mod page_lines;
 mod page_table;
 mod part_lines;
 mod puts;
 mod size_lines;
 mod table_text;
 mod text;
-mod tour;
-pub mod values;
+mod values;
 
+pub use bucket_figures::stats;
 pub use fault::ReportFault;
 pub use fault_lines::{finding_text, findings_text, meta_fault_text, page_fault_text};
 pub use figures::{Stats, add, stats_text};
@@ -45,5 +46,4 @@ pub use page_lines::page_text;
 pub use page_table::pages;
 pub use part_lines::{list_part, list_recovered_part};
 pub use size_lines::sizes;
-pub use tour::stats;
 pub use values::{item, value};

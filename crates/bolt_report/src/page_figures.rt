@@ -7,16 +7,19 @@ ghost use Rattle.bolt_format.specs.ShownInline.{shown_inline};
 ghost use Rattle.bolt_report.specs.Figures.{Figure, allocated, branch_bytes, branch_figure, capped, element_figure, figure, inline_figure, kind_figure, leaf_bytes, leaf_figure};
 
 use crate::figures::{Stats, add};
-use bolt_format::{Inline, Kind, Leaf, Page, head, inline};
+use bolt_format::{ELEMENT_LEN, HEADER_LEN, Inline, Kind, Leaf, Page, head, inline};
 
-/// The length of an element's header, and of a page's.
-const HEADER: u64 = 16;
+/// The length of a page's header.
+const PAGE_HEADER: u64 = HEADER_LEN as u64;
+
+/// The length of an element's header.
+const ELEMENT_HEADER: u64 = ELEMENT_LEN as u64;
 
 /// The bytes of a leaf element.
 fn leaf_size(leaf: &Leaf<'_>) -> u64
     ensures { result ≡ capped (16 + length leaf.now.key.now + length leaf.now.value.now) }
 {
-    HEADER
+    ELEMENT_HEADER
         .saturating_add(leaf.key.len() as u64)
         .saturating_add(leaf.value.len() as u64)
 }
@@ -25,7 +28,7 @@ fn leaf_size(leaf: &Leaf<'_>) -> u64
 fn inline_used(page: &Inline<'_>) -> u64
     ensures { result ≡ capped (leaf_bytes (shown_inline page.now)) }
 {
-    let mut used = HEADER;
+    let mut used = PAGE_HEADER;
     for i in 0..page.count() {
         used = used.saturating_add(leaf_size(&page.leaf(i)));
     }
@@ -76,10 +79,10 @@ fn branch_used(page: &Page<'_>) -> u64
     requires { (shown page.now).kind ≡ Kind.Branch }
     ensures { result ≡ capped (branch_bytes (shown page.now).branches) }
 {
-    let mut used = HEADER;
+    let mut used = PAGE_HEADER;
     for i in 0..page.count() {
         used = used
-            .saturating_add(HEADER)
+            .saturating_add(ELEMENT_HEADER)
             .saturating_add(page.branch(i).key.len() as u64);
     }
     used
@@ -105,7 +108,7 @@ fn leaf_used(page: &Page<'_>) -> u64
     requires { (shown page.now).kind ≡ Kind.Leaf }
     ensures { result ≡ capped (leaf_bytes (shown page.now).leaves) }
 {
-    let mut used = HEADER;
+    let mut used = PAGE_HEADER;
     for i in 0..page.count() {
         used = used.saturating_add(leaf_size(&page.leaf(i)));
     }

@@ -18,7 +18,7 @@ use bolt_format::{FreeIds, Kind, Meta, Page, PageFault, Sink, SinkFault, free_id
 
 /// A page that passed its tests, with its ids if it is a freelist.
 #[derive(Clone, Copy)]
-struct Found<'a> {
+struct PageWithIds<'a> {
     page: Page<'a>,
     ids: Option<FreeIds<'a>>,
 }
@@ -53,7 +53,7 @@ pub fn page_text<S: Sink>(
 }
 
 /// The page, and its ids if it is a freelist.
-fn find<'a>(file: &'a [u8], meta: &Meta, id: u64) -> Result<Found<'a>, PageFault>
+fn find<'a>(file: &'a [u8], meta: &Meta, id: u64) -> Result<PageWithIds<'a>, PageFault>
     ensures page { IfOk result (λ found. page_at file.now meta.now id ≡ Some (shown found.page)) }
     ensures ids { IfOk result (λ found. (shown found.page).kind ≡ Kind.Freelist → known_ids (option_map shown_ids found.ids) ≡ page_ids file.now meta.now id) }
     ensures fault { result_err result ≡ page_text_fault file.now meta.now id }
@@ -62,9 +62,9 @@ fn find<'a>(file: &'a [u8], meta: &Meta, id: u64) -> Result<Found<'a>, PageFault
     match page.kind() {
         Kind::Freelist => {
             let ids = own_ids(file, meta, id)?;
-            Ok(Found { page, ids })
+            Ok(PageWithIds { page, ids })
         }
-        _ => Ok(Found { page, ids: None }),
+        _ => Ok(PageWithIds { page, ids: None }),
     }
 }
 

@@ -12,12 +12,12 @@ ghost use Rattle.bolt_report.specs.Reports.{Reports};
 ghost use Rattle.bolt_report.specs.declared.text.TheConstants.{TEXT_LEN};
 ghost use Rattle.bolt_report.specs.SizeLines.{AreSized, Sized, bytes_allocated, bytes_used, size_columns, sizes_text};
 
+use crate::bucket_figures::stats;
 use crate::fault::ReportFault;
 use crate::figures::Stats;
 use crate::form::Form;
 use crate::puts::put;
 use crate::text::{Text, push_bytes, push_number};
-use crate::tour::stats;
 use crate::values::value;
 use bolt_format::Sink;
 use bolt_tree::{Bucket, Entry, Item};

@@ -10,7 +10,7 @@ use Rattle.bolt_check.specs.declared.checked_file.Checked.{Checked}
 use Rattle.bolt_check.proofs.CheckedLemmas.{with_trees}
 use Rattle.bolt_tree.specs.BucketViews.{entries_of}
 use Rattle.bolt_tree.specs.Entries.{AreEntries, IsEntry, IsStart, Root_page, Start}
-use Rattle.bolt_tree.specs.FileListings.{root_of}
+use Rattle.bolt_tree.specs.FileListings.{root_start}
 use Rattle.bolt_tree.specs.Paths.{HasEntries}
 use Rattle.bolt_tree.specs.Private.Tours.{elements_of, pages_at}
 use Rattle.bolt_tree.proofs.SortedLemmas.{sorted}
@@ -22,5 +22,5 @@ sorted_at file meta sound start is = (elements_of (pages_at file meta start), so
 pub all_entries : (file : List ℕ) (meta : Meta) → HasSoundTrees file meta → HasEntries (IsEntry file meta) (Root_page meta.root)
 all_entries file meta sound = λ path bucket names. sorted_at file meta sound bucket (starts_named file meta (Root_page meta.root) path bucket (root_starts file meta) names)
 
-pub checked_entries : (checked : Checked) → ∥ HasEntries (entries_of checked) (root_of checked) ∥₁
-checked_entries checked = with_trees checked (∥ HasEntries (entries_of checked) (root_of checked) ∥₁) ∥∥₁_prop (λ trees. ∣ all_entries (bytes_of checked) (meta_of checked) trees ∣₁)
+pub checked_entries : (checked : Checked) → ∥ HasEntries (entries_of checked) (root_start checked) ∥₁
+checked_entries checked = with_trees checked (∥ HasEntries (entries_of checked) (root_start checked) ∥₁) ∥∥₁_prop (λ trees. ∣ all_entries (bytes_of checked) (meta_of checked) trees ∣₁)

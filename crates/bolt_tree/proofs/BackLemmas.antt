@@ -9,7 +9,7 @@ use Rattle.bolt_tree.specs.BucketViews.{BucketView}
 use Rattle.bolt_tree.specs.Private.BucketPages.{contents_in, elements_in, root_content}
 use Rattle.bolt_tree.specs.Private.Contents.{Content, Contents, Of_branch, Of_leaf, content_length}
 use Rattle.bolt_tree.specs.Private.Entered.{IsEntered}
-use Rattle.bolt_tree.specs.Private.Stacks.{Frame, HasStack, IsAtRest, IsBranchContent, IsBranchTop, IsOn, RestsOn, address_on, before_of, before_under, behind_of, done_of, done_under, index_of, left_of, left_under, under_at}
+use Rattle.bolt_tree.specs.Private.Stacks.{Frame, HasStack, IsAtRest, IsBranchContent, IsBranchTop, IsOn, RestsOn, address_on, before_of, before_under, preceding_of, done_of, done_under, index_of, left_of, left_under, under_at}
 use Rattle.bolt_tree.specs.Private.Tours.{Visit, all_under, elements_of, tour}
 use Rattle.bolt_tree.proofs.StackLemmas.{branch_room}
 
@@ -51,7 +51,7 @@ tour_done contents n h address (Of_branch bs) same =
 
 -- an entry is taken
 pub back_some : (contents : Contents) (content : Content) (i t : ℕ) (below new : List Frame) (e : LeafElement) → t ≡ i + 2 → IsEntered contents true content i below new (Some e)
-    → (behind_of contents (record { content = content; taken = t } ∷ below) ≡ behind_of contents new ++ e ∷ []) × IsOn new e
+    → (preceding_of contents (record { content = content; taken = t } ∷ below) ≡ preceding_of contents new ++ e ∷ []) × IsOn new e
 back_some contents (Of_leaf es) i t below new e two h =
     let old : t - 1 ≡ suc i = omega arith in
     let back : (i + 1) - 1 ≡ i = omega arith in
@@ -65,7 +65,7 @@ regroup b a t u e = append-nil (b ++ (a ++ t)) ∙ (ap (λ (x : List LeafElement
 
 -- a page is opened
 pub back_none : (bucket : BucketView) (content : Content) (i t : ℕ) (below new : List Frame) → t ≡ i + 2 → IsEntered (contents_in bucket) true content i below new None → HasStack bucket new
-    → (behind_of (contents_in bucket) (record { content = content; taken = t } ∷ below) ≡ behind_of (contents_in bucket) new)
+    → (preceding_of (contents_in bucket) (record { content = content; taken = t } ∷ below) ≡ preceding_of (contents_in bucket) new)
     × (length (before_of (contents_in bucket) (record { content = content; taken = t } ∷ below)) ≡ suc (length (before_of (contents_in bucket) new)))
 back_none bucket (Of_leaf es) i t below new two h stack = absurd h
 back_none bucket (Of_branch bs) i t below new two h stack =
@@ -117,7 +117,7 @@ branch_done (f ∷ below) h = by_content f.content f.taken h
 
 -- a page of which nothing before is taken leaves the stack
 pub left_out : (bucket : BucketView) (f : Frame) (below : List Frame) → HasStack bucket (f ∷ below) → f.taken ≤ 1
-    → (behind_of (contents_in bucket) below ≡ behind_of (contents_in bucket) (f ∷ below)) × (before_of (contents_in bucket) below ≡ before_of (contents_in bucket) (f ∷ below))
+    → (preceding_of (contents_in bucket) below ≡ preceding_of (contents_in bucket) (f ∷ below)) × (before_of (contents_in bucket) below ≡ before_of (contents_in bucket) (f ∷ below))
 left_out bucket f below stack h =
     let here = nothing_done f.content f.taken h in
     let under = nothing_before (contents_in bucket) (length below) (address_on below) f.content f.taken h in
@@ -127,20 +127,20 @@ left_out bucket f below stack h =
     (rw (here, top) (ap (λ (vs : List Visit). elements_of vs ++ []) same), same)
 
 pub step_back_some : (old now : BucketView) (whole below new : List Frame) (f : Frame) (i : ℕ) (e : LeafElement) → f.taken ≡ i + 2 → now ≡ old → whole ≡ f ∷ below → IsEntered (contents_in old) true f.content i below new (Some e)
-    → (behind_of (contents_in old) whole ≡ behind_of (contents_in now) new ++ e ∷ []) × IsOn new e
+    → (preceding_of (contents_in old) whole ≡ preceding_of (contents_in now) new ++ e ∷ []) × IsOn new e
 step_back_some old now whole below new f i e two same frames h = let r = back_some (contents_in old) f.content i f.taken below new e two h in (rw (frames, same) (r.0), r.1)
 
 pub step_back_none : (old now : BucketView) (whole below new : List Frame) (f : Frame) (i : ℕ) → f.taken ≡ i + 2 → now ≡ old → whole ≡ f ∷ below → IsEntered (contents_in old) true f.content i below new None → HasStack now new
-    → (behind_of (contents_in old) whole ≡ behind_of (contents_in now) new) × (length (before_of (contents_in old) whole) ≡ suc (length (before_of (contents_in now) new)))
+    → (preceding_of (contents_in old) whole ≡ preceding_of (contents_in now) new) × (length (before_of (contents_in old) whole) ≡ suc (length (before_of (contents_in now) new)))
 step_back_none old now whole below new f i two same frames h stack =
     let s : HasStack old new = subst (λ (k : BucketView). HasStack k new) same stack in
     let r = back_none old f.content i f.taken below new two h s in
     (rw (frames, same) (r.0), rw (frames, same) (r.1))
 
 -- behind the root page's last element, everything is behind
-pub root_behind : (bucket : BucketView) → elements_in bucket
-    ≡ behind_of (contents_in bucket) (record { content = root_content bucket; taken = suc (content_length (root_content bucket)) } ∷ [])
-root_behind bucket = (tour_done (contents_in bucket) 63 0 [] (root_content bucket) (λ bs e. refl)).0
+pub root_preceding : (bucket : BucketView) → elements_in bucket
+    ≡ preceding_of (contents_in bucket) (record { content = root_content bucket; taken = suc (content_length (root_content bucket)) } ∷ [])
+root_preceding bucket = (tour_done (contents_in bucket) 63 0 [] (root_content bucket) (λ bs e. refl)).0
 
 -- the pages on the stack have no entries of their own
 left_entries : (contents : Contents) (H : ℕ) (address : List ℕ) (content : Content) (k : ℕ) → elements_of (left_under contents H address content k) ≡ elements_of (before_under contents H address content k)
@@ -157,7 +157,7 @@ left_elements contents (f ∷ below) =
 
 -- the number of the entry on which a stack stands is that of those behind
 behind_leaf : (contents : Contents) (es : List LeafElement) (t : ℕ) (below : List Frame) → 1 ≤ t → t ≤ length es
-    → length (behind_of contents (record { content = Of_leaf es; taken = t } ∷ below)) ≡ index_of contents (record { content = Of_leaf es; taken = t } ∷ below)
+    → length (preceding_of contents (record { content = Of_leaf es; taken = t } ∷ below)) ≡ index_of contents (record { content = Of_leaf es; taken = t } ∷ below)
 behind_leaf contents es t below one most =
     let a = ap length (left_elements contents below) in
     let b = length-append (elements_of (before_of contents below ++ [])) (take (t - 1) es) in
@@ -165,9 +165,9 @@ behind_leaf contents es t below one most =
     let m = length-take (t - 1) es in
     omega (arith, a, b, n, m, one, most)
 
-behind_content : (contents : Contents) (content : Content) (t : ℕ) (below : List Frame) → RestsOn content t → length (behind_of contents (record { content = content; taken = t } ∷ below)) ≡ index_of contents (record { content = content; taken = t } ∷ below)
+behind_content : (contents : Contents) (content : Content) (t : ℕ) (below : List Frame) → RestsOn content t → length (preceding_of contents (record { content = content; taken = t } ∷ below)) ≡ index_of contents (record { content = content; taken = t } ∷ below)
 behind_content contents (Of_leaf es) t below rest = behind_leaf contents es t below rest.0 rest.1
 behind_content contents (Of_branch bs) t below rest = absurd rest
 
-pub behind_index : (contents : Contents) (f : Frame) (below : List Frame) → IsAtRest (f ∷ below) → length (behind_of contents (f ∷ below)) ≡ index_of contents (f ∷ below)
+pub behind_index : (contents : Contents) (f : Frame) (below : List Frame) → IsAtRest (f ∷ below) → length (preceding_of contents (f ∷ below)) ≡ index_of contents (f ∷ below)
 behind_index contents f below rest = behind_content contents f.content f.taken below rest

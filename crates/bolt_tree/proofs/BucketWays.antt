@@ -6,7 +6,7 @@ use Rattle.bolt_format.specs.Elements.{LeafElement, head_root, inline_elements}
 use Rattle.bolt_format.specs.declared.meta.Meta.{Meta}
 use Rattle.bolt_check.specs.Nodes.{Entry, Node, Nodes, leaf_entry, node_at}
 use Rattle.bolt_check.specs.Shape.{leads}
-use Rattle.bolt_check.specs.Ways.{At_inline, At_page, PageSpot, Spot, SpanHas, child_spot, follow, reached, spot_of, start_of as page_start, step_at, step_entry, step_on, upper_from}
+use Rattle.bolt_check.specs.Ways.{At_inline, At_page, PageSpot, Spot, SpanHas, child_spot, follow, reached, spot_of, root_spot, step_at, step_entry, step_on, upper_from}
 use Rattle.bolt_tree.specs.Entries.{Inline_page, IsEntry, IsStart, Root_page, ShowsEntry, Start, start_of}
 use Rattle.bolt_check.specs.OnWays.{IsOnWay}
 use Rattle.bolt_check.proofs.WayFacts.{follow_append, leads_follow, leaf_node}
@@ -23,26 +23,26 @@ place_of (x ∷ leaves) e h =
       | inr g ↦ let (i, at) = place_of leaves e g in (suc i, at)
     ]
 
-spot_for : (host : ℕ) (e : LeafElement) → e.is_bucket ≡ true → eqb (head_root e.value) 0 ≡ false → Rattle.bolt_check.specs.Ways.bucket_spots host (leaf_entry e) ≡ Some (At_page (page_start (head_root e.value)))
+spot_for : (host : ℕ) (e : LeafElement) → e.is_bucket ≡ true → eqb (head_root e.value) 0 ≡ false → Rattle.bolt_check.specs.Ways.bucket_spots host (leaf_entry e) ≡ Some (At_page (root_spot (head_root e.value)))
 spot_for host e b page = rw (b, page) refl
 
 entry_step : (t : PageSpot) (o next : Option Entry) (e : LeafElement) → o ≡ Some (leaf_entry e) → e.is_bucket ≡ true → eqb (head_root e.value) 0 ≡ false
-    → step_entry true t o next ≡ Some (At_page (page_start (head_root e.value)))
+    → step_entry true t o next ≡ Some (At_page (root_spot (head_root e.value)))
 entry_step t o next e at b page = rw at (spot_for t.number e b page)
 
 node_step : (t : PageSpot) (r : Result Node ℕ) (entries : List Entry) (overflow i : ℕ) (e : LeafElement) → r ≡ Ok (record { is_leaf = true; overflow = overflow; entries = entries })
-    → slice_get entries i ≡ Some (leaf_entry e) → e.is_bucket ≡ true → eqb (head_root e.value) 0 ≡ false → step_at r t i ≡ Some (At_page (page_start (head_root e.value)))
+    → slice_get entries i ≡ Some (leaf_entry e) → e.is_bucket ≡ true → eqb (head_root e.value) 0 ≡ false → step_at r t i ≡ Some (At_page (root_spot (head_root e.value)))
 node_step t r entries overflow i e is at b page = rw is (entry_step t (slice_get entries i) (slice_get entries (suc i)) e at b page)
 
 -- the way on from a bucket's root page to that of a bucket among its entries
 pub bucket_way : (file : List ℕ) (meta : Meta) (s : PageSpot) (e : LeafElement) → IsEntry file meta (Root_page s.number) e → e.is_bucket ≡ true → eqb (head_root e.value) 0 ≡ false
-    → (address : List ℕ) × (i : ℕ) × (follow (node_at file meta) (Some (At_page s)) (address ++ i ∷ []) ≡ Some (At_page (page_start (head_root e.value))))
+    → (address : List ℕ) × (i : ℕ) × (follow (node_at file meta) (Some (At_page s)) (address ++ i ∷ []) ≡ Some (At_page (root_spot (head_root e.value))))
 bucket_way file meta s e (address, n, lead, (view, at, k, is)) b page =
     let nodes : Nodes = node_at file meta in
     let (t, on, number) = leads_follow nodes s address n lead in
     let (i, place) = place_of view.leaves e is in
     let node = ap nodes number ∙ leaf_node file meta n view at k in
-    let last : follow nodes (Some (At_page t)) (i ∷ []) ≡ Some (At_page (page_start (head_root e.value))) = node_step t (nodes t.number) (map leaf_entry view.leaves) view.overflow i e node place b page in
+    let last : follow nodes (Some (At_page t)) (i ∷ []) ≡ Some (At_page (root_spot (head_root e.value))) = node_step t (nodes t.number) (map leaf_entry view.leaves) view.overflow i e node place b page in
     (address, i, follow_append nodes (Some (At_page s)) address (i ∷ []) ∙ (ap (λ (o : Option Spot). follow nodes o (i ∷ [])) on ∙ last))
 
 pub at_root : (value : List ℕ) → eqb (head_root value) 0 ≡ false → start_of value ≡ Root_page (head_root value)
@@ -74,7 +74,7 @@ module _ (file : List ℕ) (meta : Meta) where
         record {
           way = on.way ++ address;
           spot = t;
-          led = follow_append nodes (Some (At_page (page_start meta.root))) on.way address ∙ (ap (λ (o : Option Spot). follow nodes o address) on.led ∙ reach);
+          led = follow_append nodes (Some (At_page (root_spot meta.root))) on.way address ∙ (ap (λ (o : Option Spot). follow nodes o address) on.led ∙ reach);
           is = number;
           deep = refl;
         },
@@ -90,8 +90,8 @@ module _ (file : List ℕ) (meta : Meta) where
       let (address, i, reach) = bucket_way file meta on.spot e (subst (λ (r : ℕ). IsEntry file meta (Root_page r) e) (sym on.is) is) bucket own_root in
       subst (λ (from : Start). IsStart file meta from) (sym (at_root e.value own_root)) (record {
         way = on.way ++ (address ++ i ∷ []);
-        spot = page_start (head_root e.value);
-        led = follow_append nodes (Some (At_page (page_start meta.root))) on.way (address ++ i ∷ []) ∙ (ap (λ (o : Option Spot). follow nodes o (address ++ i ∷ [])) on.led ∙ reach);
+        spot = root_spot (head_root e.value);
+        led = follow_append nodes (Some (At_page (root_spot meta.root))) on.way (address ++ i ∷ []) ∙ (ap (λ (o : Option Spot). follow nodes o (address ++ i ∷ [])) on.led ∙ reach);
         is = refl;
         deep = refl;
       })
@@ -114,4 +114,4 @@ module _ (file : List ℕ) (meta : Meta) where
   starts_named from (key ∷ path) bucket start (e, is, own, b, names) = starts_named (start_of e.value) path bucket (starts_below from e start is b) names
 
   pub root_starts : IsStart file meta (Root_page meta.root)
-  root_starts = record { way = []; spot = page_start meta.root; led = refl; is = refl; deep = refl }
+  root_starts = record { way = []; spot = root_spot meta.root; led = refl; is = refl; deep = refl }

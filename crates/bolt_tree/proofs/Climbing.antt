@@ -7,14 +7,14 @@ use Rattle.std.proofs.Props.{props}
 use Rattle.bolt_format.specs.Elements.{LeafElement}
 use Rattle.bolt_check.specs.declared.checked_file.Checked.{Checked}
 use Rattle.bolt_tree.specs.BucketViews.{entries_of}
-use Rattle.bolt_tree.specs.FileListings.{root_of}
+use Rattle.bolt_tree.specs.FileListings.{root_start}
 use Rattle.bolt_tree.specs.Entries.{Start, item_of}
 use Rattle.bolt_tree.specs.Listing.{Lists, Member}
 use Rattle.bolt_tree.specs.Paths.{HasEntries, Names, Path, path_of}
 use Rattle.bolt_tree.specs.Places.{Moves, next_move}
 use Rattle.bolt_tree.specs.Private.Kept.{CursorView}
 use Rattle.bolt_tree.specs.Private.OpenBuckets.{AreOpen}
-use Rattle.bolt_tree.specs.Private.Behind.{behind, beyond, is_beyond}
+use Rattle.bolt_tree.specs.Private.RestAfter.{rest_after, beyond, is_beyond}
 use Rattle.bolt_tree.proofs.Filters.{filter_none}
 use Rattle.bolt_tree.proofs.OpenSteps.{Top, path_popped, next_ended, next_entry, next_given, next_open, open_pop}
 
@@ -27,18 +27,18 @@ one_less old new front x was is =
 
 -- the last cursor is looked at by itself, and the last key was taken off
 pub record Popped (checked : Checked) (cursors : List CursorView) (cursor : CursorView) (old new : Path) : Type 0 where
-  pub all : HasEntries (entries_of checked) (root_of checked)
+  pub all : HasEntries (entries_of checked) (root_start checked)
   pub top : Top checked [] cursors cursor old
   pub left : new ≡ top.front
 
 module _ (checked : Checked) (before cursors : List CursorView) (cursor : CursorView) (old new : List (Bor (List ℕ))) (taken : Option (Bor (List ℕ))) (n m : ℕ)
-    (buckets : ∥ HasEntries (entries_of checked) (root_of checked) × AreOpen checked [] before (path_of old) ∥₁) (last : before ≡ cursors ++ cursor ∷ [])
+    (buckets : ∥ HasEntries (entries_of checked) (root_start checked) × AreOpen checked [] before (path_of old) ∥₁) (last : before ≡ cursors ++ cursor ∷ [])
     (items : old ≡ new ++ option_to_list taken) (rest : new ≡ take (n - 1) old) (cases : MatchOption taken ((n ≡ 0) × (m ≡ 0)) (λ _. m + 1 ≡ n)) where
   more_or_less : (o : Option (Bor (List ℕ))) → MatchOption o ((n ≡ 0) × (m ≡ 0)) (λ _. m + 1 ≡ n) → MatchOption o ((n ≡ 0) × (m ≡ 0)) (λ _. suc m ≡ n)
   more_or_less None h = h
   more_or_less (Some x) h = omega arith
 
-  of : HasEntries (entries_of checked) (root_of checked) × AreOpen checked [] before (path_of old) → Popped checked cursors cursor (path_of old) (path_of new) × (suc m ≡ n)
+  of : HasEntries (entries_of checked) (root_start checked) × AreOpen checked [] before (path_of old) → Popped checked cursors cursor (path_of old) (path_of new) × (suc m ≡ n)
   of (all, are) =
       let top = open_pop checked [] cursors cursor (path_of old) (subst (λ (cs : List CursorView). AreOpen checked [] cs (path_of old)) last are) in
       let both = path_popped old new taken n m top.front top.key top.split items rest (more_or_less taken cases) in
@@ -54,17 +54,17 @@ module _ (checked : Checked) (cursors : List CursorView) (cursor moved : CursorV
   abbrev MovesOn : Option LeafElement → Type 0
   MovesOn o = Moves (entries_of cursor.checked) cursor.start next_move cursor.place moved.place o
 
-  pub stays : (after : List CursorView) → after ≡ cursors → ∥ HasEntries (entries_of checked) (root_of checked) × AreOpen checked [] after new ∥₁
+  pub stays : (after : List CursorView) → after ≡ cursors → ∥ HasEntries (entries_of checked) (root_start checked) × AreOpen checked [] after new ∥₁
   stays after rest = ∥∥₁_map known (λ k.
       let below = subst (λ (keys : Path). AreOpen checked [] cursors keys) (sym k.left) k.top.below in
       (k.all, subst (λ (cs : List CursorView). AreOpen checked [] cs new) (sym rest) below))
 
-  pub ends : MovesOn None → (listing : List Member) → Lists (entries_of checked) (root_of checked) listing → beyond old listing ≡ beyond new listing
+  pub ends : MovesOn None → (listing : List Member) → Lists (entries_of checked) (root_start checked) listing → beyond old listing ≡ beyond new listing
   ends moves listing lists =
       ∥∥₁_elim known (hlevel props) (λ k. next_ended checked k.all cursors cursor moved old k.top moves listing lists ∙ ap (λ (keys : Path). beyond keys listing) (sym k.left))
 
   pub opens : (e : LeafElement) (after : List CursorView) (keys : Path) → moved.checked ≡ cursor.checked → moved.start ≡ cursor.start → MovesOn (Some e)
-      → after ≡ cursors ++ moved ∷ [] → keys ≡ new ++ e.key ∷ [] → ∥ HasEntries (entries_of checked) (root_of checked) × AreOpen checked [] after keys ∥₁
+      → after ≡ cursors ++ moved ∷ [] → keys ≡ new ++ e.key ∷ [] → ∥ HasEntries (entries_of checked) (root_start checked) × AreOpen checked [] after keys ∥₁
   opens e after keys file start moves put path =
       ∥∥₁_map known (λ k.
       let at : keys ≡ k.top.front ++ e.key ∷ [] = path ∙ ap (λ (p : Path). p ++ e.key ∷ []) k.left in (
@@ -74,28 +74,28 @@ module _ (checked : Checked) (cursors : List CursorView) (cursor moved : CursorV
       ))
 
   pub leads_on : (e : LeafElement) (keys : Path) → MovesOn (Some e) → keys ≡ new ++ e.key ∷ []
-      → ∥ ((path : Path) × (bucket : Start) × (keys ≡ path ++ e.key ∷ []) × Names (entries_of checked) (root_of checked) path bucket × entries_of checked bucket e) ∥₁
+      → ∥ ((path : Path) × (bucket : Start) × (keys ≡ path ++ e.key ∷ []) × Names (entries_of checked) (root_start checked) path bucket × entries_of checked bucket e) ∥₁
   leads_on e keys moves path =
       ∥∥₁_map known (λ k. (k.top.front, cursor.start, path ∙ ap (λ (p : Path). p ++ e.key ∷ []) k.left, k.top.names, next_entry checked k.all cursors cursor moved old k.top e moves))
 
-  pub gives : (e : LeafElement) (keys : Path) → MovesOn (Some e) → keys ≡ new ++ e.key ∷ [] → (listing : List Member) → Lists (entries_of checked) (root_of checked) listing
-      → beyond old listing ≡ (keys, item_of e) ∷ behind keys listing
+  pub gives : (e : LeafElement) (keys : Path) → MovesOn (Some e) → keys ≡ new ++ e.key ∷ [] → (listing : List Member) → Lists (entries_of checked) (root_start checked) listing
+      → beyond old listing ≡ (keys, item_of e) ∷ rest_after keys listing
   gives e keys moves path listing lists =
       ∥∥₁_elim known (hlevel props) (λ k.
       let at : keys ≡ k.top.front ++ e.key ∷ [] = path ∙ ap (λ (p : Path). p ++ e.key ∷ []) k.left in
-      subst (λ (ks : Path). beyond old listing ≡ (ks, item_of e) ∷ behind ks listing) (sym at) (next_given checked k.all cursors cursor moved old k.top e moves listing lists))
+      subst (λ (ks : Path). beyond old listing ≡ (ks, item_of e) ∷ rest_after ks listing) (sym at) (next_given checked k.all cursors cursor moved old k.top e moves listing lists))
 
 -- without an open bucket the path is empty
 long : (checked : Checked) (keys : Path) → AreOpen checked [] [] keys → keys ≡ []
 long checked [] are = refl
 long checked (key ∷ keys) are = absurd are
 
-pub all_closed : (checked : Checked) (cursors : List CursorView) (keys : Path) → ∥ HasEntries (entries_of checked) (root_of checked) × AreOpen checked [] cursors keys ∥₁ → cursors ≡ [] → keys ≡ []
+pub all_closed : (checked : Checked) (cursors : List CursorView) (keys : Path) → ∥ HasEntries (entries_of checked) (root_start checked) × AreOpen checked [] cursors keys ∥₁ → cursors ≡ [] → keys ≡ []
 all_closed checked cursors keys buckets none =
     ∥∥₁_elim buckets (hlevel props) (λ t. long checked keys (subst (λ (cs : List CursorView). AreOpen checked [] cs keys) none t.1))
 
 pub none_beyond : (keys : Path) (listing : List Member) → keys ≡ [] → beyond keys listing ≡ []
 none_beyond keys listing none = ap (λ (p : Path). beyond p listing) none ∙ filter_none (λ m. is_beyond [] m.0) listing (λ m h. refl)
 
-pub listed_in : (a b : Checked) (listing : List Member) → a ≡ b → Lists (entries_of b) (root_of b) listing → Lists (entries_of a) (root_of a) listing
-listed_in a b listing same lists = subst (λ (file : Checked). Lists (entries_of file) (root_of file) listing) (sym same) lists
+pub listed_in : (a b : Checked) (listing : List Member) → a ≡ b → Lists (entries_of b) (root_start b) listing → Lists (entries_of a) (root_start a) listing
+listed_in a b listing same lists = subst (λ (file : Checked). Lists (entries_of file) (root_start file) listing) (sym same) lists

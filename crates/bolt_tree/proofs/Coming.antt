@@ -1,5 +1,5 @@
 -- A part of a path is sought in a bucket, in what is known of open buckets: only that it is so.
-use Rattle.std.proofs.Common.{◌≡◌, ◌∙◌, true, false, List, [], ◌∷◌, ◌++◌, Option, Some, None, refl, sym, ap, subst, append_assoc}
+use Rattle.std.proofs.Common.{◌≡◌, ◌∙◌, ◌⊎◌, IsTrue, Bool, inl, inr, true, false, List, [], ◌∷◌, ◌++◌, Option, Some, None, refl, sym, ap, subst, append_assoc}
 use Rattle.std.proofs.Math.Logic.{∥∥₁_elim, ∥∥₁_map}
 use Rattle.std.proofs.Props.{props}
 use Rattle.std.specs.Ordering.{is_lt, ordering_reverse}
@@ -8,17 +8,20 @@ use Rattle.std.specs.declared.cmp.Ordering.TheVariants.{Less, Equal, Greater}
 use Rattle.bolt_format.specs.Elements.{LeafElement}
 use Rattle.bolt_check.specs.Keys.{Key, key_cmp}
 use Rattle.bolt_check.specs.declared.checked_file.Checked.{Checked}
+use Rattle.bolt_tree.specs.Buckets.{bucket_checked, bucket_start}
 use Rattle.bolt_tree.specs.BucketViews.{entries_of}
-use Rattle.bolt_tree.specs.FileListings.{root_of}
-use Rattle.bolt_tree.specs.Entries.{AreEntries, Start}
+use Rattle.bolt_tree.specs.FileListings.{root_start}
+use Rattle.bolt_tree.specs.Entries.{AreEntries, Start, start_of}
 use Rattle.bolt_tree.specs.Listing.{Lists, Member, rest_from}
 use Rattle.bolt_tree.specs.Paths.{HasEntries, Names, Path}
 use Rattle.bolt_tree.specs.Places.{Moves, least_from, seek_move}
+use Rattle.bolt_tree.specs.Private.CursorViews.{Opens, fresh_view}
 use Rattle.bolt_tree.specs.Private.Kept.{CursorView}
-use Rattle.bolt_tree.specs.Private.OpenBuckets.{AreOpen, StandsOn, is_end}
-use Rattle.bolt_tree.specs.Private.Behind.{beyond}
+use Rattle.bolt_tree.specs.Private.OpenBuckets.{AreOpen, IsInside, StandsOn, is_end}
+use Rattle.bolt_tree.specs.Private.RestAfter.{beyond}
+use Rattle.bolt_tree.specs.declared.bucket.Bucket.{Bucket}
 use Rattle.bolt_tree.proofs.CursorMoves.{comes_from}
-use Rattle.bolt_tree.proofs.Entering.{Fresh_at}
+use Rattle.bolt_tree.proofs.Entering.{Fresh_at, leads_in, leads_inside, made, placed_in}
 use Rattle.bolt_tree.proofs.EntryOrder.{contains_at, seek_from}
 use Rattle.bolt_tree.proofs.PathOrder.{key_exact, key_total, less_lt}
 use Rattle.bolt_tree.proofs.Seeking.{rest_greater, rest_none, rest_past_value}
@@ -43,17 +46,17 @@ module _ (checked : Checked) (cursors : List CursorView) (keys : Path) (fresh mo
       (least_from part entries, e, came.0, came.1, refl)
 
   pub from_opens : (e : LeafElement) (after : List CursorView) (path : Path) → moved.checked ≡ fresh.checked → moved.start ≡ fresh.start → MovesFrom (Some e)
-      → after ≡ cursors ++ moved ∷ [] → path ≡ keys ++ e.key ∷ [] → ∥ HasEntries (entries_of checked) (root_of checked) × AreOpen checked [] after path ∥₁
+      → after ≡ cursors ++ moved ∷ [] → path ≡ keys ++ e.key ∷ [] → ∥ HasEntries (entries_of checked) (root_start checked) × AreOpen checked [] after path ∥₁
   from_opens e after path file start moves put at =
       ∥∥₁_map known (λ k. (
         k.all,
         subst (λ (cs : List CursorView). AreOpen checked [] cs path) (sym put) (subst (λ (ks : Path). AreOpen checked [] (cursors ++ moved ∷ []) ks) (sym at)
-            (open_push checked [] cursors moved keys e.key k.are (file ∙ k.file) (subst (λ (s : Start). Names (entries_of checked) (root_of checked) keys s) (sym start) k.names)
+            (open_push checked [] cursors moved keys e.key k.are (file ∙ k.file) (subst (λ (s : Start). Names (entries_of checked) (root_start checked) keys s) (sym start) k.names)
             (stands e k start moves))),
       ))
 
   pub from_leads : (e : LeafElement) (path : Path) → MovesFrom (Some e) → path ≡ keys ++ e.key ∷ []
-      → ∥ ((front : Path) × (bucket : Start) × (path ≡ front ++ e.key ∷ []) × Names (entries_of checked) (root_of checked) front bucket × entries_of checked bucket e) ∥₁
+      → ∥ ((front : Path) × (bucket : Start) × (path ≡ front ++ e.key ∷ []) × Names (entries_of checked) (root_start checked) front bucket × entries_of checked bucket e) ∥₁
   from_leads e path moves at =
       ∥∥₁_map known (λ k.
       let own = k.all keys fresh.start k.names in
@@ -69,25 +72,25 @@ module _ (checked : Checked) (cursors : List CursorView) (keys : Path) (fresh mo
       neither part e.key (key_cmp part e.key) refl not_less (seek_from part own.0 e came.1))
 
   pub from_greater : (e : LeafElement) (rest path : Path) → MovesFrom (Some e) → is_lt (key_cmp part e.key) ≡ true → path ≡ keys ++ e.key ∷ []
-      → (listing : List Member) → Lists (entries_of checked) (root_of checked) listing → rest_from path listing ≡ rest_from (keys ++ part ∷ rest) listing
+      → (listing : List Member) → Lists (entries_of checked) (root_start checked) listing → rest_from path listing ≡ rest_from (keys ++ part ∷ rest) listing
   from_greater e rest path moves less at listing lists =
       ∥∥₁_elim known (hlevel props) (λ k.
       let own = k.all keys fresh.start k.names in
       let came = comes_from part own.0 moved.place (Some e) (here (Some e) k moves own.0 own.1) in
       subst (λ (ks : Path). rest_from ks listing ≡ rest_from (keys ++ part ∷ rest) listing) (sym at)
-      (sym (rest_greater (entries_of checked) (root_of checked) k.all listing lists keys fresh.start k.names own.0 e part rest own.1 came.1 (less_lt _ less))))
+      (sym (rest_greater (entries_of checked) (root_start checked) k.all listing lists keys fresh.start k.names own.0 e part rest own.1 came.1 (less_lt _ less))))
 
-  pub from_none : (rest : Path) → MovesFrom None → (listing : List Member) → Lists (entries_of checked) (root_of checked) listing
+  pub from_none : (rest : Path) → MovesFrom None → (listing : List Member) → Lists (entries_of checked) (root_start checked) listing
       → beyond keys listing ≡ rest_from (keys ++ part ∷ rest) listing
   from_none rest moves listing lists =
       ∥∥₁_elim known (hlevel props) (λ k.
       let own = k.all keys fresh.start k.names in
       let long = comes_from part own.0 moved.place None (here None k moves own.0 own.1) in
-      sym (rest_none (entries_of checked) (root_of checked) k.all listing lists keys fresh.start k.names own.0 part rest own.1 long))
+      sym (rest_none (entries_of checked) (root_start checked) k.all listing lists keys fresh.start k.names own.0 part rest own.1 long))
 
   -- the path goes on below a value
   pub from_value : (e : LeafElement) (rest path : Path) → MovesFrom (Some e) → part ≡ e.key → e.is_bucket ≡ false → is_end rest ≡ false → path ≡ keys ++ e.key ∷ []
-      → (listing : List Member) → Lists (entries_of checked) (root_of checked) listing → beyond path listing ≡ rest_from (keys ++ part ∷ rest) listing
+      → (listing : List Member) → Lists (entries_of checked) (root_start checked) listing → beyond path listing ≡ rest_from (keys ++ part ∷ rest) listing
   from_value e [] path moves same value more at listing lists = absurd (let f : true ≡ false = more in cc)
   from_value e (k ∷ rest) path moves same value more at listing lists =
       ∥∥₁_elim known (hlevel props) (λ n.
@@ -96,10 +99,41 @@ module _ (checked : Checked) (cursors : List CursorView) (keys : Path) (fresh mo
       let is : entries_of checked fresh.start e = (own.1.exact e).0 (contains_at own.0 (least_from part own.0) e came.1) in
       let whole : (keys ++ e.key ∷ []) ++ k ∷ rest ≡ keys ++ part ∷ k ∷ rest = append_assoc keys (e.key ∷ []) (k ∷ rest) ∙ ap (λ (q : Key). keys ++ q ∷ k ∷ rest) (sym same) in
       subst (λ (ks : Path). beyond ks listing ≡ rest_from (keys ++ part ∷ k ∷ rest) listing) (sym at)
-      (sym (rest_past_value (entries_of checked) (root_of checked) n.all listing lists keys fresh.start n.names e k rest is value)
+      (sym (rest_past_value (entries_of checked) (root_start checked) n.all listing lists keys fresh.start n.names e k rest is value)
       ∙ ap (λ (ks : Path). rest_from ks listing) whole))
 
 -- the path ends here
 pub ends_here : (rest keys path : Path) (part key : Key) (listing : List Member) → is_end rest ≡ true → part ≡ key → path ≡ keys ++ key ∷ [] → rest_from path listing ≡ rest_from (keys ++ part ∷ rest) listing
 ends_here [] keys path part key listing e same at = ap (λ (ks : Path). rest_from ks listing) (at ∙ ap (λ (k : Key). keys ++ k ∷ []) (sym same))
 ends_here (k ∷ rest) keys path part key listing e same at = absurd (let f : false ≡ true = e in cc)
+
+-- A part was searched for in the bucket that these keys name. Its cursor is on this entry, whose key was put after them.
+module _ (checked file : Checked) (cursors after : List CursorView) (keys path : Path) (bucket : Bucket) (part : Key) (e : LeafElement)
+    (placed : ∥ HasEntries (entries_of checked) (root_start checked) × AreOpen checked [] cursors keys ∥₁)
+    (named : ∥ (bucket_checked bucket ≡ checked) × Names (entries_of checked) (root_start checked) keys (bucket_start bucket) ∥₁)
+    (same : file ≡ checked) (opens : Opens bucket (λ entries place. seek_move part entries) cursors after (Some e)) (at : path ≡ keys ++ e.key ∷ []) where
+  known_there : ∥ Fresh_at checked cursors keys (fresh_view bucket) ∥₁
+  known_there = made checked cursors keys bucket (fresh_view bucket) placed named refl refl
+
+  pub placed_there : ∥ HasEntries (entries_of file) (root_start file) × AreOpen file [] after path ∥₁
+  placed_there = placed_in checked file after after path path same refl refl
+      (from_opens checked cursors keys (fresh_view bucket) opens.moved part known_there e after path opens.file opens.start opens.moves opens.is at)
+
+  pub leads_there : ∥ ((front : Path) × (outer : Start) × (path ≡ front ++ e.key ∷ []) × Names (entries_of file) (root_start file) front outer × entries_of file outer e) ∥₁
+  leads_there = leads_in checked file path e same (from_leads checked cursors keys (fresh_view bucket) opens.moved part known_there e path opens.moves at)
+
+  pub inside_there : IsTrue e.is_bucket → IsInside file path (start_of e.value)
+  inside_there b = leads_inside file path e leads_there b
+
+  pub same_there : is_lt (key_cmp part e.key) ≡ false → part ≡ e.key
+  same_there = from_same checked cursors keys (fresh_view bucket) opens.moved part known_there e opens.moves
+
+  -- what is left from there on: the key is above the part; or it is the last part; or it is a value, and the path goes on
+  pub rest_there : (is_last : Bool) → ((is_lt (key_cmp part e.key) ≡ true) ⊎ ((is_lt (key_cmp part e.key) ≡ false) × (is_last ≡ true))) → (rest : Path) → is_end rest ≡ is_last
+      → (listing : List Member) → Lists (entries_of checked) (root_start checked) listing → rest_from path listing ≡ rest_from (keys ++ part ∷ rest) listing
+  rest_there is_last (inl above) rest end listing lists = from_greater checked cursors keys (fresh_view bucket) opens.moved part known_there e rest path opens.moves above at listing lists
+  rest_there is_last (inr (not_above, last)) rest end listing lists = ends_here rest keys path part e.key listing (end ∙ last) (same_there not_above) at
+
+  pub beyond_there : is_lt (key_cmp part e.key) ≡ false → e.is_bucket ≡ false → (rest : Path) → is_end rest ≡ false
+      → (listing : List Member) → Lists (entries_of checked) (root_start checked) listing → beyond path listing ≡ rest_from (keys ++ part ∷ rest) listing
+  beyond_there not_above value rest more listing lists = from_value checked cursors keys (fresh_view bucket) opens.moved part known_there e rest path opens.moves (same_there not_above) value more at listing lists

@@ -10,7 +10,7 @@ use Rattle.bolt_check.specs.Keys.{Key, key_cmp}
 use Rattle.bolt_tree.specs.Entries.{AreEntries, Item, Start, item_of}
 use Rattle.bolt_tree.specs.Listing.{Lists, Member, rest_from}
 use Rattle.bolt_tree.specs.Paths.{HasEntries, Holds, Names, Path, path_cmp}
-use Rattle.bolt_tree.specs.Private.Behind.{is_beyond, behind, beyond}
+use Rattle.bolt_tree.specs.Private.RestAfter.{is_beyond, rest_after, beyond}
 use Rattle.bolt_tree.proofs.EntryOrder.{contains_at, first_least, last_greatest, next_least, next_less}
 use Rattle.bolt_tree.proofs.Filters.{filter_first, filter_same, lt_of, not_true, same_bool}
 use Rattle.bolt_tree.proofs.Lists.{contains_none, irreflexive}
@@ -18,7 +18,7 @@ use Rattle.bolt_tree.proofs.Named.{first_of_held, held_below, held_down, held_he
 use Rattle.bolt_tree.proofs.PathOrder.{before_longer, beyond_here, beyond_less, beyond_longer, beyond_or_longer, beyond_push, beyond_up, flip_less, less_lt, path_same, path_total, same_front}
 use Rattle.bolt_tree.proofs.Single.{member_total}
 
--- a path is not behind another with a part in the same place that is not behind its own
+-- a path is not rest_after another with a part in the same place that is not rest_after its own
 greater_part : (o r : Ordering) → is_lt o ≡ false → (o ≡ Equal → is_lt r ≡ false) → is_lt (Rattle.std.specs.Ordering.ordering_then o r) ≡ false
 greater_part Less r e more = e
 greater_part Equal r e more = more refl
@@ -47,7 +47,7 @@ module _ (Entry : Start → LeafElement → Type 0) (from : Start) (all : HasEnt
   pub give : (f : Path → Bool) (e : LeafElement) → Entry bucket e → ((q t : Path) → f q ≡ true → path_cmp q t ≡ Less → f t ≡ true) → f (path ++ e.key ∷ []) ≡ true
       → ((q : Path) → f q ≡ true → (is_beyond path q ≡ true) ⊎ ((z : Key) × (r : Path) × (q ≡ path ++ z ∷ r)))
       → ((z : Key) (r : Path) (g : LeafElement) → f (path ++ z ∷ r) ≡ true → Entry bucket g → g.key ≡ z → is_lt (key_cmp z e.key) ≡ false)
-      → filter (λ m. f m.0) listing ≡ (path ++ e.key ∷ [], item_of e) ∷ behind (path ++ e.key ∷ []) listing
+      → filter (λ m. f m.0) listing ≡ (path ++ e.key ∷ [], item_of e) ∷ rest_after (path ++ e.key ∷ []) listing
   give f e is up kept splits least =
       let own : Path = path ++ e.key ∷ [] in
       let in_bucket = λ (q : Path) (item : Item) (z : Key) (r : Path) (longer : q ≡ path ++ z ∷ r) (held : Holds Entry from q item) (h : f q ≡ true).
@@ -68,14 +68,14 @@ module _ (Entry : Start → LeafElement → Type 0) (from : Start) (all : HasEnt
 
   -- a bucket is entered
   pub give_first : (entries : List LeafElement) (e : LeafElement) → AreEntries Entry bucket entries → slice_get entries 0 ≡ Some e
-      → behind path listing ≡ (path ++ e.key ∷ [], item_of e) ∷ behind (path ++ e.key ∷ []) listing
+      → rest_after path listing ≡ (path ++ e.key ∷ [], item_of e) ∷ rest_after (path ++ e.key ∷ []) listing
   give_first entries e are at =
       give (λ q. is_lt (path_cmp path q)) e ((are.exact e).0 (contains_at entries 0 e at)) up_behind (lt_of _ (before_longer path e.key []))
       (λ q h. beyond_or_longer path q (less_lt (path_cmp path q) h))
       (λ z r g h is key. rw (← key) (first_least entries e g are.rises at ((are.exact g).1 is)))
 
   -- it has no entry
-  pub give_none : AreEntries Entry bucket [] → behind path listing ≡ beyond path listing
+  pub give_none : AreEntries Entry bucket [] → rest_after path listing ≡ beyond path listing
   give_none are =
       let nothing = λ (q : Path) (item : Item) (held : Holds Entry from q item) (z : Key) (r : Path) (longer : q ≡ path ++ z ∷ r).
       let down = held_down Entry from path bucket z r item all names (subst (λ (t : Path). Holds Entry from t item) longer held) in
@@ -91,7 +91,7 @@ module _ (Entry : Start → LeafElement → Type 0) (from : Start) (all : HasEnt
 
   -- the cursor of the bucket moves on to its next entry
   pub give_next : (entries : List LeafElement) (i : ℕ) (e g : LeafElement) → AreEntries Entry bucket entries → slice_get entries i ≡ Some e → slice_get entries (suc i) ≡ Some g
-      → beyond (path ++ e.key ∷ []) listing ≡ (path ++ g.key ∷ [], item_of g) ∷ behind (path ++ g.key ∷ []) listing
+      → beyond (path ++ e.key ∷ []) listing ≡ (path ++ g.key ∷ [], item_of g) ∷ rest_after (path ++ g.key ∷ []) listing
   give_next entries i e g are at next =
       let on : Path = path ++ e.key ∷ [] in
       let less : key_cmp e.key g.key ≡ Less = next_less entries i e g are.rises at next in
@@ -123,7 +123,7 @@ module _ (Entry : Start → LeafElement → Type 0) (from : Start) (all : HasEnt
       (λ h. beyond_longer path (e.key ∷ []) m.0 h))
 
   -- nothing is held below a value
-  pub give_past_value : (e : LeafElement) → Entry bucket e → e.is_bucket ≡ false → behind (path ++ e.key ∷ []) listing ≡ beyond (path ++ e.key ∷ []) listing
+  pub give_past_value : (e : LeafElement) → Entry bucket e → e.is_bucket ≡ false → rest_after (path ++ e.key ∷ []) listing ≡ beyond (path ++ e.key ∷ []) listing
   give_past_value e is value =
       let own : Path = path ++ e.key ∷ [] in
       filter_same (λ m. is_lt (path_cmp own m.0)) (λ m. is_beyond own m.0) listing (λ m in_it.
@@ -138,7 +138,7 @@ module _ (Entry : Start → LeafElement → Type 0) (from : Start) (all : HasEnt
       (λ h. lt_of _ (subst (λ (p : Path). path_cmp p m.0 ≡ Less) (append-nil own) (beyond_less own [] m.0 h))))
 
   -- the member at a path is the first of the rest from it
-  pub give_itself : (e : LeafElement) → Entry bucket e → rest_from (path ++ e.key ∷ []) listing ≡ (path ++ e.key ∷ [], item_of e) ∷ behind (path ++ e.key ∷ []) listing
+  pub give_itself : (e : LeafElement) → Entry bucket e → rest_from (path ++ e.key ∷ []) listing ≡ (path ++ e.key ∷ [], item_of e) ∷ rest_after (path ++ e.key ∷ []) listing
   give_itself e is =
       let own : Path = path ++ e.key ∷ [] in
       filter_first member_total (λ m. not (is_lt (path_cmp m.0 own))) (own, item_of e)

@@ -4,11 +4,13 @@ use Rattle.std.proofs.Math.Logic.{∥∥₁_elim, ∥∥₁_map}
 use Rattle.std.proofs.Math.Seq.{drop-append_seam, take-append_seam, take-length}
 use Rattle.std.proofs.Props.{props}
 use Rattle.std.proofs.lemmas.List.{length-append, length-drop, reverse-append}
+use Rattle.bolt_format.specs.Elements.{LeafElement}
 use Rattle.bolt_check.specs.declared.checked_file.Checked.{Checked}
-use Rattle.bolt_tree.specs.BucketViews.{BucketView, bucket_in}
+use Rattle.bolt_tree.specs.BucketViews.{BucketView, bucket_in, entries_of}
 use Rattle.bolt_tree.specs.Cursors.{cursor_checked, cursor_place, cursor_start}
 use Rattle.bolt_tree.specs.Pagers.{pager_checked}
-use Rattle.bolt_tree.specs.Private.CursorViews.{AreOfFile, IsInnermost, cursor_view, innermost_views}
+use Rattle.bolt_tree.specs.Places.{Move, Moves, Place}
+use Rattle.bolt_tree.specs.Private.CursorViews.{AreOfFile, IsInnermost, MovesLast, cursor_view, innermost_views}
 use Rattle.bolt_tree.specs.Private.Held.{IsHeld}
 use Rattle.bolt_tree.specs.Private.Kept.{AreKept, CursorView, IsKept, kept_view, kept_views}
 use Rattle.bolt_tree.specs.Private.Stacks.{Frame, HasStack, IsAtRest}
@@ -16,7 +18,7 @@ use Rattle.bolt_tree.specs.Private.Trails.{frames_of}
 use Rattle.bolt_tree.specs.Starts.{start_at}
 use Rattle.bolt_tree.specs.declared.at.At.{At}
 use Rattle.bolt_tree.specs.declared.cursor.Cursor.{Cursor}
-use Rattle.bolt_tree.specs.declared.open_cursors.Waiting.{Waiting}
+use Rattle.bolt_tree.specs.declared.open_cursors.WaitingCursor.{WaitingCursor}
 use Rattle.bolt_tree.specs.declared.position.Position.{Position}
 use Rattle.bolt_tree.specs.declared.trail.Trail.{Trail}
 use Rattle.bolt_tree.proofs.OpenSteps.{no_snoc, snoc_front}
@@ -53,7 +55,7 @@ held_kept trail is_past checked file h = record {
 }
 
 -- one more that waits
-module _ (checked : Checked) (waiting : List Waiting) (w : Waiting) (positions more : List Position) (begins : w.begin ≡ length positions) where
+module _ (checked : Checked) (waiting : List WaitingCursor) (w : WaitingCursor) (positions more : List Position) (begins : w.begin ≡ length positions) where
   last_first : reverse (waiting ++ w ∷ []) ≡ w ∷ reverse waiting
   last_first = reverse-append waiting (w ∷ [])
 
@@ -65,7 +67,7 @@ module _ (checked : Checked) (waiting : List Waiting) (w : Waiting) (positions m
 
   pub one_more : AreKept checked (reverse waiting) positions → IsKept checked w.at w.is_past more → AreKept checked (reverse (waiting ++ w ∷ [])) (positions ++ more)
   one_more are is =
-      subst (λ (ws : List Waiting). AreKept checked ws (positions ++ more)) (sym last_first) (
+      subst (λ (ws : List WaitingCursor). AreKept checked ws (positions ++ more)) (sym last_first) (
         (let l = length-append positions more in omega (arith, l, begins)),
         subst (λ (ps : List Position). IsKept checked w.at w.is_past ps) (sym dropped) is,
         subst (λ (ps : List Position). AreKept checked (reverse waiting) ps) (sym taken) are,
@@ -73,7 +75,7 @@ module _ (checked : Checked) (waiting : List Waiting) (w : Waiting) (positions m
 
   pub one_more_view : kept_views checked (reverse (waiting ++ w ∷ [])) (positions ++ more) ≡ kept_views checked (reverse waiting) positions ++ kept_view checked w.at w.is_past more ∷ []
   one_more_view =
-      ap (λ (ws : List Waiting). kept_views checked ws (positions ++ more)) last_first
+      ap (λ (ws : List WaitingCursor). kept_views checked ws (positions ++ more)) last_first
       ∙ (ap (λ (ps : List Position). kept_views checked (reverse waiting) ps ++ kept_view checked w.at w.is_past (drop w.begin (positions ++ more)) ∷ []) taken
       ∙ ap (λ (ps : List Position). kept_views checked (reverse waiting) positions ++ kept_view checked w.at w.is_past ps ∷ []) dropped)
 
@@ -87,9 +89,9 @@ unfolding cursor_checked
 file_of checked cursor file = file
 
 -- the innermost cursor waits, and another one is put behind it
-module _ (checked : Checked) (waiting : List Waiting) (positions : List Position) (innermost : Option Cursor) (outer cursor : Cursor) (begin : ℕ)
+module _ (checked : Checked) (waiting : List WaitingCursor) (positions : List Position) (innermost : Option Cursor) (outer cursor : Cursor) (begin : ℕ)
     (known : ∥ AreOfFile checked waiting positions innermost ∥₁) (is : innermost ≡ Some outer) (begins : begin ≡ length positions) (file : cursor_checked cursor ≡ checked) where
-  abbrev put : Waiting
+  abbrev put : WaitingCursor
   put = record { at = outer.trail.at; is_past = outer.is_past; begin = begin }
 
   of_file : AreOfFile checked waiting positions innermost → cursor_checked outer ≡ checked
@@ -111,41 +113,63 @@ module _ (checked : Checked) (waiting : List Waiting) (positions : List Position
       ∙ ap (λ (o : Option Cursor). kept_views checked (reverse waiting) positions ++ innermost_views o) (sym is)))
 
 -- without an innermost cursor there is none
-pub none_open : (checked : Checked) (waiting : List Waiting) (positions : List Position) (innermost : Option Cursor) → ∥ AreOfFile checked waiting positions innermost ∥₁ → innermost ≡ None
+pub none_open : (checked : Checked) (waiting : List WaitingCursor) (positions : List Position) (innermost : Option Cursor) → ∥ AreOfFile checked waiting positions innermost ∥₁ → innermost ≡ None
     → ∥ kept_views checked (reverse waiting) positions ++ innermost_views innermost ≡ [] ∥₁
 none_open checked waiting positions innermost known is =
     ∥∥₁_map known (λ k.
     let none : waiting ≡ [] = subst (λ (o : Option Cursor). IsInnermost checked waiting o) is k.1 in
     ap (λ (o : Option Cursor). kept_views checked (reverse waiting) positions ++ innermost_views o) is
-    ∙ ap (λ (ws : List Waiting). kept_views checked (reverse ws) positions ++ []) none)
+    ∙ ap (λ (ws : List WaitingCursor). kept_views checked (reverse ws) positions ++ []) none)
+
+-- A cursor is open, and the innermost one moves.
+module _ (checked : Checked) (waiting : List WaitingCursor) (positions : List Position) (innermost : Option Cursor) (known : ∥ AreOfFile checked waiting positions innermost ∥₁) where
+  pub some_innermost : (kept_views checked (reverse waiting) positions ++ innermost_views innermost ≡ [] → ⊥) → innermost ≡ None → ⊥
+  some_innermost some none = ∥∥₁_elim (none_open checked waiting positions innermost known none) (hlevel props) some
+
+  pub moved_file : (cursor moved : Cursor) → innermost ≡ Some cursor → cursor_checked moved ≡ cursor_checked cursor → ∥ AreOfFile checked waiting positions (Some moved) ∥₁
+  moved_file cursor moved is file = ∥∥₁_map known (λ k. (k.0, file ∙ subst (λ (o : Option Cursor). IsInnermost checked waiting o) is k.1))
+
+  pub moved_last : (cursor moved : Cursor) → innermost ≡ Some cursor → cursor_checked moved ≡ cursor_checked cursor → cursor_start moved ≡ cursor_start cursor
+      → (move : List LeafElement → Place → Move) (answer : Option LeafElement) → Moves (entries_of (cursor_checked cursor)) (cursor_start cursor) move (cursor_place cursor) (cursor_place moved) answer
+      → MovesLast move (kept_views checked (reverse waiting) positions ++ innermost_views innermost) (kept_views checked (reverse waiting) positions ++ innermost_views (Some moved)) answer
+  moved_last cursor moved is file start move answer moves = record {
+    outer = kept_views checked (reverse waiting) positions;
+    cursor = cursor_view cursor;
+    moved = cursor_view moved;
+    was = ap (λ (o : Option Cursor). kept_views checked (reverse waiting) positions ++ innermost_views o) is;
+    is = refl;
+    file = file;
+    start = start;
+    moves = moves;
+  }
 
 -- the first one
-pub first_one : (checked : Checked) (waiting : List Waiting) (positions : List Position) (innermost : Option Cursor) (cursor : Cursor) → ∥ AreOfFile checked waiting positions innermost ∥₁ → innermost ≡ None
+pub first_one : (checked : Checked) (waiting : List WaitingCursor) (positions : List Position) (innermost : Option Cursor) (cursor : Cursor) → ∥ AreOfFile checked waiting positions innermost ∥₁ → innermost ≡ None
     → cursor_checked cursor ≡ checked → ∥ AreOfFile checked waiting positions (Some cursor) ∥₁
 first_one checked waiting positions innermost cursor known is file = ∥∥₁_map known (λ k. (k.0, file))
 
 -- the innermost cursor is one of the file, and there is one where another waits
-pub innermost_file : (checked : Checked) (waiting : List Waiting) (positions : List Position) (innermost : Option Cursor) (cursor : Cursor) → ∥ AreOfFile checked waiting positions innermost ∥₁
+pub innermost_file : (checked : Checked) (waiting : List WaitingCursor) (positions : List Position) (innermost : Option Cursor) (cursor : Cursor) → ∥ AreOfFile checked waiting positions innermost ∥₁
     → innermost ≡ Some cursor → cursor_checked cursor ≡ checked
 innermost_file checked waiting positions innermost cursor known is =
     ∥∥₁_elim known (hlevel props) (λ k. subst (λ (o : Option Cursor). IsInnermost checked waiting o) is k.1)
 
-pub none_waits : (checked : Checked) (waiting new : List Waiting) (w : Waiting) (positions : List Position) (innermost : Option Cursor) → ∥ AreOfFile checked waiting positions innermost ∥₁
+pub none_waits : (checked : Checked) (waiting new : List WaitingCursor) (w : WaitingCursor) (positions : List Position) (innermost : Option Cursor) → ∥ AreOfFile checked waiting positions innermost ∥₁
     → waiting ≡ new ++ w ∷ [] → innermost ≡ None → ⊥
 none_waits checked waiting new w positions innermost known split is =
     ∥∥₁_elim known (hlevel props) (λ k. no_snoc new w (sym (subst (λ (o : Option Cursor). IsInnermost checked waiting o) is k.1) ∙ split))
 
 -- what a cursor shows that goes on by the last of the positions
-pub goes_on_view : (checked file : Checked) (w : Waiting) (positions slice : List Position) (view : CursorView) → file ≡ checked → slice ≡ positions
+pub goes_on_view : (checked file : Checked) (w : WaitingCursor) (positions slice : List Position) (view : CursorView) → file ≡ checked → slice ≡ positions
     → view ≡ kept_view file w.at w.is_past (take (length slice - w.begin) (drop w.begin slice))
     → view ≡ kept_view checked w.at w.is_past (take (length positions - w.begin) (drop w.begin positions))
 goes_on_view checked file w positions slice view same_file same_positions shown = shown ∙ rw (same_file, same_positions) refl
 
 -- the last one that waits is taken off
-module _ (checked : Checked) (old new : List Waiting) (w : Waiting) (positions : List Position) (innermost : Option Cursor)
+module _ (checked : Checked) (old new : List WaitingCursor) (w : WaitingCursor) (positions : List Position) (innermost : Option Cursor)
     (known : ∥ AreOfFile checked old positions innermost ∥₁) (split : old ≡ new ++ w ∷ []) where
   all_but : AreOfFile checked old positions innermost → AreKept checked (w ∷ reverse new) positions
-  all_but k = subst (λ (ws : List Waiting). AreKept checked ws positions) (ap reverse split ∙ reverse-append new (w ∷ [])) k.0
+  all_but k = subst (λ (ws : List WaitingCursor). AreKept checked ws positions) (ap reverse split ∙ reverse-append new (w ∷ [])) k.0
 
   whole : drop w.begin positions ≡ take (length positions - w.begin) (drop w.begin positions)
   whole = sym (ap (λ (n : ℕ). take n (drop w.begin positions)) (sym (length-drop w.begin positions)) ∙ take-length (drop w.begin positions))
@@ -169,21 +193,21 @@ module _ (checked : Checked) (old new : List Waiting) (w : Waiting) (positions :
   views_left cursor outer last view all =
       let same : kept_views checked (reverse new) (take w.begin positions) ++ cursor_view cursor ∷ [] ≡ kept_views checked (reverse old) positions =
       ap (λ (v : CursorView). kept_views checked (reverse new) (take w.begin positions) ++ v ∷ []) (view ∙ ap (kept_view checked w.at w.is_past) (sym whole))
-      ∙ sym (ap (λ (ws : List Waiting). kept_views checked ws positions) (ap reverse split ∙ reverse-append new (w ∷ []))) in
+      ∙ sym (ap (λ (ws : List WaitingCursor). kept_views checked ws positions) (ap reverse split ∙ reverse-append new (w ∷ []))) in
       same ∙ (∥∥₁_elim known (hlevel props) (λ k. under innermost outer last k.1 all))
 
 -- the same of the same
-pub same_file : (checked : Checked) (waiting others : List Waiting) (positions more : List Position) (innermost : Option Cursor) → others ≡ waiting → more ≡ positions
+pub same_file : (checked : Checked) (waiting others : List WaitingCursor) (positions more : List Position) (innermost : Option Cursor) → others ≡ waiting → more ≡ positions
     → ∥ AreOfFile checked waiting positions innermost ∥₁ → ∥ AreOfFile checked others more innermost ∥₁
 same_file checked waiting others positions more innermost same_waiting same_positions known =
-    subst (λ (ws : List Waiting). ∥ AreOfFile checked ws more innermost ∥₁) (sym same_waiting)
+    subst (λ (ws : List WaitingCursor). ∥ AreOfFile checked ws more innermost ∥₁) (sym same_waiting)
     (subst (λ (ps : List Position). ∥ AreOfFile checked waiting ps innermost ∥₁) (sym same_positions) known)
 
-pub same_views : (checked : Checked) (waiting others : List Waiting) (positions more : List Position) → others ≡ waiting → more ≡ positions
+pub same_views : (checked : Checked) (waiting others : List WaitingCursor) (positions more : List Position) → others ≡ waiting → more ≡ positions
     → kept_views checked (reverse others) more ≡ kept_views checked (reverse waiting) positions
 same_views checked waiting others positions more same_waiting same_positions = rw (same_waiting, same_positions) refl
 
-pub put_last : (waiting others put : List Waiting) (at place : At) (is_past was : Bool) (begin : ℕ) → put ≡ others ++ record { at = at; is_past = is_past; begin = begin } ∷ [] → others ≡ waiting
+pub put_last : (waiting others put : List WaitingCursor) (at place : At) (is_past was : Bool) (begin : ℕ) → put ≡ others ++ record { at = at; is_past = is_past; begin = begin } ∷ [] → others ≡ waiting
     → at ≡ place → is_past ≡ was → put ≡ waiting ++ record { at = place; is_past = was; begin = begin } ∷ []
 put_last waiting others put at place is_past was begin e same same_at same_past = e ∙ rw (same, same_at, same_past) refl
 

@@ -4,10 +4,10 @@ pub mod BucketWays
 mod Climbing
 mod Coming
 pub mod CountLemmas
-mod CursorMoves
+pub mod CursorMoves
 pub mod DescentLemmas
 mod Entering
-mod EntryOrder
+pub mod EntryOrder
 pub mod Existing
 pub mod Filters
 pub mod FirstMoves
@@ -20,7 +20,7 @@ pub mod ListLemmas
 pub mod KeptLemmas
 pub mod Leaving
 pub mod Lists
-mod Looking
+pub mod Looking
 pub mod Measured
 pub mod MoveLemmas
 pub mod Named

@@ -1,5 +1,5 @@
 -- Moves from entry to entry.
-use Rattle.std.proofs.Common.{◌≡◌, ℕ, ◌+◌, ◌<◌, Bool, true, false, List, [], ◌∷◌, ◌++◌, Some, None, Option, length, refl, ap, ◌∙◌, arith}
+use Rattle.std.proofs.Common.{◌≡◌, ℕ, ◌<◌, Bool, false, List, [], ◌∷◌, ◌++◌, Some, None, Option, length, refl, ◌∙◌, arith}
 use Rattle.std.specs.Option.{option_map}
 use Rattle.std.specs.Prelude.{MatchOption}
 use Rattle.bolt_format.specs.ElementPlaces.{leaf_view}
@@ -8,10 +8,8 @@ use Rattle.bolt_format.specs.declared.element.Leaf.{Leaf}
 use Rattle.bolt_tree.specs.BucketViews.{BucketView}
 use Rattle.bolt_tree.specs.Private.BucketPages.{contents_in}
 use Rattle.bolt_tree.specs.Private.Contents.{Content, Contents, Of_branch, Of_leaf}
-use Rattle.bolt_tree.specs.Private.Entered.{IsEntered, entered_pages}
-use Rattle.bolt_tree.specs.Private.Stacks.{Frame, IsAtRest, IsOn, RestsOn, ahead_of, behind_of, here_of, right_of, right_under}
-use Rattle.bolt_tree.specs.Private.Tours.{Visit, elements_of}
-use Rattle.bolt_tree.proofs.BackLemmas.{step_back_some}
+use Rattle.bolt_tree.specs.Private.Entered.{IsEntered}
+use Rattle.bolt_tree.specs.Private.Stacks.{Frame, IsAtRest, IsOn, RestsOn, ahead_of, here_of, right_of, right_under}
 use Rattle.bolt_tree.proofs.TrailLemmas.{step_some}
 
 -- what a move to the next entry finds, over what was ahead
@@ -35,22 +33,11 @@ leaf_taken : (contents : Contents) (at_end : Bool) (content : Content) (t i : �
 leaf_taken contents at_end (Of_leaf es) t i below new rest h = h
 leaf_taken contents at_end (Of_branch bs) t i below new rest h = rest
 
-pub none_opened : (contents : Contents) (at_end : Bool) (content : Content) (t i : ℕ) (below new : List Frame) (found : Option LeafElement) → RestsOn content t
-    → IsEntered contents at_end content i below new found → entered_pages found ≡ 0
-none_opened contents at_end content t i below new (Some e) rest h = refl
-none_opened contents at_end content t i below new None rest h = absurd (leaf_taken contents at_end content t i below new rest h)
-
 pub next_in_leaf : (old now : BucketView) (whole below new : List Frame) (f : Frame) (found : Option Leaf) → now ≡ old → whole ≡ f ∷ below → RestsOn f.content f.taken
     → IsEntered (contents_in old) false f.content f.taken below new (option_map leaf_view found)
     → MatchOption found ((here_of whole ≡ []) × (new ≡ whole)) (λ leaf. (ahead_of (contents_in old) whole ≡ leaf_view leaf ∷ ahead_of (contents_in now) new) × IsOn new (leaf_view leaf) × (right_of (contents_in old) whole ≡ right_of (contents_in now) new))
 next_in_leaf old now whole below new f None same frames rest h = absurd (leaf_taken (contents_in old) false f.content f.taken f.taken below new rest h)
 next_in_leaf old now whole below new f (Some leaf) same frames rest h = let r = step_some old now whole below new f (leaf_view leaf) same frames h in (r.0, r.2, r.1)
-
-pub prev_in_leaf : (old now : BucketView) (whole below new : List Frame) (f : Frame) (i : ℕ) (found : Option Leaf) → f.taken ≡ i + 2 → now ≡ old → whole ≡ f ∷ below → RestsOn f.content f.taken
-    → IsEntered (contents_in old) true f.content i below new (option_map leaf_view found)
-    → MatchOption found (new ≡ whole) (λ leaf. (behind_of (contents_in old) whole ≡ behind_of (contents_in now) new ++ leaf_view leaf ∷ []) × IsOn new (leaf_view leaf))
-prev_in_leaf old now whole below new f i None two same frames rest h = absurd (leaf_taken (contents_in old) true f.content f.taken i below new rest h)
-prev_in_leaf old now whole below new f i (Some leaf) two same frames rest h = step_back_some old now whole below new f i (leaf_view leaf) two same frames h
 
 pub rest_on_top : (whole below : List Frame) (f : Frame) → whole ≡ f ∷ below → IsAtRest whole → RestsOn f.content f.taken
 rest_on_top whole below f e rest = rw e at rest
@@ -64,6 +51,3 @@ pub alone : (contents : Contents) (frames : List Frame) → IsAtRest frames → 
 alone contents [] rest few = refl
 alone contents (f ∷ []) rest few = leaf_alone contents 0 [] f.content f.taken rest
 alone contents (f ∷ g ∷ below) rest few = absurd (omega (arith, few))
-
-pub nothing_ahead : (contents : Contents) (frames : List Frame) → IsAtRest frames → length frames < 2 → here_of frames ≡ [] → ahead_of contents frames ≡ []
-nothing_ahead contents frames rest few here = ap (λ (vs : List Visit). here_of frames ++ elements_of vs) (alone contents frames rest few) ∙ ap (λ (es : List LeafElement). es ++ []) here

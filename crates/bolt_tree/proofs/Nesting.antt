@@ -7,7 +7,7 @@ use Rattle.bolt_format.specs.Elements.{LeafElement, head_root, head_sequence, in
 use Rattle.bolt_format.specs.declared.meta.Meta.{Meta}
 use Rattle.bolt_check.specs.Nodes.{node_at}
 use Rattle.bolt_check.specs.Shape.{HasShape}
-use Rattle.bolt_check.specs.Ways.{At_page, PageSpot, Spot, follow, reached, start_of as page_start}
+use Rattle.bolt_check.specs.Ways.{At_page, PageSpot, Spot, follow, reached, root_spot}
 use Rattle.bolt_tree.specs.Entries.{Inline_page, IsEntry, Root_page, ShowsEntry, Start, start_of}
 use Rattle.bolt_tree.specs.Paths.{HasEntries}
 use Rattle.bolt_tree.specs.Tree.{IsTreeOf, Shows, Tree, end, with_bucket, with_value}
@@ -98,16 +98,16 @@ module _ (file : List ℕ) (meta : Meta) (shape : HasShape (node_at file meta) m
         | false ↦ λ own_root.
             let start = at_root e.value own_root in
             let (address, i, on) = bucket_way file meta s e is b own_root in
-            let next : PageSpot = page_start (head_root e.value) in
+            let next : PageSpot = root_spot (head_root e.value) in
             let there : reached (node_at file meta) meta.root (w ++ (address ++ i ∷ [])) ≡ Some (At_page next) =
-            follow_append (node_at file meta) (Some (At_page (page_start meta.root))) w (address ++ i ∷ []) ∙ (ap (λ (o : Option Spot). follow (node_at file meta) o (address ++ i ∷ [])) at ∙ on) in
+            follow_append (node_at file meta) (Some (At_page (root_spot meta.root))) w (address ++ i ∷ []) ∙ (ap (λ (o : Option Spot). follow (node_at file meta) o (address ++ i ∷ [])) at ∙ on) in
             subst (λ (from : Start). (tree : Tree) × IsTreeOf (IsEntry file meta) from tree) (sym start)
             (tree_from n (without s.number pages) (omega (arith, fewer)) (w ++ (address ++ i ∷ [])) next there
             (λ x t reach.
             let here : follow (node_at file meta) (Some (At_page s)) ((address ++ i ∷ []) ++ x) ≡ Some (At_page t) =
             follow_append (node_at file meta) (Some (At_page s)) (address ++ i ∷ []) x ∙ (ap (λ (o : Option Spot). follow (node_at file meta) o x) on ∙ reach) in
             let whole : reached (node_at file meta) meta.root ((w ++ (address ++ i ∷ [])) ++ x) ≡ Some (At_page t) =
-            follow_append (node_at file meta) (Some (At_page (page_start meta.root))) (w ++ (address ++ i ∷ [])) x ∙ (ap (λ (o : Option Spot). follow (node_at file meta) o x) there ∙ reach) in
+            follow_append (node_at file meta) (Some (At_page (root_spot meta.root))) (w ++ (address ++ i ∷ [])) x ∙ (ap (λ (o : Option Spot). follow (node_at file meta) o x) there ∙ reach) in
             kept (λ m. not (eqb m s.number)) pages t.number (all_in ((address ++ i ∷ []) ++ x) t here)
             (other_number t.number s.number (λ same. no_longer w address i x (one_way (node_at file meta) meta.root shape w ((w ++ (address ++ i ∷ [])) ++ x) s t at whole (sym same)))))
             (subst (λ (from : Start). HasEntries (IsEntry file meta) from) start all_below))
@@ -118,4 +118,4 @@ module _ (file : List ℕ) (meta : Meta) (shape : HasShape (node_at file meta) m
   pub root_tree : ((w : List ℕ) (s : PageSpot) → reached (node_at file meta) meta.root w ≡ Some (At_page s) → s.number < meta.high_water) → HasEntries (IsEntry file meta) (Root_page meta.root)
       → (tree : Tree) × IsTreeOf (IsEntry file meta) (Root_page meta.root) tree
   root_tree below all =
-      tree_from (length (numbers meta.high_water)) (numbers meta.high_water) (omega arith) [] (page_start meta.root) refl (λ x t e. has_number meta.high_water t.number (below x t e)) all
+      tree_from (length (numbers meta.high_water)) (numbers meta.high_water) (omega arith) [] (root_spot meta.root) refl (λ x t e. has_number meta.high_water t.number (below x t e)) all

@@ -5,14 +5,14 @@ use Rattle.bolt_format.specs.Elements.{LeafElement}
 use Rattle.bolt_check.specs.Keys.{Key}
 use Rattle.bolt_check.specs.declared.checked_file.Checked.{Checked}
 use Rattle.bolt_tree.specs.BucketViews.{entries_of}
-use Rattle.bolt_tree.specs.FileListings.{root_of}
+use Rattle.bolt_tree.specs.FileListings.{root_start}
 use Rattle.bolt_tree.specs.Entries.{AreEntries, Start, item_of}
 use Rattle.bolt_tree.specs.Listing.{Lists, Member}
 use Rattle.bolt_tree.specs.Paths.{HasEntries, Names, Path, path_of}
 use Rattle.bolt_tree.specs.Places.{Moves, next_move}
 use Rattle.bolt_tree.specs.Private.Kept.{CursorView}
 use Rattle.bolt_tree.specs.Private.OpenBuckets.{AreOpen, StandsOn}
-use Rattle.bolt_tree.specs.Private.Behind.{behind, beyond}
+use Rattle.bolt_tree.specs.Private.RestAfter.{rest_after, beyond}
 use Rattle.bolt_tree.proofs.CursorMoves.{comes_next}
 use Rattle.bolt_tree.proofs.EntryOrder.{contains_at}
 use Rattle.bolt_tree.proofs.Giving.{give_after_last, give_next}
@@ -52,7 +52,7 @@ pub record Top (checked : Checked) (before : Path) (cursors : List CursorView) (
   pub split : keys ≡ front ++ key ∷ []
   pub below : AreOpen checked before cursors front
   pub checked_file : cursor.checked ≡ checked
-  pub names : Names (entries_of checked) (root_of checked) (before ++ front) cursor.start
+  pub names : Names (entries_of checked) (root_start checked) (before ++ front) cursor.start
   pub stands : StandsOn (entries_of checked) cursor key
 
 pub open_pop : (checked : Checked) (before : Path) (cursors : List CursorView) (cursor : CursorView) (keys : Path) → AreOpen checked before (cursors ++ cursor ∷ []) keys
@@ -65,7 +65,7 @@ open_pop checked before [] cursor (key ∷ []) (same, names, stands, more) =
       split = refl;
       below = tt;
       checked_file = same;
-      names = subst (λ (p : Path). Names (entries_of checked) (root_of checked) p cursor.start) (sym (append-nil before)) names;
+      names = subst (λ (p : Path). Names (entries_of checked) (root_start checked) p cursor.start) (sym (append-nil before)) names;
       stands = stands;
     }
 open_pop checked before [] cursor (key ∷ next ∷ keys) (same, names, stands, more) = absurd more
@@ -78,15 +78,15 @@ open_pop checked before (c ∷ cursors) cursor (key ∷ keys) (same, names, stan
       split = ap (λ (ks : Path). key ∷ ks) top.split;
       below = (same, names, stands, top.below);
       checked_file = top.checked_file;
-      names = subst (λ (p : Path). Names (entries_of checked) (root_of checked) p cursor.start) (append_assoc before (key ∷ []) top.front) top.names;
+      names = subst (λ (p : Path). Names (entries_of checked) (root_start checked) p cursor.start) (append_assoc before (key ∷ []) top.front) top.names;
       stands = top.stands;
     }
 
 pub open_push : (checked : Checked) (before : Path) (cursors : List CursorView) (cursor : CursorView) (keys : Path) (key : Key) → AreOpen checked before cursors keys
-    → cursor.checked ≡ checked → Names (entries_of checked) (root_of checked) (before ++ keys) cursor.start → StandsOn (entries_of checked) cursor key
+    → cursor.checked ≡ checked → Names (entries_of checked) (root_start checked) (before ++ keys) cursor.start → StandsOn (entries_of checked) cursor key
     → AreOpen checked before (cursors ++ cursor ∷ []) (keys ++ key ∷ [])
 open_push checked before [] cursor [] key h same names stands =
-    (same, subst (λ (p : Path). Names (entries_of checked) (root_of checked) p cursor.start) (append-nil before) names, stands, tt)
+    (same, subst (λ (p : Path). Names (entries_of checked) (root_start checked) p cursor.start) (append-nil before) names, stands, tt)
 open_push checked before [] cursor (k ∷ keys) key h same names stands = absurd h
 open_push checked before (c ∷ cursors) cursor [] key h same names stands = absurd h
 open_push checked before (c ∷ cursors) cursor (k ∷ keys) key (s, n, t, more) same names stands = (
@@ -94,7 +94,7 @@ open_push checked before (c ∷ cursors) cursor (k ∷ keys) key (s, n, t, more)
   n,
   t,
   open_push checked (before ++ k ∷ []) cursors cursor keys key more same
-      (subst (λ (p : Path). Names (entries_of checked) (root_of checked) p cursor.start) (sym (append_assoc before (k ∷ []) keys)) names) stands,
+      (subst (λ (p : Path). Names (entries_of checked) (root_start checked) p cursor.start) (sym (append_assoc before (k ∷ []) keys)) names) stands,
 )
 
 -- a key was taken off the path
@@ -109,7 +109,7 @@ path_popped old new (Some ref) n m front key keys items rest less =
     (snoc_front (path_of new) front ref.now key (sym (path_push new ref) ∙ ap path_of (sym items) ∙ keys), less)
 
 -- The last cursor moves on, from where it stands to where it comes.
-module _ (checked : Checked) (all : HasEntries (entries_of checked) (root_of checked)) (cursors : List CursorView) (cursor moved : CursorView) (keys : Path)
+module _ (checked : Checked) (all : HasEntries (entries_of checked) (root_start checked)) (cursors : List CursorView) (cursor moved : CursorView) (keys : Path)
     (top : Top checked [] cursors cursor keys) where
   abbrev MovesOn : Option LeafElement → Type 0
   MovesOn o = Moves (entries_of cursor.checked) cursor.start next_move cursor.place moved.place o
@@ -130,7 +130,7 @@ module _ (checked : Checked) (all : HasEntries (entries_of checked) (root_of che
       → AreOpen checked [] (cursors ++ moved ∷ []) (top.front ++ e.key ∷ [])
   next_open e file start moves =
       open_push checked [] cursors moved top.front e.key top.below (file ∙ top.checked_file)
-      (subst (λ (s : Start). Names (entries_of checked) (root_of checked) top.front s) (sym start) top.names) (next_stands e start moves)
+      (subst (λ (s : Start). Names (entries_of checked) (root_start checked) top.front s) (sym start) top.names) (next_stands e start moves)
 
   pub next_entry : (e : LeafElement) → MovesOn (Some e) → entries_of checked cursor.start e
   next_entry e moves =
@@ -139,22 +139,22 @@ module _ (checked : Checked) (all : HasEntries (entries_of checked) (root_of che
       let came = comes_next own.0 i old cursor.place moved.place (Some e) on at (here (Some e) moves own.0 own.1) in
       (own.1.exact e).0 (contains_at own.0 (suc i) e came.1)
 
-  pub next_given : (e : LeafElement) → MovesOn (Some e) → (listing : List Member) → Lists (entries_of checked) (root_of checked) listing
-      → beyond keys listing ≡ (top.front ++ e.key ∷ [], item_of e) ∷ behind (top.front ++ e.key ∷ []) listing
+  pub next_given : (e : LeafElement) → MovesOn (Some e) → (listing : List Member) → Lists (entries_of checked) (root_start checked) listing
+      → beyond keys listing ≡ (top.front ++ e.key ∷ [], item_of e) ∷ rest_after (top.front ++ e.key ∷ []) listing
   next_given e moves listing lists =
       let own = all top.front cursor.start top.names in
       let (i, old, on, at, key) = top.stands own.0 own.1 in
       let came = comes_next own.0 i old cursor.place moved.place (Some e) on at (here (Some e) moves own.0 own.1) in
       let same : top.front ++ old.key ∷ [] ≡ keys = ap (λ (k : Key). top.front ++ k ∷ []) key ∙ sym top.split in
-      subst (λ (p : Path). beyond p listing ≡ (top.front ++ e.key ∷ [], item_of e) ∷ behind (top.front ++ e.key ∷ []) listing) same
-      (give_next (entries_of checked) (root_of checked) all listing lists top.front cursor.start top.names own.0 i old e own.1 at came.1)
+      subst (λ (p : Path). beyond p listing ≡ (top.front ++ e.key ∷ [], item_of e) ∷ rest_after (top.front ++ e.key ∷ []) listing) same
+      (give_next (entries_of checked) (root_start checked) all listing lists top.front cursor.start top.names own.0 i old e own.1 at came.1)
 
   -- or to none
-  pub next_ended : MovesOn None → (listing : List Member) → Lists (entries_of checked) (root_of checked) listing → beyond keys listing ≡ beyond top.front listing
+  pub next_ended : MovesOn None → (listing : List Member) → Lists (entries_of checked) (root_start checked) listing → beyond keys listing ≡ beyond top.front listing
   next_ended moves listing lists =
       let own = all top.front cursor.start top.names in
       let (i, old, on, at, key) = top.stands own.0 own.1 in
       let short = comes_next own.0 i old cursor.place moved.place None on at (here None moves own.0 own.1) in
       let same : top.front ++ old.key ∷ [] ≡ keys = ap (λ (k : Key). top.front ++ k ∷ []) key ∙ sym top.split in
       subst (λ (p : Path). beyond p listing ≡ beyond top.front listing) same
-      (give_after_last (entries_of checked) (root_of checked) all listing lists top.front cursor.start top.names own.0 i old own.1 at short)
+      (give_after_last (entries_of checked) (root_start checked) all listing lists top.front cursor.start top.names own.0 i old own.1 at short)

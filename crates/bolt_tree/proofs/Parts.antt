@@ -5,12 +5,12 @@ use Rattle.std.proofs.Props.{props}
 use Rattle.std.proofs.lemmas.Bool.Decides.{nat_tests}
 use Rattle.bolt_check.specs.declared.checked_file.Checked.{Checked}
 use Rattle.bolt_tree.specs.BucketViews.{entries_of}
-use Rattle.bolt_tree.specs.FileListings.{root_of}
+use Rattle.bolt_tree.specs.FileListings.{root_start}
 use Rattle.bolt_tree.specs.Listing.{Lists, Member, rest_from}
 use Rattle.bolt_tree.specs.Paths.{HasEntries, Path, path_of}
 use Rattle.bolt_tree.specs.Private.Kept.{CursorView}
 use Rattle.bolt_tree.specs.Private.OpenBuckets.{AreOpen, is_end}
-use Rattle.bolt_tree.specs.Private.Behind.{behind}
+use Rattle.bolt_tree.specs.Private.RestAfter.{rest_after}
 use Rattle.bolt_tree.proofs.Seeking.{behind_all, rest_all}
 
 pub parts_whole : (path : List (Bor (List ℕ))) (i : ℕ) (d : Bor (List ℕ)) → i < length path
@@ -37,12 +37,12 @@ none_left [] i h k more = refl
 none_left (x ∷ xs) i h k more = absurd (let f = more (omega arith) in omega arith)
 
 -- with no part, all is left
-pub from_start : (checked : Checked) (cursors : List CursorView) (keys path : Path) → ∥ HasEntries (entries_of checked) (root_of checked) × AreOpen checked [] cursors keys ∥₁ → keys ≡ [] → path ≡ []
-    → (listing : List Member) → Lists (entries_of checked) (root_of checked) listing → behind keys listing ≡ rest_from path listing
+pub from_start : (checked : Checked) (cursors : List CursorView) (keys path : Path) → ∥ HasEntries (entries_of checked) (root_start checked) × AreOpen checked [] cursors keys ∥₁ → keys ≡ [] → path ≡ []
+    → (listing : List Member) → Lists (entries_of checked) (root_start checked) listing → rest_after keys listing ≡ rest_from path listing
 from_start checked cursors keys path buckets none empty listing lists =
     ∥∥₁_elim buckets (hlevel props) (λ t.
-    ap (λ (p : Path). behind p listing) none ∙ (behind_all (entries_of checked) (root_of checked) t.0 listing lists
-    ∙ (sym (rest_all (entries_of checked) (root_of checked) t.0 listing lists) ∙ ap (λ (p : Path). rest_from p listing) (sym empty))))
+    ap (λ (p : Path). rest_after p listing) none ∙ (behind_all (entries_of checked) (root_start checked) t.0 listing lists
+    ∙ (sym (rest_all (entries_of checked) (root_start checked) t.0 listing lists) ∙ ap (λ (p : Path). rest_from p listing) (sym empty))))
 
 pub take_none : {A : Type 0} (i : ℕ) → take {A = A} i [] ≡ []
 take_none zero = refl

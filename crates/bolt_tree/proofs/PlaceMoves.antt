@@ -15,7 +15,7 @@ use Rattle.bolt_tree.specs.Private.BucketPages.{IsSoundBucket, contents_in, elem
 use Rattle.bolt_tree.specs.Private.Contents.{Content, Contents, Of_branch, Of_leaf}
 use Rattle.bolt_tree.specs.Private.Held.{place_on}
 use Rattle.bolt_tree.specs.Places.{Move, On, Past, Place, first_move, last_move, least_from, next_move, place_in, prev_move, seek_move}
-use Rattle.bolt_tree.specs.Private.Stacks.{Frame, HasStack, IsAtRest, IsOn, StandsOn, address_on, ahead_of, behind_of, index_of, left_of, right_of}
+use Rattle.bolt_tree.specs.Private.Stacks.{Frame, HasStack, IsAtRest, IsOn, StandsOn, address_on, ahead_of, preceding_of, index_of, left_of, right_of}
 use Rattle.bolt_tree.specs.Private.Tours.{Visit, elements_of, tour}
 use Rattle.bolt_tree.proofs.BackLemmas.{behind_index}
 use Rattle.bolt_tree.proofs.ListLemmas.{get_behind, get_front}
@@ -132,14 +132,14 @@ module _ (bucket : BucketView) where
       let b = ap length h.0 in
       first_onto (elements_in bucket) (index_of (contents_in bucket) (f ∷ below)) (leaf_view leaf) (omega (arith, a, b)) (current bucket f below (leaf_view leaf) stack h.1)
 
-  pub last_moves : (found : Option Leaf) (frames : List Frame) → HasStack bucket frames → FindsBack found (elements_in bucket) (behind_of (contents_in bucket) frames) frames []
+  pub last_moves : (found : Option Leaf) (frames : List Frame) → HasStack bucket frames → FindsBack found (elements_in bucket) (preceding_of (contents_in bucket) frames) frames []
       → Comes (elements_in bucket) (last_move (elements_in bucket)) (here frames) (option_map leaf_view found)
   last_moves None frames stack h = last_none (elements_in bucket) (here frames) h.0
   last_moves (Some leaf) [] stack h = absurd h.1
   last_moves (Some leaf) (f ∷ below) stack h =
       let b = behind_index (contents_in bucket) f below (on_rests (f ∷ below) (leaf_view leaf) h.1) in
       let m = ap length h.0 in
-      let l = length-append (behind_of (contents_in bucket) (f ∷ below)) (leaf_view leaf ∷ []) in
+      let l = length-append (preceding_of (contents_in bucket) (f ∷ below)) (leaf_view leaf ∷ []) in
       last_onto (elements_in bucket) (index_of (contents_in bucket) (f ∷ below)) (Some (leaf_view leaf)) (omega (arith, b, m, l)) (current bucket f below (leaf_view leaf) stack h.1)
 
   pub next_moves : (found : Option Leaf) (f : Frame) (below frames : List Frame) → HasStack bucket (f ∷ below) → IsAtRest (f ∷ below) → HasStack bucket frames
@@ -160,7 +160,7 @@ module _ (bucket : BucketView) where
       (get_next (elements_in bucket) (suc i) (leaf_view leaf) (ahead_of (contents_in bucket) (g ∷ under)) (s.after ∙ h.0)) (omega (arith, a, c))
 
   pub prev_moves : (found : Option Leaf) (f : Frame) (below frames : List Frame) → HasStack bucket (f ∷ below) → IsAtRest (f ∷ below) → HasStack bucket frames
-      → FindsBack found (behind_of (contents_in bucket) (f ∷ below)) (behind_of (contents_in bucket) frames) frames (f ∷ below)
+      → FindsBack found (preceding_of (contents_in bucket) (f ∷ below)) (preceding_of (contents_in bucket) frames) frames (f ∷ below)
       → Comes (elements_in bucket) (prev_move (elements_in bucket) (place_in (elements_in bucket) (here (f ∷ below)))) (here frames) (option_map leaf_view found)
   prev_moves None f below frames old rest new h =
       let a = ahead_number (elements_in bucket) (contents_in bucket) f below (split bucket f below old rest) in
@@ -173,7 +173,7 @@ module _ (bucket : BucketView) where
       let b = behind_index (contents_in bucket) f below rest in
       let d = behind_index (contents_in bucket) g under (on_rests (g ∷ under) (leaf_view leaf) h.1) in
       let m = ap length h.0 in
-      let l = length-append (behind_of (contents_in bucket) (g ∷ under)) (leaf_view leaf ∷ []) in
+      let l = length-append (preceding_of (contents_in bucket) (g ∷ under)) (leaf_view leaf ∷ []) in
       prev_onto (elements_in bucket) (index_of (contents_in bucket) (f ∷ below)) (index_of (contents_in bucket) (g ∷ under)) (Some (leaf_view leaf)) (omega (arith, b, d, m, l))
       (current bucket g under (leaf_view leaf) new h.1) (omega (arith, a))
 

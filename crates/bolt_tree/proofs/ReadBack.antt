@@ -1,92 +1,92 @@
--- A tree is read off its listing: its rows, from the last member to the first.
+-- A tree is read off its listing: its trees, from the last member to the first.
 use Rattle.std.proofs.Common.{◌≡◌, ◌∙◌, ◌<◌, ◌≤◌, ℕ, zero, suc, List, [], ◌∷◌, ◌++◌, length, refl, sym, ap, subst, arith, append_assoc, append-nil, length-append}
 use Rattle.bolt_check.specs.Keys.{Key}
 use Rattle.bolt_tree.specs.Entries.{Bucket, Item, Value}
 use Rattle.bolt_tree.specs.Listing.{Member}
 use Rattle.bolt_tree.specs.Paths.{Path}
-use Rattle.bolt_tree.specs.Tree.{Tree, end, first_row, later_rows, listing_below, listing_of, put_first, rows_of, tree_of, with_bucket, with_value}
+use Rattle.bolt_tree.specs.Tree.{Tree, end, first_tree, later_trees, listing_below, listing_of, put_first, trees_by_depth, tree_of, with_bucket, with_value}
 
--- the row at a depth
-abbrev row : ℕ → List Tree → Tree
-row zero rows = first_row rows
-row (suc d) rows = row d (later_rows rows)
+-- the tree at a depth
+abbrev at_depth : ℕ → List Tree → Tree
+at_depth zero trees = first_tree trees
+at_depth (suc d) trees = at_depth d (later_trees trees)
 
-no_row : (i : ℕ) → row i [] ≡ end
-no_row zero = refl
-no_row (suc i) = no_row i
+none_at_depth : (i : ℕ) → at_depth i [] ≡ end
+none_at_depth zero = refl
+none_at_depth (suc i) = none_at_depth i
 
--- what a member does to the rows
-abbrev own_row : Key → Item → ℕ → List Tree → Tree
-own_row key (Value value) d rows = with_value key value (row d rows)
-own_row key (Bucket sequence) d rows = with_bucket key sequence (row (suc d) rows) (row d rows)
+-- what a member does to the trees
+abbrev own_tree : Key → Item → ℕ → List Tree → Tree
+own_tree key (Value value) d trees = with_value key value (at_depth d trees)
+own_tree key (Bucket sequence) d trees = with_bucket key sequence (at_depth (suc d) trees) (at_depth d trees)
 
-record Puts (d : ℕ) (tree : Tree) (rows after : List Tree) : Type 0 where
-  pub before : (i : ℕ) → i < d → row i after ≡ row i rows
-  pub at : row d after ≡ tree
-  pub behind : (i : ℕ) → d < i → row i after ≡ end
+record Puts (d : ℕ) (tree : Tree) (trees after : List Tree) : Type 0 where
+  pub before : (i : ℕ) → i < d → at_depth i after ≡ at_depth i trees
+  pub at : at_depth d after ≡ tree
+  pub after_it : (i : ℕ) → d < i → at_depth i after ≡ end
 
-below_one : (d : ℕ) (tree row_before : Tree) (rows after : List Tree) → row_before ≡ first_row rows → Puts d tree (later_rows rows) after → Puts (suc d) tree rows (row_before ∷ after)
-below_one d tree row_before rows after same p = record {
+below_one : (d : ℕ) (tree tree_before : Tree) (trees after : List Tree) → tree_before ≡ first_tree trees → Puts d tree (later_trees trees) after → Puts (suc d) tree trees (tree_before ∷ after)
+below_one d tree tree_before trees after same p = record {
   before = λ i h. by i h;
   at = p.at;
-  behind = λ i h. by_behind i h;
+  after_it = λ i h. by_after i h;
 }
   where
-    by : (i : ℕ) → i < suc d → row i (row_before ∷ after) ≡ row i rows
+    by : (i : ℕ) → i < suc d → at_depth i (tree_before ∷ after) ≡ at_depth i trees
     by zero h = same
     by (suc i) h = p.before i (omega arith)
 
-    by_behind : (i : ℕ) → suc d < i → row i (row_before ∷ after) ≡ end
-    by_behind zero h = absurd (omega arith)
-    by_behind (suc i) h = p.behind i (omega arith)
+    by_after : (i : ℕ) → suc d < i → at_depth i (tree_before ∷ after) ≡ end
+    by_after zero h = absurd (omega arith)
+    by_after (suc i) h = p.after_it i (omega arith)
 
-alone : (tree : Tree) (rows : List Tree) → Puts zero tree rows (tree ∷ [])
-alone tree rows = record { before = λ i h. absurd (omega arith); at = refl; behind = λ i h. by i h }
+alone : (tree : Tree) (trees : List Tree) → Puts zero tree trees (tree ∷ [])
+alone tree trees = record { before = λ i h. absurd (omega arith); at = refl; after_it = λ i h. by i h }
   where
-    by : (i : ℕ) → 0 < i → row i (tree ∷ []) ≡ end
+    by : (i : ℕ) → 0 < i → at_depth i (tree ∷ []) ≡ end
     by zero h = absurd (omega arith)
-    by (suc i) h = no_row i
+    by (suc i) h = none_at_depth i
 
-puts_member : (path : Path) (key : Key) (item : Item) (rows : List Tree) → Puts (length path) (own_row key item (length path) rows) rows (put_first (path ++ key ∷ []) item rows)
-puts_member [] key (Value value) rows = alone (with_value key value (first_row rows)) rows
-puts_member [] key (Bucket sequence) rows = alone (with_bucket key sequence (first_row (later_rows rows)) (first_row rows)) rows
-puts_member (a ∷ []) key (Value value) rows = below_one 0 (with_value key value (first_row (later_rows rows))) (first_row rows) rows (put_first (key ∷ []) (Value value) (later_rows rows)) refl (puts_member [] key (Value value) (later_rows rows))
-puts_member (a ∷ []) key (Bucket sequence) rows =
-    below_one 0 (with_bucket key sequence (first_row (later_rows (later_rows rows))) (first_row (later_rows rows))) (first_row rows) rows (put_first (key ∷ []) (Bucket sequence) (later_rows rows)) refl
-    (puts_member [] key (Bucket sequence) (later_rows rows))
-puts_member (a ∷ b ∷ path) key (Value value) rows =
-    below_one (length (b ∷ path)) (own_row key (Value value) (length (b ∷ path)) (later_rows rows)) (first_row rows) rows (put_first ((b ∷ path) ++ key ∷ []) (Value value) (later_rows rows)) refl
-    (puts_member (b ∷ path) key (Value value) (later_rows rows))
-puts_member (a ∷ b ∷ path) key (Bucket sequence) rows =
-    below_one (length (b ∷ path)) (own_row key (Bucket sequence) (length (b ∷ path)) (later_rows rows)) (first_row rows) rows (put_first ((b ∷ path) ++ key ∷ []) (Bucket sequence) (later_rows rows)) refl
-    (puts_member (b ∷ path) key (Bucket sequence) (later_rows rows))
+puts_member : (path : Path) (key : Key) (item : Item) (trees : List Tree) → Puts (length path) (own_tree key item (length path) trees) trees (put_first (path ++ key ∷ []) item trees)
+puts_member [] key (Value value) trees = alone (with_value key value (first_tree trees)) trees
+puts_member [] key (Bucket sequence) trees = alone (with_bucket key sequence (first_tree (later_trees trees)) (first_tree trees)) trees
+puts_member (a ∷ []) key (Value value) trees = below_one 0 (with_value key value (first_tree (later_trees trees))) (first_tree trees) trees (put_first (key ∷ []) (Value value) (later_trees trees)) refl (puts_member [] key (Value value) (later_trees trees))
+puts_member (a ∷ []) key (Bucket sequence) trees =
+    below_one 0 (with_bucket key sequence (first_tree (later_trees (later_trees trees))) (first_tree (later_trees trees))) (first_tree trees) trees (put_first (key ∷ []) (Bucket sequence) (later_trees trees)) refl
+    (puts_member [] key (Bucket sequence) (later_trees trees))
+puts_member (a ∷ b ∷ path) key (Value value) trees =
+    below_one (length (b ∷ path)) (own_tree key (Value value) (length (b ∷ path)) (later_trees trees)) (first_tree trees) trees (put_first ((b ∷ path) ++ key ∷ []) (Value value) (later_trees trees)) refl
+    (puts_member (b ∷ path) key (Value value) (later_trees trees))
+puts_member (a ∷ b ∷ path) key (Bucket sequence) trees =
+    below_one (length (b ∷ path)) (own_tree key (Bucket sequence) (length (b ∷ path)) (later_trees trees)) (first_tree trees) trees (put_first ((b ∷ path) ++ key ∷ []) (Bucket sequence) (later_trees trees)) refl
+    (puts_member (b ∷ path) key (Bucket sequence) (later_trees trees))
 
 -- a tree's listing puts that tree at its depth
-puts_tree : (tree : Tree) (path : Path) (d : ℕ) (rest : List Member) → length path ≡ d → ((i : ℕ) → d ≤ i → row i (rows_of rest) ≡ end)
-    → Puts d tree (rows_of rest) (rows_of (listing_below path tree ++ rest))
-puts_tree end path d rest len none = record { before = λ i h. refl; at = none d (omega arith); behind = λ i h. none i (omega arith) }
+puts_tree : (tree : Tree) (path : Path) (d : ℕ) (rest : List Member) → length path ≡ d → ((i : ℕ) → d ≤ i → at_depth i (trees_by_depth rest) ≡ end)
+    → Puts d tree (trees_by_depth rest) (trees_by_depth (listing_below path tree ++ rest))
+puts_tree end path d rest len none = record { before = λ i h. refl; at = none d (omega arith); after_it = λ i h. none i (omega arith) }
 puts_tree (with_value key value after) path d rest len none =
     let p = puts_tree after path d rest len none in
-    let q = subst (λ (n : ℕ). Puts n (own_row key (Value value) n (rows_of (listing_below path after ++ rest))) (rows_of (listing_below path after ++ rest))
-    (put_first (path ++ key ∷ []) (Value value) (rows_of (listing_below path after ++ rest)))) len (puts_member path key (Value value) (rows_of (listing_below path after ++ rest))) in
-    record { before = λ i h. q.before i h ∙ p.before i h; at = q.at ∙ ap (λ (t : Tree). with_value key value t) p.at; behind = q.behind }
+    let q = subst (λ (n : ℕ). Puts n (own_tree key (Value value) n (trees_by_depth (listing_below path after ++ rest))) (trees_by_depth (listing_below path after ++ rest))
+    (put_first (path ++ key ∷ []) (Value value) (trees_by_depth (listing_below path after ++ rest)))) len (puts_member path key (Value value) (trees_by_depth (listing_below path after ++ rest))) in
+    record { before = λ i h. q.before i h ∙ p.before i h; at = q.at ∙ ap (λ (t : Tree). with_value key value t) p.at; after_it = q.after_it }
 puts_tree (with_bucket key sequence inside after) path d rest len none =
     let p = puts_tree after path d rest len none in
     let deep : Path = path ++ key ∷ [] in
     let later : List Member = listing_below path after ++ rest in
     let longer : length deep ≡ suc d = (let n = length-append path (key ∷ []) in let one : length (key ∷ []) ≡ 1 = refl in omega (arith, n, one, len)) in
-    let r = puts_tree inside deep (suc d) later longer (λ i h. p.behind i (omega arith)) in
+    let r = puts_tree inside deep (suc d) later longer (λ i h. p.after_it i (omega arith)) in
     let all : List Member = listing_below deep inside ++ later in
-    let q = subst (λ (n : ℕ). Puts n (own_row key (Bucket sequence) n (rows_of all)) (rows_of all) (put_first deep (Bucket sequence) (rows_of all))) len (puts_member path key (Bucket sequence) (rows_of all)) in
-    let here : row d (rows_of all) ≡ after = r.before d (omega arith) ∙ p.at in
+    let q = subst (λ (n : ℕ). Puts n (own_tree key (Bucket sequence) n (trees_by_depth all)) (trees_by_depth all) (put_first deep (Bucket sequence) (trees_by_depth all))) len (puts_member path key (Bucket sequence) (trees_by_depth all)) in
+    let here : at_depth d (trees_by_depth all) ≡ after = r.before d (omega arith) ∙ p.at in
     let whole : (listing_below deep inside ++ listing_below path after) ++ rest ≡ all = append_assoc (listing_below deep inside) (listing_below path after) rest in
-    let made : Puts d (with_bucket key sequence inside after) (rows_of rest) (put_first deep (Bucket sequence) (rows_of all)) = record {
+    let made : Puts d (with_bucket key sequence inside after) (trees_by_depth rest) (put_first deep (Bucket sequence) (trees_by_depth all)) = record {
       before = λ i h. q.before i h ∙ (r.before i (omega arith) ∙ p.before i h);
-      at = q.at ∙ (ap (λ (t : Tree). with_bucket key sequence t (row d (rows_of all))) r.at ∙ ap (λ (t : Tree). with_bucket key sequence inside t) here);
-      behind = q.behind;
+      at = q.at ∙ (ap (λ (t : Tree). with_bucket key sequence t (at_depth d (trees_by_depth all))) r.at ∙ ap (λ (t : Tree). with_bucket key sequence inside t) here);
+      after_it = q.after_it;
     } in
-    subst (λ (ms : List Member). Puts d (with_bucket key sequence inside after) (rows_of rest) (put_first deep (Bucket sequence) (rows_of ms))) (sym whole) made
+    subst (λ (ms : List Member). Puts d (with_bucket key sequence inside after) (trees_by_depth rest) (put_first deep (Bucket sequence) (trees_by_depth ms))) (sym whole) made
 
 pub tree_back : (tree : Tree) → tree_of (listing_of tree) ≡ tree
 tree_back tree =
-    ap (λ (ms : List Member). first_row (rows_of ms)) (sym (append-nil (listing_of tree))) ∙ (puts_tree tree [] 0 [] refl (λ i h. no_row i)).at
+    ap (λ (ms : List Member). first_tree (trees_by_depth ms)) (sym (append-nil (listing_of tree))) ∙ (puts_tree tree [] 0 [] refl (λ i h. none_at_depth i)).at

@@ -11,7 +11,7 @@ use Rattle.bolt_tree.specs.Entries.{AreEntries, Item, Start}
 use Rattle.bolt_tree.specs.Listing.{Lists, Member, rest_from}
 use Rattle.bolt_tree.specs.Paths.{HasEntries, Holds, Names, Path, path_cmp}
 use Rattle.bolt_tree.specs.Places.{least_from}
-use Rattle.bolt_tree.specs.Private.Behind.{is_beyond, behind, beyond}
+use Rattle.bolt_tree.specs.Private.RestAfter.{is_beyond, rest_after, beyond}
 use Rattle.bolt_tree.proofs.EntryOrder.{seek_least, seek_none}
 use Rattle.bolt_tree.proofs.Filters.{filter_all, filter_same, not_true, same_bool}
 use Rattle.bolt_tree.proofs.Giving.{not_before, not_before_beyond}
@@ -104,6 +104,6 @@ module _ (Entry : Start → LeafElement → Type 0) (from : Start) (all : HasEnt
   held_some [] item h = absurd h
   held_some (k ∷ q) item h = refl
 
-  -- and all is behind it
-  pub behind_all : behind [] listing ≡ listing
+  -- and all is rest_after it
+  pub behind_all : rest_after [] listing ≡ listing
   behind_all = filter_all (λ m. is_lt (path_cmp [] m.0)) listing (λ m in_it. held_some m.0 m.1 ((lists.exact m.0 m.1).0 in_it))

@@ -1,5 +1,5 @@
 -- What the moves of a trail do to its stack.
-use Rattle.std.proofs.Common.{◌≡◌, ◌==◌, ℕ, zero, suc, ◌+◌, ◌-◌, ◌≤◌, ◌<◌, Bool, false, List, [], ◌∷◌, ◌++◌, Some, None, Option, slice_get, length, map, reverse, drop, refl, sym, ap, ◌∙◌, subst, arith, append_assoc, append-nil}
+use Rattle.std.proofs.Common.{◌≡◌, ◌==◌, ℕ, zero, suc, ◌+◌, ◌-◌, ◌≤◌, ◌<◌, Bool, true, false, List, [], ◌∷◌, ◌++◌, Some, None, Option, slice_get, length, map, reverse, drop, refl, sym, ap, ◌∙◌, subst, arith, append_assoc, append-nil}
 use Rattle.std.specs.Option.{option_to_list}
 use Rattle.std.specs.Prelude.{IsTrue}
 use Rattle.std.proofs.Math.Logic.{∥∥₁_elim}
@@ -37,6 +37,10 @@ length-frames items = length-map (reverse items) frame_of ∙ length-reverse ite
 
 pub stack_room : (bucket : BucketView) (f : Frame) (items : List Position) → HasStack bucket (f ∷ frames_of items) → length items < 64
 stack_room bucket f items stack = let h = stack_short bucket f (frames_of items) stack in let l = length-frames items in omega (arith, h, l)
+
+pub no_frames : (items : List Position) (empty : Bool) → empty ≡ (length items == 0) → empty ≡ true → frames_of items ≡ []
+no_frames [] empty e t = refl
+no_frames (p ∷ items) empty e t = absurd (grind (arith, nat_tests, e, t))
 
 pub nonempty : (items : List Position) (empty : Bool) → empty ≡ (length items == 0) → empty ≡ false → frames_of items ≡ [] → ⊥
 nonempty items empty e f nil =

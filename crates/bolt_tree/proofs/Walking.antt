@@ -5,14 +5,14 @@ use Rattle.std.proofs.Props.{props}
 use Rattle.bolt_format.specs.ElementPlaces.{leaf_view}
 use Rattle.bolt_check.specs.declared.checked_file.Checked.{Checked}
 use Rattle.bolt_tree.specs.BucketViews.{entries_of}
-use Rattle.bolt_tree.specs.FileListings.{root_of}
+use Rattle.bolt_tree.specs.FileListings.{root_start}
 use Rattle.bolt_tree.specs.Entries.{Start, start_of}
 use Rattle.bolt_tree.specs.Listing.{Lists, Member}
 use Rattle.bolt_tree.specs.Paths.{HasEntries, Names, Path, path_of}
 use Rattle.bolt_tree.specs.Private.Kept.{CursorView}
 use Rattle.bolt_tree.specs.Private.OpenCursors.{cursors_of}
 use Rattle.bolt_tree.specs.Private.OpenBuckets.{AreOpen, IsAhead, IsInPlace, IsInside, open_path}
-use Rattle.bolt_tree.specs.Private.Behind.{behind}
+use Rattle.bolt_tree.specs.Private.RestAfter.{rest_after}
 use Rattle.bolt_tree.specs.declared.open_buckets.Ahead.{Ahead}
 use Rattle.bolt_tree.specs.declared.open_buckets.Ahead.TheVariants.{Begin, Enter, Give, Leave}
 use Rattle.bolt_tree.specs.declared.open_buckets.OpenBuckets.{OpenBuckets}
@@ -35,7 +35,7 @@ ahead_in old new (Enter value) file same h = (
 )
 ahead_in old new (Give leaf) file same h = (
   h.0,
-  subst (λ (c : Checked). ∥ ((path : Path) × (bucket : Start) × (open_path new ≡ path ++ leaf.key.now ∷ []) × Names (entries_of c) (root_of c) path bucket × entries_of c bucket (leaf_view leaf)) ∥₁)
+  subst (λ (c : Checked). ∥ ((path : Path) × (bucket : Start) × (open_path new ≡ path ++ leaf.key.now ∷ []) × Names (entries_of c) (root_start c) path bucket × entries_of c bucket (leaf_view leaf)) ∥₁)
       (sym file) (∥∥₁_map h.1 (λ (path, bucket, at, names, is). (path, bucket, same ∙ at, names, is))),
 )
 ahead_in old new Leave file same h = h
@@ -47,9 +47,9 @@ begins checked buckets file none at =
     let path : open_path buckets ≡ [] = ap path_of at in
     let are : AreOpen buckets.cursors.checked [] (cursors_of buckets.cursors) (open_path buckets) =
     subst (λ (cs : List CursorView). AreOpen buckets.cursors.checked [] cs (open_path buckets)) (sym none) (subst (λ (ks : Path). AreOpen buckets.cursors.checked [] [] ks) (sym path) tt) in
-    ∥∥₁_map (checked_entries checked) (λ h. (∣ (subst (λ (c : Checked). HasEntries (entries_of c) (root_of c)) (sym file) h, are) ∣₁, path))
+    ∥∥₁_map (checked_entries checked) (λ h. (∣ (subst (λ (c : Checked). HasEntries (entries_of c) (root_start c)) (sym file) h, are) ∣₁, path))
 
-pub all_ahead : (checked : Checked) (keys : Path) → keys ≡ [] → (listing : List Member) → Lists (entries_of checked) (root_of checked) listing
-    → behind keys listing ≡ listing
+pub all_ahead : (checked : Checked) (keys : Path) → keys ≡ [] → (listing : List Member) → Lists (entries_of checked) (root_start checked) listing
+    → rest_after keys listing ≡ listing
 all_ahead checked keys none listing lists =
-    ap (λ (p : Path). behind p listing) none ∙ ∥∥₁_elim (checked_entries checked) (hlevel props) (λ h. behind_all (entries_of checked) (root_of checked) h listing lists)
+    ap (λ (p : Path). rest_after p listing) none ∙ ∥∥₁_elim (checked_entries checked) (hlevel props) (λ h. behind_all (entries_of checked) (root_start checked) h listing lists)

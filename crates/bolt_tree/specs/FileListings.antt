@@ -7,8 +7,8 @@ use Rattle.bolt_tree.specs.Entries.{Root_page, Start}
 use Rattle.bolt_tree.specs.Listing.{IsListing, Member}
 
 -- where the root bucket begins
-abbrev pub root_of : Checked → Start
-root_of checked = Root_page (meta_of checked).root
+abbrev pub root_start : Checked → Start
+root_start checked = Root_page (meta_of checked).root
 
 -- this holds of the listing
 abbrev pub ForListing : Checked → (List Member → Type 0) → Type 0

@@ -1,6 +1,5 @@
 -- What private contracts and proofs cite. No public contract names it, but public words such as `cursor_place`, `left_of` and `walk_path`
 -- are defined by it.
-pub mod Behind
 pub mod BucketPages
 pub mod Contents
 pub mod CursorViews
@@ -10,6 +9,7 @@ pub mod Kept
 pub mod OpenBuckets
 pub mod OpenCursors
 pub mod PageKeys
+pub mod RestAfter
 pub mod Seeks
 pub mod ShownPages
 pub mod Stacks

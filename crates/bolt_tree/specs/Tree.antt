@@ -37,27 +37,27 @@ Shows Entry (with_bucket key sequence inside after) (e ∷ entries) =
 abbrev pub IsTreeOf : (Start → LeafElement → Type 0) → Start → Tree → Type 0
 IsTreeOf Entry bucket tree = (entries : List LeafElement) × AreEntries Entry bucket entries × Shows Entry tree entries
 
--- Back again. The rows of a listing are its entries by depth: those of the outermost bucket, and then, for each bucket further in, those
+-- Back again. The trees of a listing are its entries by depth: those of the outermost bucket, and then, for each bucket further in, those
 -- that come before the next member of a bucket further out.
-abbrev pub first_row : List Tree → Tree
-first_row [] = end
-first_row (row ∷ rows) = row
+abbrev pub first_tree : List Tree → Tree
+first_tree [] = end
+first_tree (tree ∷ trees) = tree
 
-abbrev pub later_rows : List Tree → List Tree
-later_rows [] = []
-later_rows (row ∷ rows) = rows
+abbrev pub later_trees : List Tree → List Tree
+later_trees [] = []
+later_trees (tree ∷ trees) = trees
 
--- a member goes to the front of the row at its depth; a bucket takes the row below it
+-- a member goes to the front of the tree at its depth; a bucket takes the tree below it
 abbrev pub put_first : Path → Item → List Tree → List Tree
-put_first [] item rows = rows
-put_first (key ∷ []) (Value value) rows = with_value key value (first_row rows) ∷ []
-put_first (key ∷ []) (Bucket sequence) rows = with_bucket key sequence (first_row (later_rows rows)) (first_row rows) ∷ []
-put_first (part ∷ next ∷ path) item rows = first_row rows ∷ put_first (next ∷ path) item (later_rows rows)
+put_first [] item trees = trees
+put_first (key ∷ []) (Value value) trees = with_value key value (first_tree trees) ∷ []
+put_first (key ∷ []) (Bucket sequence) trees = with_bucket key sequence (first_tree (later_trees trees)) (first_tree trees) ∷ []
+put_first (part ∷ next ∷ path) item trees = first_tree trees ∷ put_first (next ∷ path) item (later_trees trees)
 
-abbrev pub rows_of : List Member → List Tree
-rows_of [] = []
-rows_of (member ∷ listing) = put_first member.0 member.1 (rows_of listing)
+abbrev pub trees_by_depth : List Member → List Tree
+trees_by_depth [] = []
+trees_by_depth (member ∷ listing) = put_first member.0 member.1 (trees_by_depth listing)
 
 -- the tree that has this listing
 abbrev pub tree_of : List Member → Tree
-tree_of listing = first_row (rows_of listing)
+tree_of listing = first_tree (trees_by_depth listing)

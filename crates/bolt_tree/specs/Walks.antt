@@ -5,7 +5,7 @@ use Rattle.bolt_tree.specs.Entries.{Item}
 use Rattle.bolt_check.specs.declared.checked_file.Checked.{Checked}
 use Rattle.bolt_tree.specs.Listing.{Member}
 use Rattle.bolt_tree.specs.Paths.{Path}
-use Rattle.bolt_tree.specs.Private.OpenBuckets.{left_by, told_path, open_path}
+use Rattle.bolt_tree.specs.Private.OpenBuckets.{left_by, reported_path, open_path}
 use Rattle.bolt_tree.specs.declared.walk.Walk.{Walk}
 
 unfoldable pub walk_checked : Walk → Checked
@@ -17,7 +17,7 @@ left_of walk listing = left_by walk.ahead (open_path walk.buckets) listing
 
 -- the path of the last item that it returned
 unfoldable pub walk_path : Walk → Path
-walk_path walk = told_path walk.ahead (open_path walk.buckets)
+walk_path walk = reported_path walk.ahead (open_path walk.buckets)
 
 -- The first member that was left is returned, and the others are left; or none was left, none is, and the path is empty.
 abbrev pub GivesNext : List Member → List Member → Path → Option Item → Type 0

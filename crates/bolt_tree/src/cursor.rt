@@ -5,13 +5,16 @@ ghost use Rattle.bolt_format.specs.ElementPlaces.{leaf_view};
 ghost use Rattle.bolt_format.specs.Elements.{IsBucketValue};
 ghost use Rattle.bolt_tree.specs.BucketViews.{entries_of};
 ghost use Rattle.bolt_tree.specs.CursorBounds.{OpensByNext, OpensGap, OpensSeek, SeeksInBounds};
+ghost use Rattle.bolt_tree.specs.Entries.{entry_view};
 ghost use Rattle.bolt_tree.specs.Private.Held.{IsHeld};
 ghost use Rattle.bolt_tree.specs.Private.Kept.{IsKept, kept_view};
 ghost use Rattle.bolt_tree.specs.Pagers.{pager_checked, pager_opened};
-ghost use Rattle.bolt_tree.specs.Places.{Fresh, Moves, Past, first_move, last_move, next_move, prev_move, seek_move};
+ghost use Rattle.bolt_tree.specs.Places.{Fresh, Moves, Past, ShowsMove, first_move, last_move, next_move, prev_move, seek_move};
+ghost use Rattle.bolt_tree.specs.ShownEntries.{shown_entry};
 ghost use Rattle.bolt_tree.specs.Starts.{HasStart, start_at};
 
 use crate::at::At;
+use crate::entry::Entry;
 use crate::pager::Pager;
 use crate::position::{Position, Stack, set_positions};
 use crate::trail::Trail;
@@ -119,35 +122,81 @@ impl<'a> Cursor<'a> {
         self.compared
     }
 
-    /// Moves to the first entry, and returns its element.
+    /// Moves to the first entry, and returns it. If there are no entries, returns `None`.
     #[tactic(auto, unfolding(crate::specs::Cursors::cursor_checked, crate::specs::Cursors::cursor_compared, crate::specs::Cursors::cursor_opened, crate::specs::Cursors::cursor_place, crate::specs::Cursors::cursor_start))]
-    pub(crate) fn first_element(&mut self) -> Option<Leaf<'a>>
+    pub fn first(&mut self) -> Option<Entry<'a>>
         ensures checked { cursor_checked self.new ≡ cursor_checked self.old }
         ensures start { cursor_start self.new ≡ cursor_start self.old }
-        ensures moves { Moves (entries_of (cursor_checked self.old)) (cursor_start self.old) (λ entries place. first_move entries) (cursor_place self.old) (cursor_place self.new) (option_map leaf_view result) }
+        ensures moves { ShowsMove (entries_of (cursor_checked self.old)) (cursor_start self.old) (λ entries place. first_move entries) (cursor_place self.old) (cursor_place self.new) (option_map shown_entry result) }
         ensures opens { OpensGap (cursor_bucket self.old) 0 (cursor_opened self.old) (cursor_opened self.new) }
         ensures none { result ≡ None → cursor_place self.new ≡ Fresh }
         ensures compared { cursor_compared self.new ≡ 0 }
-        ensures bucket { IfSome result (λ leaf. IsTrue leaf.is_bucket → IsBucketValue leaf.value.now) }
     {
         self.compared = 0;
         self.is_past = false;
-        self.trail.first()
+        entry_of(self.trail.first())
     }
 
-    /// Moves to the last entry, and returns its element.
+    /// Moves to the last entry, and returns it. If there are no entries, returns `None`.
     #[tactic(auto, unfolding(crate::specs::Cursors::cursor_checked, crate::specs::Cursors::cursor_compared, crate::specs::Cursors::cursor_opened, crate::specs::Cursors::cursor_place, crate::specs::Cursors::cursor_start))]
-    pub(crate) fn last_element(&mut self) -> Option<Leaf<'a>>
+    pub fn last(&mut self) -> Option<Entry<'a>>
         ensures checked { cursor_checked self.new ≡ cursor_checked self.old }
         ensures start { cursor_start self.new ≡ cursor_start self.old }
-        ensures moves { Moves (entries_of (cursor_checked self.old)) (cursor_start self.old) (λ entries place. last_move entries) (cursor_place self.old) (cursor_place self.new) (option_map leaf_view result) }
+        ensures moves { ShowsMove (entries_of (cursor_checked self.old)) (cursor_start self.old) (λ entries place. last_move entries) (cursor_place self.old) (cursor_place self.new) (option_map shown_entry result) }
         ensures none { result ≡ None → cursor_place self.new ≡ Fresh }
         ensures compared { cursor_compared self.new ≡ 0 }
-        ensures bucket { IfSome result (λ leaf. IsTrue leaf.is_bucket → IsBucketValue leaf.value.now) }
     {
         self.compared = 0;
         self.is_past = false;
-        self.trail.last()
+        entry_of(self.trail.last())
+    }
+
+    /// Moves to the next entry, and returns it. If there is none, it stays where it is, and returns
+    /// `None`.
+    pub fn next(&mut self) -> Option<Entry<'a>>
+        ensures checked { cursor_checked self.new ≡ cursor_checked self.old }
+        ensures start { cursor_start self.new ≡ cursor_start self.old }
+        ensures moves { ShowsMove (entries_of (cursor_checked self.old)) (cursor_start self.old) next_move (cursor_place self.old) (cursor_place self.new) (option_map shown_entry result) }
+        ensures opens { OpensByNext (cursor_bucket self.old) (cursor_place self.old) (cursor_opened self.old) (cursor_opened self.new) }
+        ensures none { result ≡ None → cursor_place self.new ≡ cursor_place self.old }
+        ensures compared { cursor_compared self.new ≡ cursor_compared self.old }
+    {
+        entry_of(self.next_element())
+    }
+
+    /// Moves to the preceding entry, and returns it. If there is none, it stays where it is, and
+    /// returns `None`.
+    #[tactic(auto, unfolding(crate::specs::Cursors::cursor_checked, crate::specs::Cursors::cursor_compared, crate::specs::Cursors::cursor_opened, crate::specs::Cursors::cursor_place, crate::specs::Cursors::cursor_start))]
+    pub fn prev(&mut self) -> Option<Entry<'a>>
+        ensures checked { cursor_checked self.new ≡ cursor_checked self.old }
+        ensures start { cursor_start self.new ≡ cursor_start self.old }
+        ensures moves { ShowsMove (entries_of (cursor_checked self.old)) (cursor_start self.old) prev_move (cursor_place self.old) (cursor_place self.new) (option_map shown_entry result) }
+        ensures none { result ≡ None → cursor_place self.new ≡ cursor_place self.old }
+        ensures compared { cursor_compared self.new ≡ cursor_compared self.old }
+    {
+        if !self.trail.stack.is_empty() {
+            return entry_of(self.trail.prev(&mut self.spare));
+        }
+        match self.trail.last() {
+            Some(leaf) => {
+                self.is_past = false;
+                Some(Entry::of(&leaf))
+            }
+            None => None,
+        }
+    }
+
+    /// Moves to the first entry whose key isn't below `key`, and returns it. If there is none,
+    /// moves past the last entry, and returns `None`.
+    pub fn seek(&mut self, key: &[u8]) -> Option<Entry<'a>>
+        ensures checked { cursor_checked self.new ≡ cursor_checked self.old }
+        ensures start { cursor_start self.new ≡ cursor_start self.old }
+        ensures moves { ShowsMove (entries_of (cursor_checked self.old)) (cursor_start self.old) (λ entries place. seek_move key.now entries) (cursor_place self.old) (cursor_place self.new) (option_map shown_entry result) }
+        ensures opens { OpensSeek (cursor_bucket self.old) key.now (cursor_opened self.old) (cursor_opened self.new) }
+        ensures none { result ≡ None → cursor_place self.new ≡ Past }
+        ensures compared { SeeksInBounds (cursor_bucket self.old) key.now (cursor_compared self.new) }
+    {
+        entry_of(self.seek_element(key))
     }
 
     /// Moves to the next entry, and returns its element. If there is none, it stays where it is.
@@ -166,36 +215,9 @@ impl<'a> Cursor<'a> {
             return None;
         }
         if self.trail.stack.is_empty() {
-            let compared = self.compared;
-            let found = self.first_element();
-            self.compared = compared;
-            return found;
+            return self.trail.first();
         }
         self.trail.next(&mut self.spare)
-    }
-
-    /// Moves to the preceding entry, and returns its element. If there is none, it stays where it
-    /// is.
-    #[tactic(auto, unfolding(crate::specs::Cursors::cursor_checked, crate::specs::Cursors::cursor_compared, crate::specs::Cursors::cursor_opened, crate::specs::Cursors::cursor_place, crate::specs::Cursors::cursor_start))]
-    pub(crate) fn prev_element(&mut self) -> Option<Leaf<'a>>
-        ensures checked { cursor_checked self.new ≡ cursor_checked self.old }
-        ensures start { cursor_start self.new ≡ cursor_start self.old }
-        ensures moves { Moves (entries_of (cursor_checked self.old)) (cursor_start self.old) prev_move (cursor_place self.old) (cursor_place self.new) (option_map leaf_view result) }
-        ensures none { result ≡ None → cursor_place self.new ≡ cursor_place self.old }
-        ensures compared { cursor_compared self.new ≡ cursor_compared self.old }
-        ensures bucket { IfSome result (λ leaf. IsTrue leaf.is_bucket → IsBucketValue leaf.value.now) }
-    {
-        if self.trail.stack.is_empty() {
-            let compared = self.compared;
-            let is_past = self.is_past;
-            let found = self.last_element();
-            self.compared = compared;
-            if found.is_none() {
-                self.is_past = is_past;
-            }
-            return found;
-        }
-        self.trail.prev(&mut self.spare)
     }
 
     /// Moves to the first entry whose key isn't below `key`, and returns its element. If there is
@@ -221,5 +243,17 @@ impl<'a> Cursor<'a> {
                 None
             }
         }
+    }
+}
+
+/// The entry of an element, if there is one.
+fn entry_of(found: Option<Leaf<'_>>) -> Option<Entry<'_>>
+    requires { IfSome found (λ leaf. IsTrue leaf.is_bucket → IsBucketValue leaf.value.now) }
+    ensures entry { option_map shown_entry result ≡ option_map entry_view (option_map leaf_view found.entry) }
+    ensures none { result ≡ None → found.entry ≡ None }
+{
+    match found {
+        Some(leaf) => Some(Entry::of(&leaf)),
+        None => None,
     }
 }

@@ -9,7 +9,7 @@ use crate::opened::Opened;
 
 /// The place that a search has found, and how many keys it has compared.
 #[derive(Clone, Copy)]
-pub(crate) struct Found {
+pub(crate) struct KeyPlace {
     pub before: u16,
     pub compared: u64,
 }
@@ -28,7 +28,7 @@ fn is_before(key: &[u8], sought: &[u8], or_equal: bool) -> bool
 
 /// The number of keys of a page that are below a key or, if `or_equal` is set, not above it.
 /// Compares at most 16 keys.
-pub(crate) fn keys_before(page: &Opened<'_>, sought: &[u8], or_equal: bool) -> Found
+pub(crate) fn keys_before(page: &Opened<'_>, sought: &[u8], or_equal: bool) -> KeyPlace
     requires { KeysRise (content_keys (opened_content page.now)) }
     ensures within { result.before ≤ content_length (opened_content page.now) }
     ensures place { IsPlaceOf (content_keys (opened_content page.now)) or_equal sought.now result.before }
@@ -46,7 +46,7 @@ pub(crate) fn keys_before(page: &Opened<'_>, sought: &[u8], or_equal: bool) -> F
             to = middle;
         }
     }
-    Found {
+    KeyPlace {
         before: from,
         compared,
     }

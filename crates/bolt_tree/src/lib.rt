@@ -6,15 +6,11 @@
 
 mod at;
 mod bucket;
-mod calls;
 mod cursor;
-mod descent;
 mod entry;
 mod halves;
 pub mod laws;
 pub mod listing_laws;
-mod lookup;
-mod moves;
 mod open_buckets;
 mod open_cursors;
 mod opened;
@@ -22,6 +18,7 @@ mod pager;
 pub mod part_laws;
 mod position;
 mod trail;
+mod trail_moves;
 mod walk;
 
 pub use at::At;

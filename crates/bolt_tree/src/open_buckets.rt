@@ -7,7 +7,7 @@ ghost use Rattle.bolt_format.specs.ElementPlaces.{leaf_view};
 ghost use Rattle.bolt_tree.specs.Buckets.{bucket_checked, bucket_start};
 ghost use Rattle.bolt_tree.specs.Entries.{item_of};
 ghost use Rattle.bolt_tree.specs.Listing.{rest_from};
-ghost use Rattle.bolt_tree.specs.Private.Behind.{behind, beyond};
+ghost use Rattle.bolt_tree.specs.Private.RestAfter.{rest_after, beyond};
 ghost use Rattle.bolt_tree.specs.FileListings.{ForListing};
 ghost use Rattle.bolt_tree.specs.Paths.{path_of};
 ghost use Rattle.bolt_tree.specs.Private.OpenCursors.{cursors_of};
@@ -33,7 +33,7 @@ pub(crate) enum Ahead<'a> {
 
 /// The result of searching for one part of a path.
 #[derive(Clone, Copy)]
-pub(crate) enum Sought<'a> {
+pub(crate) enum PartResult<'a> {
     /// The part names this bucket, and the path goes on.
     Inside(Bucket<'a>),
     /// The search ends here, and the walk does this next.
@@ -49,7 +49,7 @@ pub(crate) struct OpenBuckets<'a> {
 }
 
 impl<'a> OpenBuckets<'a> {
-    ghost use Rattle.bolt_tree.specs.Private.OpenBuckets.{IsAhead, IsAt, IsInPlace, IsNamed, IsSought, left_by, open_path, told_path};
+    ghost use Rattle.bolt_tree.specs.Private.OpenBuckets.{IsAhead, IsAt, IsInPlace, IsNamed, IsPartResult, left_by, open_path, reported_path};
 
     /// No open bucket.
     pub fn new(alloc: Global, checked: Checked<'a>) -> OpenBuckets<'a>
@@ -74,8 +74,8 @@ impl<'a> OpenBuckets<'a> {
         ensures on { IfOk result (λ found. IfSome found (IsAt self.new)) }
         ensures none { IfOk result (λ found. IfNone found (open_path self.new ≡ open_path self.old)) }
         ensures same { OnErr result (open_path self.new ≡ open_path self.old) }
-        ensures left { IfOk result (λ found. ForListing self.old.cursors.checked (λ listing. MatchOption found (behind (open_path self.old) listing ≡ beyond (open_path self.old) listing)
-            (λ leaf. behind (open_path self.old) listing ≡ (open_path self.new, item_of (leaf_view leaf)) ∷ behind (open_path self.new) listing))) }
+        ensures left { IfOk result (λ found. ForListing self.old.cursors.checked (λ listing. MatchOption found (rest_after (open_path self.old) listing ≡ beyond (open_path self.old) listing)
+            (λ leaf. rest_after (open_path self.old) listing ≡ (open_path self.new, item_of (leaf_view leaf)) ∷ rest_after (open_path self.new) listing))) }
     {
         self.path.reserve(1)?;
         let Some(leaf) = self.cursors.enter(bucket)? else {
@@ -96,7 +96,7 @@ impl<'a> OpenBuckets<'a> {
         ensures ended { IfOk result (λ found. IfNone found (open_path self.new ≡ [])) }
         ensures same { OnErr result (open_path self.new ≡ open_path self.old) }
         ensures left { IfOk result (λ found. ForListing self.old.cursors.checked (λ listing. MatchOption found (left_by ahead.entry (open_path self.old) listing ≡ [])
-            (λ leaf. left_by ahead.entry (open_path self.old) listing ≡ (open_path self.new, item_of (leaf_view leaf)) ∷ behind (open_path self.new) listing))) }
+            (λ leaf. left_by ahead.entry (open_path self.old) listing ≡ (open_path self.new, item_of (leaf_view leaf)) ∷ rest_after (open_path self.new) listing))) }
     {
         let bucket = match ahead {
             Ahead::Begin => Bucket::root(self.cursors.checked),
@@ -115,8 +115,8 @@ impl<'a> OpenBuckets<'a> {
         requires placed { IsInPlace self.now }
         requires on { IsAt self.now leaf.now }
         ensures ahead { IsAhead self.now result }
-        ensures left { ForListing self.now.cursors.checked (λ listing. left_by result (open_path self.now) listing ≡ behind (open_path self.now) listing) }
-        ensures told { told_path result (open_path self.now) ≡ open_path self.now }
+        ensures left { ForListing self.now.cursors.checked (λ listing. left_by result (open_path self.now) listing ≡ rest_after (open_path self.now) listing) }
+        ensures reported { reported_path result (open_path self.now) ≡ open_path self.now }
     {
         if leaf.is_bucket {
             Ahead::Enter(leaf.value)
@@ -131,7 +131,7 @@ impl<'a> OpenBuckets<'a> {
         ensures checked { self.new.cursors.checked ≡ self.old.cursors.checked }
         ensures placed { IsInPlace self.new }
         ensures ahead { IsAhead self.new result }
-        ensures untold { told_path result (open_path self.new) ≡ [] }
+        ensures unreported { reported_path result (open_path self.new) ≡ [] }
         ensures left { ForListing self.old.cursors.checked (λ listing. left_by result (open_path self.new) listing ≡ beyond (open_path self.old) listing) }
     {
         match self.climb() {
@@ -146,28 +146,25 @@ impl<'a> OpenBuckets<'a> {
         bucket: Bucket<'a>,
         part: &[u8],
         is_last: bool,
-    ) -> Result<Sought<'a>, NoMemory>
+    ) -> Result<PartResult<'a>, NoMemory>
         requires placed { IsInPlace self.old }
         requires named { IsNamed self.old bucket }
         ensures checked { OnOk result (self.new.cursors.checked ≡ self.old.cursors.checked) }
         ensures placed { OnOk result (IsInPlace self.new) }
-        ensures sought { IfOk result (IsSought self.old self.new part.now is_last) }
+        ensures sought { IfOk result (IsPartResult self.old self.new part.now is_last) }
     {
         self.path.reserve(1)?;
         let Some(leaf) = self.cursors.seek(bucket, part)? else {
-            return Ok(Sought::Here(self.come()));
+            return Ok(PartResult::Here(self.come()));
         };
         self.path.push_reserved(leaf.key);
-        if part.cmp(leaf.key).is_lt() {
-            return Ok(Sought::Here(Ahead::Give(leaf)));
-        }
-        if is_last {
-            return Ok(Sought::Here(Ahead::Give(leaf)));
+        if part.cmp(leaf.key).is_lt() || is_last {
+            return Ok(PartResult::Here(Ahead::Give(leaf)));
         }
         if leaf.is_bucket {
-            return Ok(Sought::Inside(Bucket::of(self.cursors.checked, leaf.value)));
+            return Ok(PartResult::Inside(Bucket::of(self.cursors.checked, leaf.value)));
         }
-        Ok(Sought::Here(self.come()))
+        Ok(PartResult::Here(self.come()))
     }
 
     /// Searches for a path, from the root bucket on.
@@ -177,14 +174,14 @@ impl<'a> OpenBuckets<'a> {
         ensures checked { OnOk result (self.new.cursors.checked ≡ self.old.cursors.checked) }
         ensures placed { OnOk result (IsInPlace self.new) }
         ensures ahead { IfOk result (IsAhead self.new) }
-        ensures untold { IfOk result (λ ahead. told_path ahead (open_path self.new) ≡ []) }
+        ensures unreported { IfOk result (λ ahead. reported_path ahead (open_path self.new) ≡ []) }
         ensures left { IfOk result (λ ahead. ForListing self.old.cursors.checked (λ listing. left_by ahead (open_path self.new) listing ≡ rest_from (path_of path.now) listing)) }
     {
         let mut bucket = Bucket::root(self.cursors.checked);
         for (i, part) in path.iter().enumerate() {
             match self.seek_part(bucket, part, i + 1 == path.len())? {
-                Sought::Inside(inside) => bucket = inside,
-                Sought::Here(ahead) => return Ok(ahead),
+                PartResult::Inside(inside) => bucket = inside,
+                PartResult::Here(ahead) => return Ok(ahead),
             }
         }
         Ok(Ahead::Begin)
@@ -200,7 +197,7 @@ impl<'a> OpenBuckets<'a> {
         ensures on { IfSome result (IsAt self.new) }
         ensures ended { IfNone result (open_path self.new ≡ []) }
         ensures left { ForListing self.old.cursors.checked (λ listing. MatchOption result (beyond (open_path self.old) listing ≡ [])
-            (λ leaf. beyond (open_path self.old) listing ≡ (open_path self.new, item_of (leaf_view leaf)) ∷ behind (open_path self.new) listing)) }
+            (λ leaf. beyond (open_path self.old) listing ≡ (open_path self.new, item_of (leaf_view leaf)) ∷ rest_after (open_path self.new) listing)) }
     {
         while !self.cursors.is_empty() {
             let found = self.cursors.next_element();

@@ -19,7 +19,7 @@ use std::alloc::Global;
 /// A cursor that waits while a bucket within its own is open: where its bucket's tree begins, and
 /// where its positions begin among those of all that wait.
 #[derive(Clone, Copy)]
-pub(crate) struct Waiting<'a> {
+pub(crate) struct WaitingCursor<'a> {
     pub at: At<'a>,
     pub is_past: bool,
     pub begin: usize,
@@ -30,7 +30,7 @@ pub(crate) struct Waiting<'a> {
 #[derive(Drop)]
 pub(crate) struct OpenCursors<'a> {
     pub checked: Checked<'a>,
-    waiting: Vec<Waiting<'a>>,
+    waiting: Vec<WaitingCursor<'a>>,
     positions: Vec<Position<'a>>,
     innermost: Option<Cursor<'a>>,
     ghost kept: { ∥ AreOfFile checked waiting.items positions.items innermost ∥₁ },
@@ -75,7 +75,7 @@ impl<'a> OpenCursors<'a> {
         self.waiting.reserve(1)?;
         let begin = self.positions.len();
         self.positions.extend_from_slice(cursor.positions())?;
-        self.waiting.push_reserved(Waiting {
+        self.waiting.push_reserved(WaitingCursor {
             at: cursor.at(),
             is_past: cursor.is_past(),
             begin,

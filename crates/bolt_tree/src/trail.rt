@@ -1,17 +1,19 @@
-//! A stack of open pages that moves along the pages of a bucket.
-ghost use Rattle.std.specs.Prelude.{◌≡◌, ◌∷◌, [], ◌<◌, ◌≤◌, ◌+◌, ◌-◌, ◌++◌, IsTrue, IfSome, MatchOption, Some, length, slice_get};
+//! A stack of open pages, and its steps from page to page.
+ghost use Rattle.std.specs.Prelude.{◌≡◌, ◌∷◌, [], ◌<◌, ◌≤◌, ◌+◌, ◌-◌, ◌*◌, IsTrue, IfSome, Some, length, slice_get};
 ghost use Rattle.std.specs.Option.{option_map};
 ghost use Rattle.bolt_format.specs.ElementPlaces.{leaf_view};
 ghost use Rattle.bolt_format.specs.Elements.{BranchElement, IsBucketValue};
 ghost use Rattle.bolt_format.specs.Shown.{shown};
-ghost use Rattle.bolt_tree.specs.Private.BucketPages.{contents_in, root_content};
+ghost use Rattle.bolt_tree.specs.Private.BucketPages.{contents_in, elements_in, root_content};
 ghost use Rattle.bolt_tree.specs.Private.Contents.{Of_branch, content_length};
 ghost use Rattle.bolt_tree.specs.Private.Entered.{IsEntered, entered_pages, taken_at};
 ghost use Rattle.bolt_tree.specs.Pagers.{counted, pager_opened};
+ghost use Rattle.bolt_tree.specs.Private.Seeks.{IsNearTop, IsSought};
 ghost use Rattle.bolt_tree.specs.Private.ShownPages.{opened_content};
-ghost use Rattle.bolt_tree.specs.Private.Stacks.{HasStack, IsOn};
+ghost use Rattle.bolt_tree.specs.Private.Stacks.{HasStack, IsLeafTop};
 
 use crate::at::At;
+use crate::halves::keys_before;
 use crate::opened::{BranchPage, Opened};
 use crate::pager::Pager;
 use crate::position::{Position, Stack};
@@ -27,7 +29,7 @@ pub(crate) struct Trail<'a> {
 }
 
 impl<'a> Trail<'a> {
-    ghost use Rattle.bolt_tree.specs.Private.Trails.{HasBucket, HasTrail, IsSameBucket, ahead, behind, right, trail_bucket, trail_frames};
+    ghost use Rattle.bolt_tree.specs.Private.Trails.{HasBucket, HasTrail, IsSameBucket, ahead, trail_bucket, trail_frames};
 
     /// Pushes a page onto the stack.
     pub fn push(&mut self, page: Opened<'a>, taken: u32)
@@ -129,43 +131,30 @@ impl<'a> Trail<'a> {
         }
     }
 
-    /// Moves to the next entry. If there is none, the stack is empty.
-    pub fn advance(&mut self) -> Option<Leaf<'a>>
-        requires { HasTrail self.old }
+    /// Goes down from the root page to the leaf that is near a key, and stops before its first
+    /// entry that isn't below the key. Returns how many keys were compared, at most 16 for each
+    /// page.
+    pub fn descend(&mut self, root: Opened<'a>, key: &[u8]) -> u64
+        requires bucket { HasBucket self.old }
+        requires empty { trail_frames self.old ≡ [] }
+        requires root { opened_content root ≡ root_content (trail_bucket self.old) }
         ensures same { IsSameBucket self.old self.new }
         ensures stack { HasTrail self.new }
-        ensures found { MatchOption result ((ahead self.old ≡ []) × (trail_frames self.new ≡ []))
-            (λ leaf. (ahead self.old ≡ leaf_view leaf ∷ ahead self.new) × IsOn (trail_frames self.new) (leaf_view leaf)) }
-        ensures bucket { IfSome result (λ leaf. IsTrue leaf.is_bucket → IsBucketValue leaf.value.now) }
-        ensures less { length (right self.new) ≤ length (right self.old) }
-        ensures opened { pager_opened self.new.pager ≡ counted (pager_opened self.old.pager) (length (right self.old) - length (right self.new)) }
+        ensures near { IsNearTop (trail_bucket self.old) key.now (trail_frames self.new) }
+        ensures sought { IsSought (elements_in (trail_bucket self.old)) key.now (ahead self.new) }
+        ensures compared { result ≤ 16 * length (trail_frames self.new) }
+        ensures opened { pager_opened self.new.pager ≡ counted (pager_opened self.old.pager) (length (trail_frames self.new) - 1) }
+        ensures leaf { IsLeafTop (trail_frames self.new) }
     {
-        while let Some(top) = self.stack.pop() {
-            if top.taken < u32::from(top.page.count()) {
-                if let Some(leaf) = self.enter(top.page, top.taken as u16, false) {
-                    return Some(leaf);
-                }
-            }
+        let mut opened = root;
+        let mut compared = 0;
+        while let Opened::Branch(page) = opened {
+            let found = keys_before(&opened, key, true);
+            compared += found.compared;
+            opened = self.go_under(page, found.before.saturating_sub(1));
         }
-        None
-    }
-
-    /// Moves to the preceding entry. If there is none, the stack is empty.
-    pub fn retreat(&mut self) -> Option<Leaf<'a>>
-        requires { HasTrail self.old }
-        ensures same { IsSameBucket self.old self.new }
-        ensures stack { HasTrail self.new }
-        ensures found { MatchOption result ((behind self.old ≡ []) × (trail_frames self.new ≡ []))
-            (λ leaf. (behind self.old ≡ behind self.new ++ leaf_view leaf ∷ []) × IsOn (trail_frames self.new) (leaf_view leaf)) }
-        ensures bucket { IfSome result (λ leaf. IsTrue leaf.is_bucket → IsBucketValue leaf.value.now) }
-    {
-        while let Some(top) = self.stack.pop() {
-            if top.taken > 1 {
-                if let Some(leaf) = self.enter(top.page, (top.taken - 2) as u16, true) {
-                    return Some(leaf);
-                }
-            }
-        }
-        None
+        let found = keys_before(&opened, key, false);
+        self.push(opened, u32::from(found.before));
+        compared + found.compared
     }
 }

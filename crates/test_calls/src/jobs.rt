@@ -46,8 +46,8 @@ pub enum Line {
     CompactSnapshot,
 }
 
-/// A job of each command on the forty values, with a name for messages.
-pub static OF_EACH_COMMAND: [(&'static str, Line); 18] = [
+/// Jobs of each command on the forty values, with names for messages.
+pub static OF_EACH_COMMAND: [(&'static str, Line); 26] = [
     ("info", Info),
     ("page 0", Page(0)),
     ("page 2", Page(2)),
@@ -66,10 +66,6 @@ pub static OF_EACH_COMMAND: [(&'static str, Line); 18] = [
     ("list --recover", ListRecovered),
     ("compact", Compact),
     ("compact --recover", CompactRecovered),
-];
-
-/// Jobs of the daily questions on the forty values, and of snapshots.
-pub static OF_DAILY_QUESTIONS: [(&'static str, Line); 8] = [
     ("check --etcd-snapshot", CheckSnapshot),
     ("buckets --sizes", Sizes),
     ("keys --prefix 1", KeysBeginning(&[b"b"], b"1")),

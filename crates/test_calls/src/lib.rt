@@ -1,67 +1,75 @@
-//! Tests of the libraries' calls: what is read of a file (its metas and pages, the checker's calls,
-//! pagers, walks, recoveries and texts), what jobs come to, copies, and sinks. Most rows stand in
-//! `test_rows`. The crate has nothing beside its tests.
+//! Tests of the libraries' calls. A module whose name begins with a library's, as `format_page` with
+//! that of `bolt_format`, has tests of this library; the others have what the tests share. Tests of
+//! cursors, walks and command lines are lines of data in `test_rows`.
 #![tactic(auto)]
 
 #[cfg(test)]
 mod bucket_at;
 #[cfg(test)]
-mod byte_sweeps;
+mod bulk_held;
 #[cfg(test)]
-mod check_rows;
+mod bulk_plan;
 #[cfg(test)]
-mod claim_rows;
+mod bulk_sinks;
+#[cfg(test)]
+mod check_claims;
+#[cfg(test)]
+mod check_file;
+#[cfg(test)]
+mod check_roles;
+#[cfg(test)]
+mod cli_damaged_files;
+#[cfg(test)]
+mod cli_damaged_recoveries;
+#[cfg(test)]
+mod cli_damaged_snapshots;
+#[cfg(test)]
+mod cli_largest_pages;
+#[cfg(test)]
+mod cli_sinks;
 #[cfg(test)]
 mod copies;
 #[cfg(test)]
-mod damaged_samples;
+mod format_freelist;
 #[cfg(test)]
-mod failing_copies;
+mod format_leaf;
 #[cfg(test)]
-mod figure_rows;
+mod format_meta;
 #[cfg(test)]
-mod form_rows;
+mod format_page;
 #[cfg(test)]
-mod free_rows;
-#[cfg(test)]
-mod held_rows;
+mod format_sink;
 #[cfg(test)]
 mod jobs;
 #[cfg(test)]
-mod large_page_rows;
-#[cfg(test)]
-mod map_rows;
-#[cfg(test)]
-mod memory_rows;
-#[cfg(test)]
-mod meta_rows;
-#[cfg(test)]
-mod pager_rows;
-#[cfg(test)]
-mod part_rows;
-#[cfg(test)]
-mod plan_rows;
-#[cfg(test)]
-mod prefix_rows;
-#[cfg(test)]
 mod ran;
 #[cfg(test)]
-mod read_rows;
+mod recover_members;
 #[cfg(test)]
-mod recovery_rows;
+mod report_key_prefix;
 #[cfg(test)]
-mod recovery_sweeps;
+mod report_keys;
 #[cfg(test)]
-mod sink_rows;
+mod report_list;
 #[cfg(test)]
-mod sink_sweeps;
+mod report_map;
 #[cfg(test)]
-mod size_rows;
+mod report_part;
 #[cfg(test)]
-mod snapshot_rows;
+mod report_sizes;
 #[cfg(test)]
-mod snapshot_sweeps;
+mod report_stats;
 #[cfg(test)]
-mod text_rows;
+mod report_value;
+#[cfg(test)]
+mod shown_pages;
+#[cfg(test)]
+mod snapshot_hash;
+#[cfg(test)]
+mod snapshot_sink;
 #[cfg(test)]
 mod texts;
+#[cfg(test)]
+mod tree_memory;
+#[cfg(test)]
+mod tree_pager;

@@ -2,7 +2,7 @@
 
 use crate::bucket_at::bucket_at;
 use Text::{Beginning, Buckets, Item, Keys, Lines, List, Part, Value};
-use bolt_check::Checked;
+use bolt_check::{Checked, check};
 use bolt_format::{MemSink, Sink, WriteSink};
 use bolt_report::{
     Form, ListForm, MemberLines, ReportFault, buckets, item, keys, keys_beginning, list, list_part,
@@ -10,8 +10,12 @@ use bolt_report::{
 };
 use bolt_tree::Walk;
 use std::alloc::Global;
+use std::io::ErrorKind;
 use std::process::Abort;
+use std::test::Fail;
 use test_files::halting::{Halting, Refusal};
+use test_files::maker::Element::{Bucket, Value as Stored};
+use test_files::samples::{Content, EMPTY_BUCKET, FRESH_FILE, Sample, make};
 
 /// A text that is asked for.
 #[derive(Clone, Copy, Debug)]
@@ -36,6 +40,47 @@ pub enum Text<'a> {
 
 /// A text that is asked for, and its bytes.
 pub type Row<'a> = (Text<'a>, &'a [u8]);
+
+/// A file, and texts of its content.
+pub type FileRows = (Sample<'static>, &'static [Row<'static>]);
+
+/// Keys of printable bytes alone, and others, of values and of buckets.
+pub const KEYS_OF_ALL_KINDS: Sample<'static> = Sample {
+    pages: &[(
+        3,
+        Content::Leaf(&[
+            Bucket(b"\x00", EMPTY_BUCKET),
+            Stored(b"\x1f", b""),
+            Stored(b" ", b"\n"),
+            Bucket(b"a\nb", EMPTY_BUCKET),
+            Stored(b"a b", b""),
+            Bucket(b"a~", EMPTY_BUCKET),
+            Stored(b"a\x7f", b""),
+            Stored(b"\xc3\xa9", b""),
+            Bucket(b"\xff", EMPTY_BUCKET),
+        ]),
+    )],
+    ..FRESH_FILE
+};
+
+/// Keys that JSON escapes, shows as they are, and shows in hexadecimal.
+pub const ODD_KEYS: Sample<'static> = Sample {
+    pages: &[(
+        3,
+        Content::Leaf(&[
+            Bucket(b"\x00", EMPTY_BUCKET),
+            Stored(b"\x1f", b"\x00"),
+            Stored(b"\"\\/", b"\x08\x0c\n\r\t"),
+            Bucket(b"b\tc", EMPTY_BUCKET),
+            Stored(b"plain", b"1\n"),
+            Stored(b"\xc2\x80", b"\xc2\x9f"),
+            Stored(b"\xed\xa0\x80", b""),
+            Stored(b"\xf0\x9f\x98\x80", b"\xe2\x80\xa8"),
+            Bucket(b"\xff\xfe", EMPTY_BUCKET),
+        ]),
+    )],
+    ..FRESH_FILE
+};
 
 /// Writes a text of the file, or returns `None` if its path names no bucket.
 fn put_text<S: Sink>(
@@ -90,7 +135,7 @@ fn told(text: Text<'_>) -> Text<'_> {
 }
 
 /// A sink in memory accepts the whole text.
-pub fn check_text(rt: &impl Abort, alloc: Global, checked: Checked<'_>, row: Row<'_>) {
+fn check_text(rt: &impl Abort, alloc: Global, checked: Checked<'_>, row: Row<'_>) {
     let (text, want) = row;
     let told = told(text);
     let mut sink = MemSink::new(alloc);
@@ -101,7 +146,7 @@ pub fn check_text(rt: &impl Abort, alloc: Global, checked: Checked<'_>, row: Row
 
 /// Whichever of its calls a writer refuses, the result is that the sink failed, the writer accepted
 /// a prefix of the text, and it isn't called again. If it refuses none, it accepts the whole text.
-pub fn check_halted(
+fn check_halted(
     rt: &impl Abort,
     alloc: Global,
     checked: Checked<'_>,
@@ -126,8 +171,32 @@ pub fn check_halted(
         let is_beginning = taken.len() < want.len() && want.starts_with(taken);
         assert!(rt;
             writer.calls == refused && is_beginning,
-            "{told:?} gives no beginning, or calls again, at call {refused}"
+            "{told:?} gives no prefix, or calls again, at call {refused}"
         );
     }
-    assert!(rt; false, "{told:?} wants a call for more than each byte");
+    assert!(rt; false, "{told:?} needs a call for more than each byte");
+}
+
+/// Sinks in memory accept these texts of the files.
+pub fn check_texts(rt: &impl Abort, alloc: Global, files: &[FileRows]) -> Result<(), Fail> {
+    for (sample, rows) in files {
+        let file = make(alloc, sample)?;
+        let checked = check(alloc, file.as_slice())?;
+        for row in *rows {
+            check_text(rt, alloc, checked, *row);
+        }
+    }
+    Ok(())
+}
+
+/// Writers that fail accept prefixes of these texts of the file.
+pub fn check_prefixes(rt: &impl Abort, alloc: Global, file: &FileRows) -> Result<(), Fail> {
+    let (sample, rows) = file;
+    let file = make(alloc, sample)?;
+    let checked = check(alloc, file.as_slice())?;
+    for row in *rows {
+        check_halted(rt, alloc, checked, *row, Refusal::Error(ErrorKind::Other));
+        check_halted(rt, alloc, checked, *row, Refusal::Nothing);
+    }
+    Ok(())
 }

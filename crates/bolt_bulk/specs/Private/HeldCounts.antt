@@ -4,7 +4,7 @@ use Rattle.std.specs.Prelude.{◌≡◌, ℕ, ◌+◌, List, [], ◌∷◌, leng
 use Rattle.bolt_bulk.specs.declared.branch_runs.BranchRun.{BranchRun}
 use Rattle.bolt_bulk.specs.declared.open_bucket.OpenBucket.{OpenBucket}
 use Rattle.bolt_bulk.specs.declared.pass.Pass.{Pass}
-use Rattle.bolt_bulk.specs.declared.waiting.Waiting.{Waiting}
+use Rattle.bolt_bulk.specs.declared.waiting_bucket.WaitingBucket.{WaitingBucket}
 
 abbrev pub items_above : List BranchRun → ℕ
 items_above uppers = sum_by (λ run. length run.elements.items) uppers
@@ -12,7 +12,7 @@ items_above uppers = sum_by (λ run. length run.elements.items) uppers
 abbrev pub items_in : OpenBucket → ℕ
 items_in bucket = length bucket.leaves.items.items + items_above bucket.uppers.items
 
-abbrev pub items_around : List Waiting → ℕ
+abbrev pub items_around : List WaitingBucket → ℕ
 items_around [] = 0
 items_around (waiting ∷ others) = items_in waiting.bucket + items_around others
 
@@ -24,7 +24,7 @@ abbrev pub capped : ℕ → ℕ
 capped n = min n 18446744073709551615
 
 -- the code knows of each waiting bucket how many items the buckets around it hold; the outermost comes first, with `before` around it
-abbrev pub AreCounted : ℕ → List Waiting → Type 0
+abbrev pub AreCounted : ℕ → List WaitingBucket → Type 0
 AreCounted before [] = Unit {0}
 AreCounted before (waiting ∷ others) = (waiting.around ≡ capped before) × AreCounted (before + items_in waiting.bucket) others
 

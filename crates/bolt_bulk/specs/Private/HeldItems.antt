@@ -4,7 +4,8 @@ use Rattle.std.specs.List.{AllByRecursion}
 use Rattle.bolt_format.specs.ElementPlaces.{leaf_view}
 use Rattle.bolt_format.specs.Elements.{LeafElement}
 use Rattle.bolt_format.specs.declared.element.Leaf.{Leaf}
-use Rattle.bolt_layout.specs.PageBytes.{inline_value, leaf_data, root_value}
+use Rattle.bolt_layout.specs.PageBytes.{inline_value, leaf_data}
+use Rattle.bolt_format.specs.Written.{head_bytes}
 use Rattle.bolt_bulk.specs.declared.held.Held.{Held}
 use Rattle.bolt_bulk.specs.declared.held.Stored.{Stored}
 use Rattle.bolt_bulk.specs.declared.held.Stored.TheVariants as stored
@@ -15,7 +16,7 @@ entries_in inlined first count = map leaf_view (take count (drop first inlined))
 
 abbrev pub stored_value : List Leaf → Stored → List ℕ
 stored_value inlined (stored.Value value) = value.now
-stored_value inlined (stored.Root page sequence) = root_value page sequence
+stored_value inlined (stored.Root page sequence) = head_bytes page sequence
 stored_value inlined (stored.Inline sequence first count size) = inline_value sequence (entries_in inlined first count)
 
 abbrev pub is_stored_bucket : Stored → Bool
@@ -65,7 +66,3 @@ inlined_in (held ∷ items) = inlined_by held.stored + inlined_in items
 -- the size of the page over items
 abbrev pub page_size_of : List Leaf → List Held → ℕ
 page_size_of inlined items = 16 + (16 * length items + length (leaf_data (held_views inlined items)))
-
--- the size of an item on its page
-abbrev pub held_size : List Leaf → Held → ℕ
-held_size inlined held = 16 + (length held.key.now + length (stored_value inlined held.stored))

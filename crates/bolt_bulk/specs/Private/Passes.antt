@@ -22,14 +22,14 @@ use Rattle.bolt_bulk.specs.Private.OpenBuckets.{IsOpenBucket, rows_of}
 use Rattle.bolt_bulk.specs.Private.OpenRows.{IsOpenRows}
 use Rattle.bolt_bulk.specs.Private.OpenRuns.{Frame, Open, all_put, base_in}
 use Rattle.bolt_bulk.specs.Private.TakenItems.{entries_size}
-use Rattle.bolt_bulk.specs.Private.Waiting.{IsWaiting}
+use Rattle.bolt_bulk.specs.Private.WaitingBuckets.{IsWaiting}
 use Rattle.bolt_bulk.specs.Puts.{Puts}
 use Rattle.bolt_bulk.specs.declared.page_setup.PageSetup.{PageSetup}
 use Rattle.bolt_bulk.specs.declared.fault.BulkFault.{BulkFault}
 use Rattle.bolt_bulk.specs.declared.fault.BulkFault.TheVariants as fault
 use Rattle.bolt_bulk.specs.declared.pass.Pass.{Pass}
-use Rattle.bolt_bulk.specs.declared.pending.Pending.{Pending}
-use Rattle.bolt_bulk.specs.declared.waiting.Waiting.{Waiting}
+use Rattle.bolt_bulk.specs.declared.pending_bucket.PendingBucket.{PendingBucket}
+use Rattle.bolt_bulk.specs.declared.waiting_bucket.WaitingBucket.{WaitingBucket}
 use Rattle.bolt_bulk.specs.declared.told.Told.{Told}
 use Rattle.bolt_layout.specs.declared.layout.Layout.{Layout}
 
@@ -42,7 +42,7 @@ abbrev pub level_of : Frame → Level
 level_of frame = record { key = frame.key; after = frame.after }
 
 -- the waiting buckets of the code, the innermost first, are the frames
-abbrev pub AreWaiting : List Waiting → List Frame → Type 0
+abbrev pub AreWaiting : List WaitingBucket → List Frame → Type 0
 AreWaiting [] [] = Unit {0}
 AreWaiting [] (frame ∷ frames) = ⊥
 AreWaiting (waiting ∷ others) [] = ⊥
@@ -51,7 +51,7 @@ AreWaiting (waiting ∷ others) (frame ∷ frames) =
     × (waiting.key.now ≡ frame.key) × (waiting.sequence ≡ frame.sequence) × AreWaiting others frames
 
 -- A bucket that may be inline is the next entry of the open one: it is entered as a level, but not opened yet.
-abbrev pub IsPending : Option Pending → List Leaf → (outer : List Level) → (rest : Tree) → (levels : List Level) → (left : Tree) → Type 0
+abbrev pub IsPending : Option PendingBucket → List Leaf → (outer : List Level) → (rest : Tree) → (levels : List Level) → (left : Tree) → Type 0
 IsPending None entries outer rest levels left = (levels ≡ outer) × (rest ≡ left)
 IsPending (Some pending) entries outer rest levels left = (after : Tree)
     × (levels ≡ record { key = pending.key.now; after = after } ∷ outer)
@@ -147,7 +147,7 @@ pub record IsAt (wanted : Wanted) (pass : Pass) (levels : List Level) (left : Tr
   pub has_told : HasTold wanted pass.setup.page_size pass.told opened numbers
 
 -- What is known of it without the tree. A bucket that may be inline has values alone, which take at most a quarter of a page.
-pub record IsSmall (page_size : ℕ) (pending : Pending) (entries : List Leaf) : Type 0 where
+pub record IsSmall (page_size : ℕ) (pending : PendingBucket) (entries : List Leaf) : Type 0 where
   pub key : length pending.key.now ≤ 1073741824
   pub sized : pending.size ≡ entries_size (map leaf_view entries)
   pub small : pending.size ≤ page_size / 4
@@ -155,7 +155,7 @@ pub record IsSmall (page_size : ℕ) (pending : Pending) (entries : List Leaf) :
   pub keys : AllByRecursion (λ (entry : Leaf). length entry.key.now ≤ 1073741824) entries
   pub values : AllByRecursion (λ (entry : Leaf). entry.is_bucket ≡ false) entries
 
-abbrev pub IsPendingSmall : (page_size : ℕ) → Option Pending → List Leaf → Type 0
+abbrev pub IsPendingSmall : (page_size : ℕ) → Option PendingBucket → List Leaf → Type 0
 IsPendingSmall page_size None entries = entries ≡ []
 IsPendingSmall page_size (Some pending) entries = IsSmall page_size pending entries
 
@@ -168,7 +168,7 @@ pub record IsReady (pass : Pass) : Type 0 where
   pub around : pass.around ≡ capped (items_around pass.waiting.items)
 
 -- how many buckets are around what is left
-abbrev pub pending_depth : Option Pending → ℕ
+abbrev pub pending_depth : Option PendingBucket → ℕ
 pending_depth None = 0
 pending_depth (Some pending) = 1
 

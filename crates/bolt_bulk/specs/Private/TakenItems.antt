@@ -1,7 +1,8 @@
 -- The items that a bucket takes, as elements of its leaf, and what is open of it then.
 use Rattle.std.specs.Prelude.{ℕ, ◌+◌, ◌*◌, true, false, List, length}
 use Rattle.bolt_format.specs.Elements.{LeafElement}
-use Rattle.bolt_layout.specs.PageBytes.{inline_value, leaf_data, root_value}
+use Rattle.bolt_layout.specs.PageBytes.{inline_value, leaf_data}
+use Rattle.bolt_format.specs.Written.{head_bytes}
 use Rattle.bolt_bulk.specs.Private.Rows.{OpenRows, rows_push, rows_room}
 
 abbrev pub value_element : (key value : List ℕ) → LeafElement
@@ -11,7 +12,7 @@ abbrev pub inline_element : (key : List ℕ) → (sequence : ℕ) → List LeafE
 inline_element key sequence entries = record { key = key; value = inline_value sequence entries; is_bucket = true }
 
 abbrev pub root_element : (key : List ℕ) → (root sequence : ℕ) → LeafElement
-root_element key root sequence = record { key = key; value = root_value root sequence; is_bucket = true }
+root_element key root sequence = record { key = key; value = head_bytes root sequence; is_bucket = true }
 
 -- the sizes of a page over entries, and of the value of an inline bucket that has them
 abbrev pub entries_size : List LeafElement → ℕ

@@ -89,13 +89,13 @@ module _ (mark : ℕ) (in_use : ℕ → Type 0) (times : ℕ → ℕ) where
 
 -- what is reported below a page, if all from that page up to the end are lost
 pub record HasFindingsTo (listing : Listing) (from end : ℕ) (findings : List Finding) : Type 0 where
-  pub told : AreFindingsBelow listing.mark (is_in_use listing) (listed_times listing) from findings
+  pub reported : AreFindingsBelow listing.mark (is_in_use listing) (listed_times listing) from findings
   pub run : IsRun listing.mark (is_in_use listing) (listed_times listing) from end
 
 module _ (listing : Listing) where
   -- what is reported of the ids past the table and below the mark, up to place i
   pub record IsPastTo (from i : ℕ) (findings : List Finding) : Type 0 where
-    pub told : AreFindingsBelow listing.mark (is_in_use listing) (listed_times listing) from findings
+    pub reported : AreFindingsBelow listing.mark (is_in_use listing) (listed_times listing) from findings
     pub begins : (before : ℕ) → suc before ≡ from → IsLost listing.mark (is_in_use listing) (listed_times listing) before → ⊥
     pub done : (k : ℕ) → k < i → slice_index listing.past.now k < listing.mark → slice_index listing.past.now k < from
     pub left : (n : ℕ) → from ≤ n → n < listing.mark → ((k : ℕ) → i ≤ k → k < length listing.past.now → slice_index listing.past.now k ≡ n → ⊥)
@@ -103,7 +103,7 @@ module _ (listing : Listing) where
 
   -- what is reported of the ids from the mark on, up to place i
   pub record IsBeyondTo (last i : ℕ) (findings : List Finding) : Type 0 where
-    pub told : AreFindingsBelow listing.mark (is_in_use listing) (listed_times listing) (max listing.mark (suc last)) findings
+    pub reported : AreFindingsBelow listing.mark (is_in_use listing) (listed_times listing) (max listing.mark (suc last)) findings
     pub done : (k : ℕ) → k < i → slice_index listing.past.now k < max listing.mark (suc last)
 
 -- the table, after the freelist's span was claimed in one where none of its pages was

@@ -2,14 +2,14 @@
 use Rattle.std.specs.Prelude.{ℕ, ◌⊎◌, Bool, List, [], ◌∷◌, map, reverse, Option, Some, None, slice_get}
 use Rattle.bolt_check.specs.Nodes.{Entry, Node, Nodes}
 use Rattle.bolt_check.specs.Ways.{PageSpot, Reach, SpanHas, Spot, follow, spot_of, upper_from}
-use Rattle.bolt_check.specs.Stops.{spot_at}
+use Rattle.bolt_check.specs.ShownSpots.{spot_at}
 use Rattle.bolt_check.specs.Private.Tables.{IsClaimed}
 use Rattle.bolt_check.specs.declared.table.PageUse.{PageUse}
-use Rattle.bolt_check.specs.declared.stop.Stop.{Stop}
+use Rattle.bolt_check.specs.declared.spot.Spot.{Spot as CodeSpot}
 
 -- the pending spots, the first to be visited first
-abbrev pub spots_of : List Stop → List Spot
-spots_of stops = map spot_at (reverse stops)
+abbrev pub spots_of : List CodeSpot → List Spot
+spots_of spots = map spot_at (reverse spots)
 
 -- what the ways from these spots lead to
 abbrev pub forest : Nodes → List Spot → Reach

@@ -10,14 +10,14 @@ use Rattle.bolt_format.specs.declared.meta.Meta.{Meta}
 use Rattle.bolt_check.specs.Claims.{claims_file, claims_meta, is_claimed, pages_left}
 use Rattle.bolt_check.specs.Nodes.{Nodes, node_at}
 use Rattle.bolt_check.specs.ShownNodes.{shown_node}
-use Rattle.bolt_check.specs.Stops.{inline_keys, page_spot, spot_at}
+use Rattle.bolt_check.specs.ShownSpots.{inline_keys, page_spot, spot_at}
 use Rattle.bolt_check.specs.Ways.{At_inline, At_page, Spot}
 use Rattle.bolt_check.specs.declared.fault.CheckFault.{CheckFault}
 use Rattle.bolt_check.specs.declared.fault.CheckFault.TheVariants.{Accounts, Memory, Open, Structure}
 use Rattle.bolt_check.specs.declared.claims.Claims.{Claims}
 use Rattle.bolt_check.specs.declared.finding.Finding.{Finding}
-use Rattle.bolt_check.specs.declared.stop.Stop.{Stop}
-use Rattle.bolt_check.specs.declared.stop.Stop.TheVariants as stop
+use Rattle.bolt_check.specs.declared.spot.Spot.{Spot as CodeSpot}
+use Rattle.bolt_check.specs.declared.spot.Spot.TheVariants as spots
 use Rattle.bolt_tree.specs.Entries.{item_of}
 use Rattle.bolt_tree.specs.Listing.{Member}
 use Rattle.bolt_tree.specs.Paths.{Path, path_of}
@@ -26,7 +26,7 @@ use Rattle.bolt_recover.specs.Places.{Place, leaves_of}
 use Rattle.bolt_recover.specs.Private.Runs.{Runs, Task, To_visit, Visited, losses_in, tasks_from}
 use Rattle.bolt_recover.specs.Recovered.{IsRecovered}
 use Rattle.bolt_recover.specs.Refusals.{LosesRoot}
-use Rattle.bolt_tree.specs.Private.Behind.{behind}
+use Rattle.bolt_tree.specs.Private.RestAfter.{rest_after}
 use Rattle.bolt_recover.specs.ShownLosses.{loss_view}
 use Rattle.bolt_recover.specs.declared.open_page.Content.{Content}
 use Rattle.bolt_recover.specs.declared.open_page.Content.TheVariants.{Bucket, Page}
@@ -46,13 +46,13 @@ stay way i = tt
 abbrev pub claims_nodes : Claims → Nodes
 claims_nodes claims = node_at (claims_file claims) (claims_meta claims)
 
--- what a stop leads to
-abbrev pub stop_elements : List ℕ → Meta → Stop → List LeafElement
-stop_elements file meta (stop.Page s) = leaves_of (page_at file meta s.number)
-stop_elements file meta (stop.Bucket s) = shown_inline s.page
+-- what a spot leads to
+abbrev pub spot_elements : List ℕ → Meta → CodeSpot → List LeafElement
+spot_elements file meta (spots.Page s) = leaves_of (page_at file meta s.number)
+spot_elements file meta (spots.Bucket s) = shown_inline s.page
 
-abbrev pub stop_place : List ℕ → Meta → Path → Stop → Place
-stop_place file meta path s = record { spot = spot_at s; path = path; elements = stop_elements file meta s }
+abbrev pub spot_place : List ℕ → Meta → Path → CodeSpot → Place
+spot_place file meta path s = record { spot = spot_at s; path = path; elements = spot_elements file meta s }
 
 -- an open page as a place
 abbrev pub content_spot : Content → Spot
@@ -84,10 +84,10 @@ abbrev pub step_path : Path → Option LeafElement → Path
 step_path path None = path
 step_path path (Some e) = path ++ e.key ∷ []
 
--- what a visit of a stop opens
-pub record IsContent (file : List ℕ) (meta : Meta) (s : Stop) (content : Content) : Type 0 where
+-- what a visit of a spot opens
+pub record IsContent (file : List ℕ) (meta : Meta) (s : CodeSpot) (content : Content) : Type 0 where
   pub spot : content_spot content ≡ spot_at s
-  pub elements : content_elements content ≡ stop_elements file meta s
+  pub elements : content_elements content ≡ spot_elements file meta s
   pub good : IsGoodContent file meta content
 
 -- the steps as data
@@ -113,7 +113,7 @@ state_of steps = record {
 
 -- what was ahead is lost, with this finding
 abbrev pub lost_state : State → Ahead → Finding → State
-lost_state s ahead x = record s { ahead = None; losses = s.losses ++ loss_of (stop_place s.file s.meta (take ahead.level s.path) ahead.stop) x ∷ [] }
+lost_state s ahead x = record s { ahead = None; losses = s.losses ++ loss_of (spot_place s.file s.meta (take ahead.level s.path) ahead.spot) x ∷ [] }
 
 pub record IsGoodPage (file : List ℕ) (meta : Meta) (page : OpenPage) : Type 0 where
   pub content : IsGoodContent file meta page.content
@@ -144,7 +144,7 @@ open_tasks file meta path (page ∷ pages) rest = open_tasks file meta path page
 
 abbrev pub ahead_tasks : List ℕ → Meta → Path → Option Ahead → List (Task NoWay) → List (Task NoWay)
 ahead_tasks file meta path None rest = rest
-ahead_tasks file meta path (Some ahead) rest = To_visit tt (stop_place file meta (take ahead.level path) ahead.stop) ∷ rest
+ahead_tasks file meta path (Some ahead) rest = To_visit tt (spot_place file meta (take ahead.level path) ahead.spot) ∷ rest
 
 abbrev pub state_tasks : State → List (Task NoWay)
 state_tasks s = ahead_tasks s.file s.meta s.path s.ahead (open_tasks s.file s.meta s.path s.pages [])
@@ -202,7 +202,7 @@ Takes old new End = Ends old new
 
 -- what of a listing is left: everything after the path of what was returned last
 abbrev pub left_by : State → List Member → List Member
-left_by s listing = if is_over s then [] else behind s.path listing
+left_by s listing = if is_over s then [] else rest_after s.path listing
 
 -- Good steps over a file under this meta: what is left of them is what is left of the recovered listing, and all losses.
 pub record IsOn (s : State) (under : Meta) : Type 0 where
@@ -235,13 +235,13 @@ element_weight (Bucket s) n = n
 abbrev pub page_weight : OpenPage → ℕ
 page_weight page = 1 + element_weight page.content (page.count - page.next)
 
-abbrev pub stop_weight : Stop → ℕ
-stop_weight (stop.Page s) = 1
-stop_weight (stop.Bucket s) = 65537
+abbrev pub spot_weight : CodeSpot → ℕ
+spot_weight (spots.Page s) = 1
+spot_weight (spots.Bucket s) = 65537
 
 abbrev pub ahead_weight : Option Ahead → ℕ
 ahead_weight None = 0
-ahead_weight (Some ahead) = stop_weight ahead.stop
+ahead_weight (Some ahead) = spot_weight ahead.spot
 
 abbrev pub pages_in : Content → ℕ
 pages_in (Page page s) = 1

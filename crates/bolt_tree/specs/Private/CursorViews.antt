@@ -9,14 +9,14 @@ use Rattle.bolt_tree.specs.Places.{Fresh, Move, Moves, Place}
 use Rattle.bolt_tree.specs.Private.Kept.{AreKept, CursorView}
 use Rattle.bolt_tree.specs.declared.bucket.Bucket.{Bucket}
 use Rattle.bolt_tree.specs.declared.cursor.Cursor.{Cursor}
-use Rattle.bolt_tree.specs.declared.open_cursors.Waiting.{Waiting}
+use Rattle.bolt_tree.specs.declared.open_cursors.WaitingCursor.{WaitingCursor}
 use Rattle.bolt_tree.specs.declared.position.Position.{Position}
 
 abbrev pub cursor_view : Cursor → CursorView
 cursor_view cursor = record { checked = cursor_checked cursor; start = cursor_start cursor; place = cursor_place cursor }
 
 -- without an innermost cursor none waits
-abbrev pub IsInnermost : Checked → List Waiting → Option Cursor → Type 0
+abbrev pub IsInnermost : Checked → List WaitingCursor → Option Cursor → Type 0
 IsInnermost checked waiting None = waiting ≡ []
 IsInnermost checked waiting (Some cursor) = cursor_checked cursor ≡ checked
 
@@ -25,7 +25,7 @@ innermost_views None = []
 innermost_views (Some cursor) = cursor_view cursor ∷ []
 
 -- all are cursors of this file
-abbrev pub AreOfFile : Checked → List Waiting → List Position → Option Cursor → Type 0
+abbrev pub AreOfFile : Checked → List WaitingCursor → List Position → Option Cursor → Type 0
 AreOfFile checked waiting positions innermost = AreKept checked (reverse waiting) positions × IsInnermost checked waiting innermost
 
 -- the last cursor moves in this way, and returns this element

@@ -10,7 +10,7 @@ use Rattle.bolt_tree.specs.Private.Stacks.{HasStack, IsAtRest}
 use Rattle.bolt_tree.specs.Private.Trails.{frames_of}
 use Rattle.bolt_tree.specs.Starts.{start_at}
 use Rattle.bolt_tree.specs.declared.at.At.{At}
-use Rattle.bolt_tree.specs.declared.open_cursors.Waiting.{Waiting}
+use Rattle.bolt_tree.specs.declared.open_cursors.WaitingCursor.{WaitingCursor}
 use Rattle.bolt_tree.specs.declared.position.Position.{Position}
 
 -- a cursor without its counts: its file and bucket, and where it is
@@ -30,11 +30,11 @@ kept_view checked at is_past positions =
     record { checked = checked; start = start_at at; place = place_by is_past (contents_in (bucket_in checked (start_at at))) (frames_of positions) }
 
 -- The cursors that wait, the innermost of them first: the positions of each follow those of the ones around it.
-abbrev pub AreKept : Checked → List Waiting → List Position → Type 0
+abbrev pub AreKept : Checked → List WaitingCursor → List Position → Type 0
 AreKept checked [] positions = Unit {0}
 AreKept checked (w ∷ outer) positions =
     (w.begin ≤ length positions) × IsKept checked w.at w.is_past (drop w.begin positions) × AreKept checked outer (take w.begin positions)
 
-abbrev pub kept_views : Checked → List Waiting → List Position → List CursorView
+abbrev pub kept_views : Checked → List WaitingCursor → List Position → List CursorView
 kept_views checked [] positions = []
 kept_views checked (w ∷ outer) positions = kept_views checked outer (take w.begin positions) ++ kept_view checked w.at w.is_past (drop w.begin positions) ∷ []

@@ -8,19 +8,19 @@ use Rattle.bolt_check.specs.Keys.{Key}
 use Rattle.bolt_check.specs.declared.checked_file.Checked.{Checked}
 use Rattle.bolt_tree.specs.Buckets.{bucket_checked, bucket_start}
 use Rattle.bolt_tree.specs.BucketViews.{entries_of}
-use Rattle.bolt_tree.specs.FileListings.{ForListing, root_of}
+use Rattle.bolt_tree.specs.FileListings.{ForListing, root_start}
 use Rattle.bolt_tree.specs.Entries.{AreEntries, Start, start_of}
 use Rattle.bolt_tree.specs.Listing.{Member, rest_from}
 use Rattle.bolt_tree.specs.Paths.{HasEntries, Names, Path, path_of}
 use Rattle.bolt_tree.specs.Places.{On}
-use Rattle.bolt_tree.specs.Private.Behind.{behind, beyond}
+use Rattle.bolt_tree.specs.Private.RestAfter.{rest_after, beyond}
 use Rattle.bolt_tree.specs.Private.Kept.{CursorView}
 use Rattle.bolt_tree.specs.Private.OpenCursors.{cursors_of}
 use Rattle.bolt_tree.specs.declared.bucket.Bucket.{Bucket}
 use Rattle.bolt_tree.specs.declared.open_buckets.Ahead.{Ahead}
 use Rattle.bolt_tree.specs.declared.open_buckets.Ahead.TheVariants.{Begin, Enter, Give, Leave}
-use Rattle.bolt_tree.specs.declared.open_buckets.Sought.{Sought}
-use Rattle.bolt_tree.specs.declared.open_buckets.Sought.TheVariants.{Here, Inside}
+use Rattle.bolt_tree.specs.declared.open_buckets.PartResult.{PartResult}
+use Rattle.bolt_tree.specs.declared.open_buckets.PartResult.TheVariants.{Here, Inside}
 use Rattle.bolt_tree.specs.declared.open_buckets.OpenBuckets.{OpenBuckets}
 
 abbrev pub open_path : OpenBuckets → Path
@@ -37,26 +37,26 @@ AreOpen checked before [] [] = Unit {0}
 AreOpen checked before [] (key ∷ keys) = ⊥
 AreOpen checked before (cursor ∷ cursors) [] = ⊥
 AreOpen checked before (cursor ∷ cursors) (key ∷ keys) =
-    (cursor.checked ≡ checked) × Names (entries_of checked) (root_of checked) before cursor.start × StandsOn (entries_of checked) cursor key
+    (cursor.checked ≡ checked) × Names (entries_of checked) (root_start checked) before cursor.start × StandsOn (entries_of checked) cursor key
     × AreOpen checked (before ++ key ∷ []) cursors keys
 
 abbrev pub IsInPlace : OpenBuckets → Type 0
-IsInPlace buckets = ∥ HasEntries (entries_of buckets.cursors.checked) (root_of buckets.cursors.checked) × AreOpen buckets.cursors.checked [] (cursors_of buckets.cursors) (open_path buckets) ∥₁
+IsInPlace buckets = ∥ HasEntries (entries_of buckets.cursors.checked) (root_start buckets.cursors.checked) × AreOpen buckets.cursors.checked [] (cursors_of buckets.cursors) (open_path buckets) ∥₁
 
 -- the path leads to this element
 abbrev pub IsAt : OpenBuckets → Leaf → Type 0
 IsAt buckets leaf =
     (IsTrue leaf.is_bucket → IsBucketValue leaf.value.now)
-    × ∥ ((path : Path) × (bucket : Start) × (open_path buckets ≡ path ++ leaf.key.now ∷ []) × Names (entries_of buckets.cursors.checked) (root_of buckets.cursors.checked) path bucket
+    × ∥ ((path : Path) × (bucket : Start) × (open_path buckets ≡ path ++ leaf.key.now ∷ []) × Names (entries_of buckets.cursors.checked) (root_start buckets.cursors.checked) path bucket
     × entries_of buckets.cursors.checked bucket (leaf_view leaf)) ∥₁
 
 -- the path names the bucket of a file that begins there
 abbrev pub IsInside : Checked → Path → Start → Type 0
-IsInside checked path start = ∥ Names (entries_of checked) (root_of checked) path start ∥₁
+IsInside checked path start = ∥ Names (entries_of checked) (root_start checked) path start ∥₁
 
 -- the bucket is one of the same file, and the path names it
 abbrev pub IsNamed : OpenBuckets → Bucket → Type 0
-IsNamed buckets bucket = ∥ (bucket_checked bucket ≡ buckets.cursors.checked) × Names (entries_of buckets.cursors.checked) (root_of buckets.cursors.checked) (open_path buckets) (bucket_start bucket) ∥₁
+IsNamed buckets bucket = ∥ (bucket_checked bucket ≡ buckets.cursors.checked) × Names (entries_of buckets.cursors.checked) (root_start buckets.cursors.checked) (open_path buckets) (bucket_start bucket) ∥₁
 
 -- open buckets from which this may be done next
 abbrev pub IsAhead : OpenBuckets → Ahead → Type 0
@@ -68,17 +68,17 @@ IsAhead buckets Leave = Unit {0}
 -- what is left of a listing: if a bucket is entered, everything after the path; if an element is returned, everything from there; else
 -- everything beyond
 abbrev pub left_by : Ahead → Path → List Member → List Member
-left_by Begin path listing = behind path listing
-left_by (Enter value) path listing = behind path listing
+left_by Begin path listing = rest_after path listing
+left_by (Enter value) path listing = rest_after path listing
 left_by (Give leaf) path listing = rest_from path listing
 left_by Leave path listing = beyond path listing
 
 -- the path of what was returned last
-abbrev pub told_path : Ahead → Path → Path
-told_path Begin path = path
-told_path (Enter value) path = path
-told_path (Give leaf) path = []
-told_path Leave path = path
+abbrev pub reported_path : Ahead → Path → Path
+reported_path Begin path = path
+reported_path (Enter value) path = path
+reported_path (Give leaf) path = []
+reported_path Leave path = path
 
 -- nothing of a path is left
 abbrev pub is_end : Path → Bool
@@ -87,8 +87,8 @@ is_end (key ∷ path) = false
 
 -- One part of a path was searched for, and the path goes on after it or not: it names a bucket, and the path goes on; or the rest from the
 -- path is what is left.
-abbrev pub IsSought : OpenBuckets → OpenBuckets → Key → Bool → Sought → Type 0
-IsSought old new part is_last (Inside bucket) = (open_path new ≡ open_path old ++ part ∷ []) × IsNamed new bucket × (is_last ≡ false)
-IsSought old new part is_last (Here ahead) =
-    IsAhead new ahead × (told_path ahead (open_path new) ≡ [])
+abbrev pub IsPartResult : OpenBuckets → OpenBuckets → Key → Bool → PartResult → Type 0
+IsPartResult old new part is_last (Inside bucket) = (open_path new ≡ open_path old ++ part ∷ []) × IsNamed new bucket × (is_last ≡ false)
+IsPartResult old new part is_last (Here ahead) =
+    IsAhead new ahead × (reported_path ahead (open_path new) ≡ [])
     × ((rest : Path) → is_end rest ≡ is_last → ForListing old.cursors.checked (λ listing. left_by ahead (open_path new) listing ≡ rest_from (open_path old ++ part ∷ rest) listing))

@@ -71,8 +71,8 @@ done_of [] = []
 done_of (frame ∷ below) = done_under frame.content frame.taken
 
 -- the entries that lie behind
-abbrev pub behind_of : Contents → List Frame → List LeafElement
-behind_of contents frames = elements_of (before_of contents frames) ++ done_of frames
+abbrev pub preceding_of : Contents → List Frame → List LeafElement
+preceding_of contents frames = elements_of (before_of contents frames) ++ done_of frames
 
 -- a branch is the page of a way, so deep
 abbrev pub IsGoodContent : BucketView → ℕ → Content → Type 0

@@ -5,7 +5,7 @@ use Rattle.bolt_tree.specs.BucketViews.{BucketView, bucket_in}
 use Rattle.bolt_tree.specs.Private.BucketPages.{IsSoundBucket, contents_in}
 use Rattle.bolt_tree.specs.Pagers.{pager_checked}
 use Rattle.bolt_tree.specs.Private.ShownPages.{opened_content}
-use Rattle.bolt_tree.specs.Private.Stacks.{Frame, HasStack, ahead_of, before_of, behind_of, right_of}
+use Rattle.bolt_tree.specs.Private.Stacks.{Frame, HasStack, ahead_of, before_of, preceding_of, right_of}
 use Rattle.bolt_tree.specs.Starts.{start_at}
 use Rattle.bolt_tree.specs.Private.Tours.{Visit}
 use Rattle.bolt_tree.specs.declared.position.Position.{Position}
@@ -43,8 +43,8 @@ abbrev pub right : Trail → List Visit
 right trail = right_of (contents_in (trail_bucket trail)) (trail_frames trail)
 
 -- the entries that precede the stack's, and the pages to its left
-abbrev pub behind : Trail → List LeafElement
-behind trail = behind_of (contents_in (trail_bucket trail)) (trail_frames trail)
+abbrev pub preceding : Trail → List LeafElement
+preceding trail = preceding_of (contents_in (trail_bucket trail)) (trail_frames trail)
 
 abbrev pub before : Trail → List Visit
 before trail = before_of (contents_in (trail_bucket trail)) (trail_frames trail)

@@ -42,8 +42,8 @@ returns-in-Err-clause-pages g c = λ which listing lists fit0.
     (ends_early wanted g.S.Sink.taken g.S.Sink.failed c.new-pass.result.setup c.args.sink.now c.members.sink [] (HasLeft wanted c.members.pass (g.M.Members.left c.members.members listing)) fault.Memory
     (steps_failed wanted g.S.Sink.taken g.S.Sink.failed c.new-pass.result.setup {B = ⊤} c.args.sink.now c.members.sink [] _ tt steps))
 
-pub end-requires : goal.end-requires
-end-requires g c = c.members.invariant.ready
+pub end_all-requires : goal.end_all-requires
+end_all-requires g c = c.members.invariant.ready
 
 pub returns-in-Ok-None-clause-pages : goal.returns-in-Ok-None-clause-pages
 returns-in-Ok-None-clause-pages g c = λ which listing lists fit0.
@@ -53,24 +53,24 @@ returns-in-Ok-None-clause-pages g c = λ which listing lists fit0.
     let here = (c.members.invariant.same listing).1 lists in
     let none : g.M.Members.left c.members.members listing ≡ [] = (given listing here).0 in
     let steps = c.members.invariant.steps which listing lists fit in
-    subst (λ (b : PageSetup). Ends wanted g.S.Sink.taken g.S.Sink.failed c.args.sink.now c.end.new.sink b [] c.end.result) c.new-pass.ensures.setup
-    (ends_after wanted g.S.Sink.taken g.S.Sink.failed c.new-pass.result.setup c.args.sink.now c.members.sink c.end.new.sink [] (HasLeft wanted c.members.pass (g.M.Members.left c.members.members listing)) tt c.end.result steps
-    (λ all mid. subst (λ (b : PageSetup). Ends wanted g.S.Sink.taken g.S.Sink.failed c.members.sink c.end.new.sink b all c.end.result) c.members.invariant.setup
-    (c.end.ensures wanted all (subst (λ (ms : List Member). HasLeft wanted c.members.pass ms all) none mid))))
+    subst (λ (b : PageSetup). Ends wanted g.S.Sink.taken g.S.Sink.failed c.args.sink.now c.end_all.new.sink b [] c.end_all.result) c.new-pass.ensures.setup
+    (ends_after wanted g.S.Sink.taken g.S.Sink.failed c.new-pass.result.setup c.args.sink.now c.members.sink c.end_all.new.sink [] (HasLeft wanted c.members.pass (g.M.Members.left c.members.members listing)) tt c.end_all.result steps
+    (λ all mid. subst (λ (b : PageSetup). Ends wanted g.S.Sink.taken g.S.Sink.failed c.members.sink c.end_all.new.sink b all c.end_all.result) c.members.invariant.setup
+    (c.end_all.ensures wanted all (subst (λ (ms : List Member). HasLeft wanted c.members.pass ms all) none mid))))
 
-pub take-requires-clause-ready : goal.take-requires-clause-ready
-take-requires-clause-ready g c = c.members.invariant.ready
+pub take_member-requires-clause-ready : goal.take_member-requires-clause-ready
+take_member-requires-clause-ready g c = c.members.invariant.ready
 
-pub take-requires-clause-fit : goal.take-requires-clause-fit
-take-requires-clause-fit g c =
+pub take_member-requires-clause-fit : goal.take_member-requires-clause-fit
+take_member-requires-clause-fit g c =
     let given = rw c.in-Ok-Some.field-0-is at c.in-Ok-Some.ensures.given in
     let path : g.M.Members.last_path c.next.new.self ≡ path_of c.path.result.now = sym c.path.ensures in
     first_fits g.M.Members.lists g.M.Members.left c.args.members.now c.members.members c.next.new.self (path_of c.path.result.now) (item_view c.in-Ok-Some.item)
     c.requires.whole.some c.members.invariant.fit
     (λ listing is. given listing ((c.members.invariant.same listing).1 is) ∙ ap (λ (p : Path). (p, item_view c.in-Ok-Some.item) ∷ g.M.Members.left c.next.new.self listing) path)
 
-pub returns-in-Err-take-clause-pages : goal.returns-in-Err-take-clause-pages
-returns-in-Err-take-clause-pages g c = λ which listing lists fit0.
+pub returns-in-Err-take_member-clause-pages : goal.returns-in-Err-take_member-clause-pages
+returns-in-Err-take_member-clause-pages g c = λ which listing lists fit0.
     let wanted : Wanted = record { which = which; tree = tree_of listing; tells = c.args.tells } in
     let fit = subst (λ (b : PageSetup). FitLimits which (tree_of listing) b.page_size (limits_with c.args.limits.now)) (sym c.new-pass.ensures.setup) fit0 in
     let given = rw c.in-Ok-Some.field-0-is at c.in-Ok-Some.ensures.given in
@@ -78,14 +78,14 @@ returns-in-Err-take-clause-pages g c = λ which listing lists fit0.
     let member : Member = (path_of c.path.result.now, item_view c.in-Ok-Some.item) in
     let next : g.M.Members.left c.members.members listing ≡ member ∷ g.M.Members.left c.next.new.self listing = given listing ((c.members.invariant.same listing).1 lists)
     ∙ ap (λ (p : Path). (p, item_view c.in-Ok-Some.item) ∷ g.M.Members.left c.next.new.self listing) path in
-    let stop : Result ⊤ BulkFault = Err c.in-Err-take.fault in
-    let At : List Placed → Type 0 = HasLeft wanted c.take.new.self (g.M.Members.left c.next.new.self listing) in
+    let stop : Result ⊤ BulkFault = Err c.in-Err-take_member.fault in
+    let At : List Placed → Type 0 = HasLeft wanted c.take_member.new.self (g.M.Members.left c.next.new.self listing) in
     let steps = c.members.invariant.steps which listing lists fit in
-    subst (λ (b : PageSetup). Ends wanted g.S.Sink.taken g.S.Sink.failed c.args.sink.now c.take.new.sink b [] (Err c.in-Err-take.fault)) c.new-pass.ensures.setup
-    (ends_early wanted g.S.Sink.taken g.S.Sink.failed c.new-pass.result.setup c.args.sink.now c.take.new.sink [] At c.in-Err-take.fault
-    (steps_then wanted g.S.Sink.taken g.S.Sink.failed c.new-pass.result.setup c.args.sink.now c.members.sink c.take.new.sink [] (HasLeft wanted c.members.pass (g.M.Members.left c.members.members listing)) At tt stop steps
-    (λ all mid. subst (λ (b : PageSetup). Steps wanted g.S.Sink.taken g.S.Sink.failed c.members.sink c.take.new.sink b all At stop) c.members.invariant.setup
-    (c.in-Err-take.ensures.steps wanted (g.M.Members.left c.next.new.self listing) all (subst (λ (ms : List Member). HasLeft wanted c.members.pass ms all) next mid)))))
+    subst (λ (b : PageSetup). Ends wanted g.S.Sink.taken g.S.Sink.failed c.args.sink.now c.take_member.new.sink b [] (Err c.in-Err-take_member.fault)) c.new-pass.ensures.setup
+    (ends_early wanted g.S.Sink.taken g.S.Sink.failed c.new-pass.result.setup c.args.sink.now c.take_member.new.sink [] At c.in-Err-take_member.fault
+    (steps_then wanted g.S.Sink.taken g.S.Sink.failed c.new-pass.result.setup c.args.sink.now c.members.sink c.take_member.new.sink [] (HasLeft wanted c.members.pass (g.M.Members.left c.members.members listing)) At tt stop steps
+    (λ all mid. subst (λ (b : PageSetup). Steps wanted g.S.Sink.taken g.S.Sink.failed c.members.sink c.take_member.new.sink b all At stop) c.members.invariant.setup
+    (c.in-Err-take_member.ensures.steps wanted (g.M.Members.left c.next.new.self listing) all (subst (λ (ms : List Member). HasLeft wanted c.members.pass ms all) next mid)))))
 
 pub members-smaller : goal.members-smaller
 members-smaller g c = rw c.in-Ok-Some.field-0-is at c.in-Ok-Some.ensures.fewer
@@ -99,14 +99,14 @@ members-preserved g c =
     given listing is ∙ ap (λ (p : Path). (p, item_view c.in-Ok-Some.item) ∷ g.M.Members.left c.next.new.self listing) path in
     let taken : (which : Layout) (listing : List Member) (lists : g.M.Members.lists c.args.members.now listing)
     → FitLimits which (tree_of listing) c.new-pass.result.setup.page_size (limits_with c.args.limits.now)
-    → Steps {A = ⊤} (record { which = which; tree = tree_of listing; tells = c.args.tells }) g.S.Sink.taken g.S.Sink.failed c.args.sink.now c.take.new.sink c.new-pass.result.setup []
-    (HasLeft (record { which = which; tree = tree_of listing; tells = c.args.tells }) c.take.new.self (g.M.Members.left c.next.new.self listing)) (Ok tt) = λ which listing lists fit.
+    → Steps {A = ⊤} (record { which = which; tree = tree_of listing; tells = c.args.tells }) g.S.Sink.taken g.S.Sink.failed c.args.sink.now c.take_member.new.sink c.new-pass.result.setup []
+    (HasLeft (record { which = which; tree = tree_of listing; tells = c.args.tells }) c.take_member.new.self (g.M.Members.left c.next.new.self listing)) (Ok tt) = λ which listing lists fit.
     let wanted : Wanted = record { which = which; tree = tree_of listing; tells = c.args.tells } in
     let well : Result ⊤ BulkFault = Ok tt in
-    let At : List Placed → Type 0 = HasLeft wanted c.take.new.self (g.M.Members.left c.next.new.self listing) in
-    steps_then wanted g.S.Sink.taken g.S.Sink.failed c.new-pass.result.setup c.args.sink.now c.members.sink c.take.new.sink [] (HasLeft wanted c.members.pass (g.M.Members.left c.members.members listing)) At tt well
+    let At : List Placed → Type 0 = HasLeft wanted c.take_member.new.self (g.M.Members.left c.next.new.self listing) in
+    steps_then wanted g.S.Sink.taken g.S.Sink.failed c.new-pass.result.setup c.args.sink.now c.members.sink c.take_member.new.sink [] (HasLeft wanted c.members.pass (g.M.Members.left c.members.members listing)) At tt well
     (c.members.invariant.steps which listing lists fit)
-    (λ all mid. subst (λ (b : PageSetup). Steps wanted g.S.Sink.taken g.S.Sink.failed c.members.sink c.take.new.sink b all At well) c.members.invariant.setup
+    (λ all mid. subst (λ (b : PageSetup). Steps wanted g.S.Sink.taken g.S.Sink.failed c.members.sink c.take_member.new.sink b all At well) c.members.invariant.setup
     (c.in_default.ensures.steps wanted (g.M.Members.left c.next.new.self listing) all (subst (λ (ms : List Member). HasLeft wanted c.members.pass ms all) (next listing ((c.members.invariant.same listing).1 lists)) mid))) in
     record {
       same = λ listing. (

@@ -1,7 +1,7 @@
--- The headers before number i were written, or are in the row.
+-- The headers before number i were written, or are in the buffer.
 use Rattle.bolt_bulk.proofs.BranchPuts.{head_of, key_of}
 use Rattle.bolt_bulk.proofs.ElementPuts.{HeadsPut}
 use Rattle.bolt_bulk.proofs.branch_page.put_headers.Given as goal
 
 abbrev pub invariant-loop-i : goal.invariant-loop-i
-invariant-loop-i g l = HeadsPut head_of key_of g.S.Sink.taken g.S.Sink.failed l.initial.sink l.sink l.row.items l.branches l.i l.pos
+invariant-loop-i g l = HeadsPut head_of key_of g.S.Sink.taken g.S.Sink.failed l.initial.sink l.sink l.headers.buffer.items l.branches l.i l.headers.pos

@@ -16,8 +16,8 @@ use Rattle.bolt_bulk.proofs.branch_runs.climb.Goals as goal
 pub loop-i-init : goal.loop-i-init
 loop-i-init g c = (climb_begins c.args.setup.now.page_size (bucket_limit c.args.limits (length (map row_of c.args.uppers.now.items))) c.args.key.now (branch_view c.args.closed) c.args.next.now (map row_of c.args.uppers.now.items) c.args.sink.now, c.requires.standing, refl, c.requires.closed, c.requires.next)
 
-pub take-requires-clause-standing : goal.take-requires-clause-standing
-take-requires-clause-standing g c = standing_at c.loop-i.uppers.items c.loop-i.i c.index_mut.result.now (let l = c.loop-i.invariant.2 in let h = c.loop-i-test.true in omega arith) c.index_mut.ensures.value c.loop-i.invariant.1
+pub take_page-requires-clause-standing : goal.take_page-requires-clause-standing
+take_page-requires-clause-standing g c = standing_at c.loop-i.uppers.items c.loop-i.i c.index_mut.result.now (let l = c.loop-i.invariant.2 in let h = c.loop-i-test.true in omega arith) c.index_mut.ensures.value c.loop-i.invariant.1
 
 pub returns-in-Err-clause-pages : goal.returns-in-Err-clause-pages
 returns-in-Err-clause-pages g c =
@@ -42,21 +42,21 @@ pub returns-in-Ok-None-clause-rows : goal.returns-in-Ok-None-clause-rows
 returns-in-Ok-None-clause-rows g c =
     let h : c.loop-i.i < length c.loop-i.uppers.items = (let l = c.loop-i.invariant.2 in let t = c.loop-i-test.true in omega arith) in
     let room = room_by c.args.setup.now.page_size c.args.key.now (branch_view c.loop-i.closed) c.loop-i.next (row_of c.index_mut.result.now) _ c.in-Ok-None.field-0-is c.in-Ok-None.ensures.up in
-    let took : row_of c.take.new.self ≡ row_kept c.args.setup.now.page_size (row_push (row_of c.index_mut.result.now) (branch_view c.loop-i.closed)) (key_size c.args.key.now) = c.in-Ok-None.ensures.row ∙ (rw room refl) in
+    let took : row_of c.take_page.new.self ≡ row_kept c.args.setup.now.page_size (row_push (row_of c.index_mut.result.now) (branch_view c.loop-i.closed)) (key_size c.args.key.now) = c.in-Ok-None.ensures.row ∙ (rw room refl) in
     let stays = climb_stays {B = Unit {0}} c.args.setup.now.page_size (bucket_limit c.args.limits (length (map row_of c.args.uppers.now.items))) c.args.key.now _ _ _ _ _ _ (map row_of c.loop-i.uppers.items) c.loop-i.i (branch_view c.loop-i.closed) c.loop-i.next (row_of c.index_mut.result.now) (row_of c.index_mut.result.now) _ tt
     (within_rows c.loop-i.uppers.items c.loop-i.i h) (row_at c.loop-i.uppers.items c.loop-i.i c.index_mut.result.now h c.index_mut.ensures.value) room c.loop-i.invariant.0 c.in-Ok-None.ensures.pages in
-    map-set row_of c.loop-i.uppers.items c.loop-i.i c.take.new.self ∙ (ap (λ (r : BranchRow). set (map row_of c.loop-i.uppers.items) c.loop-i.i r) took ∙ sym stays.0)
+    map-set row_of c.loop-i.uppers.items c.loop-i.i c.take_page.new.self ∙ (ap (λ (r : BranchRow). set (map row_of c.loop-i.uppers.items) c.loop-i.i r) took ∙ sym stays.0)
 
 pub returns-in-Ok-None-clause-standing : goal.returns-in-Ok-None-clause-standing
 returns-in-Ok-None-clause-standing g c =
-    subst (λ (rs : List BranchRow). AllByRecursion IsStanding rs) (sym (map-set row_of c.loop-i.uppers.items c.loop-i.i c.take.new.self))
-    (standing_set (map row_of c.loop-i.uppers.items) c.loop-i.i (row_of c.take.new.self) c.loop-i.invariant.1 c.in-Ok-None.ensures.standing)
+    subst (λ (rs : List BranchRow). AllByRecursion IsStanding rs) (sym (map-set row_of c.loop-i.uppers.items c.loop-i.i c.take_page.new.self))
+    (standing_set (map row_of c.loop-i.uppers.items) c.loop-i.i (row_of c.take_page.new.self) c.loop-i.invariant.1 c.in-Ok-None.ensures.standing)
 
 pub returns-in-Ok-None-clause-next : goal.returns-in-Ok-None-clause-next
 returns-in-Ok-None-clause-next g c =
     let h : c.loop-i.i < length c.loop-i.uppers.items = (let l = c.loop-i.invariant.2 in let t = c.loop-i-test.true in omega arith) in
     let room = room_by c.args.setup.now.page_size c.args.key.now (branch_view c.loop-i.closed) c.loop-i.next (row_of c.index_mut.result.now) _ c.in-Ok-None.field-0-is c.in-Ok-None.ensures.up in
-    let took : c.take.new.next ≡ c.loop-i.next = c.in-Ok-None.ensures.next ∙ (rw room refl) in
+    let took : c.take_page.new.next ≡ c.loop-i.next = c.in-Ok-None.ensures.next ∙ (rw room refl) in
     let stays = climb_stays {B = Unit {0}} c.args.setup.now.page_size (bucket_limit c.args.limits (length (map row_of c.args.uppers.now.items))) c.args.key.now _ _ _ _ _ _ (map row_of c.loop-i.uppers.items) c.loop-i.i (branch_view c.loop-i.closed) c.loop-i.next (row_of c.index_mut.result.now) (row_of c.index_mut.result.now) _ tt
     (within_rows c.loop-i.uppers.items c.loop-i.i h) (row_at c.loop-i.uppers.items c.loop-i.i c.index_mut.result.now h c.index_mut.ensures.value) room c.loop-i.invariant.0 c.in-Ok-None.ensures.pages in
     took ∙ sym stays.1
@@ -68,23 +68,23 @@ loop-i-preserved g c =
     let e = branch_view c.loop-i.closed in
     let two = no_room_by c.args.setup.now.page_size c.args.key.now e c.loop-i.next old _ c.in-Ok-Some.up c.in-Ok-Some.field-0-is c.in-Ok-Some.ensures.up in
     let f = two.0 in
-    let took : row_of c.take.new.self ≡ no_row (one_less old.left) (one_closed old.closed) = c.in-Ok-Some.ensures.row ∙ (rw f refl) in
-    let next : c.take.new.next ≡ c.loop-i.next + (1 + overflow_of c.args.setup.now.page_size (row_push old e).size) = c.in-Ok-Some.ensures.next ∙ (rw f refl) in
-    let rows : map row_of (set c.loop-i.uppers.items c.loop-i.i c.take.new.self) ≡ set (map row_of c.loop-i.uppers.items) c.loop-i.i (no_row (one_less old.left) (one_closed old.closed)) =
-    map-set row_of c.loop-i.uppers.items c.loop-i.i c.take.new.self ∙ ap (λ (r : BranchRow). set (map row_of c.loop-i.uppers.items) c.loop-i.i r) took in
+    let took : row_of c.take_page.new.self ≡ no_row (one_less old.left) (one_closed old.closed) = c.in-Ok-Some.ensures.row ∙ (rw f refl) in
+    let next : c.take_page.new.next ≡ c.loop-i.next + (1 + overflow_of c.args.setup.now.page_size (row_push old e).size) = c.in-Ok-Some.ensures.next ∙ (rw f refl) in
+    let rows : map row_of (set c.loop-i.uppers.items c.loop-i.i c.take_page.new.self) ≡ set (map row_of c.loop-i.uppers.items) c.loop-i.i (no_row (one_less old.left) (one_closed old.closed)) =
+    map-set row_of c.loop-i.uppers.items c.loop-i.i c.take_page.new.self ∙ ap (λ (r : BranchRow). set (map row_of c.loop-i.uppers.items) c.loop-i.i r) took in
     let closes = climb_closes c.args.setup.now.page_size (bucket_limit c.args.limits (length (map row_of c.args.uppers.now.items))) c.args.key.now _ _ _ _ _ _ (map row_of c.loop-i.uppers.items) c.loop-i.i e c.loop-i.next old old _
     (within_rows c.loop-i.uppers.items c.loop-i.i h) (row_at c.loop-i.uppers.items c.loop-i.i c.index_mut.result.now h c.index_mut.ensures.value) f c.loop-i.invariant.0 c.in-Ok-Some.ensures.pages in
     let k = up_key e c.loop-i.next old (standing_at c.loop-i.uppers.items c.loop-i.i c.index_mut.result.now h c.index_mut.ensures.value c.loop-i.invariant.1) c.loop-i.invariant.3 in
     let kk = ap (λ (x : BranchElement). length x.key) two.1 in
-    let C : List BranchRow → BranchElement → ℕ → Type 0 = λ rs x n. Climbing c.args.setup.now.page_size (bucket_limit c.args.limits (length (map row_of c.args.uppers.now.items))) c.args.key.now (branch_view c.args.closed) c.args.next.now (map row_of c.args.uppers.now.items) g.S.Sink.taken g.S.Sink.failed c.args.sink.now c.take.new.sink rs (c.loop-i.i + 1) x n in
-    let one : C (map row_of (set c.loop-i.uppers.items c.loop-i.i c.take.new.self)) (branch_view c.in-Ok-Some.up) c.take.new.next =
-    subst (λ (rs : List BranchRow). C rs (branch_view c.in-Ok-Some.up) c.take.new.next) (sym rows)
-    (subst (λ (x : BranchElement). C (set (map row_of c.loop-i.uppers.items) c.loop-i.i (no_row (one_less old.left) (one_closed old.closed))) x c.take.new.next) (sym two.1)
+    let C : List BranchRow → BranchElement → ℕ → Type 0 = λ rs x n. Climbing c.args.setup.now.page_size (bucket_limit c.args.limits (length (map row_of c.args.uppers.now.items))) c.args.key.now (branch_view c.args.closed) c.args.next.now (map row_of c.args.uppers.now.items) g.S.Sink.taken g.S.Sink.failed c.args.sink.now c.take_page.new.sink rs (c.loop-i.i + 1) x n in
+    let one : C (map row_of (set c.loop-i.uppers.items c.loop-i.i c.take_page.new.self)) (branch_view c.in-Ok-Some.up) c.take_page.new.next =
+    subst (λ (rs : List BranchRow). C rs (branch_view c.in-Ok-Some.up) c.take_page.new.next) (sym rows)
+    (subst (λ (x : BranchElement). C (set (map row_of c.loop-i.uppers.items) c.loop-i.i (no_row (one_less old.left) (one_closed old.closed))) x c.take_page.new.next) (sym two.1)
     (subst (λ (n : ℕ). C (set (map row_of c.loop-i.uppers.items) c.loop-i.i (no_row (one_less old.left) (one_closed old.closed))) (element_up e c.loop-i.next old) n) (sym next) closes)) in (
       one,
-      subst (λ (rs : List BranchRow). AllByRecursion IsStanding rs) (sym (map-set row_of c.loop-i.uppers.items c.loop-i.i c.take.new.self))
-          (standing_set (map row_of c.loop-i.uppers.items) c.loop-i.i (row_of c.take.new.self) c.loop-i.invariant.1 c.in-Ok-Some.ensures.standing),
-      length-set c.loop-i.uppers.items c.loop-i.i c.take.new.self ∙ c.loop-i.invariant.2,
+      subst (λ (rs : List BranchRow). AllByRecursion IsStanding rs) (sym (map-set row_of c.loop-i.uppers.items c.loop-i.i c.take_page.new.self))
+          (standing_set (map row_of c.loop-i.uppers.items) c.loop-i.i (row_of c.take_page.new.self) c.loop-i.invariant.1 c.in-Ok-Some.ensures.standing),
+      length-set c.loop-i.uppers.items c.loop-i.i c.take_page.new.self ∙ c.loop-i.invariant.2,
       (let z = c.loop-i.invariant.3 in omega arith),
       c.in-Ok-Some.ensures.within,
     )

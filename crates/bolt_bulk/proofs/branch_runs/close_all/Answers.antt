@@ -10,8 +10,8 @@ use Rattle.bolt_bulk.proofs.ClimbLemmas.{row_at, standing_at, standing_set, up_k
 use Rattle.bolt_bulk.proofs.CloseLemmas.{Closing, close_large, close_more, close_short, close_stops}
 use Rattle.bolt_bulk.proofs.branch_runs.close_all.Goals as goal
 
-pub end-requires-clause-standing : goal.end-requires-clause-standing
-end-requires-clause-standing g c = standing_at c.loop-i.uppers.items c.loop-i.i c.index_mut.result.now (let l = c.loop-i.invariant.2 in let h = c.loop-i-test.true in omega arith) c.index_mut.ensures.value c.loop-i.invariant.1
+pub take_last_page-requires-clause-standing : goal.take_last_page-requires-clause-standing
+take_last_page-requires-clause-standing g c = standing_at c.loop-i.uppers.items c.loop-i.i c.index_mut.result.now (let l = c.loop-i.invariant.2 in let h = c.loop-i-test.true in omega arith) c.index_mut.ensures.value c.loop-i.invariant.1
 
 pub returns-in-Err-clause-pages : goal.returns-in-Err-clause-pages
 returns-in-Err-clause-pages g c =
@@ -39,15 +39,15 @@ loop-i-preserved g c =
     let h : c.loop-i.i < length c.loop-i.uppers.items = (let l = c.loop-i.invariant.2 in let t = c.loop-i-test.true in omega arith) in
     let row = row_of c.index_mut.result.now in
     let e = branch_view c.loop-i.closed in
-    let more = close_more c.args.setup.now.page_size _ _ _ _ _ _ (map row_of c.loop-i.uppers.items) c.loop-i.i e c.loop-i.next row row (row_of c.end.new.self) _ (branch_view c.in-Ok.up) c.end.new.next
+    let more = close_more c.args.setup.now.page_size _ _ _ _ _ _ (map row_of c.loop-i.uppers.items) c.loop-i.i e c.loop-i.next row row (row_of c.take_last_page.new.self) _ (branch_view c.in-Ok.up) c.take_last_page.new.next
     (within_rows c.loop-i.uppers.items c.loop-i.i h) (row_at c.loop-i.uppers.items c.loop-i.i c.index_mut.result.now h c.index_mut.ensures.value) c.in-Ok.ensures.up c.in-Ok.ensures.next c.loop-i.invariant.0 c.in-Ok.ensures.pages in
     let k = up_key e c.loop-i.next row (standing_at c.loop-i.uppers.items c.loop-i.i c.index_mut.result.now h c.index_mut.ensures.value c.loop-i.invariant.1) c.loop-i.invariant.3 in
     let kk = ap (λ (x : BranchElement). length x.key) c.in-Ok.ensures.up in
-    let rows = sym (map-set row_of c.loop-i.uppers.items c.loop-i.i c.end.new.self) in (
-      subst (λ (rs : List BranchRow). Closing c.args.setup.now.page_size (branch_view c.args.closed) c.args.next.now (map row_of c.args.uppers.now.items) g.S.Sink.taken g.S.Sink.failed c.args.sink.now c.end.new.sink rs (c.loop-i.i + 1) (branch_view c.in-Ok.up) c.end.new.next) rows more,
+    let rows = sym (map-set row_of c.loop-i.uppers.items c.loop-i.i c.take_last_page.new.self) in (
+      subst (λ (rs : List BranchRow). Closing c.args.setup.now.page_size (branch_view c.args.closed) c.args.next.now (map row_of c.args.uppers.now.items) g.S.Sink.taken g.S.Sink.failed c.args.sink.now c.take_last_page.new.sink rs (c.loop-i.i + 1) (branch_view c.in-Ok.up) c.take_last_page.new.next) rows more,
       subst (λ (rs : List BranchRow). AllByRecursion IsStanding rs) rows
-          (standing_set (map row_of c.loop-i.uppers.items) c.loop-i.i (row_of c.end.new.self) c.loop-i.invariant.1 c.in-Ok.ensures.standing),
-      length-set c.loop-i.uppers.items c.loop-i.i c.end.new.self ∙ c.loop-i.invariant.2,
+          (standing_set (map row_of c.loop-i.uppers.items) c.loop-i.i (row_of c.take_last_page.new.self) c.loop-i.invariant.1 c.in-Ok.ensures.standing),
+      length-set c.loop-i.uppers.items c.loop-i.i c.take_last_page.new.self ∙ c.loop-i.invariant.2,
       (let z = c.loop-i.invariant.3 in omega arith),
       c.in-Ok.ensures.within,
     )

@@ -11,7 +11,7 @@ use Rattle.bolt_bulk.proofs.CopyLemmas.{copied, layout_parts, stops_first, stops
 use Rattle.bolt_bulk.specs.Private.Passes.{FitLimits, limits_with}
 use Rattle.bolt_bulk.specs.Private.Stops.{stopped_by}
 use Rattle.bolt_bulk.proofs.FileLayouts.{some_bytes, too_large, within_limit}
-use Rattle.bolt_layout.proofs.MetaLemmas.{size_bounds}
+use Rattle.bolt_format.proofs.PageSizes.{size_bounds}
 use Rattle.bolt_bulk.proofs.members_copy.put_members.Goals as goal
 
 pub returns-in_err-limits-clause-copied : goal.returns-in_err-limits-clause-copied

@@ -1,10 +1,10 @@
 use Rattle.std.proofs.Common.{◌≡◌, arith, length}
 use Rattle.bolt_format.specs.ShownIds.{shown_ids}
-use Rattle.bolt_check.proofs.SettledLemmas.{listing_told, settled}
+use Rattle.bolt_check.proofs.SettledLemmas.{listing_reported, settled}
 use Rattle.bolt_check.proofs.accounts.test_ids.Goals as goal
 
-pub tell_listing-requires : goal.tell_listing-requires
-tell_listing-requires c =
+pub report_listing-requires : goal.report_listing-requires
+report_listing-requires c =
     let long : length c.list_ids.new.table ≡ length c.args.table.now = omega arith in
     settled c.args.table.now (shown_ids c.args.ids) c.in_ok-past.past.items c.sort_unstable.new.self.items _ long c.in_ok-past.ensures.used c.in_ok-past.ensures.past
     c.sort_unstable.ensures.permutation c.deref.ensures.value c.sort_unstable.ensures.sorted c.requires.metas c.requires.below
@@ -12,8 +12,8 @@ tell_listing-requires c =
 pub returns : goal.returns
 returns c =
     let long : length c.list_ids.new.table ≡ length c.args.table.now = omega arith in
-    listing_told c.args.table.now (shown_ids c.args.ids) c.in_ok-past.past.items c.sort_unstable.new.self.items _ long c.in_ok-past.ensures.used c.in_ok-past.ensures.past
+    listing_reported c.args.table.now (shown_ids c.args.ids) c.in_ok-past.past.items c.sort_unstable.new.self.items _ long c.in_ok-past.ensures.used c.in_ok-past.ensures.past
     c.sort_unstable.ensures.permutation c.deref.ensures.value
     (settled c.args.table.now (shown_ids c.args.ids) c.in_ok-past.past.items c.sort_unstable.new.self.items _ long c.in_ok-past.ensures.used c.in_ok-past.ensures.past
     c.sort_unstable.ensures.permutation c.deref.ensures.value c.sort_unstable.ensures.sorted c.requires.metas c.requires.below)
-    c.in_ok-past.ensures.times c.tell_listing.result c.tell_listing.ensures
+    c.in_ok-past.ensures.times c.report_listing.result c.report_listing.ensures

@@ -1,7 +1,7 @@
 use Rattle.std.proofs.Common.{◌≡◌, None, drop}
 use Rattle.bolt_check.specs.Findings.{keys_of}
 use Rattle.bolt_check.specs.Keys.{keys_order_fault}
-use Rattle.bolt_check.specs.Stops.{bound_of}
+use Rattle.bolt_check.specs.ShownSpots.{bound_of}
 use Rattle.bolt_check.specs.ShownNodes.{shown_node}
 use Rattle.bolt_check.proofs.keys.test_keys.Given as goal
 

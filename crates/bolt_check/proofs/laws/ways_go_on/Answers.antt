@@ -3,13 +3,13 @@ use Rattle.std.proofs.lemmas.Bool.{ne_eqb}
 use Rattle.bolt_format.specs.Elements.{head_root}
 use Rattle.bolt_format.specs.declared.kind.Kind.TheVariants as kind
 use Rattle.bolt_check.specs.OnWays.{IsOnWay}
-use Rattle.bolt_check.specs.Ways.{start_of}
+use Rattle.bolt_check.specs.Ways.{root_spot}
 use Rattle.bolt_check.proofs.TreePages.{node_is, on_bucket, on_child}
 use Rattle.bolt_check.proofs.laws.ways_go_on.Goals as goal
 
 pub returns : goal.returns
 returns c = record {
-  root = λ file meta. record { way = []; spot = start_of meta.root; led = refl; is = refl; deep = refl };
+  root = λ file meta. record { way = []; spot = root_spot meta.root; led = refl; is = refl; deep = refl };
   child = λ file meta n depth i view e on at is g.
       let next : suc depth ≡ depth + 1 = omega arith in
       subst (λ (d : ℕ). IsOnWay file meta e.child d) next (on_child file meta n depth i view e on (node_is file meta n view kind.Branch at is) g);

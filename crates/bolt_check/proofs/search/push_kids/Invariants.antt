@@ -1,6 +1,6 @@
 use Rattle.std.proofs.Common.{◌≡◌, ◌≤◌, ◌+◌, ◌++◌, length, vec_len}
 use Rattle.bolt_check.specs.Private.Pending.{spots_of}
-use Rattle.bolt_check.specs.Stops.{page_spot}
+use Rattle.bolt_check.specs.ShownSpots.{page_spot}
 use Rattle.bolt_check.specs.ShownNodes.{shown_node}
 use Rattle.bolt_check.proofs.Pendings.{kids_from}
 use Rattle.bolt_check.proofs.search.push_kids.Given as goal
@@ -9,7 +9,7 @@ use Rattle.bolt_check.proofs.search.push_kids.Given as goal
 abbrev pub invariant-loop-i : goal.invariant-loop-i
 invariant-loop-i l = record {
   within : l.i ≤ length (shown_node l.node).entries;
-  pushed : spots_of l.pending.items ≡ kids_from (shown_node l.node) (page_spot l.stop) l.i ++ spots_of l.fn.pending.items;
+  pushed : spots_of l.pending.items ≡ kids_from (shown_node l.node) (page_spot l.spot) l.i ++ spots_of l.fn.pending.items;
   few : vec_len l.pending + l.i ≤ vec_len l.fn.pending + length (shown_node l.node).entries;
 }
 

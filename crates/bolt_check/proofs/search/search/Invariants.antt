@@ -10,9 +10,9 @@ use Rattle.bolt_check.specs.Ways.{reached}
 use Rattle.bolt_check.specs.declared.table.PageUse.{PageUse}
 use Rattle.bolt_check.proofs.search.search.Given as goal
 
--- what holds of the stops that are left holds of the whole
-abbrev pub invariant-loop-stop : goal.invariant-loop-stop
-invariant-loop-stop l = record {
+-- what holds of the spots that are left holds of the whole
+abbrev pub invariant-loop-spot : goal.invariant-loop-spot
+invariant-loop-spot l = record {
   room : HasRoom l.file l.meta l.table.items;
   unlisted : IsUnlisted l.table.items;
   long : length l.table.items ≡ table_length l.file l.meta;
@@ -27,5 +27,5 @@ invariant-loop-stop l = record {
 }
 
 -- each visit of a page claims, and no page leads to as many as that; an inline bucket leads to none
-abbrev pub decreases-loop-stop : goal.decreases-loop-stop
-decreases-loop-stop l = unclaimed l.table.items * 65536 + vec_len l.pending
+abbrev pub decreases-loop-spot : goal.decreases-loop-spot
+decreases-loop-spot l = unclaimed l.table.items * 65536 + vec_len l.pending

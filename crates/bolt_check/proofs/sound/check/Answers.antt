@@ -10,13 +10,13 @@ use Rattle.bolt_check.proofs.sound.check.Goals as goal
 pub test_accounts-requires-clause-below : goal.test_accounts-requires-clause-below
 test_accounts-requires-clause-below c =
     let same : length c.deref_mut.result.now ≡ length c.in_ok-table.table.items = ap length c.deref_mut.ensures.value in
-    omega (arith, same, c.in_ok-table.ensures.length, mark_above c.args.file.now c.in-Ok.meta c.in_ok-table.ensures.clean)
+    omega (arith, same, c.in_ok-table.ensures.length, mark_above c.args.file.now c.in_ok-meta.meta c.in_ok-table.ensures.clean)
 
 pub invariant_of-result : goal.invariant_of-result
 invariant_of-result c =
     let right = rw c.deref_mut.ensures.value at c.in_ok-findings.ensures.right in
     let empty = no_items c.in_ok-findings.findings.items (grind (arith, common_steps, c.is_empty.ensures, c.if-not-is_empty.false)) in
-    record { sound = merely (sound_of c.args.file.now c.in-Ok.field-0-0 c.in-Ok.meta c.in_ok-table.table.items c.in-Ok.ensures.chosen c.in_ok-table.ensures.clean c.in_ok-table.ensures.covered (right empty)) }
+    record { sound = merely (sound_of c.args.file.now c.in_ok-meta.field-0-0 c.in_ok-meta.meta c.in_ok-table.table.items c.in_ok-meta.ensures.chosen c.in_ok-table.ensures.clean c.in_ok-table.ensures.covered (right empty)) }
 
 pub returns-clause-bytes : goal.returns-clause-bytes
 unfolding bytes_of
@@ -24,14 +24,14 @@ returns-clause-bytes c = refl
 
 pub returns-clause-meta : goal.returns-clause-meta
 unfolding meta_of
-returns-clause-meta c = (c.in-Ok.field-0-0, c.in-Ok.ensures.chosen)
+returns-clause-meta c = (c.in_ok-meta.field-0-0, c.in_ok-meta.ensures.chosen)
 
 pub returns-clause-sound : goal.returns-clause-sound
 unfolding meta_of
 returns-clause-sound c =
     let right = rw c.deref_mut.ensures.value at c.in_ok-findings.ensures.right in
     let empty = no_items c.in_ok-findings.findings.items (grind (arith, common_steps, c.is_empty.ensures, c.if-not-is_empty.false)) in
-    sound_of c.args.file.now c.in-Ok.field-0-0 c.in-Ok.meta c.in_ok-table.table.items c.in-Ok.ensures.chosen c.in_ok-table.ensures.clean c.in_ok-table.ensures.covered (right empty)
+    sound_of c.args.file.now c.in_ok-meta.field-0-0 c.in_ok-meta.meta c.in_ok-table.table.items c.in_ok-meta.ensures.chosen c.in_ok-table.ensures.clean c.in_ok-table.ensures.covered (right empty)
 
 pub returns-clause-accounts : goal.returns-clause-accounts
 unfolding has_accounts
@@ -40,13 +40,13 @@ returns-clause-accounts c = refl
 pub returns-then-not-is_empty-clause-refused : goal.returns-then-not-is_empty-clause-refused
 returns-then-not-is_empty-clause-refused c =
     let wrong = rw c.deref_mut.ensures.value at c.in_ok-findings.ensures.wrong in
-    let told = rw c.deref_mut.ensures.value at c.in_ok-findings.ensures.told in
+    let reported = rw c.deref_mut.ensures.value at c.in_ok-findings.ensures.reported in
     let some : c.in_ok-findings.findings.items ≢ [] = some_items c.in_ok-findings.findings.items c.in_ok-findings.findings.len (grind (arith, common_steps)) (sym c.is_empty.ensures ∙ c.if-not-is_empty.true) in (
-      c.in-Ok.field-0-0,
-      c.in-Ok.meta,
-      c.in-Ok.ensures.chosen,
-      shape_of (node_at c.args.file.now c.in-Ok.meta) c.in-Ok.meta.root c.in_ok-table.ensures.clean,
-      wrong_of c.args.file.now c.in-Ok.meta c.in_ok-table.table.items c.in_ok-table.ensures.covered (wrong some),
-      findings_of_file c.args.file.now c.in-Ok.meta c.in_ok-table.table.items c.in_ok-findings.findings.items c.in_ok-table.ensures.covered (told some),
+      c.in_ok-meta.field-0-0,
+      c.in_ok-meta.meta,
+      c.in_ok-meta.ensures.chosen,
+      shape_of (node_at c.args.file.now c.in_ok-meta.meta) c.in_ok-meta.meta.root c.in_ok-table.ensures.clean,
+      wrong_of c.args.file.now c.in_ok-meta.meta c.in_ok-table.table.items c.in_ok-table.ensures.covered (wrong some),
+      findings_of_file c.args.file.now c.in_ok-meta.meta c.in_ok-table.table.items c.in_ok-findings.findings.items c.in_ok-table.ensures.covered (reported some),
       some,
     )

@@ -10,8 +10,8 @@ pub invariant_of-result : goal.invariant_of-result
 invariant_of-result c = record {
   sound = merely (record {
     slot = c.args.slot;
-    valid = c.in-Ok.ensures.valid;
-    trees = shape_of (node_at c.args.file.now c.in-Ok.meta) c.in-Ok.meta.root c.in_ok-search.ensures.clean;
+    valid = c.in_ok-meta.ensures.valid;
+    trees = shape_of (node_at c.args.file.now c.in_ok-meta.meta) c.in_ok-meta.meta.root c.in_ok-search.ensures.clean;
     right = λ tested. absurd (false≢true tested);
   });
 }
@@ -22,11 +22,11 @@ returns-clause-bytes c = refl
 
 pub returns-clause-meta : goal.returns-clause-meta
 unfolding meta_of
-returns-clause-meta c = c.in-Ok.ensures.valid
+returns-clause-meta c = c.in_ok-meta.ensures.valid
 
 pub returns-clause-trees : goal.returns-clause-trees
 unfolding meta_of
-returns-clause-trees c = shape_of (node_at c.args.file.now c.in-Ok.meta) c.in-Ok.meta.root c.in_ok-search.ensures.clean
+returns-clause-trees c = shape_of (node_at c.args.file.now c.in_ok-meta.meta) c.in_ok-meta.meta.root c.in_ok-search.ensures.clean
 
 pub returns-clause-accounts : goal.returns-clause-accounts
 unfolding has_accounts

@@ -1,36 +1,29 @@
-use Rattle.std.proofs.Common.{inr, refl}
 use Rattle.bolt_report.specs.KeyLines.{buckets_text}
 use Rattle.bolt_cli.specs.Answers.{refused}
 use Rattle.bolt_cli.specs.PlainWords.{path_in}
-use Rattle.bolt_cli.proofs.Doing.{Does-nothing}
+use Rattle.bolt_cli.proofs.Doing.{Does-refused}
 use Rattle.bolt_cli.proofs.EntryAnswers.{entries_missing, entries_stopped, entries_whole}
 use Rattle.bolt_cli.proofs.buckets_command.print_names.Goals as goal
 
 pub returns-in_err-checked : goal.returns-in_err-checked
-returns-in_err-checked g c =
-    let failure = c.in_err-checked.field-0.0 in
-    let (fault, is, told) = c.in_err-checked.ensures.refused in (
-      refused failure,
-      inr (fault, is, (failure, told, refl)),
-      Does-nothing g.O.Sink.taken g.O.Sink.failed c.args.out.now failure _ c.from_residual.ensures.1,
-    )
+returns-in_err-checked g c = Does-refused g.O.Sink.taken g.O.Sink.failed c.args.out.now _ _ c.in_err-checked.ensures.refused c.from_residual.ensures.1
 
 pub returns-in_err-bucket : goal.returns-in_err-bucket
 returns-in_err-bucket g c =
     let opened = c.in_ok-checked.ensures in
-    entries_missing c.args.file.now c.args.slot (path_in c.args.path.now) c.args.form (buckets_text c.args.form) c.in_ok-checked.checked opened.bytes opened.sound
+    entries_missing c.args.file.now c.args.slot (path_in c.args.wanted.now.path.now) c.args.wanted.now.form (buckets_text c.args.wanted.now.form) c.in_ok-checked.checked opened.bytes opened.sound
     g.O.Sink.taken g.O.Sink.failed c.args.out.now c.in_err-bucket.field-0.0 _ c.in_err-bucket.ensures.refused c.from_residual-in_err-bucket.ensures.1
 
 pub returns-in_err-buckets : goal.returns-in_err-buckets
 returns-in_err-buckets g c =
     let opened = c.in_ok-checked.ensures in
     let found = c.in_ok-bucket.ensures in
-    entries_stopped c.args.file.now c.args.slot (path_in c.args.path.now) c.args.form (buckets_text c.args.form) c.in_ok-checked.checked opened.bytes opened.sound
+    entries_stopped c.args.file.now c.args.slot (path_in c.args.wanted.now.path.now) c.args.wanted.now.form (buckets_text c.args.wanted.now.form) c.in_ok-checked.checked opened.bytes opened.sound
     c.in_ok-bucket.bucket found.file found.named c.args.out.now c.buckets.new.sink _ _ c.in_err-buckets.ensures.written c.in_err-buckets.ensures.fault c.in_err-buckets.ensures.memory c.from_residual-in_err-buckets.ensures.1
 
 pub returns : goal.returns
 returns g c =
     let opened = c.in_ok-checked.ensures in
     let found = c.in_ok-bucket.ensures in
-    entries_whole c.args.file.now c.args.slot (path_in c.args.path.now) c.args.form (buckets_text c.args.form) c.in_ok-checked.checked opened.bytes opened.sound
+    entries_whole c.args.file.now c.args.slot (path_in c.args.wanted.now.path.now) c.args.wanted.now.form (buckets_text c.args.wanted.now.form) c.in_ok-checked.checked opened.bytes opened.sound
     c.in_ok-bucket.bucket found.file found.named c.args.out.now c.buckets.new.sink _ c.in_ok-buckets.ensures.written

@@ -1,4 +1,4 @@
--- The two lengths, one behind the other.
+-- The two lengths, one after the other.
 use Rattle.std.proofs.Common.{◌++◌, List, ℕ, codes}
 use Rattle.std.specs.Prelude.{decimal}
 use Rattle.bolt_format.proofs.WriteLemmas.{Writes-stop, Writes-then}
@@ -7,11 +7,11 @@ use Rattle.bolt_cli.proofs.compact_command.put_lengths.Goals as goal
 abbrev before : ℕ → List ℕ
 before source = decimal source ++ codes " -> "
 
-abbrev behind : ℕ → List ℕ
-behind copy = decimal copy ++ codes " bytes\n"
+abbrev rest : ℕ → List ℕ
+rest copy = decimal copy ++ codes " bytes\n"
 
 pub returns-in_err-put_number : goal.returns-in_err-put_number
-returns-in_err-put_number g c = Writes-stop _ _ (before c.args.source) (behind c.args.copy) _ _ c.in_err-put_number.ensures c.from_residual.ensures.0
+returns-in_err-put_number g c = Writes-stop _ _ (before c.args.source) (rest c.args.copy) _ _ c.in_err-put_number.ensures c.from_residual.ensures.0
 
 pub returns : goal.returns
-returns g c = Writes-then _ _ _ (before c.args.source) (behind c.args.copy) _ _ c.in_ok-put_number.ensures c.put_number-2.ensures
+returns g c = Writes-then _ _ _ (before c.args.source) (rest c.args.copy) _ _ c.in_ok-put_number.ensures c.put_number-2.ensures

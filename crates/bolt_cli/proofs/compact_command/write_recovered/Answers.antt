@@ -10,7 +10,7 @@ use Rattle.bolt_report.specs.LossLines.{losses_text}
 use Rattle.bolt_report.specs.declared.fault.ReportFault.{ReportFault}
 use Rattle.bolt_cli.specs.Answers.{copy_page_size, lengths_line}
 use Rattle.bolt_cli.specs.Failures.{reported}
-use Rattle.bolt_cli.proofs.CopyAnswers.{lost_are, rest_stopped, rest_untold, rest_whole}
+use Rattle.bolt_cli.proofs.CopyAnswers.{lost_are, rest_stopped, rest_unreported, rest_whole}
 use Rattle.bolt_cli.proofs.Doing.{Writes-reported}
 use Rattle.bolt_cli.proofs.SnapshotCopies.{IsBegun, stops_in_hash, stops_in_layout, whole_copy}
 use Rattle.bolt_cli.proofs.compact_command.write_recovered.Goals as goal
@@ -56,8 +56,8 @@ returns-in_err-losses_text g c =
     let e = c.in_err-losses_text.field-0.0 in
     let stop : Result (Unit {0}) ReportFault = Err e in
     let put = Writes-reported _ _ _ (Err e) c.in_err-losses_text.ensures.written c.in_err-losses_text.ensures.fault in
-    let reason = subst (λ (fault : ReportFault). IsErrAnd c.from_residual-in_err-losses_text.result (λ told. told ≡ reported fault)) c.in_err-losses_text.ensures.fault c.from_residual-in_err-losses_text.ensures.1 in
-    rest_untold c.args.file.now c.args.slot c.args.wanted.now.page_size c.args.wanted.now.layout c.args.wanted.now.snapshot meta c.in_ok-recovery.ensures.meta (recovery_file r) c.in_ok-recovery.ensures.file
+    let reason = subst (λ (fault : ReportFault). IsErrAnd c.from_residual-in_err-losses_text.result (λ said. said ≡ reported fault)) c.in_err-losses_text.ensures.fault c.from_residual-in_err-losses_text.ensures.1 in
+    rest_unreported c.args.file.now c.args.slot c.args.wanted.now.page_size c.args.wanted.now.layout c.args.wanted.now.snapshot meta c.in_ok-recovery.ensures.meta (recovery_file r) c.in_ok-recovery.ensures.file
     g.T.Sink.taken g.T.Sink.failed c.args.target.now c.end_copy.new.target _ size
     g.O.Sink.taken g.O.Sink.failed c.args.out.now views c.in_ok-length.length c.losses_text.new.sink e _ own whole c.in_ok-copy.ensures.accepted
     (Writes-stop _ _ (losses_text views) line e stop put refl) reason
@@ -76,7 +76,7 @@ returns-in_err-put_lengths g c =
     (recovery_losses c.compact_recovered.new.recovery) losses c.losses-losses.ensures.losses c.in_ok-copy.ensures.losses in
     let line = lengths_line (length c.args.file.now) c.in_ok-length.length in
     let put = Writes-reported _ _ _ (Ok c.in_ok-losses_text.field-0) c.in_ok-losses_text.ensures.written tt in
-    rest_untold c.args.file.now c.args.slot c.args.wanted.now.page_size c.args.wanted.now.layout c.args.wanted.now.snapshot meta c.in_ok-recovery.ensures.meta (recovery_file r) c.in_ok-recovery.ensures.file
+    rest_unreported c.args.file.now c.args.slot c.args.wanted.now.page_size c.args.wanted.now.layout c.args.wanted.now.snapshot meta c.in_ok-recovery.ensures.meta (recovery_file r) c.in_ok-recovery.ensures.file
     g.T.Sink.taken g.T.Sink.failed c.args.target.now c.end_copy.new.target _ size
     g.O.Sink.taken g.O.Sink.failed c.args.out.now views c.in_ok-length.length c.put_lengths.new.out _ _ own whole c.in_ok-copy.ensures.accepted
     (Writes-then _ _ _ (losses_text views) line _ _ put c.in_err-put_lengths.ensures) c.from_residual-in_err-put_lengths.ensures.1

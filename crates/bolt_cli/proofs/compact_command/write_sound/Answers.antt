@@ -1,11 +1,11 @@
--- The copy is whole and its line is told, or it is whole and the line isn't, or it isn't whole.
+-- The copy is whole and its line is written, or it is whole and the line isn't, or it isn't whole.
 use Rattle.std.proofs.Common.{◌∙◌, List, ap, subst, sym}
 use Rattle.bolt_format.specs.Metas.{IsPageSize}
 use Rattle.bolt_format.specs.declared.meta.Meta.{Meta}
 use Rattle.bolt_check.specs.CheckedFiles.{bytes_of, meta_of}
 use Rattle.bolt_tree.specs.Listing.{IsListing, Member}
 use Rattle.bolt_cli.specs.Answers.{copy_page_size}
-use Rattle.bolt_cli.proofs.CopyAnswers.{copy_stopped, copy_untold, copy_whole}
+use Rattle.bolt_cli.proofs.CopyAnswers.{copy_stopped, copy_unreported, copy_whole}
 use Rattle.bolt_cli.proofs.ReadFiles.{checked_page_size}
 use Rattle.bolt_cli.proofs.SnapshotCopies.{IsBegun, stops_in_hash, stops_in_layout, whole_copy}
 use Rattle.bolt_cli.proofs.compact_command.write_sound.Goals as goal
@@ -47,7 +47,7 @@ returns-in_err-put_lengths g c =
     let late = c.compact_as.new.sink in
     let whole = λ (listing : List Member) (is : IsListing (bytes_of c.in_ok-checked.checked) (meta_of c.in_ok-checked.checked) listing). whole_copy g.T.Sink.taken g.T.Sink.failed old mid begun wanted.snapshot _ late c.in_ok-copy.copy (c.in_ok-copy.ensures.copied listing is)
     c.end_copy.new.target c.in_ok-length.length c.in_ok-length.ensures.whole c.in_ok-length.ensures.sound c.in_ok-length.ensures.length in
-    copy_untold c.args.file.now c.args.slot wanted.page_size wanted.layout wanted.snapshot c.in_ok-checked.checked c.in_ok-checked.ensures.bytes c.in_ok-checked.ensures.sound
+    copy_unreported c.args.file.now c.args.slot wanted.page_size wanted.layout wanted.snapshot c.in_ok-checked.checked c.in_ok-checked.ensures.bytes c.in_ok-checked.ensures.sound
     g.T.Sink.taken g.T.Sink.failed old c.end_copy.new.target _ (c.size_of_copy-size.ensures.size ∙ ap (copy_page_size wanted.page_size) c.meta.ensures)
     g.O.Sink.taken g.O.Sink.failed c.args.out.now c.in_ok-length.length c.put_lengths.new.out _ _ whole c.in_ok-copy.ensures.accepted c.in_err-put_lengths.ensures
     c.from_residual-in_err-put_lengths.ensures.1

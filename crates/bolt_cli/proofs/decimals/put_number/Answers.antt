@@ -1,4 +1,4 @@
--- The number's digits, and the words behind them.
+-- The number's digits, and the words after them.
 use Rattle.std.specs.Prelude.{decimal}
 use Rattle.bolt_format.proofs.WriteLemmas.{Writes-stop, Writes-then}
 use Rattle.bolt_cli.proofs.decimals.put_number.Goals as goal

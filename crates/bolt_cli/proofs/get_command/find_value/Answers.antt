@@ -3,7 +3,7 @@ use Rattle.bolt_check.specs.Keys.{Key}
 use Rattle.bolt_tree.specs.Buckets.{bucket_checked, bucket_start}
 use Rattle.bolt_tree.specs.BucketViews.{entries_of}
 use Rattle.bolt_tree.specs.Lookups.{IsValueAt}
-use Rattle.bolt_cli.proofs.AtPaths.{none_at, none_at_root, reason_told, value_at}
+use Rattle.bolt_cli.proofs.AtPaths.{none_at, none_at_root, reason_named, value_at}
 use Rattle.bolt_cli.proofs.get_command.find_value.Goals as goal
 
 pub returns-in_default-clause-refused : goal.returns-in_default-clause-refused
@@ -12,7 +12,7 @@ returns-in_default-clause-refused c = none_at_root c.args.checked c.args.path.no
 pub returns-in_err-bucket-clause-refused : goal.returns-in_err-bucket-clause-refused
 returns-in_err-bucket-clause-refused c =
     let key = c.in-Some.key.now in
-    reason_told c.args.checked c.args.path.now c.in-Some.parents.now key c.in-Some.ensures.cases.0 _ c.from_residual.result c.in_err-bucket.ensures.refused c.from_residual.ensures.1
+    reason_named c.args.checked c.args.path.now c.in-Some.parents.now key c.in-Some.ensures.cases.0 _ c.from_residual.result c.in_err-bucket.ensures.refused c.from_residual.ensures.1
 
 pub returns-in-Some-get-clause-held : goal.returns-in-Some-get-clause-held
 returns-in-Some-get-clause-held c =

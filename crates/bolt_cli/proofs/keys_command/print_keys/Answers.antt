@@ -1,7 +1,6 @@
-use Rattle.std.proofs.Common.{List, Err, Ok, inr, refl, subst₂}
+use Rattle.std.proofs.Common.{Err, Ok, subst₂}
 use Rattle.std.specs.Prelude.{⊤}
 use Rattle.bolt_check.specs.declared.checked_file.Checked.{Checked}
-use Rattle.bolt_format.specs.Elements.{LeafElement}
 use Rattle.bolt_report.specs.KeyLines.{keys_text}
 use Rattle.bolt_report.specs.KeyPrefixes.{beginning}
 use Rattle.bolt_report.specs.Reports.{Reports}
@@ -9,32 +8,26 @@ use Rattle.bolt_tree.specs.Entries.{Start}
 use Rattle.bolt_tree.specs.EntriesLeft.{ForEntries}
 use Rattle.bolt_cli.specs.Answers.{refused}
 use Rattle.bolt_cli.specs.PlainWords.{path_in}
-use Rattle.bolt_cli.proofs.Doing.{Does-nothing}
+use Rattle.bolt_cli.proofs.Doing.{Does-refused}
 use Rattle.bolt_cli.proofs.EntryAnswers.{entries_missing, entries_stopped, entries_whole}
 use Rattle.bolt_cli.proofs.keys_command.print_keys.Goals as goal
 
 pub returns-in_err-checked : goal.returns-in_err-checked
-returns-in_err-checked g c =
-    let failure = c.in_err-checked.field-0.0 in
-    let (fault, is, told) = c.in_err-checked.ensures.refused in (
-      refused failure,
-      inr (fault, is, (failure, told, refl)),
-      Does-nothing g.O.Sink.taken g.O.Sink.failed c.args.out.now failure _ c.from_residual.ensures.1,
-    )
+returns-in_err-checked g c = Does-refused g.O.Sink.taken g.O.Sink.failed c.args.out.now _ _ c.in_err-checked.ensures.refused c.from_residual.ensures.1
 
 pub returns-in_err-bucket : goal.returns-in_err-bucket
 returns-in_err-bucket g c =
     let opened = c.in_ok-checked.ensures in
-    entries_missing c.args.file.now c.args.slot (path_in c.args.path.now) c.args.form (λ entries. keys_text c.args.form (beginning c.args.prefix.now entries)) c.in_ok-checked.checked opened.bytes opened.sound
+    entries_missing c.args.file.now c.args.slot (path_in c.args.wanted.now.path.now) c.args.wanted.now.form (λ entries. keys_text c.args.wanted.now.form (beginning c.args.wanted.now.prefix.now entries)) c.in_ok-checked.checked opened.bytes opened.sound
     g.O.Sink.taken g.O.Sink.failed c.args.out.now c.in_err-bucket.field-0.0 _ c.in_err-bucket.ensures.refused c.from_residual-in_err-bucket.ensures.1
 
 pub returns-in_err-keys_beginning : goal.returns-in_err-keys_beginning
 returns-in_err-keys_beginning g c =
     let opened = c.in_ok-checked.ensures in
     let found = c.in_ok-bucket.ensures in
-    entries_stopped c.args.file.now c.args.slot (path_in c.args.path.now) c.args.form (λ entries. keys_text c.args.form (beginning c.args.prefix.now entries)) c.in_ok-checked.checked opened.bytes opened.sound
+    entries_stopped c.args.file.now c.args.slot (path_in c.args.wanted.now.path.now) c.args.wanted.now.form (λ entries. keys_text c.args.wanted.now.form (beginning c.args.wanted.now.prefix.now entries)) c.in_ok-checked.checked opened.bytes opened.sound
     c.in_ok-bucket.bucket found.file found.named {A = ⊤} {taken = g.O.Sink.taken} {failed = g.O.Sink.failed} c.args.out.now c.keys_beginning.new.sink _ _
-    (subst₂ (λ (file : Checked) (start : Start). ForEntries file start (λ entries. Reports {A = ⊤} g.O.Sink.taken g.O.Sink.failed c.args.out.now c.keys_beginning.new.sink (keys_text c.args.form (beginning c.args.prefix.now entries)) (Err c.in_err-keys_beginning.field-0.0)))
+    (subst₂ (λ (file : Checked) (start : Start). ForEntries file start (λ entries. Reports {A = ⊤} g.O.Sink.taken g.O.Sink.failed c.args.out.now c.keys_beginning.new.sink (keys_text c.args.wanted.now.form (beginning c.args.wanted.now.prefix.now entries)) (Err c.in_err-keys_beginning.field-0.0)))
     c.cursor-cursor.ensures.checked c.cursor-cursor.ensures.start c.in_err-keys_beginning.ensures.written)
     c.in_err-keys_beginning.ensures.fault c.in_err-keys_beginning.ensures.memory c.from_residual-in_err-keys_beginning.ensures.1
 
@@ -42,7 +35,7 @@ pub returns : goal.returns
 returns g c =
     let opened = c.in_ok-checked.ensures in
     let found = c.in_ok-bucket.ensures in
-    entries_whole c.args.file.now c.args.slot (path_in c.args.path.now) c.args.form (λ entries. keys_text c.args.form (beginning c.args.prefix.now entries)) c.in_ok-checked.checked opened.bytes opened.sound
+    entries_whole c.args.file.now c.args.slot (path_in c.args.wanted.now.path.now) c.args.wanted.now.form (λ entries. keys_text c.args.wanted.now.form (beginning c.args.wanted.now.prefix.now entries)) c.in_ok-checked.checked opened.bytes opened.sound
     c.in_ok-bucket.bucket found.file found.named {A = ⊤} {taken = g.O.Sink.taken} {failed = g.O.Sink.failed} c.args.out.now c.keys_beginning.new.sink tt
-    (subst₂ (λ (file : Checked) (start : Start). ForEntries file start (λ entries. Reports {A = ⊤} g.O.Sink.taken g.O.Sink.failed c.args.out.now c.keys_beginning.new.sink (keys_text c.args.form (beginning c.args.prefix.now entries)) (Ok tt)))
+    (subst₂ (λ (file : Checked) (start : Start). ForEntries file start (λ entries. Reports {A = ⊤} g.O.Sink.taken g.O.Sink.failed c.args.out.now c.keys_beginning.new.sink (keys_text c.args.wanted.now.form (beginning c.args.wanted.now.prefix.now entries)) (Ok tt)))
     c.cursor-cursor.ensures.checked c.cursor-cursor.ensures.start c.in_ok-keys_beginning.ensures.written)

@@ -1,4 +1,4 @@
-use Rattle.std.proofs.Common.{arith, ◌≡◌, ◌∙◌, List, ap, inl, inr, refl, subst, sym, ℕ}
+use Rattle.std.proofs.Common.{arith, ◌≡◌, ◌∙◌, List, ap, inl, subst, sym, ℕ}
 use Rattle.std.specs.Result.{IsErrAnd}
 use Rattle.std.proofs.lemmas.Grind.{common_steps}
 use Rattle.bolt_recover.specs.Recovered.{ForRecovered}
@@ -9,18 +9,12 @@ use Rattle.bolt_cli.specs.PlainWords.{path_in}
 use Rattle.bolt_cli.specs.declared.failure.Failure.{Failure}
 use Rattle.bolt_cli.specs.declared.failure.Failure.TheVariants as failure
 use Rattle.bolt_cli.proofs.CutTexts.{cut}
-use Rattle.bolt_cli.proofs.Doing.{Does-nothing}
+use Rattle.bolt_cli.proofs.Doing.{Does-nothing, Does-refused}
 use Rattle.bolt_cli.proofs.RestAnswers.{ending_found, ending_missing, ending_none, ending_some, nothing_recovered, rest_stopped, rest_whole}
 use Rattle.bolt_cli.proofs.list_command.print_recovered.Goals as goal
 
 pub returns-in_err-recovery : goal.returns-in_err-recovery
-returns-in_err-recovery g c =
-    let failure = c.in_err-recovery.field-0.0 in
-    let (fault, is, told) = c.in_err-recovery.ensures.refused in (
-      refused failure,
-      inr (fault, is, (failure, told, refl)),
-      Does-nothing g.O.Sink.taken g.O.Sink.failed c.args.out.now failure _ c.from_residual.ensures.1,
-    )
+returns-in_err-recovery g c = Does-refused g.O.Sink.taken g.O.Sink.failed c.args.out.now _ _ c.in_err-recovery.ensures.refused c.from_residual.ensures.1
 
 pub returns-in_err-path : goal.returns-in_err-path
 returns-in_err-path g c =
@@ -30,7 +24,7 @@ returns-in_err-path g c =
       cut _,
       inl (meta, c.in_ok-recovery.ensures.meta, nothing_recovered c.args.file.now meta wanted.form (path_in wanted.path.now) (path_in wanted.from.now)),
       Does-nothing g.O.Sink.taken g.O.Sink.failed c.args.out.now failure.Memory _
-          (subst (λ (reason : Failure). IsErrAnd c.from_residual-in_err-path.result (λ told. told ≡ reason)) c.in_err-path.ensures.memory c.from_residual-in_err-path.ensures.1),
+          (subst (λ (reason : Failure). IsErrAnd c.from_residual-in_err-path.result (λ said. said ≡ reason)) c.in_err-path.ensures.memory c.from_residual-in_err-path.ensures.1),
     )
 
 pub returns-in_err-from : goal.returns-in_err-from
@@ -41,7 +35,7 @@ returns-in_err-from g c =
       cut _,
       inl (meta, c.in_ok-recovery.ensures.meta, nothing_recovered c.args.file.now meta wanted.form (path_in wanted.path.now) (path_in wanted.from.now)),
       Does-nothing g.O.Sink.taken g.O.Sink.failed c.args.out.now failure.Memory _
-          (subst (λ (reason : Failure). IsErrAnd c.from_residual-in_err-from.result (λ told. told ≡ reason)) c.in_err-from.ensures.memory c.from_residual-in_err-from.ensures.1),
+          (subst (λ (reason : Failure). IsErrAnd c.from_residual-in_err-from.result (λ said. said ≡ reason)) c.in_err-from.ensures.memory c.from_residual-in_err-from.ensures.1),
     )
 
 pub returns-in_err-list_recovered_part : goal.returns-in_err-list_recovered_part

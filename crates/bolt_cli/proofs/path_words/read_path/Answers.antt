@@ -5,7 +5,7 @@ use Rattle.bolt_tree.specs.Paths.{Path}
 use Rattle.bolt_cli.specs.LineWords.{Text}
 use Rattle.bolt_cli.specs.PathWords.{each_part, part_of}
 use Rattle.bolt_cli.specs.PlainWords.{path_in}
-use Rattle.bolt_cli.proofs.PathReading.{behind, behind_one, part_refused}
+use Rattle.bolt_cli.proofs.PathReading.{continued, continued_one, part_refused}
 use Rattle.bolt_cli.proofs.path_words.read_path.Goals as goal
 
 abbrev texts : List (Bor Text) → List Text
@@ -17,7 +17,7 @@ returns-in_err-read_part c =
     let front = path_in c.loop-word.path.items in
     let i = c.loop-word.word-index in
     part_refused read _ (texts (drop (i + 1) c.args.words.now)) _ (λ (part : Vec ℕ Global). part.items) front _ _ c.from_residual.result c.in_err-read_part.ensures
-    (sym (at_drop_more (λ words. behind front (each_part read (texts words))) c.args.words.now i _ c.loop-word-test.true) ∙ c.loop-word.invariant) c.from_residual.ensures.1
+    (sym (at_drop_more (λ words. continued front (each_part read (texts words))) c.args.words.now i _ c.loop-word-test.true) ∙ c.loop-word.invariant) c.from_residual.ensures.1
 
 pub loop-word-preserved : goal.loop-word-preserved
 loop-word-preserved c =
@@ -26,6 +26,6 @@ loop-word-preserved c =
     let i = c.loop-word.word-index in
     let part = c.in_ok-read_part.field-0 in
     let left = texts (drop (i + 1) c.args.words.now) in
-    ap (λ (path : Path). behind path (each_part read left)) (ap path_in c.in_ok-push.ensures.items ∙ map-append _ c.loop-word.path.items (part ∷ []))
-    ∙ sym (at_drop_more (λ words. behind front (each_part read (texts words))) c.args.words.now i _ c.loop-word-test.true ∙ behind_one read _ left front part.items c.in_ok-read_part.ensures)
+    ap (λ (path : Path). continued path (each_part read left)) (ap path_in c.in_ok-push.ensures.items ∙ map-append _ c.loop-word.path.items (part ∷ []))
+    ∙ sym (at_drop_more (λ words. continued front (each_part read (texts words))) c.args.words.now i _ c.loop-word-test.true ∙ continued_one read _ left front part.items c.in_ok-read_part.ensures)
     ∙ c.loop-word.invariant

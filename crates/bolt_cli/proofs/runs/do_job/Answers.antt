@@ -45,7 +45,7 @@ returns-in-Keys g c =
     let (answer, is, does) = c.print_keys.ensures in
     subst (λ (job : Job). DoesJob g.O.Sink.taken g.O.Sink.failed c.args.out.now c.print_keys.new.out g.T.Sink.taken g.T.Sink.failed c.args.target.now c.args.target.now file job c.print_keys.result) (sym c.in-Keys.is) (
       answer,
-      subst₂ (λ (path : Path) (prefix : List ℕ). IsReadAnswer file c.in-Keys.slot (IsEntriesAnswer file (path_in path) c.in-Keys.form (λ entries. keys_text c.in-Keys.form (beginning prefix entries))) answer) c.as_slice-path.ensures.value c.as_slice-prefix.ensures.value is,
+      subst₂ (λ (path : Path) (prefix : List ℕ). IsReadAnswer file c.in-Keys.slot (IsEntriesAnswer file (path_in path) c.in-Keys.form (λ entries. keys_text c.in-Keys.form (beginning prefix entries))) answer) c.as_slice-in-Keys.ensures.value c.as_slice-in-Keys-2.ensures.value is,
       does,
       refl,
     )

@@ -9,7 +9,8 @@ use Rattle.bolt_tree.specs.Places.{Fresh, Place}
 use Rattle.bolt_tree.specs.ShownEntries.{shown_entry}
 use Rattle.bolt_tree.proofs.Leaving.{fewer_left, next_shows}
 use Rattle.bolt_cli.specs.Answers.{IsTotal}
-use Rattle.bolt_cli.proofs.StatsAnswers.{first_left, no_figures, total_end, total_more}
+use Rattle.bolt_report.proofs.SizeLemmas.{first_left}
+use Rattle.bolt_cli.proofs.StatsAnswers.{no_figures, total_end, total_more}
 use Rattle.bolt_cli.proofs.stats_command.sum_buckets.Goals as goal
 
 pub rest-init : goal.rest-init

@@ -1,9 +1,9 @@
 use Rattle.std.proofs.Common.{Some}
 use Rattle.bolt_check.specs.Nodes.{node_at}
-use Rattle.bolt_check.specs.Ways.{At_page, start_of}
+use Rattle.bolt_check.specs.Ways.{At_page, root_spot}
 use Rattle.bolt_recover.proofs.FirstLoss.{first_is}
 use Rattle.bolt_recover.proofs.laws.first_loss_is_the_first_finding.Goals as goal
 
 pub returns : goal.returns
 returns c = λ file meta survey way x surveys has none.
-    first_is (node_at file meta) (Some (At_page (start_of meta.root))) survey surveys way none x has
+    first_is (node_at file meta) (Some (At_page (root_spot meta.root))) survey surveys way none x has

@@ -25,8 +25,8 @@ pub rest-preserved-in-Continue-branch-3 : goal.rest-preserved-in-Continue-branch
 rest-preserved-in-Continue-branch-3 g c =
     let from = path_of c.args.from.now in
     let form = lines_form c.args.lines.now in
-    let told = path_of c.path-then-not-is_before.result.now in
-    let after : is_lt (path_cmp told from) ≡ false = ap (λ (p : Path). is_lt (path_cmp p from)) (c.path-then-not-is_before.ensures ∙ sym c.path.ensures) ∙ sym c.is_before.ensures ∙ c.if-not-is_before.true in
+    let reported = path_of c.path-then-not-is_before.result.now in
+    let after : is_lt (path_cmp reported from) ≡ false = ap (λ (p : Path). is_lt (path_cmp p from)) (c.path-then-not-is_before.ensures ∙ sym c.path.ensures) ∙ sym c.is_before.ensures ∙ c.if-not-is_before.true in
     record {
       same = λ listing. (
         λ is. (c.rest.invariant.same listing).0 ((c.next.ensures.listing listing).0 is),
@@ -40,12 +40,12 @@ rest-preserved-in-Continue-branch-3 g c =
           let here = (c.rest.invariant.same listing).1 lists in
           let old = g.M.Members.left c.rest.members listing in
           let new = g.M.Members.left c.next.new.self listing in
-          let text = next_text form from old new (g.M.Members.last_path c.next.new.self) told (item_view c.in-Some.item) (given listing here) c.path-then-not-is_before.ensures after in
+          let text = next_text form from old new (g.M.Members.last_path c.next.new.self) reported (item_view c.in-Some.item) (given listing here) c.path-then-not-is_before.ensures after in
           let (written, same, before) = c.rest.invariant.put listing lists in
-          let piece = list_line form (told, item_view c.in-Some.item) in
+          let piece = list_line form (reported, item_view c.in-Some.item) in
           let more = more_written g.S.Sink.taken g.S.Sink.failed c.args.sink.now c.rest.sink c.put.new.sink (listing_lines form (rest_from from (g.M.Members.left c.args.members.now listing))) written piece (listing_lines form (rest_from from new))
           (same ∙ ap (λ l. written ++ l) text) before
-          (subst (λ (f : ListForm). Reports {A = ⊤} g.S.Sink.taken g.S.Sink.failed c.rest.sink c.put.new.sink (list_line f (told, item_view c.in-Some.item)) (Ok tt)) c.rest.invariant.form c.in_ok-put.ensures.written) in
+          (subst (λ (f : ListForm). Reports {A = ⊤} g.S.Sink.taken g.S.Sink.failed c.rest.sink c.put.new.sink (list_line f (reported, item_view c.in-Some.item)) (Ok tt)) c.rest.invariant.form c.in_ok-put.ensures.written) in
           (written ++ piece, more.0, more.1);
     }
 
@@ -53,8 +53,8 @@ pub rest-preserved : goal.rest-preserved
 rest-preserved g c =
     let from = path_of c.args.from.now in
     let form = lines_form c.args.lines.now in
-    let told = path_of c.path.result.now in
-    let before : is_lt (path_cmp told from) ≡ true = sym c.is_before.ensures ∙ c.if-not-is_before.false in
+    let reported = path_of c.path.result.now in
+    let before : is_lt (path_cmp reported from) ≡ true = sym c.is_before.ensures ∙ c.if-not-is_before.false in
     record {
       same = λ listing. (
         λ is. (c.rest.invariant.same listing).0 ((c.next.ensures.listing listing).0 is),
@@ -66,7 +66,7 @@ rest-preserved g c =
       put = λ listing lists.
           let given = rw c.in-Some.is at c.in_ok-item.ensures.given in
           let here = (c.rest.invariant.same listing).1 lists in
-          let hidden = next_hidden from (g.M.Members.left c.rest.members listing) (g.M.Members.left c.next.new.self listing) (g.M.Members.last_path c.next.new.self) told (item_view c.in-Some.item) (given listing here) c.path.ensures before in
+          let hidden = next_hidden from (g.M.Members.left c.rest.members listing) (g.M.Members.left c.next.new.self listing) (g.M.Members.last_path c.next.new.self) reported (item_view c.in-Some.item) (given listing here) c.path.ensures before in
           let (written, same, put) = c.rest.invariant.put listing lists in
           (written, same ∙ ap (λ (ms : List Member). written ++ listing_lines form ms) hidden, put);
     }
@@ -75,18 +75,18 @@ pub returns-in_err-put-clause-written : goal.returns-in_err-put-clause-written
 returns-in_err-put-clause-written g c = λ listing lists.
     let from = path_of c.args.from.now in
     let form = lines_form c.args.lines.now in
-    let told = path_of c.path-then-not-is_before.result.now in
-    let after : is_lt (path_cmp told from) ≡ false = ap (λ (p : Path). is_lt (path_cmp p from)) (c.path-then-not-is_before.ensures ∙ sym c.path.ensures) ∙ sym c.is_before.ensures ∙ c.if-not-is_before.true in
+    let reported = path_of c.path-then-not-is_before.result.now in
+    let after : is_lt (path_cmp reported from) ≡ false = ap (λ (p : Path). is_lt (path_cmp p from)) (c.path-then-not-is_before.ensures ∙ sym c.path.ensures) ∙ sym c.is_before.ensures ∙ c.if-not-is_before.true in
     let given = rw c.in-Some.is at c.in_ok-item.ensures.given in
     let here = (c.rest.invariant.same listing).1 lists in
     let old = g.M.Members.left c.rest.members listing in
     let new = g.M.Members.left c.next.new.self listing in
-    let text = next_text form from old new (g.M.Members.last_path c.next.new.self) told (item_view c.in-Some.item) (given listing here) c.path-then-not-is_before.ensures after in
+    let text = next_text form from old new (g.M.Members.last_path c.next.new.self) reported (item_view c.in-Some.item) (given listing here) c.path-then-not-is_before.ensures after in
     let (written, same, before) = c.rest.invariant.put listing lists in
     reports_stop g.S.Sink.taken g.S.Sink.failed c.args.sink.now c.rest.sink c.put.new.sink (listing_lines form (rest_from from (g.M.Members.left c.args.members.now listing))) written
-    (list_line form (told, item_view c.in-Some.item)) (listing_lines form (rest_from from new)) _ _
+    (list_line form (reported, item_view c.in-Some.item)) (listing_lines form (rest_from from new)) _ _
     (same ∙ ap (λ l. written ++ l) text) before
-    (subst (λ (f : ListForm). Reports {A = ⊤} g.S.Sink.taken g.S.Sink.failed c.rest.sink c.put.new.sink (list_line f (told, item_view c.in-Some.item)) (Err c.in_err-put.field-0.0)) c.rest.invariant.form c.in_err-put.ensures.written)
+    (subst (λ (f : ListForm). Reports {A = ⊤} g.S.Sink.taken g.S.Sink.failed c.rest.sink c.put.new.sink (list_line f (reported, item_view c.in-Some.item)) (Err c.in_err-put.field-0.0)) c.rest.invariant.form c.in_err-put.ensures.written)
     c.from_residual-in_err-put.ensures.1
 
 pub returns-clause-written : goal.returns-clause-written

@@ -2,7 +2,7 @@
 use Rattle.std.proofs.Common.{◌≡◌, ◌++◌, ◌∷◌, [], ◌∙◌, Bor, List, ap, append_assoc, sym, ℕ}
 use Rattle.bolt_format.proofs.WriteLemmas.{Writes-same, Writes-stop, Writes-then}
 use Rattle.bolt_tree.specs.Paths.{path_of}
-use Rattle.bolt_check.specs.Stops.{bound_of}
+use Rattle.bolt_check.specs.ShownSpots.{bound_of}
 use Rattle.bolt_report.specs.LossLines.{bounds_words, bucket_words}
 use Rattle.bolt_report.proofs.loss_lines.put_lost.Goals as goal
 

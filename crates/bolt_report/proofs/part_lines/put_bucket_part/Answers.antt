@@ -42,13 +42,13 @@ part-preserved-then-is_wanted g c =
     let form = lines_form c.args.lines.now in
     let below = path_of c.args.below.now in
     let from = path_of c.args.from.now in
-    let told = path_of c.path-then-is_wanted.result.now in
-    let m : Member = (told, item_view c.in-Some.item) in
+    let reported = path_of c.path-then-is_wanted.result.now in
+    let m : Member = (reported, item_view c.in-Some.item) in
     let now = c.part.found || c.is_bucket_of-found.result in
     let is : now ≡ (c.part.found || is_bucket_at below m) =
     ap (λ (b : Bool). c.part.found || b)
     (c.is_bucket_of-found.ensures ∙ ap (λ (p : Path). is_bucket_at below (p, item_view c.in-Some.item)) (c.path.ensures ∙ sym c.path-then-is_wanted.ensures)) in
-    let both : (begins_with below told && not (is_lt (path_cmp told from))) ≡ true =
+    let both : (begins_with below reported && not (is_lt (path_cmp reported from))) ≡ true =
     ap (λ (p : Path). begins_with below p && not (is_lt (path_cmp p from))) (c.path-then-is_wanted.ensures ∙ sym c.path-then-found.ensures) ∙ sym c.is_wanted.ensures ∙ c.if-is_wanted.true in
     let given = rw c.in-Some.is at c.in_ok-item.ensures.given in
     let first : (listing : List Member) → g.M.Members.lists c.args.members.now listing → g.M.Members.left c.part.members listing ≡ m ∷ g.M.Members.left c.next.new.self listing =
@@ -82,13 +82,13 @@ returns-in_err-put-clause-written g c = λ listing lists up.
     let form = lines_form c.args.lines.now in
     let below = path_of c.args.below.now in
     let from = path_of c.args.from.now in
-    let told = path_of c.path-then-is_wanted.result.now in
-    let m : Member = (told, item_view c.in-Some.item) in
+    let reported = path_of c.path-then-is_wanted.result.now in
+    let m : Member = (reported, item_view c.in-Some.item) in
     let now = c.part.found || c.is_bucket_of-found.result in
     let is : now ≡ (c.part.found || is_bucket_at below m) =
     ap (λ (b : Bool). c.part.found || b)
     (c.is_bucket_of-found.ensures ∙ ap (λ (p : Path). is_bucket_at below (p, item_view c.in-Some.item)) (c.path.ensures ∙ sym c.path-then-is_wanted.ensures)) in
-    let both : (begins_with below told && not (is_lt (path_cmp told from))) ≡ true =
+    let both : (begins_with below reported && not (is_lt (path_cmp reported from))) ≡ true =
     ap (λ (p : Path). begins_with below p && not (is_lt (path_cmp p from))) (c.path-then-is_wanted.ensures ∙ sym c.path-then-found.ensures) ∙ sym c.is_wanted.ensures ∙ c.if-is_wanted.true in
     let given = rw c.in-Some.is at c.in_ok-item.ensures.given in
     let new = g.M.Members.left c.next.new.self listing in
@@ -106,8 +106,8 @@ part-preserved g c =
     let form = lines_form c.args.lines.now in
     let below = path_of c.args.below.now in
     let from = path_of c.args.from.now in
-    let told = path_of c.path.result.now in
-    let m : Member = (told, item_view c.in-Some.item) in
+    let reported = path_of c.path.result.now in
+    let m : Member = (reported, item_view c.in-Some.item) in
     let now = c.part.found || c.is_bucket_of-found.result in
     let is : now ≡ (c.part.found || is_bucket_at below m) = ap (λ (b : Bool). c.part.found || b) c.is_bucket_of-found.ensures in
     let given = rw c.in-Some.is at c.in_ok-item.ensures.given in

@@ -73,8 +73,8 @@ returns-in_err-put_entry-clause-written g c = λ entries are sized figures.
     let text = cut_text c.args.form (sizes_text c.args.form sized) written left k.own k.rest same k.whole in
     let one = c.in_err-put_entry.ensures.written e entry shown k.own k.first in
     let whole = reports_cut g.S.Sink.taken g.S.Sink.failed c.args.sink.now c.rest.sink c.put_entry.new.sink written own rest _ before one in
-    let told = handed_on c.in_err-put_entry.field-0.0 c.from_residual.result c.from_residual.ensures.0 c.from_residual.ensures.1 in
-    subst (Reports {A = ⊤} g.S.Sink.taken g.S.Sink.failed c.args.sink.now c.put_entry.new.sink (sizes_text c.args.form sized)) told
+    let reported = handed_on c.in_err-put_entry.field-0.0 c.from_residual.result c.from_residual.ensures.0 c.from_residual.ensures.1 in
+    subst (Reports {A = ⊤} g.S.Sink.taken g.S.Sink.failed c.args.sink.now c.put_entry.new.sink (sizes_text c.args.form sized)) reported
     (subst (λ (t : List ℕ). Reports {A = ⊤} g.S.Sink.taken g.S.Sink.failed c.args.sink.now c.put_entry.new.sink t (Err c.in_err-put_entry.field-0.0)) (sym text) whole)
 
 pub returns-clause-written : goal.returns-clause-written

@@ -2,8 +2,8 @@
 use Rattle.std.proofs.Common.{◌∷◌, List, Err, subst}
 use Rattle.bolt_tree.specs.Tree.{end}
 use Rattle.std.specs.List.{AllByRecursion}
-use Rattle.bolt_bulk.specs.Private.Waiting.{IsWaiting}
-use Rattle.bolt_bulk.specs.declared.waiting.Waiting.{Waiting}
+use Rattle.bolt_bulk.specs.Private.WaitingBuckets.{IsWaiting}
+use Rattle.bolt_bulk.specs.declared.waiting_bucket.WaitingBucket.{WaitingBucket}
 use Rattle.bolt_bulk.proofs.HeldPasses.{waits_less}
 use Rattle.bolt_bulk.proofs.PassAt.{leave_steps, puts_well, steps_none, steps_stop}
 use Rattle.bolt_bulk.proofs.PassReady.{last_of}
@@ -11,30 +11,30 @@ use Rattle.bolt_bulk.specs.declared.told.Told.{Told}
 use Rattle.bolt_bulk.proofs.Tables.{BucketEnds}
 use Rattle.bolt_bulk.proofs.pass.Pass.end_open.Goals as goal
 
-pub leave-requires-clause-waits : goal.leave-requires-clause-waits
-leave-requires-clause-waits g c =
+pub end_inner-requires-clause-waits : goal.end_inner-requires-clause-waits
+end_inner-requires-clause-waits g c =
     (last_of (IsWaiting c.args.self.now.setup.page_size) c.pop.new.self.items c.in-Some.waiting
-    (subst (λ (ws : List Waiting). AllByRecursion (IsWaiting c.args.self.now.setup.page_size) ws) c.in-Some.ensures.items c.requires.ready.waiting)).0
+    (subst (λ (ws : List WaitingBucket). AllByRecursion (IsWaiting c.args.self.now.setup.page_size) ws) c.in-Some.ensures.items c.requires.ready.waiting)).0
 
 pub returns-in-Err-clause-steps : goal.returns-in-Err-clause-steps
 returns-in-Err-clause-steps g c = λ wanted level levels put is.
     steps_none wanted c.args.self.now (level ∷ levels) end put c.args.sink.now _ (Err c.in-Err.fault) is c.in-Err.ensures.fault tt
 
-pub returns-in-Err-leave-clause-steps : goal.returns-in-Err-leave-clause-steps
-returns-in-Err-leave-clause-steps g c = λ wanted level levels put is.
+pub returns-in-Err-end_inner-clause-steps : goal.returns-in-Err-end_inner-clause-steps
+returns-in-Err-end_inner-clause-steps g c = λ wanted level levels put is.
     let told : Told = c.bucket_ends-ended.new.self in
     let ended : BucketEnds c.args.self.now.told told c.args.self.now.bucket.limits.bucket c.args.self.now.bucket.uppers.items =
     record { same = c.in_default.ensures.same; told = rw c.as_slice.ensures.value at c.in_default.ensures.told; others = c.in_default.ensures.others } in
-    steps_stop wanted g.S.Sink.taken g.S.Sink.failed c.args.self.now.setup c.args.sink.now c.leave.new.sink put _ _ c.in-Err-leave.fault
-    (leave_steps g.S.Sink.taken g.S.Sink.failed wanted c.args.self.now put level levels c.in-Some.waiting c.args.sink.now c.leave.new.sink c.args.self.now.bucket c.pop.new.self c.leave.new.next 0 told c.args.self.now _ is c.requires.pending
-    c.in-Some.ensures.items ended (rw c.replace-inner.ensures.value at c.in-Err-leave.ensures.pages) tt (rw c.replace-inner.ensures.value at c.in-Err-leave.ensures.large) tt)
+    steps_stop wanted g.S.Sink.taken g.S.Sink.failed c.args.self.now.setup c.args.sink.now c.end_inner.new.sink put _ _ c.in-Err-end_inner.fault
+    (leave_steps g.S.Sink.taken g.S.Sink.failed wanted c.args.self.now put level levels c.in-Some.waiting c.args.sink.now c.end_inner.new.sink c.args.self.now.bucket c.pop.new.self c.end_inner.new.next 0 told c.args.self.now _ is c.requires.pending
+    c.in-Some.ensures.items ended (rw c.replace-inner.ensures.value at c.in-Err-end_inner.ensures.pages) tt (rw c.replace-inner.ensures.value at c.in-Err-end_inner.ensures.large) tt)
 
 pub returns-in-Ok-clause-steps : goal.returns-in-Ok-clause-steps
 returns-in-Ok-clause-steps g c = λ wanted level levels put is.
     let told : Told = c.bucket_ends-ended.new.self in
     let ended : BucketEnds c.args.self.now.told told c.args.self.now.bucket.limits.bucket c.args.self.now.bucket.uppers.items =
     record { same = c.in_default.ensures.same; told = rw c.as_slice.ensures.value at c.in_default.ensures.told; others = c.in_default.ensures.others } in
-    leave_steps g.S.Sink.taken g.S.Sink.failed wanted c.args.self.now put level levels c.in-Some.waiting c.args.sink.now c.leave.new.sink c.in-Ok.outer c.pop.new.self c.leave.new.next _ told c.count.new.self _ is c.requires.pending
+    leave_steps g.S.Sink.taken g.S.Sink.failed wanted c.args.self.now put level levels c.in-Some.waiting c.args.sink.now c.end_inner.new.sink c.in-Ok.outer c.pop.new.self c.end_inner.new.next _ told c.count.new.self _ is c.requires.pending
     c.in-Some.ensures.items ended (puts_well _ _ _ c.in-Ok.outer (rw c.replace-inner.ensures.value at c.in-Ok.ensures.pages)) (rw c.replace-inner.ensures.value at c.in-Ok.ensures.rows) tt c.count.ensures.counts
 
 pub count-requires : goal.count-requires
@@ -45,7 +45,7 @@ count-requires g c =
       bucket = c.in-Ok.ensures.open;
       next = c.in-Ok.ensures.within;
       waiting = (last_of (IsWaiting c.args.self.now.setup.page_size) c.pop.new.self.items c.in-Some.waiting
-          (subst (λ (ws : List Waiting). AllByRecursion (IsWaiting c.args.self.now.setup.page_size) ws) c.in-Some.ensures.items ready.waiting)).1;
+          (subst (λ (ws : List WaitingBucket). AllByRecursion (IsWaiting c.args.self.now.setup.page_size) ws) c.in-Some.ensures.items ready.waiting)).1;
       pending = ready.pending;
       counted = counted.0;
       around = counted.1;

@@ -16,18 +16,18 @@ levels-init g c = record {
   steps = λ wanted members put has shallow. steps_begun wanted c.args.self.now members put c.args.sink.now has;
 }
 
-pub leave-requires-clause-ready : goal.leave-requires-clause-ready
-leave-requires-clause-ready g c = c.levels.invariant.ready
+pub leave_bucket-requires-clause-ready : goal.leave_bucket-requires-clause-ready
+leave_bucket-requires-clause-ready g c = c.levels.invariant.ready
 
 pub returns-in-Err-clause-steps : goal.returns-in-Err-clause-steps
 returns-in-Err-clause-steps g c = λ wanted members put has shallow.
     let stop : Result ⊤ BulkFault = Err c.in-Err.fault in
-    let At : List Placed → Type 0 = HasLeft wanted c.leave.new.self members in
-    steps_then wanted g.S.Sink.taken g.S.Sink.failed c.args.self.now.setup c.args.sink.now c.levels.sink c.leave.new.sink put (HasLeft wanted c.levels.self members) At tt stop
+    let At : List Placed → Type 0 = HasLeft wanted c.leave_bucket.new.self members in
+    steps_then wanted g.S.Sink.taken g.S.Sink.failed c.args.self.now.setup c.args.sink.now c.levels.sink c.leave_bucket.new.sink put (HasLeft wanted c.levels.self members) At tt stop
     (c.levels.invariant.steps wanted members put has shallow)
     (λ all mid. let ended = has_ended c.args.depth wanted c.levels.self members all mid shallow c.requires.some (omega arith) in
-    subst (λ (b : PageSetup). Steps wanted g.S.Sink.taken g.S.Sink.failed c.levels.sink c.leave.new.sink b all At stop) c.levels.invariant.setup
-    (steps_stop wanted g.S.Sink.taken g.S.Sink.failed c.levels.self.setup c.levels.sink c.leave.new.sink all (IsAt wanted c.leave.new.self ended.levels ended.level.after) At c.in-Err.fault
+    subst (λ (b : PageSetup). Steps wanted g.S.Sink.taken g.S.Sink.failed c.levels.sink c.leave_bucket.new.sink b all At stop) c.levels.invariant.setup
+    (steps_stop wanted g.S.Sink.taken g.S.Sink.failed c.levels.self.setup c.levels.sink c.leave_bucket.new.sink all (IsAt wanted c.leave_bucket.new.self ended.levels ended.level.after) At c.in-Err.fault
     (c.in-Err.ensures.steps wanted ended.level ended.levels all ended.at)))
 
 pub levels-smaller : goal.levels-smaller
@@ -39,13 +39,13 @@ levels-preserved g c = record {
   ready = c.in_default.ensures.ready;
   steps = λ wanted members put has shallow.
       let well : Result ⊤ BulkFault = Ok tt in
-      let At : List Placed → Type 0 = HasLeft wanted c.leave.new.self members in
-      steps_then wanted g.S.Sink.taken g.S.Sink.failed c.args.self.now.setup c.args.sink.now c.levels.sink c.leave.new.sink put (HasLeft wanted c.levels.self members) At tt well
+      let At : List Placed → Type 0 = HasLeft wanted c.leave_bucket.new.self members in
+      steps_then wanted g.S.Sink.taken g.S.Sink.failed c.args.self.now.setup c.args.sink.now c.levels.sink c.leave_bucket.new.sink put (HasLeft wanted c.levels.self members) At tt well
       (c.levels.invariant.steps wanted members put has shallow)
       (λ all mid. let ended = has_ended c.args.depth wanted c.levels.self members all mid shallow c.requires.some (omega arith) in
-      subst (λ (b : PageSetup). Steps wanted g.S.Sink.taken g.S.Sink.failed c.levels.sink c.leave.new.sink b all At well) c.levels.invariant.setup
-      (steps_map wanted c.levels.sink c.leave.new.sink c.levels.self.setup all (IsAt wanted c.leave.new.self ended.levels ended.level.after) At well
-      (λ then at. left_out wanted c.leave.new.self ended.level ended.levels members then ended.members_are at)
+      subst (λ (b : PageSetup). Steps wanted g.S.Sink.taken g.S.Sink.failed c.levels.sink c.leave_bucket.new.sink b all At well) c.levels.invariant.setup
+      (steps_map wanted c.levels.sink c.leave_bucket.new.sink c.levels.self.setup all (IsAt wanted c.leave_bucket.new.self ended.levels ended.level.after) At well
+      (λ then at. left_out wanted c.leave_bucket.new.self ended.level ended.levels members then ended.members_are at)
       (c.in_default.ensures.steps wanted ended.level ended.levels all ended.at)));
 }
 

@@ -3,9 +3,9 @@ use Rattle.std.proofs.Common.{rules, ◌≡◌, ◌++◌, ◌∷◌, [], List, E
 use Rattle.std.specs.List.{AllByRecursion}
 use Rattle.bolt_bulk.specs.Private.OpenBuckets.{IsOpenBucket}
 use Rattle.bolt_bulk.specs.declared.fault.BulkFault.TheVariants as fault
-use Rattle.bolt_bulk.specs.Private.Waiting.{IsWaiting}
+use Rattle.bolt_bulk.specs.Private.WaitingBuckets.{IsWaiting}
 use Rattle.bolt_bulk.specs.declared.open_bucket.OpenBucket.{OpenBucket}
-use Rattle.bolt_bulk.specs.declared.waiting.Waiting.{Waiting}
+use Rattle.bolt_bulk.specs.declared.waiting_bucket.WaitingBucket.{WaitingBucket}
 use Rattle.bolt_bulk.proofs.HeldPasses.{more_around, waits_more}
 use Rattle.bolt_layout.proofs.ListLemmas.{all_append}
 use Rattle.bolt_bulk.proofs.PassAt.{open_steps, open_stops, puts_failed, puts_fault, puts_well, steps_none}
@@ -39,14 +39,14 @@ returns-clause-steps g c = λ wanted left levels put is rooted.
 
 pub count-requires : goal.count-requires
 count-requires g c =
-    let waiting : List Waiting = c.args.self.now.waiting.items in
-    let w : Waiting = c.in-Ok-enter.waiting in
+    let waiting : List WaitingBucket = c.args.self.now.waiting.items in
+    let w : WaitingBucket = c.in-Ok-enter.waiting in
     let ready = c.requires.ready in
     let items : c.push.new.self.items ≡ waiting ++ w ∷ [] = search rules in
     record {
       bucket = subst (λ (bucket : OpenBucket). IsOpenBucket bucket) (sym c.replace-outer.ensures.after) c.in-Ok.ensures.open;
       next = c.in-Ok-enter.ensures.within;
-      waiting = subst (λ (ws : List Waiting). AllByRecursion (IsWaiting c.args.self.now.setup.page_size) ws) (sym items)
+      waiting = subst (λ (ws : List WaitingBucket). AllByRecursion (IsWaiting c.args.self.now.setup.page_size) ws) (sym items)
           (all_append (IsWaiting c.args.self.now.setup.page_size) waiting (w ∷ []) ready.waiting (c.in-Ok-enter.ensures.waits, tt));
       pending = c.clear.ensures.items;
       counted = waits_more waiting c.push.new.self.items w c.args.self.now.around ready.counted c.in-Ok-enter.ensures.around ready.around items;

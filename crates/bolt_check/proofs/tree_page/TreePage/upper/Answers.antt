@@ -1,6 +1,6 @@
 use Rattle.std.proofs.Common.{arith, sym}
 use Rattle.bolt_check.proofs.NodeLemmas.{upper-last, upper-next}
-use Rattle.bolt_check.specs.Stops.{bound_of}
+use Rattle.bolt_check.specs.ShownSpots.{bound_of}
 use Rattle.bolt_check.proofs.tree_page.TreePage.upper.Goals as goal
 
 pub returns-then-count-i-gt1 : goal.returns-then-count-i-gt1

@@ -2,10 +2,10 @@ use Rattle.std.proofs.Math.Logic.{∥∥₁_elim}
 use Rattle.std.proofs.Props.{props}
 use Rattle.bolt_recover.specs.Private.Frames.{state_of}
 use Rattle.bolt_recover.specs.Recoveries.{recovery_file, recovery_losses, recovery_meta}
-use Rattle.bolt_recover.proofs.Recovering.{told_first}
+use Rattle.bolt_recover.proofs.Recovering.{reported_first}
 use Rattle.bolt_recover.proofs.recovery.Recovery.losses.Goals as goal
 
 pub returns-clause-first : goal.returns-clause-first
 unfolding recovery_file recovery_losses recovery_meta
-returns-clause-first c = λ losses told.
-    ∥∥₁_elim c.args.self.now.on (hlevel props) (λ on. told_first (state_of c.args.self.now.steps) c.args.self.now.meta on losses told)
+returns-clause-first c = λ losses reported.
+    ∥∥₁_elim c.args.self.now.on (hlevel props) (λ on. reported_first (state_of c.args.self.now.steps) c.args.self.now.meta on losses reported)

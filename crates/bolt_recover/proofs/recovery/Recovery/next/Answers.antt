@@ -8,7 +8,7 @@ use Rattle.bolt_recover.specs.Recovered.{IsRecovered}
 use Rattle.bolt_recover.specs.Refusals.{KeepsRoot}
 use Rattle.bolt_recover.specs.Private.Frames.{left_by, state_of}
 use Rattle.bolt_recover.specs.Recoveries.{recovery_file, recovery_left, recovery_losses, recovery_meta, recovery_path, recovery_work}
-use Rattle.bolt_recover.proofs.Recovering.{file_advanced, has_open_prop, left_next, left_none, left_same, on_advanced, told_ended}
+use Rattle.bolt_recover.proofs.Recovering.{file_advanced, has_open_prop, left_next, left_none, left_same, on_advanced, reported_ended}
 use Rattle.bolt_recover.proofs.StepLemmas.{when_err}
 use Rattle.bolt_recover.proofs.recovery.Recovery.next.Goals as goal
 
@@ -54,11 +54,11 @@ returns-in-None-clause-given c = λ listing recovered.
 
 pub returns-in-None-clause-all : goal.returns-in-None-clause-all
 unfolding recovery_file recovery_losses recovery_meta
-returns-in-None-clause-all c = λ losses told.
+returns-in-None-clause-all c = λ losses reported.
     let old = state_of c.args.self.now.steps in
     let new = state_of c.advance.new.self in
     let ended = rw c.in-None.is at c.in_ok-leaf.ensures.given in
-    ∥∥₁_elim c.args.self.now.on (hlevel props) (λ on. told_ended old new c.args.self.now.meta on ended losses told)
+    ∥∥₁_elim c.args.self.now.on (hlevel props) (λ on. reported_ended old new c.args.self.now.meta on ended losses reported)
 
 pub returns-in-Some-clause-fewer : goal.returns-in-Some-clause-fewer
 unfolding recovery_work

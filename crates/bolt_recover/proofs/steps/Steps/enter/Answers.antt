@@ -9,8 +9,8 @@ pub returns-in-Err-clause-on : goal.returns-in-Err-clause-on
 returns-in-Err-clause-on c =
     let s : State = state_of c.args.self.now in
     let claimed = is_claimed c.visit.new.claims in
-    either c.lose.result c.lose.ensures.told c.lose.ensures.same
-    (λ told. subst (GoesOn s) (sym told)
+    either c.lose.result c.lose.ensures.reported c.lose.ensures.same
+    (λ reported. subst (GoesOn s) (sym reported)
     (as_state (λ (t : State). GoesOn s (lost_state t c.in-Some.ahead c.in-Err.finding)) (record s { claimed = claimed })
     (claims_file c.visit.new.claims) (claims_meta c.visit.new.claims) s.ahead c.reserve.new.self.items s.path s.losses
     (sym c.in-Err.ensures.file) (sym c.in-Err.ensures.meta) refl (sym c.reserve.ensures.items) refl refl

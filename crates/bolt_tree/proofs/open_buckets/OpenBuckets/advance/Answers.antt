@@ -3,11 +3,11 @@ use Rattle.std.proofs.Common.{◌≡◌, ◌∙◌, List, [], ◌∷◌, MatchOp
 use Rattle.bolt_format.specs.ElementPlaces.{leaf_view}
 use Rattle.bolt_format.specs.declared.element.Leaf.{Leaf}
 use Rattle.bolt_tree.specs.Entries.{item_of, start_of}
-use Rattle.bolt_tree.specs.FileListings.{root_of}
+use Rattle.bolt_tree.specs.FileListings.{root_start}
 use Rattle.bolt_tree.specs.Listing.{Member}
 use Rattle.bolt_tree.specs.Paths.{Path, path_of}
 use Rattle.bolt_tree.specs.Private.OpenBuckets.{IsNamed, left_by, open_path}
-use Rattle.bolt_tree.specs.Private.Behind.{behind, beyond}
+use Rattle.bolt_tree.specs.Private.RestAfter.{rest_after, beyond}
 use Rattle.bolt_tree.proofs.Climbing.{listed_in}
 use Rattle.bolt_tree.proofs.Entering.{itself, lies_in, named_by, root_inside}
 use Rattle.bolt_tree.proofs.open_buckets.OpenBuckets.advance.Goals as goal
@@ -31,7 +31,7 @@ enter-requires-clause-named c =
     elim c.match-ahead.branch as (λ _. IsNamed c.args.self.now c.match-ahead.bucket) [
       | in-Begin w ↦
           let none = rw w.in-Begin.is at c.requires.ahead in
-          rw w.bucket-is (named_by checked path (root_of checked) w.root-bucket.result (root_inside checked path none) w.root-bucket.ensures.checked w.root-bucket.ensures.start)
+          rw w.bucket-is (named_by checked path (root_start checked) w.root-bucket.result (root_inside checked path none) w.root-bucket.ensures.checked w.root-bucket.ensures.start)
       | in-Enter w ↦
           let inside = rw w.in-Enter.is at c.requires.ahead in
           rw w.bucket-is (named_by checked path (start_of w.in-Enter.value.now) w.of-bucket.result inside.1 w.of-bucket.ensures.checked w.of-bucket.ensures.start)
@@ -40,7 +40,7 @@ enter-requires-clause-named c =
 pub returns-in-None-clause-left : goal.returns-in-None-clause-left
 returns-in-None-clause-left c = λ listing lists.
     let path : Path = open_path c.args.self.now in
-    let inside : left_by c.args.ahead path listing ≡ behind path listing = elim c.match-ahead.branch as (λ _. left_by c.args.ahead path listing ≡ behind path listing) [
+    let inside : left_by c.args.ahead path listing ≡ rest_after path listing = elim c.match-ahead.branch as (λ _. left_by c.args.ahead path listing ≡ rest_after path listing) [
       | in-Begin w ↦ rw w.in-Begin.is refl
       | in-Enter w ↦ rw w.in-Enter.is refl
     ] in
@@ -49,5 +49,5 @@ returns-in-None-clause-left c = λ listing lists.
     let left : left_by c.args.ahead path listing ≡ beyond (open_path c.enter.new.self) listing =
     inside ∙ entered listing lists ∙ ap (λ (p : Path). beyond p listing) (sym same) in
     let there = c.climb-in-None.ensures.left listing (listed_in c.enter.new.self.cursors.checked c.args.self.now.cursors.checked listing c.in_ok-leaf.ensures.checked lists) in
-    subst (λ (xs : List Member). MatchOption c.climb-in-None.result (xs ≡ []) (λ (leaf : Leaf). xs ≡ (open_path c.climb-in-None.new.self, item_of (leaf_view leaf)) ∷ behind (open_path c.climb-in-None.new.self) listing))
+    subst (λ (xs : List Member). MatchOption c.climb-in-None.result (xs ≡ []) (λ (leaf : Leaf). xs ≡ (open_path c.climb-in-None.new.self, item_of (leaf_view leaf)) ∷ rest_after (open_path c.climb-in-None.new.self) listing))
     (sym left) there

@@ -1,9 +1,9 @@
--- The entries behind stay the same until one is taken.
+-- The entries preceding stay the same until one is taken.
 use Rattle.std.proofs.Common.{◌≡◌, ◌∙◌, ◌<◌, ◌+◌, ◌-◌, ◌*◌, true, length, sym, arith}
 use Rattle.bolt_format.specs.ElementPlaces.{leaf_view}
 use Rattle.bolt_tree.specs.Private.BucketPages.{contents_in}
 use Rattle.bolt_tree.specs.Private.ShownPages.{opened_content}
-use Rattle.bolt_tree.specs.Private.Trails.{before, behind, frame_of, frames_of, trail_bucket, trail_frames}
+use Rattle.bolt_tree.specs.Private.Trails.{before, preceding, frame_of, frames_of, trail_bucket, trail_frames}
 use Rattle.bolt_tree.proofs.BackLemmas.{left_out, step_back_none, step_back_some}
 use Rattle.bolt_tree.proofs.StackLemmas.{popped, retaken, taken_bound, taken_fits}
 use Rattle.bolt_tree.proofs.TrailLemmas.{entered_length, frames_pop, length-frames, popped_none, popped_stack, same_bucket}
@@ -34,7 +34,7 @@ returns-in-Some-enter-clause-found c =
     let r = step_back_some (trail_bucket c.loop-top.self) (trail_bucket c.enter.new.self) (trail_frames c.loop-top.self) (frames_of c.pop.new.self.items) (trail_frames c.enter.new.self) (frame_of c.in-Some.top)
     (c.in-Some.top.taken - 2) (leaf_view c.in-Some-enter.leaf) two (same_bucket _ c.enter.new.self c.enter.ensures.same)
     (frames_pop c.loop-top.self.stack.items c.pop.new.self.items c.in-Some.top c.in-Some.ensures.items) (rw c.in-Some-enter.is at c.enter.ensures.entered) in
-    (sym c.loop-top.invariant.behind ∙ r.0, r.1)
+    (sym c.loop-top.invariant.preceding ∙ r.0, r.1)
 
 pub loop-top-smaller-in_default-enter : goal.loop-top-smaller-in_default-enter
 loop-top-smaller-in_default-enter c =
@@ -62,7 +62,7 @@ loop-top-preserved-in_default-enter c =
     record {
       same = record { file = c.enter.ensures.same.file ∙ inv.same.file; at = c.enter.ensures.same.at ∙ inv.same.at };
       stack = c.enter.ensures.stack;
-      behind = sym r.0 ∙ inv.behind;
+      preceding = sym r.0 ∙ inv.preceding;
     }
 
 pub loop-top-preserved : goal.loop-top-preserved
@@ -72,12 +72,12 @@ loop-top-preserved c =
     let frames = frames_pop c.loop-top.self.stack.items c.pop.new.self.items c.in-Some.top c.in-Some.ensures.items in
     let stack = popped_stack c.loop-top.self c.pop.new.self.items c.in-Some.top c.in-Some.ensures.items c.loop-top.invariant.stack in
     let r = left_out (trail_bucket c.loop-top.self) f below stack c.if-top-gt1.false in
-    let a : behind (record { pager = c.loop-top.self.pager; at = c.loop-top.self.at; stack = c.pop.new.self }) ≡ behind c.loop-top.self = rw frames r.0 in
+    let a : preceding (record { pager = c.loop-top.self.pager; at = c.loop-top.self.at; stack = c.pop.new.self }) ≡ preceding c.loop-top.self = rw frames r.0 in
     let inv = c.loop-top.invariant in
     record {
       same = record { file = inv.same.file; at = inv.same.at };
       stack = popped (trail_bucket c.loop-top.self) f below stack;
-      behind = a ∙ inv.behind;
+      preceding = a ∙ inv.preceding;
     }
 
 pub returns-clause-stack : goal.returns-clause-stack

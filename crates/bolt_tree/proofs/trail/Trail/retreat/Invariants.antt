@@ -1,12 +1,12 @@
 use Rattle.std.proofs.Common.{◌≡◌, ◌+◌, ◌*◌, length}
-use Rattle.bolt_tree.specs.Private.Trails.{HasTrail, IsSameBucket, before, behind}
+use Rattle.bolt_tree.specs.Private.Trails.{HasTrail, IsSameBucket, before, preceding}
 use Rattle.bolt_tree.proofs.trail.Trail.retreat.Given as goal
 
 abbrev pub invariant-loop-top : goal.invariant-loop-top
 invariant-loop-top l = record {
   same : IsSameBucket l.initial.self l.self;
   stack : HasTrail l.self;
-  behind : behind l.self ≡ behind l.initial.self;
+  preceding : preceding l.self ≡ preceding l.initial.self;
 }
 
 abbrev pub decreases-loop-top : goal.decreases-loop-top

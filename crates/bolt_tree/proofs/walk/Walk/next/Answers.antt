@@ -4,8 +4,8 @@ use Rattle.bolt_tree.specs.Entries.{Item}
 use Rattle.bolt_tree.specs.ShownEntries.{item_view}
 use Rattle.bolt_tree.specs.Listing.{Member}
 use Rattle.bolt_tree.specs.Paths.{Path}
-use Rattle.bolt_tree.specs.Private.OpenBuckets.{told_path, open_path}
-use Rattle.bolt_tree.specs.Private.Behind.{behind}
+use Rattle.bolt_tree.specs.Private.OpenBuckets.{reported_path, open_path}
+use Rattle.bolt_tree.specs.Private.RestAfter.{rest_after}
 use Rattle.bolt_tree.specs.Walks.{left_of, walk_checked, walk_path}
 use Rattle.bolt_tree.proofs.Climbing.{listed_in, none_beyond}
 use Rattle.bolt_tree.proofs.Walking.{ahead_in, ahead_prop}
@@ -32,9 +32,9 @@ returns-in-Some-clause-given c = λ listing lists.
     let first = came listing lists in
     let then = c.after-self.ensures.left listing (listed_in c.advance.new.self.cursors.checked c.args.self.now.buckets.cursors.checked listing c.in_ok-leaf.ensures.checked lists) in
     first
-    ∙ ap (λ (i : Item). (open_path c.advance.new.self, i) ∷ behind (open_path c.advance.new.self) listing) (sym c.of.ensures)
-    ∙ ap (λ (p : Path). (p, item_view c.of.result) ∷ behind (open_path c.advance.new.self) listing) (sym c.after-self.ensures.told)
-    ∙ ap (λ (ms : List Member). (told_path c.after-self.result (open_path c.advance.new.self), item_view c.of.result) ∷ ms) (sym then)
+    ∙ ap (λ (i : Item). (open_path c.advance.new.self, i) ∷ rest_after (open_path c.advance.new.self) listing) (sym c.of.ensures)
+    ∙ ap (λ (p : Path). (p, item_view c.of.result) ∷ rest_after (open_path c.advance.new.self) listing) (sym c.after-self.ensures.reported)
+    ∙ ap (λ (ms : List Member). (reported_path c.after-self.result (open_path c.advance.new.self), item_view c.of.result) ∷ ms) (sym then)
 
 pub returns-in-None-clause-given : goal.returns-in-None-clause-given
 unfolding left_of walk_checked walk_path

@@ -1,0 +1,246 @@
+-- What the code keeps open of a bucket, its rows, is what the pass has open, the open runs.
+use Rattle.std.proofs.Common.{◌≡◌, ◌∙◌, ℕ, ◌+◌, ◌||◌, Bool, true, false, if◌then◌else◌, Option, None, List, [], ◌∷◌, ◌++◌, length, refl, sym, ap, inl, inr, arith, suc}
+use Rattle.std.specs.List.{AllByRecursion}
+use Rattle.std.proofs.lemmas.Bool.{cases_Bool}
+use Rattle.std.proofs.lemmas.List.Sums.{sum_by_push}
+use Rattle.bolt_format.specs.Elements.{BranchElement, LeafElement}
+use Rattle.bolt_layout.specs.Cut.{run_size}
+use Rattle.bolt_layout.specs.Laid.{Laid, Placed, elements_of, first_key, numbers_of, size_of}
+use Rattle.bolt_layout.specs.Limits.{is_out, one_less}
+use Rattle.bolt_layout.specs.Levels.{branch_view, overflow_of, page_over, run_overflow, leaf_view}
+use Rattle.bolt_bulk.specs.Private.OpenRuns.{Upper, begun_after, climb, climb_puts, has_room, kept, key_size, numbers_in, own_page, pushed_on, put_in, stays_open, close, close_puts, end_of, end_puts, Known, making_room, nothing_open, Open, pushing, room_puts}
+use Rattle.bolt_bulk.specs.Private.Rows.{BranchRow, no_row, one_closed, row_has_room, row_kept, row_key, row_page, row_push, row_stays, rows_climb, rows_put, OpenRows, leaf_key, leaf_page, leaves_have_room, no_leaves, rows_close_put, rows_end, rows_end_put, rows_next, rows_root, rows_push, rows_room, rows_room_put}
+use Rattle.bolt_bulk.specs.Private.OpenRows.{AreRows, IsKeyed, IsRow, IsKeyedItem, IsOpenRows}
+use Rattle.bolt_layout.proofs.ListLemmas.{all_append}
+use Rattle.bolt_layout.proofs.OverRows.{numbers-append}
+use Rattle.bolt_bulk.specs.declared.limits.BucketLimits.{BucketLimits}
+use Rattle.bolt_bulk.specs.Private.RowLimits.{bucket_limit}
+use Rattle.bolt_layout.proofs.LaidItems.{length-elements}
+use Rattle.bolt_layout.proofs.BranchLemmas.{same_branch}
+
+pub elements-append : {E : Type 0} (xs ys : List (Laid E)) (n : ℕ) → elements_of (xs ++ ys) n ≡ elements_of xs n ++ elements_of ys (n + numbers_of xs)
+elements-append [] ys n = ap (λ (m : ℕ). elements_of ys m) (let e : n ≡ n + 0 = omega arith in e)
+elements-append {E = E} (x ∷ xs) ys n =
+    let ih = elements-append xs ys (n + x.numbers) in
+    let e : n + x.numbers + numbers_of xs ≡ n + numbers_of (x ∷ xs) = omega arith in
+    ap (λ (es : List E). x.element n ∷ es) (ih ∙ ap (λ (m : ℕ). elements_of xs (n + x.numbers) ++ elements_of ys m) e)
+
+pub row_pushed : (row : BranchRow) (upper : Upper) (n : ℕ) (q : Laid BranchElement) (e : BranchElement) → IsRow row upper n → IsKeyed q → e ≡ q.element (n + numbers_of upper.run)
+    → IsRow (row_push row e) (pushed_on upper q) n
+row_pushed row upper n q e is keyed same =
+    let run : List (Laid BranchElement) = upper.run in
+    let s = sum_by_push (size_of {E = BranchElement}) run q in
+    let size = is.size_is in
+    let k : length e.key ≡ length q.key = ap (λ (x : BranchElement). length x.key) same ∙ ap (λ (x : List ℕ). length x) (keyed.1 (n + numbers_of run)) in
+    let z = keyed.0 in
+    record {
+      same = ap (λ (es : List BranchElement). es ++ e ∷ []) is.same ∙ (ap (λ (x : BranchElement). elements_of run n ++ x ∷ []) same ∙ sym (elements-append run (q ∷ []) n));
+      size_is = omega arith;
+      keyed = all_append IsKeyed run (q ∷ []) is.keyed (keyed, tt);
+      left_is = is.left_is;
+      closed_is = is.closed_is;
+    }
+
+pub room_same : (page_size : ℕ) (row : BranchRow) (upper : Upper) (n size : ℕ) → IsRow row upper n → row_has_room page_size row size ≡ has_room page_size 2 upper.run size
+room_same page_size row upper n size is =
+    let l : length row.elements ≡ length upper.run = ap (λ (es : List BranchElement). length es) is.same ∙ length-elements upper.run n in
+    rw (l, is.size_is) refl
+
+pub stays_same : (page_size : ℕ) (row : BranchRow) (upper : Upper) (n size : ℕ) → IsRow row upper n → row_stays page_size row size ≡ stays_open page_size upper size
+stays_same page_size row upper n size is = ap (λ (b : Bool). b || is_out row.left) (room_same page_size row upper n size is) ∙ ap (λ (l : Option ℕ). has_room page_size 2 upper.run size || is_out l) is.left_is
+
+pub kept_same : (page_size : ℕ) (row : BranchRow) (upper : Upper) (n size : ℕ) → IsRow row upper n → IsRow (row_kept page_size row size) (kept page_size upper size) n
+kept_same page_size row upper n size is = record {
+  same = is.same;
+  size_is = is.size_is;
+  keyed = is.keyed;
+  left_is = ap (λ (b : Bool). if b then row.left else None) (room_same page_size row upper n size is) ∙ ap (λ (l : Option ℕ). if has_room page_size 2 upper.run size then l else None) is.left_is;
+  closed_is = is.closed_is;
+}
+
+pub key_same : (run : List (Laid BranchElement)) (n : ℕ) → AllByRecursion IsKeyed run → row_key (elements_of run n) ≡ first_key run
+key_same [] n keyed = refl
+key_same (x ∷ run) n keyed = keyed.0.1 n
+
+pub placed_same : (page_size : ℕ) (row : BranchRow) (upper : Upper) (n next : ℕ) → IsRow row upper n → next ≡ n + numbers_of upper.run → row_page page_size row next ≡ own_page branch_view page_size upper.run n
+placed_same page_size row upper n next is number =
+    let run : List (Laid BranchElement) = upper.run in
+    let f : ℕ → ℕ → List BranchElement → Placed = λ m s es. record { number = m; view = branch_view (overflow_of page_size s) es } in
+    ap (λ (m : ℕ). f m row.size row.elements) number
+    ∙ (ap (λ (s : ℕ). f (n + numbers_of run) s row.elements) is.size_is ∙ ap (λ (es : List BranchElement). f (n + numbers_of run) (run_size size_of run) es) is.same)
+
+-- the climb of the rows is that of the runs
+pub rows_climbed : (page_size : ℕ) (new : Option ℕ) (key : List ℕ) (e : BranchElement) (next b : ℕ) (q : Laid BranchElement) (rows : List BranchRow) (uppers : List Upper) → AreRows rows uppers b → IsKeyed q
+    → e ≡ q.element (b + numbers_in uppers) → next ≡ b + numbers_in uppers + q.numbers
+    → AreRows (rows_climb page_size new key e next rows) (climb page_size new key q uppers) b × (rows_put page_size key e next rows ≡ climb_puts page_size key q uppers b)
+rows_climbed page_size new key e next b q [] [] are keyed same number =
+    let at : b + 0 ≡ b + 0 + 0 = omega arith in
+    let base : IsRow (no_row new 0) (record { run = []; left = new; closed = 0 }) (b + 0) = record { same = refl; size_is = refl; keyed = tt; left_is = refl; closed_is = refl } in
+    ((row_pushed (no_row new 0) (record { run = []; left = new; closed = 0 }) (b + 0) q e base keyed (same ∙ ap q.element at), tt), refl)
+rows_climbed page_size new key e next b q [] (upper ∷ uppers) are keyed same number = absurd are
+rows_climbed page_size new key e next b q (row ∷ rows) [] are keyed same number = absurd are
+rows_climbed page_size new key e next b q (row ∷ rows) (upper ∷ uppers) are keyed same number =
+    let run : List (Laid BranchElement) = upper.run in
+    let m : ℕ = b + numbers_in uppers in
+    let count = numbers-append (put_in uppers) run in
+    let place : b + numbers_in (upper ∷ uppers) ≡ m + numbers_of run = omega arith in
+    let pushed = row_pushed row upper m q e are.0 keyed (same ∙ ap q.element place) in
+    let test = stays_same page_size (row_push row e) (pushed_on upper q) m (key_size key) pushed in
+    let q2 : Laid BranchElement = page_over branch_view page_size (run ++ q ∷ []) in
+    let more = numbers-append run (q ∷ []) in
+    let next_is : next ≡ m + numbers_of (run ++ q ∷ []) = omega arith in
+    let e2 : BranchElement = record { key = row_key (row_push row e).elements; child = next } in
+    let over : overflow_of page_size (row_push row e).size ≡ run_overflow page_size (run ++ q ∷ []) = ap (overflow_of page_size) pushed.size_is in
+    let named : e2 ≡ q2.element m = same_branch e2 (q2.element m) (ap row_key pushed.same ∙ key_same (run ++ q ∷ []) m pushed.keyed) next_is in
+    let after : next + (1 + overflow_of page_size (row_push row e).size) ≡ m + q2.numbers = omega arith in
+    let ih = rows_climbed page_size new key e2 (next + (1 + overflow_of page_size (row_push row e).size)) b q2 rows uppers are.1 (refl, λ n. refl) named after in
+    elim (cases_Bool (stays_open page_size (pushed_on upper q) (key_size key))) [
+      | inl t ↦
+          (let u : row_stays page_size (row_push row e) (key_size key) ≡ true = test ∙ t in
+          let stays = kept_same page_size (row_push row e) (pushed_on upper q) m (key_size key) pushed in rw (t, u) ((stays, are.1), refl))
+      | inr f ↦
+          (let u : row_stays page_size (row_push row e) (key_size key) ≡ false = test ∙ f in
+          let left : one_less row.left ≡ one_less upper.left = ap one_less are.0.left_is in
+          let counted = are.0.closed_is in
+          let here : IsRow (no_row (one_less row.left) (one_closed row.closed)) (begun_after upper) (b + numbers_in (climb page_size new key q2 uppers)) = record { same = refl; size_is = refl; keyed = tt; left_is = left; closed_is = omega arith } in
+          let own = placed_same page_size (row_push row e) (pushed_on upper q) m next pushed next_is in
+          rw (f, u) (
+            (here, ih.0),
+            ap (λ (p : Placed). p ∷ rows_put page_size key e2 (next + (1 + overflow_of page_size (row_push row e).size)) rows) own
+                ∙ ap (λ (ps : List Placed). own_page branch_view page_size (run ++ q ∷ []) m ∷ ps) ih.1,
+          ))
+    ]
+
+-- the next number after a climb
+rows_nexted : (page_size : ℕ) (new : Option ℕ) (key : List ℕ) (e : BranchElement) (next b : ℕ) (q : Laid BranchElement) (rows : List BranchRow) (uppers : List Upper) → AreRows rows uppers b → IsKeyed q
+    → e ≡ q.element (b + numbers_in uppers) → next ≡ b + numbers_in uppers + q.numbers → rows_next page_size key e next rows ≡ b + numbers_in (climb page_size new key q uppers)
+rows_nexted page_size new key e next b q [] [] are keyed same number = omega arith
+rows_nexted page_size new key e next b q [] (upper ∷ uppers) are keyed same number = absurd are
+rows_nexted page_size new key e next b q (row ∷ rows) [] are keyed same number = absurd are
+rows_nexted page_size new key e next b q (row ∷ rows) (upper ∷ uppers) are keyed same number =
+    let run : List (Laid BranchElement) = upper.run in
+    let m : ℕ = b + numbers_in uppers in
+    let count = numbers-append (put_in uppers) run in
+    let place : b + numbers_in (upper ∷ uppers) ≡ m + numbers_of run = omega arith in
+    let pushed = row_pushed row upper m q e are.0 keyed (same ∙ ap q.element place) in
+    let test = stays_same page_size (row_push row e) (pushed_on upper q) m (key_size key) pushed in
+    let q2 : Laid BranchElement = page_over branch_view page_size (run ++ q ∷ []) in
+    let more = numbers-append run (q ∷ []) in
+    let next_is : next ≡ m + numbers_of (run ++ q ∷ []) = omega arith in
+    let e2 : BranchElement = record { key = row_key (row_push row e).elements; child = next } in
+    let over : overflow_of page_size (row_push row e).size ≡ run_overflow page_size (run ++ q ∷ []) = ap (overflow_of page_size) pushed.size_is in
+    let named : e2 ≡ q2.element m = same_branch e2 (q2.element m) (ap row_key pushed.same ∙ key_same (run ++ q ∷ []) m pushed.keyed) next_is in
+    let ih = rows_nexted page_size new key e2 (next + (1 + overflow_of page_size (row_push row e).size)) b q2 rows uppers are.1 (refl, λ n. refl) named (omega arith) in
+    let stays = numbers-append (put_in uppers) (run ++ q ∷ []) in
+    let closes = numbers-append (put_in (climb page_size new key q2 uppers)) [] in
+    elim (cases_Bool (stays_open page_size (pushed_on upper q) (key_size key))) [
+      | inl t ↦ (let u : row_stays page_size (row_push row e) (key_size key) ≡ true = test ∙ t in rw (t, u) (omega arith))
+      | inr f ↦ (let u : row_stays page_size (row_push row e) (key_size key) ≡ false = test ∙ f in rw (f, u) (ih ∙ omega arith))
+    ]
+
+pub nothing_rows : (known : Known) (b : ℕ) → IsOpenRows (record { leaves = no_leaves; uppers = []; limits = known.limits; next = b }) (nothing_open known) b
+nothing_rows known b = record { same = refl; size_is = refl; keyed = tt; above = tt; next_is = omega arith; limits_are = refl }
+
+pub leaf_key_same : (run : List (Laid LeafElement)) (n : ℕ) → AllByRecursion IsKeyedItem run → leaf_key (elements_of run n) ≡ first_key run
+leaf_key_same [] n keyed = refl
+leaf_key_same (x ∷ run) n keyed = keyed.0 n
+
+as_many : (rows : List BranchRow) (uppers : List Upper) (b : ℕ) → AreRows rows uppers b → length rows ≡ length uppers
+as_many [] [] b are = refl
+as_many [] (upper ∷ uppers) b are = absurd are
+as_many (row ∷ rows) [] b are = absurd are
+as_many (row ∷ rows) (upper ∷ uppers) b are = ap suc (as_many rows uppers b are.1)
+
+-- making room
+pub rows_have_room : (page_size : ℕ) (rows : OpenRows) (state : Open) (b : ℕ) (key : List ℕ) (size : ℕ) → IsOpenRows rows state b
+    → IsOpenRows (rows_room page_size rows key size) (making_room page_size state key size) b × (rows_room_put page_size rows key size ≡ room_puts page_size state key size b)
+rows_have_room page_size rows state b key size is =
+    let m : ℕ = b + numbers_in state.uppers in
+    let l : length rows.leaves.elements ≡ length state.run = ap (λ (es : List LeafElement). length es) is.same ∙ length-elements state.run m in
+    let test : leaves_have_room page_size rows.leaves size ≡ has_room page_size 1 state.run size = rw (l, is.size_is) refl in
+    let q : Laid BranchElement = page_over leaf_view page_size state.run in
+    let closed : BranchElement = record { key = leaf_key rows.leaves.elements; child = rows.next } in
+    let after : ℕ = rows.next + (1 + overflow_of page_size rows.leaves.size) in
+    let over : overflow_of page_size rows.leaves.size ≡ run_overflow page_size state.run = ap (overflow_of page_size) is.size_is in
+    let named : closed ≡ q.element m = same_branch closed (q.element m) (ap leaf_key is.same ∙ leaf_key_same state.run m is.keyed) is.next_is in
+    let n = is.next_is in
+    let new : Option ℕ = bucket_limit state.known.limits (length state.uppers) in
+    let level : bucket_limit rows.limits (length rows.uppers) ≡ new = ap (λ (limits : BucketLimits). bucket_limit limits (length rows.uppers)) is.limits_are ∙ ap (λ (k : ℕ). bucket_limit state.known.limits k) (as_many rows.uppers state.uppers b is.above) in
+    let number : after ≡ m + q.numbers = omega arith in
+    let climbed = rows_climbed page_size new key closed after b q rows.uppers state.uppers is.above (refl, λ k. refl) named number in
+    let nexted = rows_nexted page_size new key closed after b q rows.uppers state.uppers is.above (refl, λ k. refl) named number in
+    let f : ℕ → ℕ → List LeafElement → Placed = λ k s es. record { number = k; view = leaf_view (overflow_of page_size s) es } in
+    let own : leaf_page page_size rows.leaves rows.next ≡ own_page leaf_view page_size state.run m =
+    ap (λ (k : ℕ). f k rows.leaves.size rows.leaves.elements) is.next_is
+    ∙ (ap (λ (s : ℕ). f (m + numbers_of state.run) s rows.leaves.elements) is.size_is ∙ ap (λ (es : List LeafElement). f (m + numbers_of state.run) (run_size size_of state.run) es) is.same) in
+    elim (cases_Bool (has_room page_size 1 state.run size)) [
+      | inl t ↦ (let u : leaves_have_room page_size rows.leaves size ≡ true = test ∙ t in rw (t, u) (is, refl))
+      | inr g ↦
+          (let u : leaves_have_room page_size rows.leaves size ≡ false = test ∙ g in
+          let made : IsOpenRows (record { leaves = no_leaves; uppers = rows_climb page_size new key closed after rows.uppers; limits = rows.limits; next = rows_next page_size key closed after rows.uppers })
+          (record { uppers = climb page_size new key q state.uppers; run = []; known = state.known }) b = record { same = refl; size_is = refl; keyed = tt; above = climbed.0; next_is = nexted ∙ omega arith; limits_are = is.limits_are } in
+          rw (g, u, level) (made, ap (λ (p : Placed). p ∷ rows_put page_size key closed after rows.uppers) own ∙ ap (λ (ps : List Placed). own_page leaf_view page_size state.run m ∷ ps) climbed.1))
+    ]
+
+-- an item, once the pages below it were written
+pub rows_pushed : (rows : OpenRows) (state : Open) (b : ℕ) (item : Laid LeafElement) → IsOpenRows rows state b → IsKeyedItem item
+    → IsOpenRows (rows_push rows (item.element rows.next) item.size (rows.next + item.numbers)) (pushing state item) b
+rows_pushed rows state b item is keyed =
+    let m : ℕ = b + numbers_in state.uppers in
+    let s = sum_by_push (size_of {E = LeafElement}) state.run item in
+    let size = is.size_is in
+    let count = numbers-append state.run (item ∷ []) in
+    let n = is.next_is in
+    record {
+      same = ap (λ (es : List LeafElement). es ++ item.element rows.next ∷ []) is.same
+          ∙ (ap (λ (k : ℕ). elements_of state.run m ++ item.element k ∷ []) is.next_is ∙ sym (elements-append state.run (item ∷ []) m));
+      size_is = omega arith;
+      keyed = all_append IsKeyedItem state.run (item ∷ []) is.keyed (keyed, tt);
+      above = is.above;
+      next_is = omega arith;
+      limits_are = is.limits_are;
+    }
+
+-- the end
+rows_closed : (page_size : ℕ) (e : BranchElement) (next b : ℕ) (q : Laid BranchElement) (rows : List BranchRow) (uppers : List Upper) → AreRows rows uppers b → IsKeyed q
+    → e ≡ q.element (b + numbers_in uppers) → next ≡ b + numbers_in uppers + q.numbers
+    → (rows_close_put page_size e next rows ≡ close_puts page_size q uppers b) × (rows_root page_size e next rows ≡ ((close page_size q uppers).element b).child)
+rows_closed page_size e next b q [] [] are keyed same number =
+    let at : b + 0 ≡ b = omega arith in (refl, ap (λ (x : BranchElement). x.child) (same ∙ ap q.element at))
+rows_closed page_size e next b q [] (upper ∷ uppers) are keyed same number = absurd are
+rows_closed page_size e next b q (row ∷ rows) [] are keyed same number = absurd are
+rows_closed page_size e next b q (row ∷ rows) (upper ∷ uppers) are keyed same number =
+    let run : List (Laid BranchElement) = upper.run in
+    let m : ℕ = b + numbers_in uppers in
+    let count = numbers-append (put_in uppers) run in
+    let place : b + numbers_in (upper ∷ uppers) ≡ m + numbers_of run = omega arith in
+    let pushed = row_pushed row upper m q e are.0 keyed (same ∙ ap q.element place) in
+    let q2 : Laid BranchElement = page_over branch_view page_size (run ++ q ∷ []) in
+    let more = numbers-append run (q ∷ []) in
+    let next_is : next ≡ m + numbers_of (run ++ q ∷ []) = omega arith in
+    let e2 : BranchElement = record { key = row_key (row_push row e).elements; child = next } in
+    let over : overflow_of page_size (row_push row e).size ≡ run_overflow page_size (run ++ q ∷ []) = ap (overflow_of page_size) pushed.size_is in
+    let named : e2 ≡ q2.element m = same_branch e2 (q2.element m) (ap row_key pushed.same ∙ key_same (run ++ q ∷ []) m pushed.keyed) next_is in
+    let ih = rows_closed page_size e2 (next + (1 + overflow_of page_size (row_push row e).size)) b q2 rows uppers are.1 (refl, λ n. refl) named (omega arith) in
+    let own = placed_same page_size (row_push row e) (pushed_on upper q) m next pushed next_is in (
+      ap (λ (p : Placed). p ∷ rows_close_put page_size e2 (next + (1 + overflow_of page_size (row_push row e).size)) rows) own
+          ∙ ap (λ (ps : List Placed). own_page branch_view page_size (run ++ q ∷ []) m ∷ ps) ih.0,
+      ih.1,
+    )
+
+pub rows_ended : (page_size : ℕ) (rows : OpenRows) (state : Open) (b : ℕ) → IsOpenRows rows state b
+    → (rows_end_put page_size rows ≡ end_puts page_size state b) × (rows_end page_size rows ≡ ((end_of page_size state).element b).child)
+rows_ended page_size rows state b is =
+    let m : ℕ = b + numbers_in state.uppers in
+    let q : Laid BranchElement = page_over leaf_view page_size state.run in
+    let closed : BranchElement = record { key = leaf_key rows.leaves.elements; child = rows.next } in
+    let over : overflow_of page_size rows.leaves.size ≡ run_overflow page_size state.run = ap (overflow_of page_size) is.size_is in
+    let named : closed ≡ q.element m = same_branch closed (q.element m) (ap leaf_key is.same ∙ leaf_key_same state.run m is.keyed) is.next_is in
+    let n = is.next_is in
+    let after : ℕ = rows.next + (1 + overflow_of page_size rows.leaves.size) in
+    let ends = rows_closed page_size closed after b q rows.uppers state.uppers is.above (refl, λ k. refl) named (omega arith) in
+    let f : ℕ → ℕ → List LeafElement → Placed = λ k s es. record { number = k; view = leaf_view (overflow_of page_size s) es } in
+    let own : leaf_page page_size rows.leaves rows.next ≡ own_page leaf_view page_size state.run m =
+    ap (λ (k : ℕ). f k rows.leaves.size rows.leaves.elements) is.next_is
+    ∙ (ap (λ (s : ℕ). f (m + numbers_of state.run) s rows.leaves.elements) is.size_is ∙ ap (λ (es : List LeafElement). f (m + numbers_of state.run) (run_size size_of state.run) es) is.same) in
+    (ap (λ (p : Placed). p ∷ rows_close_put page_size closed after rows.uppers) own ∙ ap (λ (ps : List Placed). own_page leaf_view page_size state.run m ∷ ps) ends.0, ends.1)

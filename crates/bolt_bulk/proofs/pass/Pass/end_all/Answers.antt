@@ -1,0 +1,74 @@
+-- What is open of the root bucket ends, which is the rest of the layout.
+use Rattle.std.proofs.Common.{◌∙◌, [], Result, Ok, Err, arith, subst, sym}
+use Rattle.std.specs.Prelude.{⊤}
+use Rattle.bolt_layout.specs.declared.layout.Layout.TheVariants.{Balanced}
+use Rattle.bolt_bulk.specs.Private.Endings.{Ends}
+use Rattle.bolt_bulk.specs.Private.OpenBuckets.{rows_of}
+use Rattle.bolt_bulk.specs.Private.Passes.{FitLimits, HasLeft, limits_with}
+use Rattle.bolt_bulk.specs.Private.Rows.{rows_end_put}
+use Rattle.bolt_bulk.specs.declared.page_setup.PageSetup.{PageSetup}
+use Rattle.bolt_bulk.specs.declared.fault.BulkFault.{BulkFault}
+use Rattle.bolt_bulk.specs.declared.pass.Ended.{Ended}
+use Rattle.bolt_bulk.proofs.PassAt.{puts_fault, steps_none}
+use Rattle.bolt_bulk.proofs.PassEnds.{ends_after, ends_early, has_end}
+use Rattle.bolt_bulk.specs.declared.limits.Limits.{Limits}
+use Rattle.bolt_bulk.proofs.Tables.{BucketEnds}
+use Rattle.bolt_bulk.proofs.pass.Pass.end_all.Goals as goal
+
+pub returns-in-Err : goal.returns-in-Err
+returns-in-Err g c = λ wanted put has.
+    ends_early wanted g.S.Sink.taken g.S.Sink.failed c.args.self.now.setup c.args.sink.now c.leave_to.new.sink put (HasLeft wanted c.leave_to.new.self []) c.in-Err.fault (c.in-Err.ensures.steps wanted [] put has tt)
+
+pub returns-in-Err-ended : goal.returns-in-Err-ended
+returns-in-Err-ended g c = λ wanted put has.
+    let stop : Result Ended BulkFault = Err c.in-Err-ended.fault in
+    let first : Result ⊤ BulkFault = Err c.in-Err-ended.fault in
+    ends_after wanted g.S.Sink.taken g.S.Sink.failed c.args.self.now.setup c.args.sink.now c.leave_to.new.sink c.leave_to.new.sink put (HasLeft wanted c.leave_to.new.self []) tt stop (c.in_default.ensures.steps wanted [] put has tt)
+    (λ all mid. subst (λ (b : PageSetup). Ends wanted g.S.Sink.taken g.S.Sink.failed c.leave_to.new.sink c.leave_to.new.sink b all stop) c.in_default.ensures.setup
+    (ends_early wanted g.S.Sink.taken g.S.Sink.failed c.leave_to.new.self.setup c.leave_to.new.sink c.leave_to.new.sink all (HasLeft wanted c.leave_to.new.self []) c.in-Err-ended.fault
+    (steps_none wanted c.leave_to.new.self mid.levels mid.left all c.leave_to.new.sink (HasLeft wanted c.leave_to.new.self []) first mid.at c.in-Err-ended.ensures.fault tt)))
+
+pub returns-in-Err-close_runs : goal.returns-in-Err-close_runs
+returns-in-Err-close_runs g c = λ wanted put has.
+    let stop : Result Ended BulkFault = Err c.in-Err-close_runs.fault in
+    ends_after wanted g.S.Sink.taken g.S.Sink.failed c.args.self.now.setup c.args.sink.now c.leave_to.new.sink c.close_runs.new.sink put (HasLeft wanted c.leave_to.new.self []) tt stop (c.in_default.ensures.steps wanted [] put has tt)
+    (λ all mid. let end = has_end wanted c.leave_to.new.self all mid c.in_default.ensures.depth in
+    subst (λ (b : PageSetup). Ends wanted g.S.Sink.taken g.S.Sink.failed c.leave_to.new.sink c.close_runs.new.sink b all stop) c.in_default.ensures.setup
+    (record {
+      others = rows_end_put c.leave_to.new.self.setup.page_size (rows_of c.leave_to.new.self.bucket c.leave_to.new.self.next);
+      all = end.pages;
+      puts = puts_fault _ _ _ c.in-Err-close_runs.fault c.in-Err-close_runs.ensures.pages;
+      short = c.in-Err-close_runs.ensures.short;
+      root = tt;
+      mark = tt;
+      within = tt;
+      told = tt;
+      held = tt;
+      large = λ h. let m = c.in-Err-close_runs.ensures.large h in let n = end.mark in omega (arith, m, n);
+    }))
+
+pub returns-in-Ok : goal.returns-in-Ok
+returns-in-Ok g c = λ wanted put has.
+    let well : Result Ended BulkFault = Ok (record { root = c.in-Ok.root; high_water = c.close_runs.new.next; held = c.leave_to.new.self.most; told = c.take_limits.result }) in
+    let ends : BucketEnds c.leave_to.new.self.told c.bucket_ends-ended.new.self c.leave_to.new.self.bucket.limits.bucket c.leave_to.new.self.bucket.uppers.items =
+    record { same = c.in_default-ended.ensures.same; told = rw c.as_slice.ensures.value at c.in_default-ended.ensures.told; others = c.in_default-ended.ensures.others } in
+    ends_after wanted g.S.Sink.taken g.S.Sink.failed c.args.self.now.setup c.args.sink.now c.leave_to.new.sink c.close_runs.new.sink put (HasLeft wanted c.leave_to.new.self []) tt well (c.in_default.ensures.steps wanted [] put has tt)
+    (λ all mid. let end = has_end wanted c.leave_to.new.self all mid c.in_default.ensures.depth in
+    subst (λ (b : PageSetup). Ends wanted g.S.Sink.taken g.S.Sink.failed c.leave_to.new.sink c.close_runs.new.sink b all well) c.in_default.ensures.setup
+    (record {
+      others = rows_end_put c.leave_to.new.self.setup.page_size (rows_of c.leave_to.new.self.bucket c.leave_to.new.self.next);
+      all = end.pages;
+      puts = record { all = c.in-Ok.ensures.pages.all; sound = c.in-Ok.ensures.pages.sound; beginning = tt; failure = tt; other = tt };
+      short = tt;
+      root = c.in-Ok.ensures.root ∙ end.root;
+      mark = c.in-Ok.ensures.next ∙ end.mark;
+      within = c.in-Ok.ensures.within;
+      told = λ asked which.
+          let mark = end.mark in
+          let next = c.in-Ok.ensures.next in
+          let within = c.in-Ok.ensures.within in
+          let counted = c.leave_to.new.self.setup.counted in
+          subst (λ (l : Limits). FitLimits Balanced wanted.tree c.leave_to.new.self.setup.page_size (limits_with l)) (sym c.take_limits.ensures) (end.told c.bucket_ends-ended.new.self ends asked which (omega arith));
+      held = end.held;
+      large = tt;
+    }))

@@ -1,0 +1,5 @@
+use Rattle.bolt_check.specs.Private.Listings.{IsBeyondTo}
+use Rattle.bolt_check.proofs.listing_findings.report_beyond.Given as goal
+
+abbrev pub invariant-loop-i : goal.invariant-loop-i
+invariant-loop-i l = IsBeyondTo l.listing l.last l.i l.findings.items

@@ -1,0 +1,16 @@
+use Rattle.std.proofs.Common.{◌∙◌, arith, sym}
+use Rattle.bolt_format.specs.ElementPlaces.{leaf_view}
+use Rattle.bolt_check.specs.Nodes.{leaf_entry}
+use Rattle.bolt_check.specs.ShownSpots.{page_spot}
+use Rattle.bolt_check.proofs.NodeLemmas.{leaf-entry, length-leaf, step-leaf}
+use Rattle.bolt_check.proofs.tree_page.TreePage.spot.Goals as goal
+
+pub leaf-requires-clause-below : goal.leaf-requires-clause-below
+leaf-requires-clause-below c = omega (arith, length-leaf c.args.self.now c.if-self.true, c.requires.below)
+
+pub returns-then-self-clause-leads : goal.returns-then-self-clause-leads
+returns-then-self-clause-leads c =
+    let element = leaf_view c.leaf.result in
+    c.bucket_spot.ensures.leads
+    ∙ sym (step-leaf c.args.self.now (page_spot c.args.spot.now) c.args.i (leaf_entry element) c.if-self.true
+    (leaf-entry c.args.self.now c.args.i element c.if-self.true c.leaf.ensures.element))

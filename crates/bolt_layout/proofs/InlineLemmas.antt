@@ -1,0 +1,61 @@
+-- The value of an inline bucket that was written is read back, and passes its tests.
+use Rattle.std.proofs.Common.{◌≡◌, ◌∙◌, ℕ, zero, suc, ◌+◌, ◌*◌, ◌^◌, ◌<◌, ◌≤◌, ◌==◌, nat_lt, true, false, List, [], ◌∷◌, ◌++◌, length, map, drop, Option, None, refl, sym, ap, arith}
+use Rattle.std.specs.List.{AllByRecursion, list_any, range_with_len}
+use Rattle.std.proofs.lemmas.Bool.{le-ltb, eq-eqb}
+use Rattle.std.proofs.lemmas.List.{append-nil, length-append}
+use Rattle.bolt_format.specs.Headers.{count_field, flags_field}
+use Rattle.bolt_format.specs.Elements.{LeafElement, has_bucket, head_fault, head_root, head_sequence, inline_bytes, inline_elements, inline_fault, inline_page_fault, is_bucket_at, leaf_element, leaf_elements, leaves_fault, value_fault}
+use Rattle.bolt_format.specs.Written.{header_bytes}
+use Rattle.bolt_layout.specs.PageBytes.{inline_value, leaf_bytes, leaf_data}
+use Rattle.bolt_format.proofs.FaultLemmas.{first_of-both}
+use Rattle.bolt_format.proofs.WrittenHeaders.{head_written, header_written, length-header_bytes}
+use Rattle.bolt_format.specs.declared.kind.Kind.TheVariants as kind
+use Rattle.bolt_layout.proofs.LeafLemmas.{IsLeafFit, leaves_written}
+
+-- An inline bucket's value. Its elements are values, so they pass with any test of buckets.
+pub record IsFlat (e : LeafElement) : Type 0 where
+  pub some : 1 ≤ length e.key
+  pub key : length e.key ≤ 0x40000000
+  pub value : length e.value ≤ 0x7FFFFFFE
+  pub flat : e.is_bucket ≡ false
+
+flat_fits : (bucket_fault : List ℕ → Option ℕ) (es : List LeafElement) → AllByRecursion IsFlat es → AllByRecursion (IsLeafFit bucket_fault) es
+flat_fits bucket_fault [] h = tt
+flat_fits bucket_fault (e ∷ es) h =
+    (record { some = h.0.some; key = h.0.key; value = h.0.value; bucket = λ b. absurd (let f = h.0.flat in let t : true ≡ false = sym b ∙ f in cc) }, flat_fits bucket_fault es h.1)
+
+-- none of the elements that are read is a bucket
+no_bucket_in : (bytes : List ℕ) (from n : ℕ) (es : List LeafElement) → map (leaf_element bytes) (range_with_len from n) ≡ es → AllByRecursion IsFlat es
+    → list_any (is_bucket_at bytes) (range_with_len from n) ≡ false
+no_bucket_in bytes from zero es e flat = refl
+no_bucket_in bytes from (suc n) [] e flat = absurd (cc)
+no_bucket_in bytes from (suc n) (x ∷ es) e flat =
+    let first : leaf_element bytes from ≡ x = cc in
+    let rest : map (leaf_element bytes) (range_with_len (from + 1) n) ≡ es = cc in
+    let one : is_bucket_at bytes from ≡ false = ap (λ (y : LeafElement). y.is_bucket) first ∙ flat.0.flat in
+    rw (one, no_bucket_in bytes (from + 1) n es rest flat.1) refl
+
+pub inline_written : (sequence : ℕ) (es : List LeafElement) → sequence < 256 ^ 8 → AllByRecursion IsFlat es → length es < 256 ^ 2
+    → 16 * length es + length (leaf_data es) < 0x100000000
+    → (value_fault (inline_value sequence es) ≡ None) × (head_root (inline_value sequence es) ≡ 0) × (head_sequence (inline_value sequence es) ≡ sequence)
+    × (inline_elements (inline_value sequence es) ≡ es)
+unfolding value_fault inline_value inline_fault leaf_elements
+inline_written sequence es sized flat few small =
+    let value = inline_value sequence es in
+    let bytes = inline_bytes value in
+    let head = head_written value (header_bytes 0 kind.Leaf (length es) 0 ++ leaf_bytes es) 0 sequence refl (omega arith) sized in
+    let header = header_written bytes (leaf_bytes es) 0 kind.Leaf (length es) 0 head.inline (record { id = omega arith; count = few; overflow = omega arith }) in
+    let behind : drop 16 bytes ≡ leaf_bytes es ++ [] = header.1 ∙ sym (append-nil (leaf_bytes es)) in
+    let l = ap (λ (xs : List ℕ). length xs) head.inline in
+    let h = length-header_bytes 0 kind.Leaf (length es) 0 in
+    let long : length bytes ≡ 16 + length (leaf_bytes es) = l ∙ simp length-append (omega (arith, h)) in
+    let written = leaves_written head_fault bytes es [] behind (omega arith) (flat_fits head_fault es flat) small in
+    let elements : leaf_elements bytes (count_field bytes) ≡ es = ap (leaf_elements bytes) header.0.count ∙ written.0 in
+    let room : nat_lt (length bytes) 16 ≡ false = le-ltb (length bytes) 16 (omega arith) in
+    let leaf : (flags_field bytes == 2) ≡ true = eq-eqb (flags_field bytes) 2 header.0.flags in
+    let good : leaves_fault head_fault bytes (count_field bytes) ≡ None = ap (leaves_fault head_fault bytes) header.0.count ∙ written.1 in
+    let none : has_bucket bytes (count_field bytes) ≡ false = no_bucket_in bytes 0 (count_field bytes) es elements flat in
+    let page : inline_page_fault bytes ≡ None = rw (room, leaf, good) refl in
+    let zero_root : (head_root value == 0) ≡ true = eq-eqb (head_root value) 0 head.root in
+    let inside : inline_fault bytes ≡ None = first_of-both (inline_page_fault bytes) _ page (rw none refl) in
+    (first_of-both (head_fault value) _ head.passes (rw zero_root inside), head.root, head.sequence, elements)

@@ -1,0 +1,15 @@
+use Rattle.std.proofs.Common.{◌∙◌, sym}
+use Rattle.bolt_format.specs.ElementPlaces.{leaf_view}
+use Rattle.bolt_format.specs.Shown.{shown}
+use Rattle.test_calls.proofs.tree_pager.a_cursor_goes_over_an_inline_bucket.Goals as goal
+
+pub open-root-requires : goal.open-root-requires
+open-root-requires g c = rw (c.new-pager.ensures.checked, c.meta.ensures) (∣ (1, c.ways_go_on.ensures.root _ _) ∣₁)
+
+pub new-cursor-requires : goal.new-cursor-requires
+new-cursor-requires g c =
+    rw (c.open-root.ensures.checked, c.inline.ensures) (
+    ∣ c.buckets_begin_on_ways.ensures.inline _ _ _ 1 0 (shown c.open-root.result) (leaf_view c.leaf-bucket.result)
+    (rw (c.new-pager.ensures.checked, c.meta.ensures) (c.ways_go_on.ensures.root _ _)) c.open-root.ensures.page (sym c.kind.ensures ∙ c.in-Leaf.is) c.leaf-bucket.ensures.element
+    c.if-not-bucket.false (sym c.head-head.ensures.root ∙ c.if-head-ne0.false) ∣₁
+    )
