@@ -127,8 +127,8 @@ def buckets(pages, count):
     """The elements of the root bucket, for a number of entries below it."""
     for number in range(BUCKETS):
         first = count * number // BUCKETS
-        behind = count * (number + 1) // BUCKETS
-        root = put_bucket(pages, entries(first, behind - first))
+        end = count * (number + 1) // BUCKETS
+        root = put_bucket(pages, entries(first, end - first))
         pages.leave_free(FREE_PAGES)
         yield BUCKET_FLAGS, b"bucket-%d" % number, BUCKET_HEAD.pack(root, 0)
 

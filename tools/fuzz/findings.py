@@ -6,7 +6,7 @@ from answers import Shown, shown_tree
 from program import want
 
 FINDING = re.compile(r"pages? (\d+)(?: to (\d+))?: (.*)")
-# Findings of a page itself, by the tests of docs/FORMAT.md: of its header and span, and behind these.
+# Findings of a page itself, by the tests of docs/FORMAT.md: of its header and span, and after these.
 SPAN_FAULTS = {"out of range", "cut off", "wrong page number", "invalid type"}
 ELEMENT_FAULTS = {
     "element past the page", "element data out of order", "key length refused",

@@ -48,8 +48,8 @@ class Command:
         self.call = call
         self.out = os.path.join(folder, "copy.db")
         self.mark = os.path.join(folder, "mark")
-        self.name, *behind = words.split()
-        self.words = [program, self.name, file] + [self.out if word == "OUT" else word for word in behind]
+        self.name, *rest = words.split()
+        self.words = [program, self.name, file] + [self.out if word == "OUT" else word for word in rest]
         self.refusal = {"LD_PRELOAD": library, "REFUSED_CALL": call, "REFUSED_MARK": self.mark}
         if call == "write":
             self.refusal["REFUSED_MOST"] = MOST_WRITTEN

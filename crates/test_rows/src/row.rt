@@ -75,7 +75,7 @@ impl<'a> Want<'a> {
     fn push_digits(&mut self, words: &str) -> Result<(), Fault> {
         let (first, rest) = halves(words, ' ');
         let (last, rest) = halves(rest, ' ');
-        let (before, behind) = halves(rest, ' ');
+        let (before, after) = halves(rest, ' ');
         for n in number(first)?..=number(last)? {
             let digits = format!(in *self.out.allocator(); "{n:05}")?;
             push_text(&mut self.out, before)?;
@@ -83,7 +83,7 @@ impl<'a> Want<'a> {
                 self.out.push(b'3')?;
                 self.out.push(*digit)?;
             }
-            push_line(&mut self.out, behind)?;
+            push_line(&mut self.out, after)?;
         }
         Ok(())
     }
