@@ -7,7 +7,7 @@ SOUND = $(wildcard examples/*.buckets)
 LISTED = $(filter-out $(LEAKED).list,$(wildcard examples/*.list))
 LEAKED = examples/leaked
 
-.PHONY: build demo examples manual failures bbolt fuzz fuzz-wrong wrong-bodies test bench memory install dist deb clean
+.PHONY: build fmt demo examples manual failures bbolt fuzz fuzz-wrong wrong-bodies test bench memory install dist deb clean
 
 # Proves the libraries and the program, and builds it.
 build:
@@ -15,6 +15,10 @@ build:
 
 $(PROGRAM):
 	$(MAKE) build
+
+# Formats every crate. The gate refuses a file that isn't formatted.
+fmt:
+	for crate in crates/*/; do (cd $$crate && rt fmt) || exit 1; done
 
 # Lists a real database with the program, which is compiled here without its proofs.
 demo:
