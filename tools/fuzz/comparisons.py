@@ -48,7 +48,7 @@ def compare_refusals(file, fault):
     answers += [file.run("keys", "00"), file.run("get", "00"), file.run("compact", "-o", copy)]
     answers += [file.run("buckets", "--sizes"), file.run("list", "--form", "json"), file.run("list", "00")]
     for answer in answers:
-        want(answer.status == 1 and answer.err == fault, "told is", answer, "and not", fault)
+        want(answer.status == 1 and answer.err == fault, "reported is", answer, "and not", fault)
     want(read(copy) == b"", "the copy of what is refused isn't empty")
 
 
@@ -70,7 +70,7 @@ def compare_unsound(file, checked):
         if slot == info["meta"] and is_of_accounts:
             want(listed.is_ok(), "the trees are sound, but not under their meta:", listed)
         elif slot == info["meta"] and not listed.is_ok():
-            want(listed.err == b"error: file refused: " + first_line + b"\n", "told is", listed)
+            want(listed.err == b"error: file refused: " + first_line + b"\n", "reported is", listed)
 
 
 def compare_closed(file, checked):

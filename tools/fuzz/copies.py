@@ -14,9 +14,9 @@ def compare_copy(file, listing, *words):
     """A copy is sound and lists the same. A copy of it is the same, also via another page size."""
     program = file.program
     copy, again, other = (file.copy(name) for name in ("copy.db", "again.db", "other.db"))
-    told = file.text("compact", "-o", copy, *words)
+    line = file.text("compact", "-o", copy, *words)
     lengths = os.path.getsize(file.path), os.path.getsize(copy)
-    want(told == b"%d -> %d bytes\n" % lengths, "compact tells", told)
+    want(line == b"%d -> %d bytes\n" % lengths, "compact prints", line)
     want(program.text("list", copy) == listing, "the copy lists other things")
     want(program.text("check", copy) == b"OK\n", "the copy isn't sound")
     program.text("compact", "-o", again, copy)
@@ -52,9 +52,9 @@ def compare_beginnings(file, copy):
         with open(cut, "wb") as out:
             out.write(whole[:length])
         answer = file.program.run("check", cut)
-        told = f"page {root}: cut off\n1 errors found\n" if length >= LEAST_META else ""
-        fault = "" if told else "error: file too short\n"
-        is_refused = answer.status == 1 and answer.out.decode() == told and answer.err.decode() == fault
+        line = f"page {root}: cut off\n1 errors found\n" if length >= LEAST_META else ""
+        fault = "" if line else "error: file too short\n"
+        is_refused = answer.status == 1 and answer.out.decode() == line and answer.err.decode() == fault
         want(is_refused, "the first", length, "bytes of a copy:", answer)
 
 

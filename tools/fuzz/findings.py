@@ -57,7 +57,7 @@ def compare_keys_found(page, words):
     """A branch that is called empty is so, and keys that are said not to rise don't, unless they
     are those of an inline bucket."""
     elements = page.elements() if page.kind in ("branch", "leaf") else None
-    want(elements is not None, words, "is told of a", page.kind)
+    want(elements is not None, words, "is reported of a", page.kind)
     if words == "empty branch":
         want(page.kind == "branch" and not elements, "a branch is called empty, which isn't")
     if words == "keys not rising":
@@ -99,7 +99,7 @@ def compare_accounts(file, info, findings):
         expected["reachable freed"] = [(number, number) for number in sorted(used & set(ids))]
         expected["unreachable unfreed"] = runs_between(used | set(ids), within.start, within.stop)
     for words, pages in expected.items():
-        told = [(first, last) for first, last, said in findings if said == words]
-        want(told == pages, words, "is told of", told, "and not of", pages)
+        reported = [(first, last) for first, last, said in findings if said == words]
+        want(reported == pages, words, "is reported of", reported, "and not of", pages)
     firsts = [first for first, _, _ in findings]
     want(firsts == sorted(firsts), "findings stand out of order")

@@ -35,7 +35,7 @@ def compare_pages(file, info, length):
     begun = min(info["high water"], -(-length // info["page size"]))
     is_whole = len(numbers) == begun and numbers == list(range(begun))
     want(is_whole, "pages has other pages than those that begin in the file")
-    want(past_end == info["high water"] - begun, "pages tells", past_end, "free pages past the end")
+    want(past_end == info["high water"] - begun, "pages counts", past_end, "free pages past the end")
     want([kind for _, _, kind in rows][:2] == ["meta"] * 2, "pages has no metas at its beginning")
     if info["freelist"] is not None:
         ids = Shown(file.text("page", info["freelist"])).ids()
@@ -63,4 +63,4 @@ def compare_figures(file, info, entries, kinds, tree):
     if tree:
         expected["inline buckets"] = sum(element.root == 0 for _, page in tree for element in page.elements())
     for name, number in expected.items():
-        want(figures[name] == number, "stats tells", figures[name], name, "and not", number)
+        want(figures[name] == number, "stats prints", figures[name], name, "and not", number)

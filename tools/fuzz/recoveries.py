@@ -125,8 +125,8 @@ def compare_copies(file, words, lines, listing):
     for layout in ([], ["--for-bbolt"]):
         copied, copy = recover_copy(file, [*words, *layout])
         lengths = f"{os.path.getsize(file.path)} -> {os.path.getsize(copy)} bytes"
-        told = "".join(line + "\n" for line in [*lines, lengths]).encode()
-        want((copied.status, copied.out, copied.err) == (1, told, b""), "compact --recover:", copied)
+        printed = "".join(line + "\n" for line in [*lines, lengths]).encode()
+        want((copied.status, copied.out, copied.err) == (1, printed, b""), "compact --recover:", copied)
         want(file.program.text("check", copy) == b"OK\n", "the recovered copy isn't sound")
         want(file.program.text("list", copy) == listing, "the recovered copy lists other things")
         again = file.copy("again.db")
@@ -148,7 +148,7 @@ def compare_lost(file, words, finding):
         compare_refused(file, words, f"error: file refused: {finding}\n".encode())
         return
     listed = file.run("list", "--recover", *words)
-    want(listed.status == 1 and listed.err == f"error: pages lost: {len(losses)}\n".encode(), "told is", listed)
+    want(listed.status == 1 and listed.err == f"error: pages lost: {len(losses)}\n".encode(), "reported is", listed)
     entries = entries_of(listed.out)
     paths = list(entries)
     want(len(paths) == len(listed.out.splitlines()), "a path stands twice in the recovered listing")

@@ -32,8 +32,8 @@ def compare_hash(file, *words):
     checked = file.run("check", *words)
     answer = file.run("check", "--etcd-snapshot", *words)
     wanted = with_hash(hash_lines(read(file.path)), checked)
-    told = answer.status, answer.out, answer.err
-    want(told == wanted, "check --etcd-snapshot", *words, "answered:", answer, "and not", wanted)
+    printed = answer.status, answer.out, answer.err
+    want(printed == wanted, "check --etcd-snapshot", *words, "answered:", answer, "and not", wanted)
 
 
 def compare_changed(file, snapshot):
@@ -49,8 +49,8 @@ def compare_changed(file, snapshot):
             out.write(changed)
         checked = file.program.run("check", path)
         answer = file.program.run("check", "--etcd-snapshot", path)
-        told = answer.status, answer.out, answer.err
-        want(line != b"" and told == with_hash(line, checked), "a changed snapshot:", answer)
+        printed = answer.status, answer.out, answer.err
+        want(line != b"" and printed == with_hash(line, checked), "a changed snapshot:", answer)
 
 
 def compare_snapshot(file, listing, *words):
@@ -62,7 +62,7 @@ def compare_snapshot(file, listing, *words):
     want(read(snapshot) == data + hashlib.sha256(data).digest(), "a snapshot isn't the copy and its hash")
     *losses, _ = copied.out.splitlines(keepends=True)
     lengths = b"%d -> %d bytes\n" % (os.path.getsize(file.path), len(data) + HASH)
-    want(made.out == b"".join(losses) + lengths, "compact --etcd-snapshot tells", made)
+    want(made.out == b"".join(losses) + lengths, "compact --etcd-snapshot prints", made)
     want((made.status, made.err) == (copied.status, copied.err), "compact --etcd-snapshot:", made)
     program = file.program
     want(program.text("check", "--etcd-snapshot", snapshot) == b"OK\n", "a snapshot isn't right")

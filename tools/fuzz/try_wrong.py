@@ -68,19 +68,19 @@ REPLACED = [
     ("pages", 0, "counts other items", rb"leaf       \d", b"leaf       7"),
     ("page", 0, "shows another value", b"= [0-9a-f]{2}", b"= 00"),
     ("page", 0, "calls a leaf a branch", b"type leaf", b"type branch"),
-    ("page", 1, "tells another fault", rb"(page \d+): .*", rb"\1: cut off"),
+    ("page", 1, "reports another fault", rb"(page \d+): .*", rb"\1: cut off"),
     ("info", 0, "shows a higher mark", b"high water ", b"high water 1"),
     ("check", 1, "counts other findings", rb"\d+ errors found", b"9 errors found"),
 ]
 FIGURES = [b"buckets", b"inline buckets", b"keys", b"branch pages", b"leaf allocated"]
 
 
-def alters_text(command, status, told, pattern, other):
+def alters_text(command, status, what, pattern, other):
     def replace(words, answer):
         answer.out = re.sub(pattern, other, answer.out)
         answer.err = re.sub(pattern, other, answer.err)
 
-    replace.__doc__ = f"{command} {told}"
+    replace.__doc__ = f"{command} {what}"
     alters(command, status=status)(replace)
 
 
@@ -158,7 +158,7 @@ def change_got(words, answer):
 
 @alters("get", status=1)
 def swap_faults(words, answer):
-    """get tells that there is no bucket where there is no key"""
+    """get reports that there is no bucket where there is no key"""
     answer.err = answer.err.replace(b"key not", b"bucket not")
 
 
@@ -215,8 +215,8 @@ def change_number(words, answer):
 
 
 @alters("list", status=1)
-def tell_other(words, answer):
-    """list tells another finding than the rest"""
+def report_other(words, answer):
+    """list reports another finding than the rest"""
     answer.err = answer.err.replace(b"page ", b"page 1")
 
 
@@ -251,8 +251,8 @@ def fill_copy(words, answer):
 
 
 @alters("compact")
-def tell_lengths(words, answer):
-    """compact tells other lengths"""
+def report_lengths(words, answer):
+    """compact reports other lengths"""
     answer.out = b"1 -> 1 bytes\n"
 
 
@@ -284,13 +284,13 @@ def drop_loss(words, answer):
 
 @alters("check", "--all", status=1)
 def widen_loss(words, answer):
-    """check --all tells no bounds"""
+    """check --all reports no bounds"""
     answer.out = re.sub(rb", keys from .*", b"", answer.out)
 
 
 @alters("check", "--all", status=1)
 def drop_upper(words, answer):
-    """check --all tells no upper bound"""
+    """check --all reports no upper bound"""
     answer.out = re.sub(rb" to below .*", b"", answer.out)
 
 
@@ -384,7 +384,7 @@ def repeat_bucket(words, answer):
 
 @alters("list", status=1)
 def find_no_bucket(words, answer):
-    """list tells that there is no key where there is no bucket"""
+    """list reports that there is no key where there is no bucket"""
     answer.err = answer.err.replace(b"bucket not", b"key not")
 
 
@@ -396,8 +396,8 @@ def end_without_bucket(words, answer):
 
 
 @alters("list", "--recover", status=1)
-def tell_losses(words, answer):
-    """list --recover tells losses where there is no bucket"""
+def report_losses(words, answer):
+    """list --recover reports losses where there is no bucket"""
     answer.err = answer.err.replace(b"bucket not found", b"pages lost: 1")
 
 

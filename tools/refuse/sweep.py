@@ -112,7 +112,7 @@ def sweep(command, step):
     ends = ", ".join(f"{count} {outcome}" for outcome, count in outcomes.items())
     print(f"{' '.join(command.words[1:])}: {sum(outcomes.values())} times {command.call}: {ends}", flush=True)
     is_done = full[2] not in command.lines and answer == full
-    return is_done and not wrong and any(outcomes[told] > 0 for told in LINES[command.call])
+    return is_done and not wrong and any(outcomes[outcome] > 0 for outcome in LINES[command.call])
 
 
 def main():

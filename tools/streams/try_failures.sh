@@ -203,9 +203,9 @@ full_target() {
 			ulimit -f "$blocks"
 			timeout 10 "$program" compact -o "$copy" "$sound" 2>&1 >"$out"
 			echo $?
-		) | cat >"$folder/told"
-		status=$(tail -n 1 "$folder/told")
-		head -n 1 "$folder/told" >"$err"
+		) | cat >"$folder/printed"
+		status=$(tail -n 1 "$folder/printed")
+		head -n 1 "$folder/printed" >"$err"
 		want_fault "write failed"
 		want_refused_copy
 	done
@@ -219,9 +219,9 @@ full_before_hash() {
 		ulimit -f 40
 		timeout 10 "$program" compact --etcd-snapshot -o "$copy" "$sound" 2>&1 >"$out"
 		echo $?
-	) | cat >"$folder/told"
-	status=$(tail -n 1 "$folder/told")
-	head -n 1 "$folder/told" >"$err"
+	) | cat >"$folder/printed"
+	status=$(tail -n 1 "$folder/printed")
+	head -n 1 "$folder/printed" >"$err"
 	want_fault "write failed"
 	want_cut_snapshot
 }
@@ -285,4 +285,4 @@ full_before_hash
 unmade_target
 copied_permissions
 unread_file "$@"
-echo "failures: all told"
+echo "failures: all reported"

@@ -84,11 +84,11 @@ def main():
     program, name = sys.argv[1:]
     with open(name, encoding="utf-8") as file:
         manual = file.read()
-    told = [item.split()[1] for item in items(manual, "COMMANDS", "Cm")]
+    described = [item.split()[1] for item in items(manual, "COMMANDS", "Cm")]
     flags = sorted((flags_of(item) for item in items(manual, "OPTIONS", "Fl")), key=str)
     differences = [
         differs("synopsis", synopsis(manual), synopsis_of_help(program)),
-        differs("commands", told, help_words.commands(program)),
+        differs("commands", described, help_words.commands(program)),
         differs("options", flags, all_options(program)),
     ]
     sys.exit(any(differences))

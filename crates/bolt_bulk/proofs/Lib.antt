@@ -29,7 +29,7 @@ mod PutsLemmas
 mod RowsAreRuns
 mod RunLemmas
 mod Tables
-mod ToldRuns
+mod RunEnds
 mod WalkLeft
 mod WholeWalks
 mod WholePuts

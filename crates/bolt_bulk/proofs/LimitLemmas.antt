@@ -8,7 +8,7 @@ use Rattle.std.specs.BTreeMap.{BTreeMap, Updates, get}
 use Rattle.std.specs.Ordering.{is_eq, nat_cmp, ordering_then}
 use Rattle.std.specs.declared.cmp.Ordering.{Ordering}
 use Rattle.std.specs.declared.cmp.Ordering.TheVariants.{Less, Equal, Greater}
-use Rattle.bolt_layout.specs.Limits.{limit_at, limits_told}
+use Rattle.bolt_layout.specs.Limits.{limit_at, limits_from_ends}
 use Rattle.bolt_bulk.specs.Private.RowLimits.{IsOtherRow, row_cmp}
 
 differ : (a b : ℕ) → a ≢ b → (a == b) ≡ false
@@ -40,16 +40,16 @@ pub others_stay : (old new : BTreeMap (ℕ × ℕ) ℕ) (bucket level left : ℕ
 others_stay old new bucket level left updates b l other = updates.2 (b, l) (apart bucket level b l other)
 
 -- One row after another gets its limit.
-pub told_step : (rows : List (ℕ × ℕ)) (lost loses : Bool) (i : ℕ) (row : ℕ × ℕ) (limit : Option ℕ) (old new : ℕ → Option ℕ) → drop i rows ≡ row ∷ drop (i + 1) rows
-    → ((rest : List (ℕ × ℕ)) → limits_told lost (row ∷ rest) ≡ limit ∷ limits_told loses rest)
-    → ((k : ℕ) → k < i → old k ≡ limit_at (limits_told false rows) k) → ((k : ℕ) → i ≤ k → old k ≡ None)
-    → ((k : ℕ) → limit_at (limits_told false rows) (i + k) ≡ limit_at (limits_told lost (drop i rows)) k)
+pub noted_step : (rows : List (ℕ × ℕ)) (lost loses : Bool) (i : ℕ) (row : ℕ × ℕ) (limit : Option ℕ) (old new : ℕ → Option ℕ) → drop i rows ≡ row ∷ drop (i + 1) rows
+    → ((rest : List (ℕ × ℕ)) → limits_from_ends lost (row ∷ rest) ≡ limit ∷ limits_from_ends loses rest)
+    → ((k : ℕ) → k < i → old k ≡ limit_at (limits_from_ends false rows) k) → ((k : ℕ) → i ≤ k → old k ≡ None)
+    → ((k : ℕ) → limit_at (limits_from_ends false rows) (i + k) ≡ limit_at (limits_from_ends lost (drop i rows)) k)
     → new i ≡ limit → ((k : ℕ) → (k ≡ i → ⊥) → new k ≡ old k)
-    → ((k : ℕ) → k < i + 1 → new k ≡ limit_at (limits_told false rows) k) × ((k : ℕ) → i + 1 ≤ k → new k ≡ None)
-told_step rows lost loses i row limit old new at step below above rest here others =
-    let T : List (Option ℕ) = limits_told false rows in
-    let next : limits_told lost (drop i rows) ≡ limit ∷ limits_told loses (drop (i + 1) rows) =
-    ap (λ (rs : List (ℕ × ℕ)). limits_told lost rs) at ∙ step (drop (i + 1) rows) in
+    → ((k : ℕ) → k < i + 1 → new k ≡ limit_at (limits_from_ends false rows) k) × ((k : ℕ) → i + 1 ≤ k → new k ≡ None)
+noted_step rows lost loses i row limit old new at step below above rest here others =
+    let T : List (Option ℕ) = limits_from_ends false rows in
+    let next : limits_from_ends lost (drop i rows) ≡ limit ∷ limits_from_ends loses (drop (i + 1) rows) =
+    ap (λ (rs : List (ℕ × ℕ)). limits_from_ends lost rs) at ∙ step (drop (i + 1) rows) in
     let zero_is : i ≡ i + 0 = omega arith in
     let own : limit_at T i ≡ limit = ap (λ (n : ℕ). limit_at T n) zero_is ∙ (rest 0 ∙ ap (λ (ls : List (Option ℕ)). limit_at ls 0) next) in (
       (λ k less. elim (cases_lt k i) [
@@ -59,30 +59,30 @@ told_step rows lost loses i row limit old new at step below above rest here othe
       (λ k more. others k (λ e. omega arith) ∙ above k (omega arith)),
     )
 
-pub told_rest : (rows : List (ℕ × ℕ)) (lost loses : Bool) (i : ℕ) (row : ℕ × ℕ) (limit : Option ℕ) → drop i rows ≡ row ∷ drop (i + 1) rows
-    → ((rest : List (ℕ × ℕ)) → limits_told lost (row ∷ rest) ≡ limit ∷ limits_told loses rest)
-    → ((k : ℕ) → limit_at (limits_told false rows) (i + k) ≡ limit_at (limits_told lost (drop i rows)) k)
-    → (k : ℕ) → limit_at (limits_told false rows) (i + 1 + k) ≡ limit_at (limits_told loses (drop (i + 1) rows)) k
-told_rest rows lost loses i row limit at step rest k =
-    let next : limits_told lost (drop i rows) ≡ limit ∷ limits_told loses (drop (i + 1) rows) =
-    ap (λ (rs : List (ℕ × ℕ)). limits_told lost rs) at ∙ step (drop (i + 1) rows) in
+pub noted_rest : (rows : List (ℕ × ℕ)) (lost loses : Bool) (i : ℕ) (row : ℕ × ℕ) (limit : Option ℕ) → drop i rows ≡ row ∷ drop (i + 1) rows
+    → ((rest : List (ℕ × ℕ)) → limits_from_ends lost (row ∷ rest) ≡ limit ∷ limits_from_ends loses rest)
+    → ((k : ℕ) → limit_at (limits_from_ends false rows) (i + k) ≡ limit_at (limits_from_ends lost (drop i rows)) k)
+    → (k : ℕ) → limit_at (limits_from_ends false rows) (i + 1 + k) ≡ limit_at (limits_from_ends loses (drop (i + 1) rows)) k
+noted_rest rows lost loses i row limit at step rest k =
+    let next : limits_from_ends lost (drop i rows) ≡ limit ∷ limits_from_ends loses (drop (i + 1) rows) =
+    ap (λ (rs : List (ℕ × ℕ)). limits_from_ends lost rs) at ∙ step (drop (i + 1) rows) in
     let shift : i + 1 + k ≡ i + suc k = omega arith in
-    ap (λ (n : ℕ). limit_at (limits_told false rows) n) shift ∙ (rest (suc k) ∙ ap (λ (ls : List (Option ℕ)). limit_at ls (suc k)) next)
+    ap (λ (n : ℕ). limit_at (limits_from_ends false rows) n) shift ∙ (rest (suc k) ∙ ap (λ (ls : List (Option ℕ)). limit_at ls (suc k)) next)
 
-none_at : (lost : Bool) (k : ℕ) → limit_at (limits_told lost []) k ≡ None
+none_at : (lost : Bool) (k : ℕ) → limit_at (limits_from_ends lost []) k ≡ None
 none_at lost k = refl
 
 -- and after the last row there is none
-pub told_all : (rows : List (ℕ × ℕ)) (lost : Bool) (i : ℕ) (old : ℕ → Option ℕ) → length rows ≤ i
-    → ((k : ℕ) → k < i → old k ≡ limit_at (limits_told false rows) k) → ((k : ℕ) → i ≤ k → old k ≡ None)
-    → ((k : ℕ) → limit_at (limits_told false rows) (i + k) ≡ limit_at (limits_told lost (drop i rows)) k)
-    → (k : ℕ) → old k ≡ limit_at (limits_told false rows) k
-told_all rows lost i old past below above rest k = elim (cases_lt k i) [
+pub noted_all : (rows : List (ℕ × ℕ)) (lost : Bool) (i : ℕ) (old : ℕ → Option ℕ) → length rows ≤ i
+    → ((k : ℕ) → k < i → old k ≡ limit_at (limits_from_ends false rows) k) → ((k : ℕ) → i ≤ k → old k ≡ None)
+    → ((k : ℕ) → limit_at (limits_from_ends false rows) (i + k) ≡ limit_at (limits_from_ends lost (drop i rows)) k)
+    → (k : ℕ) → old k ≡ limit_at (limits_from_ends false rows) k
+noted_all rows lost i old past below above rest k = elim (cases_lt k i) [
   | inl before ↦ below k before
   | inr after ↦
       (let n : ℕ = k - i in
       let same : i + n ≡ k = omega arith in
       let none : drop i rows ≡ [] = drop_all i rows past in
-      let last = rest n ∙ (ap (λ (rs : List (ℕ × ℕ)). limit_at (limits_told lost rs) n) none ∙ none_at lost n) in
-      above k after ∙ (sym last ∙ ap (λ (m : ℕ). limit_at (limits_told false rows) m) same))
+      let last = rest n ∙ (ap (λ (rs : List (ℕ × ℕ)). limit_at (limits_from_ends lost rs) n) none ∙ none_at lost n) in
+      above k after ∙ (sym last ∙ ap (λ (m : ℕ). limit_at (limits_from_ends false rows) m) same))
 ]

@@ -5,18 +5,18 @@ use Rattle.bolt_tree.specs.Tree.{Tree, end, with_bucket, with_value}
 use Rattle.bolt_layout.specs.Items.{is_inline, items_of, root_of}
 use Rattle.bolt_layout.specs.Laid.{Laid, numbers_of}
 use Rattle.bolt_layout.specs.Layout.{layout_mark}
-use Rattle.bolt_layout.specs.Limits.{limit_at, limits_told}
-use Rattle.bolt_layout.specs.Openings.{AreRight, AreTellings, leaf_pages, limits_for, opened_by, opened_in, told_of}
+use Rattle.bolt_layout.specs.Limits.{limit_at, limits_from_ends}
+use Rattle.bolt_layout.specs.Openings.{AreRight, AreFromEnds, leaf_pages, limits_for, opened_by, opened_in, row_ends_of}
 use Rattle.bolt_layout.specs.declared.layout.Layout.{Layout}
 use Rattle.bolt_layout.specs.declared.layout.Layout.TheVariants.{Balanced, Plain}
 use Rattle.bolt_layout.proofs.OpenedBuckets.{items_below, leaves_few}
 use Rattle.bolt_layout.proofs.PlainRows.{plain_right, plain_rows}
-use Rattle.bolt_layout.proofs.Tellings.{root_tellings, tellings_are}
+use Rattle.bolt_layout.proofs.LimitsFromEnds.{root_from_ends, from_ends_are}
 use Rattle.bolt_bulk.specs.Private.HeldCounts.{capped}
 use Rattle.bolt_bulk.specs.Private.RowLimits.{limit_in}
 use Rattle.bolt_bulk.specs.declared.limits.Limits.{Limits}
 use Rattle.bolt_bulk.specs.Private.OpenRuns.{Frame}
-use Rattle.bolt_bulk.specs.Private.Passes.{AreComing, AreComingAround, FitLimits, Tells, Wanted, limits_with, onto}
+use Rattle.bolt_bulk.specs.Private.Passes.{AreComing, AreComingAround, FitLimits, Notes, Wanted, limits_with, onto}
 
 module _ (which : Layout) (page_size : ℕ) where
   -- entries that are values change nothing
@@ -50,23 +50,23 @@ fit_plain page_size limits tree none = record {
 }
 
 -- At the beginning it is known of all.
-module _ (page_size : ℕ) (tree : Tree) (tells : Bool) (limits : ℕ → ℕ → Option ℕ) where
+module _ (page_size : ℕ) (tree : Tree) (notes : Bool) (limits : ℕ → ℕ → Option ℕ) where
   abbrev plain : Wanted
-  plain = record { which = Plain; tree = tree; tells = tells }
+  plain = record { which = Plain; tree = tree; notes = notes }
 
   abbrev balanced : Wanted
-  balanced = record { which = Balanced; tree = tree; tells = tells }
+  balanced = record { which = Balanced; tree = tree; notes = notes }
 
-  plain_coming : (n : ℕ) (below : Tree) → AreRight Plain page_size limits n below → AreTellings page_size (limits_for page_size tree) n below
+  plain_coming : (n : ℕ) (below : Tree) → AreRight Plain page_size limits n below → AreFromEnds page_size (limits_for page_size tree) n below
       → numbers_of (items_of Plain page_size below) ≤ layout_mark Plain page_size tree → AreComing plain page_size limits n below
-  plain_coming n end right tell few = tt
-  plain_coming n (with_value key value after) right tell few = plain_coming n after right tell (omega arith)
-  plain_coming n (with_bucket key sequence inside after) right tell few =
+  plain_coming n end right from few = tt
+  plain_coming n (with_value key value after) right from few = plain_coming n after right from (omega arith)
+  plain_coming n (with_bucket key sequence inside after) right from few =
       let (one, rest) = items_below Plain page_size key sequence inside after in (
         λ rooted. (let leaves = leaves_few Plain page_size inside in
             let own = one rooted in
-            (record { right = (right.0 rooted).0; tells = record { told = λ e. (tell.0 rooted).0; few = omega arith } }, plain_coming (suc n) inside (right.0 rooted).1 (tell.0 rooted).1 (omega arith))),
-        plain_coming (n + opened_by Plain page_size inside) after right.1 tell.1 (omega arith),
+            (record { right = (right.0 rooted).0; notes = record { noted = λ e. (from.0 rooted).0; few = omega arith } }, plain_coming (suc n) inside (right.0 rooted).1 (from.0 rooted).1 (omega arith))),
+        plain_coming (n + opened_by Plain page_size inside) after right.1 from.1 (omega arith),
       )
 
   balanced_coming : (n : ℕ) (below : Tree) → AreRight Balanced page_size limits n below
@@ -77,26 +77,26 @@ module _ (page_size : ℕ) (tree : Tree) (tells : Bool) (limits : ℕ → ℕ �
       let (one, rest) = items_below Balanced page_size key sequence inside after in (
         λ rooted. (let leaves = leaves_few Balanced page_size inside in
             let own = one rooted in
-            (record { right = (right.0 rooted).0; tells = record { told = λ e. absurd cc; few = omega arith } }, balanced_coming (suc n) inside (right.0 rooted).1 (omega arith))),
+            (record { right = (right.0 rooted).0; notes = record { noted = λ e. absurd cc; few = omega arith } }, balanced_coming (suc n) inside (right.0 rooted).1 (omega arith))),
         balanced_coming (n + opened_by Balanced page_size inside) after right.1 (omega arith),
       )
 
 -- the root bucket is opened as number 0
-pub root_tells : (wanted : Wanted) (page_size : ℕ) → Tells wanted page_size 0 (leaf_pages page_size (items_of wanted.which page_size wanted.tree))
+pub root_notes : (wanted : Wanted) (page_size : ℕ) → Notes wanted page_size 0 (leaf_pages page_size (items_of wanted.which page_size wanted.tree))
 unfolding root_of
-root_tells wanted page_size =
+root_notes wanted page_size =
     let leaves = leaves_few wanted.which page_size wanted.tree in
     record {
-      told = λ plain level. (let same = ap (λ (w : Layout). leaf_pages page_size (items_of w page_size wanted.tree)) plain in
-          root_tellings page_size wanted.tree level ∙ sym (ap (λ (pages : List (Laid BranchElement)). limit_at (limits_told false (told_of page_size pages)) level) same));
+      noted = λ plain level. (let same = ap (λ (w : Layout). leaf_pages page_size (items_of w page_size wanted.tree)) plain in
+          root_from_ends page_size wanted.tree level ∙ sym (ap (λ (pages : List (Laid BranchElement)). limit_at (limits_from_ends false (row_ends_of page_size pages)) level) same));
       few = omega arith;
     }
 
-coming_in : (which : Layout) (tree : Tree) (tells : Bool) (page_size : ℕ) (limits : ℕ → ℕ → Option ℕ) → AreRight which page_size limits 1 tree
-    → AreComing (record { which = which; tree = tree; tells = tells }) page_size limits 1 tree
+coming_in : (which : Layout) (tree : Tree) (notes : Bool) (page_size : ℕ) (limits : ℕ → ℕ → Option ℕ) → AreRight which page_size limits 1 tree
+    → AreComing (record { which = which; tree = tree; notes = notes }) page_size limits 1 tree
 unfolding root_of
-coming_in Plain tree tells page_size limits right = let leaves = leaves_few Plain page_size tree in plain_coming page_size tree tells limits 1 tree right (tellings_are page_size tree) (omega arith)
-coming_in Balanced tree tells page_size limits right = let leaves = leaves_few Balanced page_size tree in balanced_coming page_size tree tells limits 1 tree right (omega arith)
+coming_in Plain tree notes page_size limits right = let leaves = leaves_few Plain page_size tree in plain_coming page_size tree notes limits 1 tree right (from_ends_are page_size tree) (omega arith)
+coming_in Balanced tree notes page_size limits right = let leaves = leaves_few Balanced page_size tree in balanced_coming page_size tree notes limits 1 tree right (omega arith)
 
 pub all_coming : (wanted : Wanted) (page_size : ℕ) (limits : ℕ → ℕ → Option ℕ) → AreRight wanted.which page_size limits 1 wanted.tree → AreComing wanted page_size limits 1 wanted.tree
-all_coming wanted page_size limits right = coming_in wanted.which wanted.tree wanted.tells page_size limits right
+all_coming wanted page_size limits right = coming_in wanted.which wanted.tree wanted.notes page_size limits right

@@ -21,7 +21,7 @@ use Rattle.bolt_bulk.specs.Private.HeldSoFar.{held_so_far, length_frames, length
 use Rattle.bolt_bulk.specs.Private.OpenBuckets.{bucket_end_next, rows_of}
 use Rattle.bolt_bulk.specs.Private.OpenRows.{IsOpenRows}
 use Rattle.bolt_bulk.specs.Private.OpenRuns.{Frame, Known, Open, base_in, end_of, making_room, next_number, pushing, taking}
-use Rattle.bolt_bulk.specs.Private.Passes.{AreComing, AreComingAround, AreNumbered, Tells, Wanted, open_in, limits_by, AreWaiting, HasRoot, IsAt, IsPending, IsSmall, StandsBefore, Steps, level_of, onto}
+use Rattle.bolt_bulk.specs.Private.Passes.{AreComing, AreComingAround, AreNumbered, Notes, Wanted, open_in, limits_by, AreWaiting, HasRoot, IsAt, IsPending, IsSmall, StandsBefore, Steps, level_of, onto}
 use Rattle.bolt_bulk.specs.Private.Rows.{OpenRows, rows_end, rows_end_put, rows_push, rows_room, rows_room_put}
 use Rattle.bolt_bulk.specs.Private.TakenItems.{inline_element, root_element, rows_taking, value_element}
 use Rattle.bolt_bulk.specs.Puts.{Puts}
@@ -40,8 +40,8 @@ use Rattle.bolt_layout.specs.Limits.{HaveRightLimits}
 use Rattle.bolt_layout.specs.Openings.{leaf_pages, opened_by, opened_in}
 use Rattle.bolt_bulk.specs.Private.RowLimits.{bucket_limit, limit_in}
 use Rattle.bolt_bulk.specs.declared.limits.BucketLimits.{BucketLimits}
-use Rattle.bolt_bulk.specs.declared.told.Told.{Told}
-use Rattle.bolt_bulk.proofs.Tables.{BucketEnds, numbered_same, opened_most, room_known, told_enters, told_leaves}
+use Rattle.bolt_bulk.specs.declared.noted_limits.NotedLimits.{NotedLimits}
+use Rattle.bolt_bulk.proofs.Tables.{BucketEnds, numbered_same, opened_most, room_known, noted_enters, noted_leaves}
 use Rattle.bolt_bulk.proofs.Openings.{around_at, coming_at, coming_onto, opened_inline, opened_onto, opened_rooted}
 use Rattle.bolt_bulk.proofs.PassSteps.{IsOn, inline_item, on_before, on_enters, on_leaves, on_numbers, on_takes, open_values, pass_takes_all, root_item, values_put, values_rows}
 use Rattle.bolt_bulk.proofs.PutsLemmas.{bytes-append, puts_then}
@@ -209,7 +209,7 @@ module _ {S : Type 0} (taken : S → Option (List ℕ)) (failed : S → ℕ) (wa
       → Puts taken failed old new (placed_bytes P (rows_room_put P rows_now key (16 + (length key + length value)))) result
       → OnOk result (rows_of bucket next ≡ rows_taking P rows_now (value_element key value) (16 + (length key + length value)))
       → IfErr result (λ e. e ≡ fault.TooLarge → pass.setup.limit < (rows_room P rows_now key (16 + (length key + length value))).next)
-      → OnOk result (Counts (record { setup = pass.setup; limits = pass.limits; waiting = pass.waiting; bucket = bucket; pending = pass.pending; entries = pass.entries; next = next; opened = pass.opened; around = pass.around; most = pass.most; told = pass.told }) counted)
+      → OnOk result (Counts (record { setup = pass.setup; limits = pass.limits; waiting = pass.waiting; bucket = bucket; pending = pass.pending; entries = pass.entries; next = next; opened = pass.opened; around = pass.around; most = pass.most; noted = pass.noted }) counted)
       → Steps wanted taken failed old new pass.setup put (IsAt wanted counted levels after) result
   value_steps levels key value after old new bucket next counted result is none puts rows large counts =
       let (same, on, right) = on_of wanted pass levels (with_value key value after) put is none in
@@ -238,7 +238,7 @@ module _ {S : Type 0} (taken : S → Option (List ℕ)) (failed : S → ℕ) (wa
               around = right.1;
               numbers = is.numbers;
               numbered = numbered_same wanted P is.opened is.numbers is.state made (map (λ (f : Frame). f.state) is.frames) (room_known P is.state (leaf_item key value false).key (leaf_item key value false).size) is.numbered;
-              has_told = is.has_told;
+              has_noted = is.has_noted;
             }));
         before = on_before wanted.which P wanted.tree is.frames made _ _ _ then;
         large = if_err_map result large (λ e l h. let m = l h in omega (arith, m, few));
@@ -250,7 +250,7 @@ module _ {S : Type 0} (taken : S → Option (List ℕ)) (failed : S → ℕ) (wa
       → Puts taken failed old new (placed_bytes P (rows_room_put P rows_now p.key.now (16 + (length p.key.now + size)))) result
       → OnOk result (rows_of bucket next ≡ rows_taking P rows_now (inline_element p.key.now p.sequence (map leaf_view pass.entries.items)) (16 + (length p.key.now + size)))
       → IfErr result (λ e. e ≡ fault.TooLarge → pass.setup.limit < (rows_room P rows_now p.key.now (16 + (length p.key.now + size))).next)
-      → OnOk result (Counts (record { setup = pass.setup; limits = pass.limits; waiting = pass.waiting; bucket = bucket; pending = None; entries = entries; next = next; opened = pass.opened; around = pass.around; most = pass.most; told = pass.told }) counted)
+      → OnOk result (Counts (record { setup = pass.setup; limits = pass.limits; waiting = pass.waiting; bucket = bucket; pending = None; entries = entries; next = next; opened = pass.opened; around = pass.around; most = pass.most; noted = pass.noted }) counted)
       → Steps wanted taken failed old new pass.setup put (IsAt wanted counted levels level.after) result
   inline_steps level levels p size old new bucket entries next counted result is some small sized puts rows large counts =
       let (after, same, on, right) = pending_of wanted pass (level ∷ levels) end put p is some in
@@ -294,7 +294,7 @@ module _ {S : Type 0} (taken : S → Option (List ℕ)) (failed : S → ℕ) (wa
               around = around_at wanted P (limits_by pass) (is.opened + (opened_by wanted.which P (onto shown end) + opened_in wanted.which P after)) (is.opened + opened_in wanted.which P after) is.frames (omega arith) right.1;
               numbers = is.numbers;
               numbered = numbered_same wanted P is.opened is.numbers is.state made (map (λ (f : Frame). f.state) is.frames) (room_known P is.state (leaf_item p.key.now value true).key (leaf_item p.key.now value true).size) is.numbered;
-              has_told = is.has_told;
+              has_noted = is.has_noted;
             }));
         before = on_before wanted.which P wanted.tree is.frames made _ _ _ then;
         large = if_err_map result large (λ e l h. let m = l h in omega (arith, m, numbers));
@@ -327,7 +327,7 @@ module _ {S : Type 0} (taken : S → Option (List ℕ)) (failed : S → ℕ) (wa
     values : AllByRecursion IsValue (map leaf_view pass.entries.items)
     coming : AreComing wanted P (limits_by pass) (suc is.opened) left
     around : AreComingAround wanted P (limits_by pass) (suc is.opened + opened_in wanted.which P left) (frame_of p left after is.state ∷ is.frames)
-    tells : Tells wanted P is.opened (known_now left).leaves
+    notes : Notes wanted P is.opened (known_now left).leaves
     on : IsOn wanted.which P wanted.tree (frame_of p left after is.state ∷ is.frames) (open_values (known_now left) (value_items (map leaf_view pass.entries.items))) (items_of wanted.which P left) (opened_rows p (room_for p).next)
         (put ++ rows_room_put P rows_now p.key.now (32 + length p.key.now))
 
@@ -365,7 +365,7 @@ module _ {S : Type 0} (taken : S → Option (List ℕ)) (failed : S → ℕ) (wa
           coming_at wanted P (limits_by pass) (is.opened + opened_by wanted.which P (onto shown left)) (suc is.opened + opened_in wanted.which P left) after (omega arith) right.0.1,
           around_at wanted P (limits_by pass) (is.opened + (opened_by wanted.which P (onto shown left) + opened_in wanted.which P after)) (suc is.opened + opened_in wanted.which P left + opened_in wanted.which P after) is.frames (omega arith) right.1,
         );
-        tells = (right.0.0 rooted).0.tells;
+        notes = (right.0.0 rooted).0.notes;
         on = record { under = under; rows_are = values_rows (known_now left) shown p.size (base_in frames) (room_for p).next values sizes base; put_is = placed ∙ values_put (known_now left) frames shown };
       }
 
@@ -392,7 +392,7 @@ module _ {S : Type 0} (taken : S → Option (List ℕ)) (failed : S → ℕ) (wa
       → Puts {A = ⊤} taken failed old new (placed_bytes P (rows_room_put P rows_now p.key.now (32 + length p.key.now))) (Ok tt)
       → around.items ≡ pass.waiting.items ++ w ∷ [] → rows_of w.bucket next ≡ room_for p → w.key.now ≡ p.key.now → w.sequence ≡ p.sequence → rows_of bucket next ≡ opened_rows p next
       → opened ≡ min (pass.opened + 1) 18446744073709551615
-      → Counts (record { setup = pass.setup; limits = pass.limits; waiting = around; bucket = bucket; pending = None; entries = entries; next = next; opened = opened; around = held; most = pass.most; told = pass.told }) counted
+      → Counts (record { setup = pass.setup; limits = pass.limits; waiting = around; bucket = bucket; pending = None; entries = entries; next = next; opened = opened; around = held; most = pass.most; noted = pass.noted }) counted
       → Steps {A = ⊤} wanted taken failed old new pass.setup put (IsAt wanted counted levels left) (Ok tt)
   open_steps levels left p old new bucket w around entries next opened held counted is some small rooted puts items rows key sequence values_are one_more k =
       let then = has_opened levels left p is some small rooted in
@@ -433,25 +433,25 @@ module _ {S : Type 0} (taken : S → Option (List ℕ)) (failed : S → ℕ) (wa
           around = then.around;
           numbers = is.opened ∷ is.numbers;
           numbered = (
-            record { earlier = omega arith; number_is = is.opened_is; tells = then.tells },
+            record { earlier = omega arith; number_is = is.opened_is; notes = then.notes },
             numbered_same wanted P is.opened is.numbers is.state frame.state (map (λ (f : Frame). f.state) is.frames) (room_known P is.state p.key.now (16 + (length p.key.now + 16))) is.numbered,
           );
-          has_told = told_enters wanted P pass.told is.opened is.numbers is.has_told;
+          has_noted = noted_enters wanted P pass.noted is.opened is.numbers is.has_noted;
         });
         before = on_before wanted.which P wanted.tree _ _ _ _ _ then.on;
         large = tt;
       }
 
   -- ---- the open bucket ends, and the one around it goes on
-  pub leave_steps : {A : Type 0} (level : Level) (levels : List Level) (w : WaitingBucket) (old new : S) (bucket : OpenBucket) (around : Vec WaitingBucket Global) (next held : ℕ) (told : Told) (counted : Pass) (result : Result A BulkFault)
+  pub leave_steps : {A : Type 0} (level : Level) (levels : List Level) (w : WaitingBucket) (old new : S) (bucket : OpenBucket) (around : Vec WaitingBucket Global) (next held : ℕ) (noted : NotedLimits) (counted : Pass) (result : Result A BulkFault)
       → IsAt wanted pass (level ∷ levels) end put → pass.pending ≡ None → pass.waiting.items ≡ around.items ++ w ∷ []
-      → BucketEnds pass.told told pass.bucket.limits.bucket pass.bucket.uppers.items
+      → BucketEnds pass.noted noted pass.bucket.limits.bucket pass.bucket.uppers.items
       → Puts taken failed old new (placed_bytes P (rows_end_put P rows_now)) result
       → OnOk result ((before : ℕ) → rows_of bucket next ≡ rows_push (rows_of w.bucket before) (root_element w.key.now (rows_end P rows_now) w.sequence) (32 + length w.key.now) (bucket_end_next P rows_now))
       → IfErr result (λ e. e ≡ fault.TooLarge → pass.setup.limit < bucket_end_next P rows_now)
-      → OnOk result (Counts (record { setup = pass.setup; limits = pass.limits; waiting = around; bucket = bucket; pending = pass.pending; entries = pass.entries; next = next; opened = pass.opened; around = held; most = pass.most; told = told }) counted)
+      → OnOk result (Counts (record { setup = pass.setup; limits = pass.limits; waiting = around; bucket = bucket; pending = pass.pending; entries = pass.entries; next = next; opened = pass.opened; around = held; most = pass.most; noted = noted }) counted)
       → Steps wanted taken failed old new pass.setup put (IsAt wanted counted levels level.after) result
-  leave_steps level levels w old new bucket around next held told counted result is none popped ended puts rows large counts =
+  leave_steps level levels w old new bucket around next held noted counted result is none popped ended puts rows large counts =
       let (same, on, right) = on_of wanted pass (level ∷ levels) end put is none in
       let (frame, frames, more_frames, top) = first_frame level levels is.frames same in
       let ws : reverse pass.waiting.items ≡ w ∷ reverse around.items = ap reverse popped ∙ reverse-append around.items (w ∷ []) in
@@ -463,8 +463,8 @@ module _ {S : Type 0} (taken : S → Option (List ℕ)) (failed : S → ℕ) (wa
       let numbered = subst (λ (fs : List Frame). AreNumbered wanted P is.opened is.numbers (open_in is.state fs)) more_frames is.numbered in
       let most = opened_most wanted P (limits_by pass) (is.opened + 0) is.frames right.1 in
       let number : pass.bucket.limits.bucket ≡ is.state.known.limits.bucket = ap (λ (l : BucketLimits). l.bucket) is.rows.limits_are in
-      let has = told_leaves wanted P pass.told told is.opened (base_in is.frames) is.numbers is.state (frame.state ∷ states) pass.bucket.uppers.items on.under.root is.has_told numbered (omega arith) is.rows.above on.under.current
-      (subst (λ (n : ℕ). BucketEnds pass.told told n pass.bucket.uppers.items) number ended) in
+      let has = noted_leaves wanted P pass.noted noted is.opened (base_in is.frames) is.numbers is.state (frame.state ∷ states) pass.bucket.uppers.items on.under.root is.has_noted numbered (omega arith) is.rows.above on.under.current
+      (subst (λ (n : ℕ). BucketEnds pass.noted noted n pass.bucket.uppers.items) number ended) in
       let made : Open = pushing frame.state (held_item frame (end_of P is.state)) in
       let base : ℕ = base_in (frame ∷ frames) in
       let then = on_leaves wanted.which P wanted.tree frame frames is.state rows_now (rows_of w.bucket base) put on2 outer refl in
@@ -496,7 +496,7 @@ module _ {S : Type 0} (taken : S → Option (List ℕ)) (failed : S → ℕ) (wa
               around = around_at wanted P (limits_by pass) (is.opened + 0 + opened_in wanted.which P frame.after) (is.opened + opened_in wanted.which P frame.after) frames (omega arith) behind.1;
               numbers = has.numbers;
               numbered = numbered_same wanted P is.opened has.numbers frame.state made states refl has.numbered;
-              has_told = has.has_told;
+              has_noted = has.has_noted;
             }));
         before = on_before wanted.which P wanted.tree frames made _ _ _ then;
         large = if_err_map result large (λ e l h. let m = l h in omega (arith, m, numbers));
@@ -508,7 +508,7 @@ module _ (wanted : Wanted) (pass : Pass) (levels : List Level) (put : List Place
   -- a value of a bucket that may be inline
   pub keep_at : (key value : List ℕ) (after : Tree) (p : PendingBucket) (entry : Leaf) (size : ℕ) (entries : Vec Leaf Global) → IsAt wanted pass levels (with_value key value after) put → pass.pending ≡ Some p
       → entries.items ≡ pass.entries.items ++ entry ∷ [] → leaf_view entry ≡ value_element key value
-      → IsAt wanted (record { setup = pass.setup; limits = pass.limits; waiting = pass.waiting; bucket = pass.bucket; pending = Some (record { key = p.key; sequence = p.sequence; size = size }); entries = entries; next = pass.next; opened = pass.opened; around = pass.around; most = pass.most; told = pass.told }) levels after put
+      → IsAt wanted (record { setup = pass.setup; limits = pass.limits; waiting = pass.waiting; bucket = pass.bucket; pending = Some (record { key = p.key; sequence = p.sequence; size = size }); entries = entries; next = pass.next; opened = pass.opened; around = pass.around; most = pass.most; noted = pass.noted }) levels after put
   keep_at key value after p entry size entries is some pushed view =
       let (behind, same, rest) = subst (λ (q : Option PendingBucket). IsPending q pass.entries.items (map level_of is.frames) is.rest levels (with_value key value after)) some is.pends in
       let shown : List LeafElement = map leaf_view pass.entries.items in
@@ -531,13 +531,13 @@ module _ (wanted : Wanted) (pass : Pass) (levels : List Level) (put : List Place
         around = is.around;
         numbers = is.numbers;
         numbered = is.numbered;
-        has_told = is.has_told;
+        has_noted = is.has_noted;
         pends = (behind, same, rest ∙ ap (λ (t : Tree). with_bucket p.key.now p.sequence t behind) (sym onto_is));
       }
 
   -- a bucket that may be inline
   pub begin_at : (key : Bor (List ℕ)) (sequence : ℕ) (inside after : Tree) → IsAt wanted pass levels (with_bucket key.now sequence inside after) put → pass.pending ≡ None → pass.entries.items ≡ []
-      → IsAt wanted (record { setup = pass.setup; limits = pass.limits; waiting = pass.waiting; bucket = pass.bucket; pending = Some (record { key = key; sequence = sequence; size = 16 }); entries = pass.entries; next = pass.next; opened = pass.opened; around = pass.around; most = pass.most; told = pass.told })
+      → IsAt wanted (record { setup = pass.setup; limits = pass.limits; waiting = pass.waiting; bucket = pass.bucket; pending = Some (record { key = key; sequence = sequence; size = 16 }); entries = pass.entries; next = pass.next; opened = pass.opened; around = pass.around; most = pass.most; noted = pass.noted })
       (record { key = key.now; after = after } ∷ levels) inside put
   begin_at key sequence inside after is none empty =
       let (same, rest) = subst (λ (q : Option PendingBucket). IsPending q pass.entries.items (map level_of is.frames) is.rest levels (with_bucket key.now sequence inside after)) none is.pends in
@@ -556,7 +556,7 @@ module _ (wanted : Wanted) (pass : Pass) (levels : List Level) (put : List Place
         around = is.around;
         numbers = is.numbers;
         numbered = is.numbered;
-        has_told = is.has_told;
+        has_noted = is.has_noted;
         pends = (
           after,
           ap (λ (ls : List Level). record { key = key.now; after = after } ∷ ls) same,

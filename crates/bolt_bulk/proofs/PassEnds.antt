@@ -34,18 +34,18 @@ use Rattle.bolt_bulk.specs.declared.pass.Pass.{Pass}
 use Rattle.bolt_bulk.specs.Private.RowLimits.{limit_in}
 use Rattle.bolt_bulk.specs.declared.limits.BucketLimits.{BucketLimits}
 use Rattle.bolt_bulk.specs.declared.pending_bucket.PendingBucket.{PendingBucket}
-use Rattle.bolt_bulk.specs.declared.told.Told.{Told}
+use Rattle.bolt_bulk.specs.declared.noted_limits.NotedLimits.{NotedLimits}
 use Rattle.bolt_bulk.proofs.Frames.{pass_begins, pass_ends}
 use Rattle.bolt_bulk.proofs.HeldSteps.{end_held}
 use Rattle.bolt_bulk.proofs.Members.{all_left, next_bucket, next_short, next_value, none_at_all}
 use Rattle.bolt_bulk.proofs.RowsAreRuns.{nothing_rows, rows_ended}
 use Rattle.bolt_bulk.proofs.OpenRunLemmas.{ends}
-use Rattle.bolt_bulk.proofs.Openings.{all_coming, root_tells}
+use Rattle.bolt_bulk.proofs.Openings.{all_coming, root_notes}
 use Rattle.bolt_bulk.proofs.PassAt.{on_of}
 use Rattle.bolt_bulk.proofs.PassLeft.{depth_levels}
 use Rattle.bolt_bulk.proofs.PassRows.{end_numbered}
 use Rattle.bolt_bulk.proofs.PassSteps.{IsOn}
-use Rattle.bolt_bulk.proofs.Tables.{BucketEnds, no_numbers, none_told, opened_most, table_fits, told_leaves}
+use Rattle.bolt_bulk.proofs.Tables.{BucketEnds, no_numbers, none_noted, opened_most, table_fits, noted_leaves}
 use Rattle.bolt_bulk.proofs.PutsLemmas.{bytes-append, pages_some, puts_first, puts_then, short_then}
 
 -- ---- the next member
@@ -120,9 +120,9 @@ members_fit path (with_bucket key sequence inside after) (key_fits, sequence_fit
 
 pub has_begun : (wanted : Wanted) (pass : Pass) → pass.waiting.items ≡ [] → pass.pending ≡ None
     → rows_of pass.bucket pass.next ≡ record { leaves = no_leaves; uppers = []; limits = record { all = pass.limits; bucket = 0 }; next = first_page } → pass.most ≡ 0 → pass.opened ≡ 1
-    → pass.told.tells ≡ wanted.tells → ((bucket level : ℕ) → limit_in pass.told.limits bucket level ≡ None)
+    → pass.noted.notes ≡ wanted.notes → ((bucket level : ℕ) → limit_in pass.noted.limits bucket level ≡ None)
     → FitLimits wanted.which wanted.tree pass.setup.page_size (limits_by pass) → HasLeft wanted pass (listing_of wanted.tree) []
-has_begun wanted pass none nothing rows fresh first asked untold fit =
+has_begun wanted pass none nothing rows fresh first asked unnoted fit =
     let P : ℕ = pass.setup.page_size in
     let leaves : List (Laid BranchElement) = leaf_pages P (items_of wanted.which P wanted.tree) in
     let known : Known = record { limits = record { all = pass.limits; bucket = 0 }; leaves = leaves } in
@@ -144,8 +144,8 @@ has_begun wanted pass none nothing rows fresh first asked untold fit =
         coming = all_coming wanted P (limits_by pass) fit.others;
         around = omega arith;
         numbers = 0 ∷ [];
-        numbered = (record { earlier = omega arith; number_is = refl; tells = root_tells wanted P }, tt);
-        has_told = record { asked = asked; table = λ _ _ _. none_told P wanted.tree pass.told.limits untold };
+        numbered = (record { earlier = omega arith; number_is = refl; notes = root_notes wanted P }, tt);
+        has_noted = record { asked = asked; table = λ _ _ _. none_noted P wanted.tree pass.noted.limits unnoted };
       };
       members_are = all_left wanted.tree;
     }
@@ -172,8 +172,8 @@ pub record HasEnd (wanted : Wanted) (pass : Pass) (put : List Placed) : Type 0 w
   pub root : rows_end pass.setup.page_size (rows_of pass.bucket pass.next) ≡ layout_root wanted.which pass.setup.page_size wanted.tree
   pub mark : bucket_end_next pass.setup.page_size (rows_of pass.bucket pass.next) ≡ layout_mark wanted.which pass.setup.page_size wanted.tree
   pub held : pass.most ≡ capped (layout_held wanted.which pass.setup.page_size wanted.tree)
-  pub told : (told : Told) → BucketEnds pass.told told pass.bucket.limits.bucket pass.bucket.uppers.items → wanted.tells ≡ true → wanted.which ≡ Plain
-      → layout_mark wanted.which pass.setup.page_size wanted.tree ≤ 18446744073709551615 → FitLimits Balanced wanted.tree pass.setup.page_size (limits_with told.limits)
+  pub noted : (noted : NotedLimits) → BucketEnds pass.noted noted pass.bucket.limits.bucket pass.bucket.uppers.items → wanted.notes ≡ true → wanted.which ≡ Plain
+      → layout_mark wanted.which pass.setup.page_size wanted.tree ≤ 18446744073709551615 → FitLimits Balanced wanted.tree pass.setup.page_size (limits_with noted.limits)
 
 root_ended : (page_size : ℕ) (wanted : Wanted) (state : Open) (rows : OpenRows) (put : List Placed) → IsOn wanted.which page_size wanted.tree [] state [] rows put
     → (layout_pages wanted.which page_size wanted.tree ≡ put ++ rows_end_put page_size rows) × (rows_end page_size rows ≡ layout_root wanted.which page_size wanted.tree) × (bucket_end_next page_size rows ≡ layout_mark wanted.which page_size wanted.tree)
@@ -202,17 +202,17 @@ has_end wanted pass put has shallow =
       root = root;
       mark = mark;
       held = at.held ∙ ap capped (ap (λ (fs : List Frame). held_so_far fs at.state) frames ∙ held);
-      told = λ told ended asked which fits.
+      noted = λ noted ended asked which fits.
           let P : ℕ = pass.setup.page_size in
           let numbered = subst (λ (fs : List Frame). AreNumbered wanted P at.opened at.numbers (open_in at.state fs)) frames at.numbered in
           let around = subst (λ (fs : List Frame). AreComingAround wanted P (limits_by pass) (at.opened + 0) fs) frames right.1 in
           let most = opened_most wanted P (limits_by pass) (at.opened + 0) at.frames right.1 in
           let number : pass.bucket.limits.bucket ≡ at.state.known.limits.bucket = ap (λ (l : BucketLimits). l.bucket) at.rows.limits_are in
-          let last = told_leaves wanted P pass.told told at.opened (base_in at.frames) at.numbers at.state [] pass.bucket.uppers.items on.under.root at.has_told numbered (omega arith) at.rows.above on.under.current
-          (subst (λ (n : ℕ). BucketEnds pass.told told n pass.bucket.uppers.items) number ended) in
-          let table = subst (λ (ns : List ℕ). IsTable P wanted.tree told.limits at.opened ns) (no_numbers wanted P at.opened last.numbers last.numbered) (last.has_told.table asked which fits) in
+          let last = noted_leaves wanted P pass.noted noted at.opened (base_in at.frames) at.numbers at.state [] pass.bucket.uppers.items on.under.root at.has_noted numbered (omega arith) at.rows.above on.under.current
+          (subst (λ (n : ℕ). BucketEnds pass.noted noted n pass.bucket.uppers.items) number ended) in
+          let table = subst (λ (ns : List ℕ). IsTable P wanted.tree noted.limits at.opened ns) (no_numbers wanted P at.opened last.numbers last.numbered) (last.has_noted.table asked which fits) in
           let count : suc (opened_in wanted.which P wanted.tree) ≡ suc (opened_in Plain P wanted.tree) = ap (λ (w : Layout). suc (opened_in w P wanted.tree)) which in
-          table_fits P wanted.tree told.limits at.opened table (omega arith) (omega arith);
+          table_fits P wanted.tree noted.limits at.opened table (omega arith) (omega arith);
     }
 
 -- A prefix of a text isn't the whole of a longer one.
@@ -249,7 +249,7 @@ module _ {S : Type 0} (wanted : Wanted) (taken : S → Option (List ℕ)) (faile
         root = tt;
         mark = tt;
         within = tt;
-        told = tt;
+        noted = tt;
         held = tt;
         large = steps.large;
       }
@@ -271,7 +271,7 @@ module _ {S : Type 0} (wanted : Wanted) (taken : S → Option (List ℕ)) (faile
         root = then.root;
         mark = then.mark;
         within = then.within;
-        told = then.told;
+        noted = then.noted;
         held = then.held;
         large = then.large;
       }

@@ -9,27 +9,27 @@ use Rattle.bolt_layout.specs.Cut.{branch_cut}
 use Rattle.bolt_layout.specs.Laid.{Laid, size_of}
 use Rattle.bolt_layout.specs.Levels.{branch_view, leaf_view, page_over}
 use Rattle.bolt_layout.specs.Layout.{layout_mark}
-use Rattle.bolt_layout.specs.Limits.{limit_at, limits_told}
-use Rattle.bolt_layout.specs.Openings.{limits_for, opened_in, told_of}
+use Rattle.bolt_layout.specs.Limits.{limit_at, limits_from_ends}
+use Rattle.bolt_layout.specs.Openings.{limits_for, opened_in, row_ends_of}
 use Rattle.bolt_layout.specs.declared.layout.Layout.{Layout}
 use Rattle.bolt_layout.specs.declared.layout.Layout.TheVariants.{Balanced, Plain}
-use Rattle.bolt_layout.proofs.BalancedRows.{telling_right, tellings_right}
+use Rattle.bolt_layout.proofs.BalancedRows.{right_from_ends, from_ends_right}
 use Rattle.bolt_layout.proofs.OpenedBuckets.{opened_few}
-use Rattle.bolt_layout.proofs.Tellings.{tellings_by}
-use Rattle.bolt_layout.proofs.ToldRows.{told_one}
+use Rattle.bolt_layout.proofs.LimitsFromEnds.{from_ends_by}
+use Rattle.bolt_layout.proofs.RowEnds.{row_ends_are_one}
 use Rattle.bolt_layout.proofs.Tops.{shorter}
 use Rattle.bolt_bulk.specs.Private.BranchRuns.{rows_above}
 use Rattle.bolt_bulk.specs.Private.Coming.{Comes, IsOpen}
 use Rattle.bolt_bulk.specs.Private.HeldCounts.{capped}
 use Rattle.bolt_bulk.specs.Private.OpenRows.{AreRows}
-use Rattle.bolt_bulk.specs.Private.OpenRuns.{Frame, Known, Open, Upper, has_room, making_room, told_by}
-use Rattle.bolt_bulk.specs.Private.Passes.{AreComingAround, AreNumbered, FitLimits, HasTold, IsNumbered, IsTable, Tells, Wanted, limits_with}
-use Rattle.bolt_bulk.specs.Private.RowLimits.{bucket_limit, limit_in, run_told}
+use Rattle.bolt_bulk.specs.Private.OpenRuns.{Frame, Known, Open, Upper, has_room, making_room, upper_end}
+use Rattle.bolt_bulk.specs.Private.Passes.{AreComingAround, AreNumbered, FitLimits, HasNoted, IsNumbered, IsTable, Notes, Wanted, limits_with}
+use Rattle.bolt_bulk.specs.Private.RowLimits.{bucket_limit, limit_in, run_end}
 use Rattle.bolt_bulk.specs.declared.branch_runs.BranchRun.{BranchRun}
 use Rattle.bolt_bulk.specs.declared.limits.Limits.{Limits}
-use Rattle.bolt_bulk.specs.declared.told.Told.{Told}
+use Rattle.bolt_bulk.specs.declared.noted_limits.NotedLimits.{NotedLimits}
 use Rattle.bolt_bulk.proofs.HeldSteps.{run_length}
-use Rattle.bolt_bulk.proofs.ToldRuns.{ends_tell}
+use Rattle.bolt_bulk.proofs.RunEnds.{bucket_rows_end}
 
 -- ---- what is known of a bucket stays while it is open
 
@@ -43,7 +43,7 @@ is_numbered : (wanted : Wanted) (page_size below n : ℕ) (old new : Open) → n
 is_numbered wanted page_size below n old new same is = record {
   earlier = is.earlier;
   number_is = ap (λ (k : Known). k.limits.bucket) same ∙ is.number_is;
-  tells = subst (λ (k : Known). Tells wanted page_size n k.leaves) (sym same) is.tells;
+  notes = subst (λ (k : Known). Notes wanted page_size n k.leaves) (sym same) is.notes;
 }
 
 pub numbered_same : (wanted : Wanted) (page_size below : ℕ) (numbers : List ℕ) (old new : Open) (others : List Open) → new.known ≡ old.known
@@ -59,8 +59,8 @@ before n opened less apart = elim (cases_lt n opened) [
   | inr g ↦ absurd (apart (omega arith))
 ]
 
-pub told_enters : (wanted : Wanted) (page_size : ℕ) (told : Told) (opened : ℕ) (numbers : List ℕ) → HasTold wanted page_size told opened numbers → HasTold wanted page_size told (suc opened) (opened ∷ numbers)
-told_enters wanted page_size told opened numbers has = record {
+pub noted_enters : (wanted : Wanted) (page_size : ℕ) (noted : NotedLimits) (opened : ℕ) (numbers : List ℕ) → HasNoted wanted page_size noted opened numbers → HasNoted wanted page_size noted (suc opened) (opened ∷ numbers)
+noted_enters wanted page_size noted opened numbers has = record {
   asked = has.asked;
   table = λ asked which fits.
       let table = has.table asked which fits in
@@ -74,13 +74,13 @@ told_enters wanted page_size told opened numbers has = record {
 -- ---- a bucket ends
 
 -- its runs say what the rows say
-pub runs_told : (page_size : ℕ) (limits : ℕ → Option ℕ) (runs : List BranchRun) (uppers : List Upper) (q : Laid BranchElement) (all : List (Laid BranchElement)) (root : Laid BranchElement) (b : ℕ)
+pub run_ends : (page_size : ℕ) (limits : ℕ → Option ℕ) (runs : List BranchRun) (uppers : List Upper) (q : Laid BranchElement) (all : List (Laid BranchElement)) (root : Laid BranchElement) (b : ℕ)
     → AreRows (rows_above runs) uppers b → Comes Plain page_size limits uppers all (q ∷ []) root → length all ≤ 18446744073709551615
-    → map run_told runs ≡ map told_by uppers
-runs_told page_size limits [] [] q all root b are comes few = refl
-runs_told page_size limits [] (upper ∷ uppers) q all root b are comes few = absurd are
-runs_told page_size limits (run ∷ runs) [] q all root b are comes few = absurd are
-runs_told page_size limits (run ∷ runs) (upper ∷ uppers) q all root b (row, are) (stands, comes) few =
+    → map run_end runs ≡ map upper_end uppers
+run_ends page_size limits [] [] q all root b are comes few = refl
+run_ends page_size limits [] (upper ∷ uppers) q all root b are comes few = absurd are
+run_ends page_size limits (run ∷ runs) [] q all root b are comes few = absurd are
+run_ends page_size limits (run ∷ runs) (upper ∷ uppers) q all root b (row, are) (stands, comes) few =
     let next : List (Laid BranchElement) = map (page_over branch_view page_size) (branch_cut Plain page_size size_of all) in
     let fewer = shorter Plain page_size all stands.some in
     let count = length-map (branch_cut Plain page_size size_of all) (page_over branch_view page_size) in
@@ -88,10 +88,10 @@ runs_told page_size limits (run ∷ runs) (upper ∷ uppers) q all root b (row, 
     let closed = stands.count in
     let closed_is : run.closed ≡ upper.closed = (let c = row.closed_is in omega arith) in
     let items : length run.elements.items ≡ length upper.run = run_length run upper.run _ row.same in
-    let rest = runs_told page_size (λ k. limits (suc k)) runs uppers (page_over branch_view page_size (upper.run ++ q ∷ [])) next root b are comes (omega arith) in
-    ap (λ (n : ℕ). (suc n, suc (length run.elements.items)) ∷ map run_told runs) closed_is
-    ∙ (ap (λ (n : ℕ). (suc upper.closed, suc n) ∷ map run_told runs) items
-    ∙ ap (λ (rows : List (ℕ × ℕ)). told_by upper ∷ rows) rest)
+    let rest = run_ends page_size (λ k. limits (suc k)) runs uppers (page_over branch_view page_size (upper.run ++ q ∷ [])) next root b are comes (omega arith) in
+    ap (λ (n : ℕ). (suc n, suc (length run.elements.items)) ∷ map run_end runs) closed_is
+    ∙ (ap (λ (n : ℕ). (suc upper.closed, suc n) ∷ map run_end runs) items
+    ∙ ap (λ (rows : List (ℕ × ℕ)). upper_end upper ∷ rows) rest)
 
 -- no more buckets are opened than the layout has page numbers
 around_most : (wanted : Wanted) (page_size : ℕ) (limits : ℕ → ℕ → Option ℕ) (n : ℕ) (frames : List Frame) → AreComingAround wanted page_size limits n frames → n ≤ suc (opened_in wanted.which page_size wanted.tree)
@@ -141,45 +141,45 @@ numbered_below wanted page_size low high [] [] less are = tt
 numbered_below wanted page_size low high [] (state ∷ states) less are = absurd are
 numbered_below wanted page_size low high (n ∷ numbers) [] less are = absurd are
 numbered_below wanted page_size low high (n ∷ numbers) (state ∷ states) less (is, are) =
-    let e = is.earlier in (record { earlier = omega arith; number_is = is.number_is; tells = is.tells }, are)
+    let e = is.earlier in (record { earlier = omega arith; number_is = is.number_is; notes = is.notes }, are)
 
 -- What is noted at a bucket's end, by its number and its open runs.
-pub record BucketEnds (old new : Told) (number : ℕ) (runs : List BranchRun) : Type 0 where
-  pub same : new.tells ≡ old.tells
-  pub told : old.tells ≡ true → ((level : ℕ) → limit_in old.limits number level ≡ None) → (level : ℕ) → limit_in new.limits number level ≡ limit_at (limits_told false (map run_told runs)) level
+pub record BucketEnds (old new : NotedLimits) (number : ℕ) (runs : List BranchRun) : Type 0 where
+  pub same : new.notes ≡ old.notes
+  pub noted : old.notes ≡ true → ((level : ℕ) → limit_in old.limits number level ≡ None) → (level : ℕ) → limit_in new.limits number level ≡ limit_at (limits_from_ends false (map run_end runs)) level
   pub others : (b level : ℕ) → (b ≡ number → ⊥) → limit_in new.limits b level ≡ limit_in old.limits b level
 
-pub record HasOthers (wanted : Wanted) (page_size : ℕ) (told : Told) (opened : ℕ) (others : List Open) : Type 0 where
+pub record HasOthers (wanted : Wanted) (page_size : ℕ) (noted : NotedLimits) (opened : ℕ) (others : List Open) : Type 0 where
   pub numbers : List ℕ
   pub numbered : AreNumbered wanted page_size opened numbers others
-  pub has_told : HasTold wanted page_size told opened numbers
+  pub has_noted : HasNoted wanted page_size noted opened numbers
 
-pub told_leaves : (wanted : Wanted) (page_size : ℕ) (old new : Told) (opened b : ℕ) (numbers : List ℕ) (state : Open) (others : List Open) (runs : List BranchRun) (root : Laid BranchElement)
-    → HasTold wanted page_size old opened numbers → AreNumbered wanted page_size opened numbers (state ∷ others) → opened ≤ layout_mark wanted.which page_size wanted.tree
+pub noted_leaves : (wanted : Wanted) (page_size : ℕ) (old new : NotedLimits) (opened b : ℕ) (numbers : List ℕ) (state : Open) (others : List Open) (runs : List BranchRun) (root : Laid BranchElement)
+    → HasNoted wanted page_size old opened numbers → AreNumbered wanted page_size opened numbers (state ∷ others) → opened ≤ layout_mark wanted.which page_size wanted.tree
     → AreRows (rows_above runs) state.uppers b → IsOpen wanted.which page_size state [] root
     → BucketEnds old new state.known.limits.bucket runs → HasOthers wanted page_size new opened others
-told_leaves wanted page_size old new opened b [] state others runs root has are few rows runs_open ended = absurd are
-told_leaves wanted page_size old new opened b (n ∷ numbers) state others runs root has (is, are) few rows runs_open ended =
+noted_leaves wanted page_size old new opened b [] state others runs root has are few rows runs_open ended = absurd are
+noted_leaves wanted page_size old new opened b (n ∷ numbers) state others runs root has (is, are) few rows runs_open ended =
     let e = is.earlier in
     record {
       numbers = numbers;
       numbered = numbered_below wanted page_size n opened numbers others (omega arith) are;
-      has_told = record {
+      has_noted = record {
         asked = ended.same ∙ has.asked;
         table = λ asked which fits.
             let table = has.table asked which fits in
             let number : state.known.limits.bucket ≡ n = (let c = is.number_is in omega arith) in
             let plain : IsOpen Plain page_size state [] root = subst (λ (w : Layout). IsOpen w page_size state [] root) which runs_open in
-            let leaves : length state.known.leaves ≤ 18446744073709551615 = (let l = is.tells.few in omega arith) in
-            let runs_are : map run_told runs ≡ map told_by state.uppers =
-            runs_told page_size (bucket_limit state.known.limits) runs state.uppers (page_over leaf_view page_size state.run) state.known.leaves root b rows plain.comes leaves in
-            let rows_are : map told_by state.uppers ≡ told_of page_size state.known.leaves = told_one page_size state.known.leaves (map told_by state.uppers) (ends_tell page_size state root plain) in
-            let all : limits_told false (map run_told runs) ≡ limits_told false (told_of page_size state.known.leaves) = ap (λ (rs : List (ℕ × ℕ)). limits_told false rs) (runs_are ∙ rows_are) in
+            let leaves : length state.known.leaves ≤ 18446744073709551615 = (let l = is.notes.few in omega arith) in
+            let runs_are : map run_end runs ≡ map upper_end state.uppers =
+            run_ends page_size (bucket_limit state.known.limits) runs state.uppers (page_over leaf_view page_size state.run) state.known.leaves root b rows plain.comes leaves in
+            let rows_are : map upper_end state.uppers ≡ row_ends_of page_size state.known.leaves = row_ends_are_one page_size state.known.leaves (map upper_end state.uppers) (bucket_rows_end page_size state root plain) in
+            let all : limits_from_ends false (map run_end runs) ≡ limits_from_ends false (row_ends_of page_size state.known.leaves) = ap (λ (rs : List (ℕ × ℕ)). limits_from_ends false rs) (runs_are ∙ rows_are) in
             let fresh : (level : ℕ) → limit_in old.limits state.known.limits.bucket level ≡ None = λ level. ap (λ (m : ℕ). limit_in old.limits m level) number ∙ table.still_open.0 level in
             let own : (level : ℕ) → limit_in new.limits n level ≡ limits_for page_size wanted.tree n level =
             λ level. ap (λ (m : ℕ). limit_in new.limits m level) (sym number)
-            ∙ (ended.told (has.asked ∙ asked) fresh level
-            ∙ (ap (λ (ls : List (Option ℕ)). limit_at ls level) all ∙ sym (is.tells.told which level))) in
+            ∙ (ended.noted (has.asked ∙ asked) fresh level
+            ∙ (ap (λ (ls : List (Option ℕ)). limit_at ls level) all ∙ sym (is.notes.noted which level))) in
             table_ends page_size wanted.tree old.limits new.limits opened n numbers table is.earlier (all_lower wanted page_size n n numbers others (omega arith) are) own
             (λ m level other. ended.others m level (λ same. other (same ∙ number)));
       };
@@ -187,8 +187,8 @@ told_leaves wanted page_size old new opened b (n ∷ numbers) state others runs 
 
 -- ---- at the beginning, and once all buckets have ended
 
-pub none_told : (page_size : ℕ) (tree : Tree) (limits : Limits) → ((bucket level : ℕ) → limit_in limits bucket level ≡ None) → IsTable page_size tree limits 1 (0 ∷ [])
-none_told page_size tree limits none = record {
+pub none_noted : (page_size : ℕ) (tree : Tree) (limits : Limits) → ((bucket level : ℕ) → limit_in limits bucket level ≡ None) → IsTable page_size tree limits 1 (0 ∷ [])
+none_noted page_size tree limits none = record {
   still_open = ((λ level. none 0 level), tt);
   later = λ n level more. none n level;
   ended = λ n level less apart. absurd (apart.0 (omega arith));
@@ -201,9 +201,9 @@ no_numbers wanted page_size below (n ∷ numbers) are = absurd are
 pub table_fits : (page_size : ℕ) (tree : Tree) (limits : Limits) (opened : ℕ) → IsTable page_size tree limits opened [] → opened ≡ suc (opened_in Plain page_size tree) → opened ≤ 18446744073709551615
     → FitLimits Balanced tree page_size (limits_with limits)
 table_fits page_size tree limits opened table count few =
-    let told : (n level : ℕ) → n < suc (opened_in Plain page_size tree) → limits_with limits n level ≡ limits_for page_size tree n level =
+    let noted : (n level : ℕ) → n < suc (opened_in Plain page_size tree) → limits_with limits n level ≡ limits_for page_size tree n level =
     λ n level less. (let same : capped n ≡ n = omega arith in ap (λ (m : ℕ). limit_in limits m level) same ∙ table.ended n level (omega arith) tt) in
     record {
-      root = telling_right page_size (limits_with limits 0) tree (λ level. told 0 level (omega arith));
-      others = tellings_right page_size (limits_with limits) 1 tree (tellings_by page_size tree (limits_with limits) told);
+      root = right_from_ends page_size (limits_with limits 0) tree (λ level. noted 0 level (omega arith));
+      others = from_ends_right page_size (limits_with limits) 1 tree (from_ends_by page_size tree (limits_with limits) noted);
     }

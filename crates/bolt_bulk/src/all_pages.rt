@@ -14,22 +14,22 @@ use crate::pass::{Ended, Pass};
 use bolt_format::Sink;
 use bolt_recover::Members;
 
-/// Writes the pages of all members, in the layout whose rows have these limits. If `tells` is set
+/// Writes the pages of all members, in the layout whose rows have these limits. If `notes` is set
 /// and this is the plain layout, it returns the limits of the balanced one.
 pub(crate) fn put_pages<'a, M: Members<'a>, S: Sink>(
     setup: PageSetup,
     limits: &Limits,
-    tells: bool,
+    notes: bool,
     members: &mut M,
     sink: &mut S,
 ) -> Result<Ended, BulkFault>
     requires room { 3 ≤ setup.limit }
     requires whole { IsWhole M.lists M.left members.old }
     ensures pages { (which : Layout) (listing : List Member) → M.lists members.old listing → FitLimits which (tree_of listing) setup.page_size (limits_with limits.now)
-        → Ends (record { which = which; tree = tree_of listing; tells = tells }) S.taken S.failed sink.old sink.new setup [] result }
+        → Ends (record { which = which; tree = tree_of listing; notes = notes }) S.taken S.failed sink.old sink.new setup [] result }
     ensures end { OnOk result (M.ends_as members.old members.new) }
 {
-    let mut pass = Pass::new(setup, limits, tells);
+    let mut pass = Pass::new(setup, limits, notes);
     'members: loop {
         match members.next() {
             Err(_) => return Err(BulkFault::Memory),

@@ -22,13 +22,13 @@ mod leaf_run;
 mod limits;
 mod members_copy;
 mod no_sink;
+mod noted_limits;
 mod open_bucket;
 mod outcome;
 mod page_setup;
 mod pass;
 mod pending_bucket;
 mod pieces;
-mod told;
 mod waiting_bucket;
 
 pub use copy::{compact, compact_as, compact_recovered, plan, plan_as};

@@ -1,7 +1,7 @@
 //! How many runs the rows of a bucket's branches may have, in the balanced layout.
 ghost use Rattle.std.specs.Prelude.{◌≡◌, ◌∷◌, ℕ, List, false, IfErr, None, OnOk, Some, map};
-ghost use Rattle.bolt_layout.specs.Limits.{limit_at, limits_told};
-ghost use Rattle.bolt_bulk.specs.Private.RowLimits.{IsOtherRow, bucket_limit, limit_in, run_told};
+ghost use Rattle.bolt_layout.specs.Limits.{limit_at, limits_from_ends};
+ghost use Rattle.bolt_bulk.specs.Private.RowLimits.{IsOtherRow, bucket_limit, limit_in, run_end};
 ghost use Rattle.bolt_bulk.specs.declared.fault.BulkFault.TheVariants as fault;
 
 use crate::branch_runs::BranchRun;
@@ -30,7 +30,7 @@ pub(crate) struct BucketLimits<'a> {
 /// plain layout, and the page under way joins it. If `lost` is set, this row itself has lost its
 /// last item.
 fn row_limit(lost: bool, run: &BranchRun<'_>) -> (Option<u64>, bool)
-    ensures { (rows : List (ℕ × ℕ)) → limits_told lost (run_told run.now ∷ rows) ≡ result.0 ∷ limits_told result.1 rows }
+    ensures { (rows : List (ℕ × ℕ)) → limits_from_ends lost (run_end run.now ∷ rows) ≡ result.0 ∷ limits_from_ends result.1 rows }
 {
     let before = run.elements.len();
     let single = if lost { 1 } else { 0 };
@@ -65,8 +65,12 @@ impl Limits {
     /// Notes the limits of a bucket that ends, from its open runs in the plain layout. If a row
     /// would end in a run of a single item after another run, it has one run less, and the row
     /// above it loses its last item.
-    pub(crate) fn tell(&mut self, bucket: u64, runs: &[BranchRun<'_>]) -> Result<(), BulkFault>
-        ensures told { OnOk result (((level : ℕ) → limit_in self.old bucket level ≡ None) → (level : ℕ) → limit_in self.new bucket level ≡ limit_at (limits_told false (map run_told runs.now)) level) }
+    pub(crate) fn add_bucket(
+        &mut self,
+        bucket: u64,
+        runs: &[BranchRun<'_>],
+    ) -> Result<(), BulkFault>
+        ensures noted { OnOk result (((level : ℕ) → limit_in self.old bucket level ≡ None) → (level : ℕ) → limit_in self.new bucket level ≡ limit_at (limits_from_ends false (map run_end runs.now)) level) }
         ensures others { OnOk result ((b l : ℕ) → (b ≡ bucket → ⊥) → limit_in self.new b l ≡ limit_in self.old b l) }
         ensures fault { IfErr result (λ e. e ≡ fault.Memory) }
     {

@@ -55,7 +55,7 @@ fn setup_of(alloc: Global, page_size: u64) -> PageSetup
 
 /// The same for a pass over the plain layout that notes the limits of the balanced one, which is
 /// never 28 times smaller.
-fn telling_setup_of(alloc: Global, page_size: u64) -> PageSetup
+fn noting_setup_of(alloc: Global, page_size: u64) -> PageSetup
     requires { IsPageSize page_size }
     ensures page_size { result.page_size ≡ page_size }
     ensures limit { result.limit ≡ 28 * (9223372036854775807 / page_size) }
@@ -82,10 +82,10 @@ fn balanced_limits<'a, M: Members<'a> + Drop>(
 {
     a_listing_has_one_layout(shape.page_size, shape.sequence);
     let none = Limits::none(alloc);
-    let setup = telling_setup_of(alloc, shape.page_size);
+    let setup = noting_setup_of(alloc, shape.page_size);
     let mut again = members.again(alloc)?;
     match put_pages(setup, &none, true, &mut again, &mut NoSink) {
-        Ok(ended) => Ok(ended.told),
+        Ok(ended) => Ok(ended.noted),
         Err(BulkFault::TooLarge) => Err(PlanFault::TooLarge),
         Err(BulkFault::Memory) => Err(PlanFault::Memory),
         Err(BulkFault::Sink) => unreachable!(),

@@ -4,10 +4,10 @@ ghost use Rattle.std.specs.Prelude.{[], ◌≡◌, ◌+◌, ◌/◌, ◌<◌, �
 
 use crate::fault::BulkFault;
 use crate::limits::{BucketLimits, Limits};
+use crate::noted_limits::NotedLimits;
 use crate::open_bucket::OpenBucket;
 use crate::page_setup::{MAX_ITEMS, PageSetup};
 use crate::pending_bucket::PendingBucket;
-use crate::told::Told;
 use crate::waiting_bucket::WaitingBucket;
 use bolt_format::{ELEMENT_LEN, HEADER_LEN, Leaf, Sink};
 use bolt_tree::Item;
@@ -23,7 +23,7 @@ pub(crate) struct Ended {
     /// The greatest number of items that the open runs held at one time.
     pub held: u64,
     /// The limits of the rows of all buckets, if they were asked for.
-    pub told: Limits,
+    pub noted: Limits,
 }
 
 /// The state of a pass.
@@ -47,7 +47,7 @@ pub(crate) struct Pass<'a> {
     /// Saturates at 2^64 - 1.
     pub most: u64,
     /// The limits that a pass over the plain layout notes.
-    pub told: Told,
+    pub noted: NotedLimits,
 }
 
 impl<'a> Pass<'a> {
@@ -61,13 +61,13 @@ impl<'a> Pass<'a> {
     ghost use Rattle.bolt_tree.specs.Paths.{path_of};
     ghost use Rattle.bolt_tree.specs.ShownEntries.{item_view};
 
-    /// A pass before the first page. If `tells` is set, it notes the limits of the balanced
+    /// A pass before the first page. If `notes` is set, it notes the limits of the balanced
     /// layout's rows.
-    pub(crate) fn new(setup: PageSetup, limits: &'a Limits, tells: bool) -> Pass<'a>
+    pub(crate) fn new(setup: PageSetup, limits: &'a Limits, notes: bool) -> Pass<'a>
         requires { 3 ≤ setup.limit }
         ensures setup { result.setup ≡ setup }
         ensures ready { IsReady result }
-        ensures at { (wanted : Wanted) → wanted.tells ≡ tells → FitLimits wanted.which wanted.tree setup.page_size (limits_with limits.now) → HasLeft wanted result (listing_of wanted.tree) [] }
+        ensures at { (wanted : Wanted) → wanted.notes ≡ notes → FitLimits wanted.which wanted.tree setup.page_size (limits_with limits.now) → HasLeft wanted result (listing_of wanted.tree) [] }
     {
         let alloc = setup.alloc;
         Pass {
@@ -87,7 +87,7 @@ impl<'a> Pass<'a> {
             opened: 1,
             around: 0,
             most: 0,
-            told: Told::new(alloc, tells),
+            noted: NotedLimits::new(alloc, notes),
         }
     }
 
@@ -344,7 +344,7 @@ impl<'a> Pass<'a> {
             → Steps wanted S.taken S.failed sink.old sink.new self.old.setup put (IsAt wanted self.new levels level.after) result }
     {
         let ended = self
-            .told
+            .noted
             .bucket_ends(self.bucket.limits.bucket, self.bucket.uppers.as_slice());
         if let Err(fault) = ended {
             return Err(fault);
@@ -422,7 +422,7 @@ impl<'a> Pass<'a> {
             return Err(fault);
         }
         let ended = self
-            .told
+            .noted
             .bucket_ends(self.bucket.limits.bucket, self.bucket.uppers.as_slice());
         if let Err(fault) = ended {
             return Err(fault);
@@ -433,7 +433,7 @@ impl<'a> Pass<'a> {
                 root,
                 high_water: self.next,
                 held: self.most,
-                told: self.told.take_limits(self.setup.alloc),
+                noted: self.noted.take_limits(self.setup.alloc),
             }),
         }
     }

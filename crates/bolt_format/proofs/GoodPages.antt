@@ -16,7 +16,7 @@ use Rattle.bolt_format.specs.declared.open_page.Span.{Span}
 use Rattle.bolt_format.specs.declared.kind.Kind.{Kind}
 use Rattle.bolt_format.proofs.FaultLemmas.{first_of-none}
 
--- a test that told nothing
+-- a test that found nothing
 pub guard-none : (test : Bool) (fault : ℕ) (next : Option ℕ) → cond test (Some fault) next ≡ None → (test ≡ false) × (next ≡ None)
 guard-none true fault next e = absurd (cc)
 guard-none false fault next e = (refl, e)

@@ -1,20 +1,20 @@
--- The limits that the plain layout tells are right for each bucket of the balanced one.
+-- The limits that the plain layout notes are right for each bucket of the balanced one.
 use Rattle.std.proofs.Common.{◌≡◌, ◌∙◌, ◌+◌, ℕ, suc, false, List, [], Option, map, sym, ap, subst}
 use Rattle.bolt_tree.specs.Tree.{Tree, end, with_bucket, with_value}
 use Rattle.bolt_layout.specs.Cut.{cut_from}
 use Rattle.bolt_layout.specs.Items.{items_of}
-use Rattle.bolt_layout.specs.Limits.{HaveRightLimits, limit_at, limits_told}
-use Rattle.bolt_layout.specs.Openings.{AreRight, AreTellings, leaf_pages, opened_by, told_of}
+use Rattle.bolt_layout.specs.Limits.{HaveRightLimits, limit_at, limits_from_ends}
+use Rattle.bolt_layout.specs.Openings.{AreRight, AreFromEnds, leaf_pages, opened_by, row_ends_of}
 use Rattle.bolt_layout.specs.declared.layout.Layout.TheVariants.{Plain, Balanced}
 use Rattle.bolt_layout.proofs.Faces.{Face, face, face_size, leaf_faces, top_face}
 use Rattle.bolt_layout.proofs.OpenedBuckets.{opened_by_same}
 use Rattle.bolt_layout.proofs.RightLimits.{limits_alike}
 use Rattle.bolt_layout.proofs.SameFaces.{inline_alike, items_alike}
-use Rattle.bolt_layout.proofs.ToldRows.{told_are}
+use Rattle.bolt_layout.proofs.RowEnds.{row_ends_are}
 
--- What the plain layout tells of a bucket's rows.
-abbrev pub IsTelling : (page_size : ℕ) → (limit : ℕ → Option ℕ) → Tree → Type 0
-IsTelling page_size limit tree = (level : ℕ) → limit level ≡ limit_at (limits_told false (told_of page_size (leaf_pages page_size (items_of Plain page_size tree)))) level
+-- What the plain layout notes of a bucket's rows.
+abbrev pub IsFromEnds : (page_size : ℕ) → (limit : ℕ → Option ℕ) → Tree → Type 0
+IsFromEnds page_size limit tree = (level : ℕ) → limit level ≡ limit_at (limits_from_ends false (row_ends_of page_size (leaf_pages page_size (items_of Plain page_size tree)))) level
 
 leaves_alike : (page_size : ℕ) (tree : Tree) → map face (leaf_pages page_size (items_of Plain page_size tree)) ≡ map face (leaf_pages page_size (items_of Balanced page_size tree))
 leaves_alike page_size tree =
@@ -23,20 +23,20 @@ leaves_alike page_size tree =
     ∙ sym (leaf_faces page_size (items_of Balanced page_size tree)))
 
 -- One bucket, as the root bucket:
-pub telling_right : (page_size : ℕ) (limit : ℕ → Option ℕ) (tree : Tree) → IsTelling page_size limit tree
+pub right_from_ends : (page_size : ℕ) (limit : ℕ → Option ℕ) (tree : Tree) → IsFromEnds page_size limit tree
     → HaveRightLimits Balanced page_size limit (leaf_pages page_size (items_of Balanced page_size tree))
-telling_right page_size limit tree is level =
+right_from_ends page_size limit tree is level =
     let plain = leaf_pages page_size (items_of Plain page_size tree) in
     let balanced = leaf_pages page_size (items_of Balanced page_size tree) in
-    rw (is level) (limits_alike page_size plain balanced (told_of page_size plain) (told_are page_size plain) (leaves_alike page_size tree) level)
+    rw (is level) (limits_alike page_size plain balanced (row_ends_of page_size plain) (row_ends_are page_size plain) (leaves_alike page_size tree) level)
 
 -- and all that a pass opens in it.
-pub tellings_right : (page_size : ℕ) (limits : ℕ → ℕ → Option ℕ) (n : ℕ) (tree : Tree) → AreTellings page_size limits n tree → AreRight Balanced page_size limits n tree
-tellings_right page_size limits n end are = tt
-tellings_right page_size limits n (with_value key value after) are = tellings_right page_size limits n after are
-tellings_right page_size limits n (with_bucket key sequence inside after) are = (
-  λ own. (let told = are.0 (inline_alike page_size inside ∙ own) in
-      (telling_right page_size (limits n) inside told.0, tellings_right page_size limits (suc n) inside told.1)),
+pub from_ends_right : (page_size : ℕ) (limits : ℕ → ℕ → Option ℕ) (n : ℕ) (tree : Tree) → AreFromEnds page_size limits n tree → AreRight Balanced page_size limits n tree
+from_ends_right page_size limits n end are = tt
+from_ends_right page_size limits n (with_value key value after) are = from_ends_right page_size limits n after are
+from_ends_right page_size limits n (with_bucket key sequence inside after) are = (
+  λ own. (let noted = are.0 (inline_alike page_size inside ∙ own) in
+      (right_from_ends page_size (limits n) inside noted.0, from_ends_right page_size limits (suc n) inside noted.1)),
   subst (λ (m : ℕ). AreRight Balanced page_size limits (n + m) after) (opened_by_same page_size inside)
-      (tellings_right page_size limits (n + opened_by Plain page_size inside) after are.1),
+      (from_ends_right page_size limits (n + opened_by Plain page_size inside) after are.1),
 )

@@ -35,7 +35,7 @@ pub mod PlainRows
 pub mod RightLimits
 pub mod SameFaces
 pub mod SpanLemmas
-pub mod Tellings
-pub mod ToldRows
+pub mod LimitsFromEnds
+pub mod RowEnds
 pub mod Tops
 pub mod Weights

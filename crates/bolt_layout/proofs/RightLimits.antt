@@ -1,4 +1,4 @@
--- The limits that follow from what is told of the plain rows are those of the balanced ones. For this the keys and sizes of the pages are
+-- The limits that follow from what is noted of the plain rows are those of the balanced ones. For this the keys and sizes of the pages are
 -- compared, row by row.
 use Rattle.std.proofs.Common.{◌≡◌, ◌≢◌, ◌∙◌, ◌⊎◌, ◌++◌, ◌+◌, ◌-◌, ◌≤◌, ◌==◌, ◌&&◌, ℕ, zero, suc, nat_lt, Bool, true, false, List, [], ◌∷◌, length, map, Option, Some, None, refl, sym, ap, subst, inl, inr, arith}
 use Rattle.std.specs.List.{AllByRecursion}
@@ -9,7 +9,7 @@ use Rattle.bolt_layout.specs.Cut.{branch_cut, cut_of, join_last}
 use Rattle.bolt_layout.specs.Divisions.{IsPageRun}
 use Rattle.bolt_layout.specs.Laid.{Laid, size_of}
 use Rattle.bolt_layout.specs.Levels.{next_level}
-use Rattle.bolt_layout.specs.Limits.{AreTold, HaveRightLimits, cut_row, last_length, level_up, limit_at, limits_told}
+use Rattle.bolt_layout.specs.Limits.{AreRowEnds, HaveRightLimits, cut_row, last_length, level_up, limit_at, limits_from_ends}
 use Rattle.bolt_layout.specs.declared.layout.Layout.TheVariants.{Plain, Balanced}
 use Rattle.bolt_layout.proofs.Cutting.{cut_divides}
 use Rattle.bolt_layout.proofs.Faces.{Face, face, face_size, map_cut, map_last, next_faces, top_face}
@@ -22,12 +22,12 @@ abbrev Lost : Bool → (plain balanced : List Face) → Type 0
 Lost false plain balanced = plain ≡ balanced
 Lost true plain balanced = (last : Face) × (plain ≡ balanced ++ last ∷ [])
 
--- What is told of a plain row gives the limit of the balanced one, which is cut into these runs when nothing is joined, and says whether
+-- What is noted of a plain row gives the limit of the balanced one, which is cut into these runs when nothing is joined, and says whether
 -- the row above lacks its last page.
 record IsRow (lost : Bool) (row : ℕ × ℕ) (runs : List (List Face)) (above : List Face) : Type 0 where
   limit : Option ℕ
   next : Bool
-  told : (rows : List (ℕ × ℕ)) → limits_told lost (row ∷ rows) ≡ limit ∷ limits_told next rows
+  noted : (rows : List (ℕ × ℕ)) → limits_from_ends lost (row ∷ rows) ≡ limit ∷ limits_from_ends next rows
   right : IsLimit (length runs) (last_length runs) limit
   above_lost : Lost next above (map top_face (join_last runs))
 
@@ -37,31 +37,31 @@ top_front (f ∷ run) more some = refl
 
 -- where the last run joins the one before it
 joined_row : (lost : Bool) (row : ℕ × ℕ) (runs : List (List Face)) (above : List Face)
-    → ((rows : List (ℕ × ℕ)) → limits_told lost (row ∷ rows) ≡ Some (row.0 - 2) ∷ limits_told true rows) → AllByRecursion HasItem runs
+    → ((rows : List (ℕ × ℕ)) → limits_from_ends lost (row ∷ rows) ≡ Some (row.0 - 2) ∷ limits_from_ends true rows) → AllByRecursion HasItem runs
     → row.0 ≡ length runs → last_length runs ≡ 1 → 2 ≤ length runs → above ≡ map top_face runs → IsRow lost row runs above
-joined_row lost row runs above told all r one two same =
+joined_row lost row runs above noted all r one two same =
     let (last, tops) = join_tops top_face top_front runs all one two in
     record {
       limit = Some (row.0 - 2);
       next = true;
-      told = told;
+      noted = noted;
       right = inr (ap (λ (n : ℕ). Some (n - 2)) r, one, two);
       above_lost = (last, same ∙ tops);
     }
 
 -- and where no run does
 kept_row : (lost : Bool) (row : ℕ × ℕ) (runs : List (List Face)) (above : List Face)
-    → ((rows : List (ℕ × ℕ)) → limits_told lost (row ∷ rows) ≡ None ∷ limits_told false rows) → (2 ≤ last_length runs) ⊎ (length runs ≤ 1)
+    → ((rows : List (ℕ × ℕ)) → limits_from_ends lost (row ∷ rows) ≡ None ∷ limits_from_ends false rows) → (2 ≤ last_length runs) ⊎ (length runs ≤ 1)
     → above ≡ map top_face runs → IsRow lost row runs above
-kept_row lost row runs above told long same = record {
+kept_row lost row runs above noted long same = record {
   limit = None;
   next = false;
-  told = told;
+  noted = noted;
   right = inl (refl, long);
   above_lost = same ∙ ap (λ (rs : List (List Face)). map top_face rs) (sym (join_none runs long));
 }
 
--- Where no page is lost, what is told is of this row.
+-- Where no page is lost, what is noted is of this row.
 whole_row : (row : ℕ × ℕ) (runs : List (List Face)) → AllByRecursion HasItem runs → 1 ≤ length runs → row.0 ≡ length runs → row.1 ≡ last_length runs
     → IsRow false row runs (map top_face runs)
 whole_row row runs all some r m = elim (cases_Bool (row.1 == 1 && nat_lt 1 row.0)) [
@@ -79,7 +79,7 @@ whole_row row runs all some r m = elim (cases_Bool (row.1 == 1 && nat_lt 1 row.0
       kept_row false row runs (map top_face runs) (λ rows. rw f refl) long refl)
 ]
 
--- Where one is lost, what is told is of a row with one page more: this joins the last run,
+-- Where one is lost, what is noted is of a row with one page more: this joins the last run,
 pushed_row : (row : ℕ × ℕ) (runs more : List (List Face)) (last : Face) → AllByRecursion HasItem runs → 1 ≤ length runs → more ≡ push_last runs last
     → row.0 ≡ length more → row.1 ≡ last_length more → IsRow true row runs (map top_face more)
 pushed_row row runs more last all some e r m =
@@ -112,7 +112,7 @@ alone_row row runs more last e two m =
     record {
       limit = None;
       next = true;
-      told = λ rows. rw t refl;
+      noted = λ rows. rw t refl;
       right = inl (refl, inl two);
       above_lost = (
         top_face (last ∷ []),
@@ -137,14 +137,14 @@ cut_some : (page_size : ℕ) (faces : List Face) → 1 ≤ length faces → 1 �
 cut_some page_size [] some = absurd (omega arith)
 cut_some page_size (f ∷ faces) some = some_runs page_size 2 face_size (f ∷ []) faces
 
-told_row : (page_size : ℕ) (lost : Bool) (row : ℕ × ℕ) (plain balanced : List Face) → Lost lost plain balanced → 2 ≤ length plain
+limit_of_row : (page_size : ℕ) (lost : Bool) (row : ℕ × ℕ) (plain balanced : List Face) → Lost lost plain balanced → 2 ≤ length plain
     → row.0 ≡ length (cut_of page_size 2 face_size plain) → row.1 ≡ last_length (cut_of page_size 2 face_size plain)
     → IsRow lost row (cut_of page_size 2 face_size balanced) (map top_face (cut_of page_size 2 face_size plain))
-told_row page_size false row plain balanced same two r m =
+limit_of_row page_size false row plain balanced same two r m =
     let runs = cut_of page_size 2 face_size plain in
     subst (λ (fs : List Face). IsRow false row (cut_of page_size 2 face_size fs) (map top_face runs)) same
     (whole_row row runs (cut_items page_size plain) (cut_some page_size plain (omega arith)) r m)
-told_row page_size true row plain balanced (last, e) two r m =
+limit_of_row page_size true row plain balanced (last, e) two r m =
     let long : length plain ≡ length balanced + 1 = ap (λ (fs : List Face). length fs) e ∙ length_push balanced last in
     let runs = cut_of page_size 2 face_size balanced in
     let pushed = cut_pushed page_size face_size balanced last (omega arith) in
@@ -188,30 +188,30 @@ rows_at : (page_size : ℕ) (limits : List (Option ℕ)) (limit : Option ℕ) (p
 rows_at page_size limits limit pages first above zero = first
 rows_at page_size limits limit pages first above (suc k) = above k
 
-rows_limited : (page_size : ℕ) (rows : List (ℕ × ℕ)) (lost : Bool) (plain balanced : List (Laid BranchElement)) → AreTold page_size plain rows
-    → Lost lost (map face plain) (map face balanced) → HaveRightLimits Balanced page_size (limit_at (limits_told lost rows)) balanced
+rows_limited : (page_size : ℕ) (rows : List (ℕ × ℕ)) (lost : Bool) (plain balanced : List (Laid BranchElement)) → AreRowEnds page_size plain rows
+    → Lost lost (map face plain) (map face balanced) → HaveRightLimits Balanced page_size (limit_at (limits_from_ends lost rows)) balanced
 rows_limited page_size [] lost plain balanced few lacks k =
     let a = length-map plain face in
     let b = length-map balanced face in
     let short = lost_short lost (map face plain) (map face balanced) lacks (omega arith) in
     short_rows page_size k balanced (omega arith)
-rows_limited page_size (row ∷ rows) lost plain balanced (two, r, m, told) lacks k =
+rows_limited page_size (row ∷ rows) lost plain balanced (two, r, m, noted) lacks k =
     let a = length-map plain face in
     let of_plain = face_cut page_size plain in
     let of_balanced = face_cut page_size balanced in
-    let is = told_row page_size lost row (map face plain) (map face balanced) lacks (omega arith) (r ∙ of_plain.0) (m ∙ of_plain.1) in
+    let is = limit_of_row page_size lost row (map face plain) (map face balanced) lacks (omega arith) (r ∙ of_plain.0) (m ∙ of_plain.1) in
     let above : Lost is.next (map face (next_level Plain page_size plain)) (map face (next_level Balanced page_size balanced)) =
     subst (λ (fs : List Face). Lost is.next fs (map face (next_level Balanced page_size balanced))) (sym (next_faces Plain page_size plain))
     (subst (λ (fs : List Face). Lost is.next (map top_face (cut_of page_size 2 face_size (map face plain))) fs) (sym (next_faces Balanced page_size balanced)) is.above_lost) in
     let right : IsLimit (length (cut_of page_size 2 size_of balanced)) (last_length (cut_of page_size 2 size_of balanced)) is.limit =
     rw (of_balanced.0, of_balanced.1) is.right in
-    rw (is.told rows) (rows_at page_size (limits_told is.next rows) is.limit balanced (row_limited page_size size_of is.limit balanced right)
-    (rows_limited page_size rows is.next (next_level Plain page_size plain) (next_level Balanced page_size balanced) told above) k)
+    rw (is.noted rows) (rows_at page_size (limits_from_ends is.next rows) is.limit balanced (row_limited page_size size_of is.limit balanced right)
+    (rows_limited page_size rows is.next (next_level Plain page_size plain) (next_level Balanced page_size balanced) noted above) k)
 
 -- They are right for each row of pages with the same keys and sizes,
-pub limits_alike : (page_size : ℕ) (plain balanced : List (Laid BranchElement)) (rows : List (ℕ × ℕ)) → AreTold page_size plain rows → map face plain ≡ map face balanced
-    → HaveRightLimits Balanced page_size (limit_at (limits_told false rows)) balanced
-limits_alike page_size plain balanced rows told same = rows_limited page_size rows false plain balanced told same
+pub limits_alike : (page_size : ℕ) (plain balanced : List (Laid BranchElement)) (rows : List (ℕ × ℕ)) → AreRowEnds page_size plain rows → map face plain ≡ map face balanced
+    → HaveRightLimits Balanced page_size (limit_at (limits_from_ends false rows)) balanced
+limits_alike page_size plain balanced rows noted same = rows_limited page_size rows false plain balanced noted same
 
 -- The plain rows need no limit.
 pub plain_limits : (page_size : ℕ) (pages : List (Laid BranchElement)) → HaveRightLimits Plain page_size (λ k. None) pages

@@ -46,25 +46,25 @@ abbrev pub HaveRightLimits : Layout → (page_size : ℕ) → (limit : ℕ → O
 HaveRightLimits which page_size limit pages = (k : ℕ) →
     cut_row page_size size_of (limit k) (level_up which page_size k pages) ≡ branch_cut which page_size size_of (level_up which page_size k pages)
 
--- What a pass over the plain layout tells of the rows above a bucket's leaves, as far as they have two pages: of each the number of its runs,
--- and how many items the last run has.
+-- How the rows of the plain layout above a bucket's leaves end, as far as they have two pages: of each row the number of its runs, and how many
+-- items the last run has.
 abbrev pub last_length : {X : Type 0} → List (List X) → ℕ
 last_length [] = 0
 last_length (run ∷ []) = length run
 last_length (run ∷ next ∷ runs) = last_length (next ∷ runs)
 
-abbrev pub AreTold : (page_size : ℕ) → List (Laid BranchElement) → List (ℕ × ℕ) → Type 0
-AreTold page_size pages [] = length pages ≤ 1
-AreTold page_size pages (row ∷ rows) = (2 ≤ length pages)
+abbrev pub AreRowEnds : (page_size : ℕ) → List (Laid BranchElement) → List (ℕ × ℕ) → Type 0
+AreRowEnds page_size pages [] = length pages ≤ 1
+AreRowEnds page_size pages (row ∷ rows) = (2 ≤ length pages)
     × (row.0 ≡ length (cut_of page_size 2 size_of pages)) × (row.1 ≡ last_length (cut_of page_size 2 size_of pages))
-    × AreTold page_size (next_level Plain page_size pages) rows
+    × AreRowEnds page_size (next_level Plain page_size pages) rows
 
 -- The limits of the rows of the balanced layout. In it a row may lack the last item that it has in the plain one: then the last run has one
--- item less. A row that would end in a run of one item, behind another run, has one run less; and then the row above lacks its last item.
-abbrev pub limits_told : (lost : Bool) → List (ℕ × ℕ) → List (Option ℕ)
-limits_told lost [] = []
-limits_told false (row ∷ rows) =
-    if row.1 == 1 && nat_lt 1 row.0 then Some (row.0 - 2) ∷ limits_told true rows else None ∷ limits_told false rows
-limits_told true (row ∷ rows) =
-    if row.1 == 1 then None ∷ limits_told true rows
-    else (if row.1 == 2 && nat_lt 1 row.0 then Some (row.0 - 2) ∷ limits_told true rows else None ∷ limits_told false rows)
+-- item less. A row that would end in a run of one item, after another run, has one run less; and then the row above lacks its last item.
+abbrev pub limits_from_ends : (lost : Bool) → List (ℕ × ℕ) → List (Option ℕ)
+limits_from_ends lost [] = []
+limits_from_ends false (row ∷ rows) =
+    if row.1 == 1 && nat_lt 1 row.0 then Some (row.0 - 2) ∷ limits_from_ends true rows else None ∷ limits_from_ends false rows
+limits_from_ends true (row ∷ rows) =
+    if row.1 == 1 then None ∷ limits_from_ends true rows
+    else (if row.1 == 2 && nat_lt 1 row.0 then Some (row.0 - 2) ∷ limits_from_ends true rows else None ∷ limits_from_ends false rows)

@@ -1,5 +1,5 @@
 -- The limits of the rows of all buckets of a tree that have a root page. A pass from left to right opens one bucket after the other:
--- a bucket, then those inside it, then those behind it. In this order they are numbered.
+-- a bucket, then those inside it, then those after it. In this order they are numbered.
 use Rattle.std.specs.Prelude.{suc, zero, ◌≡◌, ◌==◌, ◌+◌, ℕ, false, nat_lt, List, [], ◌∷◌, length, map, Option, None, if◌then◌else◌}
 use Rattle.bolt_format.specs.Elements.{BranchElement, LeafElement}
 use Rattle.bolt_tree.specs.Tree.{Tree, end, with_bucket, with_value}
@@ -7,7 +7,7 @@ use Rattle.bolt_layout.specs.Cut.{cut_from, cut_of}
 use Rattle.bolt_layout.specs.Items.{is_inline, items_of}
 use Rattle.bolt_layout.specs.Laid.{Laid, size_of}
 use Rattle.bolt_layout.specs.Levels.{leaf_view, next_level, page_over}
-use Rattle.bolt_layout.specs.Limits.{HaveRightLimits, last_length, limit_at, limits_told}
+use Rattle.bolt_layout.specs.Limits.{HaveRightLimits, last_length, limit_at, limits_from_ends}
 use Rattle.bolt_layout.specs.declared.layout.Layout.{Layout}
 use Rattle.bolt_layout.specs.declared.layout.Layout.TheVariants.{Plain}
 
@@ -36,39 +36,39 @@ AreRight which page_size limits n (with_bucket key sequence inside after) =
     → HaveRightLimits which page_size (limits n) (leaf_pages page_size (items_of which page_size inside)) × AreRight which page_size limits (suc n) inside)
     × AreRight which page_size limits (n + opened_by which page_size inside) after
 
--- What is told of the rows of the plain layout over a level of pages, as far as they have two pages. There are no more rows than pages.
-abbrev pub rows_told : (steps page_size : ℕ) → List (Laid BranchElement) → List (ℕ × ℕ)
-rows_told steps page_size [] = []
-rows_told steps page_size (page ∷ []) = []
-rows_told zero page_size (page ∷ other ∷ pages) = []
-rows_told (suc steps) page_size (page ∷ other ∷ pages) =
+-- How the rows of the plain layout over a level of pages end, as far as they have two pages. There are no more rows than pages.
+abbrev pub row_ends : (steps page_size : ℕ) → List (Laid BranchElement) → List (ℕ × ℕ)
+row_ends steps page_size [] = []
+row_ends steps page_size (page ∷ []) = []
+row_ends zero page_size (page ∷ other ∷ pages) = []
+row_ends (suc steps) page_size (page ∷ other ∷ pages) =
     (length (cut_of page_size 2 size_of (page ∷ other ∷ pages)), last_length (cut_of page_size 2 size_of (page ∷ other ∷ pages)))
-    ∷ rows_told steps page_size (next_level Plain page_size (page ∷ other ∷ pages))
+    ∷ row_ends steps page_size (next_level Plain page_size (page ∷ other ∷ pages))
 
-abbrev pub told_of : (page_size : ℕ) → List (Laid BranchElement) → List (ℕ × ℕ)
-told_of page_size pages = rows_told (length pages) page_size pages
+abbrev pub row_ends_of : (page_size : ℕ) → List (Laid BranchElement) → List (ℕ × ℕ)
+row_ends_of page_size pages = row_ends (length pages) page_size pages
 
--- the limit of each row of the balanced layout, by the number of the bucket and the level, as the plain layout tells it
+-- the limit of each row of the balanced layout, by the number of the bucket and the level, as the ends of the plain rows give it
 abbrev pub limits_below : (page_size n : ℕ) → Tree → (bucket level : ℕ) → Option ℕ
 limits_below page_size n end bucket level = None
 limits_below page_size n (with_value key value after) bucket level = limits_below page_size n after bucket level
 limits_below page_size n (with_bucket key sequence inside after) bucket level =
     if is_inline page_size inside (items_of Plain page_size inside) then limits_below page_size n after bucket level
-    else (if bucket == n then limit_at (limits_told false (told_of page_size (leaf_pages page_size (items_of Plain page_size inside)))) level
+    else (if bucket == n then limit_at (limits_from_ends false (row_ends_of page_size (leaf_pages page_size (items_of Plain page_size inside)))) level
     else (if nat_lt bucket (suc n + opened_in Plain page_size inside) then limits_below page_size (suc n) inside bucket level
     else limits_below page_size (suc n + opened_in Plain page_size inside) after bucket level))
 
 -- The root bucket is opened first.
 abbrev pub limits_for : (page_size : ℕ) → Tree → (bucket level : ℕ) → Option ℕ
-limits_for page_size tree zero level = limit_at (limits_told false (told_of page_size (leaf_pages page_size (items_of Plain page_size tree)))) level
+limits_for page_size tree zero level = limit_at (limits_from_ends false (row_ends_of page_size (leaf_pages page_size (items_of Plain page_size tree)))) level
 limits_for page_size tree (suc bucket) level = limits_below page_size 1 tree (suc bucket) level
 
--- These limits are those that the plain layout tells, for each bucket that a pass over it opens.
-abbrev pub AreTellings : (page_size : ℕ) → (limits : ℕ → ℕ → Option ℕ) → (n : ℕ) → Tree → Type 0
-AreTellings page_size limits n end = Unit {0}
-AreTellings page_size limits n (with_value key value after) = AreTellings page_size limits n after
-AreTellings page_size limits n (with_bucket key sequence inside after) =
+-- These limits are those that the ends of the plain rows give, for each bucket that a pass over the plain layout opens.
+abbrev pub AreFromEnds : (page_size : ℕ) → (limits : ℕ → ℕ → Option ℕ) → (n : ℕ) → Tree → Type 0
+AreFromEnds page_size limits n end = Unit {0}
+AreFromEnds page_size limits n (with_value key value after) = AreFromEnds page_size limits n after
+AreFromEnds page_size limits n (with_bucket key sequence inside after) =
     (is_inline page_size inside (items_of Plain page_size inside) ≡ false
-    → ((level : ℕ) → limits n level ≡ limit_at (limits_told false (told_of page_size (leaf_pages page_size (items_of Plain page_size inside)))) level)
-    × AreTellings page_size limits (suc n) inside)
-    × AreTellings page_size limits (n + opened_by Plain page_size inside) after
+    → ((level : ℕ) → limits n level ≡ limit_at (limits_from_ends false (row_ends_of page_size (leaf_pages page_size (items_of Plain page_size inside)))) level)
+    × AreFromEnds page_size limits (suc n) inside)
+    × AreFromEnds page_size limits (n + opened_by Plain page_size inside) after

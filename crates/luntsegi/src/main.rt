@@ -31,7 +31,7 @@ const PERMISSIONS: u32 = 0o777;
 fn main(rt: HostRuntime) -> ExitCode {
     let code = match read_job(&rt) {
         Ok(job) => run_job(&rt, &job),
-        Err(refusal) => tell_refusal(&rt, refusal),
+        Err(refusal) => report_refusal(&rt, refusal),
     };
     ExitCode::from(code)
 }
@@ -50,34 +50,34 @@ fn read_job(rt: &HostRuntime) -> Result<Job, Refusal> {
 }
 
 /// Prints why the words are no job, and returns the status.
-fn tell_refusal(rt: &HostRuntime, refusal: Refusal) -> u8 {
+fn report_refusal(rt: &HostRuntime, refusal: Refusal) -> u8 {
     match refusal {
-        Refusal::Memory => tell(rt, "out of memory", FAILED),
-        Refusal::Word(text) => tell(rt, text, REFUSED),
+        Refusal::Memory => report(rt, "out of memory", FAILED),
+        Refusal::Word(text) => report(rt, text, REFUSED),
         Refusal::Usage(text) => {
             let _ = eprint!(rt; "{text}");
             REFUSED
         }
         Refusal::Help(text) | Refusal::Version(text) => match print!(rt; "{text}") {
             Ok(()) => 0,
-            Err(error) => tell_unwritten(rt, &error),
+            Err(error) => report_unwritten(rt, &error),
         },
     }
 }
 
 /// Prints a fault line, and returns the status, which is the same if the line can't be printed.
-fn tell(rt: &HostRuntime, text: &str, code: u8) -> u8 {
+fn report(rt: &HostRuntime, text: &str, code: u8) -> u8 {
     let _ = eprintln!(rt; "error: {text}");
     code
 }
 
 /// Prints why standard output can't be written, and returns the status. If its reader has left,
 /// nothing is printed: the reader wanted no more.
-fn tell_unwritten(rt: &HostRuntime, error: &io::Error) -> u8 {
+fn report_unwritten(rt: &HostRuntime, error: &io::Error) -> u8 {
     if error.kind() == io::ErrorKind::BrokenPipe {
         return FAILED;
     }
-    tell(rt, "write failed", FAILED)
+    report(rt, "write failed", FAILED)
 }
 
 /// The bytes of FILE that were read.
@@ -124,7 +124,7 @@ fn run_copy(rt: &HostRuntime, job: &Job, source: &Source, name: &str) -> u8 {
     let made = match made {
         Ok(made) => made,
         Err(error) if error.kind() == io::ErrorKind::AlreadyExists => {
-            return tell(rt, "output exists", FAILED);
+            return report(rt, "output exists", FAILED);
         }
         Err(_) => {
             let _ = eprintln!(rt; "error: cannot make {name}");
@@ -133,7 +133,7 @@ fn run_copy(rt: &HostRuntime, job: &Job, source: &Source, name: &str) -> u8 {
     };
     match BufWriter::with_capacity(rt.alloc(), COPIED, made) {
         Ok(target) => run_over(rt, job, source.bytes.as_slice(), target),
-        Err(_) => tell(rt, "out of memory", FAILED),
+        Err(_) => report(rt, "out of memory", FAILED),
     }
 }
 
@@ -197,10 +197,10 @@ fn run_over<T: Target + Drop>(rt: &HostRuntime, job: &Job, file: &[u8], target: 
         reader_left: &reader_left,
     };
     let Ok(gathered) = BufWriter::with_capacity(rt.alloc(), GATHERED, output) else {
-        return tell(rt, "out of memory", FAILED);
+        return report(rt, "out of memory", FAILED);
     };
     let Ok(line) = BufWriter::with_capacity(rt.alloc(), LINE, rt.stderr()) else {
-        return tell(rt, "out of memory", FAILED);
+        return report(rt, "out of memory", FAILED);
     };
     let mut out = WriteSink::new(gathered);
     let mut err = WriteSink::new(line);
@@ -212,7 +212,7 @@ fn run_over<T: Target + Drop>(rt: &HostRuntime, job: &Job, file: &[u8], target: 
         Err(_) => {
             // Dropping it would write what is gathered.
             let _unwritten = out.into_inner().into_parts();
-            tell_unfinished(rt, line)
+            report_unfinished(rt, line)
         }
     }
 }
@@ -226,19 +226,19 @@ fn write_out(
     reader_left: &Cell<bool>,
     code: u8,
 ) -> u8 {
-    let is_told = out.failures() > 0;
+    let has_failed = out.failures() > 0;
     let mut gathered = out.into_inner();
     let flushed = gathered.flush();
     if flushed.is_err() {
         let _unwritten = gathered.into_parts();
     }
     match flushed {
-        Err(error) if !is_told => {
-            let _untold = line.into_parts();
-            tell_unwritten(rt, &error)
+        Err(error) if !has_failed => {
+            let _unprinted = line.into_parts();
+            report_unwritten(rt, &error)
         }
         _ => {
-            tell_line(line, reader_left);
+            print_line(line, reader_left);
             code
         }
     }
@@ -246,18 +246,18 @@ fn write_out(
 
 /// Prints the line of a failure, if there is one. If the reader of standard output has left, the
 /// line can only be that of the failed write, and is dropped.
-fn tell_line(mut line: BufWriter<Stderr>, reader_left: &Cell<bool>) {
+fn print_line(mut line: BufWriter<Stderr>, reader_left: &Cell<bool>) {
     if reader_left.get() {
-        let _untold = line.into_parts();
+        let _unprinted = line.into_parts();
     } else {
         let _ = line.flush();
     }
 }
 
 /// Prints that the target can't be finished, unless the job has a failure of its own.
-fn tell_unfinished(rt: &HostRuntime, mut line: BufWriter<Stderr>) -> u8 {
+fn report_unfinished(rt: &HostRuntime, mut line: BufWriter<Stderr>) -> u8 {
     if line.buffer().is_empty() {
-        return tell(rt, "write failed", FAILED);
+        return report(rt, "write failed", FAILED);
     }
     let _ = line.flush();
     FAILED

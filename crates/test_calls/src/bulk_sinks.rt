@@ -52,10 +52,10 @@ fn check_fuse(
 ) {
     let mut sink = MemSink::with_fuse(alloc, fuse);
     let answer = copy_to(alloc, checked, Layout::Plain, size, &mut sink);
-    let is_told = answer == Err(BulkFault::Sink) && sink.failures() > 0;
+    let is_reported = answer == Err(BulkFault::Sink) && sink.failures() > 0;
     let is_taken = Some(sink.bytes()) == copying.whole.get(..fuse);
     assert!(rt;
-        is_told && is_taken,
+        is_reported && is_taken,
         "a limit of {fuse} bytes comes to {answer:?}"
     );
     check_beginning(rt, alloc, sink.bytes(), copying.root);
@@ -72,8 +72,8 @@ fn check_room(
     let length = copying.whole.len();
     let mut sink = MemSink::with_fuse(alloc, length);
     let answer = copy_to(alloc, checked, Layout::Plain, size, &mut sink);
-    let is_told = answer.map(|done| done.bytes) == Ok(length as u64) && sink.failures() == 0;
-    assert!(rt; is_told, "with room for all");
+    let is_reported = answer.map(|done| done.bytes) == Ok(length as u64) && sink.failures() == 0;
+    assert!(rt; is_reported, "with room for all");
     let is_whole = sink.bytes() == copying.whole && check(alloc, sink.bytes()).is_ok();
     assert!(rt; is_whole, "the whole copy");
 }

@@ -30,7 +30,7 @@ static UNACCOUNTED: Sample<'static> = Sample {
     ..FRESH_FILE
 };
 
-static TOLD: [Finding; 1] = [Finding {
+static FINDINGS: [Finding; 1] = [Finding {
     number: Finding::UNREACHABLE,
     page: 4,
     last: 4,
@@ -54,7 +54,10 @@ fn a_fault_says_whether_metas_trees_or_accounts_are_wrong(rt: HostRuntime) -> Re
         _ => assert!(rt; false, "the trees are not sound"),
     }
     match fault_of(rt.alloc(), &UNACCOUNTED)? {
-        Some(CheckFault::Accounts(told)) => assert_eq!(rt; told.as_slice(), TOLD.as_slice()),
+        Some(CheckFault::Accounts(findings)) => assert_eq!(rt;
+            findings.as_slice(),
+            FINDINGS.as_slice()
+        ),
         _ => assert!(rt; false, "the accounts are wrong"),
     }
     Ok(())

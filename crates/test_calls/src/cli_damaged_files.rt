@@ -57,7 +57,7 @@ static REFUSED_PAGES: [&'static [u8]; 4] = [
 
 /// Whether a byte may change what `page` prints of a page: it belongs to the page's header, or to
 /// the elements of page 3.
-fn tells_page(at: usize, id: usize) -> bool {
+fn is_printed(at: usize, id: usize) -> bool {
     let first = id.saturating_mul(PAGE_SIZE);
     let end = if id == 3 {
         ROOT_END
@@ -70,7 +70,7 @@ fn tells_page(at: usize, id: usize) -> bool {
 /// Whether a byte is read by the commands that check the file first. The bytes of a meta are not:
 /// if one changes, the other meta is used.
 fn is_read(at: usize) -> bool {
-    tells_page(at, 2) || tells_page(at, 3)
+    is_printed(at, 2) || is_printed(at, 3)
 }
 
 /// The commands that only read, beside those that are looked at more closely.
@@ -93,10 +93,10 @@ fn check_line(
     alloc: Global,
     line: Line,
     file: &[u8],
-    told: (&str, usize),
+    place: (&str, usize),
     want: Wanted<'_>,
 ) -> Result<(), Fail> {
-    run_line(alloc, line, file)?.check(told.0, told.1, want)
+    run_line(alloc, line, file)?.check(place.0, place.1, want)
 }
 
 /// The file with the byte at a place changed.
@@ -120,13 +120,13 @@ fn check_page(
 ) -> Result<(), Fail> {
     let at = changed.at;
     let ran = run_line(alloc, Line::Page(id as u64), changed.file)?;
-    if !tells_page(at, id) {
+    if !is_printed(at, id) {
         return ran.check("page", at, (0, text, b""));
     }
     let is_refused = ran.out.bytes().is_empty() && ran.err.bytes().starts_with(refusal);
-    let is_told = ran.err.bytes().is_empty() && !ran.out.bytes().is_empty();
+    let has_text = ran.err.bytes().is_empty() && !ran.out.bytes().is_empty();
     let is_one = if ran.code == 0 {
-        is_told
+        has_text
     } else {
         ran.code == 1 && is_refused
     };
@@ -231,8 +231,8 @@ fn check_sound(rt: &impl Abort, alloc: Global, changed: Changed<'_>) -> Result<(
     list.check("list", changed.at, (0, list.out.bytes(), b""))?;
     let copy = run_line(alloc, Line::Compact, changed.file)?;
     let length = copy.target.bytes().len();
-    let told = format!(in alloc; "4096 -> {length} bytes\n")?;
-    copy.check("compact", changed.at, (0, told.as_bytes(), b""))?;
+    let line = format!(in alloc; "4096 -> {length} bytes\n")?;
+    copy.check("compact", changed.at, (0, line.as_bytes(), b""))?;
     check_copied(rt, alloc, changed, copy.target.bytes(), list.out.bytes())
 }
 

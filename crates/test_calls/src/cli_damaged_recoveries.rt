@@ -83,7 +83,7 @@ fn check_refused(rt: &impl Abort, ran: &Recovered, at: usize) -> Result<(), Fail
     ran.check_all.check("check --all", at, (1, b"", refusal))
 }
 
-/// Something is recovered. Losses are counted and told alike, and there are some exactly if the
+/// Something is recovered. Losses are counted and reported alike, and there are some exactly if the
 /// trees aren't sound. The copy is sound, and lists what is recovered.
 fn check_recovered(
     rt: &impl Abort,
@@ -101,7 +101,7 @@ fn check_recovered(
         (lost == 0) == has_sound_trees(alloc, file),
         "{lost} losses at {at}"
     );
-    check_told(alloc, &ran, (file.len(), lost, at))?;
+    check_losses(alloc, &ran, (file.len(), lost, at))?;
     let copied = ran.copy.target.bytes();
     let listed = ran.list.out.bytes();
     check_run(
@@ -120,15 +120,15 @@ fn check_recovered(
     )
 }
 
-/// The three commands tell the same losses.
-fn check_told(
+/// The three commands report the same losses.
+fn check_losses(
     alloc: Global,
     ran: &Recovered,
     (length, lost, at): (usize, usize, usize),
 ) -> Result<(), Fail> {
     let (code, listing) = (u8::from(lost > 0), ran.list.out.bytes());
     let copied = ran.copy.target.bytes().len();
-    let told = text_of(&ran.check_all.out);
+    let text = text_of(&ran.check_all.out);
     if lost == 0 {
         let line = format!(in alloc; "{length} -> {copied} bytes\n")?;
         ran.copy
@@ -138,8 +138,8 @@ fn check_told(
         return ran.check_all.check("check --all", at, found);
     }
     let count = format!(in alloc; "{lost} errors found\n")?;
-    let losses = told
-        .get(..told.len().saturating_sub(count.len()))
+    let losses = text
+        .get(..text.len().saturating_sub(count.len()))
         .unwrap_or("");
     let all = format!(in alloc; "{losses}{count}")?;
     ran.check_all

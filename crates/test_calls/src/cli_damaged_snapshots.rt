@@ -15,8 +15,8 @@ fn snapshot_of(alloc: Global, file: &[u8]) -> Result<Vec<u8>, Fail> {
     copy.check("compact", 0, (0, b"4096 -> 4128 bytes\n", b""))?;
     let snapshot = copy.target.bytes().to_vec(alloc)?;
     let job = Line::CheckSnapshot.job(alloc)?;
-    let told = ("the snapshot", 0);
-    check_run(alloc, &job, snapshot.as_slice(), told, (0, b"OK\n", b""))?;
+    let place = ("the snapshot", 0);
+    check_run(alloc, &job, snapshot.as_slice(), place, (0, b"OK\n", b""))?;
     Ok(snapshot)
 }
 

@@ -37,8 +37,8 @@ fn check_copy(
     let job = compact(alloc, PageSize::new(page_size));
     let ran = Ran::on(alloc, &job, file);
     let (length, copied) = (file.len(), want.len());
-    let told = format!(in alloc; "{length} -> {copied} bytes\n")?;
-    ran.check("compact", length, (0, told.as_bytes(), b""))?;
+    let line = format!(in alloc; "{length} -> {copied} bytes\n")?;
+    ran.check("compact", length, (0, line.as_bytes(), b""))?;
     assert!(rt;
         ran.target.bytes() == want,
         "the copy of {length} bytes at {page_size}"
@@ -59,8 +59,14 @@ fn a_meta_is_found_at_the_greatest_page_size(rt: HostRuntime) -> Result<(), Fail
     assert_eq!(rt; bytes.len(), 33_554_512);
     let text = "page size 33554432\nmeta 1\ntxid 1\nroot 3\nsequence 0\nfreelist 2\nhigh water 4\n";
     let want = (0, text.as_bytes(), b"".as_slice());
-    let told = ("a meta alone", bytes.len());
-    check_run(alloc, &Line::Info.job(alloc)?, bytes.as_slice(), told, want)
+    let place = ("a meta alone", bytes.len());
+    check_run(
+        alloc,
+        &Line::Info.job(alloc)?,
+        bytes.as_slice(),
+        place,
+        want,
+    )
 }
 
 /// All keys of two bytes, in their order.
@@ -153,9 +159,9 @@ fn a_leaf_of_65_535_elements_is_read_to_its_end(rt: HostRuntime) -> Result<(), F
     let (name, file) = ("the last of them twice", bytes.as_slice());
     let text = b"page 3: keys not rising\n1 errors found\n".as_slice();
     check_file(alloc, name, file, (1, text, b""))?;
-    let told = b"error: file refused: page 3: keys not rising\n".as_slice();
+    let error = b"error: file refused: page 3: keys not rising\n".as_slice();
     let buckets = Line::Buckets.job(alloc)?;
-    check_run(alloc, &buckets, file, (name, file.len()), (1, b"", told))
+    check_run(alloc, &buckets, file, (name, file.len()), (1, b"", error))
 }
 
 #[test]

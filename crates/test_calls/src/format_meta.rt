@@ -93,12 +93,12 @@ fn a_fresh_meta_is_read_from_its_stated_bytes(rt: HostRuntime) -> Result<(), Fai
     assert_eq!(rt; made.as_slice(), page.as_slice(), "the maker's bytes");
     let want = meta_with(&fields);
     let page = page.as_slice();
-    let is_told = meta_at(page, 0) == Ok(want) && choose(page) == Ok((Slot::Zero, want));
-    assert!(rt; is_told, "alone at byte 0");
+    let is_read = meta_at(page, 0) == Ok(want) && choose(page) == Ok((Slot::Zero, want));
+    assert!(rt; is_read, "alone at byte 0");
     let bytes = database(alloc, 4, &MetaFields::fresh(4096), &[])?;
     let bytes = bytes.as_slice();
-    let is_told = meta_at(bytes, 4096) == Ok(want) && choose(bytes) == Ok((Slot::One, want));
-    assert!(rt; is_told, "at the second page, and of the two");
+    let is_read = meta_at(bytes, 4096) == Ok(want) && choose(bytes) == Ok((Slot::One, want));
+    assert!(rt; is_read, "at the second page, and of the two");
     Ok(())
 }
 

@@ -75,10 +75,10 @@ pub fn check_run(
     alloc: Global,
     job: &Job,
     file: &[u8],
-    told: (&str, usize),
+    place: (&str, usize),
     want: Wanted<'_>,
 ) -> Result<(), Fail> {
-    Ran::on(alloc, job, file).check(told.0, told.1, want)
+    Ran::on(alloc, job, file).check(place.0, place.1, want)
 }
 
 /// The first part of an output, as a failed test prints it.

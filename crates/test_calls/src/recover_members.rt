@@ -15,7 +15,7 @@ use test_files::samples::{BRANCH_ROOT, FRESH_FILE, INLINE_BUCKET, NESTED_FILE, S
 type Member<'a> = (&'a [&'a [u8]], Item<'a>);
 
 /// The number of a finding and its page, the path of the bucket, and the two bounds.
-type Told<'a> = (u8, u64, &'a [&'a [u8]], Option<&'a [u8]>, Option<&'a [u8]>);
+type WantedLoss<'a> = (u8, u64, &'a [&'a [u8]], Option<&'a [u8]>, Option<&'a [u8]>);
 
 const PAGE: usize = 4096;
 
@@ -25,7 +25,7 @@ const EMPTY: Item<'static> = Item::Value(b"");
 type Row = (
     Sample<'static>,
     &'static [Member<'static>],
-    &'static [Told<'static>],
+    &'static [WantedLoss<'static>],
 );
 
 /// A branch whose two elements lead to the same leaf.
@@ -125,7 +125,7 @@ fn check_members<'a, M: Members<'a>>(
 }
 
 /// The losses are exactly these.
-fn check_losses(rt: &impl Abort, losses: &[Loss<'_>], want: &[Told<'_>]) {
+fn check_losses(rt: &impl Abort, losses: &[Loss<'_>], want: &[WantedLoss<'_>]) {
     assert_eq!(rt; losses.len(), want.len(), "the losses");
     for (loss, (number, page, bucket, lower, upper)) in losses.iter().zip(want) {
         assert_eq!(rt;

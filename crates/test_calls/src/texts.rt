@@ -127,7 +127,7 @@ fn put_lines<S: Sink>(
 }
 
 /// The text as a message prints it: of a long value only the first part.
-fn told(text: Text<'_>) -> Text<'_> {
+fn shortened(text: Text<'_>) -> Text<'_> {
     match text {
         Value(bytes, form) => Value(bytes.get(..40).unwrap_or(bytes), form),
         other => other,
@@ -137,11 +137,11 @@ fn told(text: Text<'_>) -> Text<'_> {
 /// A sink in memory accepts the whole text.
 fn check_text(rt: &impl Abort, alloc: Global, checked: Checked<'_>, row: Row<'_>) {
     let (text, want) = row;
-    let told = told(text);
+    let shown = shortened(text);
     let mut sink = MemSink::new(alloc);
     let answer = put_text(alloc, checked, text, &mut sink);
     let is_wanted = answer == Some(Ok(())) && sink.bytes() == want && sink.failures() == 0;
-    assert!(rt; is_wanted, "{told:?} gives other bytes, or {answer:?}");
+    assert!(rt; is_wanted, "{shown:?} gives other bytes, or {answer:?}");
 }
 
 /// Whichever of its calls a writer refuses, the result is that the sink failed, the writer accepted
@@ -154,7 +154,7 @@ fn check_halted(
     refusal: Refusal,
 ) {
     let (text, want) = row;
-    let told = told(text);
+    let shown = shortened(text);
     for refused in 1..want.len().saturating_add(2) {
         let mut sink = WriteSink::new(Halting::new(alloc, refused, refusal));
         let answer = put_text(alloc, checked, text, &mut sink);
@@ -163,18 +163,21 @@ fn check_halted(
         let taken = writer.taken.as_slice();
         if writer.calls < refused {
             let is_wanted = answer == Some(Ok(())) && failures == 0 && taken == want;
-            assert!(rt; is_wanted, "{told:?} gives other bytes, or {answer:?}");
+            assert!(rt; is_wanted, "{shown:?} gives other bytes, or {answer:?}");
             return;
         }
-        let is_told = answer == Some(Err(ReportFault::Sink)) && failures > 0;
-        assert!(rt; is_told, "{told:?} comes to {answer:?} at call {refused}");
+        let is_reported = answer == Some(Err(ReportFault::Sink)) && failures > 0;
+        assert!(rt;
+            is_reported,
+            "{shown:?} comes to {answer:?} at call {refused}"
+        );
         let is_beginning = taken.len() < want.len() && want.starts_with(taken);
         assert!(rt;
             writer.calls == refused && is_beginning,
-            "{told:?} gives no prefix, or calls again, at call {refused}"
+            "{shown:?} gives no prefix, or calls again, at call {refused}"
         );
     }
-    assert!(rt; false, "{told:?} needs a call for more than each byte");
+    assert!(rt; false, "{shown:?} needs a call for more than each byte");
 }
 
 /// Sinks in memory accept these texts of the files.

@@ -270,7 +270,7 @@ pub fn long_freelist(
     alloc: Global,
     id: u64,
     overflow: u32,
-    told: u64,
+    count: u64,
     free: &[u64],
 ) -> Result<Vec<u8>, AllocError> {
     let mut page = Vec::new(alloc);
@@ -281,7 +281,7 @@ pub fn long_freelist(
         overflow,
     };
     header.write(&mut page)?;
-    page.extend_from_slice(&told.to_le_bytes())?;
+    page.extend_from_slice(&count.to_le_bytes())?;
     add_ids(&mut page, free)?;
     Ok(page)
 }

@@ -45,18 +45,23 @@ fn key_of<'a>(answer: Option<Entry<'a>>) -> &'a [u8] {
 
 /// What is printed of each call on a cursor.
 #[derive(Clone, Copy)]
-pub enum Told {
+pub enum Printed {
     /// The key of its result.
     Moves,
     /// The same, and how many pages were opened until then.
     Openings,
-    /// Whether keys were compared: `none`, as many as were told before (`same`), `some`, which a way
+    /// Whether keys were compared: `none`, as many as were printed before (`same`), `some`, which a way
     /// of two pages allows, or `many`.
     Comparisons,
 }
 
 /// The results of calls on a new cursor of a bucket, one after another.
-pub fn run_calls(alloc: Global, file: &[u8], words: &str, told: Told) -> Result<Vec<u8>, Fault> {
+pub fn run_calls(
+    alloc: Global,
+    file: &[u8],
+    words: &str,
+    printed: Printed,
+) -> Result<Vec<u8>, Fault> {
     let checked = check(alloc, file).map_err(|_| Fault::Unread)?;
     let (path, calls) = halves(words, ' ');
     let mut cursor = bucket_at(alloc, checked, path)?.cursor();
@@ -67,10 +72,10 @@ pub fn run_calls(alloc: Global, file: &[u8], words: &str, told: Told) -> Result<
         if cursor.compared() > 1024 {
             return Err(Fault::Differs);
         }
-        match told {
-            Told::Moves => push_word(&mut line, key_of(answer))?,
-            Told::Openings => push_opening(&mut line, key_of(answer), cursor.opened())?,
-            Told::Comparisons => {
+        match printed {
+            Printed::Moves => push_word(&mut line, key_of(answer))?,
+            Printed::Openings => push_opening(&mut line, key_of(answer), cursor.opened())?,
+            Printed::Comparisons => {
                 push_word(&mut line, amount(before, cursor.compared()).as_bytes())?;
             }
         }

@@ -142,14 +142,14 @@ pub fn free(alloc: Global, words: &str) -> Result<Placed, Fault> {
 /// A freelist page in the long form: its number, the number of ids that it says, and the ids.
 pub fn long_free(alloc: Global, words: &str) -> Result<Placed, Fault> {
     let (id, rest) = halves(words, ' ');
-    let (told, rest) = halves(rest, ' ');
+    let (count, rest) = halves(rest, ' ');
     let header = header(id, 0, 0)?;
     let ids = numbers(alloc, rest)?;
     let page = long_freelist(
         alloc,
         header.id,
         header.overflow,
-        number(told)?,
+        number(count)?,
         ids.as_slice(),
     )?;
     Ok((header.id, page))

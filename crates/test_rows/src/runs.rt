@@ -1,6 +1,6 @@
 //! The results of command lines and calls on a file.
 
-use crate::calls::{Told, run_calls};
+use crate::calls::{Printed, run_calls};
 use crate::row::Want;
 use crate::tokens::{Fault, bytes_of};
 use crate::walks::{depths, look_ups, members};
@@ -129,9 +129,9 @@ fn named(alloc: Global, job: &Job) -> Result<Ran, AllocError> {
 /// | `depths`, `depths PATH` | the numbers of items and keys of a walk |
 pub fn call(alloc: Global, file: &[u8], verb: &str, words: &str) -> Result<Ran, Fault> {
     let mut out = match verb {
-        "moves" => run_calls(alloc, file, words, Told::Moves)?,
-        "opens" => run_calls(alloc, file, words, Told::Openings)?,
-        "compares" => run_calls(alloc, file, words, Told::Comparisons)?,
+        "moves" => run_calls(alloc, file, words, Printed::Moves)?,
+        "opens" => run_calls(alloc, file, words, Printed::Openings)?,
+        "compares" => run_calls(alloc, file, words, Printed::Comparisons)?,
         "under" => look_ups(alloc, file, words)?,
         "walk" => members(alloc, file, words)?,
         "depths" => depths(alloc, file, words)?,

@@ -27,7 +27,7 @@ pub record Ends {S : Type 0} (wanted : Wanted) (taken : S → Option (List ℕ))
   pub root : IfOk result (λ ended. ended.root ≡ layout_root wanted.which setup.page_size wanted.tree)
   pub mark : IfOk result (λ ended. ended.high_water ≡ layout_mark wanted.which setup.page_size wanted.tree)
   pub within : IfOk result (λ ended. ended.high_water ≤ setup.limit)
-  pub told : IfOk result (λ ended. wanted.tells ≡ true → wanted.which ≡ Plain → FitLimits Balanced wanted.tree setup.page_size (limits_with ended.told))
+  pub noted : IfOk result (λ ended. wanted.notes ≡ true → wanted.which ≡ Plain → FitLimits Balanced wanted.tree setup.page_size (limits_with ended.noted))
   pub held : IfOk result (λ ended. ended.held ≡ capped (layout_held wanted.which setup.page_size wanted.tree))
   pub large : IfErr result (λ e. e ≡ fault.TooLarge → setup.limit < layout_mark wanted.which setup.page_size wanted.tree)
 

@@ -43,8 +43,8 @@ begun_after upper = record { run = []; left = one_less upper.left; closed = suc 
 
 -- what an open run says of its row at the bucket's end, when it takes the page that is under way: how many runs the row has, and how many
 -- items the last one has
-abbrev pub told_by : Upper → ℕ × ℕ
-told_by upper = (suc upper.closed, suc (length upper.run))
+abbrev pub upper_end : Upper → ℕ × ℕ
+upper_end upper = (suc upper.closed, suc (length upper.run))
 
 -- the pages in upper runs that were written, the outermost first
 abbrev pub put_in : List Upper → List (Laid BranchElement)

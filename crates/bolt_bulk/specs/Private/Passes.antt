@@ -9,8 +9,8 @@ use Rattle.bolt_tree.specs.Tree.{Tree, end, with_bucket, with_value}
 use Rattle.bolt_layout.specs.Items.{is_inline, items_of, root_of}
 use Rattle.bolt_layout.specs.Laid.{Laid, Placed}
 use Rattle.bolt_layout.specs.Layout.{layout_mark, layout_pages, placed_bytes}
-use Rattle.bolt_layout.specs.Limits.{HaveRightLimits, limit_at, limits_told}
-use Rattle.bolt_layout.specs.Openings.{AreRight, leaf_pages, limits_for, opened_by, opened_in, told_of}
+use Rattle.bolt_layout.specs.Limits.{HaveRightLimits, limit_at, limits_from_ends}
+use Rattle.bolt_layout.specs.Openings.{AreRight, leaf_pages, limits_for, opened_by, opened_in, row_ends_of}
 use Rattle.bolt_layout.specs.declared.layout.Layout.TheVariants.{Plain}
 use Rattle.bolt_bulk.specs.declared.limits.Limits.{Limits}
 use Rattle.bolt_bulk.specs.Private.Coming.{IsPass}
@@ -30,7 +30,7 @@ use Rattle.bolt_bulk.specs.declared.fault.BulkFault.TheVariants as fault
 use Rattle.bolt_bulk.specs.declared.pass.Pass.{Pass}
 use Rattle.bolt_bulk.specs.declared.pending_bucket.PendingBucket.{PendingBucket}
 use Rattle.bolt_bulk.specs.declared.waiting_bucket.WaitingBucket.{WaitingBucket}
-use Rattle.bolt_bulk.specs.declared.told.Told.{Told}
+use Rattle.bolt_bulk.specs.declared.noted_limits.NotedLimits.{NotedLimits}
 use Rattle.bolt_layout.specs.declared.layout.Layout.{Layout}
 
 -- entries that are values, in front of a tree
@@ -61,7 +61,7 @@ IsPending (Some pending) entries outer rest levels left = (after : Tree)
 pub record Wanted : Type 0 where
   pub which : Layout
   pub tree : Tree
-  pub tells : Bool
+  pub notes : Bool
 
 -- the limits of a bucket's rows, as a pass looks them up by the bucket's number
 abbrev pub limits_with : Limits → (bucket level : ℕ) → Option ℕ
@@ -76,14 +76,14 @@ pub record FitLimits (which : Layout) (tree : Tree) (page_size : ℕ) (limits : 
   pub others : AreRight which page_size limits 1 tree
 
 -- What a bucket with these leaf pages, which is opened as number n, says of its rows. It has no more leaf pages than the layout has pages.
-pub record Tells (wanted : Wanted) (page_size n : ℕ) (leaves : List (Laid BranchElement)) : Type 0 where
-  pub told : wanted.which ≡ Plain → (level : ℕ) → limits_for page_size wanted.tree n level ≡ limit_at (limits_told false (told_of page_size leaves)) level
+pub record Notes (wanted : Wanted) (page_size n : ℕ) (leaves : List (Laid BranchElement)) : Type 0 where
+  pub noted : wanted.which ≡ Plain → (level : ℕ) → limits_for page_size wanted.tree n level ≡ limit_at (limits_from_ends false (row_ends_of page_size leaves)) level
   pub few : length leaves ≤ layout_mark wanted.which page_size wanted.tree
 
 -- This is known of the buckets of a tree that are still to come, if the first of them that has a root page is opened as number n.
 pub record IsComing (wanted : Wanted) (page_size : ℕ) (limits : ℕ → ℕ → Option ℕ) (n : ℕ) (inside : Tree) : Type 0 where
   pub right : HaveRightLimits wanted.which page_size (limits n) (leaf_pages page_size (items_of wanted.which page_size inside))
-  pub tells : Tells wanted page_size n (leaf_pages page_size (items_of wanted.which page_size inside))
+  pub notes : Notes wanted page_size n (leaf_pages page_size (items_of wanted.which page_size inside))
 
 abbrev pub AreComing : (wanted : Wanted) → (page_size : ℕ) → (limits : ℕ → ℕ → Option ℕ) → (n : ℕ) → Tree → Type 0
 AreComing wanted page_size limits n end = Unit {0}
@@ -103,7 +103,7 @@ AreComingAround wanted page_size limits n (frame ∷ frames) =
 pub record IsNumbered (wanted : Wanted) (page_size below n : ℕ) (state : Open) : Type 0 where
   pub earlier : n < below
   pub number_is : state.known.limits.bucket ≡ capped n
-  pub tells : Tells wanted page_size n state.known.leaves
+  pub notes : Notes wanted page_size n state.known.leaves
 
 abbrev pub AreNumbered : (wanted : Wanted) → (page_size below : ℕ) → (numbers : List ℕ) → List Open → Type 0
 AreNumbered wanted page_size below [] [] = Unit {0}
@@ -119,10 +119,10 @@ pub record IsTable (page_size : ℕ) (tree : Tree) (limits : Limits) (opened : �
   pub ended : (n level : ℕ) → n < opened → AllByRecursion (λ (m : ℕ). n ≡ m → ⊥) numbers → limit_in limits n level ≡ limits_for page_size tree n level
 
 -- A pass over the plain layout that notes limits has noted these, unless there are more page numbers than the code counts.
-pub record HasTold (wanted : Wanted) (page_size : ℕ) (told : Told) (opened : ℕ) (numbers : List ℕ) : Type 0 where
-  pub asked : told.tells ≡ wanted.tells
-  pub table : wanted.tells ≡ true → wanted.which ≡ Plain → layout_mark wanted.which page_size wanted.tree ≤ 18446744073709551615
-      → IsTable page_size wanted.tree told.limits opened numbers
+pub record HasNoted (wanted : Wanted) (page_size : ℕ) (noted : NotedLimits) (opened : ℕ) (numbers : List ℕ) : Type 0 where
+  pub asked : noted.notes ≡ wanted.notes
+  pub table : wanted.notes ≡ true → wanted.which ≡ Plain → layout_mark wanted.which page_size wanted.tree ≤ 18446744073709551615
+      → IsTable page_size wanted.tree noted.limits opened numbers
 
 abbrev pub open_in : Open → List Frame → List Open
 open_in state frames = state ∷ map (λ (frame : Frame). frame.state) frames
@@ -144,7 +144,7 @@ pub record IsAt (wanted : Wanted) (pass : Pass) (levels : List Level) (left : Tr
   pub around : AreComingAround wanted pass.setup.page_size (limits_by pass) (opened + opened_in wanted.which pass.setup.page_size rest) frames
   pub numbers : List ℕ
   pub numbered : AreNumbered wanted pass.setup.page_size opened numbers (open_in state frames)
-  pub has_told : HasTold wanted pass.setup.page_size pass.told opened numbers
+  pub has_noted : HasNoted wanted pass.setup.page_size pass.noted opened numbers
 
 -- What is known of it without the tree. A bucket that may be inline has values alone, which take at most a quarter of a page.
 pub record IsSmall (page_size : ℕ) (pending : PendingBucket) (entries : List Leaf) : Type 0 where

@@ -22,5 +22,5 @@ abbrev pub IsOtherRow : (bucket level b l : ℕ) → Type 0
 IsOtherRow bucket level b l = (b ≡ bucket → ⊥) ⊎ (l ≡ level → ⊥)
 
 -- what an open run says of its row: how many runs it has, and how many items the last one has, with the page that is under way
-abbrev pub run_told : BranchRun → ℕ × ℕ
-run_told run = (suc run.closed, suc (length run.elements.items))
+abbrev pub run_end : BranchRun → ℕ × ℕ
+run_end run = (suc run.closed, suc (length run.elements.items))

@@ -27,7 +27,7 @@ members-init g c = record {
   ready = c.new-pass.ensures.ready;
   fit = whole_fits g.M.Members.lists g.M.Members.left c.args.members.now c.requires.whole;
   steps = λ which listing lists fit.
-      let wanted : Wanted = record { which = which; tree = tree_of listing; tells = c.args.tells } in
+      let wanted : Wanted = record { which = which; tree = tree_of listing; notes = c.args.notes } in
       let all = listing_is_back listing (c.requires.whole.one listing lists) ∙ sym (c.requires.whole.all listing lists) in
       steps_begun wanted c.new-pass.result (g.M.Members.left c.args.members.now listing) [] c.args.sink.now
       (subst (λ (ms : List Member). HasLeft wanted c.new-pass.result ms []) all (c.new-pass.ensures.at wanted refl (subst (λ (n : ℕ). FitLimits which (tree_of listing) n (limits_with c.args.limits.now)) (ap (λ (b : PageSetup). b.page_size) c.new-pass.ensures.setup) fit)));
@@ -35,7 +35,7 @@ members-init g c = record {
 
 pub returns-in-Err-clause-pages : goal.returns-in-Err-clause-pages
 returns-in-Err-clause-pages g c = λ which listing lists fit0.
-    let wanted : Wanted = record { which = which; tree = tree_of listing; tells = c.args.tells } in
+    let wanted : Wanted = record { which = which; tree = tree_of listing; notes = c.args.notes } in
     let fit = subst (λ (b : PageSetup). FitLimits which (tree_of listing) b.page_size (limits_with c.args.limits.now)) (sym c.new-pass.ensures.setup) fit0 in
     let steps = c.members.invariant.steps which listing lists fit in
     subst (λ (b : PageSetup). Ends wanted g.S.Sink.taken g.S.Sink.failed c.args.sink.now c.members.sink b [] (Err fault.Memory)) c.new-pass.ensures.setup
@@ -47,7 +47,7 @@ end_all-requires g c = c.members.invariant.ready
 
 pub returns-in-Ok-None-clause-pages : goal.returns-in-Ok-None-clause-pages
 returns-in-Ok-None-clause-pages g c = λ which listing lists fit0.
-    let wanted : Wanted = record { which = which; tree = tree_of listing; tells = c.args.tells } in
+    let wanted : Wanted = record { which = which; tree = tree_of listing; notes = c.args.notes } in
     let fit = subst (λ (b : PageSetup). FitLimits which (tree_of listing) b.page_size (limits_with c.args.limits.now)) (sym c.new-pass.ensures.setup) fit0 in
     let given = rw c.in-Ok-None.field-0-is at c.in-Ok-None.ensures.given in
     let here = (c.members.invariant.same listing).1 lists in
@@ -71,7 +71,7 @@ take_member-requires-clause-fit g c =
 
 pub returns-in-Err-take_member-clause-pages : goal.returns-in-Err-take_member-clause-pages
 returns-in-Err-take_member-clause-pages g c = λ which listing lists fit0.
-    let wanted : Wanted = record { which = which; tree = tree_of listing; tells = c.args.tells } in
+    let wanted : Wanted = record { which = which; tree = tree_of listing; notes = c.args.notes } in
     let fit = subst (λ (b : PageSetup). FitLimits which (tree_of listing) b.page_size (limits_with c.args.limits.now)) (sym c.new-pass.ensures.setup) fit0 in
     let given = rw c.in-Ok-Some.field-0-is at c.in-Ok-Some.ensures.given in
     let path : g.M.Members.last_path c.next.new.self ≡ path_of c.path.result.now = sym c.path.ensures in
@@ -99,9 +99,9 @@ members-preserved g c =
     given listing is ∙ ap (λ (p : Path). (p, item_view c.in-Ok-Some.item) ∷ g.M.Members.left c.next.new.self listing) path in
     let taken : (which : Layout) (listing : List Member) (lists : g.M.Members.lists c.args.members.now listing)
     → FitLimits which (tree_of listing) c.new-pass.result.setup.page_size (limits_with c.args.limits.now)
-    → Steps {A = ⊤} (record { which = which; tree = tree_of listing; tells = c.args.tells }) g.S.Sink.taken g.S.Sink.failed c.args.sink.now c.take_member.new.sink c.new-pass.result.setup []
-    (HasLeft (record { which = which; tree = tree_of listing; tells = c.args.tells }) c.take_member.new.self (g.M.Members.left c.next.new.self listing)) (Ok tt) = λ which listing lists fit.
-    let wanted : Wanted = record { which = which; tree = tree_of listing; tells = c.args.tells } in
+    → Steps {A = ⊤} (record { which = which; tree = tree_of listing; notes = c.args.notes }) g.S.Sink.taken g.S.Sink.failed c.args.sink.now c.take_member.new.sink c.new-pass.result.setup []
+    (HasLeft (record { which = which; tree = tree_of listing; notes = c.args.notes }) c.take_member.new.self (g.M.Members.left c.next.new.self listing)) (Ok tt) = λ which listing lists fit.
+    let wanted : Wanted = record { which = which; tree = tree_of listing; notes = c.args.notes } in
     let well : Result ⊤ BulkFault = Ok tt in
     let At : List Placed → Type 0 = HasLeft wanted c.take_member.new.self (g.M.Members.left c.next.new.self listing) in
     steps_then wanted g.S.Sink.taken g.S.Sink.failed c.new-pass.result.setup c.args.sink.now c.members.sink c.take_member.new.sink [] (HasLeft wanted c.members.pass (g.M.Members.left c.members.members listing)) At tt well

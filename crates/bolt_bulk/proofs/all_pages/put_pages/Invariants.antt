@@ -17,8 +17,8 @@ invariant-members g l = record {
   ready : IsReady l.pass;
   fit : (listing : List Member) → g.M.Members.lists l.initial.members listing → ∥ AllByRecursion IsFitMember (g.M.Members.left l.members listing) ∥₁;
   steps : (which : Layout) (listing : List Member) → g.M.Members.lists l.initial.members listing → FitLimits which (tree_of listing) l.initial.pass.setup.page_size (limits_with l.limits)
-      → Steps {A = ⊤} (record { which = which; tree = tree_of listing; tells = l.tells }) g.S.Sink.taken g.S.Sink.failed l.initial.sink l.sink l.initial.pass.setup []
-      (HasLeft (record { which = which; tree = tree_of listing; tells = l.tells }) l.pass (g.M.Members.left l.members listing)) (Ok tt);
+      → Steps {A = ⊤} (record { which = which; tree = tree_of listing; notes = l.notes }) g.S.Sink.taken g.S.Sink.failed l.initial.sink l.sink l.initial.pass.setup []
+      (HasLeft (record { which = which; tree = tree_of listing; notes = l.notes }) l.pass (g.M.Members.left l.members listing)) (Ok tt);
 }
 
 abbrev pub decreases-members : goal.decreases-members

@@ -1,4 +1,4 @@
--- The plain layout is never 28 times larger than the balanced one, so a pass over it that finds no room tells that neither has any.
+-- The plain layout is never 28 times larger than the balanced one, so a pass over it that finds no room notes that neither has any.
 use Rattle.std.proofs.Common.{◌<◌, ℕ, refl, ap, subst, arith}
 use Rattle.std.proofs.Math.Logic.{∥∥₁_elim}
 use Rattle.std.proofs.Props.{props}
@@ -14,20 +14,20 @@ use Rattle.bolt_bulk.proofs.members_copy.balanced_limits.Goals as goal
 pub put_pages-requires : goal.put_pages-requires
 put_pages-requires g c κs = (
   (refl, tt),
-  (c.telling_setup_of-setup.ensures.room, whole_again g.M.Members.lists g.M.Members.left c.args.members.now c.in_ok-again.again c.in_ok-again.ensures.listing c.in_ok-again.ensures.all c.requires),
+  (c.noting_setup_of-setup.ensures.room, whole_again g.M.Members.lists g.M.Members.left c.args.members.now c.in_ok-again.again c.in_ok-again.ensures.listing c.in_ok-again.ensures.all c.requires),
 )
 
 pub returns-in-Ok-clause-fit : goal.returns-in-Ok-clause-fit
 returns-in-Ok-clause-fit g c = λ listing lists.
-    let ends = c.in-Ok.ensures.pages Plain listing ((c.in_ok-again.ensures.listing listing).1 lists) (fit_plain c.telling_setup_of-setup.result.page_size c.none-none.result (tree_of listing) c.none-none.ensures) in
-    subst (λ (n : ℕ). FitLimits Balanced (tree_of listing) n (limits_with c.in-Ok.ended.told)) c.telling_setup_of-setup.ensures.page_size (ends.told refl refl)
+    let ends = c.in-Ok.ensures.pages Plain listing ((c.in_ok-again.ensures.listing listing).1 lists) (fit_plain c.noting_setup_of-setup.result.page_size c.none-none.result (tree_of listing) c.none-none.ensures) in
+    subst (λ (n : ℕ). FitLimits Balanced (tree_of listing) n (limits_with c.in-Ok.ended.noted)) c.noting_setup_of-setup.ensures.page_size (ends.noted refl refl)
 
 pub returns-in-Err-TooLarge-clause-large : goal.returns-in-Err-TooLarge-clause-large
 returns-in-Err-TooLarge-clause-large g c = λ _ listing lists.
-    let ends = c.in-Err-TooLarge.ensures.pages Plain listing ((c.in_ok-again.ensures.listing listing).1 lists) (fit_plain c.telling_setup_of-setup.result.page_size c.none-none.result (tree_of listing) c.none-none.ensures) in
+    let ends = c.in-Err-TooLarge.ensures.pages Plain listing ((c.in_ok-again.ensures.listing listing).1 lists) (fit_plain c.noting_setup_of-setup.result.page_size c.none-none.result (tree_of listing) c.none-none.ensures) in
     let above = ends.large c.in-Err-TooLarge.field-0-is in
-    let size = ap (λ (n : ℕ). layout_mark Plain n (tree_of listing)) c.telling_setup_of-setup.ensures.page_size in
-    let limit = c.telling_setup_of-setup.ensures.limit in
+    let size = ap (λ (n : ℕ). layout_mark Plain n (tree_of listing)) c.noting_setup_of-setup.ensures.page_size in
+    let limit = c.noting_setup_of-setup.ensures.limit in
     let one = c.requires.one listing lists in
     balanced_too_large c.args.shape.now.page_size listing _ c.args.shape.now.accepted one (omega arith) (c.a_listing_has_one_layout.ensures.length Balanced listing one)
 
@@ -35,5 +35,5 @@ pub unreachable-requires : goal.unreachable-requires
 unreachable-requires g c = ∥∥₁_elim c.requires.some (Prim.hlevel props) (λ is.
     let listing = is.0 in
     let lists = is.1 in
-    let ends = c.in-Err-Sink.ensures.pages Plain listing ((c.in_ok-again.ensures.listing listing).1 lists) (fit_plain c.telling_setup_of-setup.result.page_size c.none-none.result (tree_of listing) c.none-none.ensures) in
+    let ends = c.in-Err-Sink.ensures.pages Plain listing ((c.in_ok-again.ensures.listing listing).1 lists) (fit_plain c.noting_setup_of-setup.result.page_size c.none-none.result (tree_of listing) c.none-none.ensures) in
     let none : 0 < 0 = ends.puts.failure c.in-Err-Sink.field-0-is in omega arith)

@@ -42,16 +42,16 @@ returns-in-Err-close_runs g c = λ wanted put has.
       root = tt;
       mark = tt;
       within = tt;
-      told = tt;
+      noted = tt;
       held = tt;
       large = λ h. let m = c.in-Err-close_runs.ensures.large h in let n = end.mark in omega (arith, m, n);
     }))
 
 pub returns-in-Ok : goal.returns-in-Ok
 returns-in-Ok g c = λ wanted put has.
-    let well : Result Ended BulkFault = Ok (record { root = c.in-Ok.root; high_water = c.close_runs.new.next; held = c.leave_to.new.self.most; told = c.take_limits.result }) in
-    let ends : BucketEnds c.leave_to.new.self.told c.bucket_ends-ended.new.self c.leave_to.new.self.bucket.limits.bucket c.leave_to.new.self.bucket.uppers.items =
-    record { same = c.in_default-ended.ensures.same; told = rw c.as_slice.ensures.value at c.in_default-ended.ensures.told; others = c.in_default-ended.ensures.others } in
+    let well : Result Ended BulkFault = Ok (record { root = c.in-Ok.root; high_water = c.close_runs.new.next; held = c.leave_to.new.self.most; noted = c.take_limits.result }) in
+    let ends : BucketEnds c.leave_to.new.self.noted c.bucket_ends-ended.new.self c.leave_to.new.self.bucket.limits.bucket c.leave_to.new.self.bucket.uppers.items =
+    record { same = c.in_default-ended.ensures.same; noted = rw c.as_slice.ensures.value at c.in_default-ended.ensures.noted; others = c.in_default-ended.ensures.others } in
     ends_after wanted g.S.Sink.taken g.S.Sink.failed c.args.self.now.setup c.args.sink.now c.leave_to.new.sink c.close_runs.new.sink put (HasLeft wanted c.leave_to.new.self []) tt well (c.in_default.ensures.steps wanted [] put has tt)
     (λ all mid. let end = has_end wanted c.leave_to.new.self all mid c.in_default.ensures.depth in
     subst (λ (b : PageSetup). Ends wanted g.S.Sink.taken g.S.Sink.failed c.leave_to.new.sink c.close_runs.new.sink b all well) c.in_default.ensures.setup
@@ -63,12 +63,12 @@ returns-in-Ok g c = λ wanted put has.
       root = c.in-Ok.ensures.root ∙ end.root;
       mark = c.in-Ok.ensures.next ∙ end.mark;
       within = c.in-Ok.ensures.within;
-      told = λ asked which.
+      noted = λ asked which.
           let mark = end.mark in
           let next = c.in-Ok.ensures.next in
           let within = c.in-Ok.ensures.within in
           let counted = c.leave_to.new.self.setup.counted in
-          subst (λ (l : Limits). FitLimits Balanced wanted.tree c.leave_to.new.self.setup.page_size (limits_with l)) (sym c.take_limits.ensures) (end.told c.bucket_ends-ended.new.self ends asked which (omega arith));
+          subst (λ (l : Limits). FitLimits Balanced wanted.tree c.leave_to.new.self.setup.page_size (limits_with l)) (sym c.take_limits.ensures) (end.noted c.bucket_ends-ended.new.self ends asked which (omega arith));
       held = end.held;
       large = tt;
     }))

@@ -1,7 +1,7 @@
 //! The limits of rows that a pass over the plain layout notes.
 ghost use Rattle.std.specs.Prelude.{◌≡◌, ℕ, true, false, map, IfErr, None, OnOk};
-ghost use Rattle.bolt_layout.specs.Limits.{limit_at, limits_told};
-ghost use Rattle.bolt_bulk.specs.Private.RowLimits.{limit_in, run_told};
+ghost use Rattle.bolt_layout.specs.Limits.{limit_at, limits_from_ends};
+ghost use Rattle.bolt_bulk.specs.Private.RowLimits.{limit_in, run_end};
 ghost use Rattle.bolt_bulk.specs.declared.fault.BulkFault.TheVariants as fault;
 
 use crate::branch_runs::BranchRun;
@@ -12,19 +12,19 @@ use std::mem;
 
 /// The limits of the rows of the buckets that have ended, if they are asked for.
 #[derive(Drop)]
-pub(crate) struct Told {
-    pub tells: bool,
+pub(crate) struct NotedLimits {
+    pub notes: bool,
     pub limits: Limits,
 }
 
-impl Told {
+impl NotedLimits {
     /// No limit is noted yet.
-    pub(crate) fn new(alloc: Global, tells: bool) -> Told
-        ensures tells { result.tells ≡ tells }
+    pub(crate) fn new(alloc: Global, notes: bool) -> NotedLimits
+        ensures notes { result.notes ≡ notes }
         ensures none { (bucket level : ℕ) → limit_in result.limits bucket level ≡ None }
     {
-        Told {
-            tells,
+        NotedLimits {
+            notes,
             limits: Limits::none(alloc),
         }
     }
@@ -35,16 +35,16 @@ impl Told {
         bucket: u64,
         runs: &[BranchRun<'_>],
     ) -> Result<(), BulkFault>
-        ensures same { OnOk result (self.new.tells ≡ self.old.tells) }
-        ensures told { OnOk result (self.old.tells ≡ true → ((level : ℕ) → limit_in self.old.limits bucket level ≡ None)
-            → (level : ℕ) → limit_in self.new.limits bucket level ≡ limit_at (limits_told false (map run_told runs.now)) level) }
+        ensures same { OnOk result (self.new.notes ≡ self.old.notes) }
+        ensures noted { OnOk result (self.old.notes ≡ true → ((level : ℕ) → limit_in self.old.limits bucket level ≡ None)
+            → (level : ℕ) → limit_in self.new.limits bucket level ≡ limit_at (limits_from_ends false (map run_end runs.now)) level) }
         ensures others { OnOk result ((b l : ℕ) → (b ≡ bucket → ⊥) → limit_in self.new.limits b l ≡ limit_in self.old.limits b l) }
         ensures fault { IfErr result (λ e. e ≡ fault.Memory) }
     {
-        if !self.tells {
+        if !self.notes {
             return Ok(());
         }
-        self.limits.tell(bucket, runs)
+        self.limits.add_bucket(bucket, runs)
     }
 
     /// Returns the limits, and leaves none.

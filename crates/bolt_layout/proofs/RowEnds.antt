@@ -1,0 +1,40 @@
+-- The ends of the plain rows over a level of pages are found in as many steps as there are pages, and there are no others.
+use Rattle.std.proofs.Common.{◌≡◌, ◌∙◌, ◌≤◌, ℕ, zero, suc, List, [], ◌∷◌, length, refl, ap, arith}
+use Rattle.bolt_format.specs.Elements.{BranchElement}
+use Rattle.bolt_layout.specs.Cut.{cut_of}
+use Rattle.bolt_layout.specs.Laid.{Laid, size_of}
+use Rattle.bolt_layout.specs.Levels.{next_level}
+use Rattle.bolt_layout.specs.Limits.{AreRowEnds, last_length}
+use Rattle.bolt_layout.specs.Openings.{row_ends, row_ends_of}
+use Rattle.bolt_layout.specs.declared.layout.Layout.TheVariants.{Plain}
+use Rattle.bolt_layout.proofs.Tops.{shorter}
+
+steps_to_ends : (steps page_size : ℕ) (pages : List (Laid BranchElement)) → length pages ≤ suc steps → AreRowEnds page_size pages (row_ends steps page_size pages)
+steps_to_ends steps page_size [] fuel = omega arith
+steps_to_ends steps page_size (page ∷ []) fuel = omega arith
+steps_to_ends zero page_size (page ∷ other ∷ pages) fuel = absurd (omega arith)
+steps_to_ends (suc steps) page_size (page ∷ other ∷ pages) fuel =
+    let less = shorter Plain page_size (page ∷ other ∷ pages) (omega arith) in
+    (omega arith, refl, refl, steps_to_ends steps page_size (next_level Plain page_size (page ∷ other ∷ pages)) (omega arith))
+
+pub row_ends_are : (page_size : ℕ) (pages : List (Laid BranchElement)) → AreRowEnds page_size pages (row_ends_of page_size pages)
+row_ends_are page_size pages = steps_to_ends (length pages) page_size pages (omega arith)
+
+steps_one : (steps page_size : ℕ) (pages : List (Laid BranchElement)) (rows : List (ℕ × ℕ)) → length pages ≤ suc steps → AreRowEnds page_size pages rows
+    → rows ≡ row_ends steps page_size pages
+steps_one steps page_size [] [] fuel noted = refl
+steps_one steps page_size (page ∷ []) [] fuel noted = refl
+steps_one steps page_size (page ∷ other ∷ pages) [] fuel noted = absurd (omega arith)
+steps_one steps page_size [] (row ∷ rows) fuel noted = absurd (let two = noted.0 in omega arith)
+steps_one steps page_size (page ∷ []) (row ∷ rows) fuel noted = absurd (let two = noted.0 in omega arith)
+steps_one zero page_size (page ∷ other ∷ pages) (row ∷ rows) fuel noted = absurd (omega arith)
+steps_one (suc steps) page_size (page ∷ other ∷ pages) ((runs, last) ∷ rows) fuel (two, r, m, noted) =
+    let level : List (Laid BranchElement) = page ∷ other ∷ pages in
+    let less = shorter Plain page_size level (omega arith) in
+    let ih = steps_one steps page_size (next_level Plain page_size level) rows (omega arith) noted in
+    ap (λ (n : ℕ). (n, last) ∷ rows) r
+    ∙ (ap (λ (n : ℕ). (length (cut_of page_size 2 size_of level), n) ∷ rows) m
+    ∙ ap (λ (rs : List (ℕ × ℕ)). (length (cut_of page_size 2 size_of level), last_length (cut_of page_size 2 size_of level)) ∷ rs) ih)
+
+pub row_ends_are_one : (page_size : ℕ) (pages : List (Laid BranchElement)) (rows : List (ℕ × ℕ)) → AreRowEnds page_size pages rows → rows ≡ row_ends_of page_size pages
+row_ends_are_one page_size pages rows noted = steps_one (length pages) page_size pages rows (omega arith) noted
