@@ -16,7 +16,10 @@ such lines.
 on its own body and on the contracts of what it calls, and never on another body. So in a copy of the crate each other function has a loop as its
 body and a hole as its proof. First the functions must pass in this copy as they are. Then the edits are applied, those of different functions side
 by side. An edit is refused if the prover refuses its functions for what they do themselves. If a function calls another that is edited beside it,
-its edit is tried again alone. An edit outside bodies is always tried alone, so that all that is refused then is refused because of it.
+its edit is tried again alone. An edit outside bodies is always tried alone, so that whatever is refused then is refused because of it.
+
+With --all, the prover begins with what `rt check` has kept in the crate's folder out, if that is there. Then the copy is the whole crate, and only the
+edited functions are checked anew.
 
 There is a line for each edit and for each crate. The last line counts those that were refused and those that weren't. The status is 1 unless all
 were refused."""
@@ -138,14 +141,14 @@ class Edit:
 
 
 class Trial:
-    """The edits of a crate, of the gate or all, a copy of the crate, and a folder of what the prover keeps from one check to the next."""
+    """The edits of a crate, of the gate or all, a copy of the crate, and folders of what the prover keeps from one check to the next and of what `rt check` has kept."""
 
     def __init__(self, crate, are_all, room=None, kept=None):
         self.crate, self.room, self.kept = crate, room, kept
         self.texts, self.functions = functions_of(crate.folder)
         self.refused, self.failed = 0, 0
-        self.of_check = f"{crate.folder}/out/incremental"
-        self.is_kept = are_all and os.path.isdir(self.of_check)
+        of_check = f"{crate.folder}/out/incremental"
+        self.of_check = of_check if are_all and os.path.isdir(of_check) else None
         self.edits = [it for folder in ["gate", "."][: 1 + are_all] for it in self.read(os.path.normpath(f"{HERE}/{folder}/{crate.name}"))]
 
     def say(self, *lines):
@@ -173,14 +176,14 @@ class Trial:
                 yield edit
 
     def lay_out(self, real, edits):
-        """Writes the copy with the bodies and proofs of these functions alone, unless all are kept, and with these edits. Returns those that could be applied."""
+        """Writes the copy with these edits, and with the bodies and proofs of these functions alone or all. Returns the edits that could be applied."""
         for part in rt.rtlib.PARTS:
             shutil.rmtree(f"{self.room}/{part}", ignore_errors=True)
             if os.path.isdir(f"{self.crate.folder}/{part}"):
                 shutil.copytree(f"{self.crate.folder}/{part}", f"{self.room}/{part}")
         lines = {file: text.split("\n") for file, text in self.texts.items()}
         for it in self.functions:
-            if it.can_be_left_out and it.name not in real and not self.is_kept:
+            if it.can_be_left_out and it.name not in real and not self.of_check:
                 lines[it.file][it.first : it.end] = ["loop {}"] + [""] * (it.end - it.first - 1)
                 self.leave_a_hole(it.name.split("::"))
         self.write({file: "\n".join(it) for file, it in lines.items()})
@@ -266,7 +269,7 @@ class Trial:
         return again
 
     def run(self):
-        if self.is_kept:
+        if self.of_check:
             shutil.copytree(self.of_check, self.kept, dirs_exist_ok=True)
         real = list(dict.fromkeys(name for edit in self.edits for name in edit.real))
         self.lay_out(real, [])
