@@ -18,8 +18,8 @@ body and a hole as its proof. First the functions must pass in this copy as they
 by side. An edit is refused if the prover refuses its functions for what they do themselves. If a function calls another that is edited beside it,
 its edit is tried again alone. An edit outside bodies is always tried alone, so that whatever is refused then is refused because of it.
 
-With --all, the prover begins with what `rt check` has kept in the crate's folder out, if that is there. Then the copy is the whole crate, and only the
-edited functions are checked anew.
+With --all, the prover begins with what `rt check` has kept in the crate's folder out, if that is there. The functions must then pass in the crate as
+it is, which that work shows in seconds.
 
 There is a line for each edit and for each crate. The last line counts those that were refused and those that weren't. The status is 1 unless all
 were refused."""
@@ -176,14 +176,14 @@ class Trial:
                 yield edit
 
     def lay_out(self, real, edits):
-        """Writes the copy with these edits, and with the bodies and proofs of these functions alone or all. Returns the edits that could be applied."""
+        """Writes the copy with the bodies and proofs of these functions alone and with these edits. Returns the edits that could be applied."""
         for part in rt.rtlib.PARTS:
             shutil.rmtree(f"{self.room}/{part}", ignore_errors=True)
             if os.path.isdir(f"{self.crate.folder}/{part}"):
                 shutil.copytree(f"{self.crate.folder}/{part}", f"{self.room}/{part}")
         lines = {file: text.split("\n") for file, text in self.texts.items()}
         for it in self.functions:
-            if it.can_be_left_out and it.name not in real and not self.of_check:
+            if it.can_be_left_out and it.name not in real:
                 lines[it.file][it.first : it.end] = ["loop {}"] + [""] * (it.end - it.first - 1)
                 self.leave_a_hole(it.name.split("::"))
         self.write({file: "\n".join(it) for file, it in lines.items()})
@@ -272,7 +272,8 @@ class Trial:
         if self.of_check:
             shutil.copytree(self.of_check, self.kept, dirs_exist_ok=True)
         real = list(dict.fromkeys(name for edit in self.edits for name in edit.real))
-        self.lay_out(real, [])
+        # (what `rt check` has kept is of the whole crate)
+        self.lay_out([it.name for it in self.functions] if self.of_check else real, [])
         said = self.check(real) if real else ""
         for name in real:
             if not self.line_of(said, name).startswith(("no holes", "depends on a hole in ")):
