@@ -131,7 +131,7 @@ class Edit:
                 path = line.removeprefix("file: ").strip()
                 self.files.add(path)
             elif line.startswith("old: "):
-                at = texts[path].split(line.removeprefix("old: "))[0].count("\n")
+                at = texts.get(path, "").split(line.removeprefix("old: "))[0].count("\n")
                 here = [it.name for it in functions if it.file == path and it.first <= at < it.end]
                 self.is_wide |= not here
                 changed += here
@@ -163,13 +163,11 @@ class Trial:
         for name in sorted(os.listdir(folder)):
             file = f"{folder}/{name}"
             why = rt.read_edit(file, self.crate.folder)[1] if name.endswith(".edit") else "its name does not end in .edit"
-            files = [] if why else [it.partition(":")[2].strip() for it in rt.rtlib.text_of(file).split("\n") if it.startswith("file: ")]
-            edit = None
-            if not why and not {*files} <= {*self.texts}:
+            edit = None if why else Edit(file, self.texts, self.functions)
+            if edit and not edit.files <= {*self.texts}:
                 why = "it is no edit of code alone"
-            elif not why:
-                edit = Edit(file, self.texts, self.functions)
-                why = "" if edit.functions else "it changes no function's body, and has no line 'fn: NAME'"
+            elif edit and not edit.functions:
+                why = "it changes no function's body, and has no line 'fn: NAME'"
             if why:
                 self.fail(os.path.relpath(file, HERE), f"BAD EDIT: {why}")
             else:
@@ -249,6 +247,10 @@ class Trial:
         """Tries these edits side by side. Returns those that are to be tried again alone."""
         applied = self.lay_out([name for edit in edits for name in edit.real], edits)
         said = self.check(list(dict.fromkeys(name for edit in applied for name in edit.functions)))
+        if len(applied) > 1 and not re.search(f"^fn {self.crate.name}::", said, re.M):
+            # (code that can't be read keeps all others from the prover)
+            half = len(edits) // 2
+            return self.try_edits(edits[:half]) + self.try_edits(edits[half:])
         again = [it for it in edits if it not in applied]
         for edit in applied:
             unread = next((it for it in said.split("\n") if rt.unread(it, edit.files)), "")
