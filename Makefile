@@ -126,10 +126,10 @@ bbolt: $(PROGRAM)
 fuzz-wrong: $(PROGRAM)
 	$(FUZZ)/try_wrong.py $(PROGRAM)
 
-# Tries every wrong body, including those of the gate, on whole crates. It takes an hour or two. CRATES="bolt_tree
+# Tries every wrong body, including those of the gate, each against its function's own proof. CRATES="bolt_tree
 # bolt_cli" tries those of some crates, to continue a run that was interrupted.
 wrong-bodies:
-	tools/wrong_bodies/try_all.sh $(CRATES)
+	RT_JOBS=$(JOBS) python3 -B tools/wrong_bodies/try_bodies.py --all $(CRATES)
 
 # How many crates the gate proves side by side: a processor each, and up to 6.5 GB. rt would otherwise
 # split one crate over several processors, which ends sooner and takes a third more processor time.
@@ -140,9 +140,9 @@ JOBS ?= 2
 # program, real databases, the manual, failures, refused memory, random files that are the same each
 # time, and a few rounds beside bbolt, where that can be built.
 test:
-	python3 -B tools/wrong_bodies/try_alone.py --read
+	python3 -B tools/wrong_bodies/try_bodies.py --read
 	RT_JOBS=$(JOBS) rt ci
-	RT_JOBS=$(JOBS) python3 -B tools/wrong_bodies/try_alone.py
+	RT_JOBS=$(JOBS) python3 -B tools/wrong_bodies/try_bodies.py
 	$(MAKE) examples manual failures memory
 	$(FUZZ)/fuzz.py $(PROGRAM) --seed 1 --files 36
 	tools/bbolt/try.sh $(PROGRAM) 3
