@@ -12,8 +12,8 @@ use Rattle.bolt_layout.specs.Levels.{overflow_of}
 use Rattle.bolt_layout.specs.PageBytes.{page_bytes}
 use Rattle.bolt_bulk.specs.Private.HeldItems.{AreHeld, held_view, held_views}
 use Rattle.bolt_bulk.specs.Private.OpenBuckets.{HasRoomFor, IsLeafRun, bucket_end_next, leaf_closed, leaves_of}
-use Rattle.bolt_bulk.specs.Private.Rows.{OpenRows, leaf_key, leaf_page, leaves_have_room, rows_close_put, rows_end_put, rows_next, rows_push, rows_put, rows_room, rows_room_put}
-use Rattle.bolt_bulk.specs.Private.TakenItems.{rows_taking}
+use Rattle.bolt_bulk.specs.Private.RunViews.{BucketRuns, leaf_key, leaf_page, leaves_have_room, runs_close_put, runs_end_put, runs_next, runs_push, runs_put, runs_room, runs_room_put}
+use Rattle.bolt_bulk.specs.Private.TakenItems.{runs_taking}
 use Rattle.bolt_bulk.specs.Puts.{Puts}
 use Rattle.bolt_bulk.specs.declared.fault.BulkFault.{BulkFault}
 use Rattle.bolt_bulk.specs.declared.held.Held.{Held}
@@ -52,66 +52,66 @@ closed_short inlined items size next closed all same =
     let f = first_short inlined items all in omega arith
 
 -- a leaf that has no room closes, and its element climbs
-pub room_large : (page_size limit : ℕ) (rows : OpenRows) (key : List ℕ) (size : ℕ) → leaves_have_room page_size rows.leaves size ≡ false
-    → limit < rows.next + (1 + overflow_of page_size rows.leaves.size) → limit < (rows_room page_size rows key size).next
-room_large page_size limit rows key size none large =
-    let g = next_grows page_size key (leaf_closed rows.leaves rows.next) (rows.next + (1 + overflow_of page_size rows.leaves.size)) rows.uppers in
-    let same : (rows_room page_size rows key size).next ≡ rows_next page_size key (leaf_closed rows.leaves rows.next) (rows.next + (1 + overflow_of page_size rows.leaves.size)) rows.uppers = rw none refl in
+pub room_large : (page_size limit : ℕ) (runs : BucketRuns) (key : List ℕ) (size : ℕ) → leaves_have_room page_size runs.leaves size ≡ false
+    → limit < runs.next + (1 + overflow_of page_size runs.leaves.size) → limit < (runs_room page_size runs key size).next
+room_large page_size limit runs key size none large =
+    let g = next_grows page_size key (leaf_closed runs.leaves runs.next) (runs.next + (1 + overflow_of page_size runs.leaves.size)) runs.uppers in
+    let same : (runs_room page_size runs key size).next ≡ runs_next page_size key (leaf_closed runs.leaves runs.next) (runs.next + (1 + overflow_of page_size runs.leaves.size)) runs.uppers = rw none refl in
     omega arith
 
-pub room_made : {S A B : Type 0} {taken : S → Option (List ℕ)} {failed : S → ℕ} (page_size : ℕ) (rows : OpenRows) (key : List ℕ) (size : ℕ) (old mid new : S) (closed : BranchElement) (after : ℕ) (x : A) (result : Result B BulkFault)
-    → leaves_have_room page_size rows.leaves size ≡ false → closed ≡ leaf_closed rows.leaves rows.next → after ≡ rows.next + (1 + overflow_of page_size rows.leaves.size)
-    → Puts taken failed old mid (page_bytes page_size rows.next (leaf_page page_size rows.leaves rows.next).view) (Ok x)
-    → Puts taken failed mid new (placed_bytes page_size (rows_put page_size key closed after rows.uppers)) result
-    → Puts taken failed old new (placed_bytes page_size (rows_room_put page_size rows key size)) result
-room_made page_size rows key size old mid new closed after x result none same number one two =
-    let text : rows_room_put page_size rows key size ≡ leaf_page page_size rows.leaves rows.next ∷ rows_put page_size key (leaf_closed rows.leaves rows.next) (rows.next + (1 + overflow_of page_size rows.leaves.size)) rows.uppers = rw none refl in
-    let put : rows_put page_size key closed after rows.uppers ≡ rows_put page_size key (leaf_closed rows.leaves rows.next) (rows.next + (1 + overflow_of page_size rows.leaves.size)) rows.uppers =
-    ap (λ (e : BranchElement). rows_put page_size key e after rows.uppers) same ∙ ap (λ (n : ℕ). rows_put page_size key (leaf_closed rows.leaves rows.next) n rows.uppers) number in
+pub room_made : {S A B : Type 0} {taken : S → Option (List ℕ)} {failed : S → ℕ} (page_size : ℕ) (runs : BucketRuns) (key : List ℕ) (size : ℕ) (old mid new : S) (closed : BranchElement) (after : ℕ) (x : A) (result : Result B BulkFault)
+    → leaves_have_room page_size runs.leaves size ≡ false → closed ≡ leaf_closed runs.leaves runs.next → after ≡ runs.next + (1 + overflow_of page_size runs.leaves.size)
+    → Puts taken failed old mid (page_bytes page_size runs.next (leaf_page page_size runs.leaves runs.next).view) (Ok x)
+    → Puts taken failed mid new (placed_bytes page_size (runs_put page_size key closed after runs.uppers)) result
+    → Puts taken failed old new (placed_bytes page_size (runs_room_put page_size runs key size)) result
+room_made page_size runs key size old mid new closed after x result none same number one two =
+    let text : runs_room_put page_size runs key size ≡ leaf_page page_size runs.leaves runs.next ∷ runs_put page_size key (leaf_closed runs.leaves runs.next) (runs.next + (1 + overflow_of page_size runs.leaves.size)) runs.uppers = rw none refl in
+    let put : runs_put page_size key closed after runs.uppers ≡ runs_put page_size key (leaf_closed runs.leaves runs.next) (runs.next + (1 + overflow_of page_size runs.leaves.size)) runs.uppers =
+    ap (λ (e : BranchElement). runs_put page_size key e after runs.uppers) same ∙ ap (λ (n : ℕ). runs_put page_size key (leaf_closed runs.leaves runs.next) n runs.uppers) number in
     puts_same old new _ _ result
-    (ap (λ (ps : List Placed). page_bytes page_size rows.next (leaf_page page_size rows.leaves rows.next).view ++ placed_bytes page_size ps) put ∙ ap (λ (ps : List Placed). placed_bytes page_size ps) (sym text))
+    (ap (λ (ps : List Placed). page_bytes page_size runs.next (leaf_page page_size runs.leaves runs.next).view ++ placed_bytes page_size ps) put ∙ ap (λ (ps : List Placed). placed_bytes page_size ps) (sym text))
     (puts_then old mid new _ _ x result one two)
 
 -- the end: the leaf closes, and then each run above
-pub end_large : (page_size limit : ℕ) (rows : OpenRows) → limit < rows.next + (1 + overflow_of page_size rows.leaves.size) → limit < bucket_end_next page_size rows
-end_large page_size limit rows large =
-    let g = end_grows page_size (leaf_closed rows.leaves rows.next) (rows.next + (1 + overflow_of page_size rows.leaves.size)) rows.uppers in omega arith
+pub end_large : (page_size limit : ℕ) (runs : BucketRuns) → limit < runs.next + (1 + overflow_of page_size runs.leaves.size) → limit < bucket_end_next page_size runs
+end_large page_size limit runs large =
+    let g = end_grows page_size (leaf_closed runs.leaves runs.next) (runs.next + (1 + overflow_of page_size runs.leaves.size)) runs.uppers in omega arith
 
-end_text : (page_size : ℕ) (rows : OpenRows) (closed : BranchElement) (after : ℕ) → closed ≡ leaf_closed rows.leaves rows.next → after ≡ rows.next + (1 + overflow_of page_size rows.leaves.size)
-    → page_bytes page_size rows.next (leaf_page page_size rows.leaves rows.next).view ++ placed_bytes page_size (rows_close_put page_size closed after rows.uppers) ≡ placed_bytes page_size (rows_end_put page_size rows)
-end_text page_size rows closed after same number =
-    let put : rows_close_put page_size closed after rows.uppers ≡ rows_close_put page_size (leaf_closed rows.leaves rows.next) (rows.next + (1 + overflow_of page_size rows.leaves.size)) rows.uppers =
-    ap (λ (e : BranchElement). rows_close_put page_size e after rows.uppers) same ∙ ap (λ (n : ℕ). rows_close_put page_size (leaf_closed rows.leaves rows.next) n rows.uppers) number in
-    ap (λ (ps : List Placed). page_bytes page_size rows.next (leaf_page page_size rows.leaves rows.next).view ++ placed_bytes page_size ps) put
+end_text : (page_size : ℕ) (runs : BucketRuns) (closed : BranchElement) (after : ℕ) → closed ≡ leaf_closed runs.leaves runs.next → after ≡ runs.next + (1 + overflow_of page_size runs.leaves.size)
+    → page_bytes page_size runs.next (leaf_page page_size runs.leaves runs.next).view ++ placed_bytes page_size (runs_close_put page_size closed after runs.uppers) ≡ placed_bytes page_size (runs_end_put page_size runs)
+end_text page_size runs closed after same number =
+    let put : runs_close_put page_size closed after runs.uppers ≡ runs_close_put page_size (leaf_closed runs.leaves runs.next) (runs.next + (1 + overflow_of page_size runs.leaves.size)) runs.uppers =
+    ap (λ (e : BranchElement). runs_close_put page_size e after runs.uppers) same ∙ ap (λ (n : ℕ). runs_close_put page_size (leaf_closed runs.leaves runs.next) n runs.uppers) number in
+    ap (λ (ps : List Placed). page_bytes page_size runs.next (leaf_page page_size runs.leaves runs.next).view ++ placed_bytes page_size ps) put
 
-pub end_made : {S A B : Type 0} {taken : S → Option (List ℕ)} {failed : S → ℕ} (page_size : ℕ) (rows : OpenRows) (old mid new : S) (closed : BranchElement) (after : ℕ) (x : A) (result : Result B BulkFault)
-    → closed ≡ leaf_closed rows.leaves rows.next → after ≡ rows.next + (1 + overflow_of page_size rows.leaves.size)
-    → Puts taken failed old mid (page_bytes page_size rows.next (leaf_page page_size rows.leaves rows.next).view) (Ok x)
-    → Puts taken failed mid new (placed_bytes page_size (rows_close_put page_size closed after rows.uppers)) result
-    → Puts taken failed old new (placed_bytes page_size (rows_end_put page_size rows)) result
-end_made page_size rows old mid new closed after x result same number one two =
-    puts_same old new _ _ result (end_text page_size rows closed after same number) (puts_then old mid new _ _ x result one two)
+pub end_made : {S A B : Type 0} {taken : S → Option (List ℕ)} {failed : S → ℕ} (page_size : ℕ) (runs : BucketRuns) (old mid new : S) (closed : BranchElement) (after : ℕ) (x : A) (result : Result B BulkFault)
+    → closed ≡ leaf_closed runs.leaves runs.next → after ≡ runs.next + (1 + overflow_of page_size runs.leaves.size)
+    → Puts taken failed old mid (page_bytes page_size runs.next (leaf_page page_size runs.leaves runs.next).view) (Ok x)
+    → Puts taken failed mid new (placed_bytes page_size (runs_close_put page_size closed after runs.uppers)) result
+    → Puts taken failed old new (placed_bytes page_size (runs_end_put page_size runs)) result
+end_made page_size runs old mid new closed after x result same number one two =
+    puts_same old new _ _ result (end_text page_size runs closed after same number) (puts_then old mid new _ _ x result one two)
 
 on_err_same : {A E : Type 0} (old new : Option (List ℕ)) (text same : List ℕ) (r : Result A E) → text ≡ same → OnErr r (AppendsProperBeginning old new text) → OnErr r (AppendsProperBeginning old new same)
 on_err_same old new text same (Ok x) e a = tt
 on_err_same old new text same (Err x) e a = proper_same old new text same e a
 
-pub end_short : {S A B : Type 0} {taken : S → Option (List ℕ)} {failed : S → ℕ} (page_size : ℕ) (rows : OpenRows) (old mid new : S) (closed : BranchElement) (after : ℕ) (x : A) (result : Result B BulkFault)
-    → closed ≡ leaf_closed rows.leaves rows.next → after ≡ rows.next + (1 + overflow_of page_size rows.leaves.size)
-    → Puts taken failed old mid (page_bytes page_size rows.next (leaf_page page_size rows.leaves rows.next).view) (Ok x)
-    → OnErr result (AppendsProperBeginning (taken mid) (taken new) (placed_bytes page_size (rows_close_put page_size closed after rows.uppers)))
-    → OnErr result (AppendsProperBeginning (taken old) (taken new) (placed_bytes page_size (rows_end_put page_size rows)))
-end_short {taken = taken} page_size rows old mid new closed after x result same number one two =
-    on_err_same (taken old) (taken new) _ _ result (end_text page_size rows closed after same number) (short_then old mid new _ _ x result one two)
+pub end_short : {S A B : Type 0} {taken : S → Option (List ℕ)} {failed : S → ℕ} (page_size : ℕ) (runs : BucketRuns) (old mid new : S) (closed : BranchElement) (after : ℕ) (x : A) (result : Result B BulkFault)
+    → closed ≡ leaf_closed runs.leaves runs.next → after ≡ runs.next + (1 + overflow_of page_size runs.leaves.size)
+    → Puts taken failed old mid (page_bytes page_size runs.next (leaf_page page_size runs.leaves runs.next).view) (Ok x)
+    → OnErr result (AppendsProperBeginning (taken mid) (taken new) (placed_bytes page_size (runs_close_put page_size closed after runs.uppers)))
+    → OnErr result (AppendsProperBeginning (taken old) (taken new) (placed_bytes page_size (runs_end_put page_size runs)))
+end_short {taken = taken} page_size runs old mid new closed after x result same number one two =
+    on_err_same (taken old) (taken new) _ _ result (end_text page_size runs closed after same number) (short_then old mid new _ _ x result one two)
 
-pub end_some : (page_size : ℕ) (rows : OpenRows) → placed_bytes page_size (rows_end_put page_size rows) ≢ []
-end_some page_size rows =
-    pages_some page_size (leaf_page page_size rows.leaves rows.next) (rows_close_put page_size (leaf_closed rows.leaves rows.next) (rows.next + (1 + overflow_of page_size rows.leaves.size)) rows.uppers)
+pub end_some : (page_size : ℕ) (runs : BucketRuns) → placed_bytes page_size (runs_end_put page_size runs) ≢ []
+end_some page_size runs =
+    pages_some page_size (leaf_page page_size runs.leaves runs.next) (runs_close_put page_size (leaf_closed runs.leaves runs.next) (runs.next + (1 + overflow_of page_size runs.leaves.size)) runs.uppers)
 
 -- an item was taken
-pub take_rows : (page_size : ℕ) (final made rows : OpenRows) (e : LeafElement) (size : ℕ) → final ≡ rows_push made e size made.next → made ≡ rows_room page_size rows e.key size
-    → final ≡ rows_taking page_size rows e size
-take_rows page_size final made rows e size p q = p ∙ ap (λ (m : OpenRows). rows_push m e size m.next) q
+pub take_runs : (page_size : ℕ) (final made runs : BucketRuns) (e : LeafElement) (size : ℕ) → final ≡ runs_push made e size made.next → made ≡ runs_room page_size runs e.key size
+    → final ≡ runs_taking page_size runs e size
+take_runs page_size final made runs e size p q = p ∙ ap (λ (m : BucketRuns). runs_push m e size m.next) q
 
 pub on_ok : {A E : Type 0} (P Q : Type 0) (r : Result A E) → (P → Q) → OnOk r P → OnOk r Q
 on_ok P Q (Ok x) f h = f h

@@ -63,8 +63,8 @@ counted before after xs more x old same grown =
 entries_more : (inlined more : List Leaf) (first count : ℕ) → first + count ≤ length inlined → entries_in (inlined ++ more) first count ≡ entries_in inlined first count
 entries_more inlined more first count there =
     let l = length-drop first inlined in
-    ap (λ (row : List Leaf). map leaf_view (take count row)) (drop-append-le first inlined more (omega arith))
-    ∙ ap (λ (row : List Leaf). map leaf_view row) (take-append-le count (drop first inlined) more (omega arith))
+    ap (λ (run : List Leaf). map leaf_view (take count run)) (drop-append-le first inlined more (omega arith))
+    ∙ ap (λ (run : List Leaf). map leaf_view run) (take-append-le count (drop first inlined) more (omega arith))
 
 -- and so the items that they belong to.
 value_more : (inlined more : List Leaf) (x : Stored) → IsStored inlined x → stored_value (inlined ++ more) x ≡ stored_value inlined x
@@ -104,10 +104,10 @@ run_more size inlined more items is =
 -- the entries of an inline bucket that was just added
 entries_added : (inlined entries : List Leaf) → entries_in (inlined ++ entries) (length inlined) (length entries) ≡ map leaf_view entries
 entries_added inlined entries =
-    ap (λ (row : List Leaf). map leaf_view (take (length entries) row)) (drop-append_seam inlined entries) ∙ ap (λ (row : List Leaf). map leaf_view row) (take-length entries)
+    ap (λ (run : List Leaf). map leaf_view (take (length entries) run)) (drop-append_seam inlined entries) ∙ ap (λ (run : List Leaf). map leaf_view run) (take-length entries)
 
-entries_at : (inlined entries row : List Leaf) (first : ℕ) → row ≡ inlined ++ entries → first ≡ length inlined → entries_in row first (length entries) ≡ map leaf_view entries
-entries_at inlined entries row first behind at =
+entries_at : (inlined entries run : List Leaf) (first : ℕ) → run ≡ inlined ++ entries → first ≡ length inlined → entries_in run first (length entries) ≡ map leaf_view entries
+entries_at inlined entries run first behind at =
     ap (λ (r : List Leaf). entries_in r first (length entries)) behind ∙ (ap (λ (n : ℕ). entries_in (inlined ++ entries) n (length entries)) at ∙ entries_added inlined entries)
 
 pub length-inline_value : (sequence : ℕ) (entries : List LeafElement) → length (inline_value sequence entries) ≡ inline_size entries
@@ -120,35 +120,35 @@ length-inline_value sequence entries =
     let b = length-append (header_bytes 0 kind.Leaf (length entries) 0) (leaf_bytes entries) in omega arith
 
 -- such a bucket is an item,
-pub added_held : (inlined entries row : List Leaf) (first size : ℕ) → row ≡ inlined ++ entries → first ≡ length inlined → length entries < 65535 → size ≡ inline_size (map leaf_view entries) → size < 4294967296
-    → IsInlined row first (length entries) size
-added_held inlined entries row first size behind at few same small =
+pub added_held : (inlined entries run : List Leaf) (first size : ℕ) → run ≡ inlined ++ entries → first ≡ length inlined → length entries < 65535 → size ≡ inline_size (map leaf_view entries) → size < 4294967296
+    → IsInlined run first (length entries) size
+added_held inlined entries run first size behind at few same small =
     let r = ap (λ (r : List Leaf). length r) behind in
     let n = length-append inlined entries in
     let m = length-map entries leaf_view in
-    let d = ap (λ (es : List LeafElement). length (leaf_data es)) (entries_at inlined entries row first behind at) in
+    let d = ap (λ (es : List LeafElement). length (leaf_data es)) (entries_at inlined entries run first behind at) in
     record { there = omega arith; few = few; sized = omega arith; small = small }
 
 -- of this size,
-pub added_size : (inlined entries row : List Leaf) (first sequence key size : ℕ) → row ≡ inlined ++ entries → first ≡ length inlined → size ≡ inline_size (map leaf_view entries)
-    → 16 + (key + size) ≡ 16 + (key + length (inline_value sequence (entries_in row first (length entries))))
-added_size inlined entries row first sequence key size behind at same =
-    let e = ap (λ (es : List LeafElement). length (inline_value sequence es)) (entries_at inlined entries row first behind at) in
+pub added_size : (inlined entries run : List Leaf) (first sequence key size : ℕ) → run ≡ inlined ++ entries → first ≡ length inlined → size ≡ inline_size (map leaf_view entries)
+    → 16 + (key + size) ≡ 16 + (key + length (inline_value sequence (entries_in run first (length entries))))
+added_size inlined entries run first sequence key size behind at same =
+    let e = ap (λ (es : List LeafElement). length (inline_value sequence es)) (entries_at inlined entries run first behind at) in
     let l = length-inline_value sequence (map leaf_view entries) in omega arith
 
-views_push : (row : List Leaf) (items : List Held) (x : Held) → held_views row (items ++ x ∷ []) ≡ held_views row items ++ held_view row x ∷ []
-views_push row [] x = refl
-views_push row (y ∷ items) x = ap (λ (es : List LeafElement). held_view row y ∷ es) (views_push row items x)
+views_push : (run : List Leaf) (items : List Held) (x : Held) → held_views run (items ++ x ∷ []) ≡ held_views run items ++ held_view run x ∷ []
+views_push run [] x = refl
+views_push run (y ∷ items) x = ap (λ (es : List LeafElement). held_view run y ∷ es) (views_push run items x)
 
 -- and these are the elements then.
-pub added_views : (inlined entries row : List Leaf) (first sequence : ℕ) (key : List ℕ) (items more : List Held) (x : Held) → row ≡ inlined ++ entries → first ≡ length inlined → AreHeld inlined items
-    → more ≡ items ++ x ∷ [] → held_view row x ≡ inline_element key sequence (entries_in row first (length entries))
-    → held_views row more ≡ held_views inlined items ++ inline_element key sequence (map leaf_view entries) ∷ []
-added_views inlined entries row first sequence key items more x behind at all same view =
-    let old : held_views row items ≡ held_views inlined items = ap (λ (r : List Leaf). held_views r items) behind ∙ views_more inlined entries items all in
-    let new : held_view row x ≡ inline_element key sequence (map leaf_view entries) = view ∙ ap (λ (es : List LeafElement). inline_element key sequence es) (entries_at inlined entries row first behind at) in
-    ap (λ (xs : List Held). held_views row xs) same
-    ∙ (views_push row items x ∙ (ap (λ (es : List LeafElement). es ++ held_view row x ∷ []) old ∙ ap (λ (e : LeafElement). held_views inlined items ++ e ∷ []) new))
+pub added_views : (inlined entries run : List Leaf) (first sequence : ℕ) (key : List ℕ) (items more : List Held) (x : Held) → run ≡ inlined ++ entries → first ≡ length inlined → AreHeld inlined items
+    → more ≡ items ++ x ∷ [] → held_view run x ≡ inline_element key sequence (entries_in run first (length entries))
+    → held_views run more ≡ held_views inlined items ++ inline_element key sequence (map leaf_view entries) ∷ []
+added_views inlined entries run first sequence key items more x behind at all same view =
+    let old : held_views run items ≡ held_views inlined items = ap (λ (r : List Leaf). held_views r items) behind ∙ views_more inlined entries items all in
+    let new : held_view run x ≡ inline_element key sequence (map leaf_view entries) = view ∙ ap (λ (es : List LeafElement). inline_element key sequence es) (entries_at inlined entries run first behind at) in
+    ap (λ (xs : List Held). held_views run xs) same
+    ∙ (views_push run items x ∙ (ap (λ (es : List LeafElement). es ++ held_view run x ∷ []) old ∙ ap (λ (e : LeafElement). held_views inlined items ++ e ∷ []) new))
 
 -- each entry takes 16 bytes of the page at least, and so does each item
 pub value_least : (inlined : List Leaf) (x : Stored) → IsStored inlined x → 16 * inlined_by x ≤ length (stored_value inlined x)

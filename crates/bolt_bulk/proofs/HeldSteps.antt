@@ -7,13 +7,13 @@ use Rattle.bolt_format.specs.Elements.{BranchElement, LeafElement}
 use Rattle.bolt_layout.specs.Laid.{Laid, elements_of, held_in}
 use Rattle.bolt_layout.specs.Levels as levels
 use Rattle.bolt_bulk.specs.Private.RowLimits.{bucket_limit}
-use Rattle.bolt_bulk.specs.Private.BranchRuns.{row_of, rows_above}
+use Rattle.bolt_bulk.specs.Private.BranchRuns.{run_view, runs_above}
 use Rattle.bolt_bulk.specs.Private.Coming.{held_item}
 use Rattle.bolt_bulk.specs.Private.HeldCounts.{capped, items_above, items_around, items_in}
 use Rattle.bolt_bulk.specs.Private.HeldItems.{held_view}
 use Rattle.bolt_bulk.specs.Private.HeldSoFar.{held_frames, held_on, held_open, held_over, held_so_far, length_frames, length_open, length_over}
-use Rattle.bolt_bulk.specs.Private.OpenBuckets.{rows_of}
-use Rattle.bolt_bulk.specs.Private.OpenRows.{AreRows, IsOpenRows}
+use Rattle.bolt_bulk.specs.Private.OpenBuckets.{bucket_runs}
+use Rattle.bolt_bulk.specs.Private.BucketRuns.{AreUppers, AreOpenRuns}
 use Rattle.bolt_bulk.specs.Private.OpenRuns.{climb, close, end_of, Frame, has_room, key_size, Known, making_room, numbers_in, Open, pushed_on, pushing, stays_open, taking, Upper}
 use Rattle.bolt_bulk.specs.Private.Passes.{AreWaiting}
 use Rattle.bolt_bulk.specs.declared.branch_runs.BranchRun.{BranchRun}
@@ -167,13 +167,13 @@ enters_held page_size known frame frames state key size run before after room fl
 
 -- ---- what the code counts
 
-pub run_length : (run : BranchRun) (pages : List (Laid BranchElement)) (n : ℕ) → (row_of run).elements ≡ elements_of pages n → length run.elements.items ≡ length pages
+pub run_length : (run : BranchRun) (pages : List (Laid BranchElement)) (n : ℕ) → (run_view run).elements ≡ elements_of pages n → length run.elements.items ≡ length pages
 run_length run pages n same =
     let l = length-map run.elements.items branch_view in
     let e = ap (λ (es : List BranchElement). length es) same in
     let k = length-elements pages n in omega arith
 
-above_length : (runs : List BranchRun) (uppers : List Upper) (b : ℕ) → AreRows (rows_above runs) uppers b → items_above runs ≡ length_over uppers
+above_length : (runs : List BranchRun) (uppers : List Upper) (b : ℕ) → AreUppers (runs_above runs) uppers b → items_above runs ≡ length_over uppers
 above_length [] [] b are = refl
 above_length [] (upper ∷ uppers) b are = absurd are
 above_length (run ∷ runs) [] b are = absurd are
@@ -182,11 +182,11 @@ above_length (run ∷ runs) (upper ∷ uppers) b are =
     let one = run_length run upper.run _ are.0.same in
     let s = sum_by-cons (λ (r : BranchRun). length r.elements.items) run runs in omega arith
 
-pub items_length : (bucket : OpenBucket) (next b : ℕ) (state : Open) → IsOpenRows (rows_of bucket next) state b → items_in bucket ≡ length_open state
-items_length bucket next b state rows =
-    let above = above_length bucket.uppers.items state.uppers b rows.above in
+pub items_length : (bucket : OpenBucket) (next b : ℕ) (state : Open) → AreOpenRuns (bucket_runs bucket next) state b → items_in bucket ≡ length_open state
+items_length bucket next b state runs =
+    let above = above_length bucket.uppers.items state.uppers b runs.above in
     let l = length-map bucket.leaves.items.items (held_view bucket.leaves.inlined.items) in
-    let e = ap (λ (es : List LeafElement). length es) rows.same in
+    let e = ap (λ (es : List LeafElement). length es) runs.same in
     let k = length-elements state.run (b + numbers_in state.uppers) in omega arith
 
 pub around_length : (ws : List WaitingBucket) (frames : List Frame) → AreWaiting ws frames → items_around ws ≡ length_frames frames
@@ -194,6 +194,6 @@ around_length [] [] waits = refl
 around_length [] (frame ∷ frames) waits = absurd waits
 around_length (w ∷ ws) [] waits = absurd waits
 around_length (w ∷ ws) (frame ∷ frames) waits =
-    let (rows, key, sequence, others) = waits in
-    let one = items_length w.bucket _ _ frame.state rows in
+    let (runs, key, sequence, others) = waits in
+    let one = items_length w.bucket _ _ frame.state runs in
     let ih = around_length ws frames others in omega arith

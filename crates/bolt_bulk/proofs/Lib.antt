@@ -21,12 +21,12 @@ mod PassAt
 mod PassEnds
 mod PassLeft
 mod PassReady
-mod PassRows
+mod PassRuns
 mod PassSteps
 mod PutBefore
 mod PutParts
 mod PutsLemmas
-mod RowsAreRuns
+mod KeptRuns
 mod RunLemmas
 mod Tables
 mod RunEnds

@@ -81,10 +81,10 @@ pair_step : (page_size : ℕ) (left : Option ℕ) (q p : Laid BranchElement) (pa
 pair_step page_size left q p pages = refl
 
 -- A climb keeps what the runs become.
-row_right : (which : Layout) (page_size : ℕ) (limits : ℕ → Option ℕ) (q p : Laid BranchElement) (pages all : List (Laid BranchElement)) (root : Laid BranchElement)
+run_right : (which : Layout) (page_size : ℕ) (limits : ℕ → Option ℕ) (q p : Laid BranchElement) (pages all : List (Laid BranchElement)) (root : Laid BranchElement)
     → Comes which page_size limits [] all (q ∷ p ∷ pages) root
     → Comes which page_size limits (record { run = q ∷ []; left = limits 0; closed = 0 } ∷ []) all (p ∷ pages) root
-row_right which page_size limits q p pages all root (all_is, is) =
+run_right which page_size limits q p pages all root (all_is, is) =
     let M : List (List (Laid BranchElement)) → List (Laid BranchElement) = λ runs. map (page_over branch_view page_size) runs in
     let same : cut_left page_size size_of (limits 0) (q ∷ []) (p ∷ pages) ≡ branch_cut which page_size size_of (q ∷ p ∷ pages) = is.right 0 in
     let step : cut_left page_size size_of (limits 0) (q ∷ []) (p ∷ pages) ≡ cut_left page_size size_of (limits 0) ((q ∷ []) ++ p ∷ []) pages = pair_step page_size (limits 0) q p pages in
@@ -102,7 +102,7 @@ row_right which page_size limits q p pages all root (all_is, is) =
 pub climb_same : (which : Layout) (page_size : ℕ) (limits : ℕ → Option ℕ) (key : List ℕ) (q : Laid BranchElement) (uppers : List Upper) (p : Laid BranchElement) (pages all : List (Laid BranchElement)) (root : Laid BranchElement)
     → p.key ≡ key → IsSized p → Comes which page_size limits uppers all (q ∷ p ∷ pages) root
     → Comes which page_size limits (climb page_size (limits (length uppers)) key q uppers) all (p ∷ pages) root
-climb_same which page_size limits key q [] p pages all root named sized is = row_right which page_size limits q p pages all root is
+climb_same which page_size limits key q [] p pages all root named sized is = run_right which page_size limits q p pages all root is
 climb_same which page_size limits key q (upper ∷ uppers) p pages all root named sized (stands, is) =
     let size : p.size ≡ key_size key = sized ∙ ap key_size named in
     let above : ℕ → Option ℕ = λ k. limits (suc k) in

@@ -18,12 +18,12 @@ use Rattle.bolt_layout.specs.PageBytes.{inline_value}
 use Rattle.bolt_bulk.specs.Private.Coming.{IsPass, held_item}
 use Rattle.bolt_bulk.specs.Private.HeldCounts.{Counts, capped, items_around, items_in}
 use Rattle.bolt_bulk.specs.Private.HeldSoFar.{held_so_far, length_frames, length_open}
-use Rattle.bolt_bulk.specs.Private.OpenBuckets.{bucket_end_next, rows_of}
-use Rattle.bolt_bulk.specs.Private.OpenRows.{IsOpenRows}
+use Rattle.bolt_bulk.specs.Private.OpenBuckets.{bucket_end_next, bucket_runs}
+use Rattle.bolt_bulk.specs.Private.BucketRuns.{AreOpenRuns}
 use Rattle.bolt_bulk.specs.Private.OpenRuns.{Frame, Known, Open, base_in, end_of, making_room, next_number, pushing, taking}
 use Rattle.bolt_bulk.specs.Private.Passes.{AreComing, AreComingAround, AreNumbered, Notes, Wanted, open_in, limits_by, AreWaiting, HasRoot, IsAt, IsPending, IsSmall, StandsBefore, Steps, level_of, onto}
-use Rattle.bolt_bulk.specs.Private.Rows.{OpenRows, rows_end, rows_end_put, rows_push, rows_room, rows_room_put}
-use Rattle.bolt_bulk.specs.Private.TakenItems.{inline_element, root_element, rows_taking, value_element}
+use Rattle.bolt_bulk.specs.Private.RunViews.{BucketRuns, runs_end, runs_end_put, runs_push, runs_room, runs_room_put}
+use Rattle.bolt_bulk.specs.Private.TakenItems.{inline_element, root_element, runs_taking, value_element}
 use Rattle.bolt_bulk.specs.Puts.{Puts}
 use Rattle.bolt_bulk.specs.declared.page_setup.PageSetup.{PageSetup}
 use Rattle.bolt_bulk.specs.declared.fault.BulkFault.{BulkFault}
@@ -43,7 +43,7 @@ use Rattle.bolt_bulk.specs.declared.limits.BucketLimits.{BucketLimits}
 use Rattle.bolt_bulk.specs.declared.noted_limits.NotedLimits.{NotedLimits}
 use Rattle.bolt_bulk.proofs.Tables.{BucketEnds, numbered_same, opened_most, room_known, noted_enters, noted_leaves}
 use Rattle.bolt_bulk.proofs.Openings.{around_at, coming_at, coming_onto, opened_inline, opened_onto, opened_rooted}
-use Rattle.bolt_bulk.proofs.PassSteps.{IsOn, inline_item, on_before, on_enters, on_leaves, on_numbers, on_takes, open_values, pass_takes_all, root_item, values_put, values_rows}
+use Rattle.bolt_bulk.proofs.PassSteps.{IsOn, inline_item, on_before, on_enters, on_leaves, on_numbers, on_takes, open_values, pass_takes_all, root_item, values_put, values_runs}
 use Rattle.bolt_bulk.proofs.PutsLemmas.{bytes-append, puts_then}
 
 -- ---- results
@@ -131,30 +131,30 @@ coming_for wanted pass n rest left frames same right around = subst (λ (t : Tre
 
 -- with nothing that may be inline
 pub on_of : (wanted : Wanted) (pass : Pass) (levels : List Level) (left : Tree) (put : List Placed) (is : IsAt wanted pass levels left put) → pass.pending ≡ None
-    → (levels ≡ map level_of is.frames) × IsOn wanted.which pass.setup.page_size wanted.tree is.frames is.state (items_of wanted.which pass.setup.page_size left) (rows_of pass.bucket pass.next) put
+    → (levels ≡ map level_of is.frames) × IsOn wanted.which pass.setup.page_size wanted.tree is.frames is.state (items_of wanted.which pass.setup.page_size left) (bucket_runs pass.bucket pass.next) put
     × IsComingFor wanted pass is.opened left is.frames
 on_of wanted pass levels left put is none =
     let (same, rest) = subst (λ (p : Option PendingBucket). IsPending p pass.entries.items (map level_of is.frames) is.rest levels left) none is.pends in
     let under = subst (λ (t : Tree). IsPass wanted.which pass.setup.page_size is.frames is.state (items_of wanted.which pass.setup.page_size t) (root_of wanted.which pass.setup.page_size wanted.tree)) rest is.under in
-    (same, record { under = under; rows_are = is.rows; put_is = is.put_is }, coming_for wanted pass is.opened is.rest left is.frames rest is.coming is.around)
+    (same, record { under = under; runs_are_kept = is.runs; put_is = is.put_is }, coming_for wanted pass is.opened is.rest left is.frames rest is.coming is.around)
 
 -- with a bucket that may be inline
 abbrev pub HasPending : (wanted : Wanted) (pass : Pass) (levels : List Level) (left : Tree) (put : List Placed) (is : IsAt wanted pass levels left put) → PendingBucket → Type 0
 HasPending wanted pass levels left put is p = (after : Tree)
     × (levels ≡ record { key = p.key.now; after = after } ∷ map level_of is.frames)
-    × IsOn wanted.which pass.setup.page_size wanted.tree is.frames is.state (items_of wanted.which pass.setup.page_size (with_bucket p.key.now p.sequence (onto (map leaf_view pass.entries.items) left) after)) (rows_of pass.bucket pass.next) put
+    × IsOn wanted.which pass.setup.page_size wanted.tree is.frames is.state (items_of wanted.which pass.setup.page_size (with_bucket p.key.now p.sequence (onto (map leaf_view pass.entries.items) left) after)) (bucket_runs pass.bucket pass.next) put
     × IsComingFor wanted pass is.opened (with_bucket p.key.now p.sequence (onto (map leaf_view pass.entries.items) left) after) is.frames
 
 pending_of : (wanted : Wanted) (pass : Pass) (levels : List Level) (left : Tree) (put : List Placed) (p : PendingBucket) (is : IsAt wanted pass levels left put) → pass.pending ≡ Some p → HasPending wanted pass levels left put is p
 pending_of wanted pass levels left put p is some =
     let (after, same, rest) = subst (λ (q : Option PendingBucket). IsPending q pass.entries.items (map level_of is.frames) is.rest levels left) some is.pends in
     let under = subst (λ (t : Tree). IsPass wanted.which pass.setup.page_size is.frames is.state (items_of wanted.which pass.setup.page_size t) (root_of wanted.which pass.setup.page_size wanted.tree)) rest is.under in
-    (after, same, record { under = under; rows_are = is.rows; put_is = is.put_is }, coming_for wanted pass is.opened is.rest _ is.frames rest is.coming is.around)
+    (after, same, record { under = under; runs_are_kept = is.runs; put_is = is.put_is }, coming_for wanted pass is.opened is.rest _ is.frames rest is.coming is.around)
 
 -- what was written comes before the rest, at any time
 pub at_before : (wanted : Wanted) (pass : Pass) (levels : List Level) (left : Tree) (put : List Placed) → IsAt wanted pass levels left put → StandsBefore put (layout_pages wanted.which pass.setup.page_size wanted.tree)
 at_before wanted pass levels left put is =
-    on_before wanted.which pass.setup.page_size wanted.tree is.frames is.state (items_of wanted.which pass.setup.page_size is.rest) (rows_of pass.bucket pass.next) put (record { under = is.under; rows_are = is.rows; put_is = is.put_is })
+    on_before wanted.which pass.setup.page_size wanted.tree is.frames is.state (items_of wanted.which pass.setup.page_size is.rest) (bucket_runs pass.bucket pass.next) put (record { under = is.under; runs_are_kept = is.runs; put_is = is.put_is })
 
 -- a step that writes nothing
 pub steps_none : {S A : Type 0} {taken : S → Option (List ℕ)} {failed : S → ℕ} (wanted : Wanted) (pass : Pass) (levels : List Level) (left : Tree) (put : List Placed) (old : S) (At : List Placed → Type 0) (result : Result A BulkFault)
@@ -189,45 +189,45 @@ shown_values [] all = tt
 shown_values (e ∷ entries) all = (all.0, shown_values entries all.1)
 
 -- what the code counts is what is in the open runs
-counted_items : (frames : List Frame) (state : Open) (waits : List WaitingBucket) (bucket : OpenBucket) (next : ℕ) → AreWaiting (reverse waits) frames → IsOpenRows (rows_of bucket next) state (base_in frames)
+counted_items : (frames : List Frame) (state : Open) (waits : List WaitingBucket) (bucket : OpenBucket) (next : ℕ) → AreWaiting (reverse waits) frames → AreOpenRuns (bucket_runs bucket next) state (base_in frames)
     → items_around waits + items_in bucket ≡ length_frames frames + length_open state
-counted_items frames state waits bucket next are rows =
+counted_items frames state waits bucket next are runs =
     let a = around_length (reverse waits) frames are in
     let b = around_reverse waits in
-    let c = items_length bucket next (base_in frames) state rows in omega arith
+    let c = items_length bucket next (base_in frames) state runs in omega arith
 
 module _ {S : Type 0} (taken : S → Option (List ℕ)) (failed : S → ℕ) (wanted : Wanted) (pass : Pass) (put : List Placed) where
   abbrev P : ℕ
   P = pass.setup.page_size
 
-  abbrev rows_now : OpenRows
-  rows_now = rows_of pass.bucket pass.next
+  abbrev runs_now : BucketRuns
+  runs_now = bucket_runs pass.bucket pass.next
 
   -- ---- a value of the open bucket
   pub value_steps : {A : Type 0} (levels : List Level) (key value : List ℕ) (after : Tree) (old new : S) (bucket : OpenBucket) (next : ℕ) (counted : Pass) (result : Result A BulkFault)
       → IsAt wanted pass levels (with_value key value after) put → pass.pending ≡ None
-      → Puts taken failed old new (placed_bytes P (rows_room_put P rows_now key (16 + (length key + length value)))) result
-      → OnOk result (rows_of bucket next ≡ rows_taking P rows_now (value_element key value) (16 + (length key + length value)))
-      → IfErr result (λ e. e ≡ fault.TooLarge → pass.setup.limit < (rows_room P rows_now key (16 + (length key + length value))).next)
+      → Puts taken failed old new (placed_bytes P (runs_room_put P runs_now key (16 + (length key + length value)))) result
+      → OnOk result (bucket_runs bucket next ≡ runs_taking P runs_now (value_element key value) (16 + (length key + length value)))
+      → IfErr result (λ e. e ≡ fault.TooLarge → pass.setup.limit < (runs_room P runs_now key (16 + (length key + length value))).next)
       → OnOk result (Counts (record { setup = pass.setup; limits = pass.limits; waiting = pass.waiting; bucket = bucket; pending = pass.pending; entries = pass.entries; next = next; opened = pass.opened; around = pass.around; most = pass.most; noted = pass.noted }) counted)
       → Steps wanted taken failed old new pass.setup put (IsAt wanted counted levels after) result
-  value_steps levels key value after old new bucket next counted result is none puts rows large counts =
+  value_steps levels key value after old new bucket next counted result is none puts runs large counts =
       let (same, on, right) = on_of wanted pass levels (with_value key value after) put is none in
       let made : Open = taking P is.state (leaf_item key value false) in
-      let then = on_takes wanted.which P wanted.tree is.frames is.state key value false (items_of wanted.which P after) rows_now put on in
+      let then = on_takes wanted.which P wanted.tree is.frames is.state key value false (items_of wanted.which P after) runs_now put on in
       let few = on_numbers wanted.which P wanted.tree is.frames made _ _ _ then in
       record {
-        more = rows_room_put P rows_now key (16 + (length key + length value));
+        more = runs_room_put P runs_now key (16 + (length key + length value));
         puts = puts;
-        at = on_ok_both result rows counts (λ e k.
-            let here : IsOpenRows (rows_of bucket next) made (base_in is.frames) = subst (λ (r : OpenRows). IsOpenRows r made (base_in is.frames)) (sym e) then.rows_are in
+        at = on_ok_both result runs counts (λ e k.
+            let here : AreOpenRuns (bucket_runs bucket next) made (base_in is.frames) = subst (λ (r : BucketRuns). AreOpenRuns r made (base_in is.frames)) (sym e) then.runs_are_kept in
             let count = counted_items is.frames made pass.waiting.items bucket next is.waits here in
-            subst (λ (p : Pass). IsAt wanted p levels after (put ++ rows_room_put P rows_now key (16 + (length key + length value)))) (sym k.rest) (record {
+            subst (λ (p : Pass). IsAt wanted p levels after (put ++ runs_room_put P runs_now key (16 + (length key + length value)))) (sym k.rest) (record {
               frames = is.frames;
               state = made;
               rest = after;
               under = then.under;
-              rows = here;
+              runs = here;
               waits = is.waits;
               put_is = then.put_is;
               held = takes_held P is.frames is.state (leaf_item key value false) pass.most counted.most refl is.held (k.most ∙ ap (λ (n : ℕ). max pass.most (capped n)) count);
@@ -247,12 +247,12 @@ module _ {S : Type 0} (taken : S → Option (List ℕ)) (failed : S → ℕ) (wa
   -- ---- the end of a bucket that is inline
   pub inline_steps : {A : Type 0} (level : Level) (levels : List Level) (p : PendingBucket) (size : ℕ) (old new : S) (bucket : OpenBucket) (entries : Vec Leaf Global) (next : ℕ) (counted : Pass) (result : Result A BulkFault)
       → IsAt wanted pass (level ∷ levels) end put → pass.pending ≡ Some p → IsSmall P p pass.entries.items → size ≡ length (inline_value p.sequence (map leaf_view pass.entries.items))
-      → Puts taken failed old new (placed_bytes P (rows_room_put P rows_now p.key.now (16 + (length p.key.now + size)))) result
-      → OnOk result (rows_of bucket next ≡ rows_taking P rows_now (inline_element p.key.now p.sequence (map leaf_view pass.entries.items)) (16 + (length p.key.now + size)))
-      → IfErr result (λ e. e ≡ fault.TooLarge → pass.setup.limit < (rows_room P rows_now p.key.now (16 + (length p.key.now + size))).next)
+      → Puts taken failed old new (placed_bytes P (runs_room_put P runs_now p.key.now (16 + (length p.key.now + size)))) result
+      → OnOk result (bucket_runs bucket next ≡ runs_taking P runs_now (inline_element p.key.now p.sequence (map leaf_view pass.entries.items)) (16 + (length p.key.now + size)))
+      → IfErr result (λ e. e ≡ fault.TooLarge → pass.setup.limit < (runs_room P runs_now p.key.now (16 + (length p.key.now + size))).next)
       → OnOk result (Counts (record { setup = pass.setup; limits = pass.limits; waiting = pass.waiting; bucket = bucket; pending = None; entries = entries; next = next; opened = pass.opened; around = pass.around; most = pass.most; noted = pass.noted }) counted)
       → Steps wanted taken failed old new pass.setup put (IsAt wanted counted levels level.after) result
-  inline_steps level levels p size old new bucket entries next counted result is some small sized puts rows large counts =
+  inline_steps level levels p size old new bucket entries next counted result is some small sized puts runs large counts =
       let (after, same, on, right) = pending_of wanted pass (level ∷ levels) end put p is some in
       let shown : List LeafElement = map leaf_view pass.entries.items in
       let value : List ℕ = inline_value p.sequence shown in
@@ -263,27 +263,27 @@ module _ {S : Type 0} (taken : S → Option (List ℕ)) (failed : S → ℕ) (wa
       let fits = small.small in
       let item = inline_item wanted.which P p.key.now p.sequence shown values (omega arith) (omega arith) in
       let unopened = opened_inline wanted.which P (onto shown end) (ends_inline wanted.which P shown (omega arith) (omega arith)) in
-      let on2 = subst (λ (i : Laid LeafElement). IsOn wanted.which P wanted.tree is.frames is.state (i ∷ items_of wanted.which P after) rows_now put) item on in
-      let then0 = on_takes wanted.which P wanted.tree is.frames is.state p.key.now value true (items_of wanted.which P after) rows_now put on2 in
+      let on2 = subst (λ (i : Laid LeafElement). IsOn wanted.which P wanted.tree is.frames is.state (i ∷ items_of wanted.which P after) runs_now put) item on in
+      let then0 = on_takes wanted.which P wanted.tree is.frames is.state p.key.now value true (items_of wanted.which P after) runs_now put on2 in
       let made : Open = taking P is.state (leaf_item p.key.now value true) in
-      let Then : ℕ → Type 0 = λ n. IsOn wanted.which P wanted.tree is.frames made (items_of wanted.which P after) (rows_taking P rows_now (inline_element p.key.now p.sequence shown) (16 + (length p.key.now + n))) (put ++ rows_room_put P rows_now p.key.now (16 + (length p.key.now + n))) in
+      let Then : ℕ → Type 0 = λ n. IsOn wanted.which P wanted.tree is.frames made (items_of wanted.which P after) (runs_taking P runs_now (inline_element p.key.now p.sequence shown) (16 + (length p.key.now + n))) (put ++ runs_room_put P runs_now p.key.now (16 + (length p.key.now + n))) in
       let then : Then size = subst Then (sym sized) then0 in
       let numbers = on_numbers wanted.which P wanted.tree is.frames made _ _ _ then in
       let first : level ≡ record { key = p.key.now; after = after } = cc in
       let others : levels ≡ map level_of is.frames = cc in
       let behind : after ≡ level.after = ap (λ (l : Level). l.after) (sym first) in
       record {
-        more = rows_room_put P rows_now p.key.now (16 + (length p.key.now + size));
+        more = runs_room_put P runs_now p.key.now (16 + (length p.key.now + size));
         puts = puts;
-        at = on_ok_both result rows counts (λ e k.
-            let here : IsOpenRows (rows_of bucket next) made (base_in is.frames) = subst (λ (r : OpenRows). IsOpenRows r made (base_in is.frames)) (sym e) then.rows_are in
+        at = on_ok_both result runs counts (λ e k.
+            let here : AreOpenRuns (bucket_runs bucket next) made (base_in is.frames) = subst (λ (r : BucketRuns). AreOpenRuns r made (base_in is.frames)) (sym e) then.runs_are_kept in
             let count = counted_items is.frames made pass.waiting.items bucket next is.waits here in
-            subst (λ (q : Pass). IsAt wanted q levels level.after (put ++ rows_room_put P rows_now p.key.now (16 + (length p.key.now + size)))) (sym k.rest) (record {
+            subst (λ (q : Pass). IsAt wanted q levels level.after (put ++ runs_room_put P runs_now p.key.now (16 + (length p.key.now + size)))) (sym k.rest) (record {
               frames = is.frames;
               state = made;
               rest = after;
               under = then.under;
-              rows = here;
+              runs = here;
               waits = is.waits;
               put_is = then.put_is;
               held = takes_held P is.frames is.state (leaf_item p.key.now value true) pass.most counted.most refl is.held (k.most ∙ ap (λ (n : ℕ). max pass.most (capped n)) count);
@@ -309,12 +309,12 @@ module _ {S : Type 0} (taken : S → Option (List ℕ)) (failed : S → ℕ) (wa
   abbrev known_now : Tree → Known
   known_now left = record { limits = limits_now; leaves = leaf_pages P (items_of wanted.which P (onto (map leaf_view pass.entries.items) left)) }
 
-  abbrev opened_rows : PendingBucket → ℕ → OpenRows
-  opened_rows p next = record { leaves = record { elements = map leaf_view pass.entries.items; size = p.size }; uppers = []; limits = limits_now; next = next }
+  abbrev opened_runs : PendingBucket → ℕ → BucketRuns
+  opened_runs p next = record { leaves = record { elements = map leaf_view pass.entries.items; size = p.size }; uppers = []; limits = limits_now; next = next }
 
   -- where it is then
-  abbrev room_for : PendingBucket → OpenRows
-  room_for p = rows_room P rows_now p.key.now (32 + length p.key.now)
+  abbrev room_for : PendingBucket → BucketRuns
+  room_for p = runs_room P runs_now p.key.now (32 + length p.key.now)
 
   abbrev frame_of : PendingBucket → Tree → Tree → Open → Frame
   frame_of p left after state = waiting P state p.key.now p.sequence (root_over wanted.which P (items_of wanted.which P (onto (map leaf_view pass.entries.items) left))) after
@@ -322,14 +322,14 @@ module _ {S : Type 0} (taken : S → Option (List ℕ)) (failed : S → ℕ) (wa
   record HasOpened (levels : List Level) (left : Tree) (p : PendingBucket) (is : IsAt wanted pass levels left put) : Type 0 where
     after : Tree
     same : levels ≡ record { key = p.key.now; after = after } ∷ map level_of is.frames
-    outer : IsOpenRows (room_for p) (making_room P is.state p.key.now (32 + length p.key.now)) (base_in is.frames)
+    outer : AreOpenRuns (room_for p) (making_room P is.state p.key.now (32 + length p.key.now)) (base_in is.frames)
     base : (room_for p).next ≡ base_in (frame_of p left after is.state ∷ is.frames)
     values : AllByRecursion IsValue (map leaf_view pass.entries.items)
     coming : AreComing wanted P (limits_by pass) (suc is.opened) left
     around : AreComingAround wanted P (limits_by pass) (suc is.opened + opened_in wanted.which P left) (frame_of p left after is.state ∷ is.frames)
     notes : Notes wanted P is.opened (known_now left).leaves
-    on : IsOn wanted.which P wanted.tree (frame_of p left after is.state ∷ is.frames) (open_values (known_now left) (value_items (map leaf_view pass.entries.items))) (items_of wanted.which P left) (opened_rows p (room_for p).next)
-        (put ++ rows_room_put P rows_now p.key.now (32 + length p.key.now))
+    on : IsOn wanted.which P wanted.tree (frame_of p left after is.state ∷ is.frames) (open_values (known_now left) (value_items (map leaf_view pass.entries.items))) (items_of wanted.which P left) (opened_runs p (room_for p).next)
+        (put ++ runs_room_put P runs_now p.key.now (32 + length p.key.now))
 
   has_opened : (levels : List Level) (left : Tree) (p : PendingBucket) (is : IsAt wanted pass levels left put) → pass.pending ≡ Some p → IsSmall P p pass.entries.items → HasRoot wanted.which P (onto (map leaf_view pass.entries.items) left)
       → HasOpened levels left p is
@@ -343,10 +343,10 @@ module _ {S : Type 0} (taken : S → Option (List ℕ)) (failed : S → ℕ) (wa
       let fits = small.small in
       let inner : List (Laid LeafElement) = items_of wanted.which P (onto shown left) in
       let item = root_item wanted.which P p.key.now p.sequence (onto shown left) rooted in
-      let on2 = subst (λ (i : Laid LeafElement). IsOn wanted.which P wanted.tree is.frames is.state (i ∷ items_of wanted.which P after) rows_now put) item on in
+      let on2 = subst (λ (i : Laid LeafElement). IsOn wanted.which P wanted.tree is.frames is.state (i ∷ items_of wanted.which P after) runs_now put) item on in
       let own : HaveRightLimits wanted.which P (bucket_limit limits_now) (leaf_pages P inner) =
       subst (λ (n : ℕ). HaveRightLimits wanted.which P (limit_in pass.limits.now n) (leaf_pages P inner)) (sym is.opened_is) (right.0.0 rooted).0.right in
-      let (entered, made, placed) = on_enters wanted.which P wanted.tree (known_now left) is.frames is.state p.key.now p.sequence inner after rows_now put refl own on2 in
+      let (entered, made, placed) = on_enters wanted.which P wanted.tree (known_now left) is.frames is.state p.key.now p.sequence inner after runs_now put refl own on2 in
       let frames : List Frame = frame_of p left after is.state ∷ is.frames in
       let begun = subst (λ (items : List (Laid LeafElement)). IsPass wanted.which P frames (open_values (known_now left) []) items (root_of wanted.which P wanted.tree)) (onto_items wanted.which P shown left) entered in
       let under = pass_takes_all wanted.which P (known_now left) frames [] shown (items_of wanted.which P left) (root_of wanted.which P wanted.tree) (omega arith) (omega arith) begun in
@@ -366,20 +366,20 @@ module _ {S : Type 0} (taken : S → Option (List ℕ)) (failed : S → ℕ) (wa
           around_at wanted P (limits_by pass) (is.opened + (opened_by wanted.which P (onto shown left) + opened_in wanted.which P after)) (suc is.opened + opened_in wanted.which P left + opened_in wanted.which P after) is.frames (omega arith) right.1,
         );
         notes = (right.0.0 rooted).0.notes;
-        on = record { under = under; rows_are = values_rows (known_now left) shown p.size (base_in frames) (room_for p).next values sizes base; put_is = placed ∙ values_put (known_now left) frames shown };
+        on = record { under = under; runs_are_kept = values_runs (known_now left) shown p.size (base_in frames) (room_for p).next values sizes base; put_is = placed ∙ values_put (known_now left) frames shown };
       }
 
   -- a fault on the way
   pub open_stops : {A : Type 0} (levels : List Level) (left : Tree) (p : PendingBucket) (old new : S) (At : List Placed → Type 0) (e : BulkFault)
       → IsAt wanted pass levels left put → pass.pending ≡ Some p → IsSmall P p pass.entries.items → HasRoot wanted.which P (onto (map leaf_view pass.entries.items) left)
-      → Puts {A = A} taken failed old new (placed_bytes P (rows_room_put P rows_now p.key.now (32 + length p.key.now))) (Err e)
+      → Puts {A = A} taken failed old new (placed_bytes P (runs_room_put P runs_now p.key.now (32 + length p.key.now))) (Err e)
       → (e ≡ fault.TooLarge → pass.setup.limit < (room_for p).next)
       → Steps {A = A} wanted taken failed old new pass.setup put At (Err e)
   open_stops levels left p old new At e is some small rooted puts large =
       let then = has_opened levels left p is some small rooted in
       let numbers = on_numbers wanted.which P wanted.tree _ _ _ _ _ then.on in
       record {
-        more = rows_room_put P rows_now p.key.now (32 + length p.key.now);
+        more = runs_room_put P runs_now p.key.now (32 + length p.key.now);
         puts = puts;
         at = tt;
         before = on_before wanted.which P wanted.tree _ _ _ _ _ then.on;
@@ -389,39 +389,39 @@ module _ {S : Type 0} (taken : S → Option (List ℕ)) (failed : S → ℕ) (wa
   -- all went well
   pub open_steps : (levels : List Level) (left : Tree) (p : PendingBucket) (old new : S) (bucket : OpenBucket) (w : WaitingBucket) (around : Vec WaitingBucket Global) (entries : Vec Leaf Global) (next opened held : ℕ) (counted : Pass)
       → IsAt wanted pass levels left put → pass.pending ≡ Some p → IsSmall P p pass.entries.items → HasRoot wanted.which P (onto (map leaf_view pass.entries.items) left)
-      → Puts {A = ⊤} taken failed old new (placed_bytes P (rows_room_put P rows_now p.key.now (32 + length p.key.now))) (Ok tt)
-      → around.items ≡ pass.waiting.items ++ w ∷ [] → rows_of w.bucket next ≡ room_for p → w.key.now ≡ p.key.now → w.sequence ≡ p.sequence → rows_of bucket next ≡ opened_rows p next
+      → Puts {A = ⊤} taken failed old new (placed_bytes P (runs_room_put P runs_now p.key.now (32 + length p.key.now))) (Ok tt)
+      → around.items ≡ pass.waiting.items ++ w ∷ [] → bucket_runs w.bucket next ≡ room_for p → w.key.now ≡ p.key.now → w.sequence ≡ p.sequence → bucket_runs bucket next ≡ opened_runs p next
       → opened ≡ min (pass.opened + 1) 18446744073709551615
       → Counts (record { setup = pass.setup; limits = pass.limits; waiting = around; bucket = bucket; pending = None; entries = entries; next = next; opened = opened; around = held; most = pass.most; noted = pass.noted }) counted
       → Steps {A = ⊤} wanted taken failed old new pass.setup put (IsAt wanted counted levels left) (Ok tt)
-  open_steps levels left p old new bucket w around entries next opened held counted is some small rooted puts items rows key sequence values_are one_more k =
+  open_steps levels left p old new bucket w around entries next opened held counted is some small rooted puts items runs key sequence values_are one_more k =
       let then = has_opened levels left p is some small rooted in
       let frame : Frame = frame_of p left then.after is.state in
       let frames : List Frame = frame ∷ is.frames in
       let state : Open = open_values (known_now left) (value_items (map leaf_view pass.entries.items)) in
-      let next_is : next ≡ (room_for p).next = ap (λ (r : OpenRows). r.next) rows in
+      let next_is : next ≡ (room_for p).next = ap (λ (r : BucketRuns). r.next) runs in
       let room_is : 32 + length p.key.now ≡ 16 + (length p.key.now + 16) = omega arith in
       let values : List (Laid LeafElement) = value_items (map leaf_view pass.entries.items) in
-      let here : IsOpenRows (rows_of bucket next) state (base_in frames) = subst (λ (r : OpenRows). IsOpenRows r state (base_in frames)) (sym values_are)
-      (values_rows (known_now left) (map leaf_view pass.entries.items) p.size (base_in frames) next then.values small.sized (next_is ∙ then.base)) in
+      let here : AreOpenRuns (bucket_runs bucket next) state (base_in frames) = subst (λ (r : BucketRuns). AreOpenRuns r state (base_in frames)) (sym values_are)
+      (values_runs (known_now left) (map leaf_view pass.entries.items) p.size (base_in frames) next then.values small.sized (next_is ∙ then.base)) in
       let waits : AreWaiting (reverse around.items) frames = subst (λ (ws : List WaitingBucket). AreWaiting ws frames) (sym (ap reverse items ∙ reverse-append pass.waiting.items (w ∷ []))) (
-        subst (λ (n : ℕ). IsOpenRows (rows_of w.bucket n) frame.state (base_in is.frames)) (next_is ∙ then.base)
-            (subst (λ (n : ℕ). IsOpenRows (rows_of w.bucket next) (making_room P is.state p.key.now n) (base_in is.frames)) room_is
-            (subst (λ (r : OpenRows). IsOpenRows r (making_room P is.state p.key.now (32 + length p.key.now)) (base_in is.frames)) (sym rows) then.outer)),
+        subst (λ (n : ℕ). AreOpenRuns (bucket_runs w.bucket n) frame.state (base_in is.frames)) (next_is ∙ then.base)
+            (subst (λ (n : ℕ). AreOpenRuns (bucket_runs w.bucket next) (making_room P is.state p.key.now n) (base_in is.frames)) room_is
+            (subst (λ (r : BucketRuns). AreOpenRuns r (making_room P is.state p.key.now (32 + length p.key.now)) (base_in is.frames)) (sym runs) then.outer)),
         key,
         sequence,
         is.waits,
       ) in
       let count = counted_items frames state around.items bucket next waits here in
       record {
-        more = rows_room_put P rows_now p.key.now (32 + length p.key.now);
+        more = runs_room_put P runs_now p.key.now (32 + length p.key.now);
         puts = puts;
-        at = subst (λ (q : Pass). IsAt wanted q levels left (put ++ rows_room_put P rows_now p.key.now (32 + length p.key.now))) (sym k.rest) (record {
+        at = subst (λ (q : Pass). IsAt wanted q levels left (put ++ runs_room_put P runs_now p.key.now (32 + length p.key.now))) (sym k.rest) (record {
           frames = frames;
           state = state;
           rest = left;
           under = then.on.under;
-          rows = here;
+          runs = here;
           waits = waits;
           put_is = then.on.put_is;
           held = enters_held P (known_now left) frame is.frames is.state p.key.now (16 + (length p.key.now + 16)) values pass.most counted.most refl (values_held (map leaf_view pass.entries.items)) is.held
@@ -446,46 +446,46 @@ module _ {S : Type 0} (taken : S → Option (List ℕ)) (failed : S → ℕ) (wa
   pub leave_steps : {A : Type 0} (level : Level) (levels : List Level) (w : WaitingBucket) (old new : S) (bucket : OpenBucket) (around : Vec WaitingBucket Global) (next held : ℕ) (noted : NotedLimits) (counted : Pass) (result : Result A BulkFault)
       → IsAt wanted pass (level ∷ levels) end put → pass.pending ≡ None → pass.waiting.items ≡ around.items ++ w ∷ []
       → BucketEnds pass.noted noted pass.bucket.limits.bucket pass.bucket.uppers.items
-      → Puts taken failed old new (placed_bytes P (rows_end_put P rows_now)) result
-      → OnOk result ((before : ℕ) → rows_of bucket next ≡ rows_push (rows_of w.bucket before) (root_element w.key.now (rows_end P rows_now) w.sequence) (32 + length w.key.now) (bucket_end_next P rows_now))
-      → IfErr result (λ e. e ≡ fault.TooLarge → pass.setup.limit < bucket_end_next P rows_now)
+      → Puts taken failed old new (placed_bytes P (runs_end_put P runs_now)) result
+      → OnOk result ((before : ℕ) → bucket_runs bucket next ≡ runs_push (bucket_runs w.bucket before) (root_element w.key.now (runs_end P runs_now) w.sequence) (32 + length w.key.now) (bucket_end_next P runs_now))
+      → IfErr result (λ e. e ≡ fault.TooLarge → pass.setup.limit < bucket_end_next P runs_now)
       → OnOk result (Counts (record { setup = pass.setup; limits = pass.limits; waiting = around; bucket = bucket; pending = pass.pending; entries = pass.entries; next = next; opened = pass.opened; around = held; most = pass.most; noted = noted }) counted)
       → Steps wanted taken failed old new pass.setup put (IsAt wanted counted levels level.after) result
-  leave_steps level levels w old new bucket around next held noted counted result is none popped ended puts rows large counts =
+  leave_steps level levels w old new bucket around next held noted counted result is none popped ended puts runs large counts =
       let (same, on, right) = on_of wanted pass (level ∷ levels) end put is none in
       let (frame, frames, more_frames, top) = first_frame level levels is.frames same in
       let ws : reverse pass.waiting.items ≡ w ∷ reverse around.items = ap reverse popped ∙ reverse-append around.items (w ∷ []) in
       let waits = subst (λ (fs : List Frame). AreWaiting (reverse pass.waiting.items) fs) more_frames is.waits in
       let (outer, key, sequence, others) = subst (λ (l : List WaitingBucket). AreWaiting l (frame ∷ frames)) ws waits in
-      let on2 = subst (λ (fs : List Frame). IsOn wanted.which P wanted.tree fs is.state [] rows_now put) more_frames on in
+      let on2 = subst (λ (fs : List Frame). IsOn wanted.which P wanted.tree fs is.state [] runs_now put) more_frames on in
       let behind = subst (λ (fs : List Frame). AreComingAround wanted P (limits_by pass) (is.opened + 0) fs) more_frames right.1 in
       let states : List Open = map (λ (f : Frame). f.state) frames in
       let numbered = subst (λ (fs : List Frame). AreNumbered wanted P is.opened is.numbers (open_in is.state fs)) more_frames is.numbered in
       let most = opened_most wanted P (limits_by pass) (is.opened + 0) is.frames right.1 in
-      let number : pass.bucket.limits.bucket ≡ is.state.known.limits.bucket = ap (λ (l : BucketLimits). l.bucket) is.rows.limits_are in
-      let has = noted_leaves wanted P pass.noted noted is.opened (base_in is.frames) is.numbers is.state (frame.state ∷ states) pass.bucket.uppers.items on.under.root is.has_noted numbered (omega arith) is.rows.above on.under.current
+      let number : pass.bucket.limits.bucket ≡ is.state.known.limits.bucket = ap (λ (l : BucketLimits). l.bucket) is.runs.limits_are in
+      let has = noted_leaves wanted P pass.noted noted is.opened (base_in is.frames) is.numbers is.state (frame.state ∷ states) pass.bucket.uppers.items on.under.root is.has_noted numbered (omega arith) is.runs.above on.under.current
       (subst (λ (n : ℕ). BucketEnds pass.noted noted n pass.bucket.uppers.items) number ended) in
       let made : Open = pushing frame.state (held_item frame (end_of P is.state)) in
       let base : ℕ = base_in (frame ∷ frames) in
-      let then = on_leaves wanted.which P wanted.tree frame frames is.state rows_now (rows_of w.bucket base) put on2 outer refl in
+      let then = on_leaves wanted.which P wanted.tree frame frames is.state runs_now (bucket_runs w.bucket base) put on2 outer refl in
       let numbers = on_numbers wanted.which P wanted.tree frames made _ _ _ then in
       let size : 32 + length w.key.now ≡ 16 + (length frame.key + 16) = (let n = ap (λ (k : List ℕ). length k) key in omega arith) in
-      let Row : List ℕ → ℕ → ℕ → OpenRows = λ k s n. rows_push (rows_of w.bucket base) (root_element k (rows_end P rows_now) s) n (bucket_end_next P rows_now) in
-      let row_is : Row w.key.now w.sequence (32 + length w.key.now) ≡ Row frame.key frame.sequence (16 + (length frame.key + 16)) =
-      ap (λ (n : ℕ). Row w.key.now w.sequence n) size ∙ (ap (λ (k : List ℕ). Row k w.sequence (16 + (length frame.key + 16))) key ∙ ap (λ (s : ℕ). Row frame.key s (16 + (length frame.key + 16))) sequence) in
+      let Run : List ℕ → ℕ → ℕ → BucketRuns = λ k s n. runs_push (bucket_runs w.bucket base) (root_element k (runs_end P runs_now) s) n (bucket_end_next P runs_now) in
+      let run_is : Run w.key.now w.sequence (32 + length w.key.now) ≡ Run frame.key frame.sequence (16 + (length frame.key + 16)) =
+      ap (λ (n : ℕ). Run w.key.now w.sequence n) size ∙ (ap (λ (k : List ℕ). Run k w.sequence (16 + (length frame.key + 16))) key ∙ ap (λ (s : ℕ). Run frame.key s (16 + (length frame.key + 16))) sequence) in
       record {
-        more = rows_end_put P rows_now;
+        more = runs_end_put P runs_now;
         puts = puts;
-        at = on_ok_both result rows counts (λ e k.
-            let here : IsOpenRows (rows_of bucket next) made (base_in frames) = subst (λ (r : OpenRows). IsOpenRows r made (base_in frames)) (sym (e base ∙ row_is)) then.rows_are in
+        at = on_ok_both result runs counts (λ e k.
+            let here : AreOpenRuns (bucket_runs bucket next) made (base_in frames) = subst (λ (r : BucketRuns). AreOpenRuns r made (base_in frames)) (sym (e base ∙ run_is)) then.runs_are_kept in
             let count = counted_items frames made around.items bucket next others here in
             let so_far : pass.most ≡ capped (held_so_far (frame ∷ frames) is.state) = is.held ∙ ap (λ (fs : List Frame). capped (held_so_far fs is.state)) more_frames in
-            subst (λ (q : Pass). IsAt wanted q levels level.after (put ++ rows_end_put P rows_now)) (sym k.rest) (record {
+            subst (λ (q : Pass). IsAt wanted q levels level.after (put ++ runs_end_put P runs_now)) (sym k.rest) (record {
               frames = frames;
               state = made;
               rest = frame.after;
               under = then.under;
-              rows = here;
+              runs = here;
               waits = others;
               put_is = then.put_is;
               held = leaves_held P frame frames is.state pass.most counted.most is.under.begun so_far (k.most ∙ ap (λ (n : ℕ). max pass.most (capped n)) count);
@@ -521,7 +521,7 @@ module _ (wanted : Wanted) (pass : Pass) (levels : List Level) (put : List Place
         state = is.state;
         rest = is.rest;
         under = is.under;
-        rows = is.rows;
+        runs = is.runs;
         waits = is.waits;
         put_is = is.put_is;
         held = is.held;
@@ -546,7 +546,7 @@ module _ (wanted : Wanted) (pass : Pass) (levels : List Level) (put : List Place
         state = is.state;
         rest = is.rest;
         under = is.under;
-        rows = is.rows;
+        runs = is.runs;
         waits = is.waits;
         put_is = is.put_is;
         held = is.held;

@@ -17,15 +17,15 @@ use Rattle.bolt_bulk.specs.Private.Endings.{Ends, IsFitMember, last_part}
 use Rattle.bolt_bulk.specs.Private.Levels.{Level, left_in, path_in}
 use Rattle.bolt_bulk.specs.Private.HeldCounts.{capped}
 use Rattle.bolt_bulk.specs.Private.HeldSoFar.{held_so_far}
-use Rattle.bolt_bulk.specs.Private.OpenBuckets.{bucket_end_next, rows_of}
-use Rattle.bolt_bulk.specs.Private.OpenRows.{IsOpenRows}
+use Rattle.bolt_bulk.specs.Private.OpenBuckets.{bucket_end_next, bucket_runs}
+use Rattle.bolt_bulk.specs.Private.BucketRuns.{AreOpenRuns}
 use Rattle.bolt_layout.specs.Openings.{leaf_pages, opened_in}
 use Rattle.bolt_layout.specs.declared.layout.Layout.{Layout}
 use Rattle.bolt_layout.specs.declared.layout.Layout.TheVariants.{Balanced, Plain}
 use Rattle.bolt_layout.specs.Items.{items_of}
 use Rattle.bolt_bulk.specs.Private.OpenRuns.{Frame, Known, Open, all_put, base_in, end_of, nothing_open}
 use Rattle.bolt_bulk.specs.Private.Passes.{AreComingAround, AreNumbered, FitLimits, HasLeft, IsAt, IsTable, Steps, Wanted, depth_of, level_of, limits_by, limits_with, open_in, pending_depth}
-use Rattle.bolt_bulk.specs.Private.Rows.{OpenRows, no_leaves, rows_end, rows_end_put}
+use Rattle.bolt_bulk.specs.Private.RunViews.{BucketRuns, no_leaves, runs_end, runs_end_put}
 use Rattle.bolt_bulk.specs.Puts.{Puts}
 use Rattle.bolt_bulk.specs.declared.page_setup.PageSetup.{PageSetup}
 use Rattle.bolt_bulk.specs.declared.fault.BulkFault.{BulkFault}
@@ -38,12 +38,12 @@ use Rattle.bolt_bulk.specs.declared.noted_limits.NotedLimits.{NotedLimits}
 use Rattle.bolt_bulk.proofs.Frames.{pass_begins, pass_ends}
 use Rattle.bolt_bulk.proofs.HeldSteps.{end_held}
 use Rattle.bolt_bulk.proofs.Members.{all_left, next_bucket, next_short, next_value, none_at_all}
-use Rattle.bolt_bulk.proofs.RowsAreRuns.{nothing_rows, rows_ended}
+use Rattle.bolt_bulk.proofs.KeptRuns.{nothing_runs, runs_ended}
 use Rattle.bolt_bulk.proofs.OpenRunLemmas.{ends}
 use Rattle.bolt_bulk.proofs.Openings.{all_coming, root_notes}
 use Rattle.bolt_bulk.proofs.PassAt.{on_of}
 use Rattle.bolt_bulk.proofs.PassLeft.{depth_levels}
-use Rattle.bolt_bulk.proofs.PassRows.{end_numbered}
+use Rattle.bolt_bulk.proofs.PassRuns.{end_numbered}
 use Rattle.bolt_bulk.proofs.PassSteps.{IsOn}
 use Rattle.bolt_bulk.proofs.Tables.{BucketEnds, no_numbers, none_noted, opened_most, table_fits, noted_leaves}
 use Rattle.bolt_bulk.proofs.PutsLemmas.{bytes-append, pages_some, puts_first, puts_then, short_then}
@@ -119,10 +119,10 @@ members_fit path (with_bucket key sequence inside after) (key_fits, sequence_fit
 -- ---- the beginning
 
 pub has_begun : (wanted : Wanted) (pass : Pass) → pass.waiting.items ≡ [] → pass.pending ≡ None
-    → rows_of pass.bucket pass.next ≡ record { leaves = no_leaves; uppers = []; limits = record { all = pass.limits; bucket = 0 }; next = first_page } → pass.most ≡ 0 → pass.opened ≡ 1
+    → bucket_runs pass.bucket pass.next ≡ record { leaves = no_leaves; uppers = []; limits = record { all = pass.limits; bucket = 0 }; next = first_page } → pass.most ≡ 0 → pass.opened ≡ 1
     → pass.noted.notes ≡ wanted.notes → ((bucket level : ℕ) → limit_in pass.noted.limits bucket level ≡ None)
     → FitLimits wanted.which wanted.tree pass.setup.page_size (limits_by pass) → HasLeft wanted pass (listing_of wanted.tree) []
-has_begun wanted pass none nothing rows fresh first asked unnoted fit =
+has_begun wanted pass none nothing runs fresh first asked unnoted fit =
     let P : ℕ = pass.setup.page_size in
     let leaves : List (Laid BranchElement) = leaf_pages P (items_of wanted.which P wanted.tree) in
     let known : Known = record { limits = record { all = pass.limits; bucket = 0 }; leaves = leaves } in
@@ -134,7 +134,7 @@ has_begun wanted pass none nothing rows fresh first asked unnoted fit =
         state = nothing_open known;
         rest = wanted.tree;
         under = pass_begins wanted.which P known wanted.tree refl fit.root;
-        rows = subst (λ (r : OpenRows). IsOpenRows r (nothing_open known) first_page) (sym rows) (nothing_rows known first_page);
+        runs = subst (λ (r : BucketRuns). AreOpenRuns r (nothing_open known) first_page) (sym runs) (nothing_runs known first_page);
         waits = rw none tt;
         put_is = refl;
         held = omega arith;
@@ -168,22 +168,22 @@ no_pending : (pass : Pass) → depth_of pass ≤ 1 → pass.pending ≡ None
 no_pending pass h = only_none pass.pending (omega arith)
 
 pub record HasEnd (wanted : Wanted) (pass : Pass) (put : List Placed) : Type 0 where
-  pub pages : layout_pages wanted.which pass.setup.page_size wanted.tree ≡ put ++ rows_end_put pass.setup.page_size (rows_of pass.bucket pass.next)
-  pub root : rows_end pass.setup.page_size (rows_of pass.bucket pass.next) ≡ layout_root wanted.which pass.setup.page_size wanted.tree
-  pub mark : bucket_end_next pass.setup.page_size (rows_of pass.bucket pass.next) ≡ layout_mark wanted.which pass.setup.page_size wanted.tree
+  pub pages : layout_pages wanted.which pass.setup.page_size wanted.tree ≡ put ++ runs_end_put pass.setup.page_size (bucket_runs pass.bucket pass.next)
+  pub root : runs_end pass.setup.page_size (bucket_runs pass.bucket pass.next) ≡ layout_root wanted.which pass.setup.page_size wanted.tree
+  pub mark : bucket_end_next pass.setup.page_size (bucket_runs pass.bucket pass.next) ≡ layout_mark wanted.which pass.setup.page_size wanted.tree
   pub held : pass.most ≡ capped (layout_held wanted.which pass.setup.page_size wanted.tree)
   pub noted : (noted : NotedLimits) → BucketEnds pass.noted noted pass.bucket.limits.bucket pass.bucket.uppers.items → wanted.notes ≡ true → wanted.which ≡ Plain
       → layout_mark wanted.which pass.setup.page_size wanted.tree ≤ 18446744073709551615 → FitLimits Balanced wanted.tree pass.setup.page_size (limits_with noted.limits)
 
-root_ended : (page_size : ℕ) (wanted : Wanted) (state : Open) (rows : OpenRows) (put : List Placed) → IsOn wanted.which page_size wanted.tree [] state [] rows put
-    → (layout_pages wanted.which page_size wanted.tree ≡ put ++ rows_end_put page_size rows) × (rows_end page_size rows ≡ layout_root wanted.which page_size wanted.tree) × (bucket_end_next page_size rows ≡ layout_mark wanted.which page_size wanted.tree)
+root_ended : (page_size : ℕ) (wanted : Wanted) (state : Open) (runs : BucketRuns) (put : List Placed) → IsOn wanted.which page_size wanted.tree [] state [] runs put
+    → (layout_pages wanted.which page_size wanted.tree ≡ put ++ runs_end_put page_size runs) × (runs_end page_size runs ≡ layout_root wanted.which page_size wanted.tree) × (bucket_end_next page_size runs ≡ layout_mark wanted.which page_size wanted.tree)
     × (held_so_far [] state ≡ layout_held wanted.which page_size wanted.tree)
-root_ended page_size wanted state rows put on =
-    let ended = rows_ended page_size rows state first_page on.rows_are in
+root_ended page_size wanted state runs put on =
+    let ended = runs_ended page_size runs state first_page on.runs_are_kept in
     let whole : end_of page_size state ≡ root_of wanted.which page_size wanted.tree = ends wanted.which page_size state on.under.root on.under.current ∙ on.under.stack in (
-      sym (pass_ends wanted.which page_size wanted.tree state on.under) ∙ (ap (λ (ps : List Placed). all_put [] state ++ ps) (sym ended.0) ∙ ap (λ (ps : List Placed). ps ++ rows_end_put page_size rows) (sym on.put_is)),
+      sym (pass_ends wanted.which page_size wanted.tree state on.under) ∙ (ap (λ (ps : List Placed). all_put [] state ++ ps) (sym ended.0) ∙ ap (λ (ps : List Placed). ps ++ runs_end_put page_size runs) (sym on.put_is)),
       ended.1 ∙ ap (λ (r : Laid BranchElement). (r.element first_page).child) whole,
-      end_numbered page_size rows state first_page on.rows_are ∙ ap (λ (r : Laid BranchElement). first_page + r.numbers) whole,
+      end_numbered page_size runs state first_page on.runs_are_kept ∙ ap (λ (r : Laid BranchElement). first_page + r.numbers) whole,
       sym (end_held page_size state on.under.begun) ∙ ap (λ (r : Laid BranchElement). r.held) whole,
     )
 
@@ -195,8 +195,8 @@ has_end wanted pass put has shallow =
     let at = subst (λ (t : Tree). IsAt wanted pass [] t put) left (subst (λ (ls : List Level). IsAt wanted pass ls has.left put) none has.at) in
     let (same, on, right) = on_of wanted pass [] end put at (no_pending pass shallow) in
     let frames = no_frames at.frames same in
-    let on2 = subst (λ (fs : List Frame). IsOn wanted.which pass.setup.page_size wanted.tree fs at.state [] (rows_of pass.bucket pass.next) put) frames on in
-    let (pages, root, mark, held) = root_ended pass.setup.page_size wanted at.state (rows_of pass.bucket pass.next) put on2 in
+    let on2 = subst (λ (fs : List Frame). IsOn wanted.which pass.setup.page_size wanted.tree fs at.state [] (bucket_runs pass.bucket pass.next) put) frames on in
+    let (pages, root, mark, held) = root_ended pass.setup.page_size wanted at.state (bucket_runs pass.bucket pass.next) put on2 in
     record {
       pages = pages;
       root = root;
@@ -207,8 +207,8 @@ has_end wanted pass put has shallow =
           let numbered = subst (λ (fs : List Frame). AreNumbered wanted P at.opened at.numbers (open_in at.state fs)) frames at.numbered in
           let around = subst (λ (fs : List Frame). AreComingAround wanted P (limits_by pass) (at.opened + 0) fs) frames right.1 in
           let most = opened_most wanted P (limits_by pass) (at.opened + 0) at.frames right.1 in
-          let number : pass.bucket.limits.bucket ≡ at.state.known.limits.bucket = ap (λ (l : BucketLimits). l.bucket) at.rows.limits_are in
-          let last = noted_leaves wanted P pass.noted noted at.opened (base_in at.frames) at.numbers at.state [] pass.bucket.uppers.items on.under.root at.has_noted numbered (omega arith) at.rows.above on.under.current
+          let number : pass.bucket.limits.bucket ≡ at.state.known.limits.bucket = ap (λ (l : BucketLimits). l.bucket) at.runs.limits_are in
+          let last = noted_leaves wanted P pass.noted noted at.opened (base_in at.frames) at.numbers at.state [] pass.bucket.uppers.items on.under.root at.has_noted numbered (omega arith) at.runs.above on.under.current
           (subst (λ (n : ℕ). BucketEnds pass.noted noted n pass.bucket.uppers.items) number ended) in
           let table = subst (λ (ns : List ℕ). IsTable P wanted.tree noted.limits at.opened ns) (no_numbers wanted P at.opened last.numbers last.numbered) (last.has_noted.table asked which fits) in
           let count : suc (opened_in wanted.which P wanted.tree) ≡ suc (opened_in Plain P wanted.tree) = ap (λ (w : Layout). suc (opened_in w P wanted.tree)) which in

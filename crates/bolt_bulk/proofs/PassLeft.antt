@@ -22,7 +22,7 @@ waiting_frames : (waiting : List WaitingBucket) (frames : List Frame) → AreWai
 waiting_frames [] [] are = refl
 waiting_frames [] (frame ∷ frames) are = absurd are
 waiting_frames (w ∷ waiting) [] are = absurd are
-waiting_frames (w ∷ waiting) (frame ∷ frames) (rows, key, sequence, others) = let ih = waiting_frames waiting frames others in omega arith
+waiting_frames (w ∷ waiting) (frame ∷ frames) (runs, key, sequence, others) = let ih = waiting_frames waiting frames others in omega arith
 
 pending_levels : (pending : Option PendingBucket) (entries : List Leaf) (outer : List Level) (rest : Tree) (levels : List Level) (left : Tree) → IsPending pending entries outer rest levels left
     → length levels ≡ pending_depth pending + length outer

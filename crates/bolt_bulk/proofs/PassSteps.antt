@@ -1,4 +1,4 @@
--- The steps of a pass, over the open runs and the rows that the code keeps of them.
+-- The steps of a pass, over the open runs and what the code keeps of them.
 use Rattle.std.proofs.Common.{◌≡◌, ◌∙◌, ℕ, ◌+◌, ◌/◌, ◌≤◌, ◌<◌, ◌||◌, ◌&&◌, nat_le, nat_lt, Bool, true, false, List, [], ◌∷◌, ◌++◌, length, refl, sym, ap, subst, arith, append_assoc}
 use Rattle.std.specs.List.{AllByRecursion}
 use Rattle.std.proofs.lemmas.Bool.{le-leb, lt-ltb}
@@ -16,83 +16,83 @@ use Rattle.bolt_layout.specs.PageBytes.{inline_value, leaf_data}
 use Rattle.bolt_bulk.specs.Private.RowLimits.{bucket_limit}
 use Rattle.bolt_bulk.specs.Private.Coming.{IsPass, held_item, leaves_coming}
 use Rattle.bolt_bulk.specs.Private.OpenBuckets.{bucket_end_next}
-use Rattle.bolt_bulk.specs.Private.OpenRows.{IsOpenRows}
+use Rattle.bolt_bulk.specs.Private.BucketRuns.{AreOpenRuns}
 use Rattle.bolt_bulk.specs.Private.OpenRuns.{all_put, base_in, end_of, Frame, frames_put, has_room, Known, making_room, nothing_open, Open, pushing, room_puts, taking}
 use Rattle.bolt_bulk.specs.Private.Passes.{HasRoot, StandsBefore, onto}
-use Rattle.bolt_bulk.specs.Private.Rows.{OpenRows, rows_end, rows_end_put, rows_push, rows_room, rows_room_put}
-use Rattle.bolt_bulk.specs.Private.TakenItems.{entries_size, root_element, rows_taking}
+use Rattle.bolt_bulk.specs.Private.RunViews.{BucketRuns, runs_end, runs_end_put, runs_push, runs_room, runs_room_put}
+use Rattle.bolt_bulk.specs.Private.TakenItems.{entries_size, root_element, runs_taking}
 use Rattle.bolt_bulk.proofs.Frames.{pass_enters, pass_leaves, pass_takes, put_enters, put_leaves, put_takes, waiting}
 use Rattle.bolt_bulk.proofs.Ontos.{IsValue, ends_inline, onto_items, value_items, values_elements, values_keyed, values_numbers, values_pages, values_size}
-use Rattle.bolt_bulk.proofs.RowsAreRuns.{rows_ended}
-use Rattle.bolt_bulk.proofs.PassRows.{enter_is, leave_is, take_is}
+use Rattle.bolt_bulk.proofs.KeptRuns.{runs_ended}
+use Rattle.bolt_bulk.proofs.PassRuns.{enter_is, leave_is, take_is}
 use Rattle.bolt_bulk.proofs.PutBefore.{pass_before}
 use Rattle.bolt_layout.specs.declared.layout.Layout.{Layout}
 
 -- Where the pass is, apart from how the code keeps the waiting buckets.
-pub record IsOn (which : Layout) (page_size : ℕ) (tree : Tree) (frames : List Frame) (state : Open) (items : List (Laid LeafElement)) (rows : OpenRows) (put : List Placed) : Type 0 where
+pub record IsOn (which : Layout) (page_size : ℕ) (tree : Tree) (frames : List Frame) (state : Open) (items : List (Laid LeafElement)) (runs : BucketRuns) (put : List Placed) : Type 0 where
   pub under : IsPass which page_size frames state items (root_of which page_size tree)
-  pub rows_are : IsOpenRows rows state (base_in frames)
+  pub runs_are_kept : AreOpenRuns runs state (base_in frames)
   pub put_is : put ≡ all_put frames state
 
 module _ (which : Layout) (page_size : ℕ) (tree : Tree) where
   -- what was written comes before the root page, and its numbers are below the high-water mark
-  pub on_before : (frames : List Frame) (state : Open) (items : List (Laid LeafElement)) (rows : OpenRows) (put : List Placed) → IsOn which page_size tree frames state items rows put
+  pub on_before : (frames : List Frame) (state : Open) (items : List (Laid LeafElement)) (runs : BucketRuns) (put : List Placed) → IsOn which page_size tree frames state items runs put
       → StandsBefore put (layout_pages which page_size tree)
-  on_before frames state items rows put on =
+  on_before frames state items runs put on =
       let is = pass_before which page_size frames state items (root_of which page_size tree) on.under in
       record { rest = is.rest; parts = is.parts ∙ ap (λ (ps : List Placed). ps ++ is.rest) (sym on.put_is); some = is.some }
 
-  pub on_numbers : (frames : List Frame) (state : Open) (items : List (Laid LeafElement)) (rows : OpenRows) (put : List Placed) → IsOn which page_size tree frames state items rows put
-      → rows.next ≤ layout_mark which page_size tree
-  on_numbers frames state items rows put on =
+  pub on_numbers : (frames : List Frame) (state : Open) (items : List (Laid LeafElement)) (runs : BucketRuns) (put : List Placed) → IsOn which page_size tree frames state items runs put
+      → runs.next ≤ layout_mark which page_size tree
+  on_numbers frames state items runs put on =
       let fewer = (pass_before which page_size frames state items (root_of which page_size tree) on.under).fewer in
-      let next = on.rows_are.next_is in omega arith
+      let next = on.runs_are_kept.next_is in omega arith
 
   -- an item without pages below it is taken
-  pub on_takes : (frames : List Frame) (state : Open) (key value : List ℕ) (flag : Bool) (items : List (Laid LeafElement)) (rows : OpenRows) (put : List Placed)
-      → IsOn which page_size tree frames state (leaf_item key value flag ∷ items) rows put
-      → IsOn which page_size tree frames (taking page_size state (leaf_item key value flag)) items (rows_taking page_size rows (record { key = key; value = value; is_bucket = flag }) (16 + (length key + length value)))
-      (put ++ rows_room_put page_size rows key (16 + (length key + length value)))
-  on_takes frames state key value flag items rows put on =
+  pub on_takes : (frames : List Frame) (state : Open) (key value : List ℕ) (flag : Bool) (items : List (Laid LeafElement)) (runs : BucketRuns) (put : List Placed)
+      → IsOn which page_size tree frames state (leaf_item key value flag ∷ items) runs put
+      → IsOn which page_size tree frames (taking page_size state (leaf_item key value flag)) items (runs_taking page_size runs (record { key = key; value = value; is_bucket = flag }) (16 + (length key + length value)))
+      (put ++ runs_room_put page_size runs key (16 + (length key + length value)))
+  on_takes frames state key value flag items runs put on =
       let item : Laid LeafElement = leaf_item key value flag in
-      let made = take_is page_size rows state (base_in frames) key value flag on.rows_are in
+      let made = take_is page_size runs state (base_in frames) key value flag on.runs_are_kept in
       record {
         under = pass_takes which page_size frames state item items (root_of which page_size tree) on.under;
-        rows_are = made.0;
-        put_is = ap (λ (ps : List Placed). ps ++ rows_room_put page_size rows key item.size) on.put_is
+        runs_are_kept = made.0;
+        put_is = ap (λ (ps : List Placed). ps ++ runs_room_put page_size runs key item.size) on.put_is
             ∙ (ap (λ (ps : List Placed). all_put frames state ++ ps) made.1 ∙ sym (put_takes page_size frames state item (λ n. refl)));
       }
 
   -- a bucket with a root page is entered
-  pub on_enters : (known : Known) (frames : List Frame) (state : Open) (key : List ℕ) (sequence : ℕ) (inner : List (Laid LeafElement)) (after : Tree) (rows : OpenRows) (put : List Placed)
+  pub on_enters : (known : Known) (frames : List Frame) (state : Open) (key : List ℕ) (sequence : ℕ) (inner : List (Laid LeafElement)) (after : Tree) (runs : BucketRuns) (put : List Placed)
       → known.leaves ≡ leaves_coming page_size [] inner → HaveRightLimits which page_size (bucket_limit known.limits) (leaves_coming page_size [] inner)
-      → IsOn which page_size tree frames state (bucket_item key sequence (root_over which page_size inner) ∷ items_of which page_size after) rows put
+      → IsOn which page_size tree frames state (bucket_item key sequence (root_over which page_size inner) ∷ items_of which page_size after) runs put
       → IsPass which page_size (waiting page_size state key sequence (root_over which page_size inner) after ∷ frames) (nothing_open known) inner (root_of which page_size tree)
-      × IsOpenRows (rows_room page_size rows key (32 + length key)) (making_room page_size state key (32 + length key)) (base_in frames)
-      × (put ++ rows_room_put page_size rows key (32 + length key) ≡ all_put (waiting page_size state key sequence (root_over which page_size inner) after ∷ frames) (nothing_open known))
-  on_enters known frames state key sequence inner after rows put leaves right on =
-      let made = enter_is page_size rows state (base_in frames) key on.rows_are in
+      × AreOpenRuns (runs_room page_size runs key (32 + length key)) (making_room page_size state key (32 + length key)) (base_in frames)
+      × (put ++ runs_room_put page_size runs key (32 + length key) ≡ all_put (waiting page_size state key sequence (root_over which page_size inner) after ∷ frames) (nothing_open known))
+  on_enters known frames state key sequence inner after runs put leaves right on =
+      let made = enter_is page_size runs state (base_in frames) key on.runs_are_kept in
       let size : 32 + length key ≡ 16 + (length key + 16) = omega arith in
       let root : Laid LeafElement = bucket_item key sequence (root_over which page_size inner) in (
         pass_enters which page_size known frames state key sequence inner after (root_of which page_size tree) leaves right on.under,
         made.0,
-        ap (λ (ps : List Placed). ps ++ rows_room_put page_size rows key (32 + length key)) on.put_is
+        ap (λ (ps : List Placed). ps ++ runs_room_put page_size runs key (32 + length key)) on.put_is
             ∙ (ap (λ (ps : List Placed). all_put frames state ++ ps) (made.1 ∙ ap (λ (n : ℕ). room_puts page_size state key n (base_in frames)) size)
             ∙ sym (put_enters page_size known frames state key sequence (root_over which page_size inner) after)),
       )
 
   -- it ends, and the bucket around it goes on
-  pub on_leaves : (frame : Frame) (frames : List Frame) (state : Open) (inner outer : OpenRows) (put : List Placed) → IsOn which page_size tree (frame ∷ frames) state [] inner put
-      → IsOpenRows outer frame.state (base_in frames) → outer.next ≡ base_in (frame ∷ frames)
+  pub on_leaves : (frame : Frame) (frames : List Frame) (state : Open) (inner outer : BucketRuns) (put : List Placed) → IsOn which page_size tree (frame ∷ frames) state [] inner put
+      → AreOpenRuns outer frame.state (base_in frames) → outer.next ≡ base_in (frame ∷ frames)
       → IsOn which page_size tree frames (pushing frame.state (held_item frame (end_of page_size state))) (items_of which page_size frame.after)
-      (rows_push outer (root_element frame.key (rows_end page_size inner) frame.sequence) (16 + (length frame.key + 16)) (bucket_end_next page_size inner))
-      (put ++ rows_end_put page_size inner)
+      (runs_push outer (root_element frame.key (runs_end page_size inner) frame.sequence) (16 + (length frame.key + 16)) (bucket_end_next page_size inner))
+      (put ++ runs_end_put page_size inner)
   on_leaves frame frames state inner outer put on waits base =
-      let ended = rows_ended page_size inner state (base_in (frame ∷ frames)) on.rows_are in
+      let ended = runs_ended page_size inner state (base_in (frame ∷ frames)) on.runs_are_kept in
       record {
         under = pass_leaves which page_size frame frames state (root_of which page_size tree) on.under;
-        rows_are = leave_is page_size inner outer state frame frames on.rows_are waits base;
-        put_is = ap (λ (ps : List Placed). ps ++ rows_end_put page_size inner) on.put_is
+        runs_are_kept = leave_is page_size inner outer state frame frames on.runs_are_kept waits base;
+        put_is = ap (λ (ps : List Placed). ps ++ runs_end_put page_size inner) on.put_is
             ∙ (ap (λ (ps : List Placed). all_put (frame ∷ frames) state ++ ps) ended.0 ∙ sym (put_leaves page_size frame frames state));
       }
 
@@ -131,10 +131,10 @@ pass_takes_all which page_size known frames run (e ∷ entries) items whole fits
 pub values_put : (known : Known) (frames : List Frame) (entries : List LeafElement) → all_put frames (nothing_open known) ≡ all_put frames (open_values known (value_items entries))
 values_put known frames entries = ap (λ (ps : List Placed). frames_put frames ++ ps) (sym (values_pages entries (base_in frames + 0)))
 
--- and are in the first row
-pub values_rows : (known : Known) (entries : List LeafElement) (size base next : ℕ) → AllByRecursion IsValue entries → size ≡ entries_size entries → next ≡ base
-    → IsOpenRows (record { leaves = record { elements = entries; size = size }; uppers = []; limits = known.limits; next = next }) (open_values known (value_items entries)) base
-values_rows known entries size base next values sized at =
+-- and are in the first run
+pub values_runs : (known : Known) (entries : List LeafElement) (size base next : ℕ) → AllByRecursion IsValue entries → size ≡ entries_size entries → next ≡ base
+    → AreOpenRuns (record { leaves = record { elements = entries; size = size }; uppers = []; limits = known.limits; next = next }) (open_values known (value_items entries)) base
+values_runs known entries size base next values sized at =
     let none = values_numbers entries in
     record {
       same = sym (values_elements entries (base + 0) values);

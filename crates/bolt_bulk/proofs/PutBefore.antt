@@ -85,10 +85,10 @@ joined_begins run (next ∷ []) = elim (cases_Bool (nat_lt (length next) 2)) [
 ]
 joined_begins run (next ∷ other ∷ runs) = ([], join_last (next ∷ other ∷ runs), ap (λ (r : List (Laid BranchElement)). r ∷ join_last (next ∷ other ∷ runs)) (sym (append-nil run)))
 
-row_begins : (which : Layout) (page_size : ℕ) (page : Laid BranchElement) (level : List (Laid BranchElement))
+run_begins : (which : Layout) (page_size : ℕ) (page : Laid BranchElement) (level : List (Laid BranchElement))
     → (more : List (Laid BranchElement)) × (rest : List (List (Laid BranchElement))) × (branch_cut which page_size size_of (page ∷ level) ≡ (page ∷ more) ∷ rest)
-row_begins Plain page_size page level = cut_begins page_size 2 (page ∷ []) level
-row_begins Balanced page_size page level =
+run_begins Plain page_size page level = cut_begins page_size 2 (page ∷ []) level
+run_begins Balanced page_size page level =
     let (more, rest, e) = cut_begins page_size 2 (page ∷ []) level in
     let (others, runs, joined) = joined_begins (page ∷ more) rest in
     (more ++ others, runs, ap (λ (rs : List (List (Laid BranchElement))). join_last rs) e ∙ joined)
@@ -98,7 +98,7 @@ top_begins : (which : Layout) (page_size steps : ℕ) (page : Laid BranchElement
 top_begins which page_size steps page [] b = record { rest = []; parts = sym (append-nil (page.pages b)); fewer = omega arith }
 top_begins which page_size zero page (other ∷ level) b = record { rest = []; parts = sym (append-nil (page.pages b)); fewer = omega arith }
 top_begins which page_size (suc steps) page (other ∷ level) b =
-    let (more, rest, e) = row_begins which page_size page (other ∷ level) in
+    let (more, rest, e) = run_begins which page_size page (other ∷ level) in
     let up : Laid BranchElement = page_over branch_view page_size (page ∷ more) in
     let level2 : List (Laid BranchElement) = map (page_over branch_view page_size) rest in
     let same : next_level which page_size (page ∷ other ∷ level) ≡ up ∷ level2 = ap (λ (runs : List (List (Laid BranchElement))). map (page_over branch_view page_size) runs) e in

@@ -7,8 +7,8 @@ use Rattle.bolt_layout.specs.Cut.{max_items}
 use Rattle.bolt_layout.specs.Levels.{overflow_of}
 use Rattle.bolt_layout.specs.Limits.{is_out}
 use Rattle.bolt_layout.specs.PageBytes.{branch_data}
-use Rattle.bolt_bulk.specs.Private.BranchRuns.{HasSlack, IsPushed, IsSizedRow, IsStanding}
-use Rattle.bolt_bulk.specs.Private.Rows.{BranchRow, row_has_room, row_kept, row_key, row_push, row_stays}
+use Rattle.bolt_bulk.specs.Private.BranchRuns.{HasSlack, IsPushed, IsSizedRun, IsStanding}
+use Rattle.bolt_bulk.specs.Private.RunViews.{RunView, run_has_room, run_kept, run_key, run_push, run_stays}
 use Rattle.bolt_layout.proofs.PageRows.{overflow_room, overflow_small}
 
 pub record OverflowFits (page_size size : ℕ) : Type 0 where
@@ -33,17 +33,17 @@ data_push (x ∷ es) e =
     let b = length-append x.key (branch_data es) in
     let ih = data_push es e in omega arith
 
-pub pushed_sized : (row : BranchRow) (e : BranchElement) → IsSizedRow row → IsSizedRow (row_push row e)
-pushed_sized row e sized =
-    let a = data_push row.elements e in
-    let b = length-append row.elements (e ∷ []) in omega arith
+pub pushed_sized : (run : RunView) (e : BranchElement) → IsSizedRun run → IsSizedRun (run_push run e)
+pushed_sized run e sized =
+    let a = data_push run.elements e in
+    let b = length-append run.elements (e ∷ []) in omega arith
 
-pub pushed : (row : BranchRow) (e : BranchElement) → IsStanding row → length e.key ≤ 1073741824 → IsPushed (row_push row e)
-pushed row e is key =
+pub pushed : (run : RunView) (e : BranchElement) → IsStanding run → length e.key ≤ 1073741824 → IsPushed (run_push run e)
+pushed run e is key =
     let s = is.small in
     let f = is.few in
-    let b = length-append row.elements (e ∷ []) in
-    record { sized = pushed_sized row e is.sized; some = omega arith; small = omega arith; few = omega arith }
+    let b = length-append run.elements (e ∷ []) in
+    record { sized = pushed_sized run e is.sized; some = omega arith; small = omega arith; few = omega arith }
 
 pub few_or_fits : (a b c : Bool) → (a || (b && c)) ≡ true → (a ≡ true) ⊎ ((b ≡ true) × (c ≡ true))
 few_or_fits true b c h = inl refl
@@ -56,21 +56,21 @@ alone_small [] e size one sized key = let a = data_push [] e in omega arith
 alone_small (x ∷ es) e size one sized key = let b = length-append es (e ∷ []) in absurd (omega arith)
 
 -- the first key of a run is one of its elements' keys
-pub key_pushed : (es : List BranchElement) (e : BranchElement) → length (row_key es) ≤ 1073741824 → length e.key ≤ 1073741824 → length (row_key (es ++ e ∷ [])) ≤ 1073741824
+pub key_pushed : (es : List BranchElement) (e : BranchElement) → length (run_key es) ≤ 1073741824 → length e.key ≤ 1073741824 → length (run_key (es ++ e ∷ [])) ≤ 1073741824
 key_pushed [] e named key = key
 key_pushed (x ∷ es) e named key = named
 
 -- a run that has room for the next page has slack
-room_slack : (page_size k : ℕ) (row : BranchRow) (e : BranchElement) → page_size ≤ 33554432 → IsStanding row → length e.key ≤ 1073741824 → row_has_room page_size (row_push row e) k ≡ true → HasSlack (row_push row e)
-room_slack page_size k row e high is key room =
-    let p = pushed row e is key in
-    elim (few_or_fits (nat_lt (length (row_push row e).elements) 2) (nat_le ((row_push row e).size + k) page_size) (nat_lt (length (row_push row e).elements) max_items) room) [
+room_slack : (page_size k : ℕ) (run : RunView) (e : BranchElement) → page_size ≤ 33554432 → IsStanding run → length e.key ≤ 1073741824 → run_has_room page_size (run_push run e) k ≡ true → HasSlack (run_push run e)
+room_slack page_size k run e high is key room =
+    let p = pushed run e is key in
+    elim (few_or_fits (nat_lt (length (run_push run e).elements) 2) (nat_le ((run_push run e).size + k) page_size) (nat_lt (length (run_push run e).elements) max_items) room) [
       | inl one ↦
-          (let few : length (row_push row e).elements < 2 = ltb-true _ _ one in
-          record { small = alone_small row.elements e (row_push row e).size few p.sized key; few = omega arith })
+          (let few : length (run_push run e).elements < 2 = ltb-true _ _ one in
+          record { small = alone_small run.elements e (run_push run e).size few p.sized key; few = omega arith })
       | inr both ↦
-          (let fit : (row_push row e).size + k ≤ page_size = leb-true _ _ both.0 in
-          let few : length (row_push row e).elements < 65534 = ltb-true _ _ both.1 in
+          (let fit : (run_push run e).size + k ≤ page_size = leb-true _ _ both.0 in
+          let few : length (run_push run e).elements < 65534 = ltb-true _ _ both.1 in
           record { small = omega arith; few = few })
     ]
 
@@ -78,21 +78,21 @@ no_slack : {A : Type 0} → is_out None ≡ true → A
 no_slack e = absurd (cc)
 
 -- a run that stays open for the next page stands
-pub stays_standing : (page_size k : ℕ) (row : BranchRow) (e : BranchElement) → page_size ≤ 33554432 → IsStanding row → length e.key ≤ 1073741824 → row_stays page_size (row_push row e) k ≡ true
-    → IsStanding (row_kept page_size (row_push row e) k)
-stays_standing page_size k row e high is key stays =
-    let p = pushed row e is key in
-    elim (cases_Bool (row_has_room page_size (row_push row e) k)) [
+pub stays_standing : (page_size k : ℕ) (run : RunView) (e : BranchElement) → page_size ≤ 33554432 → IsStanding run → length e.key ≤ 1073741824 → run_stays page_size (run_push run e) k ≡ true
+    → IsStanding (run_kept page_size (run_push run e) k)
+stays_standing page_size k run e high is key stays =
+    let p = pushed run e is key in
+    elim (cases_Bool (run_has_room page_size (run_push run e) k)) [
       | inl t ↦
-          (let slack = room_slack page_size k row e high is key t in
+          (let slack = room_slack page_size k run e high is key t in
           let small = slack.small in
-          let few = slack.few in rw t (record { sized = p.sized; small = omega arith; few = omega arith; named = key_pushed row.elements e is.named key; slack = λ out. slack }))
+          let few = slack.few in rw t (record { sized = p.sized; small = omega arith; few = omega arith; named = key_pushed run.elements e is.named key; slack = λ out. slack }))
       | inr f ↦
-          (let out : is_out row.left ≡ true = rw f at stays in
+          (let out : is_out run.left ≡ true = rw f at stays in
           let slack = is.slack out in
           let small = slack.small in
           let few = slack.few in
-          let b = length-append row.elements (e ∷ []) in rw f (record { sized = p.sized; small = omega arith; few = omega arith; named = key_pushed row.elements e is.named key; slack = λ none. no_slack none }))
+          let b = length-append run.elements (e ∷ []) in rw f (record { sized = p.sized; small = omega arith; few = omega arith; named = key_pushed run.elements e is.named key; slack = λ none. no_slack none }))
     ]
 
 pub one_page : (page : List ℕ) → page ++ [] ≡ page

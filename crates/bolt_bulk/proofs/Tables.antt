@@ -18,10 +18,10 @@ use Rattle.bolt_layout.proofs.OpenedBuckets.{opened_few}
 use Rattle.bolt_layout.proofs.LimitsFromEnds.{from_ends_by}
 use Rattle.bolt_layout.proofs.RowEnds.{row_ends_are_one}
 use Rattle.bolt_layout.proofs.Tops.{shorter}
-use Rattle.bolt_bulk.specs.Private.BranchRuns.{rows_above}
+use Rattle.bolt_bulk.specs.Private.BranchRuns.{runs_above}
 use Rattle.bolt_bulk.specs.Private.Coming.{Comes, IsOpen}
 use Rattle.bolt_bulk.specs.Private.HeldCounts.{capped}
-use Rattle.bolt_bulk.specs.Private.OpenRows.{AreRows}
+use Rattle.bolt_bulk.specs.Private.BucketRuns.{AreUppers}
 use Rattle.bolt_bulk.specs.Private.OpenRuns.{Frame, Known, Open, Upper, has_room, making_room, upper_end}
 use Rattle.bolt_bulk.specs.Private.Passes.{AreComingAround, AreNumbered, FitLimits, HasNoted, IsNumbered, IsTable, Notes, Wanted, limits_with}
 use Rattle.bolt_bulk.specs.Private.RowLimits.{bucket_limit, limit_in, run_end}
@@ -75,7 +75,7 @@ noted_enters wanted page_size noted opened numbers has = record {
 
 -- its runs say what the rows say
 pub run_ends : (page_size : ℕ) (limits : ℕ → Option ℕ) (runs : List BranchRun) (uppers : List Upper) (q : Laid BranchElement) (all : List (Laid BranchElement)) (root : Laid BranchElement) (b : ℕ)
-    → AreRows (rows_above runs) uppers b → Comes Plain page_size limits uppers all (q ∷ []) root → length all ≤ 18446744073709551615
+    → AreUppers (runs_above runs) uppers b → Comes Plain page_size limits uppers all (q ∷ []) root → length all ≤ 18446744073709551615
     → map run_end runs ≡ map upper_end uppers
 run_ends page_size limits [] [] q all root b are comes few = refl
 run_ends page_size limits [] (upper ∷ uppers) q all root b are comes few = absurd are
@@ -156,7 +156,7 @@ pub record HasOthers (wanted : Wanted) (page_size : ℕ) (noted : NotedLimits) (
 
 pub noted_leaves : (wanted : Wanted) (page_size : ℕ) (old new : NotedLimits) (opened b : ℕ) (numbers : List ℕ) (state : Open) (others : List Open) (runs : List BranchRun) (root : Laid BranchElement)
     → HasNoted wanted page_size old opened numbers → AreNumbered wanted page_size opened numbers (state ∷ others) → opened ≤ layout_mark wanted.which page_size wanted.tree
-    → AreRows (rows_above runs) state.uppers b → IsOpen wanted.which page_size state [] root
+    → AreUppers (runs_above runs) state.uppers b → IsOpen wanted.which page_size state [] root
     → BucketEnds old new state.known.limits.bucket runs → HasOthers wanted page_size new opened others
 noted_leaves wanted page_size old new opened b [] state others runs root has are few rows runs_open ended = absurd are
 noted_leaves wanted page_size old new opened b (n ∷ numbers) state others runs root has (is, are) few rows runs_open ended =
@@ -173,8 +173,8 @@ noted_leaves wanted page_size old new opened b (n ∷ numbers) state others runs
             let leaves : length state.known.leaves ≤ 18446744073709551615 = (let l = is.notes.few in omega arith) in
             let runs_are : map run_end runs ≡ map upper_end state.uppers =
             run_ends page_size (bucket_limit state.known.limits) runs state.uppers (page_over leaf_view page_size state.run) state.known.leaves root b rows plain.comes leaves in
-            let rows_are : map upper_end state.uppers ≡ row_ends_of page_size state.known.leaves = row_ends_are_one page_size state.known.leaves (map upper_end state.uppers) (bucket_rows_end page_size state root plain) in
-            let all : limits_from_ends false (map run_end runs) ≡ limits_from_ends false (row_ends_of page_size state.known.leaves) = ap (λ (rs : List (ℕ × ℕ)). limits_from_ends false rs) (runs_are ∙ rows_are) in
+            let runs_are_kept : map upper_end state.uppers ≡ row_ends_of page_size state.known.leaves = row_ends_are_one page_size state.known.leaves (map upper_end state.uppers) (bucket_rows_end page_size state root plain) in
+            let all : limits_from_ends false (map run_end runs) ≡ limits_from_ends false (row_ends_of page_size state.known.leaves) = ap (λ (rs : List (ℕ × ℕ)). limits_from_ends false rs) (runs_are ∙ runs_are_kept) in
             let fresh : (level : ℕ) → limit_in old.limits state.known.limits.bucket level ≡ None = λ level. ap (λ (m : ℕ). limit_in old.limits m level) number ∙ table.still_open.0 level in
             let own : (level : ℕ) → limit_in new.limits n level ≡ limits_for page_size wanted.tree n level =
             λ level. ap (λ (m : ℕ). limit_in new.limits m level) (sym number)

@@ -9,11 +9,11 @@ pub mod HeldItems
 pub mod HeldSoFar
 pub mod Levels
 pub mod OpenBuckets
-pub mod OpenRows
+pub mod BucketRuns
 pub mod OpenRuns
 pub mod Passes
 pub mod RowLimits
-pub mod Rows
+pub mod RunViews
 pub mod Stops
 pub mod TakenItems
 pub mod WaitingBuckets

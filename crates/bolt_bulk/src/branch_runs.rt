@@ -5,11 +5,11 @@ ghost use Rattle.bolt_format.specs.ElementPlaces.{branch_view};
 ghost use Rattle.bolt_format.specs.Sinks.{AppendsProperBeginning};
 ghost use Rattle.bolt_layout.specs.Layout.{placed_bytes};
 ghost use Rattle.bolt_layout.specs.Levels.{overflow_of};
-ghost use Rattle.bolt_bulk.specs.Private.BranchRuns.{IsPushed, IsSizedRow, IsStanding, element_up, own_element, row_of, rows_above, rows_end_next, row_taking, taking_next, taking_puts, taking_up};
+ghost use Rattle.bolt_bulk.specs.Private.BranchRuns.{IsPushed, IsSizedRun, IsStanding, element_up, own_element, run_view, runs_above, runs_end_next, run_taking, taking_next, taking_puts, taking_up};
 ghost use Rattle.bolt_bulk.specs.Private.OpenRuns.{key_size};
 ghost use Rattle.bolt_bulk.specs.Private.RowLimits.{bucket_limit};
 ghost use Rattle.bolt_layout.specs.Limits.{one_less};
-ghost use Rattle.bolt_bulk.specs.Private.Rows.{no_row, one_closed, row_has_room, row_kept, row_page, row_push, row_stays, rows_climb, rows_close_put, rows_next, rows_put, rows_root};
+ghost use Rattle.bolt_bulk.specs.Private.RunViews.{no_run, one_closed, run_has_room, run_kept, run_page, run_push, run_stays, runs_climb, runs_close_put, runs_next, runs_put, runs_root};
 ghost use Rattle.bolt_bulk.specs.Puts.{Puts, PutsWhole};
 ghost use Rattle.bolt_bulk.specs.declared.fault.BulkFault.TheVariants as fault;
 
@@ -34,7 +34,7 @@ pub(crate) struct BranchRun<'a> {
 impl<'a> BranchRun<'a> {
     /// A run without pages.
     fn new(alloc: Global, left: Option<u64>) -> BranchRun<'a>
-        ensures { row_of result ≡ no_row left 0 }
+        ensures { run_view result ≡ no_run left 0 }
     {
         BranchRun {
             elements: Vec::new(alloc),
@@ -47,7 +47,7 @@ impl<'a> BranchRun<'a> {
     /// Adds the element of a page.
     fn push_page(&mut self, page: Branch<'a>) -> Result<(), BulkFault>
         requires size { self.old.size + length page.key.now < 9223372036854775808 }
-        ensures row { OnOk result (row_of self.new ≡ row_push (row_of self.old) (branch_view page.entry)) }
+        ensures run { OnOk result (run_view self.new ≡ run_push (run_view self.old) (branch_view page.entry)) }
         ensures fault { IfErr result (λ e. e ≡ fault.Memory) }
     {
         if self.elements.push(page).is_err() {
@@ -60,7 +60,7 @@ impl<'a> BranchRun<'a> {
     /// Whether the element of a page with this first key joins the run.
     fn has_room(&self, page_size: usize, key: &[u8]) -> bool
         requires { self.now.size + length key.now < 9223372036854775808 }
-        ensures { result ≡ row_has_room page_size (row_of self.now) (key_size key.now) }
+        ensures { result ≡ run_has_room page_size (run_view self.now) (key_size key.now) }
     {
         self.elements.len() < 2
             || (self.size + (ELEMENT_LEN + key.len()) <= page_size
@@ -71,9 +71,9 @@ impl<'a> BranchRun<'a> {
     /// it, or no further run may begin in the row.
     fn stays(&mut self, page_size: usize, key: &[u8]) -> bool
         requires { self.old.size + length key.now < 9223372036854775808 }
-        ensures stays { result ≡ row_stays page_size (row_of self.old) (key_size key.now) }
-        ensures kept { result ≡ true → row_of self.new ≡ row_kept page_size (row_of self.old) (key_size key.now) }
-        ensures same { result ≡ false → row_of self.new ≡ row_of self.old }
+        ensures stays { result ≡ run_stays page_size (run_view self.old) (key_size key.now) }
+        ensures kept { result ≡ true → run_view self.new ≡ run_kept page_size (run_view self.old) (key_size key.now) }
+        ensures same { result ≡ false → run_view self.new ≡ run_view self.old }
     {
         if self.has_room(page_size, key) {
             return true;
@@ -96,17 +96,17 @@ impl<'a> BranchRun<'a> {
         next: &mut u64,
         sink: &mut S,
     ) -> Result<Option<Branch<'a>>, BulkFault>
-        requires standing { IsStanding (row_of self.old) }
+        requires standing { IsStanding (run_view self.old) }
         requires key { length key.now ≤ 1073741824 }
         requires closed { length closed.key.now ≤ 1073741824 }
         requires next { next.old ≤ setup.now.limit }
-        ensures pages { Puts S.taken S.failed sink.old sink.new (placed_bytes setup.now.page_size (taking_puts setup.now.page_size key.now (branch_view closed.entry) next.old (row_of self.old))) result }
-        ensures row { OnOk result (row_of self.new ≡ row_taking setup.now.page_size key.now (branch_view closed.entry) (row_of self.old)) }
-        ensures standing { OnOk result (IsStanding (row_of self.new)) }
-        ensures next { OnOk result (next.new ≡ taking_next setup.now.page_size key.now (branch_view closed.entry) next.old (row_of self.old)) }
+        ensures pages { Puts S.taken S.failed sink.old sink.new (placed_bytes setup.now.page_size (taking_puts setup.now.page_size key.now (branch_view closed.entry) next.old (run_view self.old))) result }
+        ensures run { OnOk result (run_view self.new ≡ run_taking setup.now.page_size key.now (branch_view closed.entry) (run_view self.old)) }
+        ensures standing { OnOk result (IsStanding (run_view self.new)) }
+        ensures next { OnOk result (next.new ≡ taking_next setup.now.page_size key.now (branch_view closed.entry) next.old (run_view self.old)) }
         ensures within { OnOk result (next.new ≤ setup.now.limit) }
-        ensures up { IfOk result (λ up. option_map branch_view up ≡ taking_up setup.now.page_size key.now (branch_view closed.entry) next.old (row_of self.old)) }
-        ensures large { IfErr result (λ e. e ≡ fault.TooLarge → setup.now.limit < taking_next setup.now.page_size key.now (branch_view closed.entry) next.old (row_of self.old)) }
+        ensures up { IfOk result (λ up. option_map branch_view up ≡ taking_up setup.now.page_size key.now (branch_view closed.entry) next.old (run_view self.old)) }
+        ensures large { IfErr result (λ e. e ≡ fault.TooLarge → setup.now.limit < taking_next setup.now.page_size key.now (branch_view closed.entry) next.old (run_view self.old)) }
     {
         self.push_page(closed)?;
         if self.stays(setup.page_size, key) {
@@ -125,16 +125,16 @@ impl<'a> BranchRun<'a> {
         next: &mut u64,
         sink: &mut S,
     ) -> Result<Branch<'a>, BulkFault>
-        requires standing { IsStanding (row_of self.old) }
+        requires standing { IsStanding (run_view self.old) }
         requires closed { length closed.key.now ≤ 1073741824 }
         requires next { next.old ≤ setup.now.limit }
-        ensures pages { Puts S.taken S.failed sink.old sink.new (placed_bytes setup.now.page_size (row_page setup.now.page_size (row_push (row_of self.old) (branch_view closed.entry)) next.old ∷ [])) result }
-        ensures short { OnErr result (AppendsProperBeginning (S.taken sink.old) (S.taken sink.new) (placed_bytes setup.now.page_size (row_page setup.now.page_size (row_push (row_of self.old) (branch_view closed.entry)) next.old ∷ []))) }
-        ensures up { IfOk result (λ up. branch_view up ≡ element_up (branch_view closed.entry) next.old (row_of self.old)) }
-        ensures standing { OnOk result (IsStanding (row_of self.new)) }
-        ensures next { OnOk result (next.new ≡ next.old + (1 + overflow_of setup.now.page_size (row_push (row_of self.old) (branch_view closed.entry)).size)) }
+        ensures pages { Puts S.taken S.failed sink.old sink.new (placed_bytes setup.now.page_size (run_page setup.now.page_size (run_push (run_view self.old) (branch_view closed.entry)) next.old ∷ [])) result }
+        ensures short { OnErr result (AppendsProperBeginning (S.taken sink.old) (S.taken sink.new) (placed_bytes setup.now.page_size (run_page setup.now.page_size (run_push (run_view self.old) (branch_view closed.entry)) next.old ∷ []))) }
+        ensures up { IfOk result (λ up. branch_view up ≡ element_up (branch_view closed.entry) next.old (run_view self.old)) }
+        ensures standing { OnOk result (IsStanding (run_view self.new)) }
+        ensures next { OnOk result (next.new ≡ next.old + (1 + overflow_of setup.now.page_size (run_push (run_view self.old) (branch_view closed.entry)).size)) }
         ensures within { OnOk result (next.new ≤ setup.now.limit) }
-        ensures large { IfErr result (λ e. e ≡ fault.TooLarge → setup.now.limit < next.old + (1 + overflow_of setup.now.page_size (row_push (row_of self.old) (branch_view closed.entry)).size)) }
+        ensures large { IfErr result (λ e. e ≡ fault.TooLarge → setup.now.limit < next.old + (1 + overflow_of setup.now.page_size (run_push (run_view self.old) (branch_view closed.entry)).size)) }
     {
         self.push_page(closed)?;
         self.close(setup, next, sink)
@@ -147,12 +147,12 @@ impl<'a> BranchRun<'a> {
         next: &mut u64,
         sink: &mut S,
     ) -> Result<Branch<'a>, BulkFault>
-        requires pushed { IsPushed (row_of self.old) }
+        requires pushed { IsPushed (run_view self.old) }
         requires next { next.old ≤ setup.now.limit }
-        ensures pages { Puts S.taken S.failed sink.old sink.new (placed_bytes setup.now.page_size (row_page setup.now.page_size (row_of self.old) next.old ∷ [])) result }
-        ensures short { OnErr result (AppendsProperBeginning (S.taken sink.old) (S.taken sink.new) (placed_bytes setup.now.page_size (row_page setup.now.page_size (row_of self.old) next.old ∷ []))) }
-        ensures up { IfOk result (λ up. branch_view up ≡ own_element (row_of self.old) next.old) }
-        ensures row { OnOk result (row_of self.new ≡ no_row (one_less self.old.left) (one_closed self.old.closed)) }
+        ensures pages { Puts S.taken S.failed sink.old sink.new (placed_bytes setup.now.page_size (run_page setup.now.page_size (run_view self.old) next.old ∷ [])) result }
+        ensures short { OnErr result (AppendsProperBeginning (S.taken sink.old) (S.taken sink.new) (placed_bytes setup.now.page_size (run_page setup.now.page_size (run_view self.old) next.old ∷ []))) }
+        ensures up { IfOk result (λ up. branch_view up ≡ own_element (run_view self.old) next.old) }
+        ensures run { OnOk result (run_view self.new ≡ no_run (one_less self.old.left) (one_closed self.old.closed)) }
         ensures next { OnOk result (next.new ≡ next.old + (1 + overflow_of setup.now.page_size self.old.size)) }
         ensures within { OnOk result (next.new ≤ setup.now.limit) }
         ensures large { IfErr result (λ e. e ≡ fault.TooLarge → setup.now.limit < next.old + (1 + overflow_of setup.now.page_size self.old.size)) }
@@ -182,10 +182,10 @@ impl<'a> BranchRun<'a> {
         number: u64,
         sink: &mut S,
     ) -> Result<(), SinkFault>
-        requires sized { IsSizedRow (row_of self.now) }
+        requires sized { IsSizedRun (run_view self.now) }
         requires small { self.now.size < 4294967296 }
         requires few { length self.now.elements.items < 65536 }
-        ensures { PutsWhole S.taken S.failed sink.old sink.new (placed_bytes setup.now.page_size (row_page setup.now.page_size (row_of self.now) number ∷ [])) result }
+        ensures { PutsWhole S.taken S.failed sink.old sink.new (placed_bytes setup.now.page_size (run_page setup.now.page_size (run_view self.now) number ∷ [])) result }
     {
         let further = overflow(setup.page_size, self.size);
         put_branch_page(
@@ -211,16 +211,16 @@ pub(crate) fn climb<'a, S: Sink>(
     next: &mut u64,
     sink: &mut S,
 ) -> Result<(), BulkFault>
-    requires standing { AllByRecursion IsStanding (rows_above uppers.old.items) }
+    requires standing { AllByRecursion IsStanding (runs_above uppers.old.items) }
     requires key { length key.now ≤ 1073741824 }
     requires closed { length closed.key.now ≤ 1073741824 }
     requires next { next.old ≤ setup.now.limit }
-    ensures pages { Puts S.taken S.failed sink.old sink.new (placed_bytes setup.now.page_size (rows_put setup.now.page_size key.now (branch_view closed.entry) next.old (rows_above uppers.old.items))) result }
-    ensures rows { OnOk result (rows_above uppers.new.items ≡ rows_climb setup.now.page_size (bucket_limit limits.entry (length (rows_above uppers.old.items))) key.now (branch_view closed.entry) next.old (rows_above uppers.old.items)) }
-    ensures standing { OnOk result (AllByRecursion IsStanding (rows_above uppers.new.items)) }
-    ensures next { OnOk result (next.new ≡ rows_next setup.now.page_size key.now (branch_view closed.entry) next.old (rows_above uppers.old.items)) }
+    ensures pages { Puts S.taken S.failed sink.old sink.new (placed_bytes setup.now.page_size (runs_put setup.now.page_size key.now (branch_view closed.entry) next.old (runs_above uppers.old.items))) result }
+    ensures runs { OnOk result (runs_above uppers.new.items ≡ runs_climb setup.now.page_size (bucket_limit limits.entry (length (runs_above uppers.old.items))) key.now (branch_view closed.entry) next.old (runs_above uppers.old.items)) }
+    ensures standing { OnOk result (AllByRecursion IsStanding (runs_above uppers.new.items)) }
+    ensures next { OnOk result (next.new ≡ runs_next setup.now.page_size key.now (branch_view closed.entry) next.old (runs_above uppers.old.items)) }
     ensures within { OnOk result (next.new ≤ setup.now.limit) }
-    ensures large { IfErr result (λ e. e ≡ fault.TooLarge → setup.now.limit < rows_next setup.now.page_size key.now (branch_view closed.entry) next.old (rows_above uppers.old.items)) }
+    ensures large { IfErr result (λ e. e ≡ fault.TooLarge → setup.now.limit < runs_next setup.now.page_size key.now (branch_view closed.entry) next.old (runs_above uppers.old.items)) }
 {
     let mut closed = closed;
     for i in 0..uppers.len() {
@@ -246,15 +246,15 @@ pub(crate) fn close_all<'a, S: Sink>(
     next: &mut u64,
     sink: &mut S,
 ) -> Result<u64, BulkFault>
-    requires standing { AllByRecursion IsStanding (rows_above uppers.old.items) }
+    requires standing { AllByRecursion IsStanding (runs_above uppers.old.items) }
     requires closed { length closed.key.now ≤ 1073741824 }
     requires next { next.old ≤ setup.now.limit }
-    ensures pages { Puts S.taken S.failed sink.old sink.new (placed_bytes setup.now.page_size (rows_close_put setup.now.page_size (branch_view closed.entry) next.old (rows_above uppers.old.items))) result }
-    ensures short { OnErr result (AppendsProperBeginning (S.taken sink.old) (S.taken sink.new) (placed_bytes setup.now.page_size (rows_close_put setup.now.page_size (branch_view closed.entry) next.old (rows_above uppers.old.items)))) }
-    ensures root { IfOk result (λ root. root ≡ rows_root setup.now.page_size (branch_view closed.entry) next.old (rows_above uppers.old.items)) }
-    ensures next { OnOk result (next.new ≡ rows_end_next setup.now.page_size (branch_view closed.entry) next.old (rows_above uppers.old.items)) }
+    ensures pages { Puts S.taken S.failed sink.old sink.new (placed_bytes setup.now.page_size (runs_close_put setup.now.page_size (branch_view closed.entry) next.old (runs_above uppers.old.items))) result }
+    ensures short { OnErr result (AppendsProperBeginning (S.taken sink.old) (S.taken sink.new) (placed_bytes setup.now.page_size (runs_close_put setup.now.page_size (branch_view closed.entry) next.old (runs_above uppers.old.items)))) }
+    ensures root { IfOk result (λ root. root ≡ runs_root setup.now.page_size (branch_view closed.entry) next.old (runs_above uppers.old.items)) }
+    ensures next { OnOk result (next.new ≡ runs_end_next setup.now.page_size (branch_view closed.entry) next.old (runs_above uppers.old.items)) }
     ensures within { OnOk result (next.new ≤ setup.now.limit) }
-    ensures large { IfErr result (λ e. e ≡ fault.TooLarge → setup.now.limit < rows_end_next setup.now.page_size (branch_view closed.entry) next.old (rows_above uppers.old.items)) }
+    ensures large { IfErr result (λ e. e ≡ fault.TooLarge → setup.now.limit < runs_end_next setup.now.page_size (branch_view closed.entry) next.old (runs_above uppers.old.items)) }
 {
     let mut closed = closed;
     for i in 0..uppers.len() {

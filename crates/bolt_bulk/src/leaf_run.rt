@@ -5,7 +5,7 @@ ghost use Rattle.bolt_format.specs.Sinks.{AppendsProperBeginning};
 ghost use Rattle.bolt_layout.specs.Levels.{overflow_of};
 ghost use Rattle.bolt_layout.specs.PageBytes.{page_bytes};
 ghost use Rattle.bolt_bulk.specs.Private.OpenBuckets.{IsLeafRun, leaf_closed, leaves_of};
-ghost use Rattle.bolt_bulk.specs.Private.Rows.{leaf_page, leaves_have_room, no_leaves};
+ghost use Rattle.bolt_bulk.specs.Private.RunViews.{leaf_page, leaves_have_room, no_leaves};
 ghost use Rattle.bolt_bulk.specs.Puts.{Puts, PutsWhole};
 ghost use Rattle.bolt_bulk.specs.declared.fault.BulkFault.TheVariants as fault;
 
@@ -68,7 +68,7 @@ impl<'a> LeafRun<'a> {
         ensures page { Puts S.taken S.failed sink.old sink.new (page_bytes setup.now.page_size next.old (leaf_page setup.now.page_size (leaves_of self.old) next.old).view) result }
         ensures short { OnErr result (AppendsProperBeginning (S.taken sink.old) (S.taken sink.new) (page_bytes setup.now.page_size next.old (leaf_page setup.now.page_size (leaves_of self.old) next.old).view)) }
         ensures closed { IfOk result (λ closed. branch_view closed ≡ leaf_closed (leaves_of self.old) next.old) }
-        ensures row { OnOk result (leaves_of self.new ≡ no_leaves) }
+        ensures leaves { OnOk result (leaves_of self.new ≡ no_leaves) }
         ensures run { OnOk result (IsLeafRun self.new) }
         ensures next { OnOk result (next.new ≡ next.old + (1 + overflow_of setup.now.page_size self.old.size)) }
         ensures within { OnOk result (next.new ≤ setup.now.limit) }

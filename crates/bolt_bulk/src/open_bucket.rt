@@ -7,9 +7,9 @@ ghost use Rattle.bolt_format.specs.declared.element.Leaf.{Leaf};
 ghost use Rattle.bolt_layout.specs.Layout.{placed_bytes};
 ghost use Rattle.bolt_bulk.specs.Private.HeldCounts.{items_in};
 ghost use Rattle.bolt_bulk.specs.Private.HeldItems.{IsHeld, held_view, inlined_by, stored_value, value_item};
-ghost use Rattle.bolt_bulk.specs.Private.OpenBuckets.{HasRoomFor, IsOpenBucket, bucket_end_next, leaves_of, rows_of};
-ghost use Rattle.bolt_bulk.specs.Private.Rows.{leaves_have_room, no_leaves, rows_end, rows_end_put, rows_push, rows_room, rows_room_put};
-ghost use Rattle.bolt_bulk.specs.Private.TakenItems.{entries_size, inline_element, inline_size, rows_taking, value_element};
+ghost use Rattle.bolt_bulk.specs.Private.OpenBuckets.{HasRoomFor, IsOpenBucket, bucket_end_next, leaves_of, bucket_runs};
+ghost use Rattle.bolt_bulk.specs.Private.RunViews.{leaves_have_room, no_leaves, runs_end, runs_end_put, runs_push, runs_room, runs_room_put};
+ghost use Rattle.bolt_bulk.specs.Private.TakenItems.{entries_size, inline_element, inline_size, runs_taking, value_element};
 ghost use Rattle.bolt_bulk.specs.Private.WaitingBuckets.{IsWaiting};
 ghost use Rattle.bolt_bulk.specs.Puts.{Puts};
 ghost use Rattle.bolt_bulk.specs.declared.fault.BulkFault.TheVariants as fault;
@@ -57,7 +57,7 @@ impl<'a> OpenBucket<'a> {
     /// A bucket that has no item yet.
     pub(crate) fn new(alloc: Global, limits: BucketLimits<'a>) -> OpenBucket<'a>
         ensures open { IsOpenBucket result }
-        ensures rows { (next : ℕ) → rows_of result next ≡ record { leaves = no_leaves; uppers = []; limits = limits.entry; next = next } }
+        ensures runs { (next : ℕ) → bucket_runs result next ≡ record { leaves = no_leaves; uppers = []; limits = limits.entry; next = next } }
     {
         OpenBucket {
             leaves: LeafRun {
@@ -84,7 +84,7 @@ impl<'a> OpenBucket<'a> {
         requires keys { AllByRecursion (λ (entry : Leaf). length entry.key.now ≤ 1073741824) entries.now }
         requires values { AllByRecursion (λ (entry : Leaf). entry.is_bucket ≡ false) entries.now }
         ensures open { IfOk result (λ bucket. IsOpenBucket bucket) }
-        ensures rows { IfOk result (λ bucket. (next : ℕ) → rows_of bucket next ≡ record { leaves = record { elements = map leaf_view entries.now; size = size }; uppers = []; limits = limits.entry; next = next }) }
+        ensures runs { IfOk result (λ bucket. (next : ℕ) → bucket_runs bucket next ≡ record { leaves = record { elements = map leaf_view entries.now; size = size }; uppers = []; limits = limits.entry; next = next }) }
         ensures fault { IfErr result (λ e. e ≡ fault.Memory) }
     {
         let items = value_items(alloc, entries)?;
@@ -115,12 +115,12 @@ impl<'a> OpenBucket<'a> {
         requires key { length key.now ≤ 1073741824 }
         requires size { size < 4294967296 }
         requires next { next.old ≤ setup.now.limit }
-        ensures pages { Puts S.taken S.failed sink.old sink.new (placed_bytes setup.now.page_size (rows_room_put setup.now.page_size (rows_of self.old next.old) key.now size)) result }
-        ensures rows { OnOk result (rows_of self.new next.new ≡ rows_room setup.now.page_size (rows_of self.old next.old) key.now size) }
+        ensures pages { Puts S.taken S.failed sink.old sink.new (placed_bytes setup.now.page_size (runs_room_put setup.now.page_size (bucket_runs self.old next.old) key.now size)) result }
+        ensures runs { OnOk result (bucket_runs self.new next.new ≡ runs_room setup.now.page_size (bucket_runs self.old next.old) key.now size) }
         ensures open { OnOk result (IsOpenBucket self.new) }
         ensures room { OnOk result (leaves_have_room setup.now.page_size (leaves_of self.new.leaves) size ≡ true) }
         ensures within { OnOk result (next.new ≤ setup.now.limit) }
-        ensures large { IfErr result (λ e. e ≡ fault.TooLarge → setup.now.limit < (rows_room setup.now.page_size (rows_of self.old next.old) key.now size).next) }
+        ensures large { IfErr result (λ e. e ≡ fault.TooLarge → setup.now.limit < (runs_room setup.now.page_size (bucket_runs self.old next.old) key.now size).next) }
     {
         if self.leaves.has_room(setup.page_size, size) {
             return Ok(());
@@ -142,7 +142,7 @@ impl<'a> OpenBucket<'a> {
     /// Reserves memory for one more item. The open runs stay the same.
     pub(crate) fn reserve(&mut self) -> Result<(), BulkFault>
         requires open { IsOpenBucket self.old }
-        ensures rows { (next : ℕ) → rows_of self.new next ≡ rows_of self.old next }
+        ensures runs { (next : ℕ) → bucket_runs self.new next ≡ bucket_runs self.old next }
         ensures open { OnOk result (IsOpenBucket self.new) }
         ensures memory { OnOk result (vec_len self.new.leaves.items < vec_capacity self.new.leaves.items) }
         ensures fault { IfErr result (λ e. e ≡ fault.Memory) }
@@ -161,7 +161,7 @@ impl<'a> OpenBucket<'a> {
         requires size { size ≡ 16 + (length held.key.now + length (stored_value self.old.leaves.inlined.items held.stored)) }
         requires room { HasRoomFor self.old.leaves size }
         requires memory { vec_len self.old.leaves.items < vec_capacity self.old.leaves.items }
-        ensures rows { (before next : ℕ) → rows_of self.new next ≡ rows_push (rows_of self.old before) (held_view self.old.leaves.inlined.items held.entry) size next }
+        ensures runs { (before next : ℕ) → bucket_runs self.new next ≡ runs_push (bucket_runs self.old before) (held_view self.old.leaves.inlined.items held.entry) size next }
         ensures open { IsOpenBucket self.new }
     {
         self.leaves.items.push_reserved(held);
@@ -175,7 +175,7 @@ impl<'a> OpenBucket<'a> {
         requires apart { inlined_by held.stored ≡ 0 }
         requires size { size ≡ 16 + (length held.key.now + length (stored_value self.old.leaves.inlined.items held.stored)) }
         requires room { HasRoomFor self.old.leaves size }
-        ensures rows { OnOk result ((before next : ℕ) → rows_of self.new next ≡ rows_push (rows_of self.old before) (held_view self.old.leaves.inlined.items held.entry) size next) }
+        ensures runs { OnOk result ((before next : ℕ) → bucket_runs self.new next ≡ runs_push (bucket_runs self.old before) (held_view self.old.leaves.inlined.items held.entry) size next) }
         ensures open { OnOk result (IsOpenBucket self.new) }
         ensures fault { IfErr result (λ e. e ≡ fault.Memory) }
     {
@@ -201,7 +201,7 @@ impl<'a> OpenBucket<'a> {
         requires size { size ≡ inline_size (map leaf_view entries.now) }
         requires small { size < 4294967296 }
         requires room { HasRoomFor self.old.leaves (16 + (length key.now + size)) }
-        ensures rows { OnOk result ((before next : ℕ) → rows_of self.new next ≡ rows_push (rows_of self.old before) (inline_element key.now sequence (map leaf_view entries.now)) (16 + (length key.now + size)) next) }
+        ensures runs { OnOk result ((before next : ℕ) → bucket_runs self.new next ≡ runs_push (bucket_runs self.old before) (inline_element key.now sequence (map leaf_view entries.now)) (16 + (length key.now + size)) next) }
         ensures open { OnOk result (IsOpenBucket self.new) }
         ensures fault { IfErr result (λ e. e ≡ fault.Memory) }
     {
@@ -236,11 +236,11 @@ impl<'a> OpenBucket<'a> {
         requires key { length key.now ≤ 1073741824 }
         requires value { length value.now < 2147483647 }
         requires next { next.old ≤ setup.now.limit }
-        ensures pages { Puts S.taken S.failed sink.old sink.new (placed_bytes setup.now.page_size (rows_room_put setup.now.page_size (rows_of self.old next.old) key.now (16 + (length key.now + length value.now)))) result }
-        ensures rows { OnOk result (rows_of self.new next.new ≡ rows_taking setup.now.page_size (rows_of self.old next.old) (value_element key.now value.now) (16 + (length key.now + length value.now))) }
+        ensures pages { Puts S.taken S.failed sink.old sink.new (placed_bytes setup.now.page_size (runs_room_put setup.now.page_size (bucket_runs self.old next.old) key.now (16 + (length key.now + length value.now)))) result }
+        ensures runs { OnOk result (bucket_runs self.new next.new ≡ runs_taking setup.now.page_size (bucket_runs self.old next.old) (value_element key.now value.now) (16 + (length key.now + length value.now))) }
         ensures open { OnOk result (IsOpenBucket self.new) }
         ensures within { OnOk result (next.new ≤ setup.now.limit) }
-        ensures large { IfErr result (λ e. e ≡ fault.TooLarge → setup.now.limit < (rows_room setup.now.page_size (rows_of self.old next.old) key.now (16 + (length key.now + length value.now))).next) }
+        ensures large { IfErr result (λ e. e ≡ fault.TooLarge → setup.now.limit < (runs_room setup.now.page_size (bucket_runs self.old next.old) key.now (16 + (length key.now + length value.now))).next) }
     {
         let size = ELEMENT_LEN + (key.len() + value.len());
         let stored = Stored::Value(value);
@@ -263,11 +263,11 @@ impl<'a> OpenBucket<'a> {
         requires size { pending.size + 16 ≡ inline_size (map leaf_view entries.now) }
         requires small { pending.size < 2147483632 }
         requires next { next.old ≤ setup.now.limit }
-        ensures pages { Puts S.taken S.failed sink.old sink.new (placed_bytes setup.now.page_size (rows_room_put setup.now.page_size (rows_of self.old next.old) pending.entry.key.now (16 + (length pending.entry.key.now + (pending.entry.size + 16))))) result }
-        ensures rows { OnOk result (rows_of self.new next.new ≡ rows_taking setup.now.page_size (rows_of self.old next.old) (inline_element pending.entry.key.now pending.entry.sequence (map leaf_view entries.now)) (16 + (length pending.entry.key.now + (pending.entry.size + 16)))) }
+        ensures pages { Puts S.taken S.failed sink.old sink.new (placed_bytes setup.now.page_size (runs_room_put setup.now.page_size (bucket_runs self.old next.old) pending.entry.key.now (16 + (length pending.entry.key.now + (pending.entry.size + 16))))) result }
+        ensures runs { OnOk result (bucket_runs self.new next.new ≡ runs_taking setup.now.page_size (bucket_runs self.old next.old) (inline_element pending.entry.key.now pending.entry.sequence (map leaf_view entries.now)) (16 + (length pending.entry.key.now + (pending.entry.size + 16)))) }
         ensures open { OnOk result (IsOpenBucket self.new) }
         ensures within { OnOk result (next.new ≤ setup.now.limit) }
-        ensures large { IfErr result (λ e. e ≡ fault.TooLarge → setup.now.limit < (rows_room setup.now.page_size (rows_of self.old next.old) pending.entry.key.now (16 + (length pending.entry.key.now + (pending.entry.size + 16)))).next) }
+        ensures large { IfErr result (λ e. e ≡ fault.TooLarge → setup.now.limit < (runs_room setup.now.page_size (bucket_runs self.old next.old) pending.entry.key.now (16 + (length pending.entry.key.now + (pending.entry.size + 16)))).next) }
     {
         let key = pending.key;
         let size = pending.size + HEAD_LEN;
@@ -288,14 +288,14 @@ impl<'a> OpenBucket<'a> {
         requires open { IsOpenBucket self }
         requires key { length pending.key.now ≤ 1073741824 }
         requires next { next.old ≤ setup.now.limit }
-        ensures pages { Puts S.taken S.failed sink.old sink.new (placed_bytes setup.now.page_size (rows_room_put setup.now.page_size (rows_of self.entry next.old) pending.entry.key.now (32 + length pending.entry.key.now))) result }
-        ensures rows { IfOk result (λ waiting. rows_of waiting.bucket next.new ≡ rows_room setup.now.page_size (rows_of self.entry next.old) pending.entry.key.now (32 + length pending.entry.key.now)) }
+        ensures pages { Puts S.taken S.failed sink.old sink.new (placed_bytes setup.now.page_size (runs_room_put setup.now.page_size (bucket_runs self.entry next.old) pending.entry.key.now (32 + length pending.entry.key.now))) result }
+        ensures runs { IfOk result (λ waiting. bucket_runs waiting.bucket next.new ≡ runs_room setup.now.page_size (bucket_runs self.entry next.old) pending.entry.key.now (32 + length pending.entry.key.now)) }
         ensures waits { IfOk result (λ waiting. IsWaiting setup.now.page_size waiting) }
         ensures key { IfOk result (λ waiting. waiting.key.now ≡ pending.entry.key.now) }
         ensures sequence { IfOk result (λ waiting. waiting.sequence ≡ pending.entry.sequence) }
         ensures around { IfOk result (λ waiting. waiting.around ≡ around) }
         ensures within { OnOk result (next.new ≤ setup.now.limit) }
-        ensures large { IfErr result (λ e. e ≡ fault.TooLarge → setup.now.limit < (rows_room setup.now.page_size (rows_of self.entry next.old) pending.entry.key.now (32 + length pending.entry.key.now)).next) }
+        ensures large { IfErr result (λ e. e ≡ fault.TooLarge → setup.now.limit < (runs_room setup.now.page_size (bucket_runs self.entry next.old) pending.entry.key.now (32 + length pending.entry.key.now)).next) }
     {
         let mut bucket = self;
         let key = pending.key;
@@ -317,12 +317,12 @@ impl<'a> OpenBucket<'a> {
     ) -> Result<u64, BulkFault>
         requires open { IsOpenBucket self.old }
         requires next { next.old ≤ setup.now.limit }
-        ensures pages { Puts S.taken S.failed sink.old sink.new (placed_bytes setup.now.page_size (rows_end_put setup.now.page_size (rows_of self.old next.old))) result }
-        ensures short { OnErr result (AppendsProperBeginning (S.taken sink.old) (S.taken sink.new) (placed_bytes setup.now.page_size (rows_end_put setup.now.page_size (rows_of self.old next.old)))) }
-        ensures root { IfOk result (λ root. root ≡ rows_end setup.now.page_size (rows_of self.old next.old)) }
-        ensures next { OnOk result (next.new ≡ bucket_end_next setup.now.page_size (rows_of self.old next.old)) }
+        ensures pages { Puts S.taken S.failed sink.old sink.new (placed_bytes setup.now.page_size (runs_end_put setup.now.page_size (bucket_runs self.old next.old))) result }
+        ensures short { OnErr result (AppendsProperBeginning (S.taken sink.old) (S.taken sink.new) (placed_bytes setup.now.page_size (runs_end_put setup.now.page_size (bucket_runs self.old next.old)))) }
+        ensures root { IfOk result (λ root. root ≡ runs_end setup.now.page_size (bucket_runs self.old next.old)) }
+        ensures next { OnOk result (next.new ≡ bucket_end_next setup.now.page_size (bucket_runs self.old next.old)) }
         ensures within { OnOk result (next.new ≤ setup.now.limit) }
-        ensures large { IfErr result (λ e. e ≡ fault.TooLarge → setup.now.limit < bucket_end_next setup.now.page_size (rows_of self.old next.old)) }
+        ensures large { IfErr result (λ e. e ≡ fault.TooLarge → setup.now.limit < bucket_end_next setup.now.page_size (bucket_runs self.old next.old)) }
     {
         match self.leaves.close(setup, next, sink) {
             Err(fault) => Err(fault),

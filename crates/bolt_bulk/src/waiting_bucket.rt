@@ -2,8 +2,8 @@
 ghost use Rattle.std.specs.Prelude.{◌≡◌, ◌+◌, ◌<◌, ◌≤◌, ℕ, IfErr, IfOk, OnErr, OnOk, length};
 ghost use Rattle.bolt_format.specs.Sinks.{AppendsProperBeginning};
 ghost use Rattle.bolt_layout.specs.Layout.{placed_bytes};
-ghost use Rattle.bolt_bulk.specs.Private.OpenBuckets.{IsOpenBucket, bucket_end_next, rows_of};
-ghost use Rattle.bolt_bulk.specs.Private.Rows.{rows_end, rows_end_put, rows_push};
+ghost use Rattle.bolt_bulk.specs.Private.OpenBuckets.{IsOpenBucket, bucket_end_next, bucket_runs};
+ghost use Rattle.bolt_bulk.specs.Private.RunViews.{runs_end, runs_end_put, runs_push};
 ghost use Rattle.bolt_bulk.specs.Private.TakenItems.{root_element};
 ghost use Rattle.bolt_bulk.specs.Private.WaitingBuckets.{IsWaiting};
 ghost use Rattle.bolt_bulk.specs.Puts.{Puts};
@@ -41,14 +41,14 @@ impl<'a> WaitingBucket<'a> {
         requires open { IsOpenBucket bucket }
         requires waits { IsWaiting setup.now.page_size self }
         requires next { next.old ≤ setup.now.limit }
-        ensures pages { Puts S.taken S.failed sink.old sink.new (placed_bytes setup.now.page_size (rows_end_put setup.now.page_size (rows_of bucket.entry next.old))) result }
-        ensures short { OnErr result (AppendsProperBeginning (S.taken sink.old) (S.taken sink.new) (placed_bytes setup.now.page_size (rows_end_put setup.now.page_size (rows_of bucket.entry next.old)))) }
-        ensures rows { IfOk result (λ outer. (before : ℕ) → rows_of outer next.new
-            ≡ rows_push (rows_of self.entry.bucket before) (root_element self.entry.key.now (rows_end setup.now.page_size (rows_of bucket.entry next.old)) self.entry.sequence)
-            (32 + length self.entry.key.now) (bucket_end_next setup.now.page_size (rows_of bucket.entry next.old))) }
+        ensures pages { Puts S.taken S.failed sink.old sink.new (placed_bytes setup.now.page_size (runs_end_put setup.now.page_size (bucket_runs bucket.entry next.old))) result }
+        ensures short { OnErr result (AppendsProperBeginning (S.taken sink.old) (S.taken sink.new) (placed_bytes setup.now.page_size (runs_end_put setup.now.page_size (bucket_runs bucket.entry next.old)))) }
+        ensures runs { IfOk result (λ outer. (before : ℕ) → bucket_runs outer next.new
+            ≡ runs_push (bucket_runs self.entry.bucket before) (root_element self.entry.key.now (runs_end setup.now.page_size (bucket_runs bucket.entry next.old)) self.entry.sequence)
+            (32 + length self.entry.key.now) (bucket_end_next setup.now.page_size (bucket_runs bucket.entry next.old))) }
         ensures open { IfOk result (λ outer. IsOpenBucket outer) }
         ensures within { OnOk result (next.new ≤ setup.now.limit) }
-        ensures large { IfErr result (λ e. e ≡ fault.TooLarge → setup.now.limit < bucket_end_next setup.now.page_size (rows_of bucket.entry next.old)) }
+        ensures large { IfErr result (λ e. e ≡ fault.TooLarge → setup.now.limit < bucket_end_next setup.now.page_size (bucket_runs bucket.entry next.old)) }
     {
         let mut outer = self.bucket;
         outer.reserve()?;

@@ -3,14 +3,14 @@ use Rattle.std.specs.Prelude.{◌≡◌, ◌<◌, ℕ, ◌+◌, length}
 use Rattle.std.specs.List.{AllByRecursion}
 use Rattle.bolt_format.specs.Elements.{BranchElement}
 use Rattle.bolt_layout.specs.Levels.{overflow_of}
-use Rattle.bolt_bulk.specs.Private.BranchRuns.{IsStanding, rows_above, rows_end_next}
+use Rattle.bolt_bulk.specs.Private.BranchRuns.{IsStanding, runs_above, runs_end_next}
 use Rattle.bolt_bulk.specs.Private.HeldItems.{AreHeld, held_views, inlined_in, page_size_of}
-use Rattle.bolt_bulk.specs.Private.Rows.{LeafRow, OpenRows, leaf_key}
+use Rattle.bolt_bulk.specs.Private.RunViews.{LeafRunView, BucketRuns, leaf_key}
 use Rattle.bolt_bulk.specs.declared.leaf_run.LeafRun.{LeafRun}
 use Rattle.bolt_bulk.specs.declared.open_bucket.OpenBucket.{OpenBucket}
 
--- a run of items as the row that it is
-abbrev pub leaves_of : LeafRun → LeafRow
+-- the view of a run of items
+abbrev pub leaves_of : LeafRun → LeafRunView
 leaves_of run = record { elements = held_views run.inlined.items run.items.items; size = run.size }
 
 -- its size is that of its page, and its list of entries has only those of its own inline buckets
@@ -27,17 +27,17 @@ pub record HasRoomFor (run : LeafRun) (size : ℕ) : Type 0 where
   pub few : length run.items.items < 65534
 
 -- what is open of a bucket, with the number of the next page
-abbrev pub rows_of : OpenBucket → ℕ → OpenRows
-rows_of bucket next = record { leaves = leaves_of bucket.leaves; uppers = rows_above bucket.uppers.items; limits = bucket.limits; next = next }
+abbrev pub bucket_runs : OpenBucket → ℕ → BucketRuns
+bucket_runs bucket next = record { leaves = leaves_of bucket.leaves; uppers = runs_above bucket.uppers.items; limits = bucket.limits; next = next }
 
 pub record IsOpenBucket (bucket : OpenBucket) : Type 0 where
   pub leaves : IsLeafRun bucket.leaves
-  pub uppers : AllByRecursion IsStanding (rows_above bucket.uppers.items)
+  pub uppers : AllByRecursion IsStanding (runs_above bucket.uppers.items)
 
 -- the element of a leaf page that closes
-abbrev pub leaf_closed : LeafRow → ℕ → BranchElement
-leaf_closed row next = record { key = leaf_key row.elements; child = next }
+abbrev pub leaf_closed : LeafRunView → ℕ → BranchElement
+leaf_closed run next = record { key = leaf_key run.elements; child = next }
 
 -- the number after the bucket's root page
-abbrev pub bucket_end_next : ℕ → OpenRows → ℕ
-bucket_end_next page_size rows = rows_end_next page_size (leaf_closed rows.leaves rows.next) (rows.next + (1 + overflow_of page_size rows.leaves.size)) rows.uppers
+abbrev pub bucket_end_next : ℕ → BucketRuns → ℕ
+bucket_end_next page_size runs = runs_end_next page_size (leaf_closed runs.leaves runs.next) (runs.next + (1 + overflow_of page_size runs.leaves.size)) runs.uppers

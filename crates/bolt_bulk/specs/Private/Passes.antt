@@ -18,8 +18,8 @@ use Rattle.bolt_bulk.specs.Private.RowLimits.{limit_in}
 use Rattle.bolt_bulk.specs.Private.HeldCounts.{AreCounted, capped, items_around}
 use Rattle.bolt_bulk.specs.Private.HeldSoFar.{held_so_far}
 use Rattle.bolt_bulk.specs.Private.Levels.{Level, left_in}
-use Rattle.bolt_bulk.specs.Private.OpenBuckets.{IsOpenBucket, rows_of}
-use Rattle.bolt_bulk.specs.Private.OpenRows.{IsOpenRows}
+use Rattle.bolt_bulk.specs.Private.OpenBuckets.{IsOpenBucket, bucket_runs}
+use Rattle.bolt_bulk.specs.Private.BucketRuns.{AreOpenRuns}
 use Rattle.bolt_bulk.specs.Private.OpenRuns.{Frame, Open, all_put, base_in}
 use Rattle.bolt_bulk.specs.Private.TakenItems.{entries_size}
 use Rattle.bolt_bulk.specs.Private.WaitingBuckets.{IsWaiting}
@@ -47,7 +47,7 @@ AreWaiting [] [] = Unit {0}
 AreWaiting [] (frame ∷ frames) = ⊥
 AreWaiting (waiting ∷ others) [] = ⊥
 AreWaiting (waiting ∷ others) (frame ∷ frames) =
-    IsOpenRows (rows_of waiting.bucket (base_in (frame ∷ frames))) frame.state (base_in frames)
+    AreOpenRuns (bucket_runs waiting.bucket (base_in (frame ∷ frames))) frame.state (base_in frames)
     × (waiting.key.now ≡ frame.key) × (waiting.sequence ≡ frame.sequence) × AreWaiting others frames
 
 -- A bucket that may be inline is the next entry of the open one: it is entered as a level, but not opened yet.
@@ -133,7 +133,7 @@ pub record IsAt (wanted : Wanted) (pass : Pass) (levels : List Level) (left : Tr
   pub state : Open
   pub rest : Tree
   pub under : IsPass wanted.which pass.setup.page_size frames state (items_of wanted.which pass.setup.page_size rest) (root_of wanted.which pass.setup.page_size wanted.tree)
-  pub rows : IsOpenRows (rows_of pass.bucket pass.next) state (base_in frames)
+  pub runs : AreOpenRuns (bucket_runs pass.bucket pass.next) state (base_in frames)
   pub waits : AreWaiting (reverse pass.waiting.items) frames
   pub put_is : put ≡ all_put frames state
   pub pends : IsPending pass.pending pass.entries.items (map level_of frames) rest levels left

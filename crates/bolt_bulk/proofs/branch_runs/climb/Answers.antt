@@ -8,13 +8,13 @@ use Rattle.bolt_layout.specs.Levels.{overflow_of}
 use Rattle.bolt_layout.specs.Limits.{one_less}
 use Rattle.bolt_bulk.specs.Private.OpenRuns.{key_size}
 use Rattle.bolt_bulk.specs.Private.RowLimits.{bucket_limit}
-use Rattle.bolt_bulk.specs.Private.BranchRuns.{IsStanding, element_up, row_of}
-use Rattle.bolt_bulk.specs.Private.Rows.{BranchRow, no_row, one_closed, row_kept, row_push}
-use Rattle.bolt_bulk.proofs.ClimbLemmas.{Climbing, climb_begins, climb_closes, climb_large, climb_stays, climb_stops, no_room_by, room_by, row_at, standing_at, standing_set, up_key, within_rows}
+use Rattle.bolt_bulk.specs.Private.BranchRuns.{IsStanding, element_up, run_view}
+use Rattle.bolt_bulk.specs.Private.RunViews.{RunView, no_run, one_closed, run_kept, run_push}
+use Rattle.bolt_bulk.proofs.ClimbLemmas.{Climbing, climb_begins, climb_closes, climb_large, climb_stays, climb_stops, no_room_by, room_by, run_at, standing_at, standing_set, up_key, within_runs}
 use Rattle.bolt_bulk.proofs.branch_runs.climb.Goals as goal
 
 pub loop-i-init : goal.loop-i-init
-loop-i-init g c = (climb_begins c.args.setup.now.page_size (bucket_limit c.args.limits (length (map row_of c.args.uppers.now.items))) c.args.key.now (branch_view c.args.closed) c.args.next.now (map row_of c.args.uppers.now.items) c.args.sink.now, c.requires.standing, refl, c.requires.closed, c.requires.next)
+loop-i-init g c = (climb_begins c.args.setup.now.page_size (bucket_limit c.args.limits (length (map run_view c.args.uppers.now.items))) c.args.key.now (branch_view c.args.closed) c.args.next.now (map run_view c.args.uppers.now.items) c.args.sink.now, c.requires.standing, refl, c.requires.closed, c.requires.next)
 
 pub take_page-requires-clause-standing : goal.take_page-requires-clause-standing
 take_page-requires-clause-standing g c = standing_at c.loop-i.uppers.items c.loop-i.i c.index_mut.result.now (let l = c.loop-i.invariant.2 in let h = c.loop-i-test.true in omega arith) c.index_mut.ensures.value c.loop-i.invariant.1
@@ -22,68 +22,68 @@ take_page-requires-clause-standing g c = standing_at c.loop-i.uppers.items c.loo
 pub returns-in-Err-clause-pages : goal.returns-in-Err-clause-pages
 returns-in-Err-clause-pages g c =
     let h : c.loop-i.i < length c.loop-i.uppers.items = (let l = c.loop-i.invariant.2 in let t = c.loop-i-test.true in omega arith) in
-    climb_stops c.args.setup.now.page_size (bucket_limit c.args.limits (length (map row_of c.args.uppers.now.items))) c.args.key.now _ _ _ _ _ _ (map row_of c.loop-i.uppers.items) c.loop-i.i (branch_view c.loop-i.closed) c.loop-i.next (row_of c.index_mut.result.now) (row_of c.index_mut.result.now) _
-    (within_rows c.loop-i.uppers.items c.loop-i.i h) (row_at c.loop-i.uppers.items c.loop-i.i c.index_mut.result.now h c.index_mut.ensures.value) c.loop-i.invariant.0 c.in-Err.ensures.pages
+    climb_stops c.args.setup.now.page_size (bucket_limit c.args.limits (length (map run_view c.args.uppers.now.items))) c.args.key.now _ _ _ _ _ _ (map run_view c.loop-i.uppers.items) c.loop-i.i (branch_view c.loop-i.closed) c.loop-i.next (run_view c.index_mut.result.now) (run_view c.index_mut.result.now) _
+    (within_runs c.loop-i.uppers.items c.loop-i.i h) (run_at c.loop-i.uppers.items c.loop-i.i c.index_mut.result.now h c.index_mut.ensures.value) c.loop-i.invariant.0 c.in-Err.ensures.pages
 
 pub returns-in-Err-clause-large : goal.returns-in-Err-clause-large
 returns-in-Err-clause-large g c = λ large.
     let h : c.loop-i.i < length c.loop-i.uppers.items = (let l = c.loop-i.invariant.2 in let t = c.loop-i-test.true in omega arith) in
-    climb_large c.args.setup.now.page_size c.args.setup.now.limit (bucket_limit c.args.limits (length (map row_of c.args.uppers.now.items))) c.args.key.now _ _ _ _ _ (map row_of c.loop-i.uppers.items) c.loop-i.i (branch_view c.loop-i.closed) c.loop-i.next (row_of c.index_mut.result.now) (row_of c.index_mut.result.now)
-    (within_rows c.loop-i.uppers.items c.loop-i.i h) (row_at c.loop-i.uppers.items c.loop-i.i c.index_mut.result.now h c.index_mut.ensures.value) c.loop-i.invariant.0 (c.in-Err.ensures.large large)
+    climb_large c.args.setup.now.page_size c.args.setup.now.limit (bucket_limit c.args.limits (length (map run_view c.args.uppers.now.items))) c.args.key.now _ _ _ _ _ (map run_view c.loop-i.uppers.items) c.loop-i.i (branch_view c.loop-i.closed) c.loop-i.next (run_view c.index_mut.result.now) (run_view c.index_mut.result.now)
+    (within_runs c.loop-i.uppers.items c.loop-i.i h) (run_at c.loop-i.uppers.items c.loop-i.i c.index_mut.result.now h c.index_mut.ensures.value) c.loop-i.invariant.0 (c.in-Err.ensures.large large)
 
 pub returns-in-Ok-None-clause-pages : goal.returns-in-Ok-None-clause-pages
 returns-in-Ok-None-clause-pages g c =
     let h : c.loop-i.i < length c.loop-i.uppers.items = (let l = c.loop-i.invariant.2 in let t = c.loop-i-test.true in omega arith) in
-    let room = room_by c.args.setup.now.page_size c.args.key.now (branch_view c.loop-i.closed) c.loop-i.next (row_of c.index_mut.result.now) _ c.in-Ok-None.field-0-is c.in-Ok-None.ensures.up in
-    (climb_stays c.args.setup.now.page_size (bucket_limit c.args.limits (length (map row_of c.args.uppers.now.items))) c.args.key.now _ _ _ _ _ _ (map row_of c.loop-i.uppers.items) c.loop-i.i (branch_view c.loop-i.closed) c.loop-i.next (row_of c.index_mut.result.now) (row_of c.index_mut.result.now) _ tt
-    (within_rows c.loop-i.uppers.items c.loop-i.i h) (row_at c.loop-i.uppers.items c.loop-i.i c.index_mut.result.now h c.index_mut.ensures.value) room c.loop-i.invariant.0 c.in-Ok-None.ensures.pages).2
+    let room = room_by c.args.setup.now.page_size c.args.key.now (branch_view c.loop-i.closed) c.loop-i.next (run_view c.index_mut.result.now) _ c.in-Ok-None.field-0-is c.in-Ok-None.ensures.up in
+    (climb_stays c.args.setup.now.page_size (bucket_limit c.args.limits (length (map run_view c.args.uppers.now.items))) c.args.key.now _ _ _ _ _ _ (map run_view c.loop-i.uppers.items) c.loop-i.i (branch_view c.loop-i.closed) c.loop-i.next (run_view c.index_mut.result.now) (run_view c.index_mut.result.now) _ tt
+    (within_runs c.loop-i.uppers.items c.loop-i.i h) (run_at c.loop-i.uppers.items c.loop-i.i c.index_mut.result.now h c.index_mut.ensures.value) room c.loop-i.invariant.0 c.in-Ok-None.ensures.pages).2
 
-pub returns-in-Ok-None-clause-rows : goal.returns-in-Ok-None-clause-rows
-returns-in-Ok-None-clause-rows g c =
+pub returns-in-Ok-None-clause-runs : goal.returns-in-Ok-None-clause-runs
+returns-in-Ok-None-clause-runs g c =
     let h : c.loop-i.i < length c.loop-i.uppers.items = (let l = c.loop-i.invariant.2 in let t = c.loop-i-test.true in omega arith) in
-    let room = room_by c.args.setup.now.page_size c.args.key.now (branch_view c.loop-i.closed) c.loop-i.next (row_of c.index_mut.result.now) _ c.in-Ok-None.field-0-is c.in-Ok-None.ensures.up in
-    let took : row_of c.take_page.new.self ≡ row_kept c.args.setup.now.page_size (row_push (row_of c.index_mut.result.now) (branch_view c.loop-i.closed)) (key_size c.args.key.now) = c.in-Ok-None.ensures.row ∙ (rw room refl) in
-    let stays = climb_stays {B = Unit {0}} c.args.setup.now.page_size (bucket_limit c.args.limits (length (map row_of c.args.uppers.now.items))) c.args.key.now _ _ _ _ _ _ (map row_of c.loop-i.uppers.items) c.loop-i.i (branch_view c.loop-i.closed) c.loop-i.next (row_of c.index_mut.result.now) (row_of c.index_mut.result.now) _ tt
-    (within_rows c.loop-i.uppers.items c.loop-i.i h) (row_at c.loop-i.uppers.items c.loop-i.i c.index_mut.result.now h c.index_mut.ensures.value) room c.loop-i.invariant.0 c.in-Ok-None.ensures.pages in
-    map-set row_of c.loop-i.uppers.items c.loop-i.i c.take_page.new.self ∙ (ap (λ (r : BranchRow). set (map row_of c.loop-i.uppers.items) c.loop-i.i r) took ∙ sym stays.0)
+    let room = room_by c.args.setup.now.page_size c.args.key.now (branch_view c.loop-i.closed) c.loop-i.next (run_view c.index_mut.result.now) _ c.in-Ok-None.field-0-is c.in-Ok-None.ensures.up in
+    let took : run_view c.take_page.new.self ≡ run_kept c.args.setup.now.page_size (run_push (run_view c.index_mut.result.now) (branch_view c.loop-i.closed)) (key_size c.args.key.now) = c.in-Ok-None.ensures.run ∙ (rw room refl) in
+    let stays = climb_stays {B = Unit {0}} c.args.setup.now.page_size (bucket_limit c.args.limits (length (map run_view c.args.uppers.now.items))) c.args.key.now _ _ _ _ _ _ (map run_view c.loop-i.uppers.items) c.loop-i.i (branch_view c.loop-i.closed) c.loop-i.next (run_view c.index_mut.result.now) (run_view c.index_mut.result.now) _ tt
+    (within_runs c.loop-i.uppers.items c.loop-i.i h) (run_at c.loop-i.uppers.items c.loop-i.i c.index_mut.result.now h c.index_mut.ensures.value) room c.loop-i.invariant.0 c.in-Ok-None.ensures.pages in
+    map-set run_view c.loop-i.uppers.items c.loop-i.i c.take_page.new.self ∙ (ap (λ (r : RunView). set (map run_view c.loop-i.uppers.items) c.loop-i.i r) took ∙ sym stays.0)
 
 pub returns-in-Ok-None-clause-standing : goal.returns-in-Ok-None-clause-standing
 returns-in-Ok-None-clause-standing g c =
-    subst (λ (rs : List BranchRow). AllByRecursion IsStanding rs) (sym (map-set row_of c.loop-i.uppers.items c.loop-i.i c.take_page.new.self))
-    (standing_set (map row_of c.loop-i.uppers.items) c.loop-i.i (row_of c.take_page.new.self) c.loop-i.invariant.1 c.in-Ok-None.ensures.standing)
+    subst (λ (rs : List RunView). AllByRecursion IsStanding rs) (sym (map-set run_view c.loop-i.uppers.items c.loop-i.i c.take_page.new.self))
+    (standing_set (map run_view c.loop-i.uppers.items) c.loop-i.i (run_view c.take_page.new.self) c.loop-i.invariant.1 c.in-Ok-None.ensures.standing)
 
 pub returns-in-Ok-None-clause-next : goal.returns-in-Ok-None-clause-next
 returns-in-Ok-None-clause-next g c =
     let h : c.loop-i.i < length c.loop-i.uppers.items = (let l = c.loop-i.invariant.2 in let t = c.loop-i-test.true in omega arith) in
-    let room = room_by c.args.setup.now.page_size c.args.key.now (branch_view c.loop-i.closed) c.loop-i.next (row_of c.index_mut.result.now) _ c.in-Ok-None.field-0-is c.in-Ok-None.ensures.up in
+    let room = room_by c.args.setup.now.page_size c.args.key.now (branch_view c.loop-i.closed) c.loop-i.next (run_view c.index_mut.result.now) _ c.in-Ok-None.field-0-is c.in-Ok-None.ensures.up in
     let took : c.take_page.new.next ≡ c.loop-i.next = c.in-Ok-None.ensures.next ∙ (rw room refl) in
-    let stays = climb_stays {B = Unit {0}} c.args.setup.now.page_size (bucket_limit c.args.limits (length (map row_of c.args.uppers.now.items))) c.args.key.now _ _ _ _ _ _ (map row_of c.loop-i.uppers.items) c.loop-i.i (branch_view c.loop-i.closed) c.loop-i.next (row_of c.index_mut.result.now) (row_of c.index_mut.result.now) _ tt
-    (within_rows c.loop-i.uppers.items c.loop-i.i h) (row_at c.loop-i.uppers.items c.loop-i.i c.index_mut.result.now h c.index_mut.ensures.value) room c.loop-i.invariant.0 c.in-Ok-None.ensures.pages in
+    let stays = climb_stays {B = Unit {0}} c.args.setup.now.page_size (bucket_limit c.args.limits (length (map run_view c.args.uppers.now.items))) c.args.key.now _ _ _ _ _ _ (map run_view c.loop-i.uppers.items) c.loop-i.i (branch_view c.loop-i.closed) c.loop-i.next (run_view c.index_mut.result.now) (run_view c.index_mut.result.now) _ tt
+    (within_runs c.loop-i.uppers.items c.loop-i.i h) (run_at c.loop-i.uppers.items c.loop-i.i c.index_mut.result.now h c.index_mut.ensures.value) room c.loop-i.invariant.0 c.in-Ok-None.ensures.pages in
     took ∙ sym stays.1
 
 pub loop-i-preserved : goal.loop-i-preserved
 loop-i-preserved g c =
     let h : c.loop-i.i < length c.loop-i.uppers.items = (let l = c.loop-i.invariant.2 in let t = c.loop-i-test.true in omega arith) in
-    let old = row_of c.index_mut.result.now in
+    let old = run_view c.index_mut.result.now in
     let e = branch_view c.loop-i.closed in
     let two = no_room_by c.args.setup.now.page_size c.args.key.now e c.loop-i.next old _ c.in-Ok-Some.up c.in-Ok-Some.field-0-is c.in-Ok-Some.ensures.up in
     let f = two.0 in
-    let took : row_of c.take_page.new.self ≡ no_row (one_less old.left) (one_closed old.closed) = c.in-Ok-Some.ensures.row ∙ (rw f refl) in
-    let next : c.take_page.new.next ≡ c.loop-i.next + (1 + overflow_of c.args.setup.now.page_size (row_push old e).size) = c.in-Ok-Some.ensures.next ∙ (rw f refl) in
-    let rows : map row_of (set c.loop-i.uppers.items c.loop-i.i c.take_page.new.self) ≡ set (map row_of c.loop-i.uppers.items) c.loop-i.i (no_row (one_less old.left) (one_closed old.closed)) =
-    map-set row_of c.loop-i.uppers.items c.loop-i.i c.take_page.new.self ∙ ap (λ (r : BranchRow). set (map row_of c.loop-i.uppers.items) c.loop-i.i r) took in
-    let closes = climb_closes c.args.setup.now.page_size (bucket_limit c.args.limits (length (map row_of c.args.uppers.now.items))) c.args.key.now _ _ _ _ _ _ (map row_of c.loop-i.uppers.items) c.loop-i.i e c.loop-i.next old old _
-    (within_rows c.loop-i.uppers.items c.loop-i.i h) (row_at c.loop-i.uppers.items c.loop-i.i c.index_mut.result.now h c.index_mut.ensures.value) f c.loop-i.invariant.0 c.in-Ok-Some.ensures.pages in
+    let took : run_view c.take_page.new.self ≡ no_run (one_less old.left) (one_closed old.closed) = c.in-Ok-Some.ensures.run ∙ (rw f refl) in
+    let next : c.take_page.new.next ≡ c.loop-i.next + (1 + overflow_of c.args.setup.now.page_size (run_push old e).size) = c.in-Ok-Some.ensures.next ∙ (rw f refl) in
+    let runs : map run_view (set c.loop-i.uppers.items c.loop-i.i c.take_page.new.self) ≡ set (map run_view c.loop-i.uppers.items) c.loop-i.i (no_run (one_less old.left) (one_closed old.closed)) =
+    map-set run_view c.loop-i.uppers.items c.loop-i.i c.take_page.new.self ∙ ap (λ (r : RunView). set (map run_view c.loop-i.uppers.items) c.loop-i.i r) took in
+    let closes = climb_closes c.args.setup.now.page_size (bucket_limit c.args.limits (length (map run_view c.args.uppers.now.items))) c.args.key.now _ _ _ _ _ _ (map run_view c.loop-i.uppers.items) c.loop-i.i e c.loop-i.next old old _
+    (within_runs c.loop-i.uppers.items c.loop-i.i h) (run_at c.loop-i.uppers.items c.loop-i.i c.index_mut.result.now h c.index_mut.ensures.value) f c.loop-i.invariant.0 c.in-Ok-Some.ensures.pages in
     let k = up_key e c.loop-i.next old (standing_at c.loop-i.uppers.items c.loop-i.i c.index_mut.result.now h c.index_mut.ensures.value c.loop-i.invariant.1) c.loop-i.invariant.3 in
     let kk = ap (λ (x : BranchElement). length x.key) two.1 in
-    let C : List BranchRow → BranchElement → ℕ → Type 0 = λ rs x n. Climbing c.args.setup.now.page_size (bucket_limit c.args.limits (length (map row_of c.args.uppers.now.items))) c.args.key.now (branch_view c.args.closed) c.args.next.now (map row_of c.args.uppers.now.items) g.S.Sink.taken g.S.Sink.failed c.args.sink.now c.take_page.new.sink rs (c.loop-i.i + 1) x n in
-    let one : C (map row_of (set c.loop-i.uppers.items c.loop-i.i c.take_page.new.self)) (branch_view c.in-Ok-Some.up) c.take_page.new.next =
-    subst (λ (rs : List BranchRow). C rs (branch_view c.in-Ok-Some.up) c.take_page.new.next) (sym rows)
-    (subst (λ (x : BranchElement). C (set (map row_of c.loop-i.uppers.items) c.loop-i.i (no_row (one_less old.left) (one_closed old.closed))) x c.take_page.new.next) (sym two.1)
-    (subst (λ (n : ℕ). C (set (map row_of c.loop-i.uppers.items) c.loop-i.i (no_row (one_less old.left) (one_closed old.closed))) (element_up e c.loop-i.next old) n) (sym next) closes)) in (
+    let C : List RunView → BranchElement → ℕ → Type 0 = λ rs x n. Climbing c.args.setup.now.page_size (bucket_limit c.args.limits (length (map run_view c.args.uppers.now.items))) c.args.key.now (branch_view c.args.closed) c.args.next.now (map run_view c.args.uppers.now.items) g.S.Sink.taken g.S.Sink.failed c.args.sink.now c.take_page.new.sink rs (c.loop-i.i + 1) x n in
+    let one : C (map run_view (set c.loop-i.uppers.items c.loop-i.i c.take_page.new.self)) (branch_view c.in-Ok-Some.up) c.take_page.new.next =
+    subst (λ (rs : List RunView). C rs (branch_view c.in-Ok-Some.up) c.take_page.new.next) (sym runs)
+    (subst (λ (x : BranchElement). C (set (map run_view c.loop-i.uppers.items) c.loop-i.i (no_run (one_less old.left) (one_closed old.closed))) x c.take_page.new.next) (sym two.1)
+    (subst (λ (n : ℕ). C (set (map run_view c.loop-i.uppers.items) c.loop-i.i (no_run (one_less old.left) (one_closed old.closed))) (element_up e c.loop-i.next old) n) (sym next) closes)) in (
       one,
-      subst (λ (rs : List BranchRow). AllByRecursion IsStanding rs) (sym (map-set row_of c.loop-i.uppers.items c.loop-i.i c.take_page.new.self))
-          (standing_set (map row_of c.loop-i.uppers.items) c.loop-i.i (row_of c.take_page.new.self) c.loop-i.invariant.1 c.in-Ok-Some.ensures.standing),
+      subst (λ (rs : List RunView). AllByRecursion IsStanding rs) (sym (map-set run_view c.loop-i.uppers.items c.loop-i.i c.take_page.new.self))
+          (standing_set (map run_view c.loop-i.uppers.items) c.loop-i.i (run_view c.take_page.new.self) c.loop-i.invariant.1 c.in-Ok-Some.ensures.standing),
       length-set c.loop-i.uppers.items c.loop-i.i c.take_page.new.self ∙ c.loop-i.invariant.2,
       (let z = c.loop-i.invariant.3 in omega arith),
       c.in-Ok-Some.ensures.within,

@@ -4,9 +4,9 @@ use Rattle.std.specs.List.{AllByRecursion}
 use Rattle.std.proofs.lemmas.List.{map-set, length-set}
 use Rattle.bolt_format.specs.ElementPlaces.{branch_view}
 use Rattle.bolt_format.specs.Elements.{BranchElement}
-use Rattle.bolt_bulk.specs.Private.BranchRuns.{IsStanding, row_of}
-use Rattle.bolt_bulk.specs.Private.Rows.{BranchRow}
-use Rattle.bolt_bulk.proofs.ClimbLemmas.{row_at, standing_at, standing_set, up_key, within_rows}
+use Rattle.bolt_bulk.specs.Private.BranchRuns.{IsStanding, run_view}
+use Rattle.bolt_bulk.specs.Private.RunViews.{RunView}
+use Rattle.bolt_bulk.proofs.ClimbLemmas.{run_at, standing_at, standing_set, up_key, within_runs}
 use Rattle.bolt_bulk.proofs.CloseLemmas.{Closing, close_large, close_more, close_short, close_stops}
 use Rattle.bolt_bulk.proofs.branch_runs.close_all.Goals as goal
 
@@ -16,37 +16,37 @@ take_last_page-requires-clause-standing g c = standing_at c.loop-i.uppers.items 
 pub returns-in-Err-clause-pages : goal.returns-in-Err-clause-pages
 returns-in-Err-clause-pages g c =
     let h : c.loop-i.i < length c.loop-i.uppers.items = (let l = c.loop-i.invariant.2 in let t = c.loop-i-test.true in omega arith) in
-    let row = row_of c.index_mut.result.now in
-    close_stops c.args.setup.now.page_size _ _ _ _ _ _ (map row_of c.loop-i.uppers.items) c.loop-i.i (branch_view c.loop-i.closed) c.loop-i.next row row _
-    (within_rows c.loop-i.uppers.items c.loop-i.i h) (row_at c.loop-i.uppers.items c.loop-i.i c.index_mut.result.now h c.index_mut.ensures.value) c.loop-i.invariant.0 c.in-Err.ensures.pages
+    let run = run_view c.index_mut.result.now in
+    close_stops c.args.setup.now.page_size _ _ _ _ _ _ (map run_view c.loop-i.uppers.items) c.loop-i.i (branch_view c.loop-i.closed) c.loop-i.next run run _
+    (within_runs c.loop-i.uppers.items c.loop-i.i h) (run_at c.loop-i.uppers.items c.loop-i.i c.index_mut.result.now h c.index_mut.ensures.value) c.loop-i.invariant.0 c.in-Err.ensures.pages
 
 pub returns-in-Err-clause-short : goal.returns-in-Err-clause-short
 returns-in-Err-clause-short g c =
     let h : c.loop-i.i < length c.loop-i.uppers.items = (let l = c.loop-i.invariant.2 in let t = c.loop-i-test.true in omega arith) in
-    let row = row_of c.index_mut.result.now in
-    close_short c.args.setup.now.page_size _ _ _ _ _ _ (map row_of c.loop-i.uppers.items) c.loop-i.i (branch_view c.loop-i.closed) c.loop-i.next row row
-    (within_rows c.loop-i.uppers.items c.loop-i.i h) (row_at c.loop-i.uppers.items c.loop-i.i c.index_mut.result.now h c.index_mut.ensures.value) c.loop-i.invariant.0 c.in-Err.ensures.short
+    let run = run_view c.index_mut.result.now in
+    close_short c.args.setup.now.page_size _ _ _ _ _ _ (map run_view c.loop-i.uppers.items) c.loop-i.i (branch_view c.loop-i.closed) c.loop-i.next run run
+    (within_runs c.loop-i.uppers.items c.loop-i.i h) (run_at c.loop-i.uppers.items c.loop-i.i c.index_mut.result.now h c.index_mut.ensures.value) c.loop-i.invariant.0 c.in-Err.ensures.short
 
 pub returns-in-Err-clause-large : goal.returns-in-Err-clause-large
 returns-in-Err-clause-large g c = λ large.
     let h : c.loop-i.i < length c.loop-i.uppers.items = (let l = c.loop-i.invariant.2 in let t = c.loop-i-test.true in omega arith) in
-    let row = row_of c.index_mut.result.now in
-    close_large c.args.setup.now.page_size c.args.setup.now.limit _ _ _ _ _ (map row_of c.loop-i.uppers.items) c.loop-i.i (branch_view c.loop-i.closed) c.loop-i.next row row
-    (within_rows c.loop-i.uppers.items c.loop-i.i h) (row_at c.loop-i.uppers.items c.loop-i.i c.index_mut.result.now h c.index_mut.ensures.value) c.loop-i.invariant.0 (c.in-Err.ensures.large large)
+    let run = run_view c.index_mut.result.now in
+    close_large c.args.setup.now.page_size c.args.setup.now.limit _ _ _ _ _ (map run_view c.loop-i.uppers.items) c.loop-i.i (branch_view c.loop-i.closed) c.loop-i.next run run
+    (within_runs c.loop-i.uppers.items c.loop-i.i h) (run_at c.loop-i.uppers.items c.loop-i.i c.index_mut.result.now h c.index_mut.ensures.value) c.loop-i.invariant.0 (c.in-Err.ensures.large large)
 
 pub loop-i-preserved : goal.loop-i-preserved
 loop-i-preserved g c =
     let h : c.loop-i.i < length c.loop-i.uppers.items = (let l = c.loop-i.invariant.2 in let t = c.loop-i-test.true in omega arith) in
-    let row = row_of c.index_mut.result.now in
+    let run = run_view c.index_mut.result.now in
     let e = branch_view c.loop-i.closed in
-    let more = close_more c.args.setup.now.page_size _ _ _ _ _ _ (map row_of c.loop-i.uppers.items) c.loop-i.i e c.loop-i.next row row (row_of c.take_last_page.new.self) _ (branch_view c.in-Ok.up) c.take_last_page.new.next
-    (within_rows c.loop-i.uppers.items c.loop-i.i h) (row_at c.loop-i.uppers.items c.loop-i.i c.index_mut.result.now h c.index_mut.ensures.value) c.in-Ok.ensures.up c.in-Ok.ensures.next c.loop-i.invariant.0 c.in-Ok.ensures.pages in
-    let k = up_key e c.loop-i.next row (standing_at c.loop-i.uppers.items c.loop-i.i c.index_mut.result.now h c.index_mut.ensures.value c.loop-i.invariant.1) c.loop-i.invariant.3 in
+    let more = close_more c.args.setup.now.page_size _ _ _ _ _ _ (map run_view c.loop-i.uppers.items) c.loop-i.i e c.loop-i.next run run (run_view c.take_last_page.new.self) _ (branch_view c.in-Ok.up) c.take_last_page.new.next
+    (within_runs c.loop-i.uppers.items c.loop-i.i h) (run_at c.loop-i.uppers.items c.loop-i.i c.index_mut.result.now h c.index_mut.ensures.value) c.in-Ok.ensures.up c.in-Ok.ensures.next c.loop-i.invariant.0 c.in-Ok.ensures.pages in
+    let k = up_key e c.loop-i.next run (standing_at c.loop-i.uppers.items c.loop-i.i c.index_mut.result.now h c.index_mut.ensures.value c.loop-i.invariant.1) c.loop-i.invariant.3 in
     let kk = ap (λ (x : BranchElement). length x.key) c.in-Ok.ensures.up in
-    let rows = sym (map-set row_of c.loop-i.uppers.items c.loop-i.i c.take_last_page.new.self) in (
-      subst (λ (rs : List BranchRow). Closing c.args.setup.now.page_size (branch_view c.args.closed) c.args.next.now (map row_of c.args.uppers.now.items) g.S.Sink.taken g.S.Sink.failed c.args.sink.now c.take_last_page.new.sink rs (c.loop-i.i + 1) (branch_view c.in-Ok.up) c.take_last_page.new.next) rows more,
-      subst (λ (rs : List BranchRow). AllByRecursion IsStanding rs) rows
-          (standing_set (map row_of c.loop-i.uppers.items) c.loop-i.i (row_of c.take_last_page.new.self) c.loop-i.invariant.1 c.in-Ok.ensures.standing),
+    let runs = sym (map-set run_view c.loop-i.uppers.items c.loop-i.i c.take_last_page.new.self) in (
+      subst (λ (rs : List RunView). Closing c.args.setup.now.page_size (branch_view c.args.closed) c.args.next.now (map run_view c.args.uppers.now.items) g.S.Sink.taken g.S.Sink.failed c.args.sink.now c.take_last_page.new.sink rs (c.loop-i.i + 1) (branch_view c.in-Ok.up) c.take_last_page.new.next) runs more,
+      subst (λ (rs : List RunView). AllByRecursion IsStanding rs) runs
+          (standing_set (map run_view c.loop-i.uppers.items) c.loop-i.i (run_view c.take_last_page.new.self) c.loop-i.invariant.1 c.in-Ok.ensures.standing),
       length-set c.loop-i.uppers.items c.loop-i.i c.take_last_page.new.self ∙ c.loop-i.invariant.2,
       (let z = c.loop-i.invariant.3 in omega arith),
       c.in-Ok.ensures.within,

@@ -1,20 +1,20 @@
 -- A run that stays open for the next page stands, and any other can close.
 use Rattle.std.proofs.Common.{◌∙◌, ap, subst, sym}
 use Rattle.bolt_format.specs.ElementPlaces.{branch_view}
-use Rattle.bolt_bulk.specs.Private.BranchRuns.{IsPushed, IsStanding, row_of}
-use Rattle.bolt_bulk.specs.Private.Rows.{BranchRow, row_kept, row_stays}
+use Rattle.bolt_bulk.specs.Private.BranchRuns.{IsPushed, IsStanding, run_view}
+use Rattle.bolt_bulk.specs.Private.RunViews.{RunView, run_kept, run_stays}
 use Rattle.bolt_bulk.specs.Private.OpenRuns.{key_size}
 use Rattle.bolt_bulk.proofs.RunLemmas.{pushed, stays_standing}
 use Rattle.bolt_bulk.proofs.branch_runs.BranchRun.take_page.Goals as goal
 
 pub returns-then-stays-clause-standing : goal.returns-then-stays-clause-standing
 returns-then-stays-clause-standing g c =
-    let same = c.in_ok-push_page.ensures.row in
-    let stays = ap (λ (r : BranchRow). row_stays c.args.setup.now.page_size r (key_size c.args.key.now)) (sym same) ∙ (sym c.stays.ensures.stays ∙ c.if-stays.true) in
-    let kept = c.stays.ensures.kept c.if-stays.true ∙ ap (λ (r : BranchRow). row_kept c.args.setup.now.page_size r (key_size c.args.key.now)) same in
-    subst (λ (r : BranchRow). IsStanding r) (sym kept)
-    (stays_standing c.args.setup.now.page_size (key_size c.args.key.now) (row_of c.args.self.now) (branch_view c.args.closed) c.args.setup.now.high c.requires.standing c.requires.closed stays)
+    let same = c.in_ok-push_page.ensures.run in
+    let stays = ap (λ (r : RunView). run_stays c.args.setup.now.page_size r (key_size c.args.key.now)) (sym same) ∙ (sym c.stays.ensures.stays ∙ c.if-stays.true) in
+    let kept = c.stays.ensures.kept c.if-stays.true ∙ ap (λ (r : RunView). run_kept c.args.setup.now.page_size r (key_size c.args.key.now)) same in
+    subst (λ (r : RunView). IsStanding r) (sym kept)
+    (stays_standing c.args.setup.now.page_size (key_size c.args.key.now) (run_view c.args.self.now) (branch_view c.args.closed) c.args.setup.now.high c.requires.standing c.requires.closed stays)
 
 pub close-requires-clause-pushed : goal.close-requires-clause-pushed
 close-requires-clause-pushed g c =
-    subst (λ (r : BranchRow). IsPushed r) (sym (c.stays.ensures.same c.if-stays.false ∙ c.in_ok-push_page.ensures.row)) (pushed (row_of c.args.self.now) (branch_view c.args.closed) c.requires.standing c.requires.closed)
+    subst (λ (r : RunView). IsPushed r) (sym (c.stays.ensures.same c.if-stays.false ∙ c.in_ok-push_page.ensures.run)) (pushed (run_view c.args.self.now) (branch_view c.args.closed) c.requires.standing c.requires.closed)

@@ -1,6 +1,6 @@
 -- If the numbers run out, the page is left out.
 use Rattle.bolt_bulk.specs.Private.OpenBuckets.{leaves_of}
-use Rattle.bolt_bulk.specs.Private.Rows.{leaf_page}
+use Rattle.bolt_bulk.specs.Private.RunViews.{leaf_page}
 use Rattle.bolt_bulk.proofs.PutsLemmas.{after_error, page_some, proper_none}
 use Rattle.bolt_bulk.proofs.leaf_run.LeafRun.close.Goals as goal
 

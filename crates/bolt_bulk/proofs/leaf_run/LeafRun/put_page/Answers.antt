@@ -28,9 +28,9 @@ pub returns : goal.returns
 returns g c =
     let items : c.as_slice.result.now ≡ c.args.self.now.items.items = c.as_slice.ensures.value in
     let inlined : c.as_slice-2.result.now ≡ c.args.self.now.inlined.items = c.as_slice-2.ensures.value in
-    let f : ℕ → List Leaf → List Held → List ℕ = λ n row es. page_bytes c.args.setup.now.page_size c.args.number (leaf_page_view n (held_views row es)) in
+    let f : ℕ → List Leaf → List Held → List ℕ = λ n run es. page_bytes c.args.setup.now.page_size c.args.number (leaf_page_view n (held_views run es)) in
     whole_same _ _ _ _ _
     (ap (λ (es : List Held). f c.overflow-further.result c.as_slice-2.result.now es) items
-    ∙ (ap (λ (row : List Leaf). f c.overflow-further.result row c.args.self.now.items.items) inlined
+    ∙ (ap (λ (run : List Leaf). f c.overflow-further.result run c.args.self.now.items.items) inlined
     ∙ ap (λ (n : ℕ). f n c.args.self.now.inlined.items c.args.self.now.items.items) c.overflow-further.ensures))
     c.put_leaf_page.ensures

@@ -4,9 +4,9 @@ use Rattle.std.specs.List.{AllByRecursion}
 use Rattle.bolt_format.specs.ElementPlaces.{leaf_view}
 use Rattle.bolt_format.specs.Elements.{LeafElement}
 use Rattle.bolt_format.specs.declared.element.Leaf.{Leaf}
-use Rattle.bolt_bulk.specs.Private.BranchRuns.{IsStanding, rows_above}
+use Rattle.bolt_bulk.specs.Private.BranchRuns.{IsStanding, runs_above}
 use Rattle.bolt_bulk.specs.Private.HeldItems.{held_views, inlined_in}
-use Rattle.bolt_bulk.specs.Private.Rows.{BranchRow, OpenRows}
+use Rattle.bolt_bulk.specs.Private.RunViews.{RunView, BucketRuns}
 use Rattle.bolt_bulk.specs.declared.branch_runs.BranchRun.{BranchRun}
 use Rattle.bolt_bulk.specs.declared.held.Held.{Held}
 use Rattle.bolt_bulk.proofs.HeldRuns.{IsRun, values_none, values_run, values_view}
@@ -15,20 +15,20 @@ use Rattle.bolt_bulk.proofs.open_bucket.OpenBucket.of_values.Goals as goal
 pub returns-clause-open : goal.returns-clause-open
 returns-clause-open c =
     let entries = c.args.entries.now in
-    let is = subst (λ (row : List Leaf). IsRun row c.in_ok-items.items.items c.args.size) (sym c.new.ensures.items)
+    let is = subst (λ (kept_run : List Leaf). IsRun kept_run c.in_ok-items.items.items c.args.size) (sym c.new.ensures.items)
     (subst (λ (items : List Held). IsRun [] items c.args.size) (sym c.in_ok-items.ensures.items)
     (values_run entries c.args.size c.requires.keys c.requires.values c.requires.size c.requires.small c.requires.few)) in
     let none : length c.new.result.items ≡ inlined_in c.in_ok-items.items.items =
-    ap (λ (row : List Leaf). length row) c.new.ensures.items ∙ sym (ap (λ (items : List Held). inlined_in items) c.in_ok-items.ensures.items ∙ values_none entries) in
+    ap (λ (kept_run : List Leaf). length kept_run) c.new.ensures.items ∙ sym (ap (λ (items : List Held). inlined_in items) c.in_ok-items.ensures.items ∙ values_none entries) in
     record {
       leaves = record { held = is.held; sized = is.sized; small = is.small; few = is.few; inlined = none };
-      uppers = subst (λ (runs : List BranchRun). AllByRecursion IsStanding (rows_above runs)) (sym c.new-2.ensures.items) tt;
+      uppers = subst (λ (runs : List BranchRun). AllByRecursion IsStanding (runs_above runs)) (sym c.new-2.ensures.items) tt;
     }
 
-pub returns-clause-rows : goal.returns-clause-rows
-returns-clause-rows c = λ next.
-    let rows : List LeafElement → List BranchRow → OpenRows = λ elements uppers. record { leaves = record { elements = elements; size = c.args.size }; uppers = uppers; limits = c.args.limits; next = next } in
+pub returns-clause-runs : goal.returns-clause-runs
+returns-clause-runs c = λ next.
+    let kept_runs : List LeafElement → List RunView → BucketRuns = λ elements uppers. record { leaves = record { elements = elements; size = c.args.size }; uppers = uppers; limits = c.args.limits; next = next } in
     let elements : held_views c.new.result.items c.in_ok-items.items.items ≡ map leaf_view c.args.entries.now =
-    ap (λ (row : List Leaf). held_views row c.in_ok-items.items.items) c.new.ensures.items
+    ap (λ (kept_run : List Leaf). held_views kept_run c.in_ok-items.items.items) c.new.ensures.items
     ∙ (ap (λ (items : List Held). held_views [] items) c.in_ok-items.ensures.items ∙ values_view c.args.entries.now c.requires.values) in
-    ap (λ (es : List LeafElement). rows es (rows_above c.new-2.result.items)) elements ∙ ap (λ (runs : List BranchRun). rows (map leaf_view c.args.entries.now) (rows_above runs)) c.new-2.ensures.items
+    ap (λ (es : List LeafElement). kept_runs es (runs_above c.new-2.result.items)) elements ∙ ap (λ (runs : List BranchRun). kept_runs (map leaf_view c.args.entries.now) (runs_above runs)) c.new-2.ensures.items

@@ -9,9 +9,9 @@ pub returns-clause-open : goal.returns-clause-open
 returns-clause-open c =
     let items : c.push.new.self.items ≡ c.args.self.now.leaves.items.items ++ c.args.held ∷ [] = search rules in
     let old = c.requires.open.leaves in
-    let row = c.args.self.now.leaves.inlined.items in
-    let is : IsRun row c.push.new.self.items (c.args.self.now.leaves.size + c.args.size) = subst (λ (xs : List Held). IsRun row xs (c.args.self.now.leaves.size + c.args.size)) (sym items)
-    (run_pushed c.args.self.now.leaves.size c.args.size row c.args.self.now.leaves.items.items c.args.held
+    let run = c.args.self.now.leaves.inlined.items in
+    let is : IsRun run c.push.new.self.items (c.args.self.now.leaves.size + c.args.size) = subst (λ (xs : List Held). IsRun run xs (c.args.self.now.leaves.size + c.args.size)) (sym items)
+    (run_pushed c.args.self.now.leaves.size c.args.size run c.args.self.now.leaves.items.items c.args.held
     (record { held = old.held; sized = old.sized; small = old.small; few = old.few }) c.requires.held c.requires.size c.requires.room.small c.requires.room.few) in
-    let none : length row ≡ length row + inlined_by c.args.held.stored = let apart = c.requires.apart in omega arith in
+    let none : length run ≡ length run + inlined_by c.args.held.stored = let apart = c.requires.apart in omega arith in
     record { leaves = record { held = is.held; sized = is.sized; small = is.small; few = is.few; inlined = counted _ _ c.args.self.now.leaves.items.items _ c.args.held old.inlined items none }; uppers = c.requires.open.uppers }

@@ -3,9 +3,9 @@ use Rattle.std.proofs.Common.{◌∙◌, [], Result, Ok, Err, arith, subst, sym}
 use Rattle.std.specs.Prelude.{⊤}
 use Rattle.bolt_layout.specs.declared.layout.Layout.TheVariants.{Balanced}
 use Rattle.bolt_bulk.specs.Private.Endings.{Ends}
-use Rattle.bolt_bulk.specs.Private.OpenBuckets.{rows_of}
+use Rattle.bolt_bulk.specs.Private.OpenBuckets.{bucket_runs}
 use Rattle.bolt_bulk.specs.Private.Passes.{FitLimits, HasLeft, limits_with}
-use Rattle.bolt_bulk.specs.Private.Rows.{rows_end_put}
+use Rattle.bolt_bulk.specs.Private.RunViews.{runs_end_put}
 use Rattle.bolt_bulk.specs.declared.page_setup.PageSetup.{PageSetup}
 use Rattle.bolt_bulk.specs.declared.fault.BulkFault.{BulkFault}
 use Rattle.bolt_bulk.specs.declared.pass.Ended.{Ended}
@@ -35,7 +35,7 @@ returns-in-Err-close_runs g c = λ wanted put has.
     (λ all mid. let end = has_end wanted c.leave_to.new.self all mid c.in_default.ensures.depth in
     subst (λ (b : PageSetup). Ends wanted g.S.Sink.taken g.S.Sink.failed c.leave_to.new.sink c.close_runs.new.sink b all stop) c.in_default.ensures.setup
     (record {
-      others = rows_end_put c.leave_to.new.self.setup.page_size (rows_of c.leave_to.new.self.bucket c.leave_to.new.self.next);
+      others = runs_end_put c.leave_to.new.self.setup.page_size (bucket_runs c.leave_to.new.self.bucket c.leave_to.new.self.next);
       all = end.pages;
       puts = puts_fault _ _ _ c.in-Err-close_runs.fault c.in-Err-close_runs.ensures.pages;
       short = c.in-Err-close_runs.ensures.short;
@@ -56,7 +56,7 @@ returns-in-Ok g c = λ wanted put has.
     (λ all mid. let end = has_end wanted c.leave_to.new.self all mid c.in_default.ensures.depth in
     subst (λ (b : PageSetup). Ends wanted g.S.Sink.taken g.S.Sink.failed c.leave_to.new.sink c.close_runs.new.sink b all well) c.in_default.ensures.setup
     (record {
-      others = rows_end_put c.leave_to.new.self.setup.page_size (rows_of c.leave_to.new.self.bucket c.leave_to.new.self.next);
+      others = runs_end_put c.leave_to.new.self.setup.page_size (bucket_runs c.leave_to.new.self.bucket c.leave_to.new.self.next);
       all = end.pages;
       puts = record { all = c.in-Ok.ensures.pages.all; sound = c.in-Ok.ensures.pages.sound; beginning = tt; failure = tt; other = tt };
       short = tt;

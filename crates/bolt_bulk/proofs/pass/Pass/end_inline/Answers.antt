@@ -17,4 +17,4 @@ returns-clause-steps g c = λ wanted level levels put is.
     let small = small_of c.args.self.now.setup.page_size c.args.self.now.pending c.args.pending c.args.self.now.entries.items c.requires.pending c.requires.ready.pending in
     let long = inline_long c.args.self.now.setup.page_size c.args.pending c.args.self.now.entries.items small in
     inline_steps g.S.Sink.taken g.S.Sink.failed wanted c.args.self.now put level levels c.args.pending (c.args.pending.size + 16) c.args.sink.now c.add_inline-taken.new.sink c.add_inline-taken.new.self c.clear.new.self
-    c.add_inline-taken.new.next c.count.new.self _ is c.requires.pending small long c.in_default.ensures.pages (rw c.as_slice.ensures.value at c.in_default.ensures.rows) tt c.count.ensures.counts
+    c.add_inline-taken.new.next c.count.new.self _ is c.requires.pending small long c.in_default.ensures.pages (rw c.as_slice.ensures.value at c.in_default.ensures.runs) tt c.count.ensures.counts

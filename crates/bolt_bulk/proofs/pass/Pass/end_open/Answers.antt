@@ -35,7 +35,7 @@ returns-in-Ok-clause-steps g c = λ wanted level levels put is.
     let ended : BucketEnds c.args.self.now.noted noted c.args.self.now.bucket.limits.bucket c.args.self.now.bucket.uppers.items =
     record { same = c.in_default.ensures.same; noted = rw c.as_slice.ensures.value at c.in_default.ensures.noted; others = c.in_default.ensures.others } in
     leave_steps g.S.Sink.taken g.S.Sink.failed wanted c.args.self.now put level levels c.in-Some.waiting c.args.sink.now c.end_inner.new.sink c.in-Ok.outer c.pop.new.self c.end_inner.new.next _ noted c.count.new.self _ is c.requires.pending
-    c.in-Some.ensures.items ended (puts_well _ _ _ c.in-Ok.outer (rw c.replace-inner.ensures.value at c.in-Ok.ensures.pages)) (rw c.replace-inner.ensures.value at c.in-Ok.ensures.rows) tt c.count.ensures.counts
+    c.in-Some.ensures.items ended (puts_well _ _ _ c.in-Ok.outer (rw c.replace-inner.ensures.value at c.in-Ok.ensures.pages)) (rw c.replace-inner.ensures.value at c.in-Ok.ensures.runs) tt c.count.ensures.counts
 
 pub count-requires : goal.count-requires
 count-requires g c =

@@ -32,10 +32,10 @@ pub returns-clause-steps : goal.returns-clause-steps
 returns-clause-steps g c = λ wanted left levels put is rooted.
     let small = small_of c.args.self.now.setup.page_size c.args.self.now.pending c.args.pending c.args.self.now.entries.items c.requires.pending c.requires.ready.pending in
     let items : c.push.new.self.items ≡ c.args.self.now.waiting.items ++ c.in-Ok-enter.waiting ∷ [] = search rules in
-    let values = rw (c.as_slice.ensures.value, sym c.replace-outer.ensures.after) at (c.in-Ok.ensures.rows c.enter.new.next) in
+    let values = rw (c.as_slice.ensures.value, sym c.replace-outer.ensures.after) at (c.in-Ok.ensures.runs c.enter.new.next) in
     open_steps g.S.Sink.taken g.S.Sink.failed wanted c.args.self.now put levels left c.args.pending c.args.sink.now c.enter.new.sink c.replace-outer.new.dest c.in-Ok-enter.waiting c.push.new.self c.clear.new.self
     c.enter.new.next _ _ c.count.new.self is c.requires.pending small rooted (puts_well _ _ _ c.in-Ok-enter.waiting (rw c.replace-outer.ensures.value at c.in-Ok-enter.ensures.pages))
-    items (rw c.replace-outer.ensures.value at c.in-Ok-enter.ensures.rows) c.in-Ok-enter.ensures.key c.in-Ok-enter.ensures.sequence values c.saturating_add-self.ensures c.count.ensures.counts
+    items (rw c.replace-outer.ensures.value at c.in-Ok-enter.ensures.runs) c.in-Ok-enter.ensures.key c.in-Ok-enter.ensures.sequence values c.saturating_add-self.ensures c.count.ensures.counts
 
 pub count-requires : goal.count-requires
 count-requires g c =

@@ -11,4 +11,4 @@ returns-in-Err-clause-steps g c = λ wanted after levels put is.
 pub returns-clause-steps : goal.returns-clause-steps
 returns-clause-steps g c = λ wanted after levels put is.
     value_steps g.S.Sink.taken g.S.Sink.failed wanted c.args.self.now put levels c.args.key.now c.args.value.now after c.args.sink.now c.add_value-taken.new.sink c.add_value-taken.new.self c.add_value-taken.new.next
-    c.count.new.self _ is c.requires.pending c.in_default.ensures.pages c.in_default.ensures.rows tt c.count.ensures.counts
+    c.count.new.self _ is c.requires.pending c.in_default.ensures.pages c.in_default.ensures.runs tt c.count.ensures.counts

@@ -1,7 +1,7 @@
 -- Memory for the item is there before anything is written, and what is open of the outer bucket stays until then.
 use Rattle.std.proofs.Common.{rules, Err, ◌≡◌, ◌∙◌, ◌+◌, ap, arith, ℕ, length}
-use Rattle.bolt_bulk.specs.Private.OpenBuckets.{rows_of}
-use Rattle.bolt_bulk.specs.Private.Rows.{OpenRows, leaves_have_room, rows_end, rows_push}
+use Rattle.bolt_bulk.specs.Private.OpenBuckets.{bucket_runs}
+use Rattle.bolt_bulk.specs.Private.RunViews.{BucketRuns, leaves_have_room, runs_end, runs_push}
 use Rattle.bolt_bulk.specs.Private.TakenItems.{root_element}
 use Rattle.bolt_bulk.specs.declared.fault.BulkFault.TheVariants as fault
 use Rattle.bolt_bulk.proofs.BucketLemmas.{end_some, room_fits}
@@ -15,7 +15,7 @@ returns-in_err-reserve-clause-pages g c =
     puts_none c.args.sink.now _ c.from_residual.result memory
 
 pub returns-in_err-reserve-clause-short : goal.returns-in_err-reserve-clause-short
-returns-in_err-reserve-clause-short g c = after_error _ _ (proper_none (g.S.Sink.taken c.args.sink.now) _ (end_some c.args.setup.now.page_size (rows_of c.args.bucket c.args.next.now)))
+returns-in_err-reserve-clause-short g c = after_error _ _ (proper_none (g.S.Sink.taken c.args.sink.now) _ (end_some c.args.setup.now.page_size (bucket_runs c.args.bucket c.args.next.now)))
 
 pub push_reserved-requires-clause-size : goal.push_reserved-requires-clause-size
 push_reserved-requires-clause-size g c = let l = length-head_bytes c.in_ok-root.root c.args.self.sequence in omega arith
@@ -24,12 +24,12 @@ pub push_reserved-requires-clause-room : goal.push_reserved-requires-clause-room
 push_reserved-requires-clause-room g c =
     let size : ℕ = 32 + length c.args.self.key.now in
     let k = c.requires.waits.key in
-    let same = ap (λ (rows : OpenRows). leaves_have_room c.args.setup.now.page_size rows.leaves size) (c.reserve.ensures.rows 0) in
+    let same = ap (λ (runs : BucketRuns). leaves_have_room c.args.setup.now.page_size runs.leaves size) (c.reserve.ensures.runs 0) in
     room_fits c.args.setup.now.page_size size c.reserve.new.self.leaves c.args.setup.now.high c.in_ok-reserve.ensures.open.leaves (omega arith) (same ∙ c.requires.waits.room)
 
-pub returns-clause-rows : goal.returns-clause-rows
-returns-clause-rows g c = λ before.
-    let f : OpenRows → ℕ → ℕ → OpenRows = λ rows root next. rows_push rows (root_element c.args.self.key.now root c.args.self.sequence) (32 + length c.args.self.key.now) next in
-    c.push_reserved.ensures.rows before c.close_runs.new.next
-    ∙ (ap (λ (rows : OpenRows). f rows c.in_ok-root.root c.close_runs.new.next) (c.reserve.ensures.rows before)
-    ∙ (ap (λ (n : ℕ). f (rows_of c.args.self.bucket before) n c.close_runs.new.next) c.in_ok-root.ensures.root ∙ ap (λ (n : ℕ). f (rows_of c.args.self.bucket before) (rows_end c.args.setup.now.page_size (rows_of c.args.bucket c.args.next.now)) n) c.in_ok-root.ensures.next))
+pub returns-clause-runs : goal.returns-clause-runs
+returns-clause-runs g c = λ before.
+    let f : BucketRuns → ℕ → ℕ → BucketRuns = λ runs root next. runs_push runs (root_element c.args.self.key.now root c.args.self.sequence) (32 + length c.args.self.key.now) next in
+    c.push_reserved.ensures.runs before c.close_runs.new.next
+    ∙ (ap (λ (runs : BucketRuns). f runs c.in_ok-root.root c.close_runs.new.next) (c.reserve.ensures.runs before)
+    ∙ (ap (λ (n : ℕ). f (bucket_runs c.args.self.bucket before) n c.close_runs.new.next) c.in_ok-root.ensures.root ∙ ap (λ (n : ℕ). f (bucket_runs c.args.self.bucket before) (runs_end c.args.setup.now.page_size (bucket_runs c.args.bucket c.args.next.now)) n) c.in_ok-root.ensures.next))
