@@ -3,11 +3,12 @@ PREFIX ?= /usr/local
 # Runs a tool that makes files. They take the format's numbers from tools/format.
 MAKER = PYTHONPATH=tools/format python3 -B
 PROGRAM = crates/luntsegi/out/luntsegi
+CALLS = crates/test_calls/out/test_calls
 SOUND = $(wildcard examples/*.buckets)
 LISTED = $(filter-out $(LEAKED).list,$(wildcard examples/*.list))
 LEAKED = examples/leaked
 
-.PHONY: build fmt demo examples manual failures bbolt fuzz fuzz-wrong wrong-bodies test bench memory install dist deb clean
+.PHONY: build fmt demo rows examples manual failures bbolt fuzz fuzz-wrong wrong-bodies test bench memory install dist deb clean
 
 # Proves the libraries and the program, and builds it.
 build:
@@ -15,6 +16,10 @@ build:
 
 $(PROGRAM):
 	$(MAKE) build
+
+# Proves and builds the program that makes calls of the libraries for tests.
+$(CALLS):
+	cd crates/test_calls && rt run -- faults ../../README.md > /dev/null
 
 # Formats every crate. The gate refuses a file that isn't formatted.
 fmt:
@@ -24,6 +29,17 @@ fmt:
 demo:
 	cd crates/luntsegi && rt try --data app.db=$(abspath examples/app.db) -- list app.db
 	@echo "That was the program before any proof: make build proves it and builds it."
+
+RUN_ROWS = $(MAKER) tests/run_rows.py
+ROWS = $(filter-out tests/rows/wrong.rows,$(wildcard tests/rows/*.rows))
+
+# Runs the test cases: command lines by the program, and calls by test_calls. Of the wrong ones none may hold. If rt
+# ci has built the programs by Rattle's own compiler, these are run too, but for sweeps over many files and failures.
+rows: $(PROGRAM) $(CALLS)
+	$(RUN_ROWS) $(PROGRAM) $(CALLS) $(ROWS)
+	$(RUN_ROWS) $(PROGRAM) $(CALLS) --none tests/rows/wrong.rows > /dev/null
+	if test -e $(PROGRAM).by-rattle -a -e $(CALLS).by-rattle; then $(RUN_ROWS) $(PROGRAM).by-rattle \
+		$(CALLS).by-rattle $(filter-out tests/rows/changed.rows tests/rows/failing.rows,$(ROWS)); fi
 
 COPY = out/copy.db
 # Sources that refer to sections of documents.
@@ -135,15 +151,15 @@ wrong-bodies:
 # split one crate over several processors, which ends sooner and takes a third more processor time.
 JOBS ?= 2
 
-# The merge gate: whether each wrong body can be applied; every proof from nothing, the tests and the
-# program, which this builds; some wrong bodies, each against its function's own proof; and then, of the
-# program, real databases, the manual, failures, refused memory, random files that are the same each
-# time, and a few rounds beside bbolt, where that can be built.
+# The merge gate: whether each wrong body can be applied; every proof from nothing, and the programs,
+# which this builds; some wrong bodies, each against its function's own proof; and then, of the programs,
+# the test cases, real databases, the manual, failures, refused memory, random files that are the same
+# each time, and a few rounds beside bbolt, where that can be built.
 test:
 	python3 -B tools/wrong_bodies/try_bodies.py --read
 	RT_JOBS=$(JOBS) rt ci
 	RT_JOBS=$(JOBS) python3 -B tools/wrong_bodies/try_bodies.py
-	$(MAKE) examples manual failures memory
+	$(MAKE) rows examples manual failures memory
 	$(FUZZ)/fuzz.py $(PROGRAM) --seed 1 --files 36
 	tools/bbolt/try.sh $(PROGRAM) 3
 
@@ -193,15 +209,13 @@ $(VERY_DEEP): tools/bench/make_deep.py
 
 DEEP = out/deep.db
 NESTED = out/nested.db
-REFUSED_TESTS = out/refused_tests
 
 # Refuses each of the program's requests for memory in turn: under every command on a file of 60 nested
 # buckets and on a real one; on 20,000 nested buckets under the commands that make few requests; of
 # the many that a copy of these makes, each 1500th; and under the commands that recover a damaged file.
-# Then each test of test_calls' module tree_memory has its 1000th request refused. Nine of these are
-# requests of a walk, which is called again and goes on. Of two others one is made before the calls that
-# request nothing, and one after them.
-memory: $(PROGRAM) $(REFUSE) $(NESTED) $(DEEP) $(DAMAGED)
+# Then refuses each request of a walk, which is called again and goes on, and of calls that need no
+# memory.
+memory: $(PROGRAM) $(CALLS) $(REFUSE) $(NESTED) $(DEEP) $(DAMAGED)
 	$(SWEEP) memory 1 $(NESTED) info "page 3" pages check buckets stats list "list --from 62/62" \
 		"keys b b" "get b x" "compact -o OUT" "pages --map" "buckets --sizes" "buckets b b --sizes" \
 		"list --form json" "list b b" "list b b --form json --from 62/62/62" "keys b b --form json" \
@@ -214,11 +228,7 @@ memory: $(PROGRAM) $(REFUSE) $(NESTED) $(DEEP) $(DAMAGED)
 	$(SWEEP) memory 1 $(DAMAGED) "check --all" $(RECOVERIES)
 	$(SWEEP) memory 1 $(NESTED) "check --all" "check --all --etcd-snapshot" "list b b --recover" \
 		$(RECOVERIES)
-	-cd crates/test_calls && rt try --test --fail-alloc 1000 -- tree_memory > $(abspath $(REFUSED_TESTS)) 2>&1
-	grep -c "refused at depth ., and gives all" $(REFUSED_TESTS) | grep -x 6
-	grep -c "refused at its beginning, and gives the rest" $(REFUSED_TESTS) | grep -x 3
-	grep -c "refused before the calls" $(REFUSED_TESTS) | grep -x 1
-	grep -c "refused after the calls" $(REFUSED_TESTS) | grep -x 1
+	PYTHONPATH=tests:tools/format python3 -B tools/refuse/try_calls.py $(CALLS) $(REFUSE) tests/rows/refusals.rows
 
 $(NESTED): tools/bench/make_deep.py
 	mkdir -p $(@D)

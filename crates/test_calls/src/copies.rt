@@ -1,23 +1,69 @@
-//! Copies of checked files, through the calls `compact` and `compact_as`.
+//! Plans and copies through their calls.
 
-use bolt_bulk::{BulkFault, Done, compact, compact_as};
-use bolt_check::Checked;
+use crate::fault::Fault;
+use crate::words::number;
+use bolt_bulk::{Plan, compact, compact_as, plan, plan_as};
+use bolt_check::check;
 use bolt_cli::PageSize;
-use bolt_format::Sink;
+use bolt_format::WriteSink;
 use bolt_layout::Layout;
 use std::alloc::Global;
+use std::io::{self, Write};
 
-/// The answer of a copy in this layout to the sink. The plain layout is the one that `compact` has.
-/// Like `ran::status_of`, it keeps a contract from the tests' proofs.
-pub fn copy_to<S: Sink>(
-    alloc: Global,
-    checked: Checked<'_>,
-    layout: Layout,
-    size: PageSize,
-    sink: &mut S,
-) -> Result<Done, BulkFault> {
-    match layout {
-        Layout::Plain => compact(alloc, checked, size.bytes, sink),
-        Layout::Balanced => compact_as(alloc, checked, layout, size.bytes, sink),
+/// The layout and the page size that two words ask for.
+fn shape_of(words: &[String]) -> Result<(Layout, PageSize), Fault> {
+    let [layout, page_size] = words else {
+        return Err(Fault::Unread);
+    };
+    let layout = match layout.as_str() {
+        "plain" => Layout::Plain,
+        "balanced" => Layout::Balanced,
+        _ => return Err(Fault::Unread),
+    };
+    let size = PageSize::new(number(page_size.as_str())?).ok_or(Fault::Unread)?;
+    Ok((layout, size))
+}
+
+/// The root page and the high-water mark of a plan.
+pub fn planned(alloc: Global, file: &[u8], words: &[String]) -> Result<Vec<u8>, Fault> {
+    let (layout, size) = shape_of(words)?;
+    let checked = check(alloc, file)?;
+    let Plan { root, high_water } = match layout {
+        Layout::Plain => plan(alloc, checked, size.bytes)?,
+        Layout::Balanced => plan_as(alloc, checked, layout, size.bytes)?,
+    };
+    let line = format!(in alloc; "{root} {high_water}")?;
+    Ok(line.as_bytes().to_vec(alloc)?)
+}
+
+/// Accepts all bytes, and keeps only their number.
+#[derive(Drop)]
+struct Counting {
+    taken: u64,
+}
+
+impl Write for Counting {
+    fn write(&mut self, buf: &[u8]) -> io::Result<usize> {
+        self.taken = self.taken.saturating_add(buf.len() as u64);
+        Ok(buf.len())
     }
+
+    fn flush(&mut self) -> io::Result<()> {
+        Ok(())
+    }
+}
+
+/// The number of bytes of a copy, the number that its sink accepted, and how many items were held at
+/// one time.
+pub fn copied(alloc: Global, file: &[u8], words: &[String]) -> Result<Vec<u8>, Fault> {
+    let (layout, size) = shape_of(words)?;
+    let checked = check(alloc, file)?;
+    let mut sink = WriteSink::new(Counting { taken: 0 });
+    let done = match layout {
+        Layout::Plain => compact(alloc, checked, size.bytes, &mut sink)?,
+        Layout::Balanced => compact_as(alloc, checked, layout, size.bytes, &mut sink)?,
+    };
+    let (bytes, held, taken) = (done.bytes, done.held, sink.into_inner().taken);
+    let line = format!(in alloc; "{bytes} {taken} {held}")?;
+    Ok(line.as_bytes().to_vec(alloc)?)
 }

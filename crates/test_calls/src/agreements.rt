@@ -1,0 +1,310 @@
+//! What commands say of one file, compared with each other.
+
+use crate::fault::Fault;
+use crate::runs::Ran;
+use crate::sweeps::toggle;
+use bolt_check::check_slot;
+use bolt_cli::{CopyKind, Job};
+use bolt_format::choose;
+use bolt_report::{Form, ListForm};
+use std::alloc::{AllocError, Global};
+
+/// The name of a file that is handed over as bytes.
+fn unnamed(alloc: Global) -> String {
+    String::new(alloc)
+}
+
+fn check_job(alloc: Global, all: bool) -> Job {
+    Job::Check {
+        file: unnamed(alloc),
+        slot: None,
+        all,
+        snapshot: false,
+    }
+}
+
+fn list_job(alloc: Global, form: ListForm, recover: bool) -> Job {
+    Job::List {
+        file: unnamed(alloc),
+        slot: None,
+        form,
+        path: Vec::new(alloc),
+        from: Vec::new(alloc),
+        recover,
+    }
+}
+
+fn copy_job(alloc: Global, kind: CopyKind, recover: bool) -> Job {
+    Job::Compact {
+        file: unnamed(alloc),
+        slot: None,
+        target: unnamed(alloc),
+        page_size: None,
+        kind,
+        recover,
+    }
+}
+
+/// Commands as jobs.
+#[derive(Drop)]
+struct Jobs {
+    check: Job,
+    list: Job,
+    copy: Job,
+    check_all: Job,
+    list_recovered: Job,
+    copy_recovered: Job,
+    /// Other commands that check the file first.
+    readers: Vec<Job>,
+    /// `page` of each page, and of the one after the last.
+    pages: Vec<Job>,
+}
+
+impl Jobs {
+    fn new(alloc: Global) -> Result<Jobs, AllocError> {
+        let mut pages = Vec::new(alloc);
+        for id in 0..5 {
+            pages.push(Job::Page {
+                file: unnamed(alloc),
+                id,
+            })?;
+        }
+        Ok(Jobs {
+            check: check_job(alloc, false),
+            list: list_job(alloc, ListForm::Hex, false),
+            copy: copy_job(alloc, CopyKind::Plain, false),
+            check_all: check_job(alloc, true),
+            list_recovered: list_job(alloc, ListForm::Hex, true),
+            copy_recovered: copy_job(alloc, CopyKind::ForBbolt, true),
+            readers: readers(alloc)?,
+            pages,
+        })
+    }
+}
+
+/// The commands that read a sound file and print it, but for `list`.
+fn readers(alloc: Global) -> Result<Vec<Job>, AllocError> {
+    let mut jobs = Vec::new(alloc);
+    jobs.push(Job::Pages {
+        file: unnamed(alloc),
+        map: false,
+    })?;
+    for sizes in [false, true] {
+        jobs.push(Job::Buckets {
+            file: unnamed(alloc),
+            slot: None,
+            path: Vec::new(alloc),
+            form: Form::Printable,
+            sizes,
+        })?;
+    }
+    jobs.push(Job::Stats {
+        file: unnamed(alloc),
+        slot: None,
+        path: Vec::new(alloc),
+    })?;
+    jobs.push(list_job(alloc, ListForm::Json, false))?;
+    Ok(jobs)
+}
+
+/// A file, and where it was changed.
+#[derive(Clone, Copy)]
+struct Place<'a> {
+    alloc: Global,
+    jobs: &'a Jobs,
+    file: &'a [u8],
+    at: usize,
+}
+
+impl Place<'_> {
+    fn run(&self, job: &Job) -> Ran {
+        Ran::on(self.alloc, job, self.file)
+    }
+
+    fn require(&self, holds: bool, what: &'static str) -> Result<(), Fault> {
+        if holds {
+            Ok(())
+        } else {
+            Err(Fault::Wrong(what, self.at))
+        }
+    }
+
+    /// Everything that is said of the file.
+    fn compare(&self) -> Result<(), Fault> {
+        let check = self.run(&self.jobs.check);
+        self.compare_pages(check.err.bytes())?;
+        if check.is(0, b"OK\n", b"") {
+            self.compare_sound()?;
+        } else {
+            self.compare_refused(&check)?;
+        }
+        self.compare_recovered(&check)
+    }
+
+    /// `page` prints a page, or refuses it; if the file has this fault, it reports the same.
+    fn compare_pages(&self, fault: &[u8]) -> Result<(), Fault> {
+        for (id, job) in self.jobs.pages.iter().enumerate() {
+            let ran = self.run(job);
+            let (out, err) = (ran.out.bytes(), ran.err.bytes());
+            let start = format!(in self.alloc; "error: page {id}: ")?;
+            let is_named = fault.is_empty() && err.starts_with(start.as_bytes());
+            let is_fault = !fault.is_empty() && err == fault;
+            let is_printed = ran.code == 0 && id < 4 && !out.is_empty() && err.is_empty();
+            let is_refused = ran.code == 1 && out.is_empty() && (is_named || is_fault);
+            self.require(is_printed || is_refused, "page")?;
+        }
+        Ok(())
+    }
+
+    /// Each command reads the file. Its copy is sound and lists the same.
+    fn compare_sound(&self) -> Result<(), Fault> {
+        for job in &self.jobs.readers {
+            let ran = self.run(job);
+            self.require(
+                ran.code == 0 && ran.err.bytes().is_empty(),
+                "a reader of a sound file",
+            )?;
+        }
+        let list = self.run(&self.jobs.list);
+        self.require(list.is(0, list.out.bytes(), b""), "list of a sound file")?;
+        let copy = self.run(&self.jobs.copy);
+        let (before, after) = (self.file.len(), copy.target.bytes().len());
+        let line = format!(in self.alloc; "{before} -> {after} bytes\n")?;
+        self.require(copy.is(0, line.as_bytes(), b""), "compact of a sound file")?;
+        self.compare_copy(copy.target.bytes(), list.out.bytes())
+    }
+
+    /// The copy is sound and has this listing.
+    fn compare_copy(&self, copy: &[u8], listing: &[u8]) -> Result<(), Fault> {
+        let check = Ran::on(self.alloc, &self.jobs.check, copy);
+        self.require(check.is(0, b"OK\n", b""), "check of a copy")?;
+        let list = Ran::on(self.alloc, &self.jobs.list, copy);
+        self.require(list.is(0, listing, b""), "list of a copy")
+    }
+
+    /// Each command refuses the file with the first finding of `check`, or with its fault.
+    fn compare_refused(&self, check: &Ran) -> Result<(), Fault> {
+        let found = check.text();
+        let first = found.lines().next().unwrap_or("");
+        let line = format!(in self.alloc; "error: file refused: {first}\n")?;
+        let is_found = first.starts_with("page") && found.ends_with(" errors found\n");
+        let has_fault = !check.err.bytes().is_empty();
+        self.require(check.code == 1 && is_found != has_fault, "check of a file")?;
+        let error = if has_fault {
+            check.err.bytes()
+        } else {
+            line.as_bytes()
+        };
+        for job in &self.jobs.readers {
+            self.require(
+                self.run(job).is(1, b"", error),
+                "a reader of a refused file",
+            )?;
+        }
+        self.require(
+            self.run(&self.jobs.list).is(1, b"", error),
+            "list of a refused file",
+        )?;
+        let copy = self.run(&self.jobs.copy);
+        let is_refused = copy.is(1, b"", error) && copy.target.bytes().is_empty();
+        self.require(is_refused, "compact of a refused file")
+    }
+
+    /// Whether the trees are sound under the active meta.
+    fn has_sound_trees(&self) -> bool {
+        match choose(self.file) {
+            Ok((slot, _)) => check_slot(self.alloc, self.file, slot).is_ok(),
+            Err(_) => false,
+        }
+    }
+
+    /// Nothing is recovered, or something: then there are losses exactly if the trees aren't sound, and
+    /// the copy is sound and lists what is recovered.
+    fn compare_recovered(&self, check: &Ran) -> Result<(), Fault> {
+        let copy = self.run(&self.jobs.copy_recovered);
+        let list = self.run(&self.jobs.list_recovered);
+        let all = self.run(&self.jobs.check_all);
+        if !copy.err.bytes().is_empty() {
+            return self.compare_unrecovered(check, [&copy, &list, &all]);
+        }
+        let lost = copy.text().lines().count().saturating_sub(1);
+        self.require(
+            (lost == 0) == self.has_sound_trees(),
+            "the number of losses",
+        )?;
+        if lost == 0 {
+            self.require(all.is_like(check), "check --all without losses")?;
+        }
+        self.compare_losses(lost, [&copy, &list, &all])?;
+        self.compare_copy(copy.target.bytes(), list.out.bytes())
+    }
+
+    /// The three commands refuse the file alike.
+    fn compare_unrecovered(&self, check: &Ran, [copy, list, all]: [&Ran; 3]) -> Result<(), Fault> {
+        let error = copy.err.bytes();
+        let is_refused = copy.is(1, b"", error) && copy.target.bytes().is_empty();
+        self.require(
+            is_refused && list.is(1, b"", error),
+            "what recovers nothing",
+        )?;
+        let is_lost = all.text().ends_with("; lost: everything\n1 errors found\n");
+        let is_right = if check.err.bytes().is_empty() {
+            is_lost
+        } else {
+            all.is(1, b"", error)
+        };
+        self.require(is_right, "check --all where nothing is recovered")
+    }
+
+    /// The three commands report the same losses.
+    fn compare_losses(&self, lost: usize, [copy, list, all]: [&Ran; 3]) -> Result<(), Fault> {
+        let (before, after) = (self.file.len(), copy.target.bytes().len());
+        let last = format!(in self.alloc; "{before} -> {after} bytes\n")?;
+        let code = u8::from(lost > 0);
+        let losses = copy.text().strip_suffix(last.as_str()).unwrap_or("none");
+        self.require(copy.code == code && losses != "none", "compact --recover")?;
+        if lost == 0 {
+            let is_right = losses.is_empty() && list.is(0, list.out.bytes(), b"");
+            return self.require(is_right, "list --recover without losses");
+        }
+        let found = format!(in self.alloc; "{losses}{lost} errors found\n")?;
+        self.require(all.is(1, found.as_bytes(), b""), "check --all with losses")?;
+        let error = format!(in self.alloc; "error: pages lost: {lost}\n")?;
+        self.require(
+            list.is(1, list.out.bytes(), error.as_bytes()),
+            "list --recover with losses",
+        )
+    }
+}
+
+/// The number of files that are compared: a file of four pages with each byte changed to each other
+/// value in turn. It is also compared with its end cut off at each byte.
+pub fn compared(alloc: Global, file: &[u8]) -> Result<Vec<u8>, Fault> {
+    let jobs = Jobs::new(alloc)?;
+    let mut other = file.to_vec(alloc)?;
+    let mut count = 0_u64;
+    for at in 0..file.len() {
+        let (cut, jobs) = (file.get(..at).unwrap_or(b""), &jobs);
+        Place {
+            alloc,
+            jobs,
+            file: cut,
+            at,
+        }
+        .compare()?;
+        for bits in 1..=u8::MAX {
+            toggle(&mut other, at, bits);
+            Place {
+                alloc,
+                jobs,
+                file: other.as_slice(),
+                at,
+            }
+            .compare()?;
+            toggle(&mut other, at, bits);
+            count = count.saturating_add(1);
+        }
+    }
+    let line = format!(in alloc; "{count}")?;
+    Ok(line.as_bytes().to_vec(alloc)?)
+}

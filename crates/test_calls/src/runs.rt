@@ -1,0 +1,88 @@
+//! What a job comes to on a file in memory.
+
+use crate::fault::Fault;
+use bolt_cli::{Job, read_words, run};
+use bolt_format::{MemSink, Sink};
+use bolt_snapshot::{HashedSink, SnapshotSink};
+use std::alloc::Global;
+
+/// The job that these words ask for.
+pub fn job_of(alloc: Global, words: &[String]) -> Result<Job, Fault> {
+    let mut line = Vec::new(alloc);
+    line.push(String::from_str(alloc, "luntsegi")?)?;
+    for word in words {
+        line.push(word.clone()?)?;
+    }
+    read_words(alloc, line).map_err(|_| Fault::Unread)
+}
+
+/// The names of the job's FILE and OUT, which may be `none`.
+pub fn names_of(alloc: Global, words: &[String]) -> Result<Vec<u8>, Fault> {
+    let job = job_of(alloc, words)?;
+    let (file, target) = (job.file(), job.target().unwrap_or("none"));
+    let lines = format!(in alloc; "{file}\n{target}\n")?;
+    Ok(lines.as_bytes().to_vec(alloc)?)
+}
+
+/// The status of a run over these sinks. Other proofs don't read the contract of `run`, which is most
+/// of what they would take.
+pub fn status_of<O: Sink, E: Sink, T: SnapshotSink>(
+    alloc: Global,
+    job: &Job,
+    file: &[u8],
+    out: &mut O,
+    err: &mut E,
+    target: &mut T,
+) -> u8 {
+    run(alloc, job, file, out, err, target).code
+}
+
+/// What a run wrote, and its status.
+#[derive(Drop)]
+pub struct Ran {
+    pub out: MemSink,
+    pub err: MemSink,
+    pub target: MemSink,
+    pub code: u8,
+}
+
+impl Ran {
+    /// A run over sinks that accept everything.
+    pub fn on(alloc: Global, job: &Job, file: &[u8]) -> Ran {
+        let [out, err, target] = [
+            MemSink::new(alloc),
+            MemSink::new(alloc),
+            MemSink::new(alloc),
+        ];
+        Ran::over(alloc, job, file, [out, err, target])
+    }
+
+    /// A run over these sinks for standard output, standard error and the copy.
+    pub fn over(alloc: Global, job: &Job, file: &[u8], sinks: [MemSink; 3]) -> Ran {
+        let [mut out, mut err, target] = sinks;
+        let mut target = HashedSink::new(target);
+        let code = status_of(alloc, job, file, &mut out, &mut err, &mut target);
+        Ran {
+            out,
+            err,
+            target: target.into_inner(),
+            code,
+        }
+    }
+
+    /// Whether the run has this status and wrote these texts.
+    pub fn is(&self, code: u8, out: &[u8], err: &[u8]) -> bool {
+        self.code == code && self.out.bytes() == out && self.err.bytes() == err
+    }
+
+    /// Whether the other run wrote and came to the same.
+    pub fn is_like(&self, other: &Ran) -> bool {
+        self.is(other.code, other.out.bytes(), other.err.bytes())
+            && self.target.bytes() == other.target.bytes()
+    }
+
+    /// What the run printed, as text.
+    pub fn text(&self) -> &str {
+        std::str::from_utf8(self.out.bytes()).unwrap_or("")
+    }
+}

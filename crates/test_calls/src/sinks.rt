@@ -1,0 +1,133 @@
+//! Sinks, to which pieces are written.
+
+use crate::fault::Fault;
+use crate::halting::{Halting, Refusal};
+use crate::words::{bytes_of, number, push_word};
+use bolt_format::{MemSink, Sink, WriteSink};
+use bolt_snapshot::{HashFault, HashedSink, SnapshotSink};
+use std::alloc::Global;
+use std::io::{Cursor, ErrorKind};
+
+/// Writes pieces, of which `.` is the whole file. Returns which of them the sink accepted.
+fn put_pieces<S: Sink>(
+    alloc: Global,
+    file: &[u8],
+    pieces: &[String],
+    sink: &mut S,
+) -> Result<Vec<u8>, Fault> {
+    let mut line = Vec::new(alloc);
+    for word in pieces {
+        let before = sink.failures();
+        let answer = if word.as_str() == "." {
+            sink.put(file)
+        } else {
+            sink.put(bytes_of(alloc, word.as_str())?.as_slice())
+        };
+        match answer {
+            Ok(()) if sink.failures() == 0 => push_word(&mut line, b"ok")?,
+            Err(_) if sink.failures() >= before.max(1) => push_word(&mut line, b"failed")?,
+            _ => return Err(Fault::Wrong("the number of failures", line.len())),
+        }
+    }
+    Ok(line)
+}
+
+/// The sink that a word names, with a number: over a writer that refuses the call of this number, with
+/// an error of a kind or without one; over a `Vec` or a cursor of one; or in memory, `fuse` with room
+/// for this many bytes. Of which pieces it accepts, how many calls the writer had, and all bytes.
+pub fn puts(alloc: Global, file: &[u8], words: &[String]) -> Result<Vec<u8>, Fault> {
+    let [kind, count, pieces @ ..] = words else {
+        return Err(Fault::Unread);
+    };
+    let count = number(count.as_str())? as usize;
+    let refusal = match kind.as_str() {
+        "other" => Refusal::Error(ErrorKind::Other),
+        "interrupted" => Refusal::Error(ErrorKind::Interrupted),
+        "block" => Refusal::Error(ErrorKind::WouldBlock),
+        "nothing" => Refusal::Nothing,
+        _ => return puts_in_memory(alloc, kind.as_str(), count, file, pieces),
+    };
+    let mut sink = WriteSink::new(Halting::new(alloc, count, refusal));
+    let line = put_pieces(alloc, file, pieces, &mut sink)?;
+    let writer = sink.into_inner();
+    shown(line, Some(writer.calls), writer.taken.as_slice(), file)
+}
+
+fn puts_in_memory(
+    alloc: Global,
+    kind: &str,
+    count: usize,
+    file: &[u8],
+    pieces: &[String],
+) -> Result<Vec<u8>, Fault> {
+    match kind {
+        "vec" => {
+            let mut sink = WriteSink::new(Vec::new(alloc));
+            let line = put_pieces(alloc, file, pieces, &mut sink)?;
+            shown(line, None, sink.into_inner().as_slice(), file)
+        }
+        "cursor" => {
+            let mut sink = WriteSink::new(Cursor::new(Vec::new(alloc)));
+            let line = put_pieces(alloc, file, pieces, &mut sink)?;
+            shown(line, None, sink.into_inner().into_inner().as_slice(), file)
+        }
+        "memory" => {
+            let mut sink = MemSink::new(alloc);
+            let line = put_pieces(alloc, file, pieces, &mut sink)?;
+            shown(line, None, sink.bytes(), file)
+        }
+        "fuse" => {
+            let mut sink = MemSink::with_fuse(alloc, count);
+            let line = put_pieces(alloc, file, pieces, &mut sink)?;
+            shown(line, None, sink.bytes(), file)
+        }
+        _ => Err(Fault::Unread),
+    }
+}
+
+/// Adds a number of calls, and bytes; those of the file are `.`.
+fn shown(
+    mut line: Vec<u8>,
+    calls: Option<usize>,
+    bytes: &[u8],
+    file: &[u8],
+) -> Result<Vec<u8>, Fault> {
+    let alloc = *line.allocator();
+    if let Some(calls) = calls {
+        push_word(&mut line, format!(in alloc; "{calls}")?.as_bytes())?;
+    }
+    let is_file = !file.is_empty() && bytes == file;
+    push_word(&mut line, if is_file { b"." } else { bytes })?;
+    Ok(line)
+}
+
+/// Writes pieces to a sink that hashes them, with room for as many bytes as the first word says, and
+/// then the hash of the last bytes, as many as the second word says. The piece `start` starts the hash.
+/// What came of the pieces and of the hash, and all bytes.
+pub fn hashes(alloc: Global, words: &[String]) -> Result<Vec<u8>, Fault> {
+    let [room, length, pieces @ ..] = words else {
+        return Err(Fault::Unread);
+    };
+    let room = number(room.as_str())? as usize;
+    let mut sink = HashedSink::new(MemSink::with_fuse(alloc, room));
+    let mut line = Vec::new(alloc);
+    for word in pieces {
+        if word.as_str() == "start" {
+            sink.start_hash();
+            continue;
+        }
+        let piece = bytes_of(alloc, word.as_str())?;
+        let answer = sink.put(piece.as_slice());
+        let came = if answer.is_ok() { "ok" } else { "failed" };
+        push_word(&mut line, came.as_bytes())?;
+    }
+    let came = match sink.put_hash(number(length.as_str())?) {
+        Ok(()) => "hashed",
+        Err(HashFault::Sink) => "failed",
+        Err(HashFault::NotHashed) => "not-hashed",
+    };
+    push_word(&mut line, came.as_bytes())?;
+    let taken = hex::encode(alloc, sink.inner().bytes())?;
+    push_word(&mut line, taken.as_bytes())?;
+    Ok(line)
+}

@@ -1,0 +1,53 @@
+r"""What a test case requires.
+
+| line | what is required |
+|---|---|
+| `> TEXT`, `! TEXT` | a line of standard output, or of standard error |
+| `>- TEXT` | a text on standard output without a line feed |
+| `>* WORD ..` | a line of words, each of which may repeat its text, with nothing between |
+| `>> FIRST LAST` | a line for each of these numbers |
+| `>x FIRST LAST BEFORE AFTER` | the same with five digits in hexadecimal, between two texts |
+| `= STATUS` | the status, if it isn't 0; a word after it says why |
+| `+ COPY` | what the copy must be: `FILE` itself, the file that is `kept`, or a `new` one, which is the file of the next test cases |
+
+In a TEXT, \x and two digits stand for a byte. Without a line `+` there is no copy."""
+
+from words import Unread, bytes_of, halves, text_bytes
+
+
+class Wanted:
+    """What a run must write, its status, and what its copy must be."""
+
+    def __init__(self, lines):
+        self.out, self.err, self.status, self.copy = b"", b"", 0, ""
+        for line in lines:
+            self.take(*halves(line, " "))
+
+    def take(self, mark, text):
+        match mark:
+            case ">":
+                self.out += text_bytes(text) + b"\n"
+            case ">-":
+                self.out += text_bytes(text)
+            case ">*":
+                self.out += b"".join(bytes_of(word) for word in text.split()) + b"\n"
+            case ">>":
+                first, last = text.split()
+                self.out += b"".join(b"%d\n" % n for n in range(int(first), int(last) + 1))
+            case ">x":
+                self.out += digits_between(*text.split(" ", 3))
+            case "!":
+                self.err += text_bytes(text) + b"\n"
+            case "=":
+                self.status = int(halves(text, " ")[0])
+            case "+":
+                self.copy = text
+            case _:
+                raise Unread(mark)
+
+
+def digits_between(first, last, before="", after=""):
+    """A line for each number: its five digits in hexadecimal, with a text before and one after."""
+    before, after = text_bytes(before), text_bytes(after)
+    lines = [before + (b"%05d" % n).hex().encode() + after for n in range(int(first), int(last) + 1)]
+    return b"".join(line + b"\n" for line in lines)

@@ -1,0 +1,89 @@
+#!/usr/bin/env python3
+"""Refuses calls of the libraries each of their requests for memory in turn, for `make memory`.
+
+    try_calls.py CALLS LIBRARY ROWS
+
+CALLS is the program test_calls, LIBRARY refuses the requests (refuse.c), and ROWS has test cases (tests/run_rows.py)
+of the verbs `again` and `between`. Each run must end with the full result, or with status 3 and what was refused: the
+walk of `again` goes on or begins again with the same members; or memory ran out before or after it. In `between` the
+calls that need no memory are between two requests, so these must be neighbours. Prints how many runs ended in which
+way. The status is 1 if one ends otherwise, if no walk is refused, or if there is a request between the calls."""
+
+import os
+import subprocess
+import sys
+import tempfile
+from collections import Counter
+
+from draft import make
+from run_rows import WAYS
+from words import halves
+
+SECONDS = 60
+# A sink in memory fails if memory runs out.
+MEMORY = {b"out of memory\n", b"can't be written\n"}
+GOES_ON = b"refused: a walk goes on, and gives the rest\n"
+BEGINS_AGAIN = b"refused: a walk begins again, and gives the rest\n"
+BEFORE, AFTER = b"refused: before the calls\n", b"refused: after the calls\n"
+# What may be said of a call, and what must be.
+ENDS = {"again": MEMORY | {GOES_ON, BEGINS_AGAIN}, "between": MEMORY | {BEFORE, AFTER}}
+
+
+def outcomes_of(calls, library, folder, words):
+    """What is said if each request is refused in turn; nothing if the result is the full one."""
+    mark = os.path.join(folder, "mark")
+
+    def run(number):
+        if os.path.exists(mark):
+            os.remove(mark)
+        refusal = {"LD_PRELOAD": library, "REFUSED_CALL": "memory", "REFUSED_NUMBER": str(number), "REFUSED_MARK": mark}
+        ran = subprocess.run([calls, *words], cwd=folder, capture_output=True, timeout=SECONDS, env=refusal)
+        return ran.returncode, ran.stdout, ran.stderr
+
+    full = run(0)
+    said = []
+    answer = run(1)
+    while os.path.exists(mark):
+        status, out, err = answer
+        said.append(b"" if answer == full else err if (status, out) == (3, b"") else b"another end")
+        answer = run(len(said) + 1)
+    return said
+
+
+def is_right(verb, path, said):
+    """Whether all that is said may be, and what must be said is."""
+    if not {*said} <= ENDS[verb] | {b""}:
+        return False
+    if verb == "between":
+        return said.count(BEFORE) == said.count(AFTER) == 1 and said.index(BEFORE) + 1 == said.index(AFTER)
+    return BEGINS_AGAIN in said if path else said.count(GOES_ON) > 1
+
+
+def try_block(calls, library, folder, block):
+    """Writes a file that is described, or tries a call. Returns whether it ended as it must."""
+    head, *lines = block.split("\n")
+    verb, words = halves(head, " ")
+    if verb == "file":
+        with open(os.path.join(folder, "FILE"), "wb") as it:
+            it.write(make("\n".join(lines)))
+    if verb not in ENDS:
+        return True
+    ways = WAYS[verb]
+    words = [ways[min(i, len(ways) - 1)](word) for i, word in enumerate(words.split())]
+    said = outcomes_of(calls, library, folder, [verb, "FILE", *words])
+    ends = ", ".join(f"{count} {it.decode().strip() or 'the full result'}" for it, count in Counter(said).items())
+    print(f"{head}: {len(said)} requests: {ends}", flush=True)
+    return is_right(verb, words, said)
+
+
+def main():
+    calls, library, rows = (os.path.abspath(it) for it in sys.argv[1:])
+    with open(rows, encoding="utf-8", newline="\n") as it:
+        blocks = it.read().rstrip("\n").split("\n\n")
+    with tempfile.TemporaryDirectory() as folder:
+        good = [try_block(calls, library, folder, block) for block in blocks]
+    sys.exit(0 if all(good) else 1)
+
+
+if __name__ == "__main__":
+    main()
