@@ -38,10 +38,10 @@ use Rattle.bolt_bulk.proofs.HeldSteps.{around_length, enters_held, items_length,
 use Rattle.bolt_bulk.proofs.Ontos.{IsValue, ends_inline, onto_items, onto_push, value_items, values_held}
 use Rattle.bolt_layout.specs.Limits.{HaveRightLimits}
 use Rattle.bolt_layout.specs.Openings.{leaf_pages, opened_by, opened_in}
-use Rattle.bolt_bulk.specs.Private.RowLimits.{bucket_limit, limit_in}
+use Rattle.bolt_bulk.specs.Private.RowLimits.{BucketEnds, bucket_limit, limit_in}
 use Rattle.bolt_bulk.specs.declared.limits.BucketLimits.{BucketLimits}
 use Rattle.bolt_bulk.specs.declared.noted_limits.NotedLimits.{NotedLimits}
-use Rattle.bolt_bulk.proofs.Tables.{BucketEnds, numbered_same, opened_most, room_known, noted_enters, noted_leaves}
+use Rattle.bolt_bulk.proofs.Tables.{numbered_same, opened_most, room_known, noted_enters, noted_leaves}
 use Rattle.bolt_bulk.proofs.Openings.{around_at, coming_at, coming_onto, opened_inline, opened_onto, opened_rooted}
 use Rattle.bolt_bulk.proofs.PassSteps.{IsOn, inline_item, on_before, on_enters, on_leaves, on_numbers, on_takes, open_values, pass_takes_all, root_item, values_put, values_runs}
 use Rattle.bolt_bulk.proofs.PutsLemmas.{bytes-append, puts_then}
@@ -445,7 +445,7 @@ module _ {S : Type 0} (taken : S → Option (List ℕ)) (failed : S → ℕ) (wa
   -- ---- the open bucket ends, and the one around it goes on
   pub leave_steps : {A : Type 0} (level : Level) (levels : List Level) (w : WaitingBucket) (old new : S) (bucket : OpenBucket) (around : Vec WaitingBucket Global) (next held : ℕ) (noted : NotedLimits) (counted : Pass) (result : Result A BulkFault)
       → IsAt wanted pass (level ∷ levels) end put → pass.pending ≡ None → pass.waiting.items ≡ around.items ++ w ∷ []
-      → BucketEnds pass.noted noted pass.bucket.limits.bucket pass.bucket.uppers.items
+      → BucketEnds pass.noted noted pass.bucket.uppers
       → Puts taken failed old new (placed_bytes P (runs_end_put P runs_now)) result
       → OnOk result ((before : ℕ) → bucket_runs bucket next ≡ runs_push (bucket_runs w.bucket before) (root_element w.key.now (runs_end P runs_now) w.sequence) (32 + length w.key.now) (bucket_end_next P runs_now))
       → IfErr result (λ e. e ≡ fault.TooLarge → pass.setup.limit < bucket_end_next P runs_now)
@@ -462,9 +462,7 @@ module _ {S : Type 0} (taken : S → Option (List ℕ)) (failed : S → ℕ) (wa
       let states : List Open = map (λ (f : Frame). f.state) frames in
       let numbered = subst (λ (fs : List Frame). AreNumbered wanted P is.opened is.numbers (open_in is.state fs)) more_frames is.numbered in
       let most = opened_most wanted P (limits_by pass) (is.opened + 0) is.frames right.1 in
-      let number : pass.bucket.limits.bucket ≡ is.state.known.limits.bucket = ap (λ (l : BucketLimits). l.bucket) is.runs.limits_are in
-      let has = noted_leaves wanted P pass.noted noted is.opened (base_in is.frames) is.numbers is.state (frame.state ∷ states) pass.bucket.uppers.items on.under.root is.has_noted numbered (omega arith) is.runs.above on.under.current
-      (subst (λ (n : ℕ). BucketEnds pass.noted noted n pass.bucket.uppers.items) number ended) in
+      let has = noted_leaves wanted P pass.noted noted is.opened (base_in is.frames) is.numbers is.state (frame.state ∷ states) pass.bucket.uppers on.under.root is.has_noted numbered (omega arith) is.runs.above is.runs.limits_are on.under.current ended in
       let made : Open = pushing frame.state (held_item frame (end_of P is.state)) in
       let base : ℕ = base_in (frame ∷ frames) in
       let then = on_leaves wanted.which P wanted.tree frame frames is.state runs_now (bucket_runs w.bucket base) put on2 outer refl in
@@ -505,10 +503,32 @@ module _ {S : Type 0} (taken : S → Option (List ℕ)) (failed : S → ℕ) (wa
 -- ---- what takes no step in the layout
 
 module _ (wanted : Wanted) (pass : Pass) (levels : List Level) (put : List Placed) where
+  -- only what may be inline changes
+  pending_at : (left : Tree) (pending : Option PendingBucket) (entries : Vec Leaf Global) (within : List Level) (inside : Tree) (is : IsAt wanted pass levels left put)
+      → IsPending pending entries.items (map level_of is.frames) is.rest within inside → IsAt wanted (record pass { pending = pending; entries = entries }) within inside put
+  pending_at left pending entries within inside is pends = record {
+    frames = is.frames;
+    state = is.state;
+    rest = is.rest;
+    under = is.under;
+    runs = is.runs;
+    waits = is.waits;
+    put_is = is.put_is;
+    pends = pends;
+    held = is.held;
+    opened = is.opened;
+    opened_is = is.opened_is;
+    coming = is.coming;
+    around = is.around;
+    numbers = is.numbers;
+    numbered = is.numbered;
+    has_noted = is.has_noted;
+  }
+
   -- a value of a bucket that may be inline
   pub keep_at : (key value : List ℕ) (after : Tree) (p : PendingBucket) (entry : Leaf) (size : ℕ) (entries : Vec Leaf Global) → IsAt wanted pass levels (with_value key value after) put → pass.pending ≡ Some p
       → entries.items ≡ pass.entries.items ++ entry ∷ [] → leaf_view entry ≡ value_element key value
-      → IsAt wanted (record { setup = pass.setup; limits = pass.limits; waiting = pass.waiting; bucket = pass.bucket; pending = Some (record { key = p.key; sequence = p.sequence; size = size }); entries = entries; next = pass.next; opened = pass.opened; around = pass.around; most = pass.most; noted = pass.noted }) levels after put
+      → IsAt wanted (record pass { pending = Some (record { key = p.key; sequence = p.sequence; size = size }); entries = entries }) levels after put
   keep_at key value after p entry size entries is some pushed view =
       let (behind, same, rest) = subst (λ (q : Option PendingBucket). IsPending q pass.entries.items (map level_of is.frames) is.rest levels (with_value key value after)) some is.pends in
       let shown : List LeafElement = map leaf_view pass.entries.items in
@@ -516,50 +536,17 @@ module _ (wanted : Wanted) (pass : Pass) (levels : List Level) (put : List Place
       ap (map leaf_view) pushed ∙ (map-append leaf_view pass.entries.items (entry ∷ []) ∙ ap (λ (e : LeafElement). shown ++ e ∷ []) view) in
       let onto_is : onto (map leaf_view entries.items) after ≡ onto shown (with_value key value after) =
       ap (λ (es : List LeafElement). onto es after) all ∙ onto_push shown (value_element key value) after in
-      record {
-        frames = is.frames;
-        state = is.state;
-        rest = is.rest;
-        under = is.under;
-        runs = is.runs;
-        waits = is.waits;
-        put_is = is.put_is;
-        held = is.held;
-        opened = is.opened;
-        opened_is = is.opened_is;
-        coming = is.coming;
-        around = is.around;
-        numbers = is.numbers;
-        numbered = is.numbered;
-        has_noted = is.has_noted;
-        pends = (behind, same, rest ∙ ap (λ (t : Tree). with_bucket p.key.now p.sequence t behind) (sym onto_is));
-      }
+      pending_at (with_value key value after) (Some (record { key = p.key; sequence = p.sequence; size = size })) entries levels after is
+      (behind, same, rest ∙ ap (λ (t : Tree). with_bucket p.key.now p.sequence t behind) (sym onto_is))
 
   -- a bucket that may be inline
   pub begin_at : (key : Bor (List ℕ)) (sequence : ℕ) (inside after : Tree) → IsAt wanted pass levels (with_bucket key.now sequence inside after) put → pass.pending ≡ None → pass.entries.items ≡ []
-      → IsAt wanted (record { setup = pass.setup; limits = pass.limits; waiting = pass.waiting; bucket = pass.bucket; pending = Some (record { key = key; sequence = sequence; size = 16 }); entries = pass.entries; next = pass.next; opened = pass.opened; around = pass.around; most = pass.most; noted = pass.noted })
-      (record { key = key.now; after = after } ∷ levels) inside put
+      → IsAt wanted (record pass { pending = Some (record { key = key; sequence = sequence; size = 16 }) }) (record { key = key.now; after = after } ∷ levels) inside put
   begin_at key sequence inside after is none empty =
       let (same, rest) = subst (λ (q : Option PendingBucket). IsPending q pass.entries.items (map level_of is.frames) is.rest levels (with_bucket key.now sequence inside after)) none is.pends in
-      record {
-        frames = is.frames;
-        state = is.state;
-        rest = is.rest;
-        under = is.under;
-        runs = is.runs;
-        waits = is.waits;
-        put_is = is.put_is;
-        held = is.held;
-        opened = is.opened;
-        opened_is = is.opened_is;
-        coming = is.coming;
-        around = is.around;
-        numbers = is.numbers;
-        numbered = is.numbered;
-        has_noted = is.has_noted;
-        pends = (
-          after,
-          ap (λ (ls : List Level). record { key = key.now; after = after } ∷ ls) same,
-          rest ∙ ap (λ (es : List Leaf). with_bucket key.now sequence (onto (map leaf_view es) inside) after) (sym empty),
-        );
-      }
+      let own : Level = record { key = key.now; after = after } in
+      pending_at (with_bucket key.now sequence inside after) (Some (record { key = key; sequence = sequence; size = 16 })) pass.entries (own ∷ levels) inside is (
+        after,
+        ap (λ (ls : List Level). own ∷ ls) same,
+        rest ∙ ap (λ (es : List Leaf). with_bucket key.now sequence (onto (map leaf_view es) inside) after) (sym empty),
+      )

@@ -31,8 +31,7 @@ use Rattle.bolt_bulk.specs.declared.page_setup.PageSetup.{PageSetup}
 use Rattle.bolt_bulk.specs.declared.fault.BulkFault.{BulkFault}
 use Rattle.bolt_bulk.specs.declared.pass.Ended.{Ended}
 use Rattle.bolt_bulk.specs.declared.pass.Pass.{Pass}
-use Rattle.bolt_bulk.specs.Private.RowLimits.{limit_in}
-use Rattle.bolt_bulk.specs.declared.limits.BucketLimits.{BucketLimits}
+use Rattle.bolt_bulk.specs.Private.RowLimits.{BucketEnds, limit_in}
 use Rattle.bolt_bulk.specs.declared.pending_bucket.PendingBucket.{PendingBucket}
 use Rattle.bolt_bulk.specs.declared.noted_limits.NotedLimits.{NotedLimits}
 use Rattle.bolt_bulk.proofs.Frames.{pass_begins, pass_ends}
@@ -43,9 +42,8 @@ use Rattle.bolt_bulk.proofs.OpenRunLemmas.{ends}
 use Rattle.bolt_bulk.proofs.Openings.{all_coming, root_notes}
 use Rattle.bolt_bulk.proofs.PassAt.{on_of}
 use Rattle.bolt_bulk.proofs.PassLeft.{depth_levels}
-use Rattle.bolt_bulk.proofs.PassRuns.{end_numbered}
 use Rattle.bolt_bulk.proofs.PassSteps.{IsOn}
-use Rattle.bolt_bulk.proofs.Tables.{BucketEnds, no_numbers, none_noted, opened_most, table_fits, noted_leaves}
+use Rattle.bolt_bulk.proofs.Tables.{no_numbers, none_noted, opened_most, table_fits, noted_leaves}
 use Rattle.bolt_bulk.proofs.PutsLemmas.{bytes-append, pages_some, puts_first, puts_then, short_then}
 
 -- ---- the next member
@@ -172,7 +170,7 @@ pub record HasEnd (wanted : Wanted) (pass : Pass) (put : List Placed) : Type 0 w
   pub root : runs_end pass.setup.page_size (bucket_runs pass.bucket pass.next) ≡ layout_root wanted.which pass.setup.page_size wanted.tree
   pub mark : bucket_end_next pass.setup.page_size (bucket_runs pass.bucket pass.next) ≡ layout_mark wanted.which pass.setup.page_size wanted.tree
   pub held : pass.most ≡ capped (layout_held wanted.which pass.setup.page_size wanted.tree)
-  pub noted : (noted : NotedLimits) → BucketEnds pass.noted noted pass.bucket.limits.bucket pass.bucket.uppers.items → wanted.notes ≡ true → wanted.which ≡ Plain
+  pub noted : (noted : NotedLimits) → BucketEnds pass.noted noted pass.bucket.uppers → wanted.notes ≡ true → wanted.which ≡ Plain
       → layout_mark wanted.which pass.setup.page_size wanted.tree ≤ 18446744073709551615 → FitLimits Balanced wanted.tree pass.setup.page_size (limits_with noted.limits)
 
 root_ended : (page_size : ℕ) (wanted : Wanted) (state : Open) (runs : BucketRuns) (put : List Placed) → IsOn wanted.which page_size wanted.tree [] state [] runs put
@@ -183,7 +181,7 @@ root_ended page_size wanted state runs put on =
     let whole : end_of page_size state ≡ root_of wanted.which page_size wanted.tree = ends wanted.which page_size state on.under.root on.under.current ∙ on.under.stack in (
       sym (pass_ends wanted.which page_size wanted.tree state on.under) ∙ (ap (λ (ps : List Placed). all_put [] state ++ ps) (sym ended.0) ∙ ap (λ (ps : List Placed). ps ++ runs_end_put page_size runs) (sym on.put_is)),
       ended.1 ∙ ap (λ (r : Laid BranchElement). (r.element first_page).child) whole,
-      end_numbered page_size runs state first_page on.runs_are_kept ∙ ap (λ (r : Laid BranchElement). first_page + r.numbers) whole,
+      ended.2 ∙ ap (λ (r : Laid BranchElement). first_page + r.numbers) whole,
       sym (end_held page_size state on.under.begun) ∙ ap (λ (r : Laid BranchElement). r.held) whole,
     )
 
@@ -207,9 +205,7 @@ has_end wanted pass put has shallow =
           let numbered = subst (λ (fs : List Frame). AreNumbered wanted P at.opened at.numbers (open_in at.state fs)) frames at.numbered in
           let around = subst (λ (fs : List Frame). AreComingAround wanted P (limits_by pass) (at.opened + 0) fs) frames right.1 in
           let most = opened_most wanted P (limits_by pass) (at.opened + 0) at.frames right.1 in
-          let number : pass.bucket.limits.bucket ≡ at.state.known.limits.bucket = ap (λ (l : BucketLimits). l.bucket) at.runs.limits_are in
-          let last = noted_leaves wanted P pass.noted noted at.opened (base_in at.frames) at.numbers at.state [] pass.bucket.uppers.items on.under.root at.has_noted numbered (omega arith) at.runs.above on.under.current
-          (subst (λ (n : ℕ). BucketEnds pass.noted noted n pass.bucket.uppers.items) number ended) in
+          let last = noted_leaves wanted P pass.noted noted at.opened (base_in at.frames) at.numbers at.state [] pass.bucket.uppers on.under.root at.has_noted numbered (omega arith) at.runs.above at.runs.limits_are on.under.current ended in
           let table = subst (λ (ns : List ℕ). IsTable P wanted.tree noted.limits at.opened ns) (no_numbers wanted P at.opened last.numbers last.numbered) (last.has_noted.table asked which fits) in
           let count : suc (opened_in wanted.which P wanted.tree) ≡ suc (opened_in Plain P wanted.tree) = ap (λ (w : Layout). suc (opened_in w P wanted.tree)) which in
           table_fits P wanted.tree noted.limits at.opened table (omega arith) (omega arith);

@@ -8,7 +8,7 @@
 
 mod all_pages;
 mod branch_page;
-mod branch_runs;
+mod branch_run;
 mod bucket_value;
 mod copy;
 mod fault;
@@ -29,6 +29,7 @@ mod page_setup;
 mod pass;
 mod pending_bucket;
 mod pieces;
+mod upper_runs;
 mod waiting_bucket;
 
 pub use copy::{compact, compact_as, compact_recovered, plan, plan_as};

@@ -4,7 +4,7 @@ ghost use Rattle.bolt_layout.specs.Limits.{limit_at, limits_from_ends};
 ghost use Rattle.bolt_bulk.specs.Private.RowLimits.{IsOtherRow, bucket_limit, limit_in, run_end};
 ghost use Rattle.bolt_bulk.specs.declared.fault.BulkFault.TheVariants as fault;
 
-use crate::branch_runs::BranchRun;
+use crate::branch_run::BranchRun;
 use crate::fault::BulkFault;
 use std::alloc::Global;
 use std::collections::BTreeMap;

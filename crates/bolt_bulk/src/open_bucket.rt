@@ -14,13 +14,13 @@ ghost use Rattle.bolt_bulk.specs.Private.WaitingBuckets.{IsWaiting};
 ghost use Rattle.bolt_bulk.specs.Puts.{Puts};
 ghost use Rattle.bolt_bulk.specs.declared.fault.BulkFault.TheVariants as fault;
 
-use crate::branch_runs::{BranchRun, climb, close_all};
 use crate::fault::BulkFault;
 use crate::held::{Held, Stored};
 use crate::leaf_run::LeafRun;
 use crate::limits::BucketLimits;
 use crate::page_setup::PageSetup;
 use crate::pending_bucket::PendingBucket;
+use crate::upper_runs::UpperRuns;
 use crate::waiting_bucket::{ROOT_ITEM_LEN, WaitingBucket};
 use bolt_format::{ELEMENT_LEN, HEAD_LEN, HEADER_LEN, Leaf, Sink};
 use std::alloc::Global;
@@ -29,9 +29,7 @@ use std::alloc::Global;
 #[derive(Drop)]
 pub(crate) struct OpenBucket<'a> {
     pub leaves: LeafRun<'a>,
-    pub uppers: Vec<BranchRun<'a>>,
-    /// How many runs the rows above its leaves may have.
-    pub limits: BucketLimits<'a>,
+    pub uppers: UpperRuns<'a>,
 }
 
 /// The items of entries that are values.
@@ -65,8 +63,7 @@ impl<'a> OpenBucket<'a> {
                 inlined: Vec::new(alloc),
                 size: HEADER_LEN,
             },
-            uppers: Vec::new(alloc),
-            limits,
+            uppers: UpperRuns::new(alloc, limits),
         }
     }
 
@@ -95,8 +92,7 @@ impl<'a> OpenBucket<'a> {
         };
         Ok(OpenBucket {
             leaves,
-            uppers: Vec::new(alloc),
-            limits,
+            uppers: UpperRuns::new(alloc, limits),
         })
     }
 
@@ -125,18 +121,8 @@ impl<'a> OpenBucket<'a> {
         if self.leaves.has_room(setup.page_size, size) {
             return Ok(());
         }
-        match self.leaves.close(setup, next, sink) {
-            Err(fault) => Err(fault),
-            Ok(closed) => climb(
-                setup,
-                self.limits,
-                key,
-                closed,
-                &mut self.uppers,
-                next,
-                sink,
-            ),
-        }
+        let closed = self.leaves.close(setup, next, sink)?;
+        self.uppers.climb(setup, key, closed, next, sink)
     }
 
     /// Reserves memory for one more item. The open runs stay the same.
@@ -324,10 +310,8 @@ impl<'a> OpenBucket<'a> {
         ensures within { OnOk result (next.new ≤ setup.now.limit) }
         ensures large { IfErr result (λ e. e ≡ fault.TooLarge → setup.now.limit < bucket_end_next setup.now.page_size (bucket_runs self.old next.old)) }
     {
-        match self.leaves.close(setup, next, sink) {
-            Err(fault) => Err(fault),
-            Ok(closed) => close_all(setup, closed, &mut self.uppers, next, sink),
-        }
+        let closed = self.leaves.close(setup, next, sink)?;
+        self.uppers.close_all(setup, closed, next, sink)
     }
 
     /// How many items its runs hold. Saturates at 2^64 - 1.
@@ -335,8 +319,8 @@ impl<'a> OpenBucket<'a> {
         ensures { result ≡ min (items_in self.now) 18446744073709551615 }
     {
         let mut held = self.leaves.items.len() as u64;
-        for i in 0..self.uppers.len() {
-            held = held.saturating_add(self.uppers[i].elements.len() as u64);
+        for i in 0..self.uppers.runs.len() {
+            held = held.saturating_add(self.uppers.runs[i].elements.len() as u64);
         }
         held
     }

@@ -343,9 +343,7 @@ impl<'a> Pass<'a> {
         ensures steps { (wanted : Wanted) (level : Level) (levels : List Level) (put : List Placed) → IsAt wanted self.old (level ∷ levels) end put
             → Steps wanted S.taken S.failed sink.old sink.new self.old.setup put (IsAt wanted self.new levels level.after) result }
     {
-        let ended = self
-            .noted
-            .bucket_ends(self.bucket.limits.bucket, self.bucket.uppers.as_slice());
+        let ended = self.noted.bucket_ends(&self.bucket.uppers);
         if let Err(fault) = ended {
             return Err(fault);
         }
@@ -355,7 +353,7 @@ impl<'a> Pass<'a> {
         let around = waiting.around;
         let inner = mem::replace(
             &mut self.bucket,
-            OpenBucket::new(self.setup.alloc, waiting.bucket.limits),
+            OpenBucket::new(self.setup.alloc, waiting.bucket.uppers.limits),
         );
         match waiting.end_inner(&self.setup, inner, &mut self.next, sink) {
             Err(fault) => Err(fault),
@@ -421,9 +419,7 @@ impl<'a> Pass<'a> {
         if let Err(fault) = self.leave_to(1, sink) {
             return Err(fault);
         }
-        let ended = self
-            .noted
-            .bucket_ends(self.bucket.limits.bucket, self.bucket.uppers.as_slice());
+        let ended = self.noted.bucket_ends(&self.bucket.uppers);
         if let Err(fault) = ended {
             return Err(fault);
         }

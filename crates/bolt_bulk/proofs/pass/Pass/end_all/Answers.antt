@@ -12,7 +12,6 @@ use Rattle.bolt_bulk.specs.declared.pass.Ended.{Ended}
 use Rattle.bolt_bulk.proofs.PassAt.{puts_fault, steps_none}
 use Rattle.bolt_bulk.proofs.PassEnds.{ends_after, ends_early, has_end}
 use Rattle.bolt_bulk.specs.declared.limits.Limits.{Limits}
-use Rattle.bolt_bulk.proofs.Tables.{BucketEnds}
 use Rattle.bolt_bulk.proofs.pass.Pass.end_all.Goals as goal
 
 pub returns-in-Err : goal.returns-in-Err
@@ -50,8 +49,6 @@ returns-in-Err-close_runs g c = λ wanted put has.
 pub returns-in-Ok : goal.returns-in-Ok
 returns-in-Ok g c = λ wanted put has.
     let well : Result Ended BulkFault = Ok (record { root = c.in-Ok.root; high_water = c.close_runs.new.next; held = c.leave_to.new.self.most; noted = c.take_limits.result }) in
-    let ends : BucketEnds c.leave_to.new.self.noted c.bucket_ends-ended.new.self c.leave_to.new.self.bucket.limits.bucket c.leave_to.new.self.bucket.uppers.items =
-    record { same = c.in_default-ended.ensures.same; noted = rw c.as_slice.ensures.value at c.in_default-ended.ensures.noted; others = c.in_default-ended.ensures.others } in
     ends_after wanted g.S.Sink.taken g.S.Sink.failed c.args.self.now.setup c.args.sink.now c.leave_to.new.sink c.close_runs.new.sink put (HasLeft wanted c.leave_to.new.self []) tt well (c.in_default.ensures.steps wanted [] put has tt)
     (λ all mid. let end = has_end wanted c.leave_to.new.self all mid c.in_default.ensures.depth in
     subst (λ (b : PageSetup). Ends wanted g.S.Sink.taken g.S.Sink.failed c.leave_to.new.sink c.close_runs.new.sink b all well) c.in_default.ensures.setup
@@ -68,7 +65,7 @@ returns-in-Ok g c = λ wanted put has.
           let next = c.in-Ok.ensures.next in
           let within = c.in-Ok.ensures.within in
           let counted = c.leave_to.new.self.setup.counted in
-          subst (λ (l : Limits). FitLimits Balanced wanted.tree c.leave_to.new.self.setup.page_size (limits_with l)) (sym c.take_limits.ensures) (end.noted c.bucket_ends-ended.new.self ends asked which (omega arith));
+          subst (λ (l : Limits). FitLimits Balanced wanted.tree c.leave_to.new.self.setup.page_size (limits_with l)) (sym c.take_limits.ensures) (end.noted c.bucket_ends-ended.new.self c.in_default-ended.ensures.ends asked which (omega arith));
       held = end.held;
       large = tt;
     }))

@@ -8,7 +8,6 @@ use Rattle.bolt_bulk.proofs.HeldPasses.{waits_less}
 use Rattle.bolt_bulk.proofs.PassAt.{leave_steps, puts_well, steps_none, steps_stop}
 use Rattle.bolt_bulk.proofs.PassReady.{last_of}
 use Rattle.bolt_bulk.specs.declared.noted_limits.NotedLimits.{NotedLimits}
-use Rattle.bolt_bulk.proofs.Tables.{BucketEnds}
 use Rattle.bolt_bulk.proofs.pass.Pass.end_open.Goals as goal
 
 pub end_inner-requires-clause-waits : goal.end_inner-requires-clause-waits
@@ -23,19 +22,15 @@ returns-in-Err-clause-steps g c = λ wanted level levels put is.
 pub returns-in-Err-end_inner-clause-steps : goal.returns-in-Err-end_inner-clause-steps
 returns-in-Err-end_inner-clause-steps g c = λ wanted level levels put is.
     let noted : NotedLimits = c.bucket_ends-ended.new.self in
-    let ended : BucketEnds c.args.self.now.noted noted c.args.self.now.bucket.limits.bucket c.args.self.now.bucket.uppers.items =
-    record { same = c.in_default.ensures.same; noted = rw c.as_slice.ensures.value at c.in_default.ensures.noted; others = c.in_default.ensures.others } in
     steps_stop wanted g.S.Sink.taken g.S.Sink.failed c.args.self.now.setup c.args.sink.now c.end_inner.new.sink put _ _ c.in-Err-end_inner.fault
     (leave_steps g.S.Sink.taken g.S.Sink.failed wanted c.args.self.now put level levels c.in-Some.waiting c.args.sink.now c.end_inner.new.sink c.args.self.now.bucket c.pop.new.self c.end_inner.new.next 0 noted c.args.self.now _ is c.requires.pending
-    c.in-Some.ensures.items ended (rw c.replace-inner.ensures.value at c.in-Err-end_inner.ensures.pages) tt (rw c.replace-inner.ensures.value at c.in-Err-end_inner.ensures.large) tt)
+    c.in-Some.ensures.items c.in_default.ensures.ends (rw c.replace-inner.ensures.value at c.in-Err-end_inner.ensures.pages) tt (rw c.replace-inner.ensures.value at c.in-Err-end_inner.ensures.large) tt)
 
 pub returns-in-Ok-clause-steps : goal.returns-in-Ok-clause-steps
 returns-in-Ok-clause-steps g c = λ wanted level levels put is.
     let noted : NotedLimits = c.bucket_ends-ended.new.self in
-    let ended : BucketEnds c.args.self.now.noted noted c.args.self.now.bucket.limits.bucket c.args.self.now.bucket.uppers.items =
-    record { same = c.in_default.ensures.same; noted = rw c.as_slice.ensures.value at c.in_default.ensures.noted; others = c.in_default.ensures.others } in
     leave_steps g.S.Sink.taken g.S.Sink.failed wanted c.args.self.now put level levels c.in-Some.waiting c.args.sink.now c.end_inner.new.sink c.in-Ok.outer c.pop.new.self c.end_inner.new.next _ noted c.count.new.self _ is c.requires.pending
-    c.in-Some.ensures.items ended (puts_well _ _ _ c.in-Ok.outer (rw c.replace-inner.ensures.value at c.in-Ok.ensures.pages)) (rw c.replace-inner.ensures.value at c.in-Ok.ensures.runs) tt c.count.ensures.counts
+    c.in-Some.ensures.items c.in_default.ensures.ends (puts_well _ _ _ c.in-Ok.outer (rw c.replace-inner.ensures.value at c.in-Ok.ensures.pages)) (rw c.replace-inner.ensures.value at c.in-Ok.ensures.runs) tt c.count.ensures.counts
 
 pub count-requires : goal.count-requires
 count-requires g c =
