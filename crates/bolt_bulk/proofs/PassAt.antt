@@ -1,6 +1,6 @@
 -- The steps of a pass, over what the code keeps of it.
 use Rattle.std.proofs.Common.{◌≡◌, ◌∙◌, ℕ, suc, ◌+◌, ◌<◌, true, false, List, [], ◌∷◌, ◌++◌, length, map, max, min, reverse, Option, Some, None, Result, Ok, Err, Bor, Vec, Global, refl, sym, ap, subst, arith, append_assoc}
-use Rattle.std.specs.Prelude.{⊤, IfErr, OnOk}
+use Rattle.std.specs.Prelude.{⊤, IfErr, IsErrAnd, OnOk}
 use Rattle.std.specs.List.{AllByRecursion}
 use Rattle.std.proofs.KnownBytes.{Appends-nil}
 use Rattle.std.proofs.lemmas.List.{append-nil, length-map, map-append, reverse-append}
@@ -105,14 +105,15 @@ module _ {S : Type 0} (wanted : Wanted) (taken : S → Option (List ℕ)) (faile
       }
 
   -- a fault is returned on
-  pub steps_stop : {A B : Type 0} (old new : S) (put : List Placed) (Mid At : List Placed → Type 0) (e : BulkFault) → StepsBy {A = A} old new put Mid (Err e) → StepsBy {A = B} old new put At (Err e)
-  steps_stop old new put Mid At e one = record {
+  pub steps_stop : {A B : Type 0} (old new : S) (put : List Placed) (Mid At : List Placed → Type 0) (e : BulkFault) (result : Result B BulkFault) → IsErrAnd result (λ f. f ≡ e) → StepsBy {A = A} old new put Mid (Err e) → StepsBy old new put At result
+  steps_stop old new put Mid At e (Ok x) same one = absurd same
+  steps_stop old new put Mid At e (Err f) same one = rw same (record {
     more = one.more;
     puts = record { all = tt; sound = tt; beginning = one.puts.beginning; failure = one.puts.failure; other = one.puts.other };
     at = tt;
     before = one.before;
     large = one.large;
-  }
+  })
 
   -- memory ran out after steps that went well
   pub steps_failed : {A B : Type 0} (old new : S) (put : List Placed) (At : List Placed → Type 0) (x : A) → StepsBy old new put At (Ok x) → StepsBy {A = B} old new put At (Err fault.Memory)
@@ -370,21 +371,22 @@ module _ {S : Type 0} (taken : S → Option (List ℕ)) (failed : S → ℕ) (wa
       }
 
   -- a fault on the way
-  pub open_stops : {A : Type 0} (levels : List Level) (left : Tree) (p : PendingBucket) (old new : S) (At : List Placed → Type 0) (e : BulkFault)
+  pub open_stops : {A B : Type 0} (levels : List Level) (left : Tree) (p : PendingBucket) (old new : S) (At : List Placed → Type 0) (e : BulkFault) (result : Result B BulkFault) → IsErrAnd result (λ f. f ≡ e)
       → IsAt wanted pass levels left put → pass.pending ≡ Some p → IsSmall P p pass.entries.items → HasRoot wanted.which P (onto (map leaf_view pass.entries.items) left)
       → Puts {A = A} taken failed old new (placed_bytes P (runs_room_put P runs_now p.key.now (32 + length p.key.now))) (Err e)
       → (e ≡ fault.TooLarge → pass.setup.limit < (room_for p).next)
-      → Steps {A = A} wanted taken failed old new pass.setup put At (Err e)
-  open_stops levels left p old new At e is some small rooted puts large =
+      → Steps wanted taken failed old new pass.setup put At result
+  open_stops levels left p old new At e (Ok x) same is some small rooted puts large = absurd same
+  open_stops levels left p old new At e (Err f) same is some small rooted puts large =
       let then = has_opened levels left p is some small rooted in
       let numbers = on_numbers wanted.which P wanted.tree _ _ _ _ _ then.on in
-      record {
+      rw same (record {
         more = runs_room_put P runs_now p.key.now (32 + length p.key.now);
-        puts = puts;
+        puts = puts_fault _ _ _ e puts;
         at = tt;
         before = on_before wanted.which P wanted.tree _ _ _ _ _ then.on;
         large = λ h. let m = large h in omega (arith, m, numbers);
-      }
+      })
 
   -- all went well
   pub open_steps : (levels : List Level) (left : Tree) (p : PendingBucket) (old new : S) (bucket : OpenBucket) (w : WaitingBucket) (around : Vec WaitingBucket Global) (entries : Vec Leaf Global) (next opened held : ℕ) (counted : Pass)

@@ -1,4 +1,5 @@
 -- The next member of a listing in a pass, the beginning of a pass, and its end.
+use Rattle.std.specs.Prelude.{IsErrAnd}
 use Rattle.std.proofs.Common.{◌≡◌, ◌≢◌, ◌∙◌, ℕ, suc, true, ◌+◌, ◌≤◌, List, [], ◌∷◌, ◌++◌, length, map, Option, Some, None, Result, Ok, Err, OnErr, refl, sym, ap, subst, arith, append_assoc}
 use Rattle.std.specs.List.{AllByRecursion}
 use Rattle.std.proofs.lemmas.List.{length-append}
@@ -231,12 +232,13 @@ rest_some page_size (page ∷ pages) some = pages_some page_size page pages
 
 module _ {S : Type 0} (wanted : Wanted) (taken : S → Option (List ℕ)) (failed : S → ℕ) (setup : PageSetup) where
   -- a step failed on the way
-  pub ends_early : {A : Type 0} (old new : S) (put : List Placed) (At : List Placed → Type 0) (e : BulkFault) → Steps {A = A} wanted taken failed old new setup put At (Err e) → Ends wanted taken failed old new setup put (Err e)
-  ends_early old new put At e steps =
+  pub ends_early : {A : Type 0} (old new : S) (put : List Placed) (At : List Placed → Type 0) (e : BulkFault) (result : Result Ended BulkFault) → IsErrAnd result (λ f. f ≡ e) → Steps {A = A} wanted taken failed old new setup put At (Err e) → Ends wanted taken failed old new setup put result
+  ends_early old new put At e (Ok x) same steps = absurd same
+  ends_early old new put At e (Err f) same steps =
       let P : ℕ = setup.page_size in
       let others : List Placed = steps.more ++ steps.before.rest in
       let bytes : placed_bytes P others ≡ placed_bytes P steps.more ++ placed_bytes P steps.before.rest = bytes-append P steps.more steps.before.rest in
-      record {
+      rw same (record {
         others = others;
         all = steps.before.parts ∙ append_assoc put steps.more steps.before.rest;
         puts = subst (λ (bs : List ℕ). Puts {A = Ended} taken failed old new bs (Err e)) (sym bytes) (puts_first old new (placed_bytes P steps.more) (placed_bytes P steps.before.rest) e steps.puts);
@@ -248,7 +250,7 @@ module _ {S : Type 0} (wanted : Wanted) (taken : S → Option (List ℕ)) (faile
         noted = tt;
         held = tt;
         large = steps.large;
-      }
+      })
 
   -- after steps that went well
   pub ends_after : {A : Type 0} (old mid new : S) (put : List Placed) (At : List Placed → Type 0) (x : A) (result : Result Ended BulkFault) → Steps wanted taken failed old mid setup put At (Ok x)

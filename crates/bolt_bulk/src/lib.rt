@@ -16,7 +16,6 @@ mod file_laws;
 mod first_pages;
 mod headers;
 mod held;
-mod held_count;
 mod leaf_page;
 mod leaf_run;
 mod limits;

@@ -56,10 +56,8 @@ impl Limits {
         ensures others { OnOk result ((b l : ℕ) → IsOtherRow bucket level b l → limit_in self.new b l ≡ limit_in self.old b l) }
         ensures fault { IfErr result (λ e. e ≡ fault.Memory) }
     {
-        match self.rows.insert((bucket, level), left) {
-            Ok(_) => Ok(()),
-            Err(_) => Err(BulkFault::Memory),
-        }
+        self.rows.insert((bucket, level), left)?;
+        Ok(())
     }
 
     /// Notes the limits of a bucket that ends, from its open runs in the plain layout. If a row

@@ -44,9 +44,7 @@ fn value_items<'a>(alloc: Global, entries: &[Leaf<'a>]) -> Result<Vec<Held<'a>>,
             key: entry.key,
             stored: Stored::Value(entry.value),
         };
-        if items.push(held).is_err() {
-            return Err(BulkFault::Memory);
-        }
+        items.push(held)?;
     }
     Ok(items)
 }
@@ -133,9 +131,7 @@ impl<'a> OpenBucket<'a> {
         ensures memory { OnOk result (vec_len self.new.leaves.items < vec_capacity self.new.leaves.items) }
         ensures fault { IfErr result (λ e. e ≡ fault.Memory) }
     {
-        if self.leaves.items.reserve(1).is_err() {
-            return Err(BulkFault::Memory);
-        }
+        self.leaves.items.reserve(1)?;
         Ok(())
     }
 
@@ -165,9 +161,7 @@ impl<'a> OpenBucket<'a> {
         ensures open { OnOk result (IsOpenBucket self.new) }
         ensures fault { IfErr result (λ e. e ≡ fault.Memory) }
     {
-        if self.leaves.items.push(held).is_err() {
-            return Err(BulkFault::Memory);
-        }
+        self.leaves.items.push(held)?;
         self.leaves.size += size;
         Ok(())
     }
@@ -192,18 +186,14 @@ impl<'a> OpenBucket<'a> {
         ensures fault { IfErr result (λ e. e ≡ fault.Memory) }
     {
         let first = self.leaves.inlined.len();
-        if self.leaves.inlined.extend_from_slice(entries).is_err() {
-            return Err(BulkFault::Memory);
-        }
+        self.leaves.inlined.extend_from_slice(entries)?;
         let stored = Stored::Inline {
             sequence,
             first,
             count: entries.len(),
             size,
         };
-        if self.leaves.items.push(Held { key, stored }).is_err() {
-            return Err(BulkFault::Memory);
-        }
+        self.leaves.items.push(Held { key, stored })?;
         self.leaves.size += ELEMENT_LEN + (key.len() + size);
         Ok(())
     }

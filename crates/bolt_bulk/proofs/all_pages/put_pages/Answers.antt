@@ -33,23 +33,23 @@ members-init g c = record {
       (subst (λ (ms : List Member). HasLeft wanted c.new-pass.result ms []) all (c.new-pass.ensures.at wanted refl (subst (λ (n : ℕ). FitLimits which (tree_of listing) n (limits_with c.args.limits.now)) (ap (λ (b : PageSetup). b.page_size) c.new-pass.ensures.setup) fit)));
 }
 
-pub returns-in-Err-clause-pages : goal.returns-in-Err-clause-pages
-returns-in-Err-clause-pages g c = λ which listing lists fit0.
+pub returns-in_err-item-clause-pages : goal.returns-in_err-item-clause-pages
+returns-in_err-item-clause-pages g c = λ which listing lists fit0.
     let wanted : Wanted = record { which = which; tree = tree_of listing; notes = c.args.notes } in
     let fit = subst (λ (b : PageSetup). FitLimits which (tree_of listing) b.page_size (limits_with c.args.limits.now)) (sym c.new-pass.ensures.setup) fit0 in
     let steps = c.members.invariant.steps which listing lists fit in
-    subst (λ (b : PageSetup). Ends wanted g.S.Sink.taken g.S.Sink.failed c.args.sink.now c.members.sink b [] (Err fault.Memory)) c.new-pass.ensures.setup
-    (ends_early wanted g.S.Sink.taken g.S.Sink.failed c.new-pass.result.setup c.args.sink.now c.members.sink [] (HasLeft wanted c.members.pass (g.M.Members.left c.members.members listing)) fault.Memory
+    subst (λ (b : PageSetup). Ends wanted g.S.Sink.taken g.S.Sink.failed c.args.sink.now c.members.sink b [] c.from_residual.result) c.new-pass.ensures.setup
+    (ends_early wanted g.S.Sink.taken g.S.Sink.failed c.new-pass.result.setup c.args.sink.now c.members.sink [] (HasLeft wanted c.members.pass (g.M.Members.left c.members.members listing)) fault.Memory c.from_residual.result c.from_residual.ensures.1
     (steps_failed wanted g.S.Sink.taken g.S.Sink.failed c.new-pass.result.setup {B = ⊤} c.args.sink.now c.members.sink [] _ tt steps))
 
 pub end_all-requires : goal.end_all-requires
 end_all-requires g c = c.members.invariant.ready
 
-pub returns-in-Ok-None-clause-pages : goal.returns-in-Ok-None-clause-pages
-returns-in-Ok-None-clause-pages g c = λ which listing lists fit0.
+pub returns-clause-pages : goal.returns-clause-pages
+returns-clause-pages g c = λ which listing lists fit0.
     let wanted : Wanted = record { which = which; tree = tree_of listing; notes = c.args.notes } in
     let fit = subst (λ (b : PageSetup). FitLimits which (tree_of listing) b.page_size (limits_with c.args.limits.now)) (sym c.new-pass.ensures.setup) fit0 in
-    let given = rw c.in-Ok-None.field-0-is at c.in-Ok-None.ensures.given in
+    let given = rw c.in_default.is at c.in_ok-item.ensures.given in
     let here = (c.members.invariant.same listing).1 lists in
     let none : g.M.Members.left c.members.members listing ≡ [] = (given listing here).0 in
     let steps = c.members.invariant.steps which listing lists fit in
@@ -63,40 +63,40 @@ take_member-requires-clause-ready g c = c.members.invariant.ready
 
 pub take_member-requires-clause-fit : goal.take_member-requires-clause-fit
 take_member-requires-clause-fit g c =
-    let given = rw c.in-Ok-Some.field-0-is at c.in-Ok-Some.ensures.given in
+    let given = rw c.in-Some.is at c.in_ok-item.ensures.given in
     let path : g.M.Members.last_path c.next.new.self ≡ path_of c.path.result.now = sym c.path.ensures in
-    first_fits g.M.Members.lists g.M.Members.left c.args.members.now c.members.members c.next.new.self (path_of c.path.result.now) (item_view c.in-Ok-Some.item)
+    first_fits g.M.Members.lists g.M.Members.left c.args.members.now c.members.members c.next.new.self (path_of c.path.result.now) (item_view c.in-Some.item)
     c.requires.whole.some c.members.invariant.fit
-    (λ listing is. given listing ((c.members.invariant.same listing).1 is) ∙ ap (λ (p : Path). (p, item_view c.in-Ok-Some.item) ∷ g.M.Members.left c.next.new.self listing) path)
+    (λ listing is. given listing ((c.members.invariant.same listing).1 is) ∙ ap (λ (p : Path). (p, item_view c.in-Some.item) ∷ g.M.Members.left c.next.new.self listing) path)
 
-pub returns-in-Err-take_member-clause-pages : goal.returns-in-Err-take_member-clause-pages
-returns-in-Err-take_member-clause-pages g c = λ which listing lists fit0.
+pub returns-in_err-take_member-clause-pages : goal.returns-in_err-take_member-clause-pages
+returns-in_err-take_member-clause-pages g c = λ which listing lists fit0.
     let wanted : Wanted = record { which = which; tree = tree_of listing; notes = c.args.notes } in
     let fit = subst (λ (b : PageSetup). FitLimits which (tree_of listing) b.page_size (limits_with c.args.limits.now)) (sym c.new-pass.ensures.setup) fit0 in
-    let given = rw c.in-Ok-Some.field-0-is at c.in-Ok-Some.ensures.given in
+    let given = rw c.in-Some.is at c.in_ok-item.ensures.given in
     let path : g.M.Members.last_path c.next.new.self ≡ path_of c.path.result.now = sym c.path.ensures in
-    let member : Member = (path_of c.path.result.now, item_view c.in-Ok-Some.item) in
+    let member : Member = (path_of c.path.result.now, item_view c.in-Some.item) in
     let next : g.M.Members.left c.members.members listing ≡ member ∷ g.M.Members.left c.next.new.self listing = given listing ((c.members.invariant.same listing).1 lists)
-    ∙ ap (λ (p : Path). (p, item_view c.in-Ok-Some.item) ∷ g.M.Members.left c.next.new.self listing) path in
-    let stop : Result ⊤ BulkFault = Err c.in-Err-take_member.fault in
+    ∙ ap (λ (p : Path). (p, item_view c.in-Some.item) ∷ g.M.Members.left c.next.new.self listing) path in
+    let stop : Result ⊤ BulkFault = Err c.in_err-take_member.field-0.0 in
     let At : List Placed → Type 0 = HasLeft wanted c.take_member.new.self (g.M.Members.left c.next.new.self listing) in
     let steps = c.members.invariant.steps which listing lists fit in
-    subst (λ (b : PageSetup). Ends wanted g.S.Sink.taken g.S.Sink.failed c.args.sink.now c.take_member.new.sink b [] (Err c.in-Err-take_member.fault)) c.new-pass.ensures.setup
-    (ends_early wanted g.S.Sink.taken g.S.Sink.failed c.new-pass.result.setup c.args.sink.now c.take_member.new.sink [] At c.in-Err-take_member.fault
+    subst (λ (b : PageSetup). Ends wanted g.S.Sink.taken g.S.Sink.failed c.args.sink.now c.take_member.new.sink b [] c.from_residual-in_err-take_member.result) c.new-pass.ensures.setup
+    (ends_early wanted g.S.Sink.taken g.S.Sink.failed c.new-pass.result.setup c.args.sink.now c.take_member.new.sink [] At _ c.from_residual-in_err-take_member.result c.from_residual-in_err-take_member.ensures.1
     (steps_then wanted g.S.Sink.taken g.S.Sink.failed c.new-pass.result.setup c.args.sink.now c.members.sink c.take_member.new.sink [] (HasLeft wanted c.members.pass (g.M.Members.left c.members.members listing)) At tt stop steps
     (λ all mid. subst (λ (b : PageSetup). Steps wanted g.S.Sink.taken g.S.Sink.failed c.members.sink c.take_member.new.sink b all At stop) c.members.invariant.setup
-    (c.in-Err-take_member.ensures.steps wanted (g.M.Members.left c.next.new.self listing) all (subst (λ (ms : List Member). HasLeft wanted c.members.pass ms all) next mid)))))
+    (c.in_err-take_member.ensures.steps wanted (g.M.Members.left c.next.new.self listing) all (subst (λ (ms : List Member). HasLeft wanted c.members.pass ms all) next mid)))))
 
 pub members-smaller : goal.members-smaller
-members-smaller g c = rw c.in-Ok-Some.field-0-is at c.in-Ok-Some.ensures.fewer
+members-smaller g c = rw c.in-Some.is at c.in_ok-item.ensures.fewer
 
 pub members-preserved : goal.members-preserved
 members-preserved g c =
-    let given = rw c.in-Ok-Some.field-0-is at c.in-Ok-Some.ensures.given in
+    let given = rw c.in-Some.is at c.in_ok-item.ensures.given in
     let path : g.M.Members.last_path c.next.new.self ≡ path_of c.path.result.now = sym c.path.ensures in
-    let member : Member = (path_of c.path.result.now, item_view c.in-Ok-Some.item) in
+    let member : Member = (path_of c.path.result.now, item_view c.in-Some.item) in
     let next : (listing : List Member) → g.M.Members.lists c.members.members listing → g.M.Members.left c.members.members listing ≡ member ∷ g.M.Members.left c.next.new.self listing = λ listing is.
-    given listing is ∙ ap (λ (p : Path). (p, item_view c.in-Ok-Some.item) ∷ g.M.Members.left c.next.new.self listing) path in
+    given listing is ∙ ap (λ (p : Path). (p, item_view c.in-Some.item) ∷ g.M.Members.left c.next.new.self listing) path in
     let taken : (which : Layout) (listing : List Member) (lists : g.M.Members.lists c.args.members.now listing)
     → FitLimits which (tree_of listing) c.new-pass.result.setup.page_size (limits_with c.args.limits.now)
     → Steps {A = ⊤} (record { which = which; tree = tree_of listing; notes = c.args.notes }) g.S.Sink.taken g.S.Sink.failed c.args.sink.now c.take_member.new.sink c.new-pass.result.setup []
@@ -107,16 +107,16 @@ members-preserved g c =
     steps_then wanted g.S.Sink.taken g.S.Sink.failed c.new-pass.result.setup c.args.sink.now c.members.sink c.take_member.new.sink [] (HasLeft wanted c.members.pass (g.M.Members.left c.members.members listing)) At tt well
     (c.members.invariant.steps which listing lists fit)
     (λ all mid. subst (λ (b : PageSetup). Steps wanted g.S.Sink.taken g.S.Sink.failed c.members.sink c.take_member.new.sink b all At well) c.members.invariant.setup
-    (c.in_default.ensures.steps wanted (g.M.Members.left c.next.new.self listing) all (subst (λ (ms : List Member). HasLeft wanted c.members.pass ms all) (next listing ((c.members.invariant.same listing).1 lists)) mid))) in
+    (c.in_ok-take_member.ensures.steps wanted (g.M.Members.left c.next.new.self listing) all (subst (λ (ms : List Member). HasLeft wanted c.members.pass ms all) (next listing ((c.members.invariant.same listing).1 lists)) mid))) in
     record {
       same = λ listing. (
         λ is. (c.members.invariant.same listing).0 ((c.next.ensures.listing listing).0 is),
         λ is. (c.next.ensures.listing listing).1 ((c.members.invariant.same listing).1 is),
       );
       end = λ end is. c.members.invariant.end end (c.next.ensures.same_end end is);
-      setup = c.in_default.ensures.setup ∙ c.members.invariant.setup;
-      ready = c.in_default.ensures.ready;
-      fit = others_fit g.M.Members.lists g.M.Members.left c.args.members.now c.members.members c.next.new.self (path_of c.path.result.now) (item_view c.in-Ok-Some.item)
+      setup = c.in_ok-take_member.ensures.setup ∙ c.members.invariant.setup;
+      ready = c.in_ok-take_member.ensures.ready;
+      fit = others_fit g.M.Members.lists g.M.Members.left c.args.members.now c.members.members c.next.new.self (path_of c.path.result.now) (item_view c.in-Some.item)
           c.members.invariant.fit (λ listing is. next listing ((c.members.invariant.same listing).1 is));
       steps = taken;
     }
