@@ -1,8 +1,8 @@
 -- Each member is taken, and then the root bucket ends.
-use Rattle.std.proofs.Common.{◌≡◌, ◌∙◌, ℕ, ◌∷◌, [], List, Result, Ok, Err, refl, sym, ap, subst}
+use Rattle.std.proofs.Common.{◌≡◌, ◌∙◌, ℕ, [], List, Result, Ok, Err, refl, sym, ap, subst}
 use Rattle.std.specs.Prelude.{⊤}
 use Rattle.bolt_tree.specs.Listing.{Member}
-use Rattle.bolt_tree.specs.Paths.{Path, path_of}
+use Rattle.bolt_tree.specs.Paths.{path_of}
 use Rattle.bolt_tree.specs.ShownEntries.{item_view}
 use Rattle.bolt_tree.specs.Tree.{tree_of}
 use Rattle.bolt_layout.specs.Laid.{Placed}
@@ -63,21 +63,17 @@ take_member-requires-clause-ready g c = c.members.invariant.ready
 
 pub take_member-requires-clause-fit : goal.take_member-requires-clause-fit
 take_member-requires-clause-fit g c =
-    let given = rw c.in-Some.is at c.in_ok-item.ensures.given in
-    let path : g.M.Members.last_path c.next.new.self ≡ path_of c.path.result.now = sym c.path.ensures in
+    let given = rw (c.in-Some.is, sym c.path.ensures) at c.in_ok-item.ensures.given in
     first_fits g.M.Members.lists g.M.Members.left c.args.members.now c.members.members c.next.new.self (path_of c.path.result.now) (item_view c.in-Some.item)
     c.requires.whole.some c.members.invariant.fit
-    (λ listing is. given listing ((c.members.invariant.same listing).1 is) ∙ ap (λ (p : Path). (p, item_view c.in-Some.item) ∷ g.M.Members.left c.next.new.self listing) path)
+    (λ listing is. given listing ((c.members.invariant.same listing).1 is))
 
 pub returns-in_err-take_member-clause-pages : goal.returns-in_err-take_member-clause-pages
 returns-in_err-take_member-clause-pages g c = λ which listing lists fit0.
     let wanted : Wanted = record { which = which; tree = tree_of listing; notes = c.args.notes } in
     let fit = subst (λ (b : PageSetup). FitLimits which (tree_of listing) b.page_size (limits_with c.args.limits.now)) (sym c.new-pass.ensures.setup) fit0 in
-    let given = rw c.in-Some.is at c.in_ok-item.ensures.given in
-    let path : g.M.Members.last_path c.next.new.self ≡ path_of c.path.result.now = sym c.path.ensures in
-    let member : Member = (path_of c.path.result.now, item_view c.in-Some.item) in
-    let next : g.M.Members.left c.members.members listing ≡ member ∷ g.M.Members.left c.next.new.self listing = given listing ((c.members.invariant.same listing).1 lists)
-    ∙ ap (λ (p : Path). (p, item_view c.in-Some.item) ∷ g.M.Members.left c.next.new.self listing) path in
+    let given = rw (c.in-Some.is, sym c.path.ensures) at c.in_ok-item.ensures.given in
+    let next = given listing ((c.members.invariant.same listing).1 lists) in
     let stop : Result ⊤ BulkFault = Err c.in_err-take_member.field-0.0 in
     let At : List Placed → Type 0 = HasLeft wanted c.take_member.new.self (g.M.Members.left c.next.new.self listing) in
     let steps = c.members.invariant.steps which listing lists fit in
@@ -92,11 +88,7 @@ members-smaller g c = rw c.in-Some.is at c.in_ok-item.ensures.fewer
 
 pub members-preserved : goal.members-preserved
 members-preserved g c =
-    let given = rw c.in-Some.is at c.in_ok-item.ensures.given in
-    let path : g.M.Members.last_path c.next.new.self ≡ path_of c.path.result.now = sym c.path.ensures in
-    let member : Member = (path_of c.path.result.now, item_view c.in-Some.item) in
-    let next : (listing : List Member) → g.M.Members.lists c.members.members listing → g.M.Members.left c.members.members listing ≡ member ∷ g.M.Members.left c.next.new.self listing = λ listing is.
-    given listing is ∙ ap (λ (p : Path). (p, item_view c.in-Some.item) ∷ g.M.Members.left c.next.new.self listing) path in
+    let given = rw (c.in-Some.is, sym c.path.ensures) at c.in_ok-item.ensures.given in
     let taken : (which : Layout) (listing : List Member) (lists : g.M.Members.lists c.args.members.now listing)
     → FitLimits which (tree_of listing) c.new-pass.result.setup.page_size (limits_with c.args.limits.now)
     → Steps {A = ⊤} (record { which = which; tree = tree_of listing; notes = c.args.notes }) g.S.Sink.taken g.S.Sink.failed c.args.sink.now c.take_member.new.sink c.new-pass.result.setup []
@@ -107,7 +99,7 @@ members-preserved g c =
     steps_then wanted g.S.Sink.taken g.S.Sink.failed c.new-pass.result.setup c.args.sink.now c.members.sink c.take_member.new.sink [] (HasLeft wanted c.members.pass (g.M.Members.left c.members.members listing)) At tt well
     (c.members.invariant.steps which listing lists fit)
     (λ all mid. subst (λ (b : PageSetup). Steps wanted g.S.Sink.taken g.S.Sink.failed c.members.sink c.take_member.new.sink b all At well) c.members.invariant.setup
-    (c.in_ok-take_member.ensures.steps wanted (g.M.Members.left c.next.new.self listing) all (subst (λ (ms : List Member). HasLeft wanted c.members.pass ms all) (next listing ((c.members.invariant.same listing).1 lists)) mid))) in
+    (c.in_ok-take_member.ensures.steps wanted (g.M.Members.left c.next.new.self listing) all (subst (λ (ms : List Member). HasLeft wanted c.members.pass ms all) (given listing ((c.members.invariant.same listing).1 lists)) mid))) in
     record {
       same = λ listing. (
         λ is. (c.members.invariant.same listing).0 ((c.next.ensures.listing listing).0 is),
@@ -117,6 +109,6 @@ members-preserved g c =
       setup = c.in_ok-take_member.ensures.setup ∙ c.members.invariant.setup;
       ready = c.in_ok-take_member.ensures.ready;
       fit = others_fit g.M.Members.lists g.M.Members.left c.args.members.now c.members.members c.next.new.self (path_of c.path.result.now) (item_view c.in-Some.item)
-          c.members.invariant.fit (λ listing is. next listing ((c.members.invariant.same listing).1 is));
+          c.members.invariant.fit (λ listing is. given listing ((c.members.invariant.same listing).1 is));
       steps = taken;
     }

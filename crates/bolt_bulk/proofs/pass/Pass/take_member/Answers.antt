@@ -1,5 +1,5 @@
 -- The buckets that the member isn't in are left; it is the next entry of the innermost one then.
-use Rattle.std.proofs.Common.{◌≡◌, ◌∙◌, ◌++◌, ◌∷◌, [], Bor, ℕ, List, ap, length, subst, arith}
+use Rattle.std.proofs.Common.{◌≤◌, ◌≡◌, ◌∙◌, ◌++◌, ◌∷◌, [], Bor, ℕ, List, ap, length, subst, arith}
 use Rattle.std.proofs.lemmas.List.{length-map, map-append}
 use Rattle.bolt_tree.specs.Entries as entries
 use Rattle.bolt_tree.specs.Listing.{Member}
@@ -24,6 +24,10 @@ last_is parts front key same =
     let shown : path_of parts ≡ path_of front ++ key.now ∷ [] = ap path_of same ∙ map-append (λ (part : Bor (List ℕ)). part.now) front (key ∷ []) in
     ap last_part shown ∙ last_pushed (path_of front) key.now
 
+-- which is no longer than the format allows
+key_fits : (parts front : List (Bor (List ℕ))) (key : Bor (List ℕ)) → parts ≡ front ++ key ∷ [] → length (last_part (path_of parts)) ≤ 1073741824 → length key.now ≤ 1073741824
+key_fits parts front key same fits = let n = ap (λ (k : List ℕ). length k) (last_is parts front key same) in omega arith
+
 pub returns-in_err-leave_to-clause-steps : goal.returns-in_err-leave_to-clause-steps
 returns-in_err-leave_to-clause-steps g c = λ wanted members put has.
     let first : Member = (path_of c.args.path.now, item_view c.args.item) in
@@ -33,15 +37,11 @@ returns-in_err-leave_to-clause-steps g c = λ wanted members put has.
 
 pub take_value-requires-clause-key : goal.take_value-requires-clause-key
 take_value-requires-clause-key g c =
-    let last = last_is c.args.path.now c.in-Some.field-0-1.now c.in-Some.key.now c.in-Some.ensures.cases.0 in
-    let fits = c.requires.fit.1 in
-    let n = ap (λ (k : List ℕ). length k) last in omega (arith, fits, n)
+    key_fits c.args.path.now c.in-Some.field-0-1.now c.in-Some.key.now c.in-Some.ensures.cases.0 c.requires.fit.1
 
 pub take_bucket-requires-clause-key : goal.take_bucket-requires-clause-key
 take_bucket-requires-clause-key g c =
-    let last = last_is c.args.path.now c.in-Some.field-0-1.now c.in-Some.key.now c.in-Some.ensures.cases.0 in
-    let fits = c.requires.fit.1 in
-    let n = ap (λ (k : List ℕ). length k) last in omega (arith, fits, n)
+    key_fits c.args.path.now c.in-Some.field-0-1.now c.in-Some.key.now c.in-Some.ensures.cases.0 c.requires.fit.1
 
 pub returns-in-Value-clause-steps : goal.returns-in-Value-clause-steps
 returns-in-Value-clause-steps g c = λ wanted members put has.
