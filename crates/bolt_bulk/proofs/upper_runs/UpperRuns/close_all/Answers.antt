@@ -7,7 +7,7 @@ use Rattle.bolt_format.specs.ElementPlaces.{branch_view}
 use Rattle.bolt_format.specs.Elements.{BranchElement}
 use Rattle.bolt_bulk.specs.Private.BranchRuns.{IsStanding, run_view}
 use Rattle.bolt_bulk.specs.Private.RunViews.{RunView}
-use Rattle.bolt_bulk.proofs.ClimbLemmas.{run_at, standing_at, standing_set, up_key, within_runs}
+use Rattle.bolt_bulk.proofs.ClimbLemmas.{run_here, standing_at, standing_set, up_key}
 use Rattle.bolt_bulk.proofs.CloseLemmas.{Closing, close_large, close_more, close_short, close_stops}
 use Rattle.bolt_bulk.proofs.upper_runs.UpperRuns.close_all.Goals as goal
 
@@ -19,32 +19,32 @@ returns-in_err-closed-clause-pages g c =
     let h : c.loop-i.i < length c.loop-i.self.runs.items = (let l = c.loop-i.invariant.2 in let t = c.loop-i-test.true in omega arith) in
     let run = run_view c.index_mut.result.now in
     let p = err_from_is_err_and c.from_residual.result c.from_residual.ensures.1 in
-    rw (p.1, p.2) (close_stops c.args.setup.now.page_size _ _ _ _ _ _ (map run_view c.loop-i.self.runs.items) c.loop-i.i (branch_view c.loop-i.closed) c.loop-i.next run run _
-    (within_runs c.loop-i.self.runs.items c.loop-i.i h) (run_at c.loop-i.self.runs.items c.loop-i.i c.index_mut.result.now h c.index_mut.ensures.value) c.loop-i.invariant.0 c.in_err-closed.ensures.pages)
+    rw (p.1, p.2) (close_stops c.args.setup.now.page_size _ _ _ _ _ _ (map run_view c.loop-i.self.runs.items) c.loop-i.i (branch_view c.loop-i.closed) c.loop-i.next run _
+    (run_here c.loop-i.self.runs.items c.loop-i.i c.index_mut.result.now h c.index_mut.ensures.value) c.loop-i.invariant.0 c.in_err-closed.ensures.pages)
 
 pub returns-in_err-closed-clause-short : goal.returns-in_err-closed-clause-short
 returns-in_err-closed-clause-short g c =
     let h : c.loop-i.i < length c.loop-i.self.runs.items = (let l = c.loop-i.invariant.2 in let t = c.loop-i-test.true in omega arith) in
     let run = run_view c.index_mut.result.now in
     let p = err_from_is_err_and c.from_residual.result c.from_residual.ensures.1 in
-    rw p.1 (close_short c.args.setup.now.page_size _ _ _ _ _ _ (map run_view c.loop-i.self.runs.items) c.loop-i.i (branch_view c.loop-i.closed) c.loop-i.next run run
-    (within_runs c.loop-i.self.runs.items c.loop-i.i h) (run_at c.loop-i.self.runs.items c.loop-i.i c.index_mut.result.now h c.index_mut.ensures.value) c.loop-i.invariant.0 c.in_err-closed.ensures.short)
+    rw p.1 (close_short c.args.setup.now.page_size _ _ _ _ _ _ (map run_view c.loop-i.self.runs.items) c.loop-i.i (branch_view c.loop-i.closed) c.loop-i.next run
+    (run_here c.loop-i.self.runs.items c.loop-i.i c.index_mut.result.now h c.index_mut.ensures.value) c.loop-i.invariant.0 c.in_err-closed.ensures.short)
 
 pub returns-in_err-closed-clause-large : goal.returns-in_err-closed-clause-large
 returns-in_err-closed-clause-large g c =
     let h : c.loop-i.i < length c.loop-i.self.runs.items = (let l = c.loop-i.invariant.2 in let t = c.loop-i-test.true in omega arith) in
     let run = run_view c.index_mut.result.now in
     let p = err_from_is_err_and c.from_residual.result c.from_residual.ensures.1 in
-    rw (p.1, p.2) (λ large. close_large c.args.setup.now.page_size c.args.setup.now.limit _ _ _ _ _ (map run_view c.loop-i.self.runs.items) c.loop-i.i (branch_view c.loop-i.closed) c.loop-i.next run run
-    (within_runs c.loop-i.self.runs.items c.loop-i.i h) (run_at c.loop-i.self.runs.items c.loop-i.i c.index_mut.result.now h c.index_mut.ensures.value) c.loop-i.invariant.0 (c.in_err-closed.ensures.large large))
+    rw (p.1, p.2) (λ large. close_large c.args.setup.now.page_size c.args.setup.now.limit _ _ _ _ _ (map run_view c.loop-i.self.runs.items) c.loop-i.i (branch_view c.loop-i.closed) c.loop-i.next run
+    (run_here c.loop-i.self.runs.items c.loop-i.i c.index_mut.result.now h c.index_mut.ensures.value) c.loop-i.invariant.0 (c.in_err-closed.ensures.large large))
 
 pub loop-i-preserved : goal.loop-i-preserved
 loop-i-preserved g c =
     let h : c.loop-i.i < length c.loop-i.self.runs.items = (let l = c.loop-i.invariant.2 in let t = c.loop-i-test.true in omega arith) in
     let run = run_view c.index_mut.result.now in
     let e = branch_view c.loop-i.closed in
-    let more = close_more c.args.setup.now.page_size _ _ _ _ _ _ (map run_view c.loop-i.self.runs.items) c.loop-i.i e c.loop-i.next run run (run_view c.take_last_page.new.self) _ (branch_view c.in_ok-closed.closed) c.take_last_page.new.next
-    (within_runs c.loop-i.self.runs.items c.loop-i.i h) (run_at c.loop-i.self.runs.items c.loop-i.i c.index_mut.result.now h c.index_mut.ensures.value) c.in_ok-closed.ensures.up c.in_ok-closed.ensures.next c.loop-i.invariant.0 c.in_ok-closed.ensures.pages in
+    let more = close_more c.args.setup.now.page_size _ _ _ _ _ _ (map run_view c.loop-i.self.runs.items) c.loop-i.i e c.loop-i.next run (run_view c.take_last_page.new.self) _ (branch_view c.in_ok-closed.closed) c.take_last_page.new.next
+    (run_here c.loop-i.self.runs.items c.loop-i.i c.index_mut.result.now h c.index_mut.ensures.value) c.in_ok-closed.ensures.up c.in_ok-closed.ensures.next c.loop-i.invariant.0 c.in_ok-closed.ensures.pages in
     let k = up_key e c.loop-i.next run (standing_at c.loop-i.self.runs.items c.loop-i.i c.index_mut.result.now h c.index_mut.ensures.value c.loop-i.invariant.1) c.loop-i.invariant.3 in
     let kk = ap (λ (x : BranchElement). length x.key) c.in_ok-closed.ensures.up in
     let runs = sym (map-set run_view c.loop-i.self.runs.items c.loop-i.i c.take_last_page.new.self) in (
