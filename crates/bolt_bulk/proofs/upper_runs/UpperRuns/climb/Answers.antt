@@ -34,35 +34,26 @@ returns-in_err-take_page-clause-large g c =
     rw (p.1, p.2) (λ large. climb_large c.args.setup.now.page_size c.args.setup.now.limit (bucket_limit c.args.self.now.limits (length (map run_view c.args.self.now.runs.items))) c.args.key.now _ _ _ _ _ (map run_view c.loop-i.self.runs.items) c.loop-i.i (branch_view c.loop-i.closed) c.loop-i.next (run_view c.index_mut.result.now)
     (run_here c.loop-i.self.runs.items c.loop-i.i c.index_mut.result.now h c.index_mut.ensures.value) c.loop-i.invariant.0 (c.in_err-take_page.ensures.large large))
 
-pub returns-in-None-clause-pages : goal.returns-in-None-clause-pages
-returns-in-None-clause-pages g c =
-    let h : c.loop-i.i < length c.loop-i.self.runs.items = (let l = c.loop-i.invariant.2 in let t = c.loop-i-test.true in omega arith) in
-    let room = room_by c.args.setup.now.page_size c.args.key.now (branch_view c.loop-i.closed) c.loop-i.next (run_view c.index_mut.result.now) _ c.in-None.is c.in_ok-take_page.ensures.up in
-    (climb_stays c.args.setup.now.page_size (bucket_limit c.args.self.now.limits (length (map run_view c.args.self.now.runs.items))) c.args.key.now _ _ _ _ _ _ (map run_view c.loop-i.self.runs.items) c.loop-i.i (branch_view c.loop-i.closed) c.loop-i.next (run_view c.index_mut.result.now) _ tt
-    (within_runs c.loop-i.self.runs.items c.loop-i.i h) (run_here c.loop-i.self.runs.items c.loop-i.i c.index_mut.result.now h c.index_mut.ensures.value) room c.loop-i.invariant.0 c.in_ok-take_page.ensures.pages).2
-
-pub returns-in-None-clause-runs : goal.returns-in-None-clause-runs
-returns-in-None-clause-runs g c =
-    let h : c.loop-i.i < length c.loop-i.self.runs.items = (let l = c.loop-i.invariant.2 in let t = c.loop-i-test.true in omega arith) in
-    let room = room_by c.args.setup.now.page_size c.args.key.now (branch_view c.loop-i.closed) c.loop-i.next (run_view c.index_mut.result.now) _ c.in-None.is c.in_ok-take_page.ensures.up in
-    let took : run_view c.take_page.new.self ≡ run_kept c.args.setup.now.page_size (run_push (run_view c.index_mut.result.now) (branch_view c.loop-i.closed)) (key_size c.args.key.now) = c.in_ok-take_page.ensures.run ∙ (rw room refl) in
-    let stays = climb_stays {B = Unit {0}} c.args.setup.now.page_size (bucket_limit c.args.self.now.limits (length (map run_view c.args.self.now.runs.items))) c.args.key.now _ _ _ _ _ _ (map run_view c.loop-i.self.runs.items) c.loop-i.i (branch_view c.loop-i.closed) c.loop-i.next (run_view c.index_mut.result.now) _ tt
-    (within_runs c.loop-i.self.runs.items c.loop-i.i h) (run_here c.loop-i.self.runs.items c.loop-i.i c.index_mut.result.now h c.index_mut.ensures.value) room c.loop-i.invariant.0 c.in_ok-take_page.ensures.pages in
-    map-set run_view c.loop-i.self.runs.items c.loop-i.i c.take_page.new.self ∙ (ap (λ (r : RunView). set (map run_view c.loop-i.self.runs.items) c.loop-i.i r) took ∙ sym stays.0)
-
-pub returns-in-None-clause-standing : goal.returns-in-None-clause-standing
-returns-in-None-clause-standing g c =
-    subst (λ (rs : List RunView). AllByRecursion IsStanding rs) (sym (map-set run_view c.loop-i.self.runs.items c.loop-i.i c.take_page.new.self))
-    (standing_set (map run_view c.loop-i.self.runs.items) c.loop-i.i (run_view c.take_page.new.self) c.loop-i.invariant.1 c.in_ok-take_page.ensures.standing)
-
-pub returns-in-None-clause-next : goal.returns-in-None-clause-next
-returns-in-None-clause-next g c =
-    let h : c.loop-i.i < length c.loop-i.self.runs.items = (let l = c.loop-i.invariant.2 in let t = c.loop-i-test.true in omega arith) in
-    let room = room_by c.args.setup.now.page_size c.args.key.now (branch_view c.loop-i.closed) c.loop-i.next (run_view c.index_mut.result.now) _ c.in-None.is c.in_ok-take_page.ensures.up in
-    let took : c.take_page.new.next ≡ c.loop-i.next = c.in_ok-take_page.ensures.next ∙ (rw room refl) in
-    let stays = climb_stays {B = Unit {0}} c.args.setup.now.page_size (bucket_limit c.args.self.now.limits (length (map run_view c.args.self.now.runs.items))) c.args.key.now _ _ _ _ _ _ (map run_view c.loop-i.self.runs.items) c.loop-i.i (branch_view c.loop-i.closed) c.loop-i.next (run_view c.index_mut.result.now) _ tt
-    (within_runs c.loop-i.self.runs.items c.loop-i.i h) (run_here c.loop-i.self.runs.items c.loop-i.i c.index_mut.result.now h c.index_mut.ensures.value) room c.loop-i.invariant.0 c.in_ok-take_page.ensures.pages in
-    took ∙ sym stays.1
+pub returns-in-None : goal.returns-in-None
+returns-in-None g c =
+    let items = c.loop-i.self.runs.items in
+    let old = run_view c.index_mut.result.now in
+    let h : c.loop-i.i < length items = (let l = c.loop-i.invariant.2 in let t = c.loop-i-test.true in omega arith) in
+    let room = room_by c.args.setup.now.page_size c.args.key.now (branch_view c.loop-i.closed) c.loop-i.next old _ c.in-None.is c.in_ok-take_page.ensures.up in
+    let stays = climb_stays {B = Unit {0}} c.args.setup.now.page_size (bucket_limit c.args.self.now.limits (length (map run_view c.args.self.now.runs.items))) c.args.key.now _ _ _ _ _ _ (map run_view items) c.loop-i.i (branch_view c.loop-i.closed) c.loop-i.next old _ tt
+    (within_runs items c.loop-i.i h) (run_here items c.loop-i.i c.index_mut.result.now h c.index_mut.ensures.value) room c.loop-i.invariant.0 c.in_ok-take_page.ensures.pages in
+    let took : run_view c.take_page.new.self ≡ run_kept c.args.setup.now.page_size (run_push old (branch_view c.loop-i.closed)) (key_size c.args.key.now) = c.in_ok-take_page.ensures.run ∙ (rw room refl) in
+    let next : c.take_page.new.next ≡ c.loop-i.next = c.in_ok-take_page.ensures.next ∙ (rw room refl) in
+    let set_is = map-set run_view items c.loop-i.i c.take_page.new.self in
+    record {
+      pages = stays.2;
+      runs = set_is ∙ (ap (λ (r : RunView). set (map run_view items) c.loop-i.i r) took ∙ sym stays.0);
+      limits = c.loop-i.invariant.5;
+      standing = subst (λ (rs : List RunView). AllByRecursion IsStanding rs) (sym set_is) (standing_set (map run_view items) c.loop-i.i (run_view c.take_page.new.self) c.loop-i.invariant.1 c.in_ok-take_page.ensures.standing);
+      next = next ∙ sym stays.1;
+      within = c.in_ok-take_page.ensures.within;
+      large = tt;
+    }
 
 pub loop-i-preserved : goal.loop-i-preserved
 loop-i-preserved g c =

@@ -14,29 +14,21 @@ use Rattle.bolt_bulk.proofs.upper_runs.UpperRuns.close_all.Goals as goal
 pub take_last_page-requires-clause-standing : goal.take_last_page-requires-clause-standing
 take_last_page-requires-clause-standing g c = standing_at c.loop-i.self.runs.items c.loop-i.i c.index_mut.result.now (let l = c.loop-i.invariant.2 in let h = c.loop-i-test.true in omega arith) c.index_mut.ensures.value c.loop-i.invariant.1
 
-pub returns-in_err-closed-clause-pages : goal.returns-in_err-closed-clause-pages
-returns-in_err-closed-clause-pages g c =
-    let h : c.loop-i.i < length c.loop-i.self.runs.items = (let l = c.loop-i.invariant.2 in let t = c.loop-i-test.true in omega arith) in
+pub returns-in_err-closed : goal.returns-in_err-closed
+returns-in_err-closed g c =
+    let items = c.loop-i.self.runs.items in
     let run = run_view c.index_mut.result.now in
+    let h : c.loop-i.i < length items = (let l = c.loop-i.invariant.2 in let t = c.loop-i-test.true in omega arith) in
+    let here = run_here items c.loop-i.i c.index_mut.result.now h c.index_mut.ensures.value in
     let p = err_from_is_err_and c.from_residual.result c.from_residual.ensures.1 in
-    rw (p.1, p.2) (close_stops c.args.setup.now.page_size _ _ _ _ _ _ (map run_view c.loop-i.self.runs.items) c.loop-i.i (branch_view c.loop-i.closed) c.loop-i.next run _
-    (run_here c.loop-i.self.runs.items c.loop-i.i c.index_mut.result.now h c.index_mut.ensures.value) c.loop-i.invariant.0 c.in_err-closed.ensures.pages)
-
-pub returns-in_err-closed-clause-short : goal.returns-in_err-closed-clause-short
-returns-in_err-closed-clause-short g c =
-    let h : c.loop-i.i < length c.loop-i.self.runs.items = (let l = c.loop-i.invariant.2 in let t = c.loop-i-test.true in omega arith) in
-    let run = run_view c.index_mut.result.now in
-    let p = err_from_is_err_and c.from_residual.result c.from_residual.ensures.1 in
-    rw p.1 (close_short c.args.setup.now.page_size _ _ _ _ _ _ (map run_view c.loop-i.self.runs.items) c.loop-i.i (branch_view c.loop-i.closed) c.loop-i.next run
-    (run_here c.loop-i.self.runs.items c.loop-i.i c.index_mut.result.now h c.index_mut.ensures.value) c.loop-i.invariant.0 c.in_err-closed.ensures.short)
-
-pub returns-in_err-closed-clause-large : goal.returns-in_err-closed-clause-large
-returns-in_err-closed-clause-large g c =
-    let h : c.loop-i.i < length c.loop-i.self.runs.items = (let l = c.loop-i.invariant.2 in let t = c.loop-i-test.true in omega arith) in
-    let run = run_view c.index_mut.result.now in
-    let p = err_from_is_err_and c.from_residual.result c.from_residual.ensures.1 in
-    rw (p.1, p.2) (λ large. close_large c.args.setup.now.page_size c.args.setup.now.limit _ _ _ _ _ (map run_view c.loop-i.self.runs.items) c.loop-i.i (branch_view c.loop-i.closed) c.loop-i.next run
-    (run_here c.loop-i.self.runs.items c.loop-i.i c.index_mut.result.now h c.index_mut.ensures.value) c.loop-i.invariant.0 (c.in_err-closed.ensures.large large))
+    record {
+      pages = rw (p.1, p.2) (close_stops c.args.setup.now.page_size _ _ _ _ _ _ (map run_view items) c.loop-i.i (branch_view c.loop-i.closed) c.loop-i.next run _ here c.loop-i.invariant.0 c.in_err-closed.ensures.pages);
+      short = rw p.1 (close_short c.args.setup.now.page_size _ _ _ _ _ _ (map run_view items) c.loop-i.i (branch_view c.loop-i.closed) c.loop-i.next run here c.loop-i.invariant.0 c.in_err-closed.ensures.short);
+      root = rw p.1 tt;
+      next = rw p.1 tt;
+      within = rw p.1 tt;
+      large = rw (p.1, p.2) (λ large. close_large c.args.setup.now.page_size c.args.setup.now.limit _ _ _ _ _ (map run_view items) c.loop-i.i (branch_view c.loop-i.closed) c.loop-i.next run here c.loop-i.invariant.0 (c.in_err-closed.ensures.large large));
+    }
 
 pub loop-i-preserved : goal.loop-i-preserved
 loop-i-preserved g c =
