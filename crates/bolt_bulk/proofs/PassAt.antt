@@ -91,10 +91,10 @@ module _ {S : Type 0} (wanted : Wanted) (taken : S → Option (List ℕ)) (faile
   abbrev StepsBy : {A : Type 0} (old new : S) (put : List Placed) (At : List Placed → Type 0) (result : Result A BulkFault) → Type 0
   StepsBy old new put At result = Steps wanted taken failed old new setup put At result
 
-  pub steps_then : {A B : Type 0} (old mid new : S) (put : List Placed) (Mid At : List Placed → Type 0) (x : A) (result : Result B BulkFault)
-      → StepsBy old mid put Mid (Ok x) → ((all : List Placed) → Mid all → StepsBy mid new all At result) → StepsBy old new put At result
-  steps_then old mid new put Mid At x result one two =
-      let then = two (put ++ one.more) one.at in
+  pub steps_then : {A B : Type 0} {later : PageSetup} (old mid new : S) (put : List Placed) (Mid At : List Placed → Type 0) (x : A) (result : Result B BulkFault)
+      → later ≡ setup → StepsBy old mid put Mid (Ok x) → ((all : List Placed) → Mid all → Steps wanted taken failed mid new later all At result) → StepsBy old new put At result
+  steps_then old mid new put Mid At x result later_is one two =
+      let then = subst (λ (b : PageSetup). Steps wanted taken failed mid new b (put ++ one.more) At result) later_is (two (put ++ one.more) one.at) in
       let same : (put ++ one.more) ++ then.more ≡ put ++ (one.more ++ then.more) = append_assoc put one.more then.more in
       record {
         more = one.more ++ then.more;

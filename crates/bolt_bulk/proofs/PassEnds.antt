@@ -253,11 +253,11 @@ module _ {S : Type 0} (wanted : Wanted) (taken : S → Option (List ℕ)) (faile
       })
 
   -- after steps that went well
-  pub ends_after : {A : Type 0} (old mid new : S) (put : List Placed) (At : List Placed → Type 0) (x : A) (result : Result Ended BulkFault) → Steps wanted taken failed old mid setup put At (Ok x)
-      → ((all : List Placed) → At all → Ends wanted taken failed mid new setup all result) → Ends wanted taken failed old new setup put result
-  ends_after old mid new put At x result one two =
+  pub ends_after : {A : Type 0} {later : PageSetup} (old mid new : S) (put : List Placed) (At : List Placed → Type 0) (x : A) (result : Result Ended BulkFault) → later ≡ setup → Steps wanted taken failed old mid setup put At (Ok x)
+      → ((all : List Placed) → At all → Ends wanted taken failed mid new later all result) → Ends wanted taken failed old new setup put result
+  ends_after old mid new put At x result later_is one two =
       let P : ℕ = setup.page_size in
-      let then = two (put ++ one.more) one.at in
+      let then = subst (λ (b : PageSetup). Ends wanted taken failed mid new b (put ++ one.more) result) later_is (two (put ++ one.more) one.at) in
       let others : List Placed = one.more ++ then.others in
       let bytes : placed_bytes P others ≡ placed_bytes P one.more ++ placed_bytes P then.others = bytes-append P one.more then.others in
       record {

@@ -54,9 +54,8 @@ returns-clause-pages g c = λ which listing lists fit0.
     let none : g.M.Members.left c.members.members listing ≡ [] = (given listing here).0 in
     let steps = c.members.invariant.steps which listing lists fit in
     subst (λ (b : PageSetup). Ends wanted g.S.Sink.taken g.S.Sink.failed c.args.sink.now c.end_all.new.sink b [] c.end_all.result) c.new-pass.ensures.setup
-    (ends_after wanted g.S.Sink.taken g.S.Sink.failed c.new-pass.result.setup c.args.sink.now c.members.sink c.end_all.new.sink [] (HasLeft wanted c.members.pass (g.M.Members.left c.members.members listing)) tt c.end_all.result steps
-    (λ all mid. subst (λ (b : PageSetup). Ends wanted g.S.Sink.taken g.S.Sink.failed c.members.sink c.end_all.new.sink b all c.end_all.result) c.members.invariant.setup
-    (c.end_all.ensures wanted all (subst (λ (ms : List Member). HasLeft wanted c.members.pass ms all) none mid))))
+    (ends_after wanted g.S.Sink.taken g.S.Sink.failed c.new-pass.result.setup c.args.sink.now c.members.sink c.end_all.new.sink [] (HasLeft wanted c.members.pass (g.M.Members.left c.members.members listing)) tt c.end_all.result c.members.invariant.setup steps
+    (λ all mid. (c.end_all.ensures wanted all (subst (λ (ms : List Member). HasLeft wanted c.members.pass ms all) none mid))))
 
 pub take_member-requires-clause-ready : goal.take_member-requires-clause-ready
 take_member-requires-clause-ready g c = c.members.invariant.ready
@@ -79,9 +78,8 @@ returns-in_err-take_member-clause-pages g c = λ which listing lists fit0.
     let steps = c.members.invariant.steps which listing lists fit in
     subst (λ (b : PageSetup). Ends wanted g.S.Sink.taken g.S.Sink.failed c.args.sink.now c.take_member.new.sink b [] c.from_residual-in_err-take_member.result) c.new-pass.ensures.setup
     (ends_early wanted g.S.Sink.taken g.S.Sink.failed c.new-pass.result.setup c.args.sink.now c.take_member.new.sink [] At _ c.from_residual-in_err-take_member.result c.from_residual-in_err-take_member.ensures.1
-    (steps_then wanted g.S.Sink.taken g.S.Sink.failed c.new-pass.result.setup c.args.sink.now c.members.sink c.take_member.new.sink [] (HasLeft wanted c.members.pass (g.M.Members.left c.members.members listing)) At tt stop steps
-    (λ all mid. subst (λ (b : PageSetup). Steps wanted g.S.Sink.taken g.S.Sink.failed c.members.sink c.take_member.new.sink b all At stop) c.members.invariant.setup
-    (c.in_err-take_member.ensures.steps wanted (g.M.Members.left c.next.new.self listing) all (subst (λ (ms : List Member). HasLeft wanted c.members.pass ms all) next mid)))))
+    (steps_then wanted g.S.Sink.taken g.S.Sink.failed c.new-pass.result.setup c.args.sink.now c.members.sink c.take_member.new.sink [] (HasLeft wanted c.members.pass (g.M.Members.left c.members.members listing)) At tt stop c.members.invariant.setup steps
+    (λ all mid. (c.in_err-take_member.ensures.steps wanted (g.M.Members.left c.next.new.self listing) all (subst (λ (ms : List Member). HasLeft wanted c.members.pass ms all) next mid)))))
 
 pub members-smaller : goal.members-smaller
 members-smaller g c = rw c.in-Some.is at c.in_ok-item.ensures.fewer
@@ -96,10 +94,9 @@ members-preserved g c =
     let wanted : Wanted = record { which = which; tree = tree_of listing; notes = c.args.notes } in
     let well : Result ⊤ BulkFault = Ok tt in
     let At : List Placed → Type 0 = HasLeft wanted c.take_member.new.self (g.M.Members.left c.next.new.self listing) in
-    steps_then wanted g.S.Sink.taken g.S.Sink.failed c.new-pass.result.setup c.args.sink.now c.members.sink c.take_member.new.sink [] (HasLeft wanted c.members.pass (g.M.Members.left c.members.members listing)) At tt well
+    steps_then wanted g.S.Sink.taken g.S.Sink.failed c.new-pass.result.setup c.args.sink.now c.members.sink c.take_member.new.sink [] (HasLeft wanted c.members.pass (g.M.Members.left c.members.members listing)) At tt well c.members.invariant.setup
     (c.members.invariant.steps which listing lists fit)
-    (λ all mid. subst (λ (b : PageSetup). Steps wanted g.S.Sink.taken g.S.Sink.failed c.members.sink c.take_member.new.sink b all At well) c.members.invariant.setup
-    (c.in_ok-take_member.ensures.steps wanted (g.M.Members.left c.next.new.self listing) all (subst (λ (ms : List Member). HasLeft wanted c.members.pass ms all) (given listing ((c.members.invariant.same listing).1 lists)) mid))) in
+    (λ all mid. (c.in_ok-take_member.ensures.steps wanted (g.M.Members.left c.next.new.self listing) all (subst (λ (ms : List Member). HasLeft wanted c.members.pass ms all) (given listing ((c.members.invariant.same listing).1 lists)) mid))) in
     record {
       same = λ listing. (
         λ is. (c.members.invariant.same listing).0 ((c.next.ensures.listing listing).0 is),

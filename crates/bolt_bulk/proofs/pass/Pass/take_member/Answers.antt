@@ -8,8 +8,7 @@ use Rattle.bolt_tree.specs.ShownEntries.{item_view}
 use Rattle.bolt_layout.specs.Laid.{Placed}
 use Rattle.bolt_bulk.specs.Private.Endings.{last_part}
 use Rattle.bolt_bulk.specs.Private.Levels.{Level}
-use Rattle.bolt_bulk.specs.Private.Passes.{HasLeft, IsAt, Steps}
-use Rattle.bolt_bulk.specs.declared.page_setup.PageSetup.{PageSetup}
+use Rattle.bolt_bulk.specs.Private.Passes.{HasLeft, IsAt}
 use Rattle.bolt_bulk.proofs.PassAt.{steps_stop, steps_then}
 use Rattle.bolt_bulk.proofs.PassEnds.{has_bucket, has_value, last_pushed}
 use Rattle.bolt_bulk.proofs.PassLeft.{steps_map}
@@ -53,11 +52,10 @@ returns-in-Value-clause-steps g c = λ wanted members put has.
     let last = last_is c.args.path.now c.in-Some.field-0-1.now c.in-Some.key.now c.in-Some.ensures.cases.0 in
     let l = length-map c.args.path.now (λ (part : Bor (List ℕ)). part.now) in
     let At : List Placed → Type 0 = HasLeft wanted c.take_value.new.self members in
-    steps_then wanted g.S.Sink.taken g.S.Sink.failed c.args.self.now.setup c.args.sink.now c.leave_to.new.sink c.take_value.new.sink put (HasLeft wanted c.leave_to.new.self (first ∷ members)) At tt c.take_value.result
+    steps_then wanted g.S.Sink.taken g.S.Sink.failed c.args.self.now.setup c.args.sink.now c.leave_to.new.sink c.take_value.new.sink put (HasLeft wanted c.leave_to.new.self (first ∷ members)) At tt c.take_value.result c.in_ok-leave_to.ensures.setup
     (c.in_ok-leave_to.ensures.steps wanted (first ∷ members) put has (omega arith))
     (λ all mid. let deep = c.in_ok-leave_to.ensures.depth in
     let next = has_value wanted c.leave_to.new.self path key value members all (subst (λ (i : entries.Item). HasLeft wanted c.leave_to.new.self ((path, i) ∷ members) all) item mid) (omega arith) last in
-    subst (λ (b : PageSetup). Steps wanted g.S.Sink.taken g.S.Sink.failed c.leave_to.new.sink c.take_value.new.sink b all At c.take_value.result) c.in_ok-leave_to.ensures.setup
     (steps_map wanted c.leave_to.new.sink c.take_value.new.sink c.leave_to.new.self.setup all (IsAt wanted c.take_value.new.self next.levels next.after) At c.take_value.result
     (λ then at. record { levels = next.levels; left = next.after; at = at; members_are = next.members_are })
     (c.take_value.ensures.steps wanted next.after next.levels all next.at)))
@@ -71,12 +69,11 @@ returns-in-Bucket-clause-steps g c = λ wanted members put has.
     let last = last_is c.args.path.now c.in-Some.field-0-1.now c.in-Some.key.now c.in-Some.ensures.cases.0 in
     let l = length-map c.args.path.now (λ (part : Bor (List ℕ)). part.now) in
     let At : List Placed → Type 0 = HasLeft wanted c.take_bucket.new.self members in
-    steps_then wanted g.S.Sink.taken g.S.Sink.failed c.args.self.now.setup c.args.sink.now c.leave_to.new.sink c.take_bucket.new.sink put (HasLeft wanted c.leave_to.new.self (first ∷ members)) At tt c.take_bucket.result
+    steps_then wanted g.S.Sink.taken g.S.Sink.failed c.args.self.now.setup c.args.sink.now c.leave_to.new.sink c.take_bucket.new.sink put (HasLeft wanted c.leave_to.new.self (first ∷ members)) At tt c.take_bucket.result c.in_ok-leave_to.ensures.setup
     (c.in_ok-leave_to.ensures.steps wanted (first ∷ members) put has (omega arith))
     (λ all mid. let deep = c.in_ok-leave_to.ensures.depth in
     let next = has_bucket wanted c.leave_to.new.self path key c.in-Bucket.sequence members all (subst (λ (i : entries.Item). HasLeft wanted c.leave_to.new.self ((path, i) ∷ members) all) item mid) (omega arith) last in
     let own : Level = record { key = key; after = next.after } in
-    subst (λ (b : PageSetup). Steps wanted g.S.Sink.taken g.S.Sink.failed c.leave_to.new.sink c.take_bucket.new.sink b all At c.take_bucket.result) c.in_ok-leave_to.ensures.setup
     (steps_map wanted c.leave_to.new.sink c.take_bucket.new.sink c.leave_to.new.self.setup all (IsAt wanted c.take_bucket.new.self (own ∷ next.levels) next.inside) At c.take_bucket.result
     (λ then at. record { levels = own ∷ next.levels; left = next.inside; at = at; members_are = next.members_are })
     (c.take_bucket.ensures.steps wanted next.inside next.after next.levels all next.at)))

@@ -1,9 +1,8 @@
 -- The value goes to the bucket that may be inline, or that one is opened first, as it has no room.
-use Rattle.std.proofs.Common.{List, inl, inr, subst, arith}
+use Rattle.std.proofs.Common.{List, inl, inr, arith}
 use Rattle.bolt_tree.specs.Tree.{Tree, with_value}
 use Rattle.bolt_layout.specs.Laid.{Placed}
-use Rattle.bolt_bulk.specs.Private.Passes.{IsAt, Steps}
-use Rattle.bolt_bulk.specs.declared.page_setup.PageSetup.{PageSetup}
+use Rattle.bolt_bulk.specs.Private.Passes.{IsAt}
 use Rattle.bolt_bulk.proofs.PassAt.{steps_none, steps_stop, steps_then}
 use Rattle.bolt_bulk.proofs.PassReady.{full_rooted, small_of}
 use Rattle.bolt_bulk.proofs.pass.Pass.take_value.Goals as goal
@@ -34,7 +33,6 @@ returns-clause-steps g c = λ wanted after levels put is.
       | else-size-self-via-else-size-self w ↦ inl (omega arith)
     ]) in
     let At : List Placed → Type 0 = IsAt wanted c.put_value-2.new.self levels after in
-    steps_then wanted g.S.Sink.taken g.S.Sink.failed c.args.self.now.setup c.args.sink.now c.open_pending.new.sink c.put_value-2.new.sink put (IsAt wanted c.open_pending.new.self levels left) At tt c.put_value-2.result
+    steps_then wanted g.S.Sink.taken g.S.Sink.failed c.args.self.now.setup c.args.sink.now c.open_pending.new.sink c.put_value-2.new.sink put (IsAt wanted c.open_pending.new.self levels left) At tt c.put_value-2.result c.in_ok-open_pending.ensures.setup
     (c.in_ok-open_pending.ensures.steps wanted left levels put is rooted)
-    (λ all mid. subst (λ (b : PageSetup). Steps wanted g.S.Sink.taken g.S.Sink.failed c.open_pending.new.sink c.put_value-2.new.sink b all At c.put_value-2.result) c.in_ok-open_pending.ensures.setup
-    (c.put_value-2.ensures.steps wanted after levels all mid))
+    (λ all mid. (c.put_value-2.ensures.steps wanted after levels all mid))
