@@ -5,7 +5,7 @@ use Rattle.bolt_format.specs.Elements.{BranchElement}
 use Rattle.bolt_format.specs.ElementPlaces.{branch_view}
 use Rattle.bolt_format.specs.declared.element.Branch.{Branch}
 use Rattle.bolt_layout.specs.Layout.{placed_bytes}
-use Rattle.bolt_layout.specs.Levels.{branch_view as branch_page_view, overflow_of}
+use Rattle.bolt_layout.specs.Levels.{overflow_of}
 use Rattle.bolt_layout.specs.PageBytes.{branch_bytes, branch_data, branch_headers, page_bytes}
 use Rattle.bolt_format.specs.Written.{branch_header, header_bytes}
 use Rattle.bolt_layout.proofs.BranchLemmas.{length-branch_headers}
@@ -37,28 +37,22 @@ pub branch_datum : (xs : List Branch) → data_of key_of xs ≡ branch_data (map
 branch_datum [] = refl
 branch_datum (x ∷ xs) = ap (λ (t : List ℕ). x.key.now ++ t) (branch_datum xs)
 
--- The pieces of a branch page.
-pub branch_page_pieces : (page_size number further size : ℕ) (xs : List Branch) → size ≡ 16 + (16 * length xs + length (branch_data (map branch_view xs)))
-    → header_bytes number kind.Branch (length xs) further ++ (branch_headers 0 (map branch_view xs) ++ (branch_data (map branch_view xs) ++ zeros ((1 + further) * page_size - size)))
-    ≡ page_bytes page_size number (branch_page_view further (map branch_view xs))
-unfolding page_bytes branch_bytes
-branch_page_pieces page_size number further size xs same =
-    let es : List BranchElement = map branch_view xs in
-    let n : ℕ = (1 + further) * page_size in
-    let count : length xs ≡ length es = sym (length-map xs branch_view) in
-    let a = length-header_bytes number kind.Branch (length es) further in
-    let b = length-branch_headers 0 es in
-    ap (λ (m : ℕ). header_bytes number kind.Branch m further ++ (branch_headers 0 es ++ (branch_data es ++ zeros (n - size)))) count
-    ∙ filled_pieces n size (header_bytes number kind.Branch (length es) further) (branch_headers 0 es) (branch_data es) (omega arith)
-
--- The same of the page over a run, in the list and the number that the code has.
+-- The pieces of the page over a run, in the list and the number that the code has.
 pub branch_run_pieces : (page_size number further : ℕ) (run : BranchRun) (branches : List Branch) → branches ≡ run.elements.items → further ≡ overflow_of page_size run.size → IsSizedRun (run_view run)
     → header_bytes number kind.Branch (length branches) further
     ++ (branch_headers 0 (map branch_view branches) ++ (branch_data (map branch_view branches) ++ zeros ((1 + further) * page_size - run.size)))
     ≡ placed_bytes page_size (run_page page_size (run_view run) number ∷ [])
+unfolding page_bytes branch_bytes
 branch_run_pieces page_size number further run branches branches_are further_is sized =
-    let count = length-map run.elements.items branch_view in
-    rw (branches_are, further_is) (branch_page_pieces page_size number (overflow_of page_size run.size) run.size run.elements.items (omega arith) ∙ sym (append-nil _))
+    let es : List BranchElement = map branch_view run.elements.items in
+    let over : ℕ = overflow_of page_size run.size in
+    let n : ℕ = (1 + over) * page_size in
+    let count : length run.elements.items ≡ length es = sym (length-map run.elements.items branch_view) in
+    let a = length-header_bytes number kind.Branch (length es) over in
+    let b = length-branch_headers 0 es in
+    rw (branches_are, further_is)
+    (ap (λ (m : ℕ). header_bytes number kind.Branch m over ++ (branch_headers 0 es ++ (branch_data es ++ zeros (n - run.size)))) count
+    ∙ (filled_pieces n run.size (header_bytes number kind.Branch (length es) over) (branch_headers 0 es) (branch_data es) (omega arith) ∙ sym (append-nil _)))
 
 -- what is known of the next header, if all headers and keys are small
 pub record NextBranch (x : Branch) (pos : ℕ) : Type 0 where

@@ -21,7 +21,7 @@ use Rattle.bolt_bulk.specs.Private.HeldSoFar.{held_so_far, length_frames, length
 use Rattle.bolt_bulk.specs.Private.OpenBuckets.{bucket_end_next, bucket_runs}
 use Rattle.bolt_bulk.specs.Private.BucketRuns.{AreOpenRuns}
 use Rattle.bolt_bulk.specs.Private.OpenRuns.{Frame, Known, Open, base_in, end_of, making_room, next_number, pushing, taking}
-use Rattle.bolt_bulk.specs.Private.Passes.{AreComing, AreComingAround, AreNumbered, Notes, Wanted, open_in, limits_by, AreWaiting, HasRoot, IsAt, IsPending, IsSmall, StandsBefore, Steps, level_of, onto}
+use Rattle.bolt_bulk.specs.Private.Passes.{AreComing, AreComingAround, AreNumbered, Notes, Wanted, open_in, limits_by, AreWaiting, HasRoot, IsAt, IsPending, IsPendingSmall, IsSmall, StandsBefore, Steps, level_of, onto}
 use Rattle.bolt_bulk.specs.Private.RunViews.{BucketRuns, runs_end, runs_end_put, runs_push, runs_room, runs_room_put}
 use Rattle.bolt_bulk.specs.Private.TakenItems.{inline_element, root_element, runs_taking, value_element}
 use Rattle.bolt_bulk.specs.Puts.{Puts}
@@ -43,6 +43,7 @@ use Rattle.bolt_bulk.specs.declared.limits.BucketLimits.{BucketLimits}
 use Rattle.bolt_bulk.specs.declared.noted_limits.NotedLimits.{NotedLimits}
 use Rattle.bolt_bulk.proofs.Tables.{numbered_same, opened_most, room_known, noted_enters, noted_leaves}
 use Rattle.bolt_bulk.proofs.Openings.{around_at, coming_at, coming_onto, opened_inline, opened_onto, opened_rooted}
+use Rattle.bolt_bulk.proofs.PassReady.{inline_long, small_of}
 use Rattle.bolt_bulk.proofs.PassSteps.{IsOn, inline_item, on_before, on_enters, on_leaves, on_numbers, on_takes, open_values, pass_takes_all, root_item, values_put, values_runs}
 use Rattle.bolt_bulk.proofs.PutsLemmas.{bytes-append, puts_then}
 
@@ -260,14 +261,15 @@ module _ {S : Type 0} (taken : S → Option (List ℕ)) (failed : S → ℕ) (wa
       item_steps levels (with_value key value after) key value false (16 + (length key + length value)) after levels after pass.pending old new bucket pass.entries next counted result is refl on right none (same, refl) puts runs large counts
 
   -- the end of a bucket that is inline
-  pub inline_steps : {A : Type 0} (level : Level) (levels : List Level) (p : PendingBucket) (size : ℕ) (old new : S) (bucket : OpenBucket) (entries : Vec Leaf Global) (next : ℕ) (counted : Pass) (result : Result A BulkFault)
-      → IsAt wanted pass (level ∷ levels) end put → pass.pending ≡ Some p → IsSmall P p pass.entries.items → size ≡ length (inline_value p.sequence (map leaf_view pass.entries.items))
-      → Puts taken failed old new (placed_bytes P (runs_room_put P runs_now p.key.now (16 + (length p.key.now + size)))) result
-      → OnOk result (bucket_runs bucket next ≡ runs_taking P runs_now (inline_element p.key.now p.sequence (map leaf_view pass.entries.items)) (16 + (length p.key.now + size)))
-      → IfErr result (λ e. e ≡ fault.TooLarge → pass.setup.limit < (runs_room P runs_now p.key.now (16 + (length p.key.now + size))).next)
+  pub inline_steps : {A : Type 0} (level : Level) (levels : List Level) (p : PendingBucket) (old new : S) (bucket : OpenBucket) (entries : Vec Leaf Global) (next : ℕ) (counted : Pass) (result : Result A BulkFault)
+      → IsAt wanted pass (level ∷ levels) end put → pass.pending ≡ Some p → IsPendingSmall P pass.pending pass.entries.items
+      → Puts taken failed old new (placed_bytes P (runs_room_put P runs_now p.key.now (16 + (length p.key.now + (p.size + 16))))) result
+      → OnOk result (bucket_runs bucket next ≡ runs_taking P runs_now (inline_element p.key.now p.sequence (map leaf_view pass.entries.items)) (16 + (length p.key.now + (p.size + 16))))
+      → IfErr result (λ e. e ≡ fault.TooLarge → pass.setup.limit < (runs_room P runs_now p.key.now (16 + (length p.key.now + (p.size + 16)))).next)
       → OnOk result (Counts (record pass { bucket = bucket; pending = None; entries = entries; next = next }) counted)
       → Steps wanted taken failed old new pass.setup put (IsAt wanted counted levels level.after) result
-  inline_steps level levels p size old new bucket entries next counted result is some small sized puts runs large counts =
+  inline_steps level levels p old new bucket entries next counted result is some pending puts runs large counts =
+      let small = small_of P pass.pending p pass.entries.items some pending in
       let (after, same, on, right) = pending_of wanted pass (level ∷ levels) end put p is some in
       let shown : List LeafElement = map leaf_view pass.entries.items in
       let value : List ℕ = inline_value p.sequence shown in
@@ -282,7 +284,7 @@ module _ {S : Type 0} (taken : S → Option (List ℕ)) (failed : S → ℕ) (wa
       let first : level ≡ record { key = p.key.now; after = after } = cc in
       let others : levels ≡ map level_of is.frames = cc in
       let behind : after ≡ level.after = ap (λ (l : Level). l.after) (sym first) in
-      item_steps (level ∷ levels) end p.key.now value true (16 + (length p.key.now + size)) after levels level.after None old new bucket entries next counted result is (ap (λ (n : ℕ). 16 + (length p.key.now + n)) sized) on2 (
+      item_steps (level ∷ levels) end p.key.now value true (16 + (length p.key.now + (p.size + 16))) after levels level.after None old new bucket entries next counted result is (ap (λ (n : ℕ). 16 + (length p.key.now + n)) (inline_long P p pass.entries.items small)) on2 (
         coming_at wanted P (limits_by pass) (is.opened + opened_by wanted.which P (onto shown end)) is.opened after (omega arith) right.0.1,
         around_at wanted P (limits_by pass) (is.opened + (opened_by wanted.which P (onto shown end) + opened_in wanted.which P after)) (is.opened + opened_in wanted.which P after) is.frames (omega arith) right.1,
       ) refl (others, behind) puts runs large counts
@@ -358,13 +360,13 @@ module _ {S : Type 0} (taken : S → Option (List ℕ)) (failed : S → ℕ) (wa
 
   -- a fault on the way
   pub open_stops : {A B : Type 0} (levels : List Level) (left : Tree) (p : PendingBucket) (old new : S) (At : List Placed → Type 0) (e : BulkFault) (result : Result B BulkFault) → IsErrAnd result (λ f. f ≡ e)
-      → IsAt wanted pass levels left put → pass.pending ≡ Some p → IsSmall P p pass.entries.items → HasRoot wanted.which P (onto (map leaf_view pass.entries.items) left)
+      → IsAt wanted pass levels left put → pass.pending ≡ Some p → IsPendingSmall P pass.pending pass.entries.items → HasRoot wanted.which P (onto (map leaf_view pass.entries.items) left)
       → Puts {A = A} taken failed old new (placed_bytes P (runs_room_put P runs_now p.key.now (32 + length p.key.now))) (Err e)
       → (e ≡ fault.TooLarge → pass.setup.limit < (room_for p).next)
       → Steps wanted taken failed old new pass.setup put At result
-  open_stops levels left p old new At e (Ok x) same is some small rooted puts large = absurd same
-  open_stops levels left p old new At e (Err f) same is some small rooted puts large =
-      let then = has_opened levels left p is some small rooted in
+  open_stops levels left p old new At e (Ok x) same is some pending rooted puts large = absurd same
+  open_stops levels left p old new At e (Err f) same is some pending rooted puts large =
+      let then = has_opened levels left p is some (small_of P pass.pending p pass.entries.items some pending) rooted in
       let numbers = on_numbers wanted.which P wanted.tree _ _ _ _ _ then.on in
       rw same (record {
         more = runs_room_put P runs_now p.key.now (32 + length p.key.now);
@@ -376,13 +378,14 @@ module _ {S : Type 0} (taken : S → Option (List ℕ)) (failed : S → ℕ) (wa
 
   -- all went well
   pub open_steps : (levels : List Level) (left : Tree) (p : PendingBucket) (old new : S) (bucket : OpenBucket) (w : WaitingBucket) (around : Vec WaitingBucket Global) (entries : Vec Leaf Global) (next opened held : ℕ) (counted : Pass)
-      → IsAt wanted pass levels left put → pass.pending ≡ Some p → IsSmall P p pass.entries.items → HasRoot wanted.which P (onto (map leaf_view pass.entries.items) left)
+      → IsAt wanted pass levels left put → pass.pending ≡ Some p → IsPendingSmall P pass.pending pass.entries.items → HasRoot wanted.which P (onto (map leaf_view pass.entries.items) left)
       → Puts {A = ⊤} taken failed old new (placed_bytes P (runs_room_put P runs_now p.key.now (32 + length p.key.now))) (Ok tt)
       → around.items ≡ pass.waiting.items ++ w ∷ [] → bucket_runs w.bucket next ≡ room_for p → w.key.now ≡ p.key.now → w.sequence ≡ p.sequence → bucket_runs bucket next ≡ opened_runs p next
       → opened ≡ min (pass.opened + 1) 18446744073709551615
       → Counts (record pass { waiting = around; bucket = bucket; pending = None; entries = entries; next = next; opened = opened; around = held }) counted
       → Steps {A = ⊤} wanted taken failed old new pass.setup put (IsAt wanted counted levels left) (Ok tt)
-  open_steps levels left p old new bucket w around entries next opened held counted is some small rooted puts items runs key sequence values_are one_more k =
+  open_steps levels left p old new bucket w around entries next opened held counted is some pending rooted puts items runs key sequence values_are one_more k =
+      let small = small_of P pass.pending p pass.entries.items some pending in
       let then = has_opened levels left p is some small rooted in
       let frame : Frame = frame_of p left then.after is.state in
       let frames : List Frame = frame ∷ is.frames in

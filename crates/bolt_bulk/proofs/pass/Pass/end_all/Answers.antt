@@ -22,8 +22,8 @@ returns-in_err-bucket_ends g c = λ wanted put has.
     let stop = c.from_residual-in_err-bucket_ends.result in
     let first : Result ⊤ BulkFault = Err _ in
     ends_after wanted g.S.Sink.taken g.S.Sink.failed c.args.self.now.setup c.args.sink.now c.leave_to.new.sink c.leave_to.new.sink put (HasLeft wanted c.leave_to.new.self []) tt stop c.in_ok-leave_to.ensures.setup (c.in_ok-leave_to.ensures.steps wanted [] put has tt)
-    (λ all mid. (ends_early wanted g.S.Sink.taken g.S.Sink.failed c.leave_to.new.self.setup c.leave_to.new.sink c.leave_to.new.sink all (HasLeft wanted c.leave_to.new.self []) _ stop c.from_residual-in_err-bucket_ends.ensures.1
-    (steps_none wanted c.leave_to.new.self mid.levels mid.left all c.leave_to.new.sink (HasLeft wanted c.leave_to.new.self []) first mid.at c.in_err-bucket_ends.ensures.fault tt)))
+    (λ all mid. ends_early wanted g.S.Sink.taken g.S.Sink.failed c.leave_to.new.self.setup c.leave_to.new.sink c.leave_to.new.sink all (HasLeft wanted c.leave_to.new.self []) _ stop c.from_residual-in_err-bucket_ends.ensures.1
+    (steps_none wanted c.leave_to.new.self mid.levels mid.left all c.leave_to.new.sink (HasLeft wanted c.leave_to.new.self []) first mid.at c.in_err-bucket_ends.ensures.fault tt))
 
 pub returns-in_err-root : goal.returns-in_err-root
 returns-in_err-root g c = λ wanted put has.
@@ -31,7 +31,7 @@ returns-in_err-root g c = λ wanted put has.
     let stop : Result Ended BulkFault = Err c.in_err-root.field-0.0 in rw (p.1, p.2) (
     ends_after wanted g.S.Sink.taken g.S.Sink.failed c.args.self.now.setup c.args.sink.now c.leave_to.new.sink c.close_runs.new.sink put (HasLeft wanted c.leave_to.new.self []) tt stop c.in_ok-leave_to.ensures.setup (c.in_ok-leave_to.ensures.steps wanted [] put has tt)
     (λ all mid. let end = has_end wanted c.leave_to.new.self all mid c.in_ok-leave_to.ensures.depth in
-    (record {
+    record {
       others = runs_end_put c.leave_to.new.self.setup.page_size (bucket_runs c.leave_to.new.self.bucket c.leave_to.new.self.next);
       all = end.pages;
       puts = puts_fault _ _ _ _ c.in_err-root.ensures.pages;
@@ -42,14 +42,14 @@ returns-in_err-root g c = λ wanted put has.
       noted = tt;
       held = tt;
       large = λ h. let m = c.in_err-root.ensures.large h in let n = end.mark in omega (arith, m, n);
-    })))
+    }))
 
 pub returns : goal.returns
 returns g c = λ wanted put has.
     let well : Result Ended BulkFault = Ok (record { root = c.in_ok-root.root; high_water = c.close_runs.new.next; held = c.leave_to.new.self.most; noted = c.take_limits.result }) in
     ends_after wanted g.S.Sink.taken g.S.Sink.failed c.args.self.now.setup c.args.sink.now c.leave_to.new.sink c.close_runs.new.sink put (HasLeft wanted c.leave_to.new.self []) tt well c.in_ok-leave_to.ensures.setup (c.in_ok-leave_to.ensures.steps wanted [] put has tt)
     (λ all mid. let end = has_end wanted c.leave_to.new.self all mid c.in_ok-leave_to.ensures.depth in
-    (record {
+    record {
       others = runs_end_put c.leave_to.new.self.setup.page_size (bucket_runs c.leave_to.new.self.bucket c.leave_to.new.self.next);
       all = end.pages;
       puts = record { all = c.in_ok-root.ensures.pages.all; sound = c.in_ok-root.ensures.pages.sound; beginning = tt; failure = tt; other = tt };
@@ -65,4 +65,4 @@ returns g c = λ wanted put has.
           subst (λ (l : Limits). FitLimits Balanced wanted.tree c.leave_to.new.self.setup.page_size (limits_with l)) (sym c.take_limits.ensures) (end.noted c.bucket_ends.new.self c.in_ok-bucket_ends.ensures.ends asked which (omega arith));
       held = end.held;
       large = tt;
-    }))
+    })

@@ -25,8 +25,8 @@ returns-in_err-leave_bucket-clause-steps g c = λ wanted members put has shallow
     steps_then wanted g.S.Sink.taken g.S.Sink.failed c.args.self.now.setup c.args.sink.now c.levels.sink c.leave_bucket.new.sink put (HasLeft wanted c.levels.self members) At tt stop c.levels.invariant.setup
     (c.levels.invariant.steps wanted members put has shallow)
     (λ all mid. let ended = has_ended c.args.depth wanted c.levels.self members all mid shallow c.requires.some (omega arith) in
-    (steps_stop wanted g.S.Sink.taken g.S.Sink.failed c.levels.self.setup c.levels.sink c.leave_bucket.new.sink all (IsAt wanted c.leave_bucket.new.self ended.levels ended.level.after) At _ stop c.from_residual.ensures.1
-    (c.in_err-leave_bucket.ensures.steps wanted ended.level ended.levels all ended.at)))
+    steps_stop wanted g.S.Sink.taken g.S.Sink.failed c.levels.self.setup c.levels.sink c.leave_bucket.new.sink all (IsAt wanted c.leave_bucket.new.self ended.levels ended.level.after) At _ stop c.from_residual.ensures.1
+    (c.in_err-leave_bucket.ensures.steps wanted ended.level ended.levels all ended.at))
 
 pub levels-smaller : goal.levels-smaller
 levels-smaller g c = let fewer = c.in_ok-leave_bucket.ensures.depth in omega arith
@@ -41,9 +41,9 @@ levels-preserved g c = record {
       steps_then wanted g.S.Sink.taken g.S.Sink.failed c.args.self.now.setup c.args.sink.now c.levels.sink c.leave_bucket.new.sink put (HasLeft wanted c.levels.self members) At tt well c.levels.invariant.setup
       (c.levels.invariant.steps wanted members put has shallow)
       (λ all mid. let ended = has_ended c.args.depth wanted c.levels.self members all mid shallow c.requires.some (omega arith) in
-      (steps_map wanted c.levels.sink c.leave_bucket.new.sink c.levels.self.setup all (IsAt wanted c.leave_bucket.new.self ended.levels ended.level.after) At well
+      steps_map wanted c.levels.sink c.leave_bucket.new.sink c.levels.self.setup all (IsAt wanted c.leave_bucket.new.self ended.levels ended.level.after) At well
       (λ then at. left_out wanted c.leave_bucket.new.self ended.level ended.levels members then ended.members_are at)
-      (c.in_ok-leave_bucket.ensures.steps wanted ended.level ended.levels all ended.at)));
+      (c.in_ok-leave_bucket.ensures.steps wanted ended.level ended.levels all ended.at));
 }
 
 pub returns-clause-setup : goal.returns-clause-setup

@@ -11,7 +11,6 @@ use Rattle.bolt_bulk.specs.declared.waiting_bucket.WaitingBucket.{WaitingBucket}
 use Rattle.bolt_bulk.proofs.HeldPasses.{more_around, waits_more}
 use Rattle.bolt_layout.proofs.ListLemmas.{all_append}
 use Rattle.bolt_bulk.proofs.PassAt.{open_steps, open_stops, puts_failed, puts_well, steps_none}
-use Rattle.bolt_bulk.proofs.PassReady.{small_of}
 use Rattle.bolt_bulk.proofs.pass.Pass.open_pending.Goals as goal
 
 pub returns-in_err-inner-clause-steps : goal.returns-in_err-inner-clause-steps
@@ -20,23 +19,20 @@ returns-in_err-inner-clause-steps g c = λ wanted left levels put is rooted.
 
 pub returns-in_err-waiting-clause-steps : goal.returns-in_err-waiting-clause-steps
 returns-in_err-waiting-clause-steps g c = λ wanted left levels put is rooted.
-    let small = small_of c.args.self.now.setup.page_size c.args.self.now.pending c.args.pending c.args.self.now.entries.items c.requires.pending c.requires.ready.pending in
-    open_stops g.S.Sink.taken g.S.Sink.failed wanted c.args.self.now put levels left c.args.pending c.args.sink.now c.enter.new.sink _ _ c.from_residual-in_err-waiting.result c.from_residual-in_err-waiting.ensures.1 is c.requires.pending small rooted
+    open_stops g.S.Sink.taken g.S.Sink.failed wanted c.args.self.now put levels left c.args.pending c.args.sink.now c.enter.new.sink _ _ c.from_residual-in_err-waiting.result c.from_residual-in_err-waiting.ensures.1 is c.requires.pending c.requires.ready.pending rooted
     (rw c.replace-outer.ensures.value at c.in_err-waiting.ensures.pages) (rw c.replace-outer.ensures.value at c.in_err-waiting.ensures.large)
 
 pub returns-in_err-push-clause-steps : goal.returns-in_err-push-clause-steps
 returns-in_err-push-clause-steps g c = λ wanted left levels put is rooted.
-    let small = small_of c.args.self.now.setup.page_size c.args.self.now.pending c.args.pending c.args.self.now.entries.items c.requires.pending c.requires.ready.pending in
-    open_stops g.S.Sink.taken g.S.Sink.failed wanted c.args.self.now put levels left c.args.pending c.args.sink.now c.enter.new.sink _ fault.Memory c.from_residual-in_err-push.result c.from_residual-in_err-push.ensures.1 is c.requires.pending small rooted
+    open_stops g.S.Sink.taken g.S.Sink.failed wanted c.args.self.now put levels left c.args.pending c.args.sink.now c.enter.new.sink _ fault.Memory c.from_residual-in_err-push.result c.from_residual-in_err-push.ensures.1 is c.requires.pending c.requires.ready.pending rooted
     (puts_failed {B = ⊤} _ _ _ c.in_ok-waiting.waiting (rw c.replace-outer.ensures.value at c.in_ok-waiting.ensures.pages)) (λ e. absurd cc)
 
 pub returns-clause-steps : goal.returns-clause-steps
 returns-clause-steps g c = λ wanted left levels put is rooted.
-    let small = small_of c.args.self.now.setup.page_size c.args.self.now.pending c.args.pending c.args.self.now.entries.items c.requires.pending c.requires.ready.pending in
     let items : c.push.new.self.items ≡ c.args.self.now.waiting.items ++ c.in_ok-waiting.waiting ∷ [] = search rules in
     let values = rw (c.as_slice.ensures.value, sym c.replace-outer.ensures.after) at (c.in_ok-inner.ensures.runs c.enter.new.next) in
     open_steps g.S.Sink.taken g.S.Sink.failed wanted c.args.self.now put levels left c.args.pending c.args.sink.now c.enter.new.sink c.replace-outer.new.dest c.in_ok-waiting.waiting c.push.new.self c.clear.new.self
-    c.enter.new.next _ _ c.count.new.self is c.requires.pending small rooted (puts_well _ _ _ c.in_ok-waiting.waiting (rw c.replace-outer.ensures.value at c.in_ok-waiting.ensures.pages))
+    c.enter.new.next _ _ c.count.new.self is c.requires.pending c.requires.ready.pending rooted (puts_well _ _ _ c.in_ok-waiting.waiting (rw c.replace-outer.ensures.value at c.in_ok-waiting.ensures.pages))
     items (rw c.replace-outer.ensures.value at c.in_ok-waiting.ensures.runs) c.in_ok-waiting.ensures.key c.in_ok-waiting.ensures.sequence values c.saturating_add-self.ensures c.count.ensures.counts
 
 pub count-requires : goal.count-requires

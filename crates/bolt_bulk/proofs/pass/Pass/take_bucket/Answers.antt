@@ -32,4 +32,4 @@ returns-clause-steps g c = λ wanted inside after levels put is.
     let At : List Placed → Type 0 = IsAt wanted c.begin-2.new.self (own ∷ levels) inside in
     steps_then wanted g.S.Sink.taken g.S.Sink.failed c.args.self.now.setup c.args.sink.now c.open_pending.new.sink c.open_pending.new.sink put (IsAt wanted c.open_pending.new.self levels left) At tt done c.in_ok-open_pending.ensures.setup
     (c.in_ok-open_pending.ensures.steps wanted left levels put is rooted)
-    (λ all mid. (steps_none wanted c.open_pending.new.self levels left all c.open_pending.new.sink At done mid tt (c.begin-2.ensures.at wanted inside after levels all mid)))
+    (λ all mid. steps_none wanted c.open_pending.new.self levels left all c.open_pending.new.sink At done mid tt (c.begin-2.ensures.at wanted inside after levels all mid))

@@ -56,9 +56,9 @@ returns-in-Value-clause-steps g c = λ wanted members put has.
     (c.in_ok-leave_to.ensures.steps wanted (first ∷ members) put has (omega arith))
     (λ all mid. let deep = c.in_ok-leave_to.ensures.depth in
     let next = has_value wanted c.leave_to.new.self path key value members all (subst (λ (i : entries.Item). HasLeft wanted c.leave_to.new.self ((path, i) ∷ members) all) item mid) (omega arith) last in
-    (steps_map wanted c.leave_to.new.sink c.take_value.new.sink c.leave_to.new.self.setup all (IsAt wanted c.take_value.new.self next.levels next.after) At c.take_value.result
+    steps_map wanted c.leave_to.new.sink c.take_value.new.sink c.leave_to.new.self.setup all (IsAt wanted c.take_value.new.self next.levels next.after) At c.take_value.result
     (λ then at. record { levels = next.levels; left = next.after; at = at; members_are = next.members_are })
-    (c.take_value.ensures.steps wanted next.after next.levels all next.at)))
+    (c.take_value.ensures.steps wanted next.after next.levels all next.at))
 
 pub returns-in-Bucket-clause-steps : goal.returns-in-Bucket-clause-steps
 returns-in-Bucket-clause-steps g c = λ wanted members put has.
@@ -74,6 +74,6 @@ returns-in-Bucket-clause-steps g c = λ wanted members put has.
     (λ all mid. let deep = c.in_ok-leave_to.ensures.depth in
     let next = has_bucket wanted c.leave_to.new.self path key c.in-Bucket.sequence members all (subst (λ (i : entries.Item). HasLeft wanted c.leave_to.new.self ((path, i) ∷ members) all) item mid) (omega arith) last in
     let own : Level = record { key = key; after = next.after } in
-    (steps_map wanted c.leave_to.new.sink c.take_bucket.new.sink c.leave_to.new.self.setup all (IsAt wanted c.take_bucket.new.self (own ∷ next.levels) next.inside) At c.take_bucket.result
+    steps_map wanted c.leave_to.new.sink c.take_bucket.new.sink c.leave_to.new.self.setup all (IsAt wanted c.take_bucket.new.self (own ∷ next.levels) next.inside) At c.take_bucket.result
     (λ then at. record { levels = own ∷ next.levels; left = next.inside; at = at; members_are = next.members_are })
-    (c.take_bucket.ensures.steps wanted next.inside next.after next.levels all next.at)))
+    (c.take_bucket.ensures.steps wanted next.inside next.after next.levels all next.at))

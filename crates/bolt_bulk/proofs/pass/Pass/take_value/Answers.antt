@@ -35,4 +35,4 @@ returns-clause-steps g c = λ wanted after levels put is.
     let At : List Placed → Type 0 = IsAt wanted c.put_value-2.new.self levels after in
     steps_then wanted g.S.Sink.taken g.S.Sink.failed c.args.self.now.setup c.args.sink.now c.open_pending.new.sink c.put_value-2.new.sink put (IsAt wanted c.open_pending.new.self levels left) At tt c.put_value-2.result c.in_ok-open_pending.ensures.setup
     (c.in_ok-open_pending.ensures.steps wanted left levels put is rooted)
-    (λ all mid. (c.put_value-2.ensures.steps wanted after levels all mid))
+    (λ all mid. c.put_value-2.ensures.steps wanted after levels all mid)
