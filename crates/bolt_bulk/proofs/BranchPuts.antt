@@ -1,15 +1,19 @@
 -- A branch page, written piece by piece.
 use Rattle.std.proofs.Common.{◌≡◌, ◌∙◌, ℕ, suc, ◌+◌, ◌-◌, ◌*◌, ◌<◌, ◌≤◌, List, [], ◌∷◌, ◌++◌, length, map, get_or, Option, refl, sym, ap, arith}
-use Rattle.std.proofs.lemmas.List.{length-map}
+use Rattle.std.proofs.lemmas.List.{append-nil, length-map}
 use Rattle.bolt_format.specs.Elements.{BranchElement}
 use Rattle.bolt_format.specs.ElementPlaces.{branch_view}
 use Rattle.bolt_format.specs.declared.element.Branch.{Branch}
-use Rattle.bolt_layout.specs.Levels.{branch_view as branch_page_view}
+use Rattle.bolt_layout.specs.Layout.{placed_bytes}
+use Rattle.bolt_layout.specs.Levels.{overflow_of}
 use Rattle.bolt_layout.specs.PageBytes.{branch_bytes, branch_data, branch_headers, page_bytes}
 use Rattle.bolt_format.specs.Written.{branch_header, header_bytes}
 use Rattle.bolt_layout.proofs.BranchLemmas.{length-branch_headers}
 use Rattle.bolt_format.proofs.WrittenHeaders.{length-header_bytes}
 use Rattle.bolt_format.specs.declared.kind.Kind.TheVariants as kind
+use Rattle.bolt_bulk.specs.Private.BranchRuns.{IsSizedRun, run_view}
+use Rattle.bolt_bulk.specs.Private.RunViews.{run_page}
+use Rattle.bolt_bulk.specs.declared.branch_run.BranchRun.{BranchRun}
 use Rattle.bolt_bulk.proofs.PutParts.{filled_pieces, zeros}
 use Rattle.bolt_bulk.proofs.ElementPuts.{HeadsPut, data_of, headers_of, heads_next}
 
@@ -33,19 +37,22 @@ pub branch_datum : (xs : List Branch) → data_of key_of xs ≡ branch_data (map
 branch_datum [] = refl
 branch_datum (x ∷ xs) = ap (λ (t : List ℕ). x.key.now ++ t) (branch_datum xs)
 
--- The pieces of a branch page.
-pub branch_page_pieces : (page_size number further size : ℕ) (xs : List Branch) → size ≡ 16 + (16 * length xs + length (branch_data (map branch_view xs)))
-    → header_bytes number kind.Branch (length xs) further ++ (branch_headers 0 (map branch_view xs) ++ (branch_data (map branch_view xs) ++ zeros ((1 + further) * page_size - size)))
-    ≡ page_bytes page_size number (branch_page_view further (map branch_view xs))
+-- The pieces of the page over a run, in the list and the number that the code has.
+pub branch_run_pieces : (page_size number further : ℕ) (run : BranchRun) (branches : List Branch) → branches ≡ run.elements.items → further ≡ overflow_of page_size run.size → IsSizedRun (run_view run)
+    → header_bytes number kind.Branch (length branches) further
+    ++ (branch_headers 0 (map branch_view branches) ++ (branch_data (map branch_view branches) ++ zeros ((1 + further) * page_size - run.size)))
+    ≡ placed_bytes page_size (run_page page_size (run_view run) number ∷ [])
 unfolding page_bytes branch_bytes
-branch_page_pieces page_size number further size xs same =
-    let es : List BranchElement = map branch_view xs in
-    let n : ℕ = (1 + further) * page_size in
-    let count : length xs ≡ length es = sym (length-map xs branch_view) in
-    let a = length-header_bytes number kind.Branch (length es) further in
+branch_run_pieces page_size number further run branches branches_are further_is sized =
+    let es : List BranchElement = map branch_view run.elements.items in
+    let over : ℕ = overflow_of page_size run.size in
+    let n : ℕ = (1 + over) * page_size in
+    let count : length run.elements.items ≡ length es = sym (length-map run.elements.items branch_view) in
+    let a = length-header_bytes number kind.Branch (length es) over in
     let b = length-branch_headers 0 es in
-    ap (λ (m : ℕ). header_bytes number kind.Branch m further ++ (branch_headers 0 es ++ (branch_data es ++ zeros (n - size)))) count
-    ∙ filled_pieces n size (header_bytes number kind.Branch (length es) further) (branch_headers 0 es) (branch_data es) (omega arith)
+    rw (branches_are, further_is)
+    (ap (λ (m : ℕ). header_bytes number kind.Branch m over ++ (branch_headers 0 es ++ (branch_data es ++ zeros (n - run.size)))) count
+    ∙ (filled_pieces n run.size (header_bytes number kind.Branch (length es) over) (branch_headers 0 es) (branch_data es) (omega arith) ∙ sym (append-nil _)))
 
 -- what is known of the next header, if all headers and keys are small
 pub record NextBranch (x : Branch) (pos : ℕ) : Type 0 where

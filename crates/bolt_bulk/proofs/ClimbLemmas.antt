@@ -7,7 +7,7 @@ use Rattle.std.proofs.Math.ListN.{get_or-map}
 use Rattle.bolt_format.specs.ElementPlaces.{branch_view}
 use Rattle.bolt_format.specs.Elements.{BranchElement}
 use Rattle.bolt_format.specs.declared.element.Branch.{Branch}
-use Rattle.bolt_bulk.specs.declared.branch_runs.BranchRun.{BranchRun}
+use Rattle.bolt_bulk.specs.declared.branch_run.BranchRun.{BranchRun}
 use Rattle.bolt_layout.specs.Laid.{Placed}
 use Rattle.bolt_layout.specs.Levels.{overflow_of}
 use Rattle.bolt_layout.specs.Limits.{one_less}
@@ -56,12 +56,11 @@ set_at xs i x h = set_split xs i x h ∙ ap (λ (n : ℕ). take i xs ++ x ∷ dr
 
 -- the run takes the element and stays: the climb is over
 pub climb_stays : {S A B : Type 0} {taken : S → Option (List ℕ)} {failed : S → ℕ} (page_size : ℕ) (fresh : Option ℕ) (key : List ℕ) (e0 : BranchElement) (n0 : ℕ) (runs0 : List RunView) (old mid new : S) (runs : List RunView) (i : ℕ)
-    (e : BranchElement) (next : ℕ) (none run : RunView) (a : A) (b : B) → i < length runs → get_or runs i none ≡ run → run_stays page_size (run_push run e) (key_size key) ≡ true
+    (e : BranchElement) (next : ℕ) (run : RunView) (a : A) (b : B) → i < length runs → drop i runs ≡ run ∷ drop (i + 1) runs → run_stays page_size (run_push run e) (key_size key) ≡ true
     → Climbing page_size fresh key e0 n0 runs0 taken failed old mid runs i e next → Puts taken failed mid new (placed_bytes page_size (taking_puts page_size key e next run)) (Ok a)
     → (runs_climb page_size fresh key e0 n0 runs0 ≡ set runs i (run_kept page_size (run_push run e) (key_size key))) × (runs_next page_size key e0 n0 runs0 ≡ next)
     × Puts taken failed old new (placed_bytes page_size (runs_put page_size key e0 n0 runs0)) (Ok b)
-climb_stays page_size fresh key e0 n0 runs0 old mid new runs i e next none run a b h same room c one =
-    let at : drop i runs ≡ run ∷ drop (i + 1) runs = drop_more runs i none h ∙ ap (λ (r : RunView). r ∷ drop (i + 1) runs) same in
+climb_stays page_size fresh key e0 n0 runs0 old mid new runs i e next run a b h at room c one =
     let climbed : runs_climb page_size fresh key e next (run ∷ drop (i + 1) runs) ≡ run_kept page_size (run_push run e) (key_size key) ∷ drop (i + 1) runs = rw room refl in
     let nexted : runs_next page_size key e next (run ∷ drop (i + 1) runs) ≡ next = rw room refl in
     let no_more : after_put page_size key e next run (drop (i + 1) runs) ≡ [] = rw room refl in
@@ -81,11 +80,10 @@ take_set_at xs i x h = ap (λ (n : ℕ). take n (set xs i x)) (add-one i) ∙ ta
 
 -- it closes: its element climbs on
 pub climb_closes : {S A : Type 0} {taken : S → Option (List ℕ)} {failed : S → ℕ} (page_size : ℕ) (fresh : Option ℕ) (key : List ℕ) (e0 : BranchElement) (n0 : ℕ) (runs0 : List RunView) (old mid new : S) (runs : List RunView) (i : ℕ)
-    (e : BranchElement) (next : ℕ) (none run : RunView) (a : A) → i < length runs → get_or runs i none ≡ run → run_stays page_size (run_push run e) (key_size key) ≡ false
+    (e : BranchElement) (next : ℕ) (run : RunView) (a : A) → i < length runs → drop i runs ≡ run ∷ drop (i + 1) runs → run_stays page_size (run_push run e) (key_size key) ≡ false
     → Climbing page_size fresh key e0 n0 runs0 taken failed old mid runs i e next → Puts taken failed mid new (placed_bytes page_size (taking_puts page_size key e next run)) (Ok a)
     → Climbing page_size fresh key e0 n0 runs0 taken failed old new (set runs i (no_run (one_less run.left) (one_closed run.closed))) (i + 1) (element_up e next run) (next + (1 + overflow_of page_size (run_push run e).size))
-climb_closes {taken = taken} {failed = failed} page_size fresh key e0 n0 runs0 old mid new runs i e next none run a h same room c one =
-    let at : drop i runs ≡ run ∷ drop (i + 1) runs = drop_more runs i none h ∙ ap (λ (r : RunView). r ∷ drop (i + 1) runs) same in
+climb_closes {taken = taken} {failed = failed} page_size fresh key e0 n0 runs0 old mid new runs i e next run a h at room c one =
     let up : BranchElement = element_up e next run in
     let after : ℕ = next + (1 + overflow_of page_size (run_push run e).size) in
     let rest : List RunView = drop (i + 1) runs in
@@ -107,11 +105,10 @@ climb_closes {taken = taken} {failed = failed} page_size fresh key e0 n0 runs0 o
 
 -- a fault
 pub climb_stops : {S A B : Type 0} {taken : S → Option (List ℕ)} {failed : S → ℕ} (page_size : ℕ) (fresh : Option ℕ) (key : List ℕ) (e0 : BranchElement) (n0 : ℕ) (runs0 : List RunView) (old mid new : S) (runs : List RunView) (i : ℕ)
-    (e : BranchElement) (next : ℕ) (none run : RunView) (fault : BulkFault) → i < length runs → get_or runs i none ≡ run
+    (e : BranchElement) (next : ℕ) (run : RunView) (fault : BulkFault) → drop i runs ≡ run ∷ drop (i + 1) runs
     → Climbing page_size fresh key e0 n0 runs0 taken failed old mid runs i e next → Puts {A = A} taken failed mid new (placed_bytes page_size (taking_puts page_size key e next run)) (Err fault)
     → Puts {A = B} taken failed old new (placed_bytes page_size (runs_put page_size key e0 n0 runs0)) (Err fault)
-climb_stops page_size fresh key e0 n0 runs0 old mid new runs i e next none run fault h same c one =
-    let at : drop i runs ≡ run ∷ drop (i + 1) runs = drop_more runs i none h ∙ ap (λ (r : RunView). r ∷ drop (i + 1) runs) same in
+climb_stops page_size fresh key e0 n0 runs0 old mid new runs i e next run fault at c one =
     puts_stop old mid new _ (placed_bytes page_size (taking_puts page_size key e next run)) _ _ fault (left_split page_size key e next run (drop (i + 1) runs) (drop i runs) at) c.front one
 
 -- the numbers only grow
@@ -135,19 +132,20 @@ taking_grows page_size key e next run runs =
     ]
 
 pub climb_large : {S : Type 0} {taken : S → Option (List ℕ)} {failed : S → ℕ} (page_size limit : ℕ) (fresh : Option ℕ) (key : List ℕ) (e0 : BranchElement) (n0 : ℕ) (runs0 : List RunView) (old mid : S) (runs : List RunView) (i : ℕ)
-    (e : BranchElement) (next : ℕ) (none run : RunView) → i < length runs → get_or runs i none ≡ run
+    (e : BranchElement) (next : ℕ) (run : RunView) → drop i runs ≡ run ∷ drop (i + 1) runs
     → Climbing page_size fresh key e0 n0 runs0 taken failed old mid runs i e next → limit < taking_next page_size key e next run → limit < runs_next page_size key e0 n0 runs0
-climb_large page_size limit fresh key e0 n0 runs0 old mid runs i e next none run h same c large =
-    let at : drop i runs ≡ run ∷ drop (i + 1) runs = drop_more runs i none h ∙ ap (λ (r : RunView). r ∷ drop (i + 1) runs) same in
+climb_large page_size limit fresh key e0 n0 runs0 old mid runs i e next run at c large =
     let g = taking_grows page_size key e next run (drop (i + 1) runs) in
     let n = c.nexts ∙ ap (λ (rs : List RunView). runs_next page_size key e next rs) at in omega arith
 
 -- the same of the runs that the code keeps
-pub run_at : (runs : List BranchRun) (i : ℕ) (run : BranchRun) → i < length runs → run ≡ get_or runs i run → get_or (map run_view runs) i (run_view run) ≡ run_view run
-run_at runs i run h same = get_or-map run_view runs i run ∙ ap run_view (sym same)
-
 pub within_runs : (runs : List BranchRun) (i : ℕ) → i < length runs → i < length (map run_view runs)
 within_runs runs i h = let l = length-map runs run_view in omega arith
+
+pub run_here : (runs : List BranchRun) (i : ℕ) (run : BranchRun) → i < length runs → run ≡ get_or runs i run → drop i (map run_view runs) ≡ run_view run ∷ drop (i + 1) (map run_view runs)
+run_here runs i run h same =
+    drop_more (map run_view runs) i (run_view run) (within_runs runs i h)
+    ∙ ap (λ (r : RunView). r ∷ drop (i + 1) (map run_view runs)) (get_or-map run_view runs i run ∙ ap run_view (sym same))
 
 pub standing_at : (runs : List BranchRun) (i : ℕ) (run : BranchRun) → i < length runs → run ≡ get_or runs i run → AllByRecursion IsStanding (map run_view runs) → IsStanding (run_view run)
 standing_at [] i run h same all = absurd (omega arith)

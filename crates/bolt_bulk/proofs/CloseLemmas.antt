@@ -1,6 +1,6 @@
 -- The end of a bucket: its open runs close, one after another.
-use Rattle.std.proofs.Common.{◌≡◌, ◌∙◌, ℕ, ◌+◌, ◌<◌, ◌≤◌, List, [], ◌∷◌, ◌++◌, length, drop, get_or, set, Option, Ok, Err, sym, ap, subst, arith}
-use Rattle.std.proofs.lemmas.List.{drop_more, drop-set-lt}
+use Rattle.std.proofs.Common.{◌≡◌, ◌∙◌, ℕ, ◌+◌, ◌<◌, ◌≤◌, List, [], ◌∷◌, ◌++◌, drop, set, Option, Ok, Err, sym, ap, subst, arith}
+use Rattle.std.proofs.lemmas.List.{drop-set-lt}
 use Rattle.bolt_format.specs.Elements.{BranchElement}
 use Rattle.bolt_format.specs.Sinks.{AppendsProperBeginning}
 use Rattle.bolt_layout.specs.Levels.{overflow_of}
@@ -18,9 +18,6 @@ pub record Closing {S : Type 0} (page_size : ℕ) (e0 : BranchElement) (n0 : ℕ
   pub nexts : runs_end_next page_size e0 n0 runs0 ≡ runs_end_next page_size e next (drop i runs)
   pub front : PutsFront taken failed old new (placed_bytes page_size (runs_close_put page_size e0 n0 runs0)) (placed_bytes page_size (runs_close_put page_size e next (drop i runs)))
 
-at_run : (runs : List RunView) (i : ℕ) (none run : RunView) → i < length runs → get_or runs i none ≡ run → drop i runs ≡ run ∷ drop (i + 1) runs
-at_run runs i none run h same = drop_more runs i none h ∙ ap (λ (r : RunView). r ∷ drop (i + 1) runs) same
-
 -- what the next run writes, and what is written after it
 close_left : (page_size : ℕ) (e : BranchElement) (next : ℕ) (run : RunView) (runs left : List RunView) → left ≡ run ∷ runs
     → placed_bytes page_size (runs_close_put page_size e next left)
@@ -31,12 +28,11 @@ close_left page_size e next run runs left at =
 
 -- a run closes, and its element goes on
 pub close_more : {S A : Type 0} {taken : S → Option (List ℕ)} {failed : S → ℕ} (page_size : ℕ) (e0 : BranchElement) (n0 : ℕ) (runs0 : List RunView) (old mid new : S) (runs : List RunView) (i : ℕ)
-    (e : BranchElement) (next : ℕ) (none run left : RunView) (a : A) (up : BranchElement) (after : ℕ) → i < length runs → get_or runs i none ≡ run
+    (e : BranchElement) (next : ℕ) (run left : RunView) (a : A) (up : BranchElement) (after : ℕ) → drop i runs ≡ run ∷ drop (i + 1) runs
     → up ≡ element_up e next run → after ≡ next + (1 + overflow_of page_size (run_push run e).size)
     → Closing page_size e0 n0 runs0 taken failed old mid runs i e next → Puts taken failed mid new (placed_bytes page_size (run_page page_size (run_push run e) next ∷ [])) (Ok a)
     → Closing page_size e0 n0 runs0 taken failed old new (set runs i left) (i + 1) up after
-close_more {taken = taken} {failed = failed} page_size e0 n0 runs0 old mid new runs i e next none run left a up after h same up_is after_is c one =
-    let at = at_run runs i none run h same in
+close_more {taken = taken} {failed = failed} page_size e0 n0 runs0 old mid new runs i e next run left a up after at up_is after_is c one =
     let rest : List RunView = drop (i + 1) runs in
     let dropped : rest ≡ drop (i + 1) (set runs i left) = sym (drop-set-lt (i + 1) runs i left (omega arith)) in
     let f = front_puts old mid new _ (placed_bytes page_size (run_page page_size (run_push run e) next ∷ [])) _ _ a (close_left page_size e next run rest (drop i runs) at) c.front one in
@@ -50,19 +46,19 @@ close_more {taken = taken} {failed = failed} page_size e0 n0 runs0 old mid new r
 
 -- a fault
 pub close_stops : {S A B : Type 0} {taken : S → Option (List ℕ)} {failed : S → ℕ} (page_size : ℕ) (e0 : BranchElement) (n0 : ℕ) (runs0 : List RunView) (old mid new : S) (runs : List RunView) (i : ℕ)
-    (e : BranchElement) (next : ℕ) (none run : RunView) (fault : BulkFault) → i < length runs → get_or runs i none ≡ run
+    (e : BranchElement) (next : ℕ) (run : RunView) (fault : BulkFault) → drop i runs ≡ run ∷ drop (i + 1) runs
     → Closing page_size e0 n0 runs0 taken failed old mid runs i e next → Puts {A = A} taken failed mid new (placed_bytes page_size (run_page page_size (run_push run e) next ∷ [])) (Err fault)
     → Puts {A = B} taken failed old new (placed_bytes page_size (runs_close_put page_size e0 n0 runs0)) (Err fault)
-close_stops page_size e0 n0 runs0 old mid new runs i e next none run fault h same c one =
-    puts_stop old mid new _ (placed_bytes page_size (run_page page_size (run_push run e) next ∷ [])) _ _ fault (close_left page_size e next run (drop (i + 1) runs) (drop i runs) (at_run runs i none run h same)) c.front one
+close_stops page_size e0 n0 runs0 old mid new runs i e next run fault at c one =
+    puts_stop old mid new _ (placed_bytes page_size (run_page page_size (run_push run e) next ∷ [])) _ _ fault (close_left page_size e next run (drop (i + 1) runs) (drop i runs) at) c.front one
 
 -- and it leaves something out
 pub close_short : {S : Type 0} {taken : S → Option (List ℕ)} {failed : S → ℕ} (page_size : ℕ) (e0 : BranchElement) (n0 : ℕ) (runs0 : List RunView) (old mid new : S) (runs : List RunView) (i : ℕ)
-    (e : BranchElement) (next : ℕ) (none run : RunView) → i < length runs → get_or runs i none ≡ run
+    (e : BranchElement) (next : ℕ) (run : RunView) → drop i runs ≡ run ∷ drop (i + 1) runs
     → Closing page_size e0 n0 runs0 taken failed old mid runs i e next → AppendsProperBeginning (taken mid) (taken new) (placed_bytes page_size (run_page page_size (run_push run e) next ∷ []))
     → AppendsProperBeginning (taken old) (taken new) (placed_bytes page_size (runs_close_put page_size e0 n0 runs0))
-close_short page_size e0 n0 runs0 old mid new runs i e next none run h same c one =
-    short_stop old mid new _ (placed_bytes page_size (run_page page_size (run_push run e) next ∷ [])) _ _ (close_left page_size e next run (drop (i + 1) runs) (drop i runs) (at_run runs i none run h same)) c.front one
+close_short page_size e0 n0 runs0 old mid new runs i e next run at c one =
+    short_stop old mid new _ (placed_bytes page_size (run_page page_size (run_push run e) next ∷ [])) _ _ (close_left page_size e next run (drop (i + 1) runs) (drop i runs) at) c.front one
 
 -- the numbers only grow
 pub end_grows : (page_size : ℕ) (e : BranchElement) (next : ℕ) (runs : List RunView) → next ≤ runs_end_next page_size e next runs
@@ -70,8 +66,8 @@ end_grows page_size e next [] = omega arith
 end_grows page_size e next (run ∷ runs) = let ih = end_grows page_size (element_up e next run) (next + (1 + overflow_of page_size (run_push run e).size)) runs in omega arith
 
 pub close_large : {S : Type 0} {taken : S → Option (List ℕ)} {failed : S → ℕ} (page_size limit : ℕ) (e0 : BranchElement) (n0 : ℕ) (runs0 : List RunView) (old mid : S) (runs : List RunView) (i : ℕ)
-    (e : BranchElement) (next : ℕ) (none run : RunView) → i < length runs → get_or runs i none ≡ run
+    (e : BranchElement) (next : ℕ) (run : RunView) → drop i runs ≡ run ∷ drop (i + 1) runs
     → Closing page_size e0 n0 runs0 taken failed old mid runs i e next → limit < next + (1 + overflow_of page_size (run_push run e).size) → limit < runs_end_next page_size e0 n0 runs0
-close_large page_size limit e0 n0 runs0 old mid runs i e next none run h same c large =
-    let n = c.nexts ∙ ap (λ (rs : List RunView). runs_end_next page_size e next rs) (at_run runs i none run h same) in
+close_large page_size limit e0 n0 runs0 old mid runs i e next run at c large =
+    let n = c.nexts ∙ ap (λ (rs : List RunView). runs_end_next page_size e next rs) at in
     let g = end_grows page_size (element_up e next run) (next + (1 + overflow_of page_size (run_push run e).size)) (drop (i + 1) runs) in omega arith

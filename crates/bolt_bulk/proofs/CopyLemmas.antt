@@ -5,6 +5,7 @@ use Rattle.std.specs.Io.KnownBytes.{Appends}
 use Rattle.bolt_format.specs.Sinks.{AppendsProperBeginning}
 use Rattle.bolt_tree.specs.Tree.{Tree}
 use Rattle.bolt_bulk.specs.Compacting.{Copies, too_many}
+use Rattle.bolt_layout.specs.Laid.{Placed}
 use Rattle.bolt_layout.specs.Layout.{layout_mark, layout_of, layout_pages, layout_root, placed_bytes}
 use Rattle.bolt_layout.specs.PageBytes.{freelist_page, meta_page}
 use Rattle.bolt_bulk.specs.Private.FirstPages.{first_pages}
@@ -29,6 +30,15 @@ layout_parts which page_size tree sequence root mark root_is mark_is =
     ap (λ (bs : List ℕ). meta_page page_size root sequence mark 0 ++ bs) (sym (append_assoc (meta_page page_size root sequence mark 1) (freelist_page page_size 2) pages))
     ∙ sym (append_assoc (meta_page page_size root sequence mark 0) (meta_page page_size root sequence mark 1 ++ freelist_page page_size 2) pages) in
     ap (λ (r : ℕ). Whole r (layout_mark which page_size tree)) (sym root_is) ∙ (ap (λ (m : ℕ). Whole root m) (sym mark_is) ∙ regroup)
+
+-- the same, with the pages that a pass writes at this page size
+pub layout_written : (which : Layout) (page_size : ℕ) (tree : Tree) (sequence root mark size : ℕ) (pages : List Placed) → root ≡ layout_root which page_size tree → mark ≡ layout_mark which page_size tree
+    → size ≡ page_size → layout_pages which size tree ≡ pages
+    → layout_of which page_size tree sequence ≡ first_pages (record { page_size = page_size; root = root; sequence = sequence; mark = mark }) ++ placed_bytes size pages
+layout_written which page_size tree sequence root mark size pages root_is mark_is size_is all =
+    layout_parts which page_size tree sequence root mark root_is mark_is
+    ∙ ap (λ (bytes : List ℕ). first_pages (record { page_size = page_size; root = root; sequence = sequence; mark = mark }) ++ bytes)
+    (ap (λ (n : ℕ). placed_bytes n (layout_pages which n tree)) (sym size_is) ∙ ap (placed_bytes size) all)
 
 never : {X : Type 0} (bytes : ℕ) → bytes < too_many → too_many ≤ bytes → X
 never bytes fits large = absurd (omega arith)

@@ -16,7 +16,7 @@ use Rattle.bolt_bulk.specs.Private.OpenBuckets.{bucket_runs}
 use Rattle.bolt_bulk.specs.Private.BucketRuns.{AreUppers, AreOpenRuns}
 use Rattle.bolt_bulk.specs.Private.OpenRuns.{climb, close, end_of, Frame, has_room, key_size, Known, making_room, numbers_in, Open, pushed_on, pushing, stays_open, taking, Upper}
 use Rattle.bolt_bulk.specs.Private.Passes.{AreWaiting}
-use Rattle.bolt_bulk.specs.declared.branch_runs.BranchRun.{BranchRun}
+use Rattle.bolt_bulk.specs.declared.branch_run.BranchRun.{BranchRun}
 use Rattle.bolt_bulk.specs.declared.open_bucket.OpenBucket.{OpenBucket}
 use Rattle.bolt_bulk.specs.declared.waiting_bucket.WaitingBucket.{WaitingBucket}
 use Rattle.bolt_layout.proofs.LaidItems.{length-elements}
@@ -184,7 +184,7 @@ above_length (run ∷ runs) (upper ∷ uppers) b are =
 
 pub items_length : (bucket : OpenBucket) (next b : ℕ) (state : Open) → AreOpenRuns (bucket_runs bucket next) state b → items_in bucket ≡ length_open state
 items_length bucket next b state runs =
-    let above = above_length bucket.uppers.items state.uppers b runs.above in
+    let above = above_length bucket.uppers.runs.items state.uppers b runs.above in
     let l = length-map bucket.leaves.items.items (held_view bucket.leaves.inlined.items) in
     let e = ap (λ (es : List LeafElement). length es) runs.same in
     let k = length-elements state.run (b + numbers_in state.uppers) in omega arith

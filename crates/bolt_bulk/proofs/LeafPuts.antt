@@ -2,12 +2,18 @@
 use Rattle.std.proofs.Common.{◌≡◌, ◌∙◌, ℕ, suc, ◌+◌, ◌-◌, ◌*◌, ◌<◌, ◌≤◌, List, [], ◌∷◌, ◌++◌, length, map, get_or, Option, refl, sym, ap, arith, append_assoc}
 use Rattle.std.proofs.lemmas.List.{length-append, length-map}
 use Rattle.bolt_format.specs.Elements.{LeafElement}
-use Rattle.bolt_layout.specs.Levels.{leaf_view as leaf_page_view}
+use Rattle.bolt_format.specs.declared.element.Leaf.{Leaf}
+use Rattle.bolt_layout.specs.Levels.{overflow_of}
 use Rattle.bolt_format.specs.Written.{header_bytes, leaf_header, head_bytes}
 use Rattle.bolt_layout.specs.PageBytes.{inline_value, leaf_bytes, leaf_data, leaf_headers, page_bytes}
 use Rattle.bolt_layout.proofs.LeafLemmas.{length-leaf_headers}
 use Rattle.bolt_format.proofs.WrittenHeaders.{length-header_bytes, length-head_bytes}
 use Rattle.bolt_format.specs.declared.kind.Kind.TheVariants as kind
+use Rattle.bolt_bulk.specs.Private.HeldItems.{held_view, held_views, page_size_of}
+use Rattle.bolt_bulk.specs.Private.OpenBuckets.{leaves_of}
+use Rattle.bolt_bulk.specs.Private.RunViews.{leaf_page}
+use Rattle.bolt_bulk.specs.declared.held.Held.{Held}
+use Rattle.bolt_bulk.specs.declared.leaf_run.LeafRun.{LeafRun}
 use Rattle.bolt_bulk.proofs.PutParts.{filled_pieces, zeros}
 use Rattle.bolt_bulk.proofs.ElementPuts.{HeadsPut, data_of, headers_of, heads_next}
 
@@ -30,19 +36,23 @@ pub leaf_datum : {X : Type 0} (view : X → LeafElement) (xs : List X) → data_
 leaf_datum view [] = refl
 leaf_datum view (x ∷ xs) = ap (λ (t : List ℕ). datum_of view x ++ t) (leaf_datum view xs) ∙ append_assoc (view x).key (view x).value (leaf_data (map view xs))
 
--- The pieces of a leaf page.
-pub leaf_page_pieces : {X : Type 0} (view : X → LeafElement) (page_size number further size : ℕ) (xs : List X) → size ≡ 16 + (16 * length xs + length (leaf_data (map view xs)))
-    → header_bytes number kind.Leaf (length xs) further ++ (leaf_headers 0 (map view xs) ++ (leaf_data (map view xs) ++ zeros ((1 + further) * page_size - size)))
-    ≡ page_bytes page_size number (leaf_page_view further (map view xs))
+-- The pieces of the page over a run, in the lists and the number that the code has.
+pub leaf_run_pieces : (page_size number further : ℕ) (run : LeafRun) (items : List Held) (inlined : List Leaf) → items ≡ run.items.items → inlined ≡ run.inlined.items → further ≡ overflow_of page_size run.size
+    → run.size ≡ page_size_of run.inlined.items run.items.items
+    → header_bytes number kind.Leaf (length items) further
+    ++ (leaf_headers 0 (held_views inlined items) ++ (leaf_data (held_views inlined items) ++ zeros ((1 + further) * page_size - run.size)))
+    ≡ page_bytes page_size number (leaf_page page_size (leaves_of run) number).view
 unfolding page_bytes leaf_bytes
-leaf_page_pieces view page_size number further size xs same =
-    let es : List LeafElement = map view xs in
-    let n : ℕ = (1 + further) * page_size in
-    let count : length xs ≡ length es = sym (length-map xs view) in
-    let a = length-header_bytes number kind.Leaf (length es) further in
+leaf_run_pieces page_size number further run items inlined items_are inlined_are further_is sized =
+    let es : List LeafElement = held_views run.inlined.items run.items.items in
+    let over : ℕ = overflow_of page_size run.size in
+    let n : ℕ = (1 + over) * page_size in
+    let count : length run.items.items ≡ length es = sym (length-map run.items.items (held_view run.inlined.items)) in
+    let a = length-header_bytes number kind.Leaf (length es) over in
     let b = length-leaf_headers 0 es in
-    ap (λ (m : ℕ). header_bytes number kind.Leaf m further ++ (leaf_headers 0 es ++ (leaf_data es ++ zeros (n - size)))) count
-    ∙ filled_pieces n size (header_bytes number kind.Leaf (length es) further) (leaf_headers 0 es) (leaf_data es) (omega arith)
+    rw (items_are, inlined_are, further_is)
+    (ap (λ (m : ℕ). header_bytes number kind.Leaf m over ++ (leaf_headers 0 es ++ (leaf_data es ++ zeros (n - run.size)))) count
+    ∙ filled_pieces n run.size (header_bytes number kind.Leaf (length es) over) (leaf_headers 0 es) (leaf_data es) (omega arith))
 
 -- The pieces of an inline value, and its length.
 pub inline_pieces : {X : Type 0} (view : X → LeafElement) (sequence : ℕ) (xs : List X)

@@ -81,10 +81,6 @@ pub values_keyed : (entries : List LeafElement) → AllByRecursion IsKeyedItem (
 values_keyed [] = tt
 values_keyed (e ∷ entries) = ((λ n. refl), values_keyed entries)
 
-pub values_count : (entries : List LeafElement) → length (value_items entries) ≡ length entries
-values_count [] = refl
-values_count (e ∷ entries) = let ih = values_count entries in omega arith
-
 -- a bucket of values alone that takes a quarter of a page at most is inline
 pub ends_inline : (which : Layout) (page_size : ℕ) (entries : List LeafElement) → entries_size entries ≤ page_size / 4 → length entries ≤ 65534
     → is_inline page_size (onto entries end) (items_of which page_size (onto entries end)) ≡ true

@@ -1,6 +1,6 @@
 -- The steps of a pass, over what the code keeps of it.
-use Rattle.std.proofs.Common.{◌≡◌, ◌∙◌, ℕ, suc, ◌+◌, ◌<◌, true, false, List, [], ◌∷◌, ◌++◌, length, map, max, min, reverse, Option, Some, None, Result, Ok, Err, Bor, Vec, Global, refl, sym, ap, subst, arith, append_assoc}
-use Rattle.std.specs.Prelude.{⊤, IfErr, OnOk}
+use Rattle.std.proofs.Common.{Bool, ◌≡◌, ◌∙◌, ℕ, suc, ◌+◌, ◌<◌, true, false, List, [], ◌∷◌, ◌++◌, length, map, max, min, reverse, Option, Some, None, Result, Ok, Err, Vec, Global, refl, sym, ap, subst, arith, append_assoc}
+use Rattle.std.specs.Prelude.{⊤, IfErr, IsErrAnd, OnOk}
 use Rattle.std.specs.List.{AllByRecursion}
 use Rattle.std.proofs.KnownBytes.{Appends-nil}
 use Rattle.std.proofs.lemmas.List.{append-nil, length-map, map-append, reverse-append}
@@ -21,7 +21,7 @@ use Rattle.bolt_bulk.specs.Private.HeldSoFar.{held_so_far, length_frames, length
 use Rattle.bolt_bulk.specs.Private.OpenBuckets.{bucket_end_next, bucket_runs}
 use Rattle.bolt_bulk.specs.Private.BucketRuns.{AreOpenRuns}
 use Rattle.bolt_bulk.specs.Private.OpenRuns.{Frame, Known, Open, base_in, end_of, making_room, next_number, pushing, taking}
-use Rattle.bolt_bulk.specs.Private.Passes.{AreComing, AreComingAround, AreNumbered, Notes, Wanted, open_in, limits_by, AreWaiting, HasRoot, IsAt, IsPending, IsSmall, StandsBefore, Steps, level_of, onto}
+use Rattle.bolt_bulk.specs.Private.Passes.{AreComing, AreComingAround, AreNumbered, Notes, Wanted, open_in, limits_by, AreWaiting, HasRoot, IsAt, IsPending, IsPendingSmall, IsSmall, StandsBefore, Steps, level_of, onto}
 use Rattle.bolt_bulk.specs.Private.RunViews.{BucketRuns, runs_end, runs_end_put, runs_push, runs_room, runs_room_put}
 use Rattle.bolt_bulk.specs.Private.TakenItems.{inline_element, root_element, runs_taking, value_element}
 use Rattle.bolt_bulk.specs.Puts.{Puts}
@@ -38,11 +38,12 @@ use Rattle.bolt_bulk.proofs.HeldSteps.{around_length, enters_held, items_length,
 use Rattle.bolt_bulk.proofs.Ontos.{IsValue, ends_inline, onto_items, onto_push, value_items, values_held}
 use Rattle.bolt_layout.specs.Limits.{HaveRightLimits}
 use Rattle.bolt_layout.specs.Openings.{leaf_pages, opened_by, opened_in}
-use Rattle.bolt_bulk.specs.Private.RowLimits.{bucket_limit, limit_in}
+use Rattle.bolt_bulk.specs.Private.RowLimits.{BucketEnds, bucket_limit, limit_in}
 use Rattle.bolt_bulk.specs.declared.limits.BucketLimits.{BucketLimits}
 use Rattle.bolt_bulk.specs.declared.noted_limits.NotedLimits.{NotedLimits}
-use Rattle.bolt_bulk.proofs.Tables.{BucketEnds, numbered_same, opened_most, room_known, noted_enters, noted_leaves}
+use Rattle.bolt_bulk.proofs.Tables.{numbered_same, opened_most, room_known, noted_enters, noted_leaves}
 use Rattle.bolt_bulk.proofs.Openings.{around_at, coming_at, coming_onto, opened_inline, opened_onto, opened_rooted}
+use Rattle.bolt_bulk.proofs.PassReady.{inline_long, small_of}
 use Rattle.bolt_bulk.proofs.PassSteps.{IsOn, inline_item, on_before, on_enters, on_leaves, on_numbers, on_takes, open_values, pass_takes_all, root_item, values_put, values_runs}
 use Rattle.bolt_bulk.proofs.PutsLemmas.{bytes-append, puts_then}
 
@@ -91,10 +92,10 @@ module _ {S : Type 0} (wanted : Wanted) (taken : S → Option (List ℕ)) (faile
   abbrev StepsBy : {A : Type 0} (old new : S) (put : List Placed) (At : List Placed → Type 0) (result : Result A BulkFault) → Type 0
   StepsBy old new put At result = Steps wanted taken failed old new setup put At result
 
-  pub steps_then : {A B : Type 0} (old mid new : S) (put : List Placed) (Mid At : List Placed → Type 0) (x : A) (result : Result B BulkFault)
-      → StepsBy old mid put Mid (Ok x) → ((all : List Placed) → Mid all → StepsBy mid new all At result) → StepsBy old new put At result
-  steps_then old mid new put Mid At x result one two =
-      let then = two (put ++ one.more) one.at in
+  pub steps_then : {A B : Type 0} {later : PageSetup} (old mid new : S) (put : List Placed) (Mid At : List Placed → Type 0) (x : A) (result : Result B BulkFault)
+      → later ≡ setup → StepsBy old mid put Mid (Ok x) → ((all : List Placed) → Mid all → Steps wanted taken failed mid new later all At result) → StepsBy old new put At result
+  steps_then old mid new put Mid At x result later_is one two =
+      let then = subst (λ (b : PageSetup). Steps wanted taken failed mid new b (put ++ one.more) At result) later_is (two (put ++ one.more) one.at) in
       let same : (put ++ one.more) ++ then.more ≡ put ++ (one.more ++ then.more) = append_assoc put one.more then.more in
       record {
         more = one.more ++ then.more;
@@ -105,14 +106,15 @@ module _ {S : Type 0} (wanted : Wanted) (taken : S → Option (List ℕ)) (faile
       }
 
   -- a fault is returned on
-  pub steps_stop : {A B : Type 0} (old new : S) (put : List Placed) (Mid At : List Placed → Type 0) (e : BulkFault) → StepsBy {A = A} old new put Mid (Err e) → StepsBy {A = B} old new put At (Err e)
-  steps_stop old new put Mid At e one = record {
+  pub steps_stop : {A B : Type 0} (old new : S) (put : List Placed) (Mid At : List Placed → Type 0) (e : BulkFault) (result : Result B BulkFault) → IsErrAnd result (λ f. f ≡ e) → StepsBy {A = A} old new put Mid (Err e) → StepsBy old new put At result
+  steps_stop old new put Mid At e (Ok x) same one = absurd same
+  steps_stop old new put Mid At e (Err f) same one = rw same (record {
     more = one.more;
     puts = record { all = tt; sound = tt; beginning = one.puts.beginning; failure = one.puts.failure; other = one.puts.other };
     at = tt;
     before = one.before;
     large = one.large;
-  }
+  })
 
   -- memory ran out after steps that went well
   pub steps_failed : {A B : Type 0} (old new : S) (put : List Placed) (At : List Placed → Type 0) (x : A) → StepsBy old new put At (Ok x) → StepsBy {A = B} old new put At (Err fault.Memory)
@@ -203,56 +205,71 @@ module _ {S : Type 0} (taken : S → Option (List ℕ)) (failed : S → ℕ) (wa
   abbrev runs_now : BucketRuns
   runs_now = bucket_runs pass.bucket pass.next
 
-  -- ---- a value of the open bucket
-  pub value_steps : {A : Type 0} (levels : List Level) (key value : List ℕ) (after : Tree) (old new : S) (bucket : OpenBucket) (next : ℕ) (counted : Pass) (result : Result A BulkFault)
-      → IsAt wanted pass levels (with_value key value after) put → pass.pending ≡ None
-      → Puts taken failed old new (placed_bytes P (runs_room_put P runs_now key (16 + (length key + length value)))) result
-      → OnOk result (bucket_runs bucket next ≡ runs_taking P runs_now (value_element key value) (16 + (length key + length value)))
-      → IfErr result (λ e. e ≡ fault.TooLarge → pass.setup.limit < (runs_room P runs_now key (16 + (length key + length value))).next)
-      → OnOk result (Counts (record { setup = pass.setup; limits = pass.limits; waiting = pass.waiting; bucket = bucket; pending = pass.pending; entries = pass.entries; next = next; opened = pass.opened; around = pass.around; most = pass.most; noted = pass.noted }) counted)
+  -- ---- the open bucket takes an item with no pages below it
+  item_steps : {A : Type 0} (within : List Level) (left : Tree) (key value : List ℕ) (flag : Bool) (size : ℕ) (rest : Tree) (levels : List Level) (after : Tree) (pending : Option PendingBucket) (old new : S) (bucket : OpenBucket)
+      (entries : Vec Leaf Global) (next : ℕ) (counted : Pass) (result : Result A BulkFault) (is : IsAt wanted pass within left put) → size ≡ 16 + (length key + length value)
+      → IsOn wanted.which P wanted.tree is.frames is.state (leaf_item key value flag ∷ items_of wanted.which P rest) runs_now put → IsComingFor wanted pass is.opened rest is.frames
+      → pending ≡ None → (levels ≡ map level_of is.frames) × (rest ≡ after)
+      → Puts taken failed old new (placed_bytes P (runs_room_put P runs_now key size)) result
+      → OnOk result (bucket_runs bucket next ≡ runs_taking P runs_now (record { key = key; value = value; is_bucket = flag }) size)
+      → IfErr result (λ e. e ≡ fault.TooLarge → pass.setup.limit < (runs_room P runs_now key size).next)
+      → OnOk result (Counts (record pass { bucket = bucket; pending = pending; entries = entries; next = next }) counted)
       → Steps wanted taken failed old new pass.setup put (IsAt wanted counted levels after) result
-  value_steps levels key value after old new bucket next counted result is none puts runs large counts =
-      let (same, on, right) = on_of wanted pass levels (with_value key value after) put is none in
-      let made : Open = taking P is.state (leaf_item key value false) in
-      let then = on_takes wanted.which P wanted.tree is.frames is.state key value false (items_of wanted.which P after) runs_now put on in
+  item_steps within left key value flag size rest levels after pending old new bucket entries next counted result is sized on right none pends puts runs large counts =
+      let made : Open = taking P is.state (leaf_item key value flag) in
+      let Then : ℕ → Type 0 = λ n. IsOn wanted.which P wanted.tree is.frames made (items_of wanted.which P rest) (runs_taking P runs_now (record { key = key; value = value; is_bucket = flag }) n) (put ++ runs_room_put P runs_now key n) in
+      let then : Then size = subst Then (sym sized) (on_takes wanted.which P wanted.tree is.frames is.state key value flag (items_of wanted.which P rest) runs_now put on) in
       let few = on_numbers wanted.which P wanted.tree is.frames made _ _ _ then in
       record {
-        more = runs_room_put P runs_now key (16 + (length key + length value));
+        more = runs_room_put P runs_now key size;
         puts = puts;
         at = on_ok_both result runs counts (λ e k.
             let here : AreOpenRuns (bucket_runs bucket next) made (base_in is.frames) = subst (λ (r : BucketRuns). AreOpenRuns r made (base_in is.frames)) (sym e) then.runs_are_kept in
             let count = counted_items is.frames made pass.waiting.items bucket next is.waits here in
-            subst (λ (p : Pass). IsAt wanted p levels after (put ++ runs_room_put P runs_now key (16 + (length key + length value)))) (sym k.rest) (record {
+            subst (λ (p : Pass). IsAt wanted p levels after (put ++ runs_room_put P runs_now key size)) (sym k.rest) (record {
               frames = is.frames;
               state = made;
-              rest = after;
+              rest = rest;
               under = then.under;
               runs = here;
               waits = is.waits;
               put_is = then.put_is;
-              held = takes_held P is.frames is.state (leaf_item key value false) pass.most counted.most refl is.held (k.most ∙ ap (λ (n : ℕ). max pass.most (capped n)) count);
-              pends = subst (λ (p : Option PendingBucket). IsPending p pass.entries.items (map level_of is.frames) after levels after) (sym none) (same, refl);
+              held = takes_held P is.frames is.state (leaf_item key value flag) pass.most counted.most refl is.held (k.most ∙ ap (λ (n : ℕ). max pass.most (capped n)) count);
+              pends = subst (λ (p : Option PendingBucket). IsPending p entries.items (map level_of is.frames) rest levels after) (sym none) pends;
               opened = is.opened;
               opened_is = is.opened_is;
               coming = right.0;
               around = right.1;
               numbers = is.numbers;
-              numbered = numbered_same wanted P is.opened is.numbers is.state made (map (λ (f : Frame). f.state) is.frames) (room_known P is.state (leaf_item key value false).key (leaf_item key value false).size) is.numbered;
+              numbered = numbered_same wanted P is.opened is.numbers is.state made (map (λ (f : Frame). f.state) is.frames) (room_known P is.state (leaf_item key value flag).key (leaf_item key value flag).size) is.numbered;
               has_noted = is.has_noted;
             }));
         before = on_before wanted.which P wanted.tree is.frames made _ _ _ then;
         large = if_err_map result large (λ e l h. let m = l h in omega (arith, m, few));
       }
 
-  -- ---- the end of a bucket that is inline
-  pub inline_steps : {A : Type 0} (level : Level) (levels : List Level) (p : PendingBucket) (size : ℕ) (old new : S) (bucket : OpenBucket) (entries : Vec Leaf Global) (next : ℕ) (counted : Pass) (result : Result A BulkFault)
-      → IsAt wanted pass (level ∷ levels) end put → pass.pending ≡ Some p → IsSmall P p pass.entries.items → size ≡ length (inline_value p.sequence (map leaf_view pass.entries.items))
-      → Puts taken failed old new (placed_bytes P (runs_room_put P runs_now p.key.now (16 + (length p.key.now + size)))) result
-      → OnOk result (bucket_runs bucket next ≡ runs_taking P runs_now (inline_element p.key.now p.sequence (map leaf_view pass.entries.items)) (16 + (length p.key.now + size)))
-      → IfErr result (λ e. e ≡ fault.TooLarge → pass.setup.limit < (runs_room P runs_now p.key.now (16 + (length p.key.now + size))).next)
-      → OnOk result (Counts (record { setup = pass.setup; limits = pass.limits; waiting = pass.waiting; bucket = bucket; pending = None; entries = entries; next = next; opened = pass.opened; around = pass.around; most = pass.most; noted = pass.noted }) counted)
+  -- a value
+  pub value_steps : {A : Type 0} (levels : List Level) (key value : List ℕ) (after : Tree) (old new : S) (bucket : OpenBucket) (next : ℕ) (counted : Pass) (result : Result A BulkFault)
+      → IsAt wanted pass levels (with_value key value after) put → pass.pending ≡ None
+      → Puts taken failed old new (placed_bytes P (runs_room_put P runs_now key (16 + (length key + length value)))) result
+      → OnOk result (bucket_runs bucket next ≡ runs_taking P runs_now (value_element key value) (16 + (length key + length value)))
+      → IfErr result (λ e. e ≡ fault.TooLarge → pass.setup.limit < (runs_room P runs_now key (16 + (length key + length value))).next)
+      → OnOk result (Counts (record pass { bucket = bucket; next = next }) counted)
+      → Steps wanted taken failed old new pass.setup put (IsAt wanted counted levels after) result
+  value_steps levels key value after old new bucket next counted result is none puts runs large counts =
+      let (same, on, right) = on_of wanted pass levels (with_value key value after) put is none in
+      item_steps levels (with_value key value after) key value false (16 + (length key + length value)) after levels after pass.pending old new bucket pass.entries next counted result is refl on right none (same, refl) puts runs large counts
+
+  -- the end of a bucket that is inline
+  pub inline_steps : {A : Type 0} (level : Level) (levels : List Level) (p : PendingBucket) (old new : S) (bucket : OpenBucket) (entries : Vec Leaf Global) (next : ℕ) (counted : Pass) (result : Result A BulkFault)
+      → IsAt wanted pass (level ∷ levels) end put → pass.pending ≡ Some p → IsPendingSmall P pass.pending pass.entries.items
+      → Puts taken failed old new (placed_bytes P (runs_room_put P runs_now p.key.now (16 + (length p.key.now + (p.size + 16))))) result
+      → OnOk result (bucket_runs bucket next ≡ runs_taking P runs_now (inline_element p.key.now p.sequence (map leaf_view pass.entries.items)) (16 + (length p.key.now + (p.size + 16))))
+      → IfErr result (λ e. e ≡ fault.TooLarge → pass.setup.limit < (runs_room P runs_now p.key.now (16 + (length p.key.now + (p.size + 16)))).next)
+      → OnOk result (Counts (record pass { bucket = bucket; pending = None; entries = entries; next = next }) counted)
       → Steps wanted taken failed old new pass.setup put (IsAt wanted counted levels level.after) result
-  inline_steps level levels p size old new bucket entries next counted result is some small sized puts runs large counts =
+  inline_steps level levels p old new bucket entries next counted result is some pending puts runs large counts =
+      let small = small_of P pass.pending p pass.entries.items some pending in
       let (after, same, on, right) = pending_of wanted pass (level ∷ levels) end put p is some in
       let shown : List LeafElement = map leaf_view pass.entries.items in
       let value : List ℕ = inline_value p.sequence shown in
@@ -264,41 +281,13 @@ module _ {S : Type 0} (taken : S → Option (List ℕ)) (failed : S → ℕ) (wa
       let item = inline_item wanted.which P p.key.now p.sequence shown values (omega arith) (omega arith) in
       let unopened = opened_inline wanted.which P (onto shown end) (ends_inline wanted.which P shown (omega arith) (omega arith)) in
       let on2 = subst (λ (i : Laid LeafElement). IsOn wanted.which P wanted.tree is.frames is.state (i ∷ items_of wanted.which P after) runs_now put) item on in
-      let then0 = on_takes wanted.which P wanted.tree is.frames is.state p.key.now value true (items_of wanted.which P after) runs_now put on2 in
-      let made : Open = taking P is.state (leaf_item p.key.now value true) in
-      let Then : ℕ → Type 0 = λ n. IsOn wanted.which P wanted.tree is.frames made (items_of wanted.which P after) (runs_taking P runs_now (inline_element p.key.now p.sequence shown) (16 + (length p.key.now + n))) (put ++ runs_room_put P runs_now p.key.now (16 + (length p.key.now + n))) in
-      let then : Then size = subst Then (sym sized) then0 in
-      let numbers = on_numbers wanted.which P wanted.tree is.frames made _ _ _ then in
       let first : level ≡ record { key = p.key.now; after = after } = cc in
       let others : levels ≡ map level_of is.frames = cc in
       let behind : after ≡ level.after = ap (λ (l : Level). l.after) (sym first) in
-      record {
-        more = runs_room_put P runs_now p.key.now (16 + (length p.key.now + size));
-        puts = puts;
-        at = on_ok_both result runs counts (λ e k.
-            let here : AreOpenRuns (bucket_runs bucket next) made (base_in is.frames) = subst (λ (r : BucketRuns). AreOpenRuns r made (base_in is.frames)) (sym e) then.runs_are_kept in
-            let count = counted_items is.frames made pass.waiting.items bucket next is.waits here in
-            subst (λ (q : Pass). IsAt wanted q levels level.after (put ++ runs_room_put P runs_now p.key.now (16 + (length p.key.now + size)))) (sym k.rest) (record {
-              frames = is.frames;
-              state = made;
-              rest = after;
-              under = then.under;
-              runs = here;
-              waits = is.waits;
-              put_is = then.put_is;
-              held = takes_held P is.frames is.state (leaf_item p.key.now value true) pass.most counted.most refl is.held (k.most ∙ ap (λ (n : ℕ). max pass.most (capped n)) count);
-              pends = (others, behind);
-              opened = is.opened;
-              opened_is = is.opened_is;
-              coming = coming_at wanted P (limits_by pass) (is.opened + opened_by wanted.which P (onto shown end)) is.opened after (omega arith) right.0.1;
-              around = around_at wanted P (limits_by pass) (is.opened + (opened_by wanted.which P (onto shown end) + opened_in wanted.which P after)) (is.opened + opened_in wanted.which P after) is.frames (omega arith) right.1;
-              numbers = is.numbers;
-              numbered = numbered_same wanted P is.opened is.numbers is.state made (map (λ (f : Frame). f.state) is.frames) (room_known P is.state (leaf_item p.key.now value true).key (leaf_item p.key.now value true).size) is.numbered;
-              has_noted = is.has_noted;
-            }));
-        before = on_before wanted.which P wanted.tree is.frames made _ _ _ then;
-        large = if_err_map result large (λ e l h. let m = l h in omega (arith, m, numbers));
-      }
+      item_steps (level ∷ levels) end p.key.now value true (16 + (length p.key.now + (p.size + 16))) after levels level.after None old new bucket entries next counted result is (ap (λ (n : ℕ). 16 + (length p.key.now + n)) (inline_long P p pass.entries.items small)) on2 (
+        coming_at wanted P (limits_by pass) (is.opened + opened_by wanted.which P (onto shown end)) is.opened after (omega arith) right.0.1,
+        around_at wanted P (limits_by pass) (is.opened + (opened_by wanted.which P (onto shown end) + opened_in wanted.which P after)) (is.opened + opened_in wanted.which P after) is.frames (omega arith) right.1,
+      ) refl (others, behind) puts runs large counts
 
   -- ---- a bucket that has a root page is opened, and the one around it waits
 
@@ -370,31 +359,33 @@ module _ {S : Type 0} (taken : S → Option (List ℕ)) (failed : S → ℕ) (wa
       }
 
   -- a fault on the way
-  pub open_stops : {A : Type 0} (levels : List Level) (left : Tree) (p : PendingBucket) (old new : S) (At : List Placed → Type 0) (e : BulkFault)
-      → IsAt wanted pass levels left put → pass.pending ≡ Some p → IsSmall P p pass.entries.items → HasRoot wanted.which P (onto (map leaf_view pass.entries.items) left)
+  pub open_stops : {A B : Type 0} (levels : List Level) (left : Tree) (p : PendingBucket) (old new : S) (At : List Placed → Type 0) (e : BulkFault) (result : Result B BulkFault) → IsErrAnd result (λ f. f ≡ e)
+      → IsAt wanted pass levels left put → pass.pending ≡ Some p → IsPendingSmall P pass.pending pass.entries.items → HasRoot wanted.which P (onto (map leaf_view pass.entries.items) left)
       → Puts {A = A} taken failed old new (placed_bytes P (runs_room_put P runs_now p.key.now (32 + length p.key.now))) (Err e)
       → (e ≡ fault.TooLarge → pass.setup.limit < (room_for p).next)
-      → Steps {A = A} wanted taken failed old new pass.setup put At (Err e)
-  open_stops levels left p old new At e is some small rooted puts large =
-      let then = has_opened levels left p is some small rooted in
+      → Steps wanted taken failed old new pass.setup put At result
+  open_stops levels left p old new At e (Ok x) same is some pending rooted puts large = absurd same
+  open_stops levels left p old new At e (Err f) same is some pending rooted puts large =
+      let then = has_opened levels left p is some (small_of P pass.pending p pass.entries.items some pending) rooted in
       let numbers = on_numbers wanted.which P wanted.tree _ _ _ _ _ then.on in
-      record {
+      rw same (record {
         more = runs_room_put P runs_now p.key.now (32 + length p.key.now);
-        puts = puts;
+        puts = puts_fault _ _ _ e puts;
         at = tt;
         before = on_before wanted.which P wanted.tree _ _ _ _ _ then.on;
         large = λ h. let m = large h in omega (arith, m, numbers);
-      }
+      })
 
   -- all went well
   pub open_steps : (levels : List Level) (left : Tree) (p : PendingBucket) (old new : S) (bucket : OpenBucket) (w : WaitingBucket) (around : Vec WaitingBucket Global) (entries : Vec Leaf Global) (next opened held : ℕ) (counted : Pass)
-      → IsAt wanted pass levels left put → pass.pending ≡ Some p → IsSmall P p pass.entries.items → HasRoot wanted.which P (onto (map leaf_view pass.entries.items) left)
+      → IsAt wanted pass levels left put → pass.pending ≡ Some p → IsPendingSmall P pass.pending pass.entries.items → HasRoot wanted.which P (onto (map leaf_view pass.entries.items) left)
       → Puts {A = ⊤} taken failed old new (placed_bytes P (runs_room_put P runs_now p.key.now (32 + length p.key.now))) (Ok tt)
       → around.items ≡ pass.waiting.items ++ w ∷ [] → bucket_runs w.bucket next ≡ room_for p → w.key.now ≡ p.key.now → w.sequence ≡ p.sequence → bucket_runs bucket next ≡ opened_runs p next
       → opened ≡ min (pass.opened + 1) 18446744073709551615
-      → Counts (record { setup = pass.setup; limits = pass.limits; waiting = around; bucket = bucket; pending = None; entries = entries; next = next; opened = opened; around = held; most = pass.most; noted = pass.noted }) counted
+      → Counts (record pass { waiting = around; bucket = bucket; pending = None; entries = entries; next = next; opened = opened; around = held }) counted
       → Steps {A = ⊤} wanted taken failed old new pass.setup put (IsAt wanted counted levels left) (Ok tt)
-  open_steps levels left p old new bucket w around entries next opened held counted is some small rooted puts items runs key sequence values_are one_more k =
+  open_steps levels left p old new bucket w around entries next opened held counted is some pending rooted puts items runs key sequence values_are one_more k =
+      let small = small_of P pass.pending p pass.entries.items some pending in
       let then = has_opened levels left p is some small rooted in
       let frame : Frame = frame_of p left then.after is.state in
       let frames : List Frame = frame ∷ is.frames in
@@ -445,11 +436,11 @@ module _ {S : Type 0} (taken : S → Option (List ℕ)) (failed : S → ℕ) (wa
   -- ---- the open bucket ends, and the one around it goes on
   pub leave_steps : {A : Type 0} (level : Level) (levels : List Level) (w : WaitingBucket) (old new : S) (bucket : OpenBucket) (around : Vec WaitingBucket Global) (next held : ℕ) (noted : NotedLimits) (counted : Pass) (result : Result A BulkFault)
       → IsAt wanted pass (level ∷ levels) end put → pass.pending ≡ None → pass.waiting.items ≡ around.items ++ w ∷ []
-      → BucketEnds pass.noted noted pass.bucket.limits.bucket pass.bucket.uppers.items
+      → BucketEnds pass.noted noted pass.bucket.uppers
       → Puts taken failed old new (placed_bytes P (runs_end_put P runs_now)) result
       → OnOk result ((before : ℕ) → bucket_runs bucket next ≡ runs_push (bucket_runs w.bucket before) (root_element w.key.now (runs_end P runs_now) w.sequence) (32 + length w.key.now) (bucket_end_next P runs_now))
       → IfErr result (λ e. e ≡ fault.TooLarge → pass.setup.limit < bucket_end_next P runs_now)
-      → OnOk result (Counts (record { setup = pass.setup; limits = pass.limits; waiting = around; bucket = bucket; pending = pass.pending; entries = pass.entries; next = next; opened = pass.opened; around = held; most = pass.most; noted = noted }) counted)
+      → OnOk result (Counts (record pass { waiting = around; bucket = bucket; next = next; around = held; noted = noted }) counted)
       → Steps wanted taken failed old new pass.setup put (IsAt wanted counted levels level.after) result
   leave_steps level levels w old new bucket around next held noted counted result is none popped ended puts runs large counts =
       let (same, on, right) = on_of wanted pass (level ∷ levels) end put is none in
@@ -462,9 +453,7 @@ module _ {S : Type 0} (taken : S → Option (List ℕ)) (failed : S → ℕ) (wa
       let states : List Open = map (λ (f : Frame). f.state) frames in
       let numbered = subst (λ (fs : List Frame). AreNumbered wanted P is.opened is.numbers (open_in is.state fs)) more_frames is.numbered in
       let most = opened_most wanted P (limits_by pass) (is.opened + 0) is.frames right.1 in
-      let number : pass.bucket.limits.bucket ≡ is.state.known.limits.bucket = ap (λ (l : BucketLimits). l.bucket) is.runs.limits_are in
-      let has = noted_leaves wanted P pass.noted noted is.opened (base_in is.frames) is.numbers is.state (frame.state ∷ states) pass.bucket.uppers.items on.under.root is.has_noted numbered (omega arith) is.runs.above on.under.current
-      (subst (λ (n : ℕ). BucketEnds pass.noted noted n pass.bucket.uppers.items) number ended) in
+      let has = noted_leaves wanted P pass.noted noted is.opened (base_in is.frames) is.numbers is.state (frame.state ∷ states) pass.bucket.uppers on.under.root is.has_noted numbered (omega arith) is.runs.above is.runs.limits_are on.under.current ended in
       let made : Open = pushing frame.state (held_item frame (end_of P is.state)) in
       let base : ℕ = base_in (frame ∷ frames) in
       let then = on_leaves wanted.which P wanted.tree frame frames is.state runs_now (bucket_runs w.bucket base) put on2 outer refl in
@@ -502,64 +491,33 @@ module _ {S : Type 0} (taken : S → Option (List ℕ)) (failed : S → ℕ) (wa
         large = if_err_map result large (λ e l h. let m = l h in omega (arith, m, numbers));
       }
 
--- ---- what takes no step in the layout
+-- ---- what takes no step in the layout: a value of a bucket that may be inline
 
-module _ (wanted : Wanted) (pass : Pass) (levels : List Level) (put : List Placed) where
-  -- a value of a bucket that may be inline
-  pub keep_at : (key value : List ℕ) (after : Tree) (p : PendingBucket) (entry : Leaf) (size : ℕ) (entries : Vec Leaf Global) → IsAt wanted pass levels (with_value key value after) put → pass.pending ≡ Some p
-      → entries.items ≡ pass.entries.items ++ entry ∷ [] → leaf_view entry ≡ value_element key value
-      → IsAt wanted (record { setup = pass.setup; limits = pass.limits; waiting = pass.waiting; bucket = pass.bucket; pending = Some (record { key = p.key; sequence = p.sequence; size = size }); entries = entries; next = pass.next; opened = pass.opened; around = pass.around; most = pass.most; noted = pass.noted }) levels after put
-  keep_at key value after p entry size entries is some pushed view =
-      let (behind, same, rest) = subst (λ (q : Option PendingBucket). IsPending q pass.entries.items (map level_of is.frames) is.rest levels (with_value key value after)) some is.pends in
-      let shown : List LeafElement = map leaf_view pass.entries.items in
-      let all : map leaf_view entries.items ≡ shown ++ value_element key value ∷ [] =
-      ap (map leaf_view) pushed ∙ (map-append leaf_view pass.entries.items (entry ∷ []) ∙ ap (λ (e : LeafElement). shown ++ e ∷ []) view) in
-      let onto_is : onto (map leaf_view entries.items) after ≡ onto shown (with_value key value after) =
-      ap (λ (es : List LeafElement). onto es after) all ∙ onto_push shown (value_element key value) after in
-      record {
-        frames = is.frames;
-        state = is.state;
-        rest = is.rest;
-        under = is.under;
-        runs = is.runs;
-        waits = is.waits;
-        put_is = is.put_is;
-        held = is.held;
-        opened = is.opened;
-        opened_is = is.opened_is;
-        coming = is.coming;
-        around = is.around;
-        numbers = is.numbers;
-        numbered = is.numbered;
-        has_noted = is.has_noted;
-        pends = (behind, same, rest ∙ ap (λ (t : Tree). with_bucket p.key.now p.sequence t behind) (sym onto_is));
-      }
-
-  -- a bucket that may be inline
-  pub begin_at : (key : Bor (List ℕ)) (sequence : ℕ) (inside after : Tree) → IsAt wanted pass levels (with_bucket key.now sequence inside after) put → pass.pending ≡ None → pass.entries.items ≡ []
-      → IsAt wanted (record { setup = pass.setup; limits = pass.limits; waiting = pass.waiting; bucket = pass.bucket; pending = Some (record { key = key; sequence = sequence; size = 16 }); entries = pass.entries; next = pass.next; opened = pass.opened; around = pass.around; most = pass.most; noted = pass.noted })
-      (record { key = key.now; after = after } ∷ levels) inside put
-  begin_at key sequence inside after is none empty =
-      let (same, rest) = subst (λ (q : Option PendingBucket). IsPending q pass.entries.items (map level_of is.frames) is.rest levels (with_bucket key.now sequence inside after)) none is.pends in
-      record {
-        frames = is.frames;
-        state = is.state;
-        rest = is.rest;
-        under = is.under;
-        runs = is.runs;
-        waits = is.waits;
-        put_is = is.put_is;
-        held = is.held;
-        opened = is.opened;
-        opened_is = is.opened_is;
-        coming = is.coming;
-        around = is.around;
-        numbers = is.numbers;
-        numbered = is.numbered;
-        has_noted = is.has_noted;
-        pends = (
-          after,
-          ap (λ (ls : List Level). record { key = key.now; after = after } ∷ ls) same,
-          rest ∙ ap (λ (es : List Leaf). with_bucket key.now sequence (onto (map leaf_view es) inside) after) (sym empty),
-        );
-      }
+pub keep_at : (wanted : Wanted) (pass : Pass) (levels : List Level) (put : List Placed) (key value : List ℕ) (after : Tree) (p : PendingBucket) (entry : Leaf) (size : ℕ) (entries : Vec Leaf Global)
+    → IsAt wanted pass levels (with_value key value after) put → pass.pending ≡ Some p → entries.items ≡ pass.entries.items ++ entry ∷ [] → leaf_view entry ≡ value_element key value
+    → IsAt wanted (record pass { pending = Some (record { key = p.key; sequence = p.sequence; size = size }); entries = entries }) levels after put
+keep_at wanted pass levels put key value after p entry size entries is some pushed view =
+    let (behind, same, rest) = subst (λ (q : Option PendingBucket). IsPending q pass.entries.items (map level_of is.frames) is.rest levels (with_value key value after)) some is.pends in
+    let shown : List LeafElement = map leaf_view pass.entries.items in
+    let all : map leaf_view entries.items ≡ shown ++ value_element key value ∷ [] =
+    ap (map leaf_view) pushed ∙ (map-append leaf_view pass.entries.items (entry ∷ []) ∙ ap (λ (e : LeafElement). shown ++ e ∷ []) view) in
+    let onto_is : onto (map leaf_view entries.items) after ≡ onto shown (with_value key value after) =
+    ap (λ (es : List LeafElement). onto es after) all ∙ onto_push shown (value_element key value) after in
+    record {
+      frames = is.frames;
+      state = is.state;
+      rest = is.rest;
+      under = is.under;
+      runs = is.runs;
+      waits = is.waits;
+      put_is = is.put_is;
+      held = is.held;
+      opened = is.opened;
+      opened_is = is.opened_is;
+      coming = is.coming;
+      around = is.around;
+      numbers = is.numbers;
+      numbered = is.numbered;
+      has_noted = is.has_noted;
+      pends = (behind, same, rest ∙ ap (λ (t : Tree). with_bucket p.key.now p.sequence t behind) (sym onto_is));
+    }

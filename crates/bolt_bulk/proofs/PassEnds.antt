@@ -1,4 +1,5 @@
 -- The next member of a listing in a pass, the beginning of a pass, and its end.
+use Rattle.std.specs.Prelude.{IsErrAnd}
 use Rattle.std.proofs.Common.{◌≡◌, ◌≢◌, ◌∙◌, ℕ, suc, true, ◌+◌, ◌≤◌, List, [], ◌∷◌, ◌++◌, length, map, Option, Some, None, Result, Ok, Err, OnErr, refl, sym, ap, subst, arith, append_assoc}
 use Rattle.std.specs.List.{AllByRecursion}
 use Rattle.std.proofs.lemmas.List.{length-append}
@@ -31,8 +32,7 @@ use Rattle.bolt_bulk.specs.declared.page_setup.PageSetup.{PageSetup}
 use Rattle.bolt_bulk.specs.declared.fault.BulkFault.{BulkFault}
 use Rattle.bolt_bulk.specs.declared.pass.Ended.{Ended}
 use Rattle.bolt_bulk.specs.declared.pass.Pass.{Pass}
-use Rattle.bolt_bulk.specs.Private.RowLimits.{limit_in}
-use Rattle.bolt_bulk.specs.declared.limits.BucketLimits.{BucketLimits}
+use Rattle.bolt_bulk.specs.Private.RowLimits.{BucketEnds, limit_in}
 use Rattle.bolt_bulk.specs.declared.pending_bucket.PendingBucket.{PendingBucket}
 use Rattle.bolt_bulk.specs.declared.noted_limits.NotedLimits.{NotedLimits}
 use Rattle.bolt_bulk.proofs.Frames.{pass_begins, pass_ends}
@@ -43,9 +43,8 @@ use Rattle.bolt_bulk.proofs.OpenRunLemmas.{ends}
 use Rattle.bolt_bulk.proofs.Openings.{all_coming, root_notes}
 use Rattle.bolt_bulk.proofs.PassAt.{on_of}
 use Rattle.bolt_bulk.proofs.PassLeft.{depth_levels}
-use Rattle.bolt_bulk.proofs.PassRuns.{end_numbered}
 use Rattle.bolt_bulk.proofs.PassSteps.{IsOn}
-use Rattle.bolt_bulk.proofs.Tables.{BucketEnds, no_numbers, none_noted, opened_most, table_fits, noted_leaves}
+use Rattle.bolt_bulk.proofs.Tables.{no_numbers, none_noted, opened_most, table_fits, noted_leaves}
 use Rattle.bolt_bulk.proofs.PutsLemmas.{bytes-append, pages_some, puts_first, puts_then, short_then}
 
 -- ---- the next member
@@ -172,7 +171,7 @@ pub record HasEnd (wanted : Wanted) (pass : Pass) (put : List Placed) : Type 0 w
   pub root : runs_end pass.setup.page_size (bucket_runs pass.bucket pass.next) ≡ layout_root wanted.which pass.setup.page_size wanted.tree
   pub mark : bucket_end_next pass.setup.page_size (bucket_runs pass.bucket pass.next) ≡ layout_mark wanted.which pass.setup.page_size wanted.tree
   pub held : pass.most ≡ capped (layout_held wanted.which pass.setup.page_size wanted.tree)
-  pub noted : (noted : NotedLimits) → BucketEnds pass.noted noted pass.bucket.limits.bucket pass.bucket.uppers.items → wanted.notes ≡ true → wanted.which ≡ Plain
+  pub noted : (noted : NotedLimits) → BucketEnds pass.noted noted pass.bucket.uppers → wanted.notes ≡ true → wanted.which ≡ Plain
       → layout_mark wanted.which pass.setup.page_size wanted.tree ≤ 18446744073709551615 → FitLimits Balanced wanted.tree pass.setup.page_size (limits_with noted.limits)
 
 root_ended : (page_size : ℕ) (wanted : Wanted) (state : Open) (runs : BucketRuns) (put : List Placed) → IsOn wanted.which page_size wanted.tree [] state [] runs put
@@ -183,7 +182,7 @@ root_ended page_size wanted state runs put on =
     let whole : end_of page_size state ≡ root_of wanted.which page_size wanted.tree = ends wanted.which page_size state on.under.root on.under.current ∙ on.under.stack in (
       sym (pass_ends wanted.which page_size wanted.tree state on.under) ∙ (ap (λ (ps : List Placed). all_put [] state ++ ps) (sym ended.0) ∙ ap (λ (ps : List Placed). ps ++ runs_end_put page_size runs) (sym on.put_is)),
       ended.1 ∙ ap (λ (r : Laid BranchElement). (r.element first_page).child) whole,
-      end_numbered page_size runs state first_page on.runs_are_kept ∙ ap (λ (r : Laid BranchElement). first_page + r.numbers) whole,
+      ended.2 ∙ ap (λ (r : Laid BranchElement). first_page + r.numbers) whole,
       sym (end_held page_size state on.under.begun) ∙ ap (λ (r : Laid BranchElement). r.held) whole,
     )
 
@@ -207,9 +206,7 @@ has_end wanted pass put has shallow =
           let numbered = subst (λ (fs : List Frame). AreNumbered wanted P at.opened at.numbers (open_in at.state fs)) frames at.numbered in
           let around = subst (λ (fs : List Frame). AreComingAround wanted P (limits_by pass) (at.opened + 0) fs) frames right.1 in
           let most = opened_most wanted P (limits_by pass) (at.opened + 0) at.frames right.1 in
-          let number : pass.bucket.limits.bucket ≡ at.state.known.limits.bucket = ap (λ (l : BucketLimits). l.bucket) at.runs.limits_are in
-          let last = noted_leaves wanted P pass.noted noted at.opened (base_in at.frames) at.numbers at.state [] pass.bucket.uppers.items on.under.root at.has_noted numbered (omega arith) at.runs.above on.under.current
-          (subst (λ (n : ℕ). BucketEnds pass.noted noted n pass.bucket.uppers.items) number ended) in
+          let last = noted_leaves wanted P pass.noted noted at.opened (base_in at.frames) at.numbers at.state [] pass.bucket.uppers on.under.root at.has_noted numbered (omega arith) at.runs.above at.runs.limits_are on.under.current ended in
           let table = subst (λ (ns : List ℕ). IsTable P wanted.tree noted.limits at.opened ns) (no_numbers wanted P at.opened last.numbers last.numbered) (last.has_noted.table asked which fits) in
           let count : suc (opened_in wanted.which P wanted.tree) ≡ suc (opened_in Plain P wanted.tree) = ap (λ (w : Layout). suc (opened_in w P wanted.tree)) which in
           table_fits P wanted.tree noted.limits at.opened table (omega arith) (omega arith);
@@ -235,12 +232,13 @@ rest_some page_size (page ∷ pages) some = pages_some page_size page pages
 
 module _ {S : Type 0} (wanted : Wanted) (taken : S → Option (List ℕ)) (failed : S → ℕ) (setup : PageSetup) where
   -- a step failed on the way
-  pub ends_early : {A : Type 0} (old new : S) (put : List Placed) (At : List Placed → Type 0) (e : BulkFault) → Steps {A = A} wanted taken failed old new setup put At (Err e) → Ends wanted taken failed old new setup put (Err e)
-  ends_early old new put At e steps =
+  pub ends_early : {A : Type 0} (old new : S) (put : List Placed) (At : List Placed → Type 0) (e : BulkFault) (result : Result Ended BulkFault) → IsErrAnd result (λ f. f ≡ e) → Steps {A = A} wanted taken failed old new setup put At (Err e) → Ends wanted taken failed old new setup put result
+  ends_early old new put At e (Ok x) same steps = absurd same
+  ends_early old new put At e (Err f) same steps =
       let P : ℕ = setup.page_size in
       let others : List Placed = steps.more ++ steps.before.rest in
       let bytes : placed_bytes P others ≡ placed_bytes P steps.more ++ placed_bytes P steps.before.rest = bytes-append P steps.more steps.before.rest in
-      record {
+      rw same (record {
         others = others;
         all = steps.before.parts ∙ append_assoc put steps.more steps.before.rest;
         puts = subst (λ (bs : List ℕ). Puts {A = Ended} taken failed old new bs (Err e)) (sym bytes) (puts_first old new (placed_bytes P steps.more) (placed_bytes P steps.before.rest) e steps.puts);
@@ -252,14 +250,14 @@ module _ {S : Type 0} (wanted : Wanted) (taken : S → Option (List ℕ)) (faile
         noted = tt;
         held = tt;
         large = steps.large;
-      }
+      })
 
   -- after steps that went well
-  pub ends_after : {A : Type 0} (old mid new : S) (put : List Placed) (At : List Placed → Type 0) (x : A) (result : Result Ended BulkFault) → Steps wanted taken failed old mid setup put At (Ok x)
-      → ((all : List Placed) → At all → Ends wanted taken failed mid new setup all result) → Ends wanted taken failed old new setup put result
-  ends_after old mid new put At x result one two =
+  pub ends_after : {A : Type 0} {later : PageSetup} (old mid new : S) (put : List Placed) (At : List Placed → Type 0) (x : A) (result : Result Ended BulkFault) → later ≡ setup → Steps wanted taken failed old mid setup put At (Ok x)
+      → ((all : List Placed) → At all → Ends wanted taken failed mid new later all result) → Ends wanted taken failed old new setup put result
+  ends_after old mid new put At x result later_is one two =
       let P : ℕ = setup.page_size in
-      let then = two (put ++ one.more) one.at in
+      let then = subst (λ (b : PageSetup). Ends wanted taken failed mid new b (put ++ one.more) result) later_is (two (put ++ one.more) one.at) in
       let others : List Placed = one.more ++ then.others in
       let bytes : placed_bytes P others ≡ placed_bytes P one.more ++ placed_bytes P then.others = bytes-append P one.more then.others in
       record {

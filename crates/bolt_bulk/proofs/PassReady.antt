@@ -1,14 +1,17 @@
 -- What is known of a pass without its tree, after a step.
-use Rattle.std.proofs.Common.{◌≡◌, ◌∙◌, ℕ, ◌+◌, ◌/◌, ◌≤◌, ◌<◌, false, List, [], ◌∷◌, ◌++◌, length, map, Option, Some, sym, ap, subst, arith}
+use Rattle.std.proofs.Common.{◌⊎◌, inl, inr, ◌≡◌, ◌∙◌, ℕ, ◌+◌, ◌/◌, ◌≤◌, ◌<◌, false, List, [], ◌∷◌, ◌++◌, length, map, Option, Some, sym, ap, subst, arith}
 use Rattle.std.specs.List.{AllByRecursion}
 use Rattle.std.proofs.lemmas.List.{length-append, length-map, map-append}
 use Rattle.bolt_format.specs.ElementPlaces.{leaf_view}
 use Rattle.bolt_format.specs.Elements.{LeafElement}
 use Rattle.bolt_format.specs.declared.element.Leaf.{Leaf}
+use Rattle.bolt_tree.specs.Tree.{Tree, with_value}
+use Rattle.bolt_layout.specs.declared.layout.Layout.{Layout}
 use Rattle.bolt_layout.specs.PageBytes.{inline_value, leaf_data}
-use Rattle.bolt_bulk.specs.Private.Passes.{IsPendingSmall, IsSmall}
+use Rattle.bolt_bulk.specs.Private.Passes.{HasRoot, IsPendingSmall, IsSmall, onto}
 use Rattle.bolt_bulk.specs.Private.TakenItems.{entries_size}
 use Rattle.bolt_bulk.specs.declared.pending_bucket.PendingBucket.{PendingBucket}
+use Rattle.bolt_bulk.proofs.Ontos.{value_too_large}
 use Rattle.bolt_bulk.proofs.LeafPuts.{length-inline_value}
 use Rattle.bolt_layout.proofs.ListLemmas.{all_append}
 
@@ -56,3 +59,14 @@ inline_long page_size p entries is =
 pub last_of : {X : Type 0} (P : X → Type 0) (xs : List X) (x : X) → AllByRecursion P (xs ++ x ∷ []) → P x × AllByRecursion P xs
 last_of P [] x all = (all.0, tt)
 last_of P (y ∷ xs) x all = let (last, others) = last_of P xs x all.1 in (last, (all.0, others))
+
+-- a value that doesn't fit: the bucket has a root page
+pub full_rooted : (which : Layout) (page_size : ℕ) (p : PendingBucket) (entries : List Leaf) (key value : List ℕ) (after : Tree) → IsSmall page_size p entries
+    → (page_size / 4 < p.size + (16 + (length key + length value))) ⊎ (65534 ≤ length entries) → HasRoot which page_size (onto (map leaf_view entries) (with_value key value after))
+full_rooted which page_size p entries key value after is full =
+    let s = is.sized in
+    let n = length-map entries leaf_view in
+    value_too_large which page_size (map leaf_view entries) key value after (elim full [
+      | inl large ↦ inl (omega arith)
+      | inr many ↦ inr (omega arith)
+    ])

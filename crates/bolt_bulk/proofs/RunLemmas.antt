@@ -11,10 +11,11 @@ use Rattle.bolt_bulk.specs.Private.BranchRuns.{HasSlack, IsPushed, IsSizedRun, I
 use Rattle.bolt_bulk.specs.Private.RunViews.{RunView, run_has_room, run_kept, run_key, run_push, run_stays}
 use Rattle.bolt_layout.proofs.PageRows.{overflow_room, overflow_small}
 
-pub record OverflowFits (page_size size : ℕ) : Type 0 where
-  pub small : overflow_of page_size size ≤ size
-  pub room : size ≤ (1 + overflow_of page_size size) * page_size
-  pub fits : (1 + overflow_of page_size size) * page_size ≤ size + page_size
+-- a page with this many further pages has room for its content, and 64 bits for its size
+pub record RunFits (page_size further size : ℕ) : Type 0 where
+  pub small : further ≤ size
+  pub room : size ≤ (1 + further) * page_size
+  pub fits : (1 + further) * page_size ≤ size + page_size
 
 overflow_most : (page_size size : ℕ) → (1 + overflow_of page_size size) * page_size ≤ size + page_size
 unfolding overflow_of
@@ -23,8 +24,8 @@ overflow_most page_size size =
     let split = div-add-mod' (size - 1) page_size in
     let e = add-mul 1 q page_size in omega arith
 
-pub overflow_fits : (page_size size : ℕ) → 0 < page_size → 0 < size → OverflowFits page_size size
-overflow_fits page_size size page some = record { small = overflow_small page_size size; room = overflow_room page_size size page some; fits = overflow_most page_size size }
+pub run_fits : (page_size further size : ℕ) → 1024 ≤ page_size → 0 < size → further ≡ overflow_of page_size size → RunFits page_size further size
+run_fits page_size further size page some same = rw same (record { small = overflow_small page_size size; room = overflow_room page_size size (omega arith) some; fits = overflow_most page_size size })
 
 data_push : (es : List BranchElement) (e : BranchElement) → length (branch_data (es ++ e ∷ [])) ≡ length (branch_data es) + length e.key
 data_push [] e = ap (λ (t : List ℕ). length t) (append-nil e.key) ∙ omega arith
@@ -94,6 +95,3 @@ stays_standing page_size k run e high is key stays =
           let few = slack.few in
           let b = length-append run.elements (e ∷ []) in rw f (record { sized = p.sized; small = omega arith; few = omega arith; named = key_pushed run.elements e is.named key; slack = λ none. no_slack none }))
     ]
-
-pub one_page : (page : List ℕ) → page ++ [] ≡ page
-one_page page = append-nil page

@@ -1,5 +1,5 @@
 -- The numbers of the open buckets, and the limits that were noted of those that have ended.
-use Rattle.std.proofs.Common.{◌≡◌, ◌∙◌, ◌+◌, ◌<◌, ◌≤◌, ℕ, suc, true, false, List, [], ◌∷◌, ◌++◌, ◌⊎◌, length, map, Option, None, refl, sym, ap, subst, inl, inr, arith}
+use Rattle.std.proofs.Common.{◌≡◌, ◌∙◌, ◌+◌, ◌<◌, ◌≤◌, ℕ, suc, false, List, [], ◌∷◌, ◌++◌, ◌⊎◌, length, map, Option, None, refl, sym, ap, subst, inl, inr, arith}
 use Rattle.std.specs.List.{AllByRecursion}
 use Rattle.std.proofs.lemmas.Bool.{cases_Bool, cases_lt}
 use Rattle.std.proofs.lemmas.List.{length-append, length-map}
@@ -24,10 +24,12 @@ use Rattle.bolt_bulk.specs.Private.HeldCounts.{capped}
 use Rattle.bolt_bulk.specs.Private.BucketRuns.{AreUppers}
 use Rattle.bolt_bulk.specs.Private.OpenRuns.{Frame, Known, Open, Upper, has_room, making_room, upper_end}
 use Rattle.bolt_bulk.specs.Private.Passes.{AreComingAround, AreNumbered, FitLimits, HasNoted, IsNumbered, IsTable, Notes, Wanted, limits_with}
-use Rattle.bolt_bulk.specs.Private.RowLimits.{bucket_limit, limit_in, run_end}
-use Rattle.bolt_bulk.specs.declared.branch_runs.BranchRun.{BranchRun}
+use Rattle.bolt_bulk.specs.Private.RowLimits.{BucketEnds, bucket_limit, limit_in, run_end}
+use Rattle.bolt_bulk.specs.declared.branch_run.BranchRun.{BranchRun}
+use Rattle.bolt_bulk.specs.declared.limits.BucketLimits.{BucketLimits}
 use Rattle.bolt_bulk.specs.declared.limits.Limits.{Limits}
 use Rattle.bolt_bulk.specs.declared.noted_limits.NotedLimits.{NotedLimits}
+use Rattle.bolt_bulk.specs.declared.upper_runs.UpperRuns.{UpperRuns}
 use Rattle.bolt_bulk.proofs.HeldSteps.{run_length}
 use Rattle.bolt_bulk.proofs.RunEnds.{bucket_rows_end}
 
@@ -143,23 +145,17 @@ numbered_below wanted page_size low high (n ∷ numbers) [] less are = absurd ar
 numbered_below wanted page_size low high (n ∷ numbers) (state ∷ states) less (is, are) =
     let e = is.earlier in (record { earlier = omega arith; number_is = is.number_is; notes = is.notes }, are)
 
--- What is noted at a bucket's end, by its number and its open runs.
-pub record BucketEnds (old new : NotedLimits) (number : ℕ) (runs : List BranchRun) : Type 0 where
-  pub same : new.notes ≡ old.notes
-  pub noted : old.notes ≡ true → ((level : ℕ) → limit_in old.limits number level ≡ None) → (level : ℕ) → limit_in new.limits number level ≡ limit_at (limits_from_ends false (map run_end runs)) level
-  pub others : (b level : ℕ) → (b ≡ number → ⊥) → limit_in new.limits b level ≡ limit_in old.limits b level
-
 pub record HasOthers (wanted : Wanted) (page_size : ℕ) (noted : NotedLimits) (opened : ℕ) (others : List Open) : Type 0 where
   pub numbers : List ℕ
   pub numbered : AreNumbered wanted page_size opened numbers others
   pub has_noted : HasNoted wanted page_size noted opened numbers
 
-pub noted_leaves : (wanted : Wanted) (page_size : ℕ) (old new : NotedLimits) (opened b : ℕ) (numbers : List ℕ) (state : Open) (others : List Open) (runs : List BranchRun) (root : Laid BranchElement)
+pub noted_leaves : (wanted : Wanted) (page_size : ℕ) (old new : NotedLimits) (opened b : ℕ) (numbers : List ℕ) (state : Open) (others : List Open) (uppers : UpperRuns) (root : Laid BranchElement)
     → HasNoted wanted page_size old opened numbers → AreNumbered wanted page_size opened numbers (state ∷ others) → opened ≤ layout_mark wanted.which page_size wanted.tree
-    → AreUppers (runs_above runs) state.uppers b → IsOpen wanted.which page_size state [] root
-    → BucketEnds old new state.known.limits.bucket runs → HasOthers wanted page_size new opened others
-noted_leaves wanted page_size old new opened b [] state others runs root has are few rows runs_open ended = absurd are
-noted_leaves wanted page_size old new opened b (n ∷ numbers) state others runs root has (is, are) few rows runs_open ended =
+    → AreUppers (runs_above uppers.runs.items) state.uppers b → uppers.limits ≡ state.known.limits → IsOpen wanted.which page_size state [] root
+    → BucketEnds old new uppers → HasOthers wanted page_size new opened others
+noted_leaves wanted page_size old new opened b [] state others uppers root has are few rows limits runs_open ended = absurd are
+noted_leaves wanted page_size old new opened b (n ∷ numbers) state others uppers root has (is, are) few rows limits runs_open ended =
     let e = is.earlier in
     record {
       numbers = numbers;
@@ -168,14 +164,14 @@ noted_leaves wanted page_size old new opened b (n ∷ numbers) state others runs
         asked = ended.same ∙ has.asked;
         table = λ asked which fits.
             let table = has.table asked which fits in
-            let number : state.known.limits.bucket ≡ n = (let c = is.number_is in omega arith) in
+            let number : uppers.limits.bucket ≡ n = (let c = is.number_is in let l = ap (λ (l : BucketLimits). l.bucket) limits in omega arith) in
             let plain : IsOpen Plain page_size state [] root = subst (λ (w : Layout). IsOpen w page_size state [] root) which runs_open in
             let leaves : length state.known.leaves ≤ 18446744073709551615 = (let l = is.notes.few in omega arith) in
-            let runs_are : map run_end runs ≡ map upper_end state.uppers =
-            run_ends page_size (bucket_limit state.known.limits) runs state.uppers (page_over leaf_view page_size state.run) state.known.leaves root b rows plain.comes leaves in
+            let runs_are : map run_end uppers.runs.items ≡ map upper_end state.uppers =
+            run_ends page_size (bucket_limit state.known.limits) uppers.runs.items state.uppers (page_over leaf_view page_size state.run) state.known.leaves root b rows plain.comes leaves in
             let runs_are_kept : map upper_end state.uppers ≡ row_ends_of page_size state.known.leaves = row_ends_are_one page_size state.known.leaves (map upper_end state.uppers) (bucket_rows_end page_size state root plain) in
-            let all : limits_from_ends false (map run_end runs) ≡ limits_from_ends false (row_ends_of page_size state.known.leaves) = ap (λ (rs : List (ℕ × ℕ)). limits_from_ends false rs) (runs_are ∙ runs_are_kept) in
-            let fresh : (level : ℕ) → limit_in old.limits state.known.limits.bucket level ≡ None = λ level. ap (λ (m : ℕ). limit_in old.limits m level) number ∙ table.still_open.0 level in
+            let all : limits_from_ends false (map run_end uppers.runs.items) ≡ limits_from_ends false (row_ends_of page_size state.known.leaves) = ap (λ (rs : List (ℕ × ℕ)). limits_from_ends false rs) (runs_are ∙ runs_are_kept) in
+            let fresh : (level : ℕ) → limit_in old.limits uppers.limits.bucket level ≡ None = λ level. ap (λ (m : ℕ). limit_in old.limits m level) number ∙ table.still_open.0 level in
             let own : (level : ℕ) → limit_in new.limits n level ≡ limits_for page_size wanted.tree n level =
             λ level. ap (λ (m : ℕ). limit_in new.limits m level) (sym number)
             ∙ (ended.noted (has.asked ∙ asked) fresh level

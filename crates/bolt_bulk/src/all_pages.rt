@@ -30,15 +30,8 @@ pub(crate) fn put_pages<'a, M: Members<'a>, S: Sink>(
     ensures end { OnOk result (M.ends_as members.old members.new) }
 {
     let mut pass = Pass::new(setup, limits, notes);
-    'members: loop {
-        match members.next() {
-            Err(_) => return Err(BulkFault::Memory),
-            Ok(None) => return pass.end_all(sink),
-            Ok(Some(item)) => {
-                if let Err(fault) = pass.take_member(members.path(), item, sink) {
-                    return Err(fault);
-                }
-            }
-        }
+    'members: while let Some(item) = members.next()? {
+        pass.take_member(members.path(), item, sink)?;
     }
+    pass.end_all(sink)
 }

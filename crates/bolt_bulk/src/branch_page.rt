@@ -1,11 +1,15 @@
 //! A branch page, as it is written.
-ghost use Rattle.std.specs.Prelude.{◌≡◌, ◌+◌, ◌*◌, ◌<◌, ◌≤◌, length, map};
+ghost use Rattle.std.specs.Prelude.{◌+◌, ◌*◌, ◌<◌, [], ◌∷◌, length, map};
 ghost use Rattle.bolt_format.specs.ElementPlaces.{branch_view};
-ghost use Rattle.bolt_layout.specs.Levels.{branch_view as branch_page_view};
-ghost use Rattle.bolt_layout.specs.PageBytes.{branch_data, branch_headers, page_bytes};
+ghost use Rattle.bolt_layout.specs.Layout.{placed_bytes};
+ghost use Rattle.bolt_layout.specs.PageBytes.{branch_data, branch_headers};
+ghost use Rattle.bolt_bulk.specs.Private.BranchRuns.{IsSizedRun, run_view};
+ghost use Rattle.bolt_bulk.specs.Private.RunViews.{run_page};
 ghost use Rattle.bolt_bulk.specs.Puts.{PutsWhole};
 
+use crate::branch_run::BranchRun;
 use crate::headers::Headers;
+use crate::page_setup::{PageSetup, overflow};
 use crate::pieces::{put, put_zeros};
 use bolt_format::{Branch, Kind, Sink, SinkFault, page_header};
 
@@ -32,25 +36,23 @@ fn put_keys<S: Sink>(branches: &[Branch<'_>], sink: &mut S) -> Result<(), SinkFa
     Ok(())
 }
 
-/// Writes a branch page over these elements. It has `size` bytes before its zeros.
+/// Writes the branch page over a run.
 pub(crate) fn put_branch_page<S: Sink>(
+    run: &BranchRun<'_>,
+    setup: &PageSetup,
     number: u64,
-    page_size: usize,
-    overflow: u32,
-    branches: &[Branch<'_>],
-    size: usize,
     sink: &mut S,
 ) -> Result<(), SinkFault>
-    requires count { length branches.now < 65536 }
-    requires size { size ≡ 16 + (16 * length branches.now + length (branch_data (map branch_view branches.now))) }
-    requires small { size < 4294967296 }
-    requires room { size ≤ (1 + overflow) * page_size }
-    requires fits { (1 + overflow) * page_size < 18446744073709551616 }
-    ensures { PutsWhole S.taken S.failed sink.old sink.new (page_bytes page_size number (branch_page_view overflow (map branch_view branches.now))) result }
+    requires sized { IsSizedRun (run_view run.now) }
+    requires small { run.now.size < 4294967296 }
+    requires few { length run.now.elements.items < 65536 }
+    ensures { PutsWhole S.taken S.failed sink.old sink.new (placed_bytes setup.now.page_size (run_page setup.now.page_size (run_view run.now) number ∷ [])) result }
 {
-    let header = page_header(number, Kind::Branch, branches.len() as u16, overflow);
+    let branches = run.elements.as_slice();
+    let further = overflow(setup.page_size, run.size);
+    let header = page_header(number, Kind::Branch, branches.len() as u16, further as u32);
     put(&header, sink)?;
     put_headers(branches, sink)?;
     put_keys(branches, sink)?;
-    put_zeros((1 + overflow as usize) * page_size - size, sink)
+    put_zeros((1 + further) * setup.page_size - run.size, sink)
 }

@@ -15,7 +15,6 @@ use crate::fault::{BulkFault, PlanFault};
 use crate::file_laws::{file_is_of_one_tree, recovered_is_of_one_tree};
 use crate::members_copy::{Shape, plan_members, put_members};
 use crate::outcome::{Done, Plan};
-use crate::page_setup::PageSetup;
 use bolt_check::Checked;
 use bolt_format::Sink;
 use bolt_layout::Layout;

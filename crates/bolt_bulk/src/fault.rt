@@ -6,7 +6,7 @@ ghost use Rattle.bolt_bulk.specs.declared.fault.PlanFault.TheVariants as planned
 
 use bolt_format::SinkFault;
 use bolt_tree::NoMemory;
-use std::alloc::AllocError;
+use std::alloc::{AllocError, AllocFailed};
 use thiserror::Error;
 
 /// Why a copy can't be planned.
@@ -73,6 +73,14 @@ impl From<NoMemory> for BulkFault {
     ghost from_gives = { λ _ fault. fault ≡ bulk.Memory };
 
     fn from(_fault: NoMemory) -> Self {
+        BulkFault::Memory
+    }
+}
+
+impl<T: Drop> From<AllocFailed<T>> for BulkFault {
+    ghost from_gives = { λ _ fault. fault ≡ bulk.Memory };
+
+    fn from(_failed: AllocFailed<T>) -> Self {
         BulkFault::Memory
     }
 }

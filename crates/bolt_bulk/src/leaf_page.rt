@@ -1,12 +1,15 @@
 //! A leaf page, as it is written.
-ghost use Rattle.std.specs.Prelude.{◌≡◌, ◌+◌, ◌*◌, ◌<◌, ◌≤◌, ◌++◌, length};
-ghost use Rattle.bolt_layout.specs.Levels.{leaf_view as leaf_page_view};
+ghost use Rattle.std.specs.Prelude.{◌+◌, ◌*◌, ◌<◌, ◌++◌, length};
 ghost use Rattle.bolt_layout.specs.PageBytes.{leaf_data, leaf_headers, page_bytes};
-ghost use Rattle.bolt_bulk.specs.Private.HeldItems.{AreHeld, IsHeld, held_views, page_size_of, stored_value};
+ghost use Rattle.bolt_bulk.specs.Private.HeldItems.{AreHeld, IsHeld, held_views, stored_value};
+ghost use Rattle.bolt_bulk.specs.Private.OpenBuckets.{IsLeafRun, leaves_of};
+ghost use Rattle.bolt_bulk.specs.Private.RunViews.{leaf_page};
 ghost use Rattle.bolt_bulk.specs.Puts.{PutsWhole};
 
 use crate::headers::Headers;
 use crate::held::Held;
+use crate::leaf_run::LeafRun;
+use crate::page_setup::{PageSetup, overflow};
 use crate::pieces::{put, put_zeros};
 use bolt_format::{Kind, Leaf, Sink, SinkFault, page_header};
 
@@ -53,28 +56,22 @@ fn put_data<S: Sink>(
     Ok(())
 }
 
-/// Writes a leaf page over these items. It has `size` bytes before its zeros. The entries of the
-/// inline buckets among the items are in the list `inlined`.
+/// Writes the leaf page over a run.
 pub(crate) fn put_leaf_page<S: Sink>(
+    run: &LeafRun<'_>,
+    setup: &PageSetup,
     number: u64,
-    page_size: usize,
-    overflow: u32,
-    items: &[Held<'_>],
-    inlined: &[Leaf<'_>],
-    size: usize,
     sink: &mut S,
 ) -> Result<(), SinkFault>
-    requires held { AreHeld inlined.now items.now }
-    requires count { length items.now < 65535 }
-    requires size { size ≡ page_size_of inlined.now items.now }
-    requires small { size < 4294967296 }
-    requires room { size ≤ (1 + overflow) * page_size }
-    requires fits { (1 + overflow) * page_size < 18446744073709551616 }
-    ensures { PutsWhole S.taken S.failed sink.old sink.new (page_bytes page_size number (leaf_page_view overflow (held_views inlined.now items.now))) result }
+    requires { IsLeafRun run.now }
+    ensures { PutsWhole S.taken S.failed sink.old sink.new (page_bytes setup.now.page_size number (leaf_page setup.now.page_size (leaves_of run.now) number).view) result }
 {
-    let header = page_header(number, Kind::Leaf, items.len() as u16, overflow);
+    let items = run.items.as_slice();
+    let inlined = run.inlined.as_slice();
+    let further = overflow(setup.page_size, run.size);
+    let header = page_header(number, Kind::Leaf, items.len() as u16, further as u32);
     put(&header, sink)?;
     put_headers(items, inlined, sink)?;
     put_data(items, inlined, sink)?;
-    put_zeros((1 + overflow as usize) * page_size - size, sink)
+    put_zeros((1 + further) * setup.page_size - run.size, sink)
 }

@@ -6,14 +6,14 @@ ghost use Rattle.bolt_layout.specs.Levels.{overflow_of};
 ghost use Rattle.bolt_layout.specs.PageBytes.{page_bytes};
 ghost use Rattle.bolt_bulk.specs.Private.OpenBuckets.{IsLeafRun, leaf_closed, leaves_of};
 ghost use Rattle.bolt_bulk.specs.Private.RunViews.{leaf_page, leaves_have_room, no_leaves};
-ghost use Rattle.bolt_bulk.specs.Puts.{Puts, PutsWhole};
+ghost use Rattle.bolt_bulk.specs.Puts.{Puts};
 ghost use Rattle.bolt_bulk.specs.declared.fault.BulkFault.TheVariants as fault;
 
 use crate::fault::BulkFault;
 use crate::held::Held;
 use crate::leaf_page::put_leaf_page;
-use crate::page_setup::{MAX_ITEMS, PageSetup, number_after, overflow};
-use bolt_format::{Branch, HEADER_LEN, Leaf, Sink, SinkFault};
+use crate::page_setup::{MAX_ITEMS, PageSetup, number_after};
+use bolt_format::{Branch, HEADER_LEN, Leaf, Sink};
 
 /// An open run of items, the entries of the inline buckets among them, and the size of the page
 /// over it.
@@ -31,28 +31,6 @@ impl<'a> LeafRun<'a> {
         ensures { result ≡ leaves_have_room page_size (leaves_of self.now) size }
     {
         self.items.len() < 1 || (self.size + size <= page_size && self.items.len() < MAX_ITEMS)
-    }
-
-    /// Writes the page over the run.
-    fn put_page<S: Sink>(
-        &self,
-        setup: &PageSetup,
-        number: u64,
-        sink: &mut S,
-    ) -> Result<(), SinkFault>
-        requires run { IsLeafRun self.now }
-        ensures { PutsWhole S.taken S.failed sink.old sink.new (page_bytes setup.now.page_size number (leaf_page setup.now.page_size (leaves_of self.now) number).view) result }
-    {
-        let further = overflow(setup.page_size, self.size);
-        put_leaf_page(
-            number,
-            setup.page_size,
-            further as u32,
-            self.items.as_slice(),
-            self.inlined.as_slice(),
-            self.size,
-            sink,
-        )
     }
 
     /// Writes the page over the run, and begins the next run. Returns the page's element.
@@ -76,7 +54,7 @@ impl<'a> LeafRun<'a> {
     {
         let number = *next;
         let after = number_after(setup, self.size, number)?;
-        self.put_page(setup, number, sink)?;
+        put_leaf_page(self, setup, number, sink)?;
         let key = match self.items.first() {
             Some(held) => held.key,
             None => &[],

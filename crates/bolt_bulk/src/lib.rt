@@ -8,7 +8,7 @@
 
 mod all_pages;
 mod branch_page;
-mod branch_runs;
+mod branch_run;
 mod bucket_value;
 mod copy;
 mod fault;
@@ -16,7 +16,6 @@ mod file_laws;
 mod first_pages;
 mod headers;
 mod held;
-mod held_count;
 mod leaf_page;
 mod leaf_run;
 mod limits;
@@ -29,6 +28,7 @@ mod page_setup;
 mod pass;
 mod pending_bucket;
 mod pieces;
+mod upper_runs;
 mod waiting_bucket;
 
 pub use copy::{compact, compact_as, compact_recovered, plan, plan_as};

@@ -4,7 +4,7 @@ ghost use Rattle.bolt_layout.specs.Limits.{limit_at, limits_from_ends};
 ghost use Rattle.bolt_bulk.specs.Private.RowLimits.{IsOtherRow, bucket_limit, limit_in, run_end};
 ghost use Rattle.bolt_bulk.specs.declared.fault.BulkFault.TheVariants as fault;
 
-use crate::branch_runs::BranchRun;
+use crate::branch_run::BranchRun;
 use crate::fault::BulkFault;
 use std::alloc::Global;
 use std::collections::BTreeMap;
@@ -56,10 +56,8 @@ impl Limits {
         ensures others { OnOk result ((b l : ℕ) → IsOtherRow bucket level b l → limit_in self.new b l ≡ limit_in self.old b l) }
         ensures fault { IfErr result (λ e. e ≡ fault.Memory) }
     {
-        match self.rows.insert((bucket, level), left) {
-            Ok(_) => Ok(()),
-            Err(_) => Err(BulkFault::Memory),
-        }
+        self.rows.insert((bucket, level), left)?;
+        Ok(())
     }
 
     /// Notes the limits of a bucket that ends, from its open runs in the plain layout. If a row

@@ -171,15 +171,11 @@ pub(crate) fn put_members<'a, M: Members<'a> + Drop, S: Sink>(
         sequence: shape.sequence,
         mark: plan.high_water,
     };
-    if let Err(_) = put_first_pages(&facts, sink) {
-        return Err(BulkFault::Sink);
-    }
+    put_first_pages(&facts, sink)?;
     let setup = setup_of(alloc, shape.page_size);
-    match put_pages(setup, &limits, false, members, sink) {
-        Err(fault) => Err(fault),
-        Ok(ended) => Ok(Done {
-            bytes: ended.high_water * shape.page_size,
-            held: ended.held,
-        }),
-    }
+    let ended = put_pages(setup, &limits, false, members, sink)?;
+    Ok(Done {
+        bytes: ended.high_water * shape.page_size,
+        held: ended.held,
+    })
 }

@@ -1,12 +1,11 @@
 //! The limits of rows that a pass over the plain layout notes.
-ghost use Rattle.std.specs.Prelude.{◌≡◌, ℕ, true, false, map, IfErr, None, OnOk};
-ghost use Rattle.bolt_layout.specs.Limits.{limit_at, limits_from_ends};
-ghost use Rattle.bolt_bulk.specs.Private.RowLimits.{limit_in, run_end};
+ghost use Rattle.std.specs.Prelude.{◌≡◌, ℕ, IfErr, None, OnOk};
+ghost use Rattle.bolt_bulk.specs.Private.RowLimits.{BucketEnds, limit_in};
 ghost use Rattle.bolt_bulk.specs.declared.fault.BulkFault.TheVariants as fault;
 
-use crate::branch_runs::BranchRun;
 use crate::fault::BulkFault;
 use crate::limits::Limits;
+use crate::upper_runs::UpperRuns;
 use std::alloc::Global;
 use std::mem;
 
@@ -30,21 +29,15 @@ impl NotedLimits {
     }
 
     /// A bucket ends with these open runs. If limits are asked for, those of its rows are noted.
-    pub(crate) fn bucket_ends(
-        &mut self,
-        bucket: u64,
-        runs: &[BranchRun<'_>],
-    ) -> Result<(), BulkFault>
-        ensures same { OnOk result (self.new.notes ≡ self.old.notes) }
-        ensures noted { OnOk result (self.old.notes ≡ true → ((level : ℕ) → limit_in self.old.limits bucket level ≡ None)
-            → (level : ℕ) → limit_in self.new.limits bucket level ≡ limit_at (limits_from_ends false (map run_end runs.now)) level) }
-        ensures others { OnOk result ((b l : ℕ) → (b ≡ bucket → ⊥) → limit_in self.new.limits b l ≡ limit_in self.old.limits b l) }
+    pub(crate) fn bucket_ends(&mut self, uppers: &UpperRuns<'_>) -> Result<(), BulkFault>
+        ensures ends { OnOk result (BucketEnds self.old self.new uppers.now) }
         ensures fault { IfErr result (λ e. e ≡ fault.Memory) }
     {
         if !self.notes {
             return Ok(());
         }
-        self.limits.add_bucket(bucket, runs)
+        self.limits
+            .add_bucket(uppers.limits.bucket, uppers.runs.as_slice())
     }
 
     /// Returns the limits, and leaves none.

@@ -14,13 +14,13 @@ ghost use Rattle.bolt_bulk.specs.Private.WaitingBuckets.{IsWaiting};
 ghost use Rattle.bolt_bulk.specs.Puts.{Puts};
 ghost use Rattle.bolt_bulk.specs.declared.fault.BulkFault.TheVariants as fault;
 
-use crate::branch_runs::{BranchRun, climb, close_all};
 use crate::fault::BulkFault;
 use crate::held::{Held, Stored};
 use crate::leaf_run::LeafRun;
 use crate::limits::BucketLimits;
 use crate::page_setup::PageSetup;
 use crate::pending_bucket::PendingBucket;
+use crate::upper_runs::UpperRuns;
 use crate::waiting_bucket::{ROOT_ITEM_LEN, WaitingBucket};
 use bolt_format::{ELEMENT_LEN, HEAD_LEN, HEADER_LEN, Leaf, Sink};
 use std::alloc::Global;
@@ -29,9 +29,7 @@ use std::alloc::Global;
 #[derive(Drop)]
 pub(crate) struct OpenBucket<'a> {
     pub leaves: LeafRun<'a>,
-    pub uppers: Vec<BranchRun<'a>>,
-    /// How many runs the rows above its leaves may have.
-    pub limits: BucketLimits<'a>,
+    pub uppers: UpperRuns<'a>,
 }
 
 /// The items of entries that are values.
@@ -46,9 +44,7 @@ fn value_items<'a>(alloc: Global, entries: &[Leaf<'a>]) -> Result<Vec<Held<'a>>,
             key: entry.key,
             stored: Stored::Value(entry.value),
         };
-        if items.push(held).is_err() {
-            return Err(BulkFault::Memory);
-        }
+        items.push(held)?;
     }
     Ok(items)
 }
@@ -65,8 +61,7 @@ impl<'a> OpenBucket<'a> {
                 inlined: Vec::new(alloc),
                 size: HEADER_LEN,
             },
-            uppers: Vec::new(alloc),
-            limits,
+            uppers: UpperRuns::new(alloc, limits),
         }
     }
 
@@ -95,8 +90,7 @@ impl<'a> OpenBucket<'a> {
         };
         Ok(OpenBucket {
             leaves,
-            uppers: Vec::new(alloc),
-            limits,
+            uppers: UpperRuns::new(alloc, limits),
         })
     }
 
@@ -125,18 +119,8 @@ impl<'a> OpenBucket<'a> {
         if self.leaves.has_room(setup.page_size, size) {
             return Ok(());
         }
-        match self.leaves.close(setup, next, sink) {
-            Err(fault) => Err(fault),
-            Ok(closed) => climb(
-                setup,
-                self.limits,
-                key,
-                closed,
-                &mut self.uppers,
-                next,
-                sink,
-            ),
-        }
+        let closed = self.leaves.close(setup, next, sink)?;
+        self.uppers.climb(setup, key, closed, next, sink)
     }
 
     /// Reserves memory for one more item. The open runs stay the same.
@@ -147,9 +131,7 @@ impl<'a> OpenBucket<'a> {
         ensures memory { OnOk result (vec_len self.new.leaves.items < vec_capacity self.new.leaves.items) }
         ensures fault { IfErr result (λ e. e ≡ fault.Memory) }
     {
-        if self.leaves.items.reserve(1).is_err() {
-            return Err(BulkFault::Memory);
-        }
+        self.leaves.items.reserve(1)?;
         Ok(())
     }
 
@@ -179,9 +161,7 @@ impl<'a> OpenBucket<'a> {
         ensures open { OnOk result (IsOpenBucket self.new) }
         ensures fault { IfErr result (λ e. e ≡ fault.Memory) }
     {
-        if self.leaves.items.push(held).is_err() {
-            return Err(BulkFault::Memory);
-        }
+        self.leaves.items.push(held)?;
         self.leaves.size += size;
         Ok(())
     }
@@ -206,18 +186,14 @@ impl<'a> OpenBucket<'a> {
         ensures fault { IfErr result (λ e. e ≡ fault.Memory) }
     {
         let first = self.leaves.inlined.len();
-        if self.leaves.inlined.extend_from_slice(entries).is_err() {
-            return Err(BulkFault::Memory);
-        }
+        self.leaves.inlined.extend_from_slice(entries)?;
         let stored = Stored::Inline {
             sequence,
             first,
             count: entries.len(),
             size,
         };
-        if self.leaves.items.push(Held { key, stored }).is_err() {
-            return Err(BulkFault::Memory);
-        }
+        self.leaves.items.push(Held { key, stored })?;
         self.leaves.size += ELEMENT_LEN + (key.len() + size);
         Ok(())
     }
@@ -324,10 +300,8 @@ impl<'a> OpenBucket<'a> {
         ensures within { OnOk result (next.new ≤ setup.now.limit) }
         ensures large { IfErr result (λ e. e ≡ fault.TooLarge → setup.now.limit < bucket_end_next setup.now.page_size (bucket_runs self.old next.old)) }
     {
-        match self.leaves.close(setup, next, sink) {
-            Err(fault) => Err(fault),
-            Ok(closed) => close_all(setup, closed, &mut self.uppers, next, sink),
-        }
+        let closed = self.leaves.close(setup, next, sink)?;
+        self.uppers.close_all(setup, closed, next, sink)
     }
 
     /// How many items its runs hold. Saturates at 2^64 - 1.
@@ -335,8 +309,8 @@ impl<'a> OpenBucket<'a> {
         ensures { result ≡ min (items_in self.now) 18446744073709551615 }
     {
         let mut held = self.leaves.items.len() as u64;
-        for i in 0..self.uppers.len() {
-            held = held.saturating_add(self.uppers[i].elements.len() as u64);
+        for i in 0..self.uppers.runs.len() {
+            held = held.saturating_add(self.uppers.runs[i].elements.len() as u64);
         }
         held
     }

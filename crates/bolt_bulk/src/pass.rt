@@ -53,6 +53,7 @@ pub(crate) struct Pass<'a> {
 impl<'a> Pass<'a> {
     ghost use Rattle.bolt_tree.specs.Tree.{Tree, end, listing_of, with_bucket, with_value};
     ghost use Rattle.bolt_layout.specs.Laid.{Placed};
+    ghost use Rattle.bolt_bulk.specs.Private.HeldCounts.{Counts, capped, items_by};
     ghost use Rattle.bolt_bulk.specs.Private.Levels.{Level};
     ghost use Rattle.bolt_format.specs.ElementPlaces.{leaf_view};
     ghost use Rattle.bolt_bulk.specs.Private.Passes.{FitLimits, HasLeft, HasRoot, IsAt, IsNoDeeper, IsReady, Steps, Wanted, depth_of, limits_with, onto};
@@ -101,6 +102,26 @@ impl<'a> Pass<'a> {
         }
     }
 
+    /// How many items the open runs of all its buckets hold. Saturates at 2^64 - 1.
+    fn held(&self) -> u64
+        requires { IsReady self.now }
+        ensures { result ≡ capped (items_by self.now) }
+    {
+        self.around.saturating_add(self.bucket.held())
+    }
+
+    /// Counts the items that the open runs hold now. Only an item that joins a leaf can make them
+    /// the most so far: a page that closes replaces its items by one item of the run above.
+    fn count(&mut self)
+        requires { IsReady self.old }
+        ensures counts { Counts self.old self.new }
+        ensures setup { self.new.setup ≡ self.old.setup }
+        ensures ready { IsReady self.new }
+        ensures depth { depth_of self.new ≡ depth_of self.old }
+    {
+        self.most = self.most.max(self.held());
+    }
+
     /// Takes a value of the innermost bucket.
     fn take_value<S: Sink>(
         &mut self,
@@ -124,10 +145,8 @@ impl<'a> Pass<'a> {
         if size <= self.setup.page_size / 4 && self.entries.len() < MAX_ITEMS {
             return self.keep_value(pending, key, value, size);
         }
-        match self.open_pending(pending, sink) {
-            Err(fault) => Err(fault),
-            Ok(()) => self.put_value(key, value, sink),
-        }
+        self.open_pending(pending, sink)?;
+        self.put_value(key, value, sink)
     }
 
     /// Takes a value of the pending bucket, which may still be inline with it.
@@ -156,9 +175,7 @@ impl<'a> Pass<'a> {
             value,
             is_bucket: false,
         };
-        if self.entries.push(entry).is_err() {
-            return Err(BulkFault::Memory);
-        }
+        self.entries.push(entry)?;
         self.pending = Some(PendingBucket { size, ..pending });
         Ok(())
     }
@@ -181,12 +198,8 @@ impl<'a> Pass<'a> {
         ensures steps { (wanted : Wanted) (after : Tree) (levels : List Level) (put : List Placed) → IsAt wanted self.old levels (with_value key.now value.now after) put
             → Steps wanted S.taken S.failed sink.old sink.new self.old.setup put (IsAt wanted self.new levels after) result }
     {
-        let taken = self
-            .bucket
-            .add_value(&self.setup, key, value, &mut self.next, sink);
-        if let Err(fault) = taken {
-            return Err(fault);
-        }
+        self.bucket
+            .add_value(&self.setup, key, value, &mut self.next, sink)?;
         self.count();
         Ok(())
     }
@@ -210,13 +223,9 @@ impl<'a> Pass<'a> {
             self.begin(key, sequence);
             return Ok(());
         };
-        match self.open_pending(pending, sink) {
-            Err(fault) => Err(fault),
-            Ok(()) => {
-                self.begin(key, sequence);
-                Ok(())
-            }
-        }
+        self.open_pending(pending, sink)?;
+        self.begin(key, sequence);
+        Ok(())
     }
 
     /// Begins a bucket within the open one. It may be inline.
@@ -263,20 +272,11 @@ impl<'a> Pass<'a> {
             self.entries.as_slice(),
             pending.size,
             limits,
-        );
-        let inner = match inner {
-            Err(fault) => return Err(fault),
-            Ok(inner) => inner,
-        };
+        )?;
         let outer = mem::replace(&mut self.bucket, inner);
-        let waiting = match outer.enter(&self.setup, pending, self.around, &mut self.next, sink) {
-            Err(fault) => return Err(fault),
-            Ok(waiting) => waiting,
-        };
+        let waiting = outer.enter(&self.setup, pending, self.around, &mut self.next, sink)?;
         let around = self.around.saturating_add(waiting.bucket.held());
-        if self.waiting.push(waiting).is_err() {
-            return Err(BulkFault::Memory);
-        }
+        self.waiting.push(waiting)?;
         self.around = around;
         self.opened = self.opened.saturating_add(1);
         self.entries.clear();
@@ -316,16 +316,13 @@ impl<'a> Pass<'a> {
         ensures steps { (wanted : Wanted) (level : Level) (levels : List Level) (put : List Placed) → IsAt wanted self.old (level ∷ levels) end put
             → Steps wanted S.taken S.failed sink.old sink.new self.old.setup put (IsAt wanted self.new levels level.after) result }
     {
-        let taken = self.bucket.add_inline(
+        self.bucket.add_inline(
             &self.setup,
             pending,
             self.entries.as_slice(),
             &mut self.next,
             sink,
-        );
-        if let Err(fault) = taken {
-            return Err(fault);
-        }
+        )?;
         self.entries.clear();
         self.pending = None;
         self.count();
@@ -343,29 +340,20 @@ impl<'a> Pass<'a> {
         ensures steps { (wanted : Wanted) (level : Level) (levels : List Level) (put : List Placed) → IsAt wanted self.old (level ∷ levels) end put
             → Steps wanted S.taken S.failed sink.old sink.new self.old.setup put (IsAt wanted self.new levels level.after) result }
     {
-        let ended = self
-            .noted
-            .bucket_ends(self.bucket.limits.bucket, self.bucket.uppers.as_slice());
-        if let Err(fault) = ended {
-            return Err(fault);
-        }
+        self.noted.bucket_ends(&self.bucket.uppers)?;
         let Some(waiting) = self.waiting.pop() else {
             unreachable!()
         };
         let around = waiting.around;
         let inner = mem::replace(
             &mut self.bucket,
-            OpenBucket::new(self.setup.alloc, waiting.bucket.limits),
+            OpenBucket::new(self.setup.alloc, waiting.bucket.uppers.limits),
         );
-        match waiting.end_inner(&self.setup, inner, &mut self.next, sink) {
-            Err(fault) => Err(fault),
-            Ok(outer) => {
-                self.bucket = outer;
-                self.around = around;
-                self.count();
-                Ok(())
-            }
-        }
+        let outer = waiting.end_inner(&self.setup, inner, &mut self.next, sink)?;
+        self.bucket = outer;
+        self.around = around;
+        self.count();
+        Ok(())
     }
 
     /// Ends buckets until at most `depth` are left.
@@ -379,9 +367,7 @@ impl<'a> Pass<'a> {
             → Steps wanted S.taken S.failed sink.old sink.new self.old.setup put (HasLeft wanted self.new members) result }
     {
         'levels: while self.depth() > depth {
-            if let Err(fault) = self.leave_bucket(sink) {
-                return Err(fault);
-            }
+            self.leave_bucket(sink)?;
         }
         Ok(())
     }
@@ -404,9 +390,7 @@ impl<'a> Pass<'a> {
         let Some((key, _)) = path.split_last() else {
             unreachable!()
         };
-        if let Err(fault) = self.leave_to(path.len(), sink) {
-            return Err(fault);
-        }
+        self.leave_to(path.len(), sink)?;
         match item {
             Item::Value(value) => self.take_value(key, value, sink),
             Item::Bucket { sequence } => self.take_bucket(key, sequence, sink),
@@ -418,23 +402,14 @@ impl<'a> Pass<'a> {
         requires { IsReady self.old }
         ensures { (wanted : Wanted) (put : List Placed) → HasLeft wanted self.old [] put → Ends wanted S.taken S.failed sink.old sink.new self.old.setup put result }
     {
-        if let Err(fault) = self.leave_to(1, sink) {
-            return Err(fault);
-        }
-        let ended = self
-            .noted
-            .bucket_ends(self.bucket.limits.bucket, self.bucket.uppers.as_slice());
-        if let Err(fault) = ended {
-            return Err(fault);
-        }
-        match self.bucket.close_runs(&self.setup, &mut self.next, sink) {
-            Err(fault) => Err(fault),
-            Ok(root) => Ok(Ended {
-                root,
-                high_water: self.next,
-                held: self.most,
-                noted: self.noted.take_limits(self.setup.alloc),
-            }),
-        }
+        self.leave_to(1, sink)?;
+        self.noted.bucket_ends(&self.bucket.uppers)?;
+        let root = self.bucket.close_runs(&self.setup, &mut self.next, sink)?;
+        Ok(Ended {
+            root,
+            high_water: self.next,
+            held: self.most,
+            noted: self.noted.take_limits(self.setup.alloc),
+        })
     }
 }

@@ -28,11 +28,11 @@ pub record HasRoomFor (run : LeafRun) (size : ℕ) : Type 0 where
 
 -- what is open of a bucket, with the number of the next page
 abbrev pub bucket_runs : OpenBucket → ℕ → BucketRuns
-bucket_runs bucket next = record { leaves = leaves_of bucket.leaves; uppers = runs_above bucket.uppers.items; limits = bucket.limits; next = next }
+bucket_runs bucket next = record { leaves = leaves_of bucket.leaves; uppers = runs_above bucket.uppers.runs.items; limits = bucket.uppers.limits; next = next }
 
 pub record IsOpenBucket (bucket : OpenBucket) : Type 0 where
   pub leaves : IsLeafRun bucket.leaves
-  pub uppers : AllByRecursion IsStanding (runs_above bucket.uppers.items)
+  pub uppers : AllByRecursion IsStanding (runs_above bucket.uppers.runs.items)
 
 -- the element of a leaf page that closes
 abbrev pub leaf_closed : LeafRunView → ℕ → BranchElement

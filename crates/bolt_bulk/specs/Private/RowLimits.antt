@@ -1,11 +1,14 @@
 -- The limits of rows, as the code keeps them: only of the rows that have one.
-use Rattle.std.specs.Prelude.{◌≡◌, ◌⊎◌, ℕ, suc, Option, length}
+use Rattle.std.specs.Prelude.{◌≡◌, ◌⊎◌, ℕ, suc, true, false, None, Option, length, map}
 use Rattle.std.specs.BTreeMap.{get}
 use Rattle.std.specs.Ordering.{nat_cmp, ordering_then}
 use Rattle.std.specs.declared.cmp.Ordering.{Ordering}
-use Rattle.bolt_bulk.specs.declared.branch_runs.BranchRun.{BranchRun}
+use Rattle.bolt_bulk.specs.declared.branch_run.BranchRun.{BranchRun}
 use Rattle.bolt_bulk.specs.declared.limits.BucketLimits.{BucketLimits}
 use Rattle.bolt_bulk.specs.declared.limits.Limits.{Limits}
+use Rattle.bolt_bulk.specs.declared.noted_limits.NotedLimits.{NotedLimits}
+use Rattle.bolt_bulk.specs.declared.upper_runs.UpperRuns.{UpperRuns}
+use Rattle.bolt_layout.specs.Limits.{limit_at, limits_from_ends}
 
 abbrev pub row_cmp : (ℕ × ℕ) → (ℕ × ℕ) → Ordering
 row_cmp a b = ordering_then (nat_cmp a.0 b.0) (nat_cmp a.1 b.1)
@@ -24,3 +27,10 @@ IsOtherRow bucket level b l = (b ≡ bucket → ⊥) ⊎ (l ≡ level → ⊥)
 -- what an open run says of its row: how many runs it has, and how many items the last one has, with the page that is under way
 abbrev pub run_end : BranchRun → ℕ × ℕ
 run_end run = (suc run.closed, suc (length run.elements.items))
+
+-- what is noted when a bucket ends with these open runs
+pub record BucketEnds (old new : NotedLimits) (uppers : UpperRuns) : Type 0 where
+  pub same : new.notes ≡ old.notes
+  pub noted : old.notes ≡ true → ((level : ℕ) → limit_in old.limits uppers.limits.bucket level ≡ None)
+      → (level : ℕ) → limit_in new.limits uppers.limits.bucket level ≡ limit_at (limits_from_ends false (map run_end uppers.runs.items)) level
+  pub others : (b level : ℕ) → (b ≡ uppers.limits.bucket → ⊥) → limit_in new.limits b level ≡ limit_in old.limits b level

@@ -13,11 +13,11 @@ abbrev pub invariant-members : goal.invariant-members
 invariant-members g l = record {
   same : (listing : List Member) → g.M.Members.lists l.members listing ↔ g.M.Members.lists l.initial.members listing;
   end : (end : g.row.M.Denot) → g.M.Members.ends_as l.members end → g.M.Members.ends_as l.initial.members end;
-  setup : l.pass.setup ≡ l.initial.pass.setup;
+  setup : l.pass.setup ≡ l.fn.setup;
   ready : IsReady l.pass;
   fit : (listing : List Member) → g.M.Members.lists l.initial.members listing → ∥ AllByRecursion IsFitMember (g.M.Members.left l.members listing) ∥₁;
-  steps : (which : Layout) (listing : List Member) → g.M.Members.lists l.initial.members listing → FitLimits which (tree_of listing) l.initial.pass.setup.page_size (limits_with l.limits)
-      → Steps {A = ⊤} (record { which = which; tree = tree_of listing; notes = l.notes }) g.S.Sink.taken g.S.Sink.failed l.initial.sink l.sink l.initial.pass.setup []
+  steps : (which : Layout) (listing : List Member) → g.M.Members.lists l.initial.members listing → FitLimits which (tree_of listing) l.fn.setup.page_size (limits_with l.limits)
+      → Steps {A = ⊤} (record { which = which; tree = tree_of listing; notes = l.notes }) g.S.Sink.taken g.S.Sink.failed l.initial.sink l.sink l.fn.setup []
       (HasLeft (record { which = which; tree = tree_of listing; notes = l.notes }) l.pass (g.M.Members.left l.members listing)) (Ok tt);
 }
 

@@ -1,13 +1,11 @@
 -- The plan, the first pages, and the pages of all buckets, which are the layout.
-use Rattle.std.proofs.Common.{Err, rules, subst, ◌≡◌, ◌∙◌, ◌*◌, ◌++◌, ℕ, List, refl, sym, ap, arith}
+use Rattle.std.proofs.Common.{Err, rules, subst, ◌≡◌, ◌∙◌, ◌*◌, ℕ, refl, sym, ap, arith}
 use Rattle.std.proofs.Math.Logic.{∥∥₁_elim}
 use Rattle.std.proofs.Props.{props}
+use Rattle.std.proofs.lemmas.Result.{err_from_is_err_and}
 use Rattle.bolt_tree.specs.Tree.{tree_of}
-use Rattle.bolt_layout.specs.Copies.{layout_of_listing}
-use Rattle.bolt_layout.specs.Layout.{layout_held, layout_mark, layout_pages, placed_bytes}
-use Rattle.bolt_bulk.specs.Private.FirstPages.{first_pages}
-use Rattle.bolt_bulk.specs.declared.first_pages.Facts.{Facts}
-use Rattle.bolt_bulk.proofs.CopyLemmas.{copied, layout_parts, stops_first, stops_later, stops_unplanned}
+use Rattle.bolt_layout.specs.Layout.{layout_held, layout_mark}
+use Rattle.bolt_bulk.proofs.CopyLemmas.{copied, layout_parts, layout_written, stops_first, stops_later, stops_unplanned}
 use Rattle.bolt_bulk.specs.Private.Passes.{FitLimits, limits_with}
 use Rattle.bolt_bulk.specs.Private.Stops.{stopped_by}
 use Rattle.bolt_bulk.proofs.FileLayouts.{some_bytes, too_large, within_limit}
@@ -27,59 +25,46 @@ returns-in_err-plan-clause-copied g c = λ listing lists.
     stops_unplanned g.S.Sink.taken g.S.Sink.failed c.args.sink.now _ c.in_err-plan.field-0.0 c.from_residual-in_err-plan.result stop
     (some_bytes _ _ c.args.shape.now.page_size (c.a_listing_has_one_layout.ensures.length c.args.shape.now.layout listing (c.requires.one listing lists)) c.args.shape.now.accepted) planned.large
 
-pub returns-in-Err-clause-copied : goal.returns-in-Err-clause-copied
-returns-in-Err-clause-copied g c = λ listing lists.
+pub returns-in_err-put_first_pages-clause-copied : goal.returns-in_err-put_first_pages-clause-copied
+returns-in_err-put_first_pages-clause-copied g c = λ listing lists.
     let planned = c.in_ok-plan.ensures listing lists in
-    let tree = tree_of listing in
-    let facts : Facts = record { page_size = c.args.shape.now.page_size; root = c.in_ok-plan.plan.root; sequence = c.args.shape.now.sequence; mark = c.in_ok-plan.plan.high_water } in
-    let parts : layout_of_listing c.args.shape.now.layout c.args.shape.now.page_size listing c.args.shape.now.sequence ≡ first_pages facts ++ placed_bytes c.args.shape.now.page_size (layout_pages c.args.shape.now.layout c.args.shape.now.page_size tree) =
-    (layout_parts c.args.shape.now.layout c.args.shape.now.page_size tree c.args.shape.now.sequence c.in_ok-plan.plan.root c.in_ok-plan.plan.high_water planned.root planned.high_water) in
-    stops_first g.S.Sink.taken g.S.Sink.failed c.args.sink.now c.put_first_pages.new.sink _ _ _ parts planned.fits c.in-Err.field-0 c.in-Err.ensures
+    let parts = layout_parts c.args.shape.now.layout c.args.shape.now.page_size (tree_of listing) c.args.shape.now.sequence c.in_ok-plan.plan.root c.in_ok-plan.plan.high_water planned.root planned.high_water in
+    let p = err_from_is_err_and c.from_residual-in_err-put_first_pages.result c.from_residual-in_err-put_first_pages.ensures.1 in
+    rw (p.1, p.2) (stops_first g.S.Sink.taken g.S.Sink.failed c.args.sink.now c.put_first_pages.new.sink _ _ _ parts planned.fits _ c.in_err-put_first_pages.ensures)
 
 pub overflow_mul-result : goal.overflow_mul-result
 overflow_mul-result g c = ∥∥₁_elim c.requires.some (Prim.hlevel props) (λ is.
     let listing = is.0 in
     let lists = is.1 in
-    let ends = c.in-Ok.ensures.pages c.args.shape.now.layout listing lists (subst (λ (n : ℕ). FitLimits c.args.shape.now.layout (tree_of listing) n (limits_with c.in_ok-limits.limits)) (sym c.setup_of-setup.ensures.page_size) (c.in_ok-limits.ensures.fit listing lists)) in
-    let few = within_limit c.args.shape.now.page_size c.setup_of-setup.result.limit c.in-Ok.ended.high_water (c.in-Ok.ended.high_water * c.args.shape.now.page_size) c.setup_of-setup.ensures.limit ends.within refl in omega arith)
+    let ends = c.in_ok-ended.ensures.pages c.args.shape.now.layout listing lists (subst (λ (n : ℕ). FitLimits c.args.shape.now.layout (tree_of listing) n (limits_with c.in_ok-limits.limits)) (sym c.setup_of-setup.ensures.page_size) (c.in_ok-limits.ensures.fit listing lists)) in
+    let few = within_limit c.args.shape.now.page_size c.setup_of-setup.result.limit c.in_ok-ended.ended.high_water (c.in_ok-ended.ended.high_water * c.args.shape.now.page_size) c.setup_of-setup.ensures.limit ends.within refl in omega arith)
 
-pub returns-in-Err-put_pages-clause-copied : goal.returns-in-Err-put_pages-clause-copied
-returns-in-Err-put_pages-clause-copied g c = λ listing lists.
+pub returns-in_err-ended-clause-copied : goal.returns-in_err-ended-clause-copied
+returns-in_err-ended-clause-copied g c = λ listing lists.
     let planned = c.in_ok-plan.ensures listing lists in
-    let tree = tree_of listing in
-    let P : ℕ = c.setup_of-setup.result.page_size in
-    let ends = c.in-Err-put_pages.ensures.pages c.args.shape.now.layout listing lists (subst (λ (n : ℕ). FitLimits c.args.shape.now.layout (tree_of listing) n (limits_with c.in_ok-limits.limits)) (sym c.setup_of-setup.ensures.page_size) (c.in_ok-limits.ensures.fit listing lists)) in
-    let facts : Facts = record { page_size = c.args.shape.now.page_size; root = c.in_ok-plan.plan.root; sequence = c.args.shape.now.sequence; mark = c.in_ok-plan.plan.high_water } in
-    let parts : layout_of_listing c.args.shape.now.layout c.args.shape.now.page_size listing c.args.shape.now.sequence ≡ first_pages facts ++ placed_bytes c.args.shape.now.page_size (layout_pages c.args.shape.now.layout c.args.shape.now.page_size tree) =
-    (layout_parts c.args.shape.now.layout c.args.shape.now.page_size tree c.args.shape.now.sequence c.in_ok-plan.plan.root c.in_ok-plan.plan.high_water planned.root planned.high_water) in
-    let others : placed_bytes c.args.shape.now.page_size (layout_pages c.args.shape.now.layout c.args.shape.now.page_size tree) ≡ placed_bytes P ends.others =
-    ap (λ (n : ℕ). placed_bytes n (layout_pages c.args.shape.now.layout n tree)) (sym c.setup_of-setup.ensures.page_size) ∙ ap (placed_bytes P) ends.all in
-    let whole = parts ∙ ap (λ (bytes : List ℕ). first_pages facts ++ bytes) others in
+    let ends = c.in_err-ended.ensures.pages c.args.shape.now.layout listing lists (subst (λ (n : ℕ). FitLimits c.args.shape.now.layout (tree_of listing) n (limits_with c.in_ok-limits.limits)) (sym c.setup_of-setup.ensures.page_size) (c.in_ok-limits.ensures.fit listing lists)) in
+    let whole = layout_written c.args.shape.now.layout c.args.shape.now.page_size (tree_of listing) c.args.shape.now.sequence c.in_ok-plan.plan.root c.in_ok-plan.plan.high_water c.setup_of-setup.result.page_size ends.others
+    planned.root planned.high_water c.setup_of-setup.ensures.page_size ends.all in
     let low = (size_bounds c.args.shape.now.page_size c.args.shape.now.accepted).0 in
-    let mark : layout_mark c.args.shape.now.layout P tree ≡ layout_mark c.args.shape.now.layout c.args.shape.now.page_size tree = ap (λ (n : ℕ). layout_mark c.args.shape.now.layout n tree) c.setup_of-setup.ensures.page_size in
-    stops_later g.S.Sink.taken g.S.Sink.failed c.args.sink.now c.put_pages.new.sink _ (first_pages facts) (placed_bytes P ends.others) whole planned.fits c.put_first_pages.new.sink tt c.in-Err-put_pages.fault
-    c.in_default.ensures ends.puts ends.short
-    (λ e. let above = ends.large e in too_large c.args.shape.now.page_size c.setup_of-setup.result.limit (layout_mark c.args.shape.now.layout c.args.shape.now.page_size tree) _ (omega arith) c.setup_of-setup.ensures.limit (omega arith) (c.a_listing_has_one_layout.ensures.length c.args.shape.now.layout listing (c.requires.one listing lists)))
+    let mark : layout_mark c.args.shape.now.layout c.setup_of-setup.result.page_size (tree_of listing) ≡ layout_mark c.args.shape.now.layout c.args.shape.now.page_size (tree_of listing) = ap (λ (n : ℕ). layout_mark c.args.shape.now.layout n (tree_of listing)) c.setup_of-setup.ensures.page_size in
+    let p = err_from_is_err_and c.from_residual-in_err-ended.result c.from_residual-in_err-ended.ensures.1 in
+    rw (p.1, p.2) (stops_later g.S.Sink.taken g.S.Sink.failed c.args.sink.now c.put_pages.new.sink _ _ _ whole planned.fits c.put_first_pages.new.sink tt _
+    c.in_ok-put_first_pages.ensures ends.puts ends.short
+    (λ e. let above = ends.large e in too_large c.args.shape.now.page_size c.setup_of-setup.result.limit (layout_mark c.args.shape.now.layout c.args.shape.now.page_size (tree_of listing)) _ (omega arith) c.setup_of-setup.ensures.limit (omega arith) (c.a_listing_has_one_layout.ensures.length c.args.shape.now.layout listing (c.requires.one listing lists))))
 
 pub returns-clause-copied : goal.returns-clause-copied
 returns-clause-copied g c = λ listing lists.
     let planned = c.in_ok-plan.ensures listing lists in
-    let tree = tree_of listing in
-    let P : ℕ = c.setup_of-setup.result.page_size in
-    let ends = c.in-Ok.ensures.pages c.args.shape.now.layout listing lists (subst (λ (n : ℕ). FitLimits c.args.shape.now.layout (tree_of listing) n (limits_with c.in_ok-limits.limits)) (sym c.setup_of-setup.ensures.page_size) (c.in_ok-limits.ensures.fit listing lists)) in
-    let facts : Facts = record { page_size = c.args.shape.now.page_size; root = c.in_ok-plan.plan.root; sequence = c.args.shape.now.sequence; mark = c.in_ok-plan.plan.high_water } in
-    let parts : layout_of_listing c.args.shape.now.layout c.args.shape.now.page_size listing c.args.shape.now.sequence ≡ first_pages facts ++ placed_bytes c.args.shape.now.page_size (layout_pages c.args.shape.now.layout c.args.shape.now.page_size tree) =
-    (layout_parts c.args.shape.now.layout c.args.shape.now.page_size tree c.args.shape.now.sequence c.in_ok-plan.plan.root c.in_ok-plan.plan.high_water planned.root planned.high_water) in
-    let others : placed_bytes c.args.shape.now.page_size (layout_pages c.args.shape.now.layout c.args.shape.now.page_size tree) ≡ placed_bytes P ends.others =
-    ap (λ (n : ℕ). placed_bytes n (layout_pages c.args.shape.now.layout n tree)) (sym c.setup_of-setup.ensures.page_size) ∙ ap (placed_bytes P) ends.all in
-    let whole = parts ∙ ap (λ (bytes : List ℕ). first_pages facts ++ bytes) others in
-    let mark : c.in-Ok.ended.high_water ≡ layout_mark c.args.shape.now.layout c.args.shape.now.page_size tree = ends.mark ∙ ap (λ (n : ℕ). layout_mark c.args.shape.now.layout n tree) c.setup_of-setup.ensures.page_size in
-    copied g.S.Sink.taken g.S.Sink.failed c.args.sink.now c.put_pages.new.sink _ (first_pages facts) (placed_bytes P ends.others) whole planned.fits c.put_first_pages.new.sink tt c.in-Ok.ended _ _
-    c.in_default.ensures ends.puts (ap (λ (n : ℕ). n * c.args.shape.now.page_size) mark ∙ sym (c.a_listing_has_one_layout.ensures.length c.args.shape.now.layout listing (c.requires.one listing lists)))
+    let ends = c.in_ok-ended.ensures.pages c.args.shape.now.layout listing lists (subst (λ (n : ℕ). FitLimits c.args.shape.now.layout (tree_of listing) n (limits_with c.in_ok-limits.limits)) (sym c.setup_of-setup.ensures.page_size) (c.in_ok-limits.ensures.fit listing lists)) in
+    let whole = layout_written c.args.shape.now.layout c.args.shape.now.page_size (tree_of listing) c.args.shape.now.sequence c.in_ok-plan.plan.root c.in_ok-plan.plan.high_water c.setup_of-setup.result.page_size ends.others
+    planned.root planned.high_water c.setup_of-setup.ensures.page_size ends.all in
+    let mark : c.in_ok-ended.ended.high_water ≡ layout_mark c.args.shape.now.layout c.args.shape.now.page_size (tree_of listing) = ends.mark ∙ ap (λ (n : ℕ). layout_mark c.args.shape.now.layout n (tree_of listing)) c.setup_of-setup.ensures.page_size in
+    copied g.S.Sink.taken g.S.Sink.failed c.args.sink.now c.put_pages.new.sink _ _ _ whole planned.fits c.put_first_pages.new.sink tt c.in_ok-ended.ended _ _
+    c.in_ok-put_first_pages.ensures ends.puts (ap (λ (n : ℕ). n * c.args.shape.now.page_size) mark ∙ sym (c.a_listing_has_one_layout.ensures.length c.args.shape.now.layout listing (c.requires.one listing lists)))
 
 pub returns-clause-held : goal.returns-clause-held
 returns-clause-held g c = λ listing lists.
-    let ends = c.in-Ok.ensures.pages c.args.shape.now.layout listing lists (subst (λ (n : ℕ). FitLimits c.args.shape.now.layout (tree_of listing) n (limits_with c.in_ok-limits.limits)) (sym c.setup_of-setup.ensures.page_size) (c.in_ok-limits.ensures.fit listing lists)) in
+    let ends = c.in_ok-ended.ensures.pages c.args.shape.now.layout listing lists (subst (λ (n : ℕ). FitLimits c.args.shape.now.layout (tree_of listing) n (limits_with c.in_ok-limits.limits)) (sym c.setup_of-setup.ensures.page_size) (c.in_ok-limits.ensures.fit listing lists)) in
     let planned = c.in_ok-plan.ensures listing lists in
     let small = c.a_listing_has_one_layout.ensures.held c.args.shape.now.layout listing (c.requires.one listing lists) planned.fits in
     let fits = planned.fits in

@@ -2,5 +2,5 @@
 use Rattle.bolt_bulk.proofs.LimitLemmas.{others_stay}
 use Rattle.bolt_bulk.proofs.limits.Limits.set.Goals as goal
 
-pub returns-in-Ok-clause-others : goal.returns-in-Ok-clause-others
-returns-in-Ok-clause-others c = others_stay c.args.self.now.rows c.insert.new.self c.args.bucket c.args.level c.args.left c.in-Ok.ensures.updates
+pub returns-clause-others : goal.returns-clause-others
+returns-clause-others c = others_stay c.args.self.now.rows c.insert.new.self c.args.bucket c.args.level c.args.left c.in_ok-insert.ensures.updates

@@ -6,5 +6,5 @@ use Rattle.bolt_bulk.proofs.open_bucket.OpenBucket.held.Given as goal
 abbrev pub invariant-loop-i : goal.invariant-loop-i
 invariant-loop-i l = record {
   fits : l.held ≤ 18446744073709551615;
-  whole : min (l.held + items_above (drop l.i l.self.uppers.items)) 18446744073709551615 ≡ min (items_in l.self) 18446744073709551615;
+  whole : min (l.held + items_above (drop l.i l.self.uppers.runs.items)) 18446744073709551615 ≡ min (items_in l.self) 18446744073709551615;
 }

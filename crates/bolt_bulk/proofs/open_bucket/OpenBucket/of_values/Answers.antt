@@ -1,13 +1,10 @@
 -- The items of the values are the run, and nothing is above.
-use Rattle.std.proofs.Common.{◌≡◌, ◌∙◌, List, [], ap, length, map, subst, sym}
+use Rattle.std.proofs.Common.{◌≡◌, ◌∙◌, List, [], ap, length, refl, subst, sym}
 use Rattle.std.specs.List.{AllByRecursion}
-use Rattle.bolt_format.specs.ElementPlaces.{leaf_view}
-use Rattle.bolt_format.specs.Elements.{LeafElement}
 use Rattle.bolt_format.specs.declared.element.Leaf.{Leaf}
 use Rattle.bolt_bulk.specs.Private.BranchRuns.{IsStanding, runs_above}
-use Rattle.bolt_bulk.specs.Private.HeldItems.{held_views, inlined_in}
-use Rattle.bolt_bulk.specs.Private.RunViews.{RunView, BucketRuns}
-use Rattle.bolt_bulk.specs.declared.branch_runs.BranchRun.{BranchRun}
+use Rattle.bolt_bulk.specs.Private.HeldItems.{inlined_in}
+use Rattle.bolt_bulk.specs.declared.branch_run.BranchRun.{BranchRun}
 use Rattle.bolt_bulk.specs.declared.held.Held.{Held}
 use Rattle.bolt_bulk.proofs.HeldRuns.{IsRun, values_none, values_run, values_view}
 use Rattle.bolt_bulk.proofs.open_bucket.OpenBucket.of_values.Goals as goal
@@ -22,13 +19,8 @@ returns-clause-open c =
     ap (λ (kept_run : List Leaf). length kept_run) c.new.ensures.items ∙ sym (ap (λ (items : List Held). inlined_in items) c.in_ok-items.ensures.items ∙ values_none entries) in
     record {
       leaves = record { held = is.held; sized = is.sized; small = is.small; few = is.few; inlined = none };
-      uppers = subst (λ (runs : List BranchRun). AllByRecursion IsStanding (runs_above runs)) (sym c.new-2.ensures.items) tt;
+      uppers = subst (λ (runs : List BranchRun). AllByRecursion IsStanding (runs_above runs)) (sym c.new-2.ensures.runs) tt;
     }
 
 pub returns-clause-runs : goal.returns-clause-runs
-returns-clause-runs c = λ next.
-    let kept_runs : List LeafElement → List RunView → BucketRuns = λ elements uppers. record { leaves = record { elements = elements; size = c.args.size }; uppers = uppers; limits = c.args.limits; next = next } in
-    let elements : held_views c.new.result.items c.in_ok-items.items.items ≡ map leaf_view c.args.entries.now =
-    ap (λ (kept_run : List Leaf). held_views kept_run c.in_ok-items.items.items) c.new.ensures.items
-    ∙ (ap (λ (items : List Held). held_views [] items) c.in_ok-items.ensures.items ∙ values_view c.args.entries.now c.requires.values) in
-    ap (λ (es : List LeafElement). kept_runs es (runs_above c.new-2.result.items)) elements ∙ ap (λ (runs : List BranchRun). kept_runs (map leaf_view c.args.entries.now) (runs_above runs)) c.new-2.ensures.items
+returns-clause-runs c = λ next. rw (c.new.ensures.items, c.in_ok-items.ensures.items, values_view c.args.entries.now c.requires.values, c.new-2.ensures.runs, c.new-2.ensures.limits) refl

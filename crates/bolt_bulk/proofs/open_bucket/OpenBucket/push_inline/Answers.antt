@@ -42,5 +42,5 @@ returns-clause-runs c = λ before next.
     let first : c.len-first.result ≡ length leaves.inlined.items = search rules in
     let items : c.push.new.self.items ≡ leaves.items.items ++ held ∷ [] = search rules in
     let runs : List LeafElement → BucketRuns = λ elements.
-    record { leaves = record { elements = elements; size = leaves.size + (16 + (length c.args.key.now + c.args.size)) }; uppers = runs_above c.args.self.now.uppers.items; limits = c.args.self.now.limits; next = next } in
+    record { leaves = record { elements = elements; size = leaves.size + (16 + (length c.args.key.now + c.args.size)) }; uppers = runs_above c.args.self.now.uppers.runs.items; limits = c.args.self.now.uppers.limits; next = next } in
     ap runs (added_views leaves.inlined.items entries c.extend_from_slice.new.self.items c.len-first.result c.args.sequence c.args.key.now leaves.items.items c.push.new.self.items held behind first c.requires.open.leaves.held items refl)

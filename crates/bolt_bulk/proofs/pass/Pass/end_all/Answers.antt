@@ -1,74 +1,68 @@
 -- What is open of the root bucket ends, which is the rest of the layout.
 use Rattle.std.proofs.Common.{◌∙◌, [], Result, Ok, Err, arith, subst, sym}
 use Rattle.std.specs.Prelude.{⊤}
+use Rattle.std.proofs.lemmas.Result.{err_from_is_err_and}
 use Rattle.bolt_layout.specs.declared.layout.Layout.TheVariants.{Balanced}
-use Rattle.bolt_bulk.specs.Private.Endings.{Ends}
 use Rattle.bolt_bulk.specs.Private.OpenBuckets.{bucket_runs}
 use Rattle.bolt_bulk.specs.Private.Passes.{FitLimits, HasLeft, limits_with}
 use Rattle.bolt_bulk.specs.Private.RunViews.{runs_end_put}
-use Rattle.bolt_bulk.specs.declared.page_setup.PageSetup.{PageSetup}
 use Rattle.bolt_bulk.specs.declared.fault.BulkFault.{BulkFault}
 use Rattle.bolt_bulk.specs.declared.pass.Ended.{Ended}
 use Rattle.bolt_bulk.proofs.PassAt.{puts_fault, steps_none}
 use Rattle.bolt_bulk.proofs.PassEnds.{ends_after, ends_early, has_end}
 use Rattle.bolt_bulk.specs.declared.limits.Limits.{Limits}
-use Rattle.bolt_bulk.proofs.Tables.{BucketEnds}
 use Rattle.bolt_bulk.proofs.pass.Pass.end_all.Goals as goal
 
-pub returns-in-Err : goal.returns-in-Err
-returns-in-Err g c = λ wanted put has.
-    ends_early wanted g.S.Sink.taken g.S.Sink.failed c.args.self.now.setup c.args.sink.now c.leave_to.new.sink put (HasLeft wanted c.leave_to.new.self []) c.in-Err.fault (c.in-Err.ensures.steps wanted [] put has tt)
+pub returns-in_err-leave_to : goal.returns-in_err-leave_to
+returns-in_err-leave_to g c = λ wanted put has.
+    ends_early wanted g.S.Sink.taken g.S.Sink.failed c.args.self.now.setup c.args.sink.now c.leave_to.new.sink put (HasLeft wanted c.leave_to.new.self []) _ c.from_residual.result c.from_residual.ensures.1 (c.in_err-leave_to.ensures.steps wanted [] put has tt)
 
-pub returns-in-Err-ended : goal.returns-in-Err-ended
-returns-in-Err-ended g c = λ wanted put has.
-    let stop : Result Ended BulkFault = Err c.in-Err-ended.fault in
-    let first : Result ⊤ BulkFault = Err c.in-Err-ended.fault in
-    ends_after wanted g.S.Sink.taken g.S.Sink.failed c.args.self.now.setup c.args.sink.now c.leave_to.new.sink c.leave_to.new.sink put (HasLeft wanted c.leave_to.new.self []) tt stop (c.in_default.ensures.steps wanted [] put has tt)
-    (λ all mid. subst (λ (b : PageSetup). Ends wanted g.S.Sink.taken g.S.Sink.failed c.leave_to.new.sink c.leave_to.new.sink b all stop) c.in_default.ensures.setup
-    (ends_early wanted g.S.Sink.taken g.S.Sink.failed c.leave_to.new.self.setup c.leave_to.new.sink c.leave_to.new.sink all (HasLeft wanted c.leave_to.new.self []) c.in-Err-ended.fault
-    (steps_none wanted c.leave_to.new.self mid.levels mid.left all c.leave_to.new.sink (HasLeft wanted c.leave_to.new.self []) first mid.at c.in-Err-ended.ensures.fault tt)))
+pub returns-in_err-bucket_ends : goal.returns-in_err-bucket_ends
+returns-in_err-bucket_ends g c = λ wanted put has.
+    let stop = c.from_residual-in_err-bucket_ends.result in
+    let first : Result ⊤ BulkFault = Err _ in
+    ends_after wanted g.S.Sink.taken g.S.Sink.failed c.args.self.now.setup c.args.sink.now c.leave_to.new.sink c.leave_to.new.sink put (HasLeft wanted c.leave_to.new.self []) tt stop c.in_ok-leave_to.ensures.setup (c.in_ok-leave_to.ensures.steps wanted [] put has tt)
+    (λ all mid. ends_early wanted g.S.Sink.taken g.S.Sink.failed c.leave_to.new.self.setup c.leave_to.new.sink c.leave_to.new.sink all (HasLeft wanted c.leave_to.new.self []) _ stop c.from_residual-in_err-bucket_ends.ensures.1
+    (steps_none wanted c.leave_to.new.self mid.levels mid.left all c.leave_to.new.sink (HasLeft wanted c.leave_to.new.self []) first mid.at c.in_err-bucket_ends.ensures.fault tt))
 
-pub returns-in-Err-close_runs : goal.returns-in-Err-close_runs
-returns-in-Err-close_runs g c = λ wanted put has.
-    let stop : Result Ended BulkFault = Err c.in-Err-close_runs.fault in
-    ends_after wanted g.S.Sink.taken g.S.Sink.failed c.args.self.now.setup c.args.sink.now c.leave_to.new.sink c.close_runs.new.sink put (HasLeft wanted c.leave_to.new.self []) tt stop (c.in_default.ensures.steps wanted [] put has tt)
-    (λ all mid. let end = has_end wanted c.leave_to.new.self all mid c.in_default.ensures.depth in
-    subst (λ (b : PageSetup). Ends wanted g.S.Sink.taken g.S.Sink.failed c.leave_to.new.sink c.close_runs.new.sink b all stop) c.in_default.ensures.setup
-    (record {
+pub returns-in_err-root : goal.returns-in_err-root
+returns-in_err-root g c = λ wanted put has.
+    let p = err_from_is_err_and c.from_residual-in_err-root.result c.from_residual-in_err-root.ensures.1 in
+    let stop : Result Ended BulkFault = Err c.in_err-root.field-0.0 in rw (p.1, p.2) (
+    ends_after wanted g.S.Sink.taken g.S.Sink.failed c.args.self.now.setup c.args.sink.now c.leave_to.new.sink c.close_runs.new.sink put (HasLeft wanted c.leave_to.new.self []) tt stop c.in_ok-leave_to.ensures.setup (c.in_ok-leave_to.ensures.steps wanted [] put has tt)
+    (λ all mid. let end = has_end wanted c.leave_to.new.self all mid c.in_ok-leave_to.ensures.depth in
+    record {
       others = runs_end_put c.leave_to.new.self.setup.page_size (bucket_runs c.leave_to.new.self.bucket c.leave_to.new.self.next);
       all = end.pages;
-      puts = puts_fault _ _ _ c.in-Err-close_runs.fault c.in-Err-close_runs.ensures.pages;
-      short = c.in-Err-close_runs.ensures.short;
+      puts = puts_fault _ _ _ _ c.in_err-root.ensures.pages;
+      short = c.in_err-root.ensures.short;
       root = tt;
       mark = tt;
       within = tt;
       noted = tt;
       held = tt;
-      large = λ h. let m = c.in-Err-close_runs.ensures.large h in let n = end.mark in omega (arith, m, n);
+      large = λ h. let m = c.in_err-root.ensures.large h in let n = end.mark in omega (arith, m, n);
     }))
 
-pub returns-in-Ok : goal.returns-in-Ok
-returns-in-Ok g c = λ wanted put has.
-    let well : Result Ended BulkFault = Ok (record { root = c.in-Ok.root; high_water = c.close_runs.new.next; held = c.leave_to.new.self.most; noted = c.take_limits.result }) in
-    let ends : BucketEnds c.leave_to.new.self.noted c.bucket_ends-ended.new.self c.leave_to.new.self.bucket.limits.bucket c.leave_to.new.self.bucket.uppers.items =
-    record { same = c.in_default-ended.ensures.same; noted = rw c.as_slice.ensures.value at c.in_default-ended.ensures.noted; others = c.in_default-ended.ensures.others } in
-    ends_after wanted g.S.Sink.taken g.S.Sink.failed c.args.self.now.setup c.args.sink.now c.leave_to.new.sink c.close_runs.new.sink put (HasLeft wanted c.leave_to.new.self []) tt well (c.in_default.ensures.steps wanted [] put has tt)
-    (λ all mid. let end = has_end wanted c.leave_to.new.self all mid c.in_default.ensures.depth in
-    subst (λ (b : PageSetup). Ends wanted g.S.Sink.taken g.S.Sink.failed c.leave_to.new.sink c.close_runs.new.sink b all well) c.in_default.ensures.setup
-    (record {
+pub returns : goal.returns
+returns g c = λ wanted put has.
+    let well : Result Ended BulkFault = Ok (record { root = c.in_ok-root.root; high_water = c.close_runs.new.next; held = c.leave_to.new.self.most; noted = c.take_limits.result }) in
+    ends_after wanted g.S.Sink.taken g.S.Sink.failed c.args.self.now.setup c.args.sink.now c.leave_to.new.sink c.close_runs.new.sink put (HasLeft wanted c.leave_to.new.self []) tt well c.in_ok-leave_to.ensures.setup (c.in_ok-leave_to.ensures.steps wanted [] put has tt)
+    (λ all mid. let end = has_end wanted c.leave_to.new.self all mid c.in_ok-leave_to.ensures.depth in
+    record {
       others = runs_end_put c.leave_to.new.self.setup.page_size (bucket_runs c.leave_to.new.self.bucket c.leave_to.new.self.next);
       all = end.pages;
-      puts = record { all = c.in-Ok.ensures.pages.all; sound = c.in-Ok.ensures.pages.sound; beginning = tt; failure = tt; other = tt };
+      puts = record { all = c.in_ok-root.ensures.pages.all; sound = c.in_ok-root.ensures.pages.sound; beginning = tt; failure = tt; other = tt };
       short = tt;
-      root = c.in-Ok.ensures.root ∙ end.root;
-      mark = c.in-Ok.ensures.next ∙ end.mark;
-      within = c.in-Ok.ensures.within;
+      root = c.in_ok-root.ensures.root ∙ end.root;
+      mark = c.in_ok-root.ensures.next ∙ end.mark;
+      within = c.in_ok-root.ensures.within;
       noted = λ asked which.
           let mark = end.mark in
-          let next = c.in-Ok.ensures.next in
-          let within = c.in-Ok.ensures.within in
+          let next = c.in_ok-root.ensures.next in
+          let within = c.in_ok-root.ensures.within in
           let counted = c.leave_to.new.self.setup.counted in
-          subst (λ (l : Limits). FitLimits Balanced wanted.tree c.leave_to.new.self.setup.page_size (limits_with l)) (sym c.take_limits.ensures) (end.noted c.bucket_ends-ended.new.self ends asked which (omega arith));
+          subst (λ (l : Limits). FitLimits Balanced wanted.tree c.leave_to.new.self.setup.page_size (limits_with l)) (sym c.take_limits.ensures) (end.noted c.bucket_ends.new.self c.in_ok-bucket_ends.ensures.ends asked which (omega arith));
       held = end.held;
       large = tt;
-    }))
+    })

@@ -1,20 +1,14 @@
 -- The bucket is an item of the open one, with its entries in its value.
-use Rattle.std.proofs.Common.{◌+◌}
 use Rattle.bolt_bulk.proofs.PassAt.{inline_steps, steps_stop}
-use Rattle.bolt_bulk.proofs.PassReady.{inline_long, small_of}
 use Rattle.bolt_bulk.proofs.pass.Pass.end_inline.Goals as goal
 
-pub returns-in-Err-clause-steps : goal.returns-in-Err-clause-steps
-returns-in-Err-clause-steps g c = λ wanted level levels put is.
-    let small = small_of c.args.self.now.setup.page_size c.args.self.now.pending c.args.pending c.args.self.now.entries.items c.requires.pending c.requires.ready.pending in
-    let long = inline_long c.args.self.now.setup.page_size c.args.pending c.args.self.now.entries.items small in
-    steps_stop wanted g.S.Sink.taken g.S.Sink.failed c.args.self.now.setup c.args.sink.now c.add_inline-taken.new.sink put _ _ c.in-Err.fault
-    (inline_steps g.S.Sink.taken g.S.Sink.failed wanted c.args.self.now put level levels c.args.pending (c.args.pending.size + 16) c.args.sink.now c.add_inline-taken.new.sink c.add_inline-taken.new.self c.args.self.now.entries
-    c.add_inline-taken.new.next c.args.self.now _ is c.requires.pending small long c.in-Err.ensures.pages tt c.in-Err.ensures.large tt)
+pub returns-in_err-add_inline-clause-steps : goal.returns-in_err-add_inline-clause-steps
+returns-in_err-add_inline-clause-steps g c = λ wanted level levels put is.
+    steps_stop wanted g.S.Sink.taken g.S.Sink.failed c.args.self.now.setup c.args.sink.now c.add_inline.new.sink put _ _ _ c.from_residual.result c.from_residual.ensures.1
+    (inline_steps g.S.Sink.taken g.S.Sink.failed wanted c.args.self.now put level levels c.args.pending c.args.sink.now c.add_inline.new.sink c.add_inline.new.self c.args.self.now.entries
+    c.add_inline.new.next c.args.self.now _ is c.requires.pending c.requires.ready.pending c.in_err-add_inline.ensures.pages tt c.in_err-add_inline.ensures.large tt)
 
 pub returns-clause-steps : goal.returns-clause-steps
 returns-clause-steps g c = λ wanted level levels put is.
-    let small = small_of c.args.self.now.setup.page_size c.args.self.now.pending c.args.pending c.args.self.now.entries.items c.requires.pending c.requires.ready.pending in
-    let long = inline_long c.args.self.now.setup.page_size c.args.pending c.args.self.now.entries.items small in
-    inline_steps g.S.Sink.taken g.S.Sink.failed wanted c.args.self.now put level levels c.args.pending (c.args.pending.size + 16) c.args.sink.now c.add_inline-taken.new.sink c.add_inline-taken.new.self c.clear.new.self
-    c.add_inline-taken.new.next c.count.new.self _ is c.requires.pending small long c.in_default.ensures.pages (rw c.as_slice.ensures.value at c.in_default.ensures.runs) tt c.count.ensures.counts
+    inline_steps g.S.Sink.taken g.S.Sink.failed wanted c.args.self.now put level levels c.args.pending c.args.sink.now c.add_inline.new.sink c.add_inline.new.self c.clear.new.self
+    c.add_inline.new.next c.count.new.self _ is c.requires.pending c.requires.ready.pending c.in_ok-add_inline.ensures.pages (rw c.as_slice.ensures.value at c.in_ok-add_inline.ensures.runs) tt c.count.ensures.counts

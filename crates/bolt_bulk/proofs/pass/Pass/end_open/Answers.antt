@@ -2,13 +2,13 @@
 use Rattle.std.proofs.Common.{◌∷◌, List, Err, subst}
 use Rattle.bolt_tree.specs.Tree.{end}
 use Rattle.std.specs.List.{AllByRecursion}
+use Rattle.std.proofs.lemmas.Result.{err_from_is_err_and}
 use Rattle.bolt_bulk.specs.Private.WaitingBuckets.{IsWaiting}
 use Rattle.bolt_bulk.specs.declared.waiting_bucket.WaitingBucket.{WaitingBucket}
 use Rattle.bolt_bulk.proofs.HeldPasses.{waits_less}
 use Rattle.bolt_bulk.proofs.PassAt.{leave_steps, puts_well, steps_none, steps_stop}
 use Rattle.bolt_bulk.proofs.PassReady.{last_of}
 use Rattle.bolt_bulk.specs.declared.noted_limits.NotedLimits.{NotedLimits}
-use Rattle.bolt_bulk.proofs.Tables.{BucketEnds}
 use Rattle.bolt_bulk.proofs.pass.Pass.end_open.Goals as goal
 
 pub end_inner-requires-clause-waits : goal.end_inner-requires-clause-waits
@@ -16,34 +16,30 @@ end_inner-requires-clause-waits g c =
     (last_of (IsWaiting c.args.self.now.setup.page_size) c.pop.new.self.items c.in-Some.waiting
     (subst (λ (ws : List WaitingBucket). AllByRecursion (IsWaiting c.args.self.now.setup.page_size) ws) c.in-Some.ensures.items c.requires.ready.waiting)).0
 
-pub returns-in-Err-clause-steps : goal.returns-in-Err-clause-steps
-returns-in-Err-clause-steps g c = λ wanted level levels put is.
-    steps_none wanted c.args.self.now (level ∷ levels) end put c.args.sink.now _ (Err c.in-Err.fault) is c.in-Err.ensures.fault tt
+pub returns-in_err-bucket_ends-clause-steps : goal.returns-in_err-bucket_ends-clause-steps
+returns-in_err-bucket_ends-clause-steps g c = λ wanted level levels put is.
+    let p = err_from_is_err_and c.from_residual.result c.from_residual.ensures.1 in rw (p.1, p.2) (steps_none wanted c.args.self.now (level ∷ levels) end put c.args.sink.now _ (Err _) is c.in_err-bucket_ends.ensures.fault tt)
 
-pub returns-in-Err-end_inner-clause-steps : goal.returns-in-Err-end_inner-clause-steps
-returns-in-Err-end_inner-clause-steps g c = λ wanted level levels put is.
-    let noted : NotedLimits = c.bucket_ends-ended.new.self in
-    let ended : BucketEnds c.args.self.now.noted noted c.args.self.now.bucket.limits.bucket c.args.self.now.bucket.uppers.items =
-    record { same = c.in_default.ensures.same; noted = rw c.as_slice.ensures.value at c.in_default.ensures.noted; others = c.in_default.ensures.others } in
-    steps_stop wanted g.S.Sink.taken g.S.Sink.failed c.args.self.now.setup c.args.sink.now c.end_inner.new.sink put _ _ c.in-Err-end_inner.fault
+pub returns-in_err-outer-clause-steps : goal.returns-in_err-outer-clause-steps
+returns-in_err-outer-clause-steps g c = λ wanted level levels put is.
+    let noted : NotedLimits = c.bucket_ends.new.self in
+    steps_stop wanted g.S.Sink.taken g.S.Sink.failed c.args.self.now.setup c.args.sink.now c.end_inner.new.sink put _ _ _ c.from_residual-in_err-outer.result c.from_residual-in_err-outer.ensures.1
     (leave_steps g.S.Sink.taken g.S.Sink.failed wanted c.args.self.now put level levels c.in-Some.waiting c.args.sink.now c.end_inner.new.sink c.args.self.now.bucket c.pop.new.self c.end_inner.new.next 0 noted c.args.self.now _ is c.requires.pending
-    c.in-Some.ensures.items ended (rw c.replace-inner.ensures.value at c.in-Err-end_inner.ensures.pages) tt (rw c.replace-inner.ensures.value at c.in-Err-end_inner.ensures.large) tt)
+    c.in-Some.ensures.items c.in_ok-bucket_ends.ensures.ends (rw c.replace-inner.ensures.value at c.in_err-outer.ensures.pages) tt (rw c.replace-inner.ensures.value at c.in_err-outer.ensures.large) tt)
 
-pub returns-in-Ok-clause-steps : goal.returns-in-Ok-clause-steps
-returns-in-Ok-clause-steps g c = λ wanted level levels put is.
-    let noted : NotedLimits = c.bucket_ends-ended.new.self in
-    let ended : BucketEnds c.args.self.now.noted noted c.args.self.now.bucket.limits.bucket c.args.self.now.bucket.uppers.items =
-    record { same = c.in_default.ensures.same; noted = rw c.as_slice.ensures.value at c.in_default.ensures.noted; others = c.in_default.ensures.others } in
-    leave_steps g.S.Sink.taken g.S.Sink.failed wanted c.args.self.now put level levels c.in-Some.waiting c.args.sink.now c.end_inner.new.sink c.in-Ok.outer c.pop.new.self c.end_inner.new.next _ noted c.count.new.self _ is c.requires.pending
-    c.in-Some.ensures.items ended (puts_well _ _ _ c.in-Ok.outer (rw c.replace-inner.ensures.value at c.in-Ok.ensures.pages)) (rw c.replace-inner.ensures.value at c.in-Ok.ensures.runs) tt c.count.ensures.counts
+pub returns-clause-steps : goal.returns-clause-steps
+returns-clause-steps g c = λ wanted level levels put is.
+    let noted : NotedLimits = c.bucket_ends.new.self in
+    leave_steps g.S.Sink.taken g.S.Sink.failed wanted c.args.self.now put level levels c.in-Some.waiting c.args.sink.now c.end_inner.new.sink c.in_ok-outer.outer c.pop.new.self c.end_inner.new.next _ noted c.count.new.self _ is c.requires.pending
+    c.in-Some.ensures.items c.in_ok-bucket_ends.ensures.ends (puts_well _ _ _ c.in_ok-outer.outer (rw c.replace-inner.ensures.value at c.in_ok-outer.ensures.pages)) (rw c.replace-inner.ensures.value at c.in_ok-outer.ensures.runs) tt c.count.ensures.counts
 
 pub count-requires : goal.count-requires
 count-requires g c =
     let ready = c.requires.ready in
     let counted = waits_less c.pop.new.self.items c.args.self.now.waiting.items c.in-Some.waiting ready.counted c.in-Some.ensures.items in
     record {
-      bucket = c.in-Ok.ensures.open;
-      next = c.in-Ok.ensures.within;
+      bucket = c.in_ok-outer.ensures.open;
+      next = c.in_ok-outer.ensures.within;
       waiting = (last_of (IsWaiting c.args.self.now.setup.page_size) c.pop.new.self.items c.in-Some.waiting
           (subst (λ (ws : List WaitingBucket). AllByRecursion (IsWaiting c.args.self.now.setup.page_size) ws) c.in-Some.ensures.items ready.waiting)).1;
       pending = ready.pending;

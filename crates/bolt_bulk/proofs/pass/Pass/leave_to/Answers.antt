@@ -1,9 +1,8 @@
 -- One more bucket has ended, and so on until at most `depth` are left.
-use Rattle.std.proofs.Common.{◌∙◌, List, Result, Ok, Err, refl, subst, arith}
+use Rattle.std.proofs.Common.{◌∙◌, List, Result, Ok, refl, arith}
 use Rattle.std.specs.Prelude.{⊤}
 use Rattle.bolt_layout.specs.Laid.{Placed}
-use Rattle.bolt_bulk.specs.Private.Passes.{HasLeft, IsAt, Steps}
-use Rattle.bolt_bulk.specs.declared.page_setup.PageSetup.{PageSetup}
+use Rattle.bolt_bulk.specs.Private.Passes.{HasLeft, IsAt}
 use Rattle.bolt_bulk.specs.declared.fault.BulkFault.{BulkFault}
 use Rattle.bolt_bulk.proofs.PassAt.{steps_stop, steps_then}
 use Rattle.bolt_bulk.proofs.PassLeft.{has_ended, left_out, steps_begun, steps_map}
@@ -19,34 +18,32 @@ levels-init g c = record {
 pub leave_bucket-requires-clause-ready : goal.leave_bucket-requires-clause-ready
 leave_bucket-requires-clause-ready g c = c.levels.invariant.ready
 
-pub returns-in-Err-clause-steps : goal.returns-in-Err-clause-steps
-returns-in-Err-clause-steps g c = λ wanted members put has shallow.
-    let stop : Result ⊤ BulkFault = Err c.in-Err.fault in
+pub returns-in_err-leave_bucket-clause-steps : goal.returns-in_err-leave_bucket-clause-steps
+returns-in_err-leave_bucket-clause-steps g c = λ wanted members put has shallow.
+    let stop = c.from_residual.result in
     let At : List Placed → Type 0 = HasLeft wanted c.leave_bucket.new.self members in
-    steps_then wanted g.S.Sink.taken g.S.Sink.failed c.args.self.now.setup c.args.sink.now c.levels.sink c.leave_bucket.new.sink put (HasLeft wanted c.levels.self members) At tt stop
+    steps_then wanted g.S.Sink.taken g.S.Sink.failed c.args.self.now.setup c.args.sink.now c.levels.sink c.leave_bucket.new.sink put (HasLeft wanted c.levels.self members) At tt stop c.levels.invariant.setup
     (c.levels.invariant.steps wanted members put has shallow)
     (λ all mid. let ended = has_ended c.args.depth wanted c.levels.self members all mid shallow c.requires.some (omega arith) in
-    subst (λ (b : PageSetup). Steps wanted g.S.Sink.taken g.S.Sink.failed c.levels.sink c.leave_bucket.new.sink b all At stop) c.levels.invariant.setup
-    (steps_stop wanted g.S.Sink.taken g.S.Sink.failed c.levels.self.setup c.levels.sink c.leave_bucket.new.sink all (IsAt wanted c.leave_bucket.new.self ended.levels ended.level.after) At c.in-Err.fault
-    (c.in-Err.ensures.steps wanted ended.level ended.levels all ended.at)))
+    steps_stop wanted g.S.Sink.taken g.S.Sink.failed c.levels.self.setup c.levels.sink c.leave_bucket.new.sink all (IsAt wanted c.leave_bucket.new.self ended.levels ended.level.after) At _ stop c.from_residual.ensures.1
+    (c.in_err-leave_bucket.ensures.steps wanted ended.level ended.levels all ended.at))
 
 pub levels-smaller : goal.levels-smaller
-levels-smaller g c = let fewer = c.in_default.ensures.depth in omega arith
+levels-smaller g c = let fewer = c.in_ok-leave_bucket.ensures.depth in omega arith
 
 pub levels-preserved : goal.levels-preserved
 levels-preserved g c = record {
-  setup = c.in_default.ensures.setup ∙ c.levels.invariant.setup;
-  ready = c.in_default.ensures.ready;
+  setup = c.in_ok-leave_bucket.ensures.setup ∙ c.levels.invariant.setup;
+  ready = c.in_ok-leave_bucket.ensures.ready;
   steps = λ wanted members put has shallow.
       let well : Result ⊤ BulkFault = Ok tt in
       let At : List Placed → Type 0 = HasLeft wanted c.leave_bucket.new.self members in
-      steps_then wanted g.S.Sink.taken g.S.Sink.failed c.args.self.now.setup c.args.sink.now c.levels.sink c.leave_bucket.new.sink put (HasLeft wanted c.levels.self members) At tt well
+      steps_then wanted g.S.Sink.taken g.S.Sink.failed c.args.self.now.setup c.args.sink.now c.levels.sink c.leave_bucket.new.sink put (HasLeft wanted c.levels.self members) At tt well c.levels.invariant.setup
       (c.levels.invariant.steps wanted members put has shallow)
       (λ all mid. let ended = has_ended c.args.depth wanted c.levels.self members all mid shallow c.requires.some (omega arith) in
-      subst (λ (b : PageSetup). Steps wanted g.S.Sink.taken g.S.Sink.failed c.levels.sink c.leave_bucket.new.sink b all At well) c.levels.invariant.setup
-      (steps_map wanted c.levels.sink c.leave_bucket.new.sink c.levels.self.setup all (IsAt wanted c.leave_bucket.new.self ended.levels ended.level.after) At well
+      steps_map wanted c.levels.sink c.leave_bucket.new.sink c.levels.self.setup all (IsAt wanted c.leave_bucket.new.self ended.levels ended.level.after) At well
       (λ then at. left_out wanted c.leave_bucket.new.self ended.level ended.levels members then ended.members_are at)
-      (c.in_default.ensures.steps wanted ended.level ended.levels all ended.at)));
+      (c.in_ok-leave_bucket.ensures.steps wanted ended.level ended.levels all ended.at));
 }
 
 pub returns-clause-setup : goal.returns-clause-setup

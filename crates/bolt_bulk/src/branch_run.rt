@@ -1,23 +1,20 @@
-//! The open runs of pages above a bucket's leaves.
+//! An open run of pages above a bucket's leaves.
 ghost use Rattle.std.specs.Prelude.{◌≡◌, ◌+◌, ◌<◌, ◌≤◌, true, false, [], ◌∷◌, IfErr, IfOk, OnErr, OnOk, length, option_map};
-ghost use Rattle.std.specs.List.{AllByRecursion};
 ghost use Rattle.bolt_format.specs.ElementPlaces.{branch_view};
 ghost use Rattle.bolt_format.specs.Sinks.{AppendsProperBeginning};
 ghost use Rattle.bolt_layout.specs.Layout.{placed_bytes};
 ghost use Rattle.bolt_layout.specs.Levels.{overflow_of};
-ghost use Rattle.bolt_bulk.specs.Private.BranchRuns.{IsPushed, IsSizedRun, IsStanding, element_up, own_element, run_view, runs_above, runs_end_next, run_taking, taking_next, taking_puts, taking_up};
+ghost use Rattle.bolt_bulk.specs.Private.BranchRuns.{IsPushed, IsStanding, element_up, own_element, run_view, run_taking, taking_next, taking_puts, taking_up};
 ghost use Rattle.bolt_bulk.specs.Private.OpenRuns.{key_size};
-ghost use Rattle.bolt_bulk.specs.Private.RowLimits.{bucket_limit};
 ghost use Rattle.bolt_layout.specs.Limits.{one_less};
-ghost use Rattle.bolt_bulk.specs.Private.RunViews.{no_run, one_closed, run_has_room, run_kept, run_page, run_push, run_stays, runs_climb, runs_close_put, runs_next, runs_put, runs_root};
-ghost use Rattle.bolt_bulk.specs.Puts.{Puts, PutsWhole};
+ghost use Rattle.bolt_bulk.specs.Private.RunViews.{no_run, one_closed, run_has_room, run_kept, run_page, run_push, run_stays};
+ghost use Rattle.bolt_bulk.specs.Puts.{Puts};
 ghost use Rattle.bolt_bulk.specs.declared.fault.BulkFault.TheVariants as fault;
 
 use crate::branch_page::put_branch_page;
 use crate::fault::BulkFault;
-use crate::limits::BucketLimits;
-use crate::page_setup::{MAX_ITEMS, PageSetup, number_after, overflow};
-use bolt_format::{Branch, ELEMENT_LEN, HEADER_LEN, Sink, SinkFault};
+use crate::page_setup::{MAX_ITEMS, PageSetup, number_after};
+use bolt_format::{Branch, ELEMENT_LEN, HEADER_LEN, Sink};
 use std::alloc::Global;
 
 /// An open run of pages, the size of the page over it, and how many runs may come after it.
@@ -33,7 +30,7 @@ pub(crate) struct BranchRun<'a> {
 
 impl<'a> BranchRun<'a> {
     /// A run without pages.
-    fn new(alloc: Global, left: Option<u64>) -> BranchRun<'a>
+    pub(crate) fn new(alloc: Global, left: Option<u64>) -> BranchRun<'a>
         ensures { run_view result ≡ no_run left 0 }
     {
         BranchRun {
@@ -45,14 +42,12 @@ impl<'a> BranchRun<'a> {
     }
 
     /// Adds the element of a page.
-    fn push_page(&mut self, page: Branch<'a>) -> Result<(), BulkFault>
+    pub(crate) fn push_page(&mut self, page: Branch<'a>) -> Result<(), BulkFault>
         requires size { self.old.size + length page.key.now < 9223372036854775808 }
         ensures run { OnOk result (run_view self.new ≡ run_push (run_view self.old) (branch_view page.entry)) }
         ensures fault { IfErr result (λ e. e ≡ fault.Memory) }
     {
-        if self.elements.push(page).is_err() {
-            return Err(BulkFault::Memory);
-        }
+        self.elements.push(page)?;
         self.size += ELEMENT_LEN + page.key.len();
         Ok(())
     }
@@ -88,7 +83,7 @@ impl<'a> BranchRun<'a> {
     /// Takes the element of a page that has closed. The next page has this first key. If that page
     /// doesn't join the run, the run closes: its page is written, and the element of that page is
     /// returned.
-    fn take_page<S: Sink>(
+    pub(crate) fn take_page<S: Sink>(
         &mut self,
         setup: &PageSetup,
         key: &[u8],
@@ -118,7 +113,7 @@ impl<'a> BranchRun<'a> {
 
     /// Takes the element of the last page below, and closes the run: its page is written, and the
     /// element of that page is returned.
-    fn take_last_page<S: Sink>(
+    pub(crate) fn take_last_page<S: Sink>(
         &mut self,
         setup: &PageSetup,
         closed: Branch<'a>,
@@ -159,7 +154,7 @@ impl<'a> BranchRun<'a> {
     {
         let number = *next;
         let after = number_after(setup, self.size, number)?;
-        self.put_page(setup, number, sink)?;
+        put_branch_page(self, setup, number, sink)?;
         let up = Branch {
             key: self.elements[0].key,
             child: number,
@@ -174,94 +169,4 @@ impl<'a> BranchRun<'a> {
         *next = after;
         Ok(up)
     }
-
-    /// Writes the page over the run.
-    fn put_page<S: Sink>(
-        &self,
-        setup: &PageSetup,
-        number: u64,
-        sink: &mut S,
-    ) -> Result<(), SinkFault>
-        requires sized { IsSizedRun (run_view self.now) }
-        requires small { self.now.size < 4294967296 }
-        requires few { length self.now.elements.items < 65536 }
-        ensures { PutsWhole S.taken S.failed sink.old sink.new (placed_bytes setup.now.page_size (run_page setup.now.page_size (run_view self.now) number ∷ [])) result }
-    {
-        let further = overflow(setup.page_size, self.size);
-        put_branch_page(
-            number,
-            setup.page_size,
-            further as u32,
-            self.elements.as_slice(),
-            self.size,
-            sink,
-        )
-    }
-}
-
-/// A page has closed, and the next page has this first key. The lowest run takes the page that has
-/// closed. If the next page doesn't join it, it closes too, and the run above it takes its page;
-/// and so on. If all runs close, a run of the next level begins above them.
-pub(crate) fn climb<'a, S: Sink>(
-    setup: &PageSetup,
-    limits: BucketLimits<'_>,
-    key: &[u8],
-    closed: Branch<'a>,
-    uppers: &mut Vec<BranchRun<'a>>,
-    next: &mut u64,
-    sink: &mut S,
-) -> Result<(), BulkFault>
-    requires standing { AllByRecursion IsStanding (runs_above uppers.old.items) }
-    requires key { length key.now ≤ 1073741824 }
-    requires closed { length closed.key.now ≤ 1073741824 }
-    requires next { next.old ≤ setup.now.limit }
-    ensures pages { Puts S.taken S.failed sink.old sink.new (placed_bytes setup.now.page_size (runs_put setup.now.page_size key.now (branch_view closed.entry) next.old (runs_above uppers.old.items))) result }
-    ensures runs { OnOk result (runs_above uppers.new.items ≡ runs_climb setup.now.page_size (bucket_limit limits.entry (length (runs_above uppers.old.items))) key.now (branch_view closed.entry) next.old (runs_above uppers.old.items)) }
-    ensures standing { OnOk result (AllByRecursion IsStanding (runs_above uppers.new.items)) }
-    ensures next { OnOk result (next.new ≡ runs_next setup.now.page_size key.now (branch_view closed.entry) next.old (runs_above uppers.old.items)) }
-    ensures within { OnOk result (next.new ≤ setup.now.limit) }
-    ensures large { IfErr result (λ e. e ≡ fault.TooLarge → setup.now.limit < runs_next setup.now.page_size key.now (branch_view closed.entry) next.old (runs_above uppers.old.items)) }
-{
-    let mut closed = closed;
-    for i in 0..uppers.len() {
-        match uppers[i].take_page(setup, key, closed, next, sink) {
-            Err(fault) => return Err(fault),
-            Ok(None) => return Ok(()),
-            Ok(Some(up)) => closed = up,
-        }
-    }
-    let mut run = BranchRun::new(setup.alloc, limits.at(uppers.len()));
-    run.push_page(closed)?;
-    if uppers.push(run).is_err() {
-        return Err(BulkFault::Memory);
-    }
-    Ok(())
-}
-
-/// Closes each run in turn, up to the root page, and returns the number of that page.
-pub(crate) fn close_all<'a, S: Sink>(
-    setup: &PageSetup,
-    closed: Branch<'a>,
-    uppers: &mut Vec<BranchRun<'a>>,
-    next: &mut u64,
-    sink: &mut S,
-) -> Result<u64, BulkFault>
-    requires standing { AllByRecursion IsStanding (runs_above uppers.old.items) }
-    requires closed { length closed.key.now ≤ 1073741824 }
-    requires next { next.old ≤ setup.now.limit }
-    ensures pages { Puts S.taken S.failed sink.old sink.new (placed_bytes setup.now.page_size (runs_close_put setup.now.page_size (branch_view closed.entry) next.old (runs_above uppers.old.items))) result }
-    ensures short { OnErr result (AppendsProperBeginning (S.taken sink.old) (S.taken sink.new) (placed_bytes setup.now.page_size (runs_close_put setup.now.page_size (branch_view closed.entry) next.old (runs_above uppers.old.items)))) }
-    ensures root { IfOk result (λ root. root ≡ runs_root setup.now.page_size (branch_view closed.entry) next.old (runs_above uppers.old.items)) }
-    ensures next { OnOk result (next.new ≡ runs_end_next setup.now.page_size (branch_view closed.entry) next.old (runs_above uppers.old.items)) }
-    ensures within { OnOk result (next.new ≤ setup.now.limit) }
-    ensures large { IfErr result (λ e. e ≡ fault.TooLarge → setup.now.limit < runs_end_next setup.now.page_size (branch_view closed.entry) next.old (runs_above uppers.old.items)) }
-{
-    let mut closed = closed;
-    for i in 0..uppers.len() {
-        match uppers[i].take_last_page(setup, closed, next, sink) {
-            Err(fault) => return Err(fault),
-            Ok(up) => closed = up,
-        }
-    }
-    Ok(closed.child)
 }

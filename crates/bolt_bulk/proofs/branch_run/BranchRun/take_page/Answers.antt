@@ -5,7 +5,7 @@ use Rattle.bolt_bulk.specs.Private.BranchRuns.{IsPushed, IsStanding, run_view}
 use Rattle.bolt_bulk.specs.Private.RunViews.{RunView, run_kept, run_stays}
 use Rattle.bolt_bulk.specs.Private.OpenRuns.{key_size}
 use Rattle.bolt_bulk.proofs.RunLemmas.{pushed, stays_standing}
-use Rattle.bolt_bulk.proofs.branch_runs.BranchRun.take_page.Goals as goal
+use Rattle.bolt_bulk.proofs.branch_run.BranchRun.take_page.Goals as goal
 
 pub returns-then-stays-clause-standing : goal.returns-then-stays-clause-standing
 returns-then-stays-clause-standing g c =

@@ -5,13 +5,14 @@ use Rattle.bolt_format.specs.ElementPlaces.{branch_view}
 use Rattle.bolt_bulk.specs.Private.BranchRuns.{IsStanding, runs_above}
 use Rattle.bolt_bulk.specs.Private.RowLimits.{bucket_limit}
 use Rattle.bolt_bulk.proofs.ClimbLemmas.{Climbing}
-use Rattle.bolt_bulk.proofs.branch_runs.climb.Given as goal
+use Rattle.bolt_bulk.proofs.upper_runs.UpperRuns.climb.Given as goal
 
 abbrev pub invariant-loop-i : goal.invariant-loop-i
 invariant-loop-i g l =
-    Climbing l.setup.page_size (bucket_limit l.limits (length (runs_above l.initial.uppers.items))) l.key (branch_view l.closed-2) l.initial.next (runs_above l.initial.uppers.items) g.S.Sink.taken g.S.Sink.failed l.initial.sink l.sink
-    (runs_above l.uppers.items) l.i (branch_view l.closed) l.next
-    × AllByRecursion IsStanding (runs_above l.uppers.items)
-    × (length l.uppers.items ≡ length l.initial.uppers.items)
+    Climbing l.setup.page_size (bucket_limit l.initial.self.limits (length (runs_above l.initial.self.runs.items))) l.key (branch_view l.closed-2) l.initial.next (runs_above l.initial.self.runs.items) g.S.Sink.taken g.S.Sink.failed l.initial.sink l.sink
+    (runs_above l.self.runs.items) l.i (branch_view l.closed) l.next
+    × AllByRecursion IsStanding (runs_above l.self.runs.items)
+    × (length l.self.runs.items ≡ length l.initial.self.runs.items)
     × (length l.closed.key.now ≤ 1073741824)
     × (l.next ≤ l.setup.limit)
+    × (l.self.limits ≡ l.initial.self.limits)

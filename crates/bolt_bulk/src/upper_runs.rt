@@ -1,0 +1,100 @@
+//! The open runs of pages above a bucket's leaves.
+ghost use Rattle.std.specs.Prelude.{◌≡◌, ◌<◌, ◌≤◌, [], IfErr, IfOk, OnErr, OnOk, length};
+ghost use Rattle.std.specs.List.{AllByRecursion};
+ghost use Rattle.bolt_format.specs.ElementPlaces.{branch_view};
+ghost use Rattle.bolt_format.specs.Sinks.{AppendsProperBeginning};
+ghost use Rattle.bolt_layout.specs.Layout.{placed_bytes};
+ghost use Rattle.bolt_bulk.specs.Private.BranchRuns.{IsStanding, runs_above, runs_end_next};
+ghost use Rattle.bolt_bulk.specs.Private.RowLimits.{bucket_limit};
+ghost use Rattle.bolt_bulk.specs.Private.RunViews.{runs_climb, runs_close_put, runs_next, runs_put, runs_root};
+ghost use Rattle.bolt_bulk.specs.Puts.{Puts};
+ghost use Rattle.bolt_bulk.specs.declared.fault.BulkFault.TheVariants as fault;
+
+use crate::branch_run::BranchRun;
+use crate::fault::BulkFault;
+use crate::limits::BucketLimits;
+use crate::page_setup::PageSetup;
+use bolt_format::{Branch, Sink};
+use std::alloc::Global;
+
+/// The open runs above the leaves of a bucket, the lowest first, and how many runs their rows may
+/// have.
+#[derive(Drop)]
+pub(crate) struct UpperRuns<'a> {
+    pub runs: Vec<BranchRun<'a>>,
+    pub limits: BucketLimits<'a>,
+}
+
+impl<'a> UpperRuns<'a> {
+    /// No run yet.
+    pub(crate) fn new(alloc: Global, limits: BucketLimits<'a>) -> UpperRuns<'a>
+        ensures runs { result.runs.items ≡ [] }
+        ensures limits { result.limits ≡ limits.entry }
+    {
+        UpperRuns {
+            runs: Vec::new(alloc),
+            limits,
+        }
+    }
+
+    /// A page has closed, and the next page has this first key. The lowest run takes the page that
+    /// has closed. If the next page doesn't join it, it closes too, and the run above it takes its
+    /// page; and so on. If all runs close, a run of the next level begins above them.
+    pub(crate) fn climb<S: Sink>(
+        &mut self,
+        setup: &PageSetup,
+        key: &[u8],
+        closed: Branch<'a>,
+        next: &mut u64,
+        sink: &mut S,
+    ) -> Result<(), BulkFault>
+        requires standing { AllByRecursion IsStanding (runs_above self.old.runs.items) }
+        requires key { length key.now ≤ 1073741824 }
+        requires closed { length closed.key.now ≤ 1073741824 }
+        requires next { next.old ≤ setup.now.limit }
+        ensures pages { Puts S.taken S.failed sink.old sink.new (placed_bytes setup.now.page_size (runs_put setup.now.page_size key.now (branch_view closed.entry) next.old (runs_above self.old.runs.items))) result }
+        ensures runs { OnOk result (runs_above self.new.runs.items ≡ runs_climb setup.now.page_size (bucket_limit self.old.limits (length (runs_above self.old.runs.items))) key.now (branch_view closed.entry) next.old (runs_above self.old.runs.items)) }
+        ensures limits { OnOk result (self.new.limits ≡ self.old.limits) }
+        ensures standing { OnOk result (AllByRecursion IsStanding (runs_above self.new.runs.items)) }
+        ensures next { OnOk result (next.new ≡ runs_next setup.now.page_size key.now (branch_view closed.entry) next.old (runs_above self.old.runs.items)) }
+        ensures within { OnOk result (next.new ≤ setup.now.limit) }
+        ensures large { IfErr result (λ e. e ≡ fault.TooLarge → setup.now.limit < runs_next setup.now.page_size key.now (branch_view closed.entry) next.old (runs_above self.old.runs.items)) }
+    {
+        let mut closed = closed;
+        for i in 0..self.runs.len() {
+            match self.runs[i].take_page(setup, key, closed, next, sink)? {
+                None => return Ok(()),
+                Some(up) => closed = up,
+            }
+        }
+        let mut run = BranchRun::new(setup.alloc, self.limits.at(self.runs.len()));
+        run.push_page(closed)?;
+        self.runs.push(run)?;
+        Ok(())
+    }
+
+    /// Closes each run in turn, up to the root page, and returns the number of that page.
+    pub(crate) fn close_all<S: Sink>(
+        &mut self,
+        setup: &PageSetup,
+        closed: Branch<'a>,
+        next: &mut u64,
+        sink: &mut S,
+    ) -> Result<u64, BulkFault>
+        requires standing { AllByRecursion IsStanding (runs_above self.old.runs.items) }
+        requires closed { length closed.key.now ≤ 1073741824 }
+        requires next { next.old ≤ setup.now.limit }
+        ensures pages { Puts S.taken S.failed sink.old sink.new (placed_bytes setup.now.page_size (runs_close_put setup.now.page_size (branch_view closed.entry) next.old (runs_above self.old.runs.items))) result }
+        ensures short { OnErr result (AppendsProperBeginning (S.taken sink.old) (S.taken sink.new) (placed_bytes setup.now.page_size (runs_close_put setup.now.page_size (branch_view closed.entry) next.old (runs_above self.old.runs.items)))) }
+        ensures root { IfOk result (λ root. root ≡ runs_root setup.now.page_size (branch_view closed.entry) next.old (runs_above self.old.runs.items)) }
+        ensures next { OnOk result (next.new ≡ runs_end_next setup.now.page_size (branch_view closed.entry) next.old (runs_above self.old.runs.items)) }
+        ensures within { OnOk result (next.new ≤ setup.now.limit) }
+        ensures large { IfErr result (λ e. e ≡ fault.TooLarge → setup.now.limit < runs_end_next setup.now.page_size (branch_view closed.entry) next.old (runs_above self.old.runs.items)) }
+    {
+        let mut closed = closed;
+        for i in 0..self.runs.len() {
+            closed = self.runs[i].take_last_page(setup, closed, next, sink)?;
+        }
+        Ok(closed.child)
+    }
+}
