@@ -72,6 +72,12 @@ WAYS = {
 }
 
 
+def handed_over(verb, words):
+    """The words of a call as the program gets them."""
+    ways = WAYS.get(verb, (bytes_of,))
+    return [ways[min(i, len(ways) - 1)](word) for i, word in enumerate(words)]
+
+
 class Bench:
     """The file of the next test cases, another one that is kept, and how many test cases held and didn't."""
 
@@ -113,8 +119,7 @@ class Bench:
         if verb in ("cuts", "changes"):
             bounds, *line = words
             return self.run(self.calls, verb, "FILE", *bounds.split("-"), *(bytes_of(word) for word in line))
-        ways = WAYS.get(verb, (bytes_of,))
-        return self.run(self.calls, verb, "FILE", *(ways[min(i, len(ways) - 1)](word) for i, word in enumerate(words)))
+        return self.run(self.calls, verb, "FILE", *handed_over(verb, words))
 
     def compare(self, result, wanted):
         out, err, status, copy = result

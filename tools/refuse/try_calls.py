@@ -16,7 +16,7 @@ import tempfile
 from collections import Counter
 
 from draft import make
-from run_rows import WAYS
+from run_rows import handed_over
 from words import halves
 
 SECONDS = 60
@@ -68,8 +68,7 @@ def try_block(calls, library, folder, block):
             it.write(make("\n".join(lines)))
     if verb not in ENDS:
         return True
-    ways = WAYS[verb]
-    words = [ways[min(i, len(ways) - 1)](word) for i, word in enumerate(words.split())]
+    words = handed_over(verb, words.split())
     said = outcomes_of(calls, library, folder, [verb, "FILE", *words])
     ends = ", ".join(f"{count} {it.decode().strip() or 'the full result'}" for it, count in Counter(said).items())
     print(f"{head}: {len(said)} requests: {ends}", flush=True)
