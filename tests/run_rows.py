@@ -134,7 +134,7 @@ class Bench:
     def try_block(self, block):
         try:
             self.take(block)
-        except (Differs, Unread, ValueError, KeyError, IndexError) as fault:
+        except (Differs, Unread, subprocess.TimeoutExpired, ValueError, KeyError, IndexError) as fault:
             self.failed += 1
             print(f"{type(fault).__name__}: {block}\n{fault!s:.1000}\n")
 
