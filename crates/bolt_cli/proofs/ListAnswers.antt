@@ -1,5 +1,5 @@
 -- The answer of `list`.
-use Rattle.std.proofs.Common.{◌≡◌, ◌∙◌, ◌⊎◌, ℕ, Bool, true, List, [], Option, Result, Ok, Err, ap, inl, inr, refl, subst, subst₂, sym}
+use Rattle.std.proofs.Common.{◌≡◌, ◌⊎◌, ℕ, Bool, true, List, [], Option, Result, Ok, Err, ap, inl, subst, sym}
 use Rattle.std.specs.Prelude.{if◌then◌else◌}
 use Rattle.std.proofs.Math.Logic.{∥∥₁_elim}
 use Rattle.std.proofs.Props.{props}
@@ -21,7 +21,7 @@ use Rattle.bolt_report.specs.declared.form.ListForm.{ListForm}
 use Rattle.bolt_cli.specs.Answers.{Answer, Does, Ending, IsListAnswer, LeadsTo, part_ending, part_text, refused}
 use Rattle.bolt_cli.specs.Failures.{reported}
 use Rattle.bolt_cli.specs.declared.failure.Failure.TheVariants as failure
-use Rattle.bolt_cli.proofs.CutTexts.{cut, ended_stopped, ended_whole}
+use Rattle.bolt_cli.proofs.CutTexts.{ended_stopped, ended_whole}
 use Rattle.bolt_cli.proofs.ListedBuckets.{has_named, none_named}
 
 -- what is answered if the listing has the bucket at the path or, by `found`, hasn't
@@ -44,28 +44,23 @@ module _ (file : List ℕ) (checked : Checked) (form : ListForm) (path from : Pa
   abbrev own_ending : Ending
   own_ending = part_ending path own_listing.0 (Ok 0)
 
-  -- before the first line
-  pub nothing_listed : IsListAnswer file form path from (meta_of checked) (cut [])
-  nothing_listed = (own_listing.0, own_listing.1, inr ([], own_text, refl, refl))
-
   -- the path leads to no bucket
   pub no_bucket_listed : ((bucket : Start) → LeadsTo (bytes_of checked) (meta_of checked) path bucket → ⊥) → IsListAnswer file form path from (meta_of checked) (refused failure.NoBucket)
   no_bucket_listed nowhere =
       let none = none_named file (meta_of checked) own_listing.0 own_listing.1 path (λ bucket leads. nowhere bucket (subst (λ (f : List ℕ). LeadsTo f (meta_of checked) path bucket) (sym same) leads)) in
       (own_listing.0, own_listing.1, inl (ap (answer_by form path from own_listing.0 (Ok 0)) (sym none)))
 
-  module _ (bucket : Start) (leads : ∥ LeadsTo (bytes_of checked) (meta_of checked) path bucket ∥₁) (shown_path shown_from : Path) (is_path : shown_path ≡ path) (is_from : shown_from ≡ from) where
+  module _ (bucket : Start) (leads : ∥ LeadsTo (bytes_of checked) (meta_of checked) path bucket ∥₁) where
     is_there : has_bucket path own_listing.0 ≡ true
     is_there = ∥∥₁_elim leads (hlevel props) (λ led. has_named file (meta_of checked) own_listing.0 own_listing.1 path bucket (subst (λ (f : List ℕ). LeadsTo f (meta_of checked) path bucket) same led))
 
     abbrev Written : {S A : Type 0} → (taken : S → Option (List ℕ)) (failed : S → ℕ) (old new : S) → Result A ReportFault → Type 0
-    Written {A = A} taken failed old new result = ForListing checked (λ listing. Reports {A = A} taken failed old new (listing_lines form (rest_from shown_from (part_below shown_path listing))) result)
+    Written {A = A} taken failed old new result = ForListing checked (λ listing. Reports {A = A} taken failed old new (listing_lines form (rest_from from (part_below path listing))) result)
 
     text_put : {S A : Type 0} {taken : S → Option (List ℕ)} {failed : S → ℕ} (old new : S) (result : Result A ReportFault) → Written {A = A} taken failed old new result → Reports {A = A} taken failed old new own_text result
     text_put {A = A} {taken = taken} {failed = failed} old new result written =
         let here = written own_listing.0 (subst (λ (f : List ℕ). IsListing f (meta_of checked) own_listing.0) (sym same) own_listing.1) in
-        subst (λ (b : Bool). Reports {A = A} taken failed old new (answer_by form path from own_listing.0 (Ok 0) b).out result) (sym is_there)
-        (subst₂ (λ (p q : Path). Reports {A = A} taken failed old new (listing_lines form (rest_from q (part_below p own_listing.0))) result) is_path is_from here)
+        subst (λ (b : Bool). Reports {A = A} taken failed old new (answer_by form path from own_listing.0 (Ok 0) b).out result) (sym is_there) here
 
     pub list_stopped : {S A : Type 0} {taken : S → Option (List ℕ)} {failed : S → ℕ} (old new : S) (e : ReportFault) (result : Ending)
         → Written {A = A} taken failed old new (Err e)

@@ -1,5 +1,6 @@
 -- What is known of a file that is read, under whatever meta.
-use Rattle.std.proofs.Common.{ℕ, List, Option, Some, None, ap, inl, inr, subst, sym}
+use Rattle.std.proofs.Common.{◌≡◌, ℕ, List, Option, Some, None, Ok, Err, ap, inl, inr, refl, subst, sym}
+use Rattle.std.specs.Result.{IsErrAnd}
 use Rattle.std.proofs.Math.Logic.{∥∥₁_elim}
 use Rattle.std.proofs.Props.{props}
 use Rattle.bolt_check.specs.CheckedFiles.{meta_of}
@@ -11,8 +12,9 @@ use Rattle.bolt_format.specs.declared.meta.Meta.{Meta}
 use Rattle.bolt_format.specs.declared.meta.Slot.{Slot}
 use Rattle.bolt_check.specs.declared.fault.CheckFault.{CheckFault}
 use Rattle.bolt_check.specs.declared.fault.CheckFault.TheVariants as check
-use Rattle.bolt_cli.specs.Answers.{IsReadUnder, IsRecoveredUnder, IsUnrecoverableUnder}
-use Rattle.bolt_cli.specs.Failures.{HasFinding}
+use Rattle.bolt_cli.specs.Answers.{Ending, IsReadUnder, IsRefusedUnder, IsUnrecoverableUnder}
+use Rattle.bolt_cli.specs.Failures.{HasFinding, IsFailureOf}
+use Rattle.bolt_cli.specs.declared.failure.Failure.{Failure}
 
 pub read_trees : (file : List ℕ) (slot : Option Slot) (meta : Meta) → IsReadUnder file slot meta → HasSoundTrees file meta
 read_trees file None meta (slot, chosen, sound) = sound.trees
@@ -32,7 +34,14 @@ pub checked_page_size : (checked : Checked) → IsPageSize (meta_of checked).pag
 unfolding meta_of
 checked_page_size checked = ∥∥₁_elim checked.sound (hlevel props) (λ sound. slot_page_size checked.bytes.now sound.slot checked.meta sound.valid)
 
--- ---- why nothing is recovered
+-- ---- why the file is refused, or nothing of it is recovered
+
+pub unread_finding : (file : List ℕ) (slot : Option Slot) (fault : CheckFault) → IsRefusedUnder file slot fault → HasFinding fault
+unread_finding file slot (check.Open fault) is = tt
+unread_finding file slot (check.Structure x) is = tt
+unread_finding file None (check.Accounts findings) (slot, meta, chosen, trees, wrong, are, some) = some
+unread_finding file (Some slot) (check.Accounts findings) is = absurd is
+unread_finding file slot check.Memory is = tt
 
 pub unrecoverable_finding : (file : List ℕ) (slot : Option Slot) (fault : CheckFault) → IsUnrecoverableUnder file slot fault → HasFinding fault
 unrecoverable_finding file slot (check.Open fault) is = tt
@@ -40,3 +49,9 @@ unrecoverable_finding file slot (check.Structure x) is = tt
 unrecoverable_finding file None (check.Accounts findings) is = absurd is
 unrecoverable_finding file (Some slot) (check.Accounts findings) is = absurd is
 unrecoverable_finding file slot check.Memory is = tt
+
+-- only the first finding is reported
+pub failure_named : (fault : CheckFault) (ending : Ending) → HasFinding fault → IsErrAnd ending (λ said. HasFinding fault → IsFailureOf fault said)
+    → (failure : Failure) × IsFailureOf fault failure × (ending ≡ Err failure)
+failure_named fault (Ok x) has names = absurd names
+failure_named fault (Err said) has names = (said, names has, refl)

@@ -1,5 +1,5 @@
 -- What is answered of the sizes of the buckets in the bucket at a path.
-use Rattle.std.proofs.Common.{◌⊎◌, ◌≡◌, ℕ, Err, List, Ok, Option, Result, ap, inl, inr, refl, subst, sym}
+use Rattle.std.proofs.Common.{◌⊎◌, ◌≡◌, ℕ, Err, List, Ok, Option, Result, ap, inl, inr, subst, sym}
 use Rattle.std.specs.Result.{IsErrAnd}
 use Rattle.bolt_check.specs.CheckedFiles.{bytes_of, meta_of}
 use Rattle.bolt_check.specs.Sound.{HasSoundTrees}

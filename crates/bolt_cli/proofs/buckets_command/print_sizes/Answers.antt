@@ -1,11 +1,10 @@
-use Rattle.bolt_cli.specs.Answers.{refused}
 use Rattle.bolt_cli.specs.PlainWords.{path_in}
-use Rattle.bolt_cli.proofs.Doing.{Does-refused}
+use Rattle.bolt_cli.proofs.Doing.{Does-unread}
 use Rattle.bolt_cli.proofs.SizesAnswers.{sizes_missing, sizes_stopped, sizes_whole}
 use Rattle.bolt_cli.proofs.buckets_command.print_sizes.Goals as goal
 
 pub returns-in_err-checked : goal.returns-in_err-checked
-returns-in_err-checked g c = Does-refused g.O.Sink.taken g.O.Sink.failed c.args.out.now _ _ c.in_err-checked.ensures.refused c.from_residual.ensures.1
+returns-in_err-checked g c = Does-unread g.O.Sink.taken g.O.Sink.failed c.args.out.now c.args.file.now c.args.slot c.in_err-checked.field-0.0 _ c.in_err-checked.ensures.refused c.from_residual.ensures.1
 
 pub returns-in_err-bucket : goal.returns-in_err-bucket
 returns-in_err-bucket g c =

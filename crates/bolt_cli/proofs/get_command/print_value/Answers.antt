@@ -5,13 +5,13 @@ use Rattle.bolt_tree.specs.Entries.{Value}
 use Rattle.bolt_cli.specs.Answers.{IsGetAnswer, done, refused, value_shown}
 use Rattle.bolt_cli.specs.PlainWords.{path_in}
 use Rattle.bolt_cli.proofs.AtPaths.{held_at}
-use Rattle.bolt_cli.proofs.Doing.{Does-nothing, Does-refused, Does-whole}
+use Rattle.bolt_cli.proofs.Doing.{Does-nothing, Does-unread, Does-whole}
 use Rattle.bolt_cli.proofs.ShownTexts.{shown_stopped}
 use Rattle.bolt_cli.proofs.ReadFiles.{read_trees}
 use Rattle.bolt_cli.proofs.get_command.print_value.Goals as goal
 
 pub returns-in_err-checked : goal.returns-in_err-checked
-returns-in_err-checked g c = Does-refused g.O.Sink.taken g.O.Sink.failed c.args.out.now _ _ c.in_err-checked.ensures.refused c.from_residual.ensures.1
+returns-in_err-checked g c = Does-unread g.O.Sink.taken g.O.Sink.failed c.args.out.now c.args.file.now c.args.slot c.in_err-checked.field-0.0 _ c.in_err-checked.ensures.refused c.from_residual.ensures.1
 
 pub returns-in_err-value : goal.returns-in_err-value
 returns-in_err-value g c =

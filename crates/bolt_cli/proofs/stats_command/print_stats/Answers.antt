@@ -3,12 +3,12 @@ use Rattle.bolt_check.specs.CheckedFiles.{meta_of}
 use Rattle.bolt_report.specs.Figures.{stats_text}
 use Rattle.bolt_cli.specs.Answers.{IsStatsAnswer, done, refused}
 use Rattle.bolt_cli.specs.PlainWords.{path_in}
-use Rattle.bolt_cli.proofs.Doing.{Does-nothing, Does-part, Does-refused, Does-whole}
+use Rattle.bolt_cli.proofs.Doing.{Does-nothing, Does-part, Does-unread, Does-whole}
 use Rattle.bolt_cli.proofs.StatsAnswers.{figures_missing}
 use Rattle.bolt_cli.proofs.stats_command.print_stats.Goals as goal
 
 pub returns-in_err-checked : goal.returns-in_err-checked
-returns-in_err-checked g c = Does-refused g.O.Sink.taken g.O.Sink.failed c.args.out.now _ _ c.in_err-checked.ensures.refused c.from_residual.ensures.1
+returns-in_err-checked g c = Does-unread g.O.Sink.taken g.O.Sink.failed c.args.out.now c.args.file.now c.args.slot c.in_err-checked.field-0.0 _ c.in_err-checked.ensures.refused c.from_residual.ensures.1
 
 pub returns-in_err-figures : goal.returns-in_err-figures
 returns-in_err-figures g c =
