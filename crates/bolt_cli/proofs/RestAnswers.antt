@@ -19,7 +19,7 @@ use Rattle.bolt_report.specs.declared.form.ListForm.{ListForm}
 use Rattle.bolt_cli.specs.Answers.{Answer, Does, Ending, IsRecoveredList, lost_ending, part_ending, part_text}
 use Rattle.bolt_cli.specs.Failures.{reported}
 use Rattle.bolt_cli.specs.declared.failure.Failure.TheVariants as failure
-use Rattle.bolt_cli.proofs.CutTexts.{ended_stopped, ended_whole}
+use Rattle.bolt_cli.proofs.CutTexts.{ended_put}
 
 module _ (file : List ℕ) (meta : Meta) (form : ListForm) (path from : Path) where
   recovered : (listing : List Member) × IsRecovered file meta listing
@@ -53,7 +53,7 @@ module _ (file : List ℕ) (meta : Meta) (form : ListForm) (path from : Path) wh
         → RestAnswer taken failed old new result
     rest_stopped {A = A} {taken = taken} {failed = failed} old new e result put fault memory said =
         let stop : Result A ReportFault = Err e in
-        let (answer, is, does) = ended_stopped {A = A} old new rest_text rest_ending e result (of_all (λ ms. Reports taken failed old new (part_text form path from ms) stop) put) fault memory said in
+        let (answer, is, does) = ended_put old new rest_text rest_ending stop result (of_all (λ ms. Reports taken failed old new (part_text form path from ms) stop) put) fault memory said in
         (answer, (recovered.0, lost.0, recovered.1, lost.1, is), does)
 
     -- whether the bucket was found
@@ -64,9 +64,9 @@ module _ (file : List ℕ) (meta : Meta) (form : ListForm) (path from : Path) wh
         → result ≡ (if found then lost_ending lost.0 else Err failure.NoBucket) → RestAnswer taken failed old new result
     rest_whole {taken = taken} {failed = failed} old new found result put said ends =
         let whole : Result Bool ReportFault = Ok found in
-        let (answer, is, does) = ended_whole old new rest_text rest_ending found (of_all (λ ms. Reports taken failed old new (part_text form path from ms) whole) put) in
         let own = ap (λ (b : Bool). if b then lost_ending lost.0 else Err failure.NoBucket) (of_all (λ ms. found ≡ has_bucket path ms) said) in
-        (answer, (recovered.0, lost.0, recovered.1, lost.1, is), subst (Does taken failed old new answer) (sym (ends ∙ own)) does)
+        let (answer, is, does) = ended_put old new rest_text rest_ending whole result (of_all (λ ms. Reports taken failed old new (part_text form path from ms) whole) put) tt tt (ends ∙ own) in
+        (answer, (recovered.0, lost.0, recovered.1, lost.1, is), does)
 
     pub rest_missing : {S : Type 0} {taken : S → Option (List ℕ)} {failed : S → ℕ} (old new : S) (found : Bool) → Written taken failed old new (Ok found) → Found found → found ≡ false
         → RestAnswer taken failed old new (Err failure.NoBucket)

@@ -6,7 +6,7 @@ use Rattle.bolt_cli.specs.Answers.{IsGetAnswer, done, refused, value_shown}
 use Rattle.bolt_cli.specs.PlainWords.{path_in}
 use Rattle.bolt_cli.proofs.AtPaths.{held_at}
 use Rattle.bolt_cli.proofs.Doing.{Does-nothing, Does-unread, Does-whole}
-use Rattle.bolt_cli.proofs.ShownTexts.{shown_stopped}
+use Rattle.bolt_cli.proofs.ShownTexts.{shown_put}
 use Rattle.bolt_cli.proofs.ReadFiles.{read_trees}
 use Rattle.bolt_cli.proofs.get_command.print_value.Goals as goal
 
@@ -36,7 +36,7 @@ returns-in_err-put_value g c =
     let path = path_in c.args.wanted.now.path.now in
     let value = c.in_ok-value.value.now in
     let held = held_at checked path (Value value) (subst (λ (file : List _). HasSoundTrees file (meta_of checked)) (sym bytes) (read_trees c.args.file.now c.args.slot (meta_of checked) under)) c.in_ok-value.ensures.held in
-    let (answer, shown, does) = shown_stopped c.args.wanted.now.form c.args.out.now c.put_value.new.out (value_shown c.args.wanted.now.no_newline c.args.wanted.now.form value) _ _ c.in_err-put_value.ensures.written c.in_err-put_value.ensures.fault c.in_err-put_value.ensures.memory c.from_residual-in_err-put_value.ensures.1 in (
+    let (answer, shown, does) = shown_put c.args.wanted.now.form c.args.out.now c.put_value.new.out (value_shown c.args.wanted.now.no_newline c.args.wanted.now.form value) _ _ c.in_err-put_value.ensures.written c.in_err-put_value.ensures.fault c.in_err-put_value.ensures.memory c.from_residual-in_err-put_value.ensures.1 in (
       answer,
       inl (meta_of checked, under, subst (λ (file : List _). IsGetAnswer file path c.args.wanted.now.form c.args.wanted.now.no_newline (meta_of checked) answer) bytes (inl (value, held, shown))),
       does,

@@ -1,4 +1,4 @@
-use Rattle.std.proofs.Common.{◌≡◌, inl, subst}
+use Rattle.std.proofs.Common.{◌≡◌, inl, refl, subst}
 use Rattle.std.specs.Result.{IsErrAnd}
 use Rattle.bolt_check.specs.CheckedFiles.{meta_of}
 use Rattle.bolt_tree.specs.Buckets.{bucket_start}
@@ -7,7 +7,7 @@ use Rattle.bolt_cli.specs.PlainWords.{path_in}
 use Rattle.bolt_cli.specs.declared.failure.Failure.{Failure}
 use Rattle.bolt_cli.specs.declared.failure.Failure.TheVariants as failure
 use Rattle.bolt_cli.proofs.Doing.{Does-nothing, Does-unread}
-use Rattle.bolt_cli.proofs.ListAnswers.{list_stopped, list_whole, no_bucket_listed}
+use Rattle.bolt_cli.proofs.ListAnswers.{list_put, no_bucket_listed}
 use Rattle.bolt_cli.proofs.ReadFiles.{read_trees}
 use Rattle.bolt_cli.proofs.list_command.print_sound.Goals as goal
 
@@ -32,7 +32,7 @@ returns-in_err-put_part g c =
     let under = c.in_ok-checked.ensures.sound in
     let wanted = c.args.wanted.now in
     let failed = c.in_err-put_part.ensures in
-    let (answer, listed, does) = list_stopped c.args.file.now checked wanted.form (path_in wanted.path.now) (path_in wanted.from.now) c.in_ok-checked.ensures.bytes (read_trees c.args.file.now c.args.slot (meta_of checked) under)
+    let (answer, listed, does) = list_put c.args.file.now checked wanted.form (path_in wanted.path.now) (path_in wanted.from.now) c.in_ok-checked.ensures.bytes (read_trees c.args.file.now c.args.slot (meta_of checked) under)
     (bucket_start c.in_ok-open_bucket.field-0) c.in_ok-open_bucket.ensures.named c.args.out.now c.put_part.new.out _ _ failed.written failed.fault failed.memory c.from_residual-in_err-put_part.ensures.1 in
     (answer, inl (meta_of checked, under, listed), does)
 
@@ -41,6 +41,6 @@ returns g c =
     let checked = c.in_ok-checked.checked in
     let under = c.in_ok-checked.ensures.sound in
     let wanted = c.args.wanted.now in
-    let (answer, listed, does) = list_whole c.args.file.now checked wanted.form (path_in wanted.path.now) (path_in wanted.from.now) c.in_ok-checked.ensures.bytes (read_trees c.args.file.now c.args.slot (meta_of checked) under)
-    (bucket_start c.in_ok-open_bucket.field-0) c.in_ok-open_bucket.ensures.named c.args.out.now c.put_part.new.out _ c.in_ok-put_part.ensures.written in
+    let (answer, listed, does) = list_put c.args.file.now checked wanted.form (path_in wanted.path.now) (path_in wanted.from.now) c.in_ok-checked.ensures.bytes (read_trees c.args.file.now c.args.slot (meta_of checked) under)
+    (bucket_start c.in_ok-open_bucket.field-0) c.in_ok-open_bucket.ensures.named c.args.out.now c.put_part.new.out _ _ c.in_ok-put_part.ensures.written tt tt refl in
     (answer, inl (meta_of checked, under, listed), does)
