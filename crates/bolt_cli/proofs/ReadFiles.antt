@@ -3,7 +3,7 @@ use Rattle.std.proofs.Common.{◌≡◌, ℕ, List, Option, Some, None, Ok, Err,
 use Rattle.std.specs.Result.{IsErrAnd}
 use Rattle.std.proofs.Math.Logic.{∥∥₁_elim}
 use Rattle.std.proofs.Props.{props}
-use Rattle.bolt_check.specs.CheckedFiles.{meta_of}
+use Rattle.bolt_check.specs.CheckedFiles.{bytes_of, meta_of}
 use Rattle.bolt_check.specs.declared.checked_file.Checked.{Checked}
 use Rattle.bolt_format.specs.Metas.{IsInSlot, IsMeta, IsPageSize}
 use Rattle.bolt_format.specs.declared.meta.Slot.TheVariants.{One, Zero}
@@ -12,13 +12,21 @@ use Rattle.bolt_format.specs.declared.meta.Meta.{Meta}
 use Rattle.bolt_format.specs.declared.meta.Slot.{Slot}
 use Rattle.bolt_check.specs.declared.fault.CheckFault.{CheckFault}
 use Rattle.bolt_check.specs.declared.fault.CheckFault.TheVariants as check
-use Rattle.bolt_cli.specs.Answers.{Ending, IsReadUnder, IsRefusedUnder, IsUnrecoverableUnder}
+use Rattle.bolt_cli.specs.Answers.{Answer, Ending, IsReadAnswer, IsReadUnder, IsRefusedUnder, IsUnrecoverableUnder}
 use Rattle.bolt_cli.specs.Failures.{HasFinding, IsFailureOf}
 use Rattle.bolt_cli.specs.declared.failure.Failure.{Failure}
 
 pub read_trees : (file : List ℕ) (slot : Option Slot) (meta : Meta) → IsReadUnder file slot meta → HasSoundTrees file meta
 read_trees file None meta (slot, chosen, sound) = sound.trees
 read_trees file (Some slot) meta (valid, trees) = trees
+
+pub own_trees : (file : List ℕ) (slot : Option Slot) (checked : Checked) → bytes_of checked ≡ file → IsReadUnder file slot (meta_of checked) → HasSoundTrees (bytes_of checked) (meta_of checked)
+own_trees file slot checked same under = subst (λ (f : List ℕ). HasSoundTrees f (meta_of checked)) (sym same) (read_trees file slot (meta_of checked) under)
+
+-- what is answered of its bytes is answered of the file
+pub of_read : (IsAnswer : List ℕ → Meta → Answer → Type 0) (file : List ℕ) (slot : Option Slot) (checked : Checked) → bytes_of checked ≡ file → IsReadUnder file slot (meta_of checked)
+    → (answer : Answer) → IsAnswer (bytes_of checked) (meta_of checked) answer → IsReadAnswer file slot (IsAnswer file) answer
+of_read IsAnswer file slot checked same under answer said = inl (meta_of checked, under, subst (λ (f : List ℕ). IsAnswer f (meta_of checked) answer) same said)
 
 -- ---- the page size
 

@@ -23,14 +23,14 @@ use Rattle.bolt_cli.specs.declared.failure.Failure.TheVariants as failure
 use Rattle.bolt_cli.proofs.AtPaths.{at_path}
 use Rattle.bolt_cli.proofs.CutTexts.{EndsAfter, ended_put}
 use Rattle.bolt_cli.proofs.Doing.{Does-nothing}
-use Rattle.bolt_cli.proofs.ReadFiles.{read_trees}
+use Rattle.bolt_cli.proofs.ReadFiles.{of_read, own_trees}
 
 module _ (file : List ℕ) (slot : Option Slot) (path : Path) (form : Form) (checked : Checked) (same : bytes_of checked ≡ file) (under : IsReadUnder file slot (meta_of checked)) where
   abbrev SizesAnswer : {S : Type 0} → (taken : S → Option (List ℕ)) (failed : S → ℕ) (old new : S) → Ending → Type 0
   SizesAnswer taken failed old new ending = (answer : Answer) × IsReadAnswer file slot (IsSizesAnswer file path form) answer × Does taken failed old new answer ending
 
   of_file : (answer : Answer) → IsSizesAnswer (bytes_of checked) path form (meta_of checked) answer → IsReadAnswer file slot (IsSizesAnswer file path form) answer
-  of_file answer said = inl (meta_of checked, under, subst (λ (f : List ℕ). IsSizesAnswer f path form (meta_of checked) answer) same said)
+  of_file answer said = of_read (λ (f : List ℕ). IsSizesAnswer f path form) file slot checked same under answer said
 
   -- the path leads to no bucket
   pub sizes_missing : {S : Type 0} (taken : S → Option (List ℕ)) (failed : S → ℕ) (out : S) (said : Failure) (result : Ending)
@@ -39,7 +39,7 @@ module _ (file : List ℕ) (slot : Option Slot) (path : Path) (form : Form) (che
   sizes_missing taken failed out said result (is, nowhere) ends = (refused said, of_file (refused said) (inr (nowhere, ap refused is)), Does-nothing taken failed out said result ends)
 
   trees : HasSoundTrees (bytes_of checked) (meta_of checked)
-  trees = subst (λ (f : List ℕ). HasSoundTrees f (meta_of checked)) (sym same) (read_trees file slot (meta_of checked) under)
+  trees = own_trees file slot checked same under
 
   -- the sizes of the entries at the path
   own_sizes : (start : Start) (entries : List LeafElement) → LeadsTo (bytes_of checked) (meta_of checked) path start → AreEntries (IsEntry (bytes_of checked) (meta_of checked)) start entries
