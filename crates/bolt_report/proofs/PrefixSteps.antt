@@ -174,11 +174,6 @@ module _ (b : BucketView) (first : ℕ) (prefix : Key) (entries : List LeafEleme
   }
 
   module _ (opened : ℕ) (place : Place) (done : List LeafElement) where
-    -- it shows an entry
-    pub shown_first : (v : EntryView) → Stage b first prefix entries opened place (Some v) done
-        → (e : LeafElement) × (n : ℕ) × (v ≡ entry_view e) × (place ≡ On n) × (drop n entries ≡ e ∷ drop (suc n) entries)
-    shown_first v stage = let (e, shown, on, rest) = stage.stands in (e, stage.n, shown, on, rest)
-
     one_more : (e : LeafElement) → length (done ++ e ∷ []) ≡ suc (length done)
     one_more e = let l = length-append done (e ∷ []) in omega (arith, l)
 
