@@ -4,7 +4,7 @@ use Rattle.std.proofs.lemmas.Bool.{eq-eqb, ne_eqb}
 use Rattle.bolt_format.specs.declared.meta.Meta.{Meta}
 use Rattle.bolt_check.specs.Accounts.{IsFree, IsInFreelist, IsInUse}
 use Rattle.bolt_check.specs.Nodes.{IsInSpan, Node, Nodes, node_at}
-use Rattle.bolt_check.specs.Roles.{HasRole}
+use Rattle.bolt_check.specs.Roles.{HasRole, IsFirstPage}
 use Rattle.bolt_check.specs.Sound.{HasRightAccounts, HasSoundTrees, IsUsed}
 use Rattle.bolt_check.specs.Ways.{At_page, PageSpot, Reach, SpanHas, Spot, reached}
 use Rattle.bolt_check.specs.declared.role.Role.{Role}
@@ -43,26 +43,21 @@ module _ (file : List ℕ) (meta : Meta) (trees : HasSoundTrees file meta) (righ
     in_list : IsInFreelist file meta n → r ≡ list_role meta.freelist n → Place n r
     unused : IsFree meta.high_water (IsInUse file meta (IsUsed file meta)) n → r ≡ role.Free → Place n r
 
+  first_page : (n : ℕ) (is_leaf : Bool) → IsFirstPage nodes reach is_leaf n → Place n (first_role is_leaf)
+  first_page n is_leaf h = on_way (record {
+    way = h.way;
+    spot = h.spot;
+    node = h.node;
+    leads = h.leads;
+    page = h.page;
+    within = (let e = h.number in omega (arith, e), let e = h.number in omega (arith, e));
+    role = rw (eq-eqb n h.spot.number h.number, h.kind) refl;
+  })
+
   place_of : (n : ℕ) (r : Role) → HasRole file meta n r → Place n r
   place_of n role.Meta h = at_meta h refl
-  place_of n role.Branch h = on_way (record {
-    way = h.way;
-    spot = h.spot;
-    node = h.node;
-    leads = h.leads;
-    page = h.page;
-    within = (let e = h.number in omega (arith, e), let e = h.number in omega (arith, e));
-    role = rw (eq-eqb n h.spot.number h.number, h.kind) refl;
-  })
-  place_of n role.Leaf h = on_way (record {
-    way = h.way;
-    spot = h.spot;
-    node = h.node;
-    leads = h.leads;
-    page = h.page;
-    within = (let e = h.number in omega (arith, e), let e = h.number in omega (arith, e));
-    role = rw (eq-eqb n h.spot.number h.number, h.kind) refl;
-  })
+  place_of n role.Branch h = first_page n false h
+  place_of n role.Leaf h = first_page n true h
   place_of n role.Freelist h = in_list h.0 (rw (eq-eqb n meta.freelist h.1) refl)
   place_of n role.Inside (inl h) = on_way (record {
     way = h.way;

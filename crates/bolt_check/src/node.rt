@@ -19,10 +19,7 @@ pub(crate) fn open<'a>(file: &'a [u8], meta: &Meta, id: u64) -> Result<TreePage<
     ensures page { IfOk result (λ node. page_at file.now meta.now id ≡ Some (shown node.page)) }
     ensures within { IfOk result (λ node. IsInFile file.now meta.now id (shown node.page)) }
 {
-    let page = match page(file, meta, id) {
-        Ok(page) => page,
-        Err(fault) => return Err(fault.number),
-    };
+    let page = page(file, meta, id).map_err(|fault| fault.number)?;
     match page.kind() {
         Kind::Branch => Ok(TreePage {
             is_leaf: false,

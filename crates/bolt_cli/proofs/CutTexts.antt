@@ -1,5 +1,5 @@
 -- The answer of a job that may run out of memory on its way, whether its text was written whole or not.
-use Rattle.std.proofs.Common.{◌≡◌, ◌∙◌, ◌⊎◌, ℕ, List, Option, Ok, Err, inl, inr, ap, refl}
+use Rattle.std.proofs.Common.{◌≡◌, ◌∙◌, ◌⊎◌, ℕ, IfErr, List, Option, Ok, Err, Result, inl, inr, ap, refl}
 use Rattle.std.specs.Result.{IsErrAnd}
 use Rattle.bolt_report.specs.Reports.{Reports}
 use Rattle.bolt_report.specs.declared.fault.ReportFault.{ReportFault}
@@ -7,45 +7,32 @@ use Rattle.bolt_report.specs.declared.fault.ReportFault.TheVariants as report
 use Rattle.bolt_cli.specs.Answers.{Answer, Does, Ending, IsEndedOrCut}
 use Rattle.bolt_cli.specs.Failures.{reported}
 use Rattle.bolt_cli.specs.declared.failure.Failure.TheVariants as failure
-use Rattle.bolt_cli.proofs.Doing.{Does-part, Does-whole}
+use Rattle.bolt_cli.proofs.Doing.{Does-part}
 
 -- an answer that a text is put for, after which the job ends as it is to
 abbrev pub DoesEnded : {S : Type 0} → (taken : S → Option (List ℕ)) (failed : S → ℕ) (old new : S) → List ℕ → (wanted ending : Ending) → Type 0
 DoesEnded taken failed old new text wanted ending = (answer : Answer) × IsEndedOrCut text wanted answer × Does taken failed old new answer ending
 
--- or with status 0
-abbrev pub DoesText : {S : Type 0} → (taken : S → Option (List ℕ)) (failed : S → ℕ) (old new : S) → List ℕ → Ending → Type 0
-DoesText taken failed old new text ending = DoesEnded taken failed old new text (Ok 0) ending
+-- how a job ends that put a text: as it is to, or with the fault
+abbrev pub EndsAfter : {A : Type 0} → Result A ReportFault → (wanted ending : Ending) → Type 0
+EndsAfter (Ok x) wanted ending = ending ≡ wanted
+EndsAfter (Err e) wanted ending = IsErrAnd ending (λ failure. failure ≡ reported e)
 
--- memory ran out before anything was put
+-- memory ran out
 abbrev pub cut : List ℕ → Answer
 cut front = record { out = front; ending = Err failure.Memory }
 
-pub ended_stopped : {S A : Type 0} {taken : S → Option (List ℕ)} {failed : S → ℕ} (old new : S) (text : List ℕ) (wanted : Ending) (e : ReportFault) (result : Ending)
-    → Reports {A = A} taken failed old new text (Err e) → (e ≡ report.Sink) ⊎ (e ≡ report.NoMemory) → (e ≡ report.NoMemory → failed new ≡ failed old)
-    → IsErrAnd result (λ failure. failure ≡ reported e) → DoesEnded taken failed old new text wanted result
-ended_stopped old new text wanted e (Ok x) put fault memory is = absurd is
-ended_stopped {A = A} old new text wanted e (Err said) put (inl sink) memory is =
+pub ended_put : {S A : Type 0} {taken : S → Option (List ℕ)} {failed : S → ℕ} (old new : S) (text : List ℕ) (wanted : Ending) (put : Result A ReportFault) (ending : Ending)
+    → Reports taken failed old new text put → IfErr put (λ e. (e ≡ report.Sink) ⊎ (e ≡ report.NoMemory)) → IfErr put (λ e. e ≡ report.NoMemory → failed new ≡ failed old)
+    → EndsAfter put wanted ending → DoesEnded taken failed old new text wanted ending
+ended_put old new text wanted (Ok x) ending written fault memory ends = (record { out = text; ending = wanted }, inl refl, inl (written.all, written.sound, ends))
+ended_put old new text wanted (Err e) (Ok x) written fault memory ends = absurd ends
+ended_put {A = A} old new text wanted (Err e) (Err said) written (inl sink) memory ends =
     let answer : Answer = record { out = text; ending = wanted } in
-    (answer, inl refl, Does-part old new answer e (Err said) put sink is)
-ended_stopped old new text wanted e (Err said) put (inr full) memory is =
-    let begun = put.beginning in (
+    (answer, inl refl, Does-part old new answer e (Err said) written sink ends)
+ended_put old new text wanted (Err e) (Err said) written (inr full) memory ends =
+    let begun = written.beginning in (
       cut begun.front,
       inr (begun.front, begun.rest, begun.parts, refl),
-      inl (begun.taken, memory full, ap Err (is ∙ ap reported full)),
+      inl (begun.taken, memory full, ap Err (ends ∙ ap reported full)),
     )
-
-pub ended_whole : {S A : Type 0} {taken : S → Option (List ℕ)} {failed : S → ℕ} (old new : S) (text : List ℕ) (wanted : Ending) (x : A)
-    → Reports taken failed old new text (Ok x) → DoesEnded taken failed old new text wanted wanted
-ended_whole old new text wanted x put =
-    let answer : Answer = record { out = text; ending = wanted } in
-    (answer, inl refl, Does-whole old new answer x put)
-
-pub text_stopped : {S A : Type 0} {taken : S → Option (List ℕ)} {failed : S → ℕ} (old new : S) (text : List ℕ) (e : ReportFault) (result : Ending)
-    → Reports {A = A} taken failed old new text (Err e) → (e ≡ report.Sink) ⊎ (e ≡ report.NoMemory) → (e ≡ report.NoMemory → failed new ≡ failed old)
-    → IsErrAnd result (λ failure. failure ≡ reported e) → DoesText taken failed old new text result
-text_stopped old new text e result put fault memory is = ended_stopped old new text (Ok 0) e result put fault memory is
-
-pub text_whole : {S A : Type 0} {taken : S → Option (List ℕ)} {failed : S → ℕ} (old new : S) (text : List ℕ) (x : A)
-    → Reports taken failed old new text (Ok x) → DoesText taken failed old new text (Ok 0)
-text_whole old new text x put = ended_whole old new text (Ok 0) x put

@@ -7,11 +7,14 @@ use Rattle.bolt_format.proofs.WriteLemmas.{Writes-stop, Writes-then}
 use Rattle.bolt_report.specs.Reports.{Reports}
 use Rattle.bolt_report.specs.declared.fault.ReportFault.{ReportFault}
 use Rattle.bolt_report.specs.declared.fault.ReportFault.TheVariants as report
-use Rattle.bolt_cli.specs.Answers.{Accepts, Answer, Does, Ending, IsFileRefusal, refused}
+use Rattle.bolt_cli.specs.Answers.{Answer, Does, Ending, IsFileRefusal, IsReadAnswer, IsRefusedUnder, refused}
 use Rattle.bolt_check.specs.declared.fault.CheckFault.{CheckFault}
-use Rattle.bolt_cli.specs.Failures.{IsFailureOf, reported}
+use Rattle.bolt_format.specs.declared.meta.Meta.{Meta}
+use Rattle.bolt_format.specs.declared.meta.Slot.{Slot}
+use Rattle.bolt_cli.specs.Failures.{HasFinding, IsFailureOf, reported}
 use Rattle.bolt_cli.specs.declared.failure.Failure.{Failure}
 use Rattle.bolt_cli.specs.declared.failure.Failure.TheVariants as failure
+use Rattle.bolt_cli.proofs.ReadFiles.{unread_finding}
 
 -- a text that no other fault but the sink's can stop
 pub Writes-reported : {S A : Type 0} {taken : S → Option (List ℕ)} {failed : S → ℕ} (old new : S) (text : List ℕ) (result : Result A ReportFault)
@@ -65,8 +68,14 @@ Does-nothing taken failed old failure (Ok x) is = absurd is
 Does-nothing taken failed old failure (Err said) is = inl (Appends-nil (taken old), refl, ap Err is)
 
 -- the file is refused, and only the first finding is reported
-pub Does-refused : {S : Type 0} {IsAccepted : Answer → Type 0} {IsRefusal : CheckFault → Type 0} (taken : S → Option (List ℕ)) (failed : S → ℕ) (old : S) (failure : Failure) (ending : Ending)
-    → ((fault : CheckFault) × IsRefusal fault × IsFailureOf fault failure) → IsErrAnd ending (λ said. said ≡ failure)
+pub Does-refused : {S : Type 0} {IsAccepted : Answer → Type 0} {IsRefusal : CheckFault → Type 0} (taken : S → Option (List ℕ)) (failed : S → ℕ) (old : S) (fault : CheckFault) (ending : Ending)
+    → HasFinding fault → IsRefusal fault → IsErrAnd ending (λ said. HasFinding fault → IsFailureOf fault said)
     → (answer : Answer) × (IsAccepted answer ⊎ ((fault : CheckFault) × IsRefusal fault × IsFileRefusal fault answer)) × Does taken failed old old answer ending
-Does-refused taken failed old failure ending (fault, is, names) ends =
-    (refused failure, inr (fault, is, (failure, names, refl)), Does-nothing taken failed old failure ending ends)
+Does-refused taken failed old fault (Ok x) has is names = absurd names
+Does-refused taken failed old fault (Err said) has is names =
+    (refused said, inr (fault, is, (said, names has, refl)), Does-nothing taken failed old said (Err said) refl)
+
+pub Does-unread : {S : Type 0} {IsAccepted : Meta → Answer → Type 0} (taken : S → Option (List ℕ)) (failed : S → ℕ) (old : S) (file : List ℕ) (slot : Option Slot) (fault : CheckFault) (ending : Ending)
+    → IsRefusedUnder file slot fault → IsErrAnd ending (λ said. HasFinding fault → IsFailureOf fault said)
+    → (answer : Answer) × IsReadAnswer file slot IsAccepted answer × Does taken failed old old answer ending
+Does-unread taken failed old file slot fault ending is names = Does-refused taken failed old fault ending (unread_finding file slot fault is) is names

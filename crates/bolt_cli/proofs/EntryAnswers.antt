@@ -1,8 +1,7 @@
 -- What is answered of the entries of the bucket at a path.
-use Rattle.std.proofs.Common.{◌⊎◌, ◌≡◌, ℕ, Err, List, Ok, Option, ap, inl, inr, refl, subst, sym}
+use Rattle.std.proofs.Common.{◌⊎◌, ◌≡◌, ℕ, IfErr, List, Ok, Option, Result, ap, inl, inr}
 use Rattle.std.specs.Result.{IsErrAnd}
 use Rattle.bolt_check.specs.CheckedFiles.{bytes_of, meta_of}
-use Rattle.bolt_check.specs.Sound.{HasSoundTrees}
 use Rattle.bolt_check.specs.declared.checked_file.Checked.{Checked}
 use Rattle.bolt_format.specs.Elements.{LeafElement}
 use Rattle.bolt_format.specs.declared.meta.Slot.{Slot}
@@ -16,21 +15,21 @@ use Rattle.bolt_tree.specs.Entries.{Start}
 use Rattle.bolt_tree.specs.EntriesLeft.{ForEntries}
 use Rattle.bolt_tree.specs.Paths.{Path}
 use Rattle.bolt_tree.specs.declared.bucket.Bucket.{Bucket}
-use Rattle.bolt_cli.specs.Answers.{Answer, Does, Ending, IsEntriesAnswer, IsReadAnswer, IsReadUnder, LeadsTo, done, refused}
-use Rattle.bolt_cli.specs.Failures.{reported}
+use Rattle.bolt_cli.specs.Answers.{Answer, Does, Ending, IsEntriesAnswer, IsReadAnswer, IsReadUnder, LeadsTo, refused}
 use Rattle.bolt_cli.specs.declared.failure.Failure.{Failure}
 use Rattle.bolt_cli.specs.declared.failure.Failure.TheVariants as failure
 use Rattle.bolt_cli.proofs.AtPaths.{at_path}
-use Rattle.bolt_cli.proofs.Doing.{Does-nothing, Does-whole}
-use Rattle.bolt_cli.proofs.ShownTexts.{shown_stopped}
-use Rattle.bolt_cli.proofs.ReadFiles.{read_trees}
+use Rattle.bolt_cli.proofs.Doing.{Does-nothing}
+use Rattle.bolt_cli.proofs.CutTexts.{EndsAfter}
+use Rattle.bolt_cli.proofs.ShownTexts.{shown_put}
+use Rattle.bolt_cli.proofs.ReadFiles.{of_read, own_trees}
 
 module _ (file : List ℕ) (slot : Option Slot) (path : Path) (form : Form) (text : List LeafElement → List ℕ) (checked : Checked) (same : bytes_of checked ≡ file) (under : IsReadUnder file slot (meta_of checked)) where
   abbrev EntriesAnswer : {S : Type 0} → (taken : S → Option (List ℕ)) (failed : S → ℕ) (old new : S) → Ending → Type 0
   EntriesAnswer taken failed old new ending = (answer : Answer) × IsReadAnswer file slot (IsEntriesAnswer file path form text) answer × Does taken failed old new answer ending
 
   of_file : (answer : Answer) → IsEntriesAnswer (bytes_of checked) path form text (meta_of checked) answer → IsReadAnswer file slot (IsEntriesAnswer file path form text) answer
-  of_file answer said = inl (meta_of checked, under, subst (λ (f : List ℕ). IsEntriesAnswer f path form text (meta_of checked) answer) same said)
+  of_file answer said = of_read (λ (f : List ℕ). IsEntriesAnswer f path form text) file slot checked same under answer said
 
   -- the path leads to no bucket
   pub entries_missing : {S : Type 0} (taken : S → Option (List ℕ)) (failed : S → ℕ) (out : S) (said : Failure) (result : Ending)
@@ -39,18 +38,10 @@ module _ (file : List ℕ) (slot : Option Slot) (path : Path) (form : Form) (tex
   entries_missing taken failed out said result (is, nowhere) ends = (refused said, of_file (refused said) (inr (nowhere, ap refused is)), Does-nothing taken failed out said result ends)
 
   module _ (bucket : Bucket) (in_file : bucket_checked bucket ≡ checked) (led : ∥ LeadsTo (bytes_of checked) (meta_of checked) path (bucket_start bucket) ∥₁) {S A : Type 0} {taken : S → Option (List ℕ)} {failed : S → ℕ} (old new : S) where
-    -- the sink failed, or memory ran out
-    pub entries_stopped : (e : ReportFault) (result : Ending) → ForEntries (bucket_checked bucket) (bucket_start bucket) (λ entries. Reports {A = A} taken failed old new (text entries) (Err e))
-        → (e ≡ report.Sink) ⊎ ((e ≡ report.NoMemory) × (form ≡ Json)) → (e ≡ report.NoMemory → failed new ≡ failed old) → IsErrAnd result (λ failure. failure ≡ reported e) → EntriesAnswer taken failed old new result
-    entries_stopped e result put fault memory ends =
-        let Put : List LeafElement → Type 0 = λ entries. Reports {A = A} taken failed old new (text entries) (Err e) in
-        let (start, entries, names, are, here) = at_path checked path bucket Put (subst (λ (f : List ℕ). HasSoundTrees f (meta_of checked)) (sym same) (read_trees file slot (meta_of checked) under)) in_file led put in
-        let (answer, shown, does) = shown_stopped form old new (text entries) e result here fault memory ends in
+    pub entries_put : (put : Result A ReportFault) (ending : Ending) → ForEntries (bucket_checked bucket) (bucket_start bucket) (λ entries. Reports taken failed old new (text entries) put)
+        → IfErr put (λ e. (e ≡ report.Sink) ⊎ ((e ≡ report.NoMemory) × (form ≡ Json))) → IfErr put (λ e. e ≡ report.NoMemory → failed new ≡ failed old) → EndsAfter put (Ok 0) ending → EntriesAnswer taken failed old new ending
+    entries_put put ending written fault memory ends =
+        let Put : List LeafElement → Type 0 = λ entries. Reports taken failed old new (text entries) put in
+        let (start, entries, names, are, here) = at_path checked path bucket Put (own_trees file slot checked same under) in_file led written in
+        let (answer, shown, does) = shown_put form old new (text entries) put ending here fault memory ends in
         (answer, of_file answer (inl (start, entries, names, are, shown)), does)
-
-    pub entries_whole : (x : A) → ForEntries (bucket_checked bucket) (bucket_start bucket) (λ entries. Reports taken failed old new (text entries) (Ok x)) → EntriesAnswer taken failed old new (Ok 0)
-    entries_whole x put =
-        let Put : List LeafElement → Type 0 = λ entries. Reports taken failed old new (text entries) (Ok x) in
-        let (start, entries, names, are, here) = at_path checked path bucket Put (subst (λ (f : List ℕ). HasSoundTrees f (meta_of checked)) (sym same) (read_trees file slot (meta_of checked) under)) in_file led put in
-        let answer = done (text entries) in
-        (answer, of_file answer (inl (start, entries, names, are, inl refl)), Does-whole old new answer x here)

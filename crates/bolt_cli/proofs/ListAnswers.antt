@@ -1,9 +1,8 @@
 -- The answer of `list`.
-use Rattle.std.proofs.Common.{◌≡◌, ◌∙◌, ◌⊎◌, ℕ, Bool, true, List, [], Option, Result, Ok, Err, ap, inl, inr, refl, subst, subst₂, sym}
+use Rattle.std.proofs.Common.{◌≡◌, ◌⊎◌, ℕ, Bool, true, IfErr, List, [], Option, Result, Ok, Err, ap, inl, subst, sym}
 use Rattle.std.specs.Prelude.{if◌then◌else◌}
 use Rattle.std.proofs.Math.Logic.{∥∥₁_elim}
 use Rattle.std.proofs.Props.{props}
-use Rattle.std.specs.Result.{IsErrAnd}
 use Rattle.bolt_check.specs.CheckedFiles.{bytes_of, meta_of}
 use Rattle.bolt_check.specs.Sound.{HasSoundTrees}
 use Rattle.bolt_check.specs.declared.checked_file.Checked.{Checked}
@@ -19,9 +18,8 @@ use Rattle.bolt_report.specs.declared.fault.ReportFault.{ReportFault}
 use Rattle.bolt_report.specs.declared.fault.ReportFault.TheVariants as report
 use Rattle.bolt_report.specs.declared.form.ListForm.{ListForm}
 use Rattle.bolt_cli.specs.Answers.{Answer, Does, Ending, IsListAnswer, LeadsTo, part_ending, part_text, refused}
-use Rattle.bolt_cli.specs.Failures.{reported}
 use Rattle.bolt_cli.specs.declared.failure.Failure.TheVariants as failure
-use Rattle.bolt_cli.proofs.CutTexts.{cut, ended_stopped, ended_whole}
+use Rattle.bolt_cli.proofs.CutTexts.{EndsAfter, ended_put}
 use Rattle.bolt_cli.proofs.ListedBuckets.{has_named, none_named}
 
 -- what is answered if the listing has the bucket at the path or, by `found`, hasn't
@@ -44,39 +42,24 @@ module _ (file : List ℕ) (checked : Checked) (form : ListForm) (path from : Pa
   abbrev own_ending : Ending
   own_ending = part_ending path own_listing.0 (Ok 0)
 
-  -- before the first line
-  pub nothing_listed : IsListAnswer file form path from (meta_of checked) (cut [])
-  nothing_listed = (own_listing.0, own_listing.1, inr ([], own_text, refl, refl))
-
   -- the path leads to no bucket
   pub no_bucket_listed : ((bucket : Start) → LeadsTo (bytes_of checked) (meta_of checked) path bucket → ⊥) → IsListAnswer file form path from (meta_of checked) (refused failure.NoBucket)
   no_bucket_listed nowhere =
       let none = none_named file (meta_of checked) own_listing.0 own_listing.1 path (λ bucket leads. nowhere bucket (subst (λ (f : List ℕ). LeadsTo f (meta_of checked) path bucket) (sym same) leads)) in
       (own_listing.0, own_listing.1, inl (ap (answer_by form path from own_listing.0 (Ok 0)) (sym none)))
 
-  module _ (bucket : Start) (leads : ∥ LeadsTo (bytes_of checked) (meta_of checked) path bucket ∥₁) (shown_path shown_from : Path) (is_path : shown_path ≡ path) (is_from : shown_from ≡ from) where
+  module _ (bucket : Start) (leads : ∥ LeadsTo (bytes_of checked) (meta_of checked) path bucket ∥₁) where
     is_there : has_bucket path own_listing.0 ≡ true
     is_there = ∥∥₁_elim leads (hlevel props) (λ led. has_named file (meta_of checked) own_listing.0 own_listing.1 path bucket (subst (λ (f : List ℕ). LeadsTo f (meta_of checked) path bucket) same led))
 
     abbrev Written : {S A : Type 0} → (taken : S → Option (List ℕ)) (failed : S → ℕ) (old new : S) → Result A ReportFault → Type 0
-    Written {A = A} taken failed old new result = ForListing checked (λ listing. Reports {A = A} taken failed old new (listing_lines form (rest_from shown_from (part_below shown_path listing))) result)
+    Written {A = A} taken failed old new result = ForListing checked (λ listing. Reports {A = A} taken failed old new (listing_lines form (rest_from from (part_below path listing))) result)
 
-    text_put : {S A : Type 0} {taken : S → Option (List ℕ)} {failed : S → ℕ} (old new : S) (result : Result A ReportFault) → Written {A = A} taken failed old new result → Reports {A = A} taken failed old new own_text result
-    text_put {A = A} {taken = taken} {failed = failed} old new result written =
+    pub list_put : {S A : Type 0} {taken : S → Option (List ℕ)} {failed : S → ℕ} (old new : S) (put : Result A ReportFault) (ending : Ending) → Written taken failed old new put
+        → IfErr put (λ e. (e ≡ report.Sink) ⊎ (e ≡ report.NoMemory)) → IfErr put (λ e. e ≡ report.NoMemory → failed new ≡ failed old) → EndsAfter put (Ok 0) ending → ListAnswer taken failed old new ending
+    list_put {taken = taken} {failed = failed} old new put ending written fault memory ends =
         let here = written own_listing.0 (subst (λ (f : List ℕ). IsListing f (meta_of checked) own_listing.0) (sym same) own_listing.1) in
-        subst (λ (b : Bool). Reports {A = A} taken failed old new (answer_by form path from own_listing.0 (Ok 0) b).out result) (sym is_there)
-        (subst₂ (λ (p q : Path). Reports {A = A} taken failed old new (listing_lines form (rest_from q (part_below p own_listing.0))) result) is_path is_from here)
-
-    pub list_stopped : {S A : Type 0} {taken : S → Option (List ℕ)} {failed : S → ℕ} (old new : S) (e : ReportFault) (result : Ending)
-        → Written {A = A} taken failed old new (Err e)
-        → (e ≡ report.Sink) ⊎ (e ≡ report.NoMemory) → (e ≡ report.NoMemory → failed new ≡ failed old) → IsErrAnd result (λ failure. failure ≡ reported e)
-        → ListAnswer taken failed old new result
-    list_stopped {A = A} old new e result put fault memory said =
-        let (answer, is, does) = ended_stopped {A = A} old new own_text own_ending e result (text_put old new (Err e) put) fault memory said in
+        let own = subst (λ (b : Bool). Reports taken failed old new (answer_by form path from own_listing.0 (Ok 0) b).out put) (sym is_there) here in
+        let to_end = subst (λ (b : Bool). EndsAfter put (answer_by form path from own_listing.0 (Ok 0) b).ending ending) (sym is_there) ends in
+        let (answer, is, does) = ended_put old new own_text own_ending put ending own fault memory to_end in
         (answer, (own_listing.0, own_listing.1, is), does)
-
-    pub list_whole : {S A : Type 0} {taken : S → Option (List ℕ)} {failed : S → ℕ} (old new : S) (x : A) → Written taken failed old new (Ok x) → ListAnswer taken failed old new (Ok 0)
-    list_whole {taken = taken} {failed = failed} old new x put =
-        let (answer, is, does) = ended_whole old new own_text own_ending x (text_put old new (Ok x) put) in
-        let ends : own_ending ≡ Ok 0 = ap (λ (b : Bool). (answer_by form path from own_listing.0 (Ok 0) b).ending) is_there in
-        (answer, (own_listing.0, own_listing.1, is), subst (Does taken failed old new answer) ends does)

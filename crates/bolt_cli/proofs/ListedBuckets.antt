@@ -1,5 +1,5 @@
 -- A listing has the bucket at a path where the path leads to one.
-use Rattle.std.proofs.Common.{arith, length, ◌==◌, ◌≡◌, ◌∙◌, ◌||◌, ◌&&◌, ◌⊎◌, ℕ, Bool, true, false, List, [], ◌∷◌, IsTrue, inl, inr, refl, sym, ap, subst, rules}
+use Rattle.std.proofs.Common.{arith, length, ◌==◌, ◌≡◌, ◌∙◌, ◌||◌, ◌&&◌, ℕ, Bool, true, false, List, [], ◌∷◌, IsTrue, inl, inr, refl, sym, ap, subst, rules}
 use Rattle.std.specs.Cmp.Lexicographic.{pointwise}
 use Rattle.std.specs.List.{Contains, list_any}
 use Rattle.std.specs.Str.{bytes_eq}
@@ -10,7 +10,7 @@ use Rattle.bolt_format.specs.Elements.{LeafElement, head_sequence}
 use Rattle.bolt_format.specs.declared.meta.Meta.{Meta}
 use Rattle.bolt_check.specs.Keys.{Key}
 use Rattle.bolt_tree.specs.Entries.{Bucket, IsEntry, Item, Root_page, Start, Value, item_of, start_of}
-use Rattle.bolt_tree.specs.Listing.{IsListing, Lists, Member}
+use Rattle.bolt_tree.specs.Listing.{IsListing, Member}
 use Rattle.bolt_tree.specs.ListingParts.{has_bucket, is_bucket, is_bucket_at}
 use Rattle.bolt_tree.specs.Paths.{Holds, Names, Path}
 use Rattle.bolt_tree.proofs.Lists.{contains_cases, contains_head, contains_none, contains_tail}

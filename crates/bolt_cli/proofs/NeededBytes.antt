@@ -40,12 +40,4 @@ module _ {O T : Type 0} (out_taken : O → Option (List ℕ)) (out_failed : O �
     (λ h. (h.0, answer_there (take METAS_END file) file slot h.0 same h.1, h.2, h.3)),
     (λ h. (h.0, answer_there file (take METAS_END file) slot h.0 (back (take METAS_END file) file same) h.1, h.2, h.3)),
   )
-  enough (job.Page name id) out_old out_new target_old target_new ending = (λ h. h, λ h. h)
-  enough (job.Pages name as_map) out_old out_new target_old target_new ending = (λ h. h, λ h. h)
-  enough (job.Check name slot all snapshot) out_old out_new target_old target_new ending = (λ h. h, λ h. h)
-  enough (job.Buckets name slot path form sizes) out_old out_new target_old target_new ending = (λ h. h, λ h. h)
-  enough (job.Keys name slot path prefix form) out_old out_new target_old target_new ending = (λ h. h, λ h. h)
-  enough (job.Get name slot path form no_newline) out_old out_new target_old target_new ending = (λ h. h, λ h. h)
-  enough (job.Stats name slot path) out_old out_new target_old target_new ending = (λ h. h, λ h. h)
-  enough (job.List name slot form path from recover) out_old out_new target_old target_new ending = (λ h. h, λ h. h)
-  enough (job.Compact name slot target size which recover) out_old out_new target_old target_new ending = (λ h. h, λ h. h)
+  enough _ out_old out_new target_old target_new ending = (λ h. h, λ h. h)

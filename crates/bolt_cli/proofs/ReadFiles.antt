@@ -1,8 +1,9 @@
 -- What is known of a file that is read, under whatever meta.
-use Rattle.std.proofs.Common.{ℕ, List, Option, Some, None, ap, inl, inr, subst, sym}
+use Rattle.std.proofs.Common.{◌≡◌, ℕ, List, Option, Some, None, Ok, Err, ap, inl, inr, refl, subst, sym}
+use Rattle.std.specs.Result.{IsErrAnd}
 use Rattle.std.proofs.Math.Logic.{∥∥₁_elim}
 use Rattle.std.proofs.Props.{props}
-use Rattle.bolt_check.specs.CheckedFiles.{meta_of}
+use Rattle.bolt_check.specs.CheckedFiles.{bytes_of, meta_of}
 use Rattle.bolt_check.specs.declared.checked_file.Checked.{Checked}
 use Rattle.bolt_format.specs.Metas.{IsInSlot, IsMeta, IsPageSize}
 use Rattle.bolt_format.specs.declared.meta.Slot.TheVariants.{One, Zero}
@@ -11,12 +12,21 @@ use Rattle.bolt_format.specs.declared.meta.Meta.{Meta}
 use Rattle.bolt_format.specs.declared.meta.Slot.{Slot}
 use Rattle.bolt_check.specs.declared.fault.CheckFault.{CheckFault}
 use Rattle.bolt_check.specs.declared.fault.CheckFault.TheVariants as check
-use Rattle.bolt_cli.specs.Answers.{IsReadUnder, IsRecoveredUnder, IsUnrecoverableUnder}
-use Rattle.bolt_cli.specs.Failures.{HasFinding}
+use Rattle.bolt_cli.specs.Answers.{Answer, Ending, IsReadAnswer, IsReadUnder, IsRefusedUnder, IsUnrecoverableUnder}
+use Rattle.bolt_cli.specs.Failures.{HasFinding, IsFailureOf}
+use Rattle.bolt_cli.specs.declared.failure.Failure.{Failure}
 
 pub read_trees : (file : List ℕ) (slot : Option Slot) (meta : Meta) → IsReadUnder file slot meta → HasSoundTrees file meta
 read_trees file None meta (slot, chosen, sound) = sound.trees
 read_trees file (Some slot) meta (valid, trees) = trees
+
+pub own_trees : (file : List ℕ) (slot : Option Slot) (checked : Checked) → bytes_of checked ≡ file → IsReadUnder file slot (meta_of checked) → HasSoundTrees (bytes_of checked) (meta_of checked)
+own_trees file slot checked same under = subst (λ (f : List ℕ). HasSoundTrees f (meta_of checked)) (sym same) (read_trees file slot (meta_of checked) under)
+
+-- what is answered of its bytes is answered of the file
+pub of_read : (IsAnswer : List ℕ → Meta → Answer → Type 0) (file : List ℕ) (slot : Option Slot) (checked : Checked) → bytes_of checked ≡ file → IsReadUnder file slot (meta_of checked)
+    → (answer : Answer) → IsAnswer (bytes_of checked) (meta_of checked) answer → IsReadAnswer file slot (IsAnswer file) answer
+of_read IsAnswer file slot checked same under answer said = inl (meta_of checked, under, subst (λ (f : List ℕ). IsAnswer f (meta_of checked) answer) same said)
 
 -- ---- the page size
 
@@ -32,7 +42,14 @@ pub checked_page_size : (checked : Checked) → IsPageSize (meta_of checked).pag
 unfolding meta_of
 checked_page_size checked = ∥∥₁_elim checked.sound (hlevel props) (λ sound. slot_page_size checked.bytes.now sound.slot checked.meta sound.valid)
 
--- ---- why nothing is recovered
+-- ---- why the file is refused, or nothing of it is recovered
+
+pub unread_finding : (file : List ℕ) (slot : Option Slot) (fault : CheckFault) → IsRefusedUnder file slot fault → HasFinding fault
+unread_finding file slot (check.Open fault) is = tt
+unread_finding file slot (check.Structure x) is = tt
+unread_finding file None (check.Accounts findings) (slot, meta, chosen, trees, wrong, are, some) = some
+unread_finding file (Some slot) (check.Accounts findings) is = absurd is
+unread_finding file slot check.Memory is = tt
 
 pub unrecoverable_finding : (file : List ℕ) (slot : Option Slot) (fault : CheckFault) → IsUnrecoverableUnder file slot fault → HasFinding fault
 unrecoverable_finding file slot (check.Open fault) is = tt
@@ -40,3 +57,9 @@ unrecoverable_finding file slot (check.Structure x) is = tt
 unrecoverable_finding file None (check.Accounts findings) is = absurd is
 unrecoverable_finding file (Some slot) (check.Accounts findings) is = absurd is
 unrecoverable_finding file slot check.Memory is = tt
+
+-- only the first finding is reported
+pub failure_named : (fault : CheckFault) (ending : Ending) → HasFinding fault → IsErrAnd ending (λ said. HasFinding fault → IsFailureOf fault said)
+    → (failure : Failure) × IsFailureOf fault failure × (ending ≡ Err failure)
+failure_named fault (Ok x) has names = absurd names
+failure_named fault (Err said) has names = (said, names has, refl)

@@ -1,5 +1,5 @@
 -- What is answered of the sizes of the buckets in the bucket at a path.
-use Rattle.std.proofs.Common.{◌⊎◌, ◌≡◌, ℕ, Err, List, Ok, Option, Result, ap, inl, inr, refl, subst, sym}
+use Rattle.std.proofs.Common.{◌⊎◌, ◌≡◌, ℕ, IfErr, List, Ok, Option, Result, ap, inl, inr, subst, sym}
 use Rattle.std.specs.Result.{IsErrAnd}
 use Rattle.bolt_check.specs.CheckedFiles.{bytes_of, meta_of}
 use Rattle.bolt_check.specs.Sound.{HasSoundTrees}
@@ -18,20 +18,19 @@ use Rattle.bolt_tree.specs.EntriesLeft.{ForEntries}
 use Rattle.bolt_tree.specs.Paths.{Path}
 use Rattle.bolt_tree.specs.declared.bucket.Bucket.{Bucket}
 use Rattle.bolt_cli.specs.Answers.{Answer, Does, Ending, IsReadAnswer, IsReadUnder, IsSizesAnswer, LeadsTo, refused}
-use Rattle.bolt_cli.specs.Failures.{reported}
 use Rattle.bolt_cli.specs.declared.failure.Failure.{Failure}
 use Rattle.bolt_cli.specs.declared.failure.Failure.TheVariants as failure
 use Rattle.bolt_cli.proofs.AtPaths.{at_path}
-use Rattle.bolt_cli.proofs.CutTexts.{text_stopped, text_whole}
+use Rattle.bolt_cli.proofs.CutTexts.{EndsAfter, ended_put}
 use Rattle.bolt_cli.proofs.Doing.{Does-nothing}
-use Rattle.bolt_cli.proofs.ReadFiles.{read_trees}
+use Rattle.bolt_cli.proofs.ReadFiles.{of_read, own_trees}
 
 module _ (file : List ℕ) (slot : Option Slot) (path : Path) (form : Form) (checked : Checked) (same : bytes_of checked ≡ file) (under : IsReadUnder file slot (meta_of checked)) where
   abbrev SizesAnswer : {S : Type 0} → (taken : S → Option (List ℕ)) (failed : S → ℕ) (old new : S) → Ending → Type 0
   SizesAnswer taken failed old new ending = (answer : Answer) × IsReadAnswer file slot (IsSizesAnswer file path form) answer × Does taken failed old new answer ending
 
   of_file : (answer : Answer) → IsSizesAnswer (bytes_of checked) path form (meta_of checked) answer → IsReadAnswer file slot (IsSizesAnswer file path form) answer
-  of_file answer said = inl (meta_of checked, under, subst (λ (f : List ℕ). IsSizesAnswer f path form (meta_of checked) answer) same said)
+  of_file answer said = of_read (λ (f : List ℕ). IsSizesAnswer f path form) file slot checked same under answer said
 
   -- the path leads to no bucket
   pub sizes_missing : {S : Type 0} (taken : S → Option (List ℕ)) (failed : S → ℕ) (out : S) (said : Failure) (result : Ending)
@@ -40,7 +39,7 @@ module _ (file : List ℕ) (slot : Option Slot) (path : Path) (form : Form) (che
   sizes_missing taken failed out said result (is, nowhere) ends = (refused said, of_file (refused said) (inr (nowhere, ap refused is)), Does-nothing taken failed out said result ends)
 
   trees : HasSoundTrees (bytes_of checked) (meta_of checked)
-  trees = subst (λ (f : List ℕ). HasSoundTrees f (meta_of checked)) (sym same) (read_trees file slot (meta_of checked) under)
+  trees = own_trees file slot checked same under
 
   -- the sizes of the entries at the path
   own_sizes : (start : Start) (entries : List LeafElement) → LeadsTo (bytes_of checked) (meta_of checked) path start → AreEntries (IsEntry (bytes_of checked) (meta_of checked)) start entries
@@ -56,20 +55,11 @@ module _ (file : List ℕ) (slot : Option Slot) (path : Path) (form : Form) (che
     Written taken failed old new result entries =
         (sized : List Sized) → AreSized (bytes_of (bucket_checked bucket)) (meta_of (bucket_checked bucket)) entries sized → Reports taken failed old new (sizes_text form sized) result
 
-    -- the sink failed, or memory ran out
-    pub sizes_stopped : {S A : Type 0} {taken : S → Option (List ℕ)} {failed : S → ℕ} (old new : S) (e : ReportFault) (result : Ending)
-        → ForEntries (bucket_checked bucket) (bucket_start bucket) (Written {A = A} taken failed old new (Err e))
-        → (e ≡ report.Sink) ⊎ (e ≡ report.NoMemory) → (e ≡ report.NoMemory → failed new ≡ failed old) → IsErrAnd result (λ failure. failure ≡ reported e) → SizesAnswer taken failed old new result
-    sizes_stopped {A = A} {taken = taken} {failed = failed} old new e result put fault memory ends =
-        let (start, entries, names, are, here) = at_path checked path bucket (Written {A = A} taken failed old new (Err e)) trees in_file led put in
+    pub sizes_put : {S A : Type 0} {taken : S → Option (List ℕ)} {failed : S → ℕ} (old new : S) (put : Result A ReportFault) (ending : Ending)
+        → ForEntries (bucket_checked bucket) (bucket_start bucket) (Written taken failed old new put)
+        → IfErr put (λ e. (e ≡ report.Sink) ⊎ (e ≡ report.NoMemory)) → IfErr put (λ e. e ≡ report.NoMemory → failed new ≡ failed old) → EndsAfter put (Ok 0) ending → SizesAnswer taken failed old new ending
+    sizes_put {taken = taken} {failed = failed} old new put ending written fault memory ends =
+        let (start, entries, names, are, here) = at_path checked path bucket (Written taken failed old new put) trees in_file led written in
         let (sized, sizes) = own_sizes start entries names are in
-        let (answer, whole, does) = text_stopped {A = A} old new (sizes_text form sized) e result (here sized (in_bucket entries sized sizes)) fault memory ends in
-        (answer, of_file answer (inl (start, entries, sized, names, are, sizes, whole)), does)
-
-    pub sizes_whole : {S A : Type 0} {taken : S → Option (List ℕ)} {failed : S → ℕ} (old new : S) (x : A)
-        → ForEntries (bucket_checked bucket) (bucket_start bucket) (Written taken failed old new (Ok x)) → SizesAnswer taken failed old new (Ok 0)
-    sizes_whole {taken = taken} {failed = failed} old new x put =
-        let (start, entries, names, are, here) = at_path checked path bucket (Written taken failed old new (Ok x)) trees in_file led put in
-        let (sized, sizes) = own_sizes start entries names are in
-        let (answer, whole, does) = text_whole old new (sizes_text form sized) x (here sized (in_bucket entries sized sizes)) in
+        let (answer, whole, does) = ended_put old new (sizes_text form sized) (Ok 0) put ending (here sized (in_bucket entries sized sizes)) fault memory ends in
         (answer, of_file answer (inl (start, entries, sized, names, are, sizes, whole)), does)

@@ -1,5 +1,5 @@
 -- A copy, and in a snapshot its hash: what the target accepted of both.
-use Rattle.std.proofs.Common.{◌≡◌, ◌≢◌, ◌∙◌, ◌+◌, ◌≤◌, ◌<◌, ℕ, List, [], ◌∷◌, ◌++◌, Bool, true, false, IsTrue, add-zero, arith, length, length-append, Option, None, Some, Result, Ok, Err, ap, append-nil, append_assoc, inl, inr, refl, subst, sym, rules}
+use Rattle.std.proofs.Common.{◌≡◌, ◌≢◌, ◌∙◌, ◌+◌, ◌≤◌, ◌<◌, ℕ, List, [], ◌∷◌, ◌++◌, Bool, true, false, IsTrue, arith, length, length-append, Option, None, Some, Ok, Err, ap, append-nil, append_assoc, inl, inr, refl, subst, sym, rules}
 use Rattle.std.proofs.lemmas.Bool.{cases_lt}
 use Rattle.std.proofs.KnownBytes.{Appends-kept, Appends-trans, Keeps-trans}
 use Rattle.std.specs.Io.KnownBytes.{Appends, Keeps}
@@ -15,7 +15,7 @@ use Rattle.bolt_snapshot.specs.declared.hash_fault.HashFault.{HashFault}
 use Rattle.bolt_snapshot.specs.declared.hash_fault.HashFault.TheVariants as hash
 use Rattle.bolt_cli.specs.Answers.{StopsShort}
 use Rattle.bolt_cli.specs.Failures.{copied, hash_failed}
-use Rattle.bolt_cli.specs.SnapshotAnswers.{AppendsEnding, copy_of, ending_length, ending_of}
+use Rattle.bolt_cli.specs.SnapshotAnswers.{AppendsEnding, IsBegun, copy_of, ending_length, ending_of}
 use Rattle.bolt_cli.specs.declared.failure.Failure.{Failure}
 
 below : (n bound : ℕ) → (bound ≤ n → ⊥) → n < bound
@@ -91,11 +91,6 @@ pub record IsWholeCopy {T : Type 0} (taken : T → Option (List ℕ)) (failed : 
   pub all : Appends (taken old) (taken new) copy
   pub sound : failed new ≡ failed old
   pub long : count ≡ length copy
-
--- nothing was accepted yet
-pub record IsBegun {T : Type 0} (taken : T → Option (List ℕ)) (failed : T → ℕ) (old new : T) : Type 0 where
-  pub kept : Keeps (taken old) (taken new)
-  pub sound : failed new ≡ failed old
 
 module _ {T : Type 0} (taken : T → Option (List ℕ)) (failed : T → ℕ) (old mid : T) (begun : IsBegun taken failed old mid) (snapshot : Bool) (layout : List ℕ) where
   abbrev Stops : T → Failure → Type 0

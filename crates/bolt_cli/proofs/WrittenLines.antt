@@ -156,58 +156,47 @@ module _ (name : Text) (required : Bool) (options : List Choice) where
 info_read : (file : Text) (slot : Option Slot) → line_of (words_for [] (info file slot)) ≡ asks (info file slot)
 info_read file slot =
     let ss = settings (info file slot) in
-    let given = line_given ss file [] in
-    let meta : first_of (values_of given (codes "meta")) ≡ option_map slot_word slot = option_found ss file [] (codes "meta") refl refl ∙ or_none (option_map slot_word slot) in
     line_read (codes "info") [] info_line.options ss file (info file slot) (λ g a v. refl, tt) (tt, tt) refl
     (rw (file_given ss file [] refl) refl)
-    (rw (file_found ss file [] refl, meta, slot_read slot) refl)
+    (rw (file_found ss file [] refl, option_found ss file [] (codes "meta") refl refl, or_none (option_map slot_word slot), slot_read slot) refl)
 
 check_read : (file : Text) (slot : Option Slot) (all snapshot : Bool) → line_of (words_for [] (check file slot all snapshot)) ≡ asks (check file slot all snapshot)
 check_read file slot all snapshot =
     let ss = settings (check file slot all snapshot) in
-    let given = line_given ss file [] in
-    let meta : first_of (values_of given (codes "meta")) ≡ option_map slot_word slot = option_found ss file [] (codes "meta") refl refl ∙ or_none (option_map slot_word slot) in
-    let flag : first_of (values_of given (codes "all")) ≡ (if all then Some given_word else None) = option_found ss file [] (codes "all") refl refl ∙ or_none _ in
-    let hash : first_of (values_of given (codes "etcd-snapshot")) ≡ (if snapshot then Some given_word else None) = option_found ss file [] (codes "etcd-snapshot") refl refl ∙ or_none _ in
+    let found = option_found ss file [] in
     line_read (codes "check") [] check_line.options ss file (check file slot all snapshot) (λ g a v. refl, (λ g a. refl, (λ g a. refl, tt))) ((refl, (refl, tt)), ((refl, tt), (tt, tt))) refl
     (rw (file_given ss file [] refl) refl)
-    (rw (file_found ss file [] refl, meta, flag, hash, slot_read slot, given_read all, given_read snapshot) refl)
+    (rw (file_found ss file [] refl, found (codes "meta") refl refl, or_none (option_map slot_word slot), found (codes "all") refl refl, or_none, found (codes "etcd-snapshot") refl refl, or_none, slot_read slot, given_read all, given_read snapshot) refl)
 
 pages_read : (file : Text) (as_map : Bool) → line_of (words_for [] (pages file as_map)) ≡ asks (pages file as_map)
 pages_read file as_map =
     let ss = settings (pages file as_map) in
-    let given = line_given ss file [] in
-    let flag : first_of (values_of given (codes "map")) ≡ (if as_map then Some given_word else None) = option_found ss file [] (codes "map") refl refl ∙ or_none _ in
     line_read (codes "pages") [] pages_line.options ss file (pages file as_map) (λ g a. refl, tt) (tt, tt) refl
     (rw (file_given ss file [] refl) refl)
-    (rw (file_found ss file [] refl, flag, given_read as_map) refl)
+    (rw (file_found ss file [] refl, option_found ss file [] (codes "map") refl refl, or_none, given_read as_map) refl)
 
 buckets_read : (file : Text) (slot : Option Slot) (path : Path) (form : Form) (sizes : Bool) → All IsBytes path → line_of (words_for [] (buckets file slot path form sizes)) ≡ asks (buckets file slot path form sizes)
 buckets_read file slot path form sizes bytes =
     let ss = settings (buckets file slot path form sizes) in
     let words = hex_words path in
     let given = line_given ss file words in
-    let meta : first_of (values_of given (codes "meta")) ≡ option_map slot_word slot = option_found ss file words (codes "meta") refl refl ∙ or_none (option_map slot_word slot) in
-    let shown : first_of (values_of given (codes "form")) ≡ Some (form_word form) = option_found ss file words (codes "form") refl refl in
-    let how : first_of (values_of given (codes "parts")) ≡ Some (codes "hex") = option_found ss file words (codes "parts") refl refl in
-    let flag : first_of (values_of given (codes "sizes")) ≡ (if sizes then Some given_word else None) = option_found ss file words (codes "sizes") refl refl ∙ or_none _ in
+    let found = option_found ss file words in
     let parts : values_of given (codes "PART") ≡ words = parts_found ss file words (refl, (refl, (refl, (refl, tt)))) in
     path_read (codes "buckets") false buckets_line.options ss file words (buckets file slot path form sizes) (λ g a v. refl, (λ g a v. refl, (λ g a v. refl, (λ g a. refl, tt))))
     ((refl, (refl, (refl, tt))), ((refl, (refl, tt)), ((refl, tt), (tt, tt)))) refl
     (rw (file_given ss file words refl) refl)
-    (rw (file_found ss file words refl, meta, shown, how, flag, parts, slot_read slot, form_read form, parts_read path bytes, given_read sizes) refl)
+    (rw (file_found ss file words refl, found (codes "meta") refl refl, or_none (option_map slot_word slot), found (codes "form") refl refl, found (codes "parts") refl refl, found (codes "sizes") refl refl, or_none, parts, slot_read slot, form_read form, parts_read path bytes, given_read sizes) refl)
 
 stats_read : (file : Text) (slot : Option Slot) (path : Path) → All IsBytes path → line_of (words_for [] (stats file slot path)) ≡ asks (stats file slot path)
 stats_read file slot path bytes =
     let ss = settings (stats file slot path) in
     let words = hex_words path in
     let given = line_given ss file words in
-    let meta : first_of (values_of given (codes "meta")) ≡ option_map slot_word slot = option_found ss file words (codes "meta") refl refl ∙ or_none (option_map slot_word slot) in
-    let how : first_of (values_of given (codes "parts")) ≡ Some (codes "hex") = option_found ss file words (codes "parts") refl refl in
+    let found = option_found ss file words in
     let parts : values_of given (codes "PART") ≡ words = parts_found ss file words (refl, (refl, tt)) in
     path_read (codes "stats") false stats_line.options ss file words (stats file slot path) (λ g a v. refl, (λ g a v. refl, tt)) ((refl, tt), (tt, tt)) refl
     (rw (file_given ss file words refl) refl)
-    (rw (file_found ss file words refl, meta, how, parts, slot_read slot, parts_read path bytes) refl)
+    (rw (file_found ss file words refl, found (codes "meta") refl refl, or_none (option_map slot_word slot), found (codes "parts") refl refl, parts, slot_read slot, parts_read path bytes) refl)
 
 list_read : (file : Text) (slot : Option Slot) (form : ListForm) (path from : Path) (recover : Bool) → All IsBytes path → All IsPart from
     → line_of (words_for [] (list file slot form path from recover)) ≡ asks (list file slot form path from recover)
@@ -215,33 +204,24 @@ list_read file slot form path from recover bytes start_parts =
     let ss = settings (list file slot form path from recover) in
     let words = hex_words path in
     let given = line_given ss file words in
-    let meta : first_of (values_of given (codes "meta")) ≡ option_map slot_word slot = option_found ss file words (codes "meta") refl refl ∙ or_none (option_map slot_word slot) in
-    let shown : first_of (values_of given (codes "form")) ≡ Some (list_form_word form) = option_found ss file words (codes "form") refl refl in
-    let how : first_of (values_of given (codes "parts")) ≡ Some (codes "hex") = option_found ss file words (codes "parts") refl refl in
-    let start : first_of (values_of given (codes "from")) ≡ from_word from = option_found ss file words (codes "from") refl refl ∙ or_none (from_word from) in
-    let flag : first_of (values_of given (codes "recover")) ≡ (if recover then Some given_word else None) = option_found ss file words (codes "recover") refl refl ∙ or_none _ in
+    let found = option_found ss file words in
     let parts : values_of given (codes "PART") ≡ words = parts_found ss file words (refl, (refl, (refl, (refl, (refl, tt))))) in
     path_read (codes "list") false list_line.options ss file words (list file slot form path from recover) (λ g a v. refl, (λ g a v. refl, (λ g a v. refl, (λ g a v. refl, (λ g a. refl, tt)))))
     ((refl, (refl, (refl, (refl, tt)))), ((refl, (refl, (refl, tt))), ((refl, (refl, tt)), ((refl, tt), (tt, tt))))) refl
     (rw (file_given ss file words refl) refl)
-    (rw (file_found ss file words refl, meta, shown, how, start, flag, parts, slot_read slot, list_form_read form, parts_read path bytes, from_read from start_parts, given_read recover) refl)
+    (rw (file_found ss file words refl, found (codes "meta") refl refl, or_none (option_map slot_word slot), found (codes "form") refl refl, found (codes "parts") refl refl, found (codes "from") refl refl, or_none (from_word from), found (codes "recover") refl refl, or_none, parts, slot_read slot, list_form_read form, parts_read path bytes, from_read from start_parts, given_read recover) refl)
 
 compact_read : (file : Text) (slot : Option Slot) (target : Text) (size : Option ℕ) (which : CopyKind) (recover : Bool) → IsSize size
     → line_of (words_for [] (compact file slot target size which recover)) ≡ asks (compact file slot target size which recover)
 compact_read file slot target size which recover accepted =
     let ss = settings (compact file slot target size which recover) in
     let given = line_given ss file [] in
-    let out : first_of (values_of given (codes "output")) ≡ Some target = option_found ss file [] (codes "output") refl refl in
-    let meta : first_of (values_of given (codes "meta")) ≡ option_map slot_word slot = option_found ss file [] (codes "meta") refl refl ∙ or_none (option_map slot_word slot) in
-    let sizes : first_of (values_of given (codes "page-size")) ≡ option_map decimal size = option_found ss file [] (codes "page-size") refl refl ∙ or_none (option_map decimal size) in
-    let balanced : first_of (values_of given (codes "for-bbolt")) ≡ (if is_for_bbolt which then Some given_word else None) = option_found ss file [] (codes "for-bbolt") refl refl ∙ or_none _ in
-    let hash : first_of (values_of given (codes "etcd-snapshot")) ≡ (if is_snapshot which then Some given_word else None) = option_found ss file [] (codes "etcd-snapshot") refl refl ∙ or_none _ in
-    let flag : first_of (values_of given (codes "recover")) ≡ (if recover then Some given_word else None) = option_found ss file [] (codes "recover") refl refl ∙ or_none _ in
+    let found = option_found ss file [] in
     line_read (codes "compact") [] compact_line.options ss file (compact file slot target size which recover)
     (λ g a v. refl, (λ g a v. refl, (λ g a v. refl, (λ g a. refl, (λ g a. refl, (λ g a. refl, tt))))))
     ((refl, (refl, (refl, (refl, (refl, tt))))), ((refl, (refl, (refl, (refl, tt)))), ((refl, (refl, (refl, tt))), ((refl, (refl, tt)), ((refl, tt), (tt, tt)))))) refl
-    (rw (file_given ss file [] refl, has-first given (codes "output") ∙ ap is_some out) refl)
-    (rw (file_found ss file [] refl, meta, sizes, balanced, hash, flag, slot_read slot, size_read size accepted, kind_read which, given_read recover) refl)
+    (rw (file_given ss file [] refl, has-first given (codes "output") ∙ ap is_some (found (codes "output") refl refl)) refl)
+    (rw (file_found ss file [] refl, found (codes "meta") refl refl, or_none (option_map slot_word slot), found (codes "page-size") refl refl, or_none (option_map decimal size), found (codes "for-bbolt") refl refl, or_none, found (codes "etcd-snapshot") refl refl, or_none, found (codes "recover") refl refl, or_none, slot_read slot, size_read size accepted, kind_read which, given_read recover) refl)
 
 keys_read : (file : Text) (slot : Option Slot) (part : Key) (path : Path) (prefix : Key) (form : Form) → All IsBytes (part ∷ path) → IsBytes prefix
     → line_of (words_for [] (keys file slot (part ∷ path) prefix form)) ≡ asks (keys file slot (part ∷ path) prefix form)
@@ -249,15 +229,12 @@ keys_read file slot part path prefix form bytes prefix_bytes =
     let ss = settings (keys file slot (part ∷ path) prefix form) in
     let words = hex_words (part ∷ path) in
     let given = line_given ss file words in
-    let meta : first_of (values_of given (codes "meta")) ≡ option_map slot_word slot = option_found ss file words (codes "meta") refl refl ∙ or_none (option_map slot_word slot) in
-    let shown : first_of (values_of given (codes "form")) ≡ Some (form_word form) = option_found ss file words (codes "form") refl refl in
-    let how : first_of (values_of given (codes "parts")) ≡ Some (codes "hex") = option_found ss file words (codes "parts") refl refl in
-    let begun : first_of (values_of given (codes "prefix")) ≡ Some (encode_lower prefix) = option_found ss file words (codes "prefix") refl refl in
+    let found = option_found ss file words in
     let parts : values_of given (codes "PART") ≡ words = parts_found ss file words (refl, (refl, (refl, (refl, tt)))) in
     path_read (codes "keys") true keys_line.options ss file words (keys file slot (part ∷ path) prefix form) (λ g a v. refl, (λ g a v. refl, (λ g a v. refl, (λ g a v. refl, tt))))
     ((refl, (refl, (refl, tt))), ((refl, (refl, tt)), ((refl, tt), (tt, tt)))) refl
     (rw (file_given ss file words refl, has-first given (codes "PART") ∙ ap (λ (ws : List Text). is_some (first_of ws)) parts) refl)
-    (rw (file_found ss file words refl, meta, shown, how, begun, parts, slot_read slot, form_read form, parts_read (part ∷ path) bytes, part_read prefix prefix_bytes) refl)
+    (rw (file_found ss file words refl, found (codes "meta") refl refl, or_none (option_map slot_word slot), found (codes "form") refl refl, found (codes "parts") refl refl, found (codes "prefix") refl refl, parts, slot_read slot, form_read form, parts_read (part ∷ path) bytes, part_read prefix prefix_bytes) refl)
 
 get_read : (file : Text) (slot : Option Slot) (part : Key) (path : Path) (form : Form) (no_newline : Bool) → All IsBytes (part ∷ path)
     → line_of (words_for [] (get file slot (part ∷ path) form no_newline)) ≡ asks (get file slot (part ∷ path) form no_newline)
@@ -265,15 +242,12 @@ get_read file slot part path form no_newline bytes =
     let ss = settings (get file slot (part ∷ path) form no_newline) in
     let words = hex_words (part ∷ path) in
     let given = line_given ss file words in
-    let meta : first_of (values_of given (codes "meta")) ≡ option_map slot_word slot = option_found ss file words (codes "meta") refl refl ∙ or_none (option_map slot_word slot) in
-    let shown : first_of (values_of given (codes "form")) ≡ Some (form_word form) = option_found ss file words (codes "form") refl refl in
-    let how : first_of (values_of given (codes "parts")) ≡ Some (codes "hex") = option_found ss file words (codes "parts") refl refl in
-    let flag : first_of (values_of given (codes "no-newline")) ≡ (if no_newline then Some given_word else None) = option_found ss file words (codes "no-newline") refl refl ∙ or_none _ in
+    let found = option_found ss file words in
     let parts : values_of given (codes "PART") ≡ words = parts_found ss file words (refl, (refl, (refl, (refl, tt)))) in
     path_read (codes "get") true get_line.options ss file words (get file slot (part ∷ path) form no_newline) (λ g a v. refl, (λ g a v. refl, (λ g a v. refl, (λ g a. refl, tt))))
     ((refl, (refl, (refl, tt))), ((refl, (refl, tt)), ((refl, tt), (tt, tt)))) refl
     (rw (file_given ss file words refl, has-first given (codes "PART") ∙ ap (λ (ws : List Text). is_some (first_of ws)) parts) refl)
-    (rw (file_found ss file words refl, meta, shown, how, flag, parts, slot_read slot, form_read form, parts_read (part ∷ path) bytes, given_read no_newline) refl)
+    (rw (file_found ss file words refl, found (codes "meta") refl refl, or_none (option_map slot_word slot), found (codes "form") refl refl, found (codes "parts") refl refl, found (codes "no-newline") refl refl, or_none, parts, slot_read slot, form_read form, parts_read (part ∷ path) bytes, given_read no_newline) refl)
 
 line_of-words_for : (name : Text) (wanted : Asked) → IsInRange wanted → line_of (words_for name wanted) ≡ asks wanted
 line_of-words_for name (info file slot) in_range = info_read file slot

@@ -9,7 +9,7 @@ use Rattle.hex.specs.Hex.{IsBytes, encode_lower, encode_with, hex_digit_value, l
 use Rattle.hex.proofs.HexLemmas.{IsDigits-lower_digits, decode_of-encode_lower, length-encode_with}
 use Rattle.bolt_check.specs.Keys.{Key}
 use Rattle.bolt_tree.specs.Paths.{Path}
-use Rattle.bolt_cli.specs.LineWords.{Text, is_option}
+use Rattle.bolt_cli.specs.LineWords.{Text}
 use Rattle.bolt_cli.specs.PathWords.{each_part, hex_path_of, or_bad_hex, part_of, result_and_then}
 use Rattle.bolt_cli.specs.PlainWords.{IsPart}
 use Rattle.bolt_cli.specs.declared.parts.Parts.TheVariants as parts

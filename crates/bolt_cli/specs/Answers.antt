@@ -365,6 +365,10 @@ abbrev pub lost_status : List LossView → ℕ
 lost_status [] = 0
 lost_status (loss ∷ losses) = 1
 
+-- what is reported of a copy: each loss, and the lengths of the file and of the copy
+abbrev pub copy_report : List LossView → (source copy : ℕ) → Answer
+copy_report losses source copy = record { out = losses_text losses ++ lengths_line source copy; ending = Ok (lost_status losses) }
+
 -- `check` accepts a file that holds these bytes, and its listing is this one
 abbrev pub AcceptsListing : List ℕ → List Member → Type 0
 AcceptsListing file listing = (slot : Slot) × (meta : Meta) × IsChosen file slot meta × IsSound file meta true × IsListing file meta listing
@@ -403,8 +407,7 @@ module _ {O T : Type 0} (out_taken : O → Option (List ℕ)) (out_failed : O �
   Recovers file slot size which snapshot ending =
       ((meta : Meta) × (listing : List Member) × (losses : List LossView) × IsRecoveredUnder file slot meta × IsRecovered file meta listing × AreLosses file meta losses
       × (let layout = layout_of_listing which (copy_page_size size meta) listing meta.root_sequence in
-      let copy = copy_of snapshot layout in
-      WritesCopy listing layout copy (record { out = losses_text losses ++ lengths_line (length file) (length copy); ending = Ok (lost_status losses) }) ending))
+      let copy = copy_of snapshot layout in WritesCopy listing layout copy (copy_report losses (length file) (length copy)) ending))
       ⊎ ((fault : CheckFault) × (failure : Failure) × IsUnrecoverableUnder file slot fault × IsFailureOf fault failure
       × (out_new ≡ out_old) × (target_new ≡ target_old) × (ending ≡ Err failure))
 

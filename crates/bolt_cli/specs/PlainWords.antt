@@ -32,49 +32,56 @@ id_operand = record { name = codes "ID"; several = false; required = true }
 abbrev pub part_operand : (required : Bool) → Operand
 part_operand required = record { name = codes "PART"; several = true; required = required }
 
+-- options that may be given, each by its name: with a value, and without one
+abbrev valued_option : Text → Choice
+valued_option name = record { name = name; flag = long name; has_value = true; required = false }
+
+abbrev lone_option : Text → Choice
+lone_option name = record { name = name; flag = long name; has_value = false; required = false }
+
 abbrev pub form_option : Choice
-form_option = record { name = codes "form"; flag = long (codes "form"); has_value = true; required = false }
+form_option = valued_option (codes "form")
 
 abbrev pub parts_option : Choice
-parts_option = record { name = codes "parts"; flag = long (codes "parts"); has_value = true; required = false }
+parts_option = valued_option (codes "parts")
 
 abbrev pub from_option : Choice
-from_option = record { name = codes "from"; flag = long (codes "from"); has_value = true; required = false }
+from_option = valued_option (codes "from")
 
 abbrev pub meta_option : Choice
-meta_option = record { name = codes "meta"; flag = long (codes "meta"); has_value = true; required = false }
+meta_option = valued_option (codes "meta")
 
 -- the file of a copy, by `-o` (111)
 abbrev pub output_option : Choice
 output_option = record { name = codes "output"; flag = short 111; has_value = true; required = true }
 
 abbrev pub page_size_option : Choice
-page_size_option = record { name = codes "page-size"; flag = long (codes "page-size"); has_value = true; required = false }
+page_size_option = valued_option (codes "page-size")
 
 abbrev pub for_bbolt_option : Choice
-for_bbolt_option = record { name = codes "for-bbolt"; flag = long (codes "for-bbolt"); has_value = false; required = false }
+for_bbolt_option = lone_option (codes "for-bbolt")
 
 abbrev pub snapshot_option : Choice
-snapshot_option = record { name = codes "etcd-snapshot"; flag = long (codes "etcd-snapshot"); has_value = false; required = false }
+snapshot_option = lone_option (codes "etcd-snapshot")
 
 abbrev pub sizes_option : Choice
-sizes_option = record { name = codes "sizes"; flag = long (codes "sizes"); has_value = false; required = false }
+sizes_option = lone_option (codes "sizes")
 
 abbrev pub prefix_option : Choice
-prefix_option = record { name = codes "prefix"; flag = long (codes "prefix"); has_value = true; required = false }
+prefix_option = valued_option (codes "prefix")
 
 -- also by `-n` (110)
 abbrev pub no_newline_option : Choice
 no_newline_option = record { name = codes "no-newline"; flag = both 110 (codes "no-newline"); has_value = false; required = false }
 
 abbrev pub map_option : Choice
-map_option = record { name = codes "map"; flag = long (codes "map"); has_value = false; required = false }
+map_option = lone_option (codes "map")
 
 abbrev pub all_option : Choice
-all_option = record { name = codes "all"; flag = long (codes "all"); has_value = false; required = false }
+all_option = lone_option (codes "all")
 
 abbrev pub recover_option : Choice
-recover_option = record { name = codes "recover"; flag = long (codes "recover"); has_value = false; required = false }
+recover_option = lone_option (codes "recover")
 
 -- the lines of the commands
 abbrev pub info_line : Syntax
@@ -106,9 +113,6 @@ list_line = record { name = codes "list"; operands = file_operand ∷ part_opera
 
 abbrev pub compact_line : Syntax
 compact_line = record { name = codes "compact"; operands = file_operand ∷ []; options = output_option ∷ page_size_option ∷ for_bbolt_option ∷ snapshot_option ∷ recover_option ∷ meta_option ∷ [] }
-
-abbrev pub syntaxes : List Syntax
-syntaxes = info_line ∷ page_line ∷ pages_line ∷ check_line ∷ buckets_line ∷ keys_line ∷ get_line ∷ stats_line ∷ list_line ∷ compact_line ∷ []
 
 -- ---- what a line asks for
 
@@ -144,30 +148,6 @@ asked_of (job.Get file slot path form no_newline) = get (string_bytes file) slot
 asked_of (job.Stats file slot path) = stats (string_bytes file) slot (path_in path.items)
 asked_of (job.List file slot form path from recover) = list (string_bytes file) slot form (path_in path.items) (path_in from.items) recover
 asked_of (job.Compact file slot target size which recover) = compact (string_bytes file) slot (string_bytes target) (size_in size) which recover
-
--- the FILE that is asked for
-abbrev pub asked_file : Asked → Text
-asked_file (info file slot) = file
-asked_file (page file id) = file
-asked_file (pages file as_map) = file
-asked_file (check file slot all snapshot) = file
-asked_file (buckets file slot path form sizes) = file
-asked_file (keys file slot path prefix form) = file
-asked_file (get file slot path form no_newline) = file
-asked_file (stats file slot path) = file
-asked_file (list file slot form path from recover) = file
-asked_file (compact file slot target size which recover) = file
-
--- the OUT, if one is asked for
-abbrev pub asked_target : Asked → Option Text
-asked_target (compact file slot target size which recover) = Some target
-asked_target _ = None
-
-abbrev pub file_name : Job → Text
-file_name wanted = asked_file (asked_of wanted)
-
-abbrev pub target_name : Job → Option Text
-target_name wanted = asked_target (asked_of wanted)
 
 -- the words that a line gives by each name
 abbrev pub Values : Type 0
@@ -308,20 +288,29 @@ asks_compact values = result_and_then (λ file. result_and_then (λ slot. result
     Ok (compact file slot target size (copy_kind_by (first_of (values (codes "for-bbolt"))) (first_of (values (codes "etcd-snapshot")))) (is_given (first_of (values (codes "recover"))))))
     (page_size_by (first_of (values (codes "page-size"))))) (text_by (codes "output") values)) (slot_by (first_of (values (codes "meta"))))) (text_by (codes "FILE") values)
 
--- what a command asks for, or which word can't be read and why
+-- a command by its line, and what the words of that line ask for, or which of them can't be read and why
+pub record Command : Type 0 where
+  pub syntax : Syntax
+  pub asks : Values → Result Asked Text
+
+abbrev command : Syntax → (Values → Result Asked Text) → Command
+command syntax asks = record { syntax = syntax; asks = asks }
+
+abbrev pub commands : List Command
+commands =
+    command info_line asks_info ∷ command page_line asks_page ∷ command pages_line asks_pages ∷ command check_line asks_check ∷ command buckets_line asks_buckets ∷ command keys_line asks_keys
+    ∷ command get_line asks_get ∷ command stats_line asks_stats ∷ command list_line asks_list ∷ command compact_line asks_compact ∷ []
+
+abbrev pub syntaxes : List Syntax
+syntaxes = map (λ (c : Command). c.syntax) commands
+
+abbrev pub asked_among : List Command → Text → Values → Result Asked Text
+asked_among [] name values = Err (codes "command missing")
+asked_among (c ∷ later) name values = if bytes_eq name c.syntax.name then c.asks values else asked_among later name values
+
+-- by the name of the command
 abbrev pub asked : Text → Values → Result Asked Text
-asked name values =
-    if bytes_eq name (codes "info") then asks_info values
-    else if bytes_eq name (codes "page") then asks_page values
-    else if bytes_eq name (codes "pages") then asks_pages values
-    else if bytes_eq name (codes "check") then asks_check values
-    else if bytes_eq name (codes "buckets") then asks_buckets values
-    else if bytes_eq name (codes "keys") then asks_keys values
-    else if bytes_eq name (codes "get") then asks_get values
-    else if bytes_eq name (codes "stats") then asks_stats values
-    else if bytes_eq name (codes "list") then asks_list values
-    else if bytes_eq name (codes "compact") then asks_compact values
-    else Err (codes "command missing")
+asked name values = asked_among commands name values
 
 -- ---- lines
 
@@ -400,46 +389,50 @@ is_for_bbolt kind.Plain = false
 is_for_bbolt kind.ForBbolt = true
 is_for_bbolt kind.EtcdSnapshot = false
 
--- the name of the command that does the job, the options of its line, its FILE, and the words after that
-abbrev pub command_name : Asked → Text
-command_name (info file slot) = codes "info"
-command_name (page file id) = codes "page"
-command_name (pages file as_map) = codes "pages"
-command_name (check file slot all snapshot) = codes "check"
-command_name (buckets file slot path form sizes) = codes "buckets"
-command_name (keys file slot path prefix form) = codes "keys"
-command_name (get file slot path form no_newline) = codes "get"
-command_name (stats file slot path) = codes "stats"
-command_name (list file slot form path from recover) = codes "list"
-command_name (compact file slot target size which recover) = codes "compact"
+-- The line that asks for a job, whatever its texts are: the name of the command, the options, FILE, and the words after it.
+pub record Line : Type 0 where
+  pub name : Text
+  pub settings : List Setting
+  pub file : Text
+  pub after : List Text
+
+abbrev written : (name : Text) → List Setting → (file : Text) → (after : List Text) → Line
+written name settings file after = record { name = name; settings = settings; file = file; after = after }
+
+abbrev pub line_for : Asked → Line
+line_for (info file slot) = written (codes "info") (meta_setting slot ∷ []) file []
+line_for (page file id) = written (codes "page") [] file (decimal id ∷ [])
+line_for (pages file as_map) = written (codes "pages") (alone (codes "map") as_map ∷ []) file []
+line_for (check file slot all snapshot) = written (codes "check") (meta_setting slot ∷ alone (codes "all") all ∷ alone (codes "etcd-snapshot") snapshot ∷ []) file []
+line_for (buckets file slot path form sizes) =
+    written (codes "buckets") (meta_setting slot ∷ form_setting form ∷ parts_setting ∷ alone (codes "sizes") sizes ∷ []) file (map encode_lower path)
+line_for (keys file slot path prefix form) =
+    written (codes "keys") (meta_setting slot ∷ form_setting form ∷ parts_setting ∷ valued (codes "prefix") (Some (encode_lower prefix)) ∷ []) file (map encode_lower path)
+line_for (get file slot path form no_newline) =
+    written (codes "get") (meta_setting slot ∷ form_setting form ∷ parts_setting ∷ alone (codes "no-newline") no_newline ∷ []) file (map encode_lower path)
+line_for (stats file slot path) = written (codes "stats") (meta_setting slot ∷ parts_setting ∷ []) file (map encode_lower path)
+line_for (list file slot form path from recover) =
+    written (codes "list") (meta_setting slot ∷ valued (codes "form") (Some (list_form_word form)) ∷ parts_setting ∷ valued (codes "from") (from_word from) ∷ alone (codes "recover") recover ∷ []) file
+    (map encode_lower path)
+line_for (compact file slot target size which recover) =
+    written (codes "compact") (lettered 111 (codes "output") target ∷ meta_setting slot ∷ valued (codes "page-size") (option_map decimal size) ∷ alone (codes "for-bbolt") (is_for_bbolt which)
+    ∷ alone (codes "etcd-snapshot") (is_snapshot which) ∷ alone (codes "recover") recover ∷ []) file []
 
 abbrev pub settings : Asked → List Setting
-settings (info file slot) = meta_setting slot ∷ []
-settings (page file id) = []
-settings (pages file as_map) = alone (codes "map") as_map ∷ []
-settings (check file slot all snapshot) = meta_setting slot ∷ alone (codes "all") all ∷ alone (codes "etcd-snapshot") snapshot ∷ []
-settings (buckets file slot path form sizes) = meta_setting slot ∷ form_setting form ∷ parts_setting ∷ alone (codes "sizes") sizes ∷ []
-settings (keys file slot path prefix form) = meta_setting slot ∷ form_setting form ∷ parts_setting ∷ valued (codes "prefix") (Some (encode_lower prefix)) ∷ []
-settings (get file slot path form no_newline) = meta_setting slot ∷ form_setting form ∷ parts_setting ∷ alone (codes "no-newline") no_newline ∷ []
-settings (stats file slot path) = meta_setting slot ∷ parts_setting ∷ []
-settings (list file slot form path from recover) =
-    meta_setting slot ∷ valued (codes "form") (Some (list_form_word form)) ∷ parts_setting ∷ valued (codes "from") (from_word from) ∷ alone (codes "recover") recover ∷ []
-settings (compact file slot target size which recover) =
-    lettered 111 (codes "output") target ∷ meta_setting slot ∷ valued (codes "page-size") (option_map decimal size) ∷ alone (codes "for-bbolt") (is_for_bbolt which)
-    ∷ alone (codes "etcd-snapshot") (is_snapshot which) ∷ alone (codes "recover") recover ∷ []
+settings wanted = (line_for wanted).settings
 
-abbrev pub words_after : Asked → List Text
-words_after (page file id) = decimal id ∷ []
-words_after (buckets file slot path form sizes) = map encode_lower path
-words_after (stats file slot path) = map encode_lower path
-words_after (keys file slot path prefix form) = map encode_lower path
-words_after (get file slot path form no_newline) = map encode_lower path
-words_after (list file slot form path from recover) = map encode_lower path
-words_after _ = []
-
--- words that ask for the job, whatever its texts are
+-- the words of that line
 abbrev pub words_for : Text → Asked → List Text
-words_for name wanted = name ∷ command_name wanted ∷ settings_words (settings wanted) (codes "--" ∷ asked_file wanted ∷ words_after wanted)
+words_for name wanted = let own = line_for wanted in name ∷ own.name ∷ settings_words own.settings (codes "--" ∷ own.file ∷ own.after)
+
+-- the FILE that is asked for
+abbrev pub file_name : Job → Text
+file_name wanted = (line_for (asked_of wanted)).file
+
+-- the OUT, if one is asked for
+abbrev pub target_name : Job → Option Text
+target_name (job.Compact file slot target size which recover) = Some (string_bytes target)
+target_name _ = None
 
 abbrev pub IsPath : Path → Type 0
 IsPath [] = ⊥

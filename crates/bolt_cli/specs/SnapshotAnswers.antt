@@ -1,7 +1,7 @@
 -- What a command says of the hash of a snapshot: docs/COMMANDS.md, "Snapshots".
 use Rattle.std.specs.Prelude.{◌≡◌, ℕ, List, [], ◌++◌, length, Bool, true, false, Option, None, Some}
 use Rattle.sha2.specs.Sha256.{sha256}
-use Rattle.std.specs.Io.KnownBytes.{Appends}
+use Rattle.std.specs.Io.KnownBytes.{Appends, Keeps}
 use Rattle.bolt_snapshot.specs.Hashes.{EndsWith}
 use Rattle.bolt_snapshot.specs.SnapshotFaults.{hash_fault}
 use Rattle.bolt_snapshot.specs.declared.fault.SnapshotFault.{SnapshotFault}
@@ -32,3 +32,8 @@ ending_length true = 32
 -- a sink that accepted a layout of so many bytes last has then accepted what follows it
 abbrev pub AppendsEnding : (snapshot : Bool) → (old new : Option (List ℕ)) → (count : ℕ) → Type 0
 AppendsEnding snapshot old new count = (layout : List ℕ) → length layout ≡ count → EndsWith old layout → Appends old new (ending_of snapshot layout)
+
+-- a sink accepted nothing yet, and didn't fail
+pub record IsBegun {T : Type 0} (taken : T → Option (List ℕ)) (failed : T → ℕ) (old new : T) : Type 0 where
+  pub kept : Keeps (taken old) (taken new)
+  pub sound : failed new ≡ failed old

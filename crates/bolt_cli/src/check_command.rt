@@ -9,8 +9,8 @@ ghost use Rattle.bolt_cli.specs.Answers.{Answer, Does, IsCheckAnswer, IsFoundAns
 ghost use Rattle.bolt_cli.specs.SnapshotAnswers.{errors_in, hash_found};
 
 use crate::failure::Failure;
-use crate::open_read::check_under;
-use crate::open_recovery::recovery_under;
+use crate::open_read::open_read;
+use crate::open_recovery::open_recovery;
 use bolt_check::{CheckFault, Finding, NoMemory};
 use bolt_format::{MetaFault, Sink, SinkFault, Slot};
 use bolt_recover::{Loss, Recovery};
@@ -67,7 +67,7 @@ fn print_findings<O: Sink>(
     ensures { (answer : Answer) × IsFoundAnswer hash file.now slot answer
         × Does O.taken O.failed out.old out.new answer result }
 {
-    match check_under(alloc, file, slot) {
+    match open_read(alloc, file, slot) {
         Ok(_) => put_none_found(hash, out),
         Err(fault) => put_refusal(&fault, hash, out),
     }
@@ -84,7 +84,7 @@ fn print_losses<O: Sink>(
     ensures { (answer : Answer) × IsRecoveredAnswer file.now slot (IsLossesAnswer hash file.now slot) (λ fault answer. answer ≡ all_refusal hash fault) answer
         × Does O.taken O.failed out.old out.new answer result }
 {
-    let mut recovery = match recovery_under(alloc, file, slot) {
+    let mut recovery = match open_recovery(alloc, file, slot) {
         Ok(recovery) => recovery,
         Err(fault) => return put_all_lost(&fault, hash, out),
     };

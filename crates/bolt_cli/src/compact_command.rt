@@ -7,8 +7,8 @@ ghost use Rattle.bolt_format.specs.Writes.{Writes};
 ghost use Rattle.bolt_recover.specs.ShownLosses.{loss_view};
 ghost use Rattle.bolt_snapshot.specs.Hashes.{AppendsHashShort};
 ghost use Rattle.bolt_snapshot.specs.declared.hash_fault.HashFault.TheVariants as hash;
-ghost use Rattle.bolt_cli.specs.Answers.{Compacts, MakesCopy, Recovers, copy_page_size, lengths_line, lost_status};
-ghost use Rattle.bolt_cli.specs.SnapshotAnswers.{AppendsEnding, ending_length};
+ghost use Rattle.bolt_cli.specs.Answers.{Compacts, Does, MakesCopy, Recovers, copy_page_size, copy_report, lengths_line, lost_status};
+ghost use Rattle.bolt_cli.specs.SnapshotAnswers.{AppendsEnding, IsBegun, ending_length};
 
 use crate::decimals::put_number;
 use crate::failure::Failure;
@@ -69,8 +69,7 @@ fn write_sound<O: Sink, T: SnapshotSink>(
     begin_copy(wanted.snapshot, target);
     let copy = compact_as(alloc, checked, wanted.layout, size, target)?;
     let length = end_copy(wanted.snapshot, copy.bytes, target)?;
-    put_lengths(file.len() as u64, length, out)?;
-    Ok(0)
+    put_report(&[], file.len() as u64, length, out)
 }
 
 /// Writes the copy of what a damaged file still holds, then the line of each loss, and the lengths.
@@ -89,16 +88,12 @@ fn write_recovered<O: Sink, T: SnapshotSink>(
     begin_copy(wanted.snapshot, target);
     let copy = compact_recovered(alloc, &mut recovery, wanted.layout, size, target)?;
     let length = end_copy(wanted.snapshot, copy.bytes, target)?;
-    let losses = recovery.losses();
-    losses_text(losses, out)?;
-    put_lengths(file.len() as u64, length, out)?;
-    Ok(status_of(losses))
+    put_report(recovery.losses(), file.len() as u64, length, out)
 }
 
 /// Has the target hash a snapshot.
 fn begin_copy<T: SnapshotSink>(snapshot: bool, target: &mut T)
-    ensures kept { Keeps (T.taken target.old) (T.taken target.new) }
-    ensures sound { T.failed target.new ≡ T.failed target.old }
+    ensures begun { IsBegun T.taken T.failed target.old target.new }
     ensures hashing { IsTrue snapshot → T.hashed target.new ≡ Some 0 }
 {
     if snapshot {
@@ -121,6 +116,21 @@ fn end_copy<T: SnapshotSink>(snapshot: bool, length: u64, target: &mut T) -> Res
     }
     target.put_hash(length)?;
     Ok(length.saturating_add(HASH_LEN))
+}
+
+/// Writes the line of each loss, and then the lengths of the file and of the copy. Returns the
+/// status.
+fn put_report<O: Sink>(
+    losses: &[Loss<'_>],
+    source: u64,
+    copy: u64,
+    out: &mut O,
+) -> Result<u8, Failure>
+    ensures { Does O.taken O.failed out.old out.new (copy_report (map loss_view losses.now) source copy) result }
+{
+    losses_text(losses, out)?;
+    put_lengths(source, copy, out)?;
+    Ok(status_of(losses))
 }
 
 /// The status after these losses.

@@ -60,6 +60,23 @@ impl From<MetaFault> for Failure {
     }
 }
 
+impl From<CheckFault> for Failure {
+    ghost from_gives = { λ fault result. HasFinding fault → IsFailureOf fault result };
+
+    /// Of the findings only the first is reported. No file is refused for accounts without a finding.
+    fn from(fault: CheckFault) -> Failure {
+        match fault {
+            CheckFault::Open(fault) => Failure::Metas(fault),
+            CheckFault::Structure(finding) => Failure::File(finding),
+            CheckFault::Accounts(findings) => match findings.first() {
+                Some(finding) => Failure::File(*finding),
+                None => Failure::Memory,
+            },
+            CheckFault::Memory => Failure::Memory,
+        }
+    }
+}
+
 impl From<SinkFault> for Failure {
     ghost from_gives = { λ _ result. result ≡ failure.Write };
 
@@ -102,19 +119,6 @@ impl From<HashFault> for Failure {
             HashFault::Sink => Failure::Write,
             HashFault::NotHashed => Failure::Memory,
         }
-    }
-}
-
-/// The failure of a job whose file is refused: only the first finding is reported.
-pub(crate) fn failure_of(fault: &CheckFault) -> Failure
-    requires { HasFinding fault.now }
-    ensures { IsFailureOf fault.now result }
-{
-    match fault {
-        CheckFault::Open(fault) => Failure::Metas(*fault),
-        CheckFault::Structure(finding) => Failure::File(*finding),
-        CheckFault::Accounts(findings) => Failure::File(findings.as_slice()[0]),
-        CheckFault::Memory => Failure::Memory,
     }
 }
 

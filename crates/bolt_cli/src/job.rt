@@ -97,57 +97,16 @@ impl Job {
         ensures { result.now ≡ file_name self.now }
     {
         match self {
-            Job::Info { file, slot: _ } => file.as_str(),
-            Job::Page { file, id: _ } => file.as_str(),
-            Job::Pages { file, map: _ } => file.as_str(),
-            Job::Stats {
-                file,
-                slot: _,
-                path: _,
-            } => file.as_str(),
-            Job::Check {
-                file,
-                slot: _,
-                all: _,
-                snapshot: _,
-            } => file.as_str(),
-            Job::Buckets {
-                file,
-                slot: _,
-                path: _,
-                form: _,
-                sizes: _,
-            } => file.as_str(),
-            Job::Keys {
-                file,
-                slot: _,
-                path: _,
-                prefix: _,
-                form: _,
-            } => file.as_str(),
-            Job::Get {
-                file,
-                slot: _,
-                path: _,
-                form: _,
-                no_newline: _,
-            } => file.as_str(),
-            Job::List {
-                file,
-                slot: _,
-                form: _,
-                path: _,
-                from: _,
-                recover: _,
-            } => file.as_str(),
-            Job::Compact {
-                file,
-                slot: _,
-                target: _,
-                page_size: _,
-                kind: _,
-                recover: _,
-            } => file.as_str(),
+            Job::Info { file, .. }
+            | Job::Page { file, .. }
+            | Job::Pages { file, .. }
+            | Job::Check { file, .. }
+            | Job::Buckets { file, .. }
+            | Job::Stats { file, .. }
+            | Job::Keys { file, .. }
+            | Job::Get { file, .. }
+            | Job::List { file, .. }
+            | Job::Compact { file, .. } => file.as_str(),
         }
     }
 
@@ -157,7 +116,7 @@ impl Job {
         ensures { result ≡ needed_length self.now }
     {
         match self {
-            Job::Info { file: _, slot: _ } => Some(METAS_END),
+            Job::Info { .. } => Some(METAS_END),
             _ => None,
         }
     }
@@ -167,14 +126,7 @@ impl Job {
         ensures { option_map (λ name. name.now) result ≡ target_name self.now }
     {
         match self {
-            Job::Compact {
-                file: _,
-                slot: _,
-                target,
-                page_size: _,
-                kind: _,
-                recover: _,
-            } => Some(target.as_str()),
+            Job::Compact { target, .. } => Some(target.as_str()),
             _ => None,
         }
     }

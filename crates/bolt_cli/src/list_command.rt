@@ -1,16 +1,25 @@
 //! The command `list`.
-ghost use Rattle.std.specs.Prelude.{◌≡◌, IfErr, IfOk};
+ghost use Rattle.std.specs.Prelude.{◌≡◌, ◌⊎◌, IfErr, IfOk, OnOk, map};
+ghost use Rattle.bolt_recover.specs.Recovered.{ForRecovered};
+ghost use Rattle.bolt_recover.specs.Recoveries.{ForLosses, recovery_file, recovery_left, recovery_losses, recovery_meta};
+ghost use Rattle.bolt_recover.specs.ShownLosses.{loss_view};
+ghost use Rattle.bolt_report.specs.ListForms.{listing_lines};
+ghost use Rattle.bolt_report.specs.Reports.{Reports};
+ghost use Rattle.bolt_tree.specs.FileListings.{ForListing};
+ghost use Rattle.bolt_tree.specs.Listing.{rest_from};
+ghost use Rattle.bolt_tree.specs.ListingParts.{has_bucket, part_below};
 ghost use Rattle.bolt_tree.specs.Paths.{path_of};
-ghost use Rattle.bolt_cli.specs.Answers.{Answer, Does, IsFileRefusal, IsListAnswer, IsListedAnswer, IsReadAnswer, IsRecoveredAnswer, IsRecoveredList};
+ghost use Rattle.bolt_cli.specs.Answers.{Answer, Does, IsFileRefusal, IsListAnswer, IsListedAnswer, IsReadAnswer, IsRecoveredAnswer, IsRecoveredList, lost_ending, part_text};
 ghost use Rattle.bolt_cli.specs.PlainWords.{path_in};
-ghost use Rattle.bolt_cli.specs.declared.failure.Failure.TheVariants.{Memory};
 
 use crate::failure::Failure;
 use crate::open_bucket::open_bucket;
 use crate::open_read::open_read;
 use crate::open_recovery::open_recovery;
+use bolt_check::Checked;
 use bolt_format::{Sink, Slot};
-use bolt_report::{ListForm, list_part, list_recovered_part};
+use bolt_recover::{Loss, Recovery};
+use bolt_report::{ListForm, ReportFault, list_part, list_recovered_part};
 use std::alloc::Global;
 
 /// What `list` is to write.
@@ -56,16 +65,7 @@ fn print_sound<O: Sink>(
     let checked = open_read(alloc, file, slot)?;
     // Only for the error if there is no such bucket.
     open_bucket(checked, wanted.path)?;
-    let path = slices(alloc, wanted.path)?;
-    let from = slices(alloc, wanted.from)?;
-    list_part(
-        alloc,
-        checked,
-        path.as_slice(),
-        from.as_slice(),
-        wanted.form,
-        out,
-    )?;
+    put_part(alloc, checked, wanted, out)?;
     Ok(0)
 }
 
@@ -80,19 +80,64 @@ fn print_recovered<O: Sink>(
         × Does O.taken O.failed out.old out.new answer result }
 {
     let mut recovery = open_recovery(alloc, file, slot)?;
+    if !put_rest(alloc, &mut recovery, wanted, out)? {
+        return Err(Failure::NoBucket);
+    }
+    ending_of(recovery.losses())
+}
+
+/// Writes the part that is wanted of a sound file.
+fn put_part<O: Sink>(
+    alloc: Global,
+    checked: Checked<'_>,
+    wanted: &WantedList<'_>,
+    out: &mut O,
+) -> Result<(), ReportFault>
+    ensures written { ForListing checked.entry (λ listing. Reports O.taken O.failed out.old out.new (listing_lines wanted.now.form (rest_from (path_in wanted.now.from.now) (part_below (path_in wanted.now.path.now) listing))) result) }
+    ensures fault { IfErr result (λ fault. (fault ≡ ReportFault.Sink) ⊎ (fault ≡ ReportFault.NoMemory)) }
+    ensures memory { IfErr result (λ fault. fault ≡ ReportFault.NoMemory → O.failed out.new ≡ O.failed out.old) }
+{
     let path = slices(alloc, wanted.path)?;
     let from = slices(alloc, wanted.from)?;
-    if !list_recovered_part(
+    list_part(
         alloc,
-        &mut recovery,
+        checked,
         path.as_slice(),
         from.as_slice(),
         wanted.form,
         out,
-    )? {
-        return Err(Failure::NoBucket);
-    }
-    let losses = recovery.losses();
+    )
+}
+
+/// Writes the part that is wanted of what is recovered, and returns whether it has the bucket.
+fn put_rest<O: Sink>(
+    alloc: Global,
+    recovery: &mut Recovery<'_>,
+    wanted: &WantedList<'_>,
+    out: &mut O,
+) -> Result<bool, ReportFault>
+    ensures written { ForRecovered (recovery_file recovery.old) (recovery_meta recovery.old) (λ listing. Reports O.taken O.failed out.old out.new (part_text wanted.now.form (path_in wanted.now.path.now) (path_in wanted.now.from.now) (recovery_left recovery.old listing)) result) }
+    ensures found { IfOk result (λ found. ForRecovered (recovery_file recovery.old) (recovery_meta recovery.old) (λ listing. found ≡ has_bucket (path_in wanted.now.path.now) (recovery_left recovery.old listing))) }
+    ensures all { OnOk result (ForLosses (recovery_file recovery.old) (recovery_meta recovery.old) (λ losses. recovery_losses recovery.new ≡ losses)) }
+    ensures fault { IfErr result (λ fault. (fault ≡ ReportFault.Sink) ⊎ (fault ≡ ReportFault.NoMemory)) }
+    ensures memory { IfErr result (λ fault. fault ≡ ReportFault.NoMemory → O.failed out.new ≡ O.failed out.old) }
+{
+    let path = slices(alloc, wanted.path)?;
+    let from = slices(alloc, wanted.from)?;
+    list_recovered_part(
+        alloc,
+        recovery,
+        path.as_slice(),
+        from.as_slice(),
+        wanted.form,
+        out,
+    )
+}
+
+/// How the job ends if this is lost.
+fn ending_of(losses: &[Loss<'_>]) -> Result<u8, Failure>
+    ensures { result ≡ lost_ending (map loss_view losses.now) }
+{
     if losses.is_empty() {
         return Ok(0);
     }
@@ -100,13 +145,14 @@ fn print_recovered<O: Sink>(
 }
 
 /// The parts of a path as slices.
-fn slices<'a>(alloc: Global, parts: &'a [Vec<u8>]) -> Result<Vec<&'a [u8]>, Failure>
+fn slices<'a>(alloc: Global, parts: &'a [Vec<u8>]) -> Result<Vec<&'a [u8]>, ReportFault>
     ensures path { IfOk result (λ path. path_of path.items ≡ path_in parts.now) }
-    ensures memory { IfErr result (λ failure. failure ≡ Memory) }
+    ensures memory { IfErr result (λ fault. fault ≡ ReportFault.NoMemory) }
 {
     let mut path = Vec::new(alloc);
     for part in parts {
-        path.push(part.as_slice())?;
+        path.push(part.as_slice())
+            .map_err(|_| ReportFault::NoMemory)?;
     }
     Ok(path)
 }

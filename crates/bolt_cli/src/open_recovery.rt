@@ -1,12 +1,9 @@
 //! Opens a damaged file for the commands that recover what it holds.
 ghost use Rattle.std.specs.Prelude.{◌≡◌, [], IfErr, IfOk};
-ghost use Rattle.bolt_check.specs.declared.fault.CheckFault.{CheckFault};
 ghost use Rattle.bolt_recover.specs.Recovered.{ForRecovered};
 ghost use Rattle.bolt_recover.specs.Recoveries.{recovery_file, recovery_left, recovery_losses, recovery_meta};
 ghost use Rattle.bolt_cli.specs.Answers.{IsRecoveredUnder, IsUnrecoverableUnder};
-ghost use Rattle.bolt_cli.specs.Failures.{IsFailureOf};
 
-use crate::failure::{Failure, failure_of};
 use bolt_check::CheckFault;
 use bolt_format::Slot;
 use bolt_recover::Recovery;
@@ -17,7 +14,7 @@ use std::alloc::Global;
 /// # Errors
 ///
 /// What `Recovery::new` and `Recovery::of_slot` return.
-pub(crate) fn recovery_under(
+pub(crate) fn open_recovery(
     alloc: Global,
     file: &[u8],
     slot: Option<Slot>,
@@ -31,22 +28,5 @@ pub(crate) fn recovery_under(
     match slot {
         None => Recovery::new(alloc, file),
         Some(slot) => Recovery::of_slot(alloc, file, slot),
-    }
-}
-
-/// The same, with the failure that is reported if nothing is recovered.
-pub(crate) fn open_recovery(
-    alloc: Global,
-    file: &[u8],
-    slot: Option<Slot>,
-) -> Result<Recovery<'_>, Failure>
-    ensures file { IfOk result (λ recovery. recovery_file recovery ≡ file.now) }
-    ensures meta { IfOk result (λ recovery. IsRecoveredUnder file.now slot (recovery_meta recovery)) }
-    ensures all { IfOk result (λ recovery. ForRecovered file.now (recovery_meta recovery) (λ listing. recovery_left recovery listing ≡ listing)) }
-    ensures refused { IfErr result (λ failure. (fault : CheckFault) × IsUnrecoverableUnder file.now slot fault × IsFailureOf fault failure) }
-{
-    match recovery_under(alloc, file, slot) {
-        Ok(recovery) => Ok(recovery),
-        Err(fault) => Err(failure_of(&fault)),
     }
 }

@@ -6,8 +6,7 @@ ghost use Rattle.bolt_report.specs.Reports.{Reports};
 ghost use Rattle.bolt_cli.specs.Answers.{Answer, Does, IsCheckedAnswer, IsFileRefusal, IsPagesAnswer, pages_shown};
 
 use crate::failure::Failure;
-use crate::open_read::open_checked;
-use bolt_check::Checked;
+use bolt_check::{Checked, check};
 use bolt_format::Sink;
 use bolt_report::{ReportFault, page_map, pages};
 use std::alloc::Global;
@@ -22,7 +21,7 @@ pub(crate) fn print_pages<O: Sink>(
     ensures { (answer : Answer) × IsCheckedAnswer file.now (IsPagesAnswer file.now map) IsFileRefusal answer
         × Does O.taken O.failed out.old out.new answer result }
 {
-    let checked = open_checked(alloc, file)?;
+    let checked = check(alloc, file)?;
     put_pages(alloc, checked, map, out)?;
     Ok(0)
 }

@@ -60,19 +60,15 @@ fn do_job<O: Sink, T: SnapshotSink>(
     ensures { DoesJob O.taken O.failed out.old out.new T.taken T.failed target.old target.new file.now job.now result }
 {
     match job {
-        Job::Info { file: _, slot } => print_info(file, *slot, out),
-        Job::Page { file: _, id } => print_page(file, *id, out),
-        Job::Pages { file: _, map } => print_pages(alloc, file, *map, out),
-        Job::Stats {
-            file: _,
-            slot,
-            path,
-        } => print_stats(alloc, file, *slot, path.as_slice(), out),
+        Job::Info { slot, .. } => print_info(file, *slot, out),
+        Job::Page { id, .. } => print_page(file, *id, out),
+        Job::Pages { map, .. } => print_pages(alloc, file, *map, out),
+        Job::Stats { slot, path, .. } => print_stats(alloc, file, *slot, path.as_slice(), out),
         Job::Check {
-            file: _,
             slot,
             all,
             snapshot,
+            ..
         } => {
             let wanted = WantedCheck {
                 all: *all,
@@ -81,11 +77,11 @@ fn do_job<O: Sink, T: SnapshotSink>(
             print_check(alloc, file, *slot, wanted, out)
         }
         Job::Buckets {
-            file: _,
             slot,
             path,
             form,
             sizes,
+            ..
         } => {
             let wanted = WantedBuckets {
                 path: path.as_slice(),
@@ -95,11 +91,11 @@ fn do_job<O: Sink, T: SnapshotSink>(
             print_buckets(alloc, file, *slot, &wanted, out)
         }
         Job::Keys {
-            file: _,
             slot,
             path,
             prefix,
             form,
+            ..
         } => {
             let wanted = WantedKeys {
                 path: path.as_slice(),
@@ -109,11 +105,11 @@ fn do_job<O: Sink, T: SnapshotSink>(
             print_keys(alloc, file, *slot, &wanted, out)
         }
         Job::Get {
-            file: _,
             slot,
             path,
             form,
             no_newline,
+            ..
         } => {
             let wanted = WantedValue {
                 path: path.as_slice(),
@@ -123,12 +119,12 @@ fn do_job<O: Sink, T: SnapshotSink>(
             print_value(alloc, file, *slot, &wanted, out)
         }
         Job::List {
-            file: _,
             slot,
             form,
             path,
             from,
             recover,
+            ..
         } => {
             let wanted = WantedList {
                 form: *form,
@@ -139,12 +135,11 @@ fn do_job<O: Sink, T: SnapshotSink>(
             print_list(alloc, file, *slot, &wanted, out)
         }
         Job::Compact {
-            file: _,
             slot,
-            target: _,
             page_size,
             kind,
             recover,
+            ..
         } => {
             let wanted = WantedCopy {
                 page_size: *page_size,

@@ -93,140 +93,113 @@ fn read_command(alloc: Global, name: &str, matches: &ArgMatches<'_>) -> Result<J
 fn read_info(alloc: Global, matches: &ArgMatches<'_>) -> Result<Job, Refusal>
     ensures { Gives asked_of (asks_info (values_in (rows_of (found_of matches.now)))) result }
 {
-    let file = read_text(alloc, matches, "FILE")?;
-    let slot = read_slot(choice(matches, "meta"))?;
-    Ok(Job::Info { file, slot })
+    Ok(Job::Info {
+        file: read_text(alloc, matches, "FILE")?,
+        slot: read_slot(choice(matches, "meta"))?,
+    })
 }
 
 fn read_page(alloc: Global, matches: &ArgMatches<'_>) -> Result<Job, Refusal>
     ensures { Gives asked_of (asks_page (values_in (rows_of (found_of matches.now)))) result }
 {
-    let file = read_text(alloc, matches, "FILE")?;
-    let id = read_page_id(value(matches, "ID")?)?;
-    Ok(Job::Page { file, id })
+    Ok(Job::Page {
+        file: read_text(alloc, matches, "FILE")?,
+        id: read_page_id(value(matches, "ID")?)?,
+    })
 }
 
 fn read_pages(alloc: Global, matches: &ArgMatches<'_>) -> Result<Job, Refusal>
     ensures { Gives asked_of (asks_pages (values_in (rows_of (found_of matches.now)))) result }
 {
-    let file = read_text(alloc, matches, "FILE")?;
-    let map = choice(matches, "map").is_some();
-    Ok(Job::Pages { file, map })
+    Ok(Job::Pages {
+        file: read_text(alloc, matches, "FILE")?,
+        map: choice(matches, "map").is_some(),
+    })
 }
 
 fn read_check(alloc: Global, matches: &ArgMatches<'_>) -> Result<Job, Refusal>
     ensures { Gives asked_of (asks_check (values_in (rows_of (found_of matches.now)))) result }
 {
-    let file = read_text(alloc, matches, "FILE")?;
-    let slot = read_slot(choice(matches, "meta"))?;
-    let all = choice(matches, "all").is_some();
-    let snapshot = choice(matches, "etcd-snapshot").is_some();
     Ok(Job::Check {
-        file,
-        slot,
-        all,
-        snapshot,
+        file: read_text(alloc, matches, "FILE")?,
+        slot: read_slot(choice(matches, "meta"))?,
+        all: choice(matches, "all").is_some(),
+        snapshot: choice(matches, "etcd-snapshot").is_some(),
     })
 }
 
 fn read_buckets(alloc: Global, matches: &ArgMatches<'_>) -> Result<Job, Refusal>
     ensures { Gives asked_of (asks_buckets (values_in (rows_of (found_of matches.now)))) result }
 {
-    let file = read_text(alloc, matches, "FILE")?;
-    let slot = read_slot(choice(matches, "meta"))?;
-    let form = read_form(choice(matches, "form"))?;
-    let path = read_parts_of(alloc, matches)?;
-    let sizes = choice(matches, "sizes").is_some();
     Ok(Job::Buckets {
-        file,
-        slot,
-        path,
-        form,
-        sizes,
+        file: read_text(alloc, matches, "FILE")?,
+        slot: read_slot(choice(matches, "meta"))?,
+        form: read_form(choice(matches, "form"))?,
+        path: read_parts_of(alloc, matches)?,
+        sizes: choice(matches, "sizes").is_some(),
     })
 }
 
 fn read_keys(alloc: Global, matches: &ArgMatches<'_>) -> Result<Job, Refusal>
     ensures { Gives asked_of (asks_keys (values_in (rows_of (found_of matches.now)))) result }
 {
-    let file = read_text(alloc, matches, "FILE")?;
-    let slot = read_slot(choice(matches, "meta"))?;
-    let form = read_form(choice(matches, "form"))?;
-    let path = read_parts_of(alloc, matches)?;
-    let prefix = read_prefix_of(alloc, matches)?;
     Ok(Job::Keys {
-        file,
-        slot,
-        path,
-        prefix,
-        form,
+        file: read_text(alloc, matches, "FILE")?,
+        slot: read_slot(choice(matches, "meta"))?,
+        form: read_form(choice(matches, "form"))?,
+        path: read_parts_of(alloc, matches)?,
+        prefix: read_prefix_of(alloc, matches)?,
     })
 }
 
 fn read_get(alloc: Global, matches: &ArgMatches<'_>) -> Result<Job, Refusal>
     ensures { Gives asked_of (asks_get (values_in (rows_of (found_of matches.now)))) result }
 {
-    let file = read_text(alloc, matches, "FILE")?;
-    let slot = read_slot(choice(matches, "meta"))?;
-    let form = read_form(choice(matches, "form"))?;
-    let path = read_parts_of(alloc, matches)?;
-    let no_newline = choice(matches, "no-newline").is_some();
     Ok(Job::Get {
-        file,
-        slot,
-        path,
-        form,
-        no_newline,
+        file: read_text(alloc, matches, "FILE")?,
+        slot: read_slot(choice(matches, "meta"))?,
+        form: read_form(choice(matches, "form"))?,
+        path: read_parts_of(alloc, matches)?,
+        no_newline: choice(matches, "no-newline").is_some(),
     })
 }
 
 fn read_list(alloc: Global, matches: &ArgMatches<'_>) -> Result<Job, Refusal>
     ensures { Gives asked_of (asks_list (values_in (rows_of (found_of matches.now)))) result }
 {
-    let file = read_text(alloc, matches, "FILE")?;
-    let slot = read_slot(choice(matches, "meta"))?;
-    let form = read_list_form(choice(matches, "form"))?;
-    let path = read_parts_of(alloc, matches)?;
-    let from = read_from(alloc, choice(matches, "from"))?;
-    let recover = choice(matches, "recover").is_some();
     Ok(Job::List {
-        file,
-        slot,
-        form,
-        path,
-        from,
-        recover,
+        file: read_text(alloc, matches, "FILE")?,
+        slot: read_slot(choice(matches, "meta"))?,
+        form: read_list_form(choice(matches, "form"))?,
+        path: read_parts_of(alloc, matches)?,
+        from: read_from(alloc, choice(matches, "from"))?,
+        recover: choice(matches, "recover").is_some(),
     })
 }
 
 fn read_stats(alloc: Global, matches: &ArgMatches<'_>) -> Result<Job, Refusal>
     ensures { Gives asked_of (asks_stats (values_in (rows_of (found_of matches.now)))) result }
 {
-    let file = read_text(alloc, matches, "FILE")?;
-    let slot = read_slot(choice(matches, "meta"))?;
-    let path = read_parts_of(alloc, matches)?;
-    Ok(Job::Stats { file, slot, path })
+    Ok(Job::Stats {
+        file: read_text(alloc, matches, "FILE")?,
+        slot: read_slot(choice(matches, "meta"))?,
+        path: read_parts_of(alloc, matches)?,
+    })
 }
 
 fn read_compact(alloc: Global, matches: &ArgMatches<'_>) -> Result<Job, Refusal>
     ensures { Gives asked_of (asks_compact (values_in (rows_of (found_of matches.now)))) result }
 {
-    let file = read_text(alloc, matches, "FILE")?;
-    let slot = read_slot(choice(matches, "meta"))?;
-    let target = read_text(alloc, matches, "output")?;
-    let page_size = read_page_size(choice(matches, "page-size"))?;
-    let kind = read_copy_kind(
-        choice(matches, "for-bbolt"),
-        choice(matches, "etcd-snapshot"),
-    );
-    let recover = choice(matches, "recover").is_some();
     Ok(Job::Compact {
-        file,
-        slot,
-        target,
-        page_size,
-        kind,
-        recover,
+        file: read_text(alloc, matches, "FILE")?,
+        slot: read_slot(choice(matches, "meta"))?,
+        target: read_text(alloc, matches, "output")?,
+        page_size: read_page_size(choice(matches, "page-size"))?,
+        kind: read_copy_kind(
+            choice(matches, "for-bbolt"),
+            choice(matches, "etcd-snapshot"),
+        ),
+        recover: choice(matches, "recover").is_some(),
     })
 }
 

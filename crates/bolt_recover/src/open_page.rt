@@ -48,14 +48,11 @@ impl<'a> Content<'a> {
         ensures fewer { IfOk result (λ content. pages_left claims.new + pages_in content ≤ pages_left claims.old) }
     {
         match spot {
-            Spot::Page(spot) => match claims.visit(&spot) {
-                Ok(page) => Ok(Content::Page(page, spot)),
-                Err(finding) => Err(finding),
-            },
-            Spot::Bucket(spot) => match spot.test() {
-                Ok(()) => Ok(Content::Bucket(spot)),
-                Err(finding) => Err(finding),
-            },
+            Spot::Page(spot) => Ok(Content::Page(claims.visit(&spot)?, spot)),
+            Spot::Bucket(spot) => {
+                spot.test()?;
+                Ok(Content::Bucket(spot))
+            }
         }
     }
 

@@ -1,5 +1,5 @@
 -- The text of the part of a listing below a path, member by member.
-use Rattle.std.proofs.Common.{◌≡◌, ◌∙◌, ◌++◌, ◌∷◌, [], Bool, false, true, List, ap, sym, cond}
+use Rattle.std.proofs.Common.{◌≡◌, ◌∙◌, ◌++◌, ◌∷◌, [], Bool, true, List, ap, sym, cond}
 use Rattle.std.specs.List.{take_while}
 use Rattle.std.proofs.lemmas.List.Sums.{take_while-cons}
 use Rattle.bolt_tree.specs.Entries.{Item}
@@ -16,18 +16,10 @@ module _ (below : Path) where
   first_of : (old new : List Member) (path reported : Path) (item : Item) → old ≡ (path, item) ∷ new → reported ≡ path → old ≡ (reported, item) ∷ new
   first_of old new path reported item given same = given ∙ ap (λ (p : Path). (p, item) ∷ new) (sym same)
 
-  -- the line of a member that begins with the path, and then the text of the others;
+  -- the line of a member that begins with the path, and then the text of the others
   pub front_text : (form : ListForm) (old new : List Member) (path reported : Path) (item : Item) → old ≡ (path, item) ∷ new → reported ≡ path → begins_with below reported ≡ true
       → listing_lines form (front old) ≡ list_line form (reported, item) ++ listing_lines form (front new)
   front_text form old new path reported item given same begins =
       let kept : front ((reported, item) ∷ new) ≡ (reported, item) ∷ front new =
       take_while-cons (λ (m : Member). begins_with below m.0) (reported, item) new ∙ ap (λ (b : Bool). cond b ((reported, item) ∷ front new) []) begins in
       ap (λ (ms : List Member). listing_lines form (front ms)) (first_of old new path reported item given same) ∙ ap (listing_lines form) kept
-
-  -- nothing from one on that doesn't.
-  pub front_over : (form : ListForm) (old new : List Member) (path reported : Path) (item : Item) → old ≡ (path, item) ∷ new → reported ≡ path → begins_with below reported ≡ false
-      → listing_lines form (front old) ≡ []
-  front_over form old new path reported item given same apart =
-      let none : front ((reported, item) ∷ new) ≡ [] =
-      take_while-cons (λ (m : Member). begins_with below m.0) (reported, item) new ∙ ap (λ (b : Bool). cond b ((reported, item) ∷ front new) []) apart in
-      ap (λ (ms : List Member). listing_lines form (front ms)) (first_of old new path reported item given same) ∙ ap (listing_lines form) none

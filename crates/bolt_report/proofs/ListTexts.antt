@@ -1,6 +1,6 @@
 -- The text of a listing, written member by member: what was written, and then the text of what is left.
 -- Rests on one text after another on a sink.
-use Rattle.std.proofs.Common.{◌≡◌, ◌∙◌, ℕ, List, [], ◌∷◌, ◌++◌, Bor, Option, Result, Ok, Err, flat_map, false, not, refl, sym, true, ap, subst, append-nil, append_assoc}
+use Rattle.std.proofs.Common.{◌≡◌, ◌↔◌, ◌∙◌, ℕ, List, [], ◌∷◌, ◌++◌, Bor, Option, Result, Ok, Err, flat_map, false, not, refl, sym, true, ap, subst, append-nil, append_assoc}
 use Rattle.std.specs.Ordering.{is_lt}
 use Rattle.std.specs.Prelude.{⊤, IsErrAnd}
 use Rattle.hex.specs.Hex.{encode_lower}
@@ -18,6 +18,9 @@ use Rattle.bolt_report.specs.declared.form.ListForm.{ListForm}
 use Rattle.bolt_report.specs.Reports.{Reports}
 use Rattle.bolt_report.specs.declared.fault.ReportFault.{ReportFault}
 use Rattle.bolt_report.proofs.ReportLemmas.{Reports-stop, Reports-then, reports}
+
+pub iff_then : {A B C : Type 0} → A ↔ B → B ↔ C → A ↔ C
+iff_then f g = (λ a. g.0 (f.0 a), λ c. f.1 (g.1 c))
 
 -- a path in hexadecimal: its first part, and each later one behind a slash
 pub hex_path-parts : (first : Bor (List ℕ)) (rest : List (Bor (List ℕ)))

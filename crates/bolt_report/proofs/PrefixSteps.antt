@@ -1,6 +1,6 @@
 -- A cursor goes along the entries that begin with given bytes: what it has gone over, and what is left.
 -- Rests on that a bucket's entries in order exist, and are one.
-use Rattle.std.proofs.Common.{◌≡◌, ◌∙◌, ◌<◌, ◌≤◌, ◌⊎◌, inl, inr, ◌+◌, ℕ, zero, suc, Bool, true, false, List, [], ◌∷◌, ◌++◌, Option, Some, None, Result, Ok, Err, cond, drop, length, nat_lt, refl, slice_get, sym, ap, subst, arith, add-one, append-nil, append_assoc, length-append}
+use Rattle.std.proofs.Common.{◌≡◌, ◌∙◌, ◌<◌, ◌⊎◌, inl, inr, ◌+◌, ℕ, zero, suc, Bool, true, false, List, [], ◌∷◌, ◌++◌, Option, Some, None, Result, Ok, Err, cond, drop, length, nat_lt, refl, slice_get, sym, ap, subst, arith, add-one, append-nil, append_assoc, length-append}
 use Rattle.std.proofs.Math.Logic.{∥∥₁_elim, ∥∥₁_prop}
 use Rattle.std.proofs.Props.{props}
 use mathlib.Core.HLevel.{Σ_prop_path}
@@ -174,11 +174,6 @@ module _ (b : BucketView) (first : ℕ) (prefix : Key) (entries : List LeafEleme
   }
 
   module _ (opened : ℕ) (place : Place) (done : List LeafElement) where
-    -- it shows an entry
-    pub shown_first : (v : EntryView) → Stage b first prefix entries opened place (Some v) done
-        → (e : LeafElement) × (n : ℕ) × (v ≡ entry_view e) × (place ≡ On n) × (drop n entries ≡ e ∷ drop (suc n) entries)
-    shown_first v stage = let (e, shown, on, rest) = stage.stands in (e, stage.n, shown, on, rest)
-
     one_more : (e : LeafElement) → length (done ++ e ∷ []) ≡ suc (length done)
     one_more e = let l = length-append done (e ∷ []) in omega (arith, l)
 

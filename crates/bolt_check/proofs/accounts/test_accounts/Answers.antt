@@ -1,10 +1,11 @@
-use Rattle.std.proofs.Common.{◌≡◌, ◌≢◌, ◌∷◌, [], sym}
+use Rattle.std.proofs.Common.{◌≡◌, ◌≢◌, ◌∷◌, [], List, sym}
 use Rattle.std.proofs.lemmas.Result.{IfOk-weaker}
 use Rattle.bolt_format.specs.ShownIds.{shown_ids}
 use Rattle.bolt_check.specs.Accounts.{HasAccounts, times_in}
 use Rattle.bolt_check.specs.Private.Listings.{AreAllFindings}
 use Rattle.bolt_check.specs.Private.Tables.{IsClaimed}
 use Rattle.bolt_check.specs.AccountFindings.{AreAccountFindings}
+use Rattle.bolt_check.specs.declared.finding.Finding.{Finding}
 use Rattle.bolt_check.proofs.AccountLemmas.{accounts_right, accounts_reported, accounts_wrong, claims_reported, reported_fault, reported_shared}
 use Rattle.bolt_check.proofs.accounts.test_accounts.Goals as goal
 
@@ -23,38 +24,22 @@ returns-in-Some-clause-reported c =
     IfOk-weaker c.alone-in-Some.result (λ reported. reported.items ≡ c.of_page-in-Some.result ∷ []) (λ reported. reported.items ≢ [] → AreAccountFindings file meta (IsClaimed c.args.table.now) reported.items)
     (λ reported e some. rw (e, c.of_page-in-Some.ensures) (reported_shared file meta (IsClaimed c.args.table.now) c.in-Some.page shared.0 shared.1 shared.2)) c.alone-in-Some.ensures
 
-pub returns-in-None-clause-right : goal.returns-in-None-clause-right
-returns-in-None-clause-right c =
+pub returns-in-None : goal.returns-in-None
+returns-in-None c =
     let file = c.args.file.now in
     let meta = c.args.meta.now in
+    let claimed = IsClaimed c.args.table.now in
     let ids = shown_ids c.in-Ok-Some.ids in
+    let good = c.in-Ok-Some.ensures.good in
     let are = sym (rw c.in-Ok-Some.field-0-is at c.in-Ok-Some.ensures.ids) in
     let claims = c.in-None.ensures.claimed in
-    IfOk-weaker c.test_ids.result (λ reported. AreAllFindings meta.high_water (IsClaimed c.claim_freelist.new.table) (times_in ids) reported.items)
-    (λ reported. reported.items ≡ [] → HasAccounts file meta (IsClaimed c.args.table.now))
-    (λ reported all. accounts_right file meta (IsClaimed c.args.table.now) ids c.in-Ok-Some.ensures.good are claims.apart reported.items
-    (claims_reported file meta c.args.table.now c.claim_freelist.new.table ids reported.items claims all)) c.test_ids.ensures
-
-pub returns-in-None-clause-wrong : goal.returns-in-None-clause-wrong
-returns-in-None-clause-wrong c =
-    let file = c.args.file.now in
-    let meta = c.args.meta.now in
-    let ids = shown_ids c.in-Ok-Some.ids in
-    let are = sym (rw c.in-Ok-Some.field-0-is at c.in-Ok-Some.ensures.ids) in
-    let claims = c.in-None.ensures.claimed in
-    IfOk-weaker c.test_ids.result (λ reported. AreAllFindings meta.high_water (IsClaimed c.claim_freelist.new.table) (times_in ids) reported.items)
-    (λ reported. reported.items ≢ [] → HasAccounts file meta (IsClaimed c.args.table.now) → ⊥)
-    (λ reported all. accounts_wrong file meta (IsClaimed c.args.table.now) ids c.in-Ok-Some.ensures.good are claims.apart reported.items
-    (claims_reported file meta c.args.table.now c.claim_freelist.new.table ids reported.items claims all)) c.test_ids.ensures
-
-pub returns-in-None-clause-reported : goal.returns-in-None-clause-reported
-returns-in-None-clause-reported c =
-    let file = c.args.file.now in
-    let meta = c.args.meta.now in
-    let ids = shown_ids c.in-Ok-Some.ids in
-    let are = sym (rw c.in-Ok-Some.field-0-is at c.in-Ok-Some.ensures.ids) in
-    let claims = c.in-None.ensures.claimed in
-    IfOk-weaker c.test_ids.result (λ reported. AreAllFindings meta.high_water (IsClaimed c.claim_freelist.new.table) (times_in ids) reported.items)
-    (λ reported. reported.items ≢ [] → AreAccountFindings file meta (IsClaimed c.args.table.now) reported.items)
-    (λ reported all some. accounts_reported file meta (IsClaimed c.args.table.now) ids c.in-Ok-Some.ensures.good are claims.apart reported.items
-    (claims_reported file meta c.args.table.now c.claim_freelist.new.table ids reported.items claims all)) c.test_ids.ensures
+    let All : List Finding → Type 0 = AreAllFindings meta.high_water (IsClaimed c.claim_freelist.new.table) (times_in ids) in
+    let told = claims_reported file meta c.args.table.now c.claim_freelist.new.table ids in
+    record {
+      right = IfOk-weaker c.test_ids.result (λ reported. All reported.items) (λ reported. reported.items ≡ [] → HasAccounts file meta claimed)
+          (λ reported all. accounts_right file meta claimed ids good are claims.apart reported.items (told reported.items claims all)) c.test_ids.ensures;
+      wrong = IfOk-weaker c.test_ids.result (λ reported. All reported.items) (λ reported. reported.items ≢ [] → HasAccounts file meta claimed → ⊥)
+          (λ reported all. accounts_wrong file meta claimed ids good are claims.apart reported.items (told reported.items claims all)) c.test_ids.ensures;
+      reported = IfOk-weaker c.test_ids.result (λ reported. All reported.items) (λ reported. reported.items ≢ [] → AreAccountFindings file meta claimed reported.items)
+          (λ reported all some. accounts_reported file meta claimed ids good are claims.apart reported.items (told reported.items claims all)) c.test_ids.ensures;
+    }

@@ -1,11 +1,11 @@
-use Rattle.bolt_cli.specs.Answers.{refused}
+use Rattle.std.proofs.Common.{refl}
 use Rattle.bolt_cli.specs.PlainWords.{path_in}
-use Rattle.bolt_cli.proofs.Doing.{Does-refused}
-use Rattle.bolt_cli.proofs.SizesAnswers.{sizes_missing, sizes_stopped, sizes_whole}
+use Rattle.bolt_cli.proofs.Doing.{Does-unread}
+use Rattle.bolt_cli.proofs.SizesAnswers.{sizes_missing, sizes_put}
 use Rattle.bolt_cli.proofs.buckets_command.print_sizes.Goals as goal
 
 pub returns-in_err-checked : goal.returns-in_err-checked
-returns-in_err-checked g c = Does-refused g.O.Sink.taken g.O.Sink.failed c.args.out.now _ _ c.in_err-checked.ensures.refused c.from_residual.ensures.1
+returns-in_err-checked g c = Does-unread g.O.Sink.taken g.O.Sink.failed c.args.out.now c.args.file.now c.args.slot c.in_err-checked.field-0.0 _ c.in_err-checked.ensures.refused c.from_residual.ensures.1
 
 pub returns-in_err-bucket : goal.returns-in_err-bucket
 returns-in_err-bucket g c =
@@ -17,12 +17,12 @@ pub returns-in_err-sizes : goal.returns-in_err-sizes
 returns-in_err-sizes g c =
     let opened = c.in_ok-checked.ensures in
     let found = c.in_ok-bucket.ensures in
-    sizes_stopped c.args.file.now c.args.slot (path_in c.args.wanted.now.path.now) c.args.wanted.now.form c.in_ok-checked.checked opened.bytes opened.sound
+    sizes_put c.args.file.now c.args.slot (path_in c.args.wanted.now.path.now) c.args.wanted.now.form c.in_ok-checked.checked opened.bytes opened.sound
     c.in_ok-bucket.bucket found.file found.named c.args.out.now c.sizes.new.sink _ _ c.in_err-sizes.ensures.written c.in_err-sizes.ensures.fault c.in_err-sizes.ensures.memory c.from_residual-in_err-sizes.ensures.1
 
 pub returns : goal.returns
 returns g c =
     let opened = c.in_ok-checked.ensures in
     let found = c.in_ok-bucket.ensures in
-    sizes_whole c.args.file.now c.args.slot (path_in c.args.wanted.now.path.now) c.args.wanted.now.form c.in_ok-checked.checked opened.bytes opened.sound
-    c.in_ok-bucket.bucket found.file found.named c.args.out.now c.sizes.new.sink _ c.in_ok-sizes.ensures.written
+    sizes_put c.args.file.now c.args.slot (path_in c.args.wanted.now.path.now) c.args.wanted.now.form c.in_ok-checked.checked opened.bytes opened.sound
+    c.in_ok-bucket.bucket found.file found.named c.args.out.now c.sizes.new.sink _ _ c.in_ok-sizes.ensures.written tt tt refl

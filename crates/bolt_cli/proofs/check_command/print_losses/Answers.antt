@@ -1,4 +1,4 @@
-use Rattle.std.proofs.Common.{arith, ◌≡◌, ◌≢◌, [], List, Ok, inl, inr, map, refl, subst, ℕ}
+use Rattle.std.proofs.Common.{arith, ◌≡◌, ◌≢◌, [], List, inl, inr, map, refl, subst, ℕ}
 use Rattle.std.proofs.lemmas.Grind.{common_steps}
 use Rattle.bolt_recover.specs.Recoveries.{ForLosses, recovery_losses, recovery_meta}
 use Rattle.bolt_recover.specs.ShownLosses.{loss_view}

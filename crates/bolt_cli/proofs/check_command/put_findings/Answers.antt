@@ -1,5 +1,5 @@
 -- The line of the hash isn't written whole, or it is, and the text of the findings isn't.
-use Rattle.std.proofs.Common.{Ok, sym, subst, Result, Err, ℕ}
+use Rattle.std.proofs.Common.{Ok, subst, Result, Err, ℕ}
 use Rattle.bolt_report.specs.FaultWords.{findings_text}
 use Rattle.bolt_report.specs.Reports.{Reports}
 use Rattle.bolt_report.specs.declared.fault.ReportFault.{ReportFault}

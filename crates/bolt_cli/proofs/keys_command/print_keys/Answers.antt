@@ -1,4 +1,4 @@
-use Rattle.std.proofs.Common.{Err, Ok, subst₂}
+use Rattle.std.proofs.Common.{Err, Ok, refl, subst₂}
 use Rattle.std.specs.Prelude.{⊤}
 use Rattle.bolt_check.specs.declared.checked_file.Checked.{Checked}
 use Rattle.bolt_report.specs.KeyLines.{keys_text}
@@ -6,14 +6,13 @@ use Rattle.bolt_report.specs.KeyPrefixes.{beginning}
 use Rattle.bolt_report.specs.Reports.{Reports}
 use Rattle.bolt_tree.specs.Entries.{Start}
 use Rattle.bolt_tree.specs.EntriesLeft.{ForEntries}
-use Rattle.bolt_cli.specs.Answers.{refused}
 use Rattle.bolt_cli.specs.PlainWords.{path_in}
-use Rattle.bolt_cli.proofs.Doing.{Does-refused}
-use Rattle.bolt_cli.proofs.EntryAnswers.{entries_missing, entries_stopped, entries_whole}
+use Rattle.bolt_cli.proofs.Doing.{Does-unread}
+use Rattle.bolt_cli.proofs.EntryAnswers.{entries_missing, entries_put}
 use Rattle.bolt_cli.proofs.keys_command.print_keys.Goals as goal
 
 pub returns-in_err-checked : goal.returns-in_err-checked
-returns-in_err-checked g c = Does-refused g.O.Sink.taken g.O.Sink.failed c.args.out.now _ _ c.in_err-checked.ensures.refused c.from_residual.ensures.1
+returns-in_err-checked g c = Does-unread g.O.Sink.taken g.O.Sink.failed c.args.out.now c.args.file.now c.args.slot c.in_err-checked.field-0.0 _ c.in_err-checked.ensures.refused c.from_residual.ensures.1
 
 pub returns-in_err-bucket : goal.returns-in_err-bucket
 returns-in_err-bucket g c =
@@ -25,7 +24,7 @@ pub returns-in_err-keys_beginning : goal.returns-in_err-keys_beginning
 returns-in_err-keys_beginning g c =
     let opened = c.in_ok-checked.ensures in
     let found = c.in_ok-bucket.ensures in
-    entries_stopped c.args.file.now c.args.slot (path_in c.args.wanted.now.path.now) c.args.wanted.now.form (λ entries. keys_text c.args.wanted.now.form (beginning c.args.wanted.now.prefix.now entries)) c.in_ok-checked.checked opened.bytes opened.sound
+    entries_put c.args.file.now c.args.slot (path_in c.args.wanted.now.path.now) c.args.wanted.now.form (λ entries. keys_text c.args.wanted.now.form (beginning c.args.wanted.now.prefix.now entries)) c.in_ok-checked.checked opened.bytes opened.sound
     c.in_ok-bucket.bucket found.file found.named {A = ⊤} {taken = g.O.Sink.taken} {failed = g.O.Sink.failed} c.args.out.now c.keys_beginning.new.sink _ _
     (subst₂ (λ (file : Checked) (start : Start). ForEntries file start (λ entries. Reports {A = ⊤} g.O.Sink.taken g.O.Sink.failed c.args.out.now c.keys_beginning.new.sink (keys_text c.args.wanted.now.form (beginning c.args.wanted.now.prefix.now entries)) (Err c.in_err-keys_beginning.field-0.0)))
     c.cursor-cursor.ensures.checked c.cursor-cursor.ensures.start c.in_err-keys_beginning.ensures.written)
@@ -35,7 +34,7 @@ pub returns : goal.returns
 returns g c =
     let opened = c.in_ok-checked.ensures in
     let found = c.in_ok-bucket.ensures in
-    entries_whole c.args.file.now c.args.slot (path_in c.args.wanted.now.path.now) c.args.wanted.now.form (λ entries. keys_text c.args.wanted.now.form (beginning c.args.wanted.now.prefix.now entries)) c.in_ok-checked.checked opened.bytes opened.sound
-    c.in_ok-bucket.bucket found.file found.named {A = ⊤} {taken = g.O.Sink.taken} {failed = g.O.Sink.failed} c.args.out.now c.keys_beginning.new.sink tt
+    entries_put c.args.file.now c.args.slot (path_in c.args.wanted.now.path.now) c.args.wanted.now.form (λ entries. keys_text c.args.wanted.now.form (beginning c.args.wanted.now.prefix.now entries)) c.in_ok-checked.checked opened.bytes opened.sound
+    c.in_ok-bucket.bucket found.file found.named {A = ⊤} {taken = g.O.Sink.taken} {failed = g.O.Sink.failed} c.args.out.now c.keys_beginning.new.sink (Ok tt) _
     (subst₂ (λ (file : Checked) (start : Start). ForEntries file start (λ entries. Reports {A = ⊤} g.O.Sink.taken g.O.Sink.failed c.args.out.now c.keys_beginning.new.sink (keys_text c.args.wanted.now.form (beginning c.args.wanted.now.prefix.now entries)) (Ok tt)))
-    c.cursor-cursor.ensures.checked c.cursor-cursor.ensures.start c.in_ok-keys_beginning.ensures.written)
+    c.cursor-cursor.ensures.checked c.cursor-cursor.ensures.start c.in_ok-keys_beginning.ensures.written) tt tt refl

@@ -1,53 +1,41 @@
-use Rattle.std.proofs.Common.{ℕ, List, inl, refl, subst}
-use Rattle.bolt_check.specs.CheckedFiles.{meta_of}
+use Rattle.std.proofs.Common.{ℕ, List, inl, refl}
 use Rattle.bolt_report.specs.Figures.{stats_text}
 use Rattle.bolt_cli.specs.Answers.{IsStatsAnswer, done, refused}
 use Rattle.bolt_cli.specs.PlainWords.{path_in}
-use Rattle.bolt_cli.proofs.Doing.{Does-nothing, Does-part, Does-refused, Does-whole}
+use Rattle.bolt_cli.proofs.Doing.{Does-nothing, Does-part, Does-unread, Does-whole}
+use Rattle.bolt_cli.proofs.ReadFiles.{of_read}
 use Rattle.bolt_cli.proofs.StatsAnswers.{figures_missing}
 use Rattle.bolt_cli.proofs.stats_command.print_stats.Goals as goal
 
 pub returns-in_err-checked : goal.returns-in_err-checked
-returns-in_err-checked g c = Does-refused g.O.Sink.taken g.O.Sink.failed c.args.out.now _ _ c.in_err-checked.ensures.refused c.from_residual.ensures.1
+returns-in_err-checked g c = Does-unread g.O.Sink.taken g.O.Sink.failed c.args.out.now c.args.file.now c.args.slot c.in_err-checked.field-0.0 _ c.in_err-checked.ensures.refused c.from_residual.ensures.1
 
 pub returns-in_err-figures : goal.returns-in_err-figures
 returns-in_err-figures g c =
-    let checked = c.in_ok-checked.checked in
+    let opened = c.in_ok-checked.ensures in
     let failure = c.in_err-figures.field-0.0 in (
       refused failure,
-      inl (
-        meta_of checked,
-        c.in_ok-checked.ensures.sound,
-        subst (λ (f : List ℕ). IsStatsAnswer f (path_in c.args.path.now) (meta_of checked) (refused failure)) c.in_ok-checked.ensures.bytes
-            (figures_missing checked (path_in c.args.path.now) failure c.in_err-figures.ensures.missing),
-      ),
+      of_read (λ (f : List ℕ). IsStatsAnswer f (path_in c.args.path.now)) c.args.file.now c.args.slot c.in_ok-checked.checked opened.bytes opened.sound (refused failure)
+          (figures_missing c.in_ok-checked.checked (path_in c.args.path.now) failure c.in_err-figures.ensures.missing),
       Does-nothing g.O.Sink.taken g.O.Sink.failed c.args.out.now failure _ c.from_residual-in_err-figures.ensures.1,
     )
 
 pub returns-in_err-stats_text : goal.returns-in_err-stats_text
 returns-in_err-stats_text g c =
-    let checked = c.in_ok-checked.checked in
+    let opened = c.in_ok-checked.ensures in
     let figures = c.in_ok-figures.figures in
     let answer = done (stats_text figures) in (
       answer,
-      inl (
-        meta_of checked,
-        c.in_ok-checked.ensures.sound,
-        subst (λ (f : List ℕ). IsStatsAnswer f (path_in c.args.path.now) (meta_of checked) answer) c.in_ok-checked.ensures.bytes (inl (figures, c.in_ok-figures.ensures.found, refl)),
-      ),
+      of_read (λ (f : List ℕ). IsStatsAnswer f (path_in c.args.path.now)) c.args.file.now c.args.slot c.in_ok-checked.checked opened.bytes opened.sound answer (inl (figures, c.in_ok-figures.ensures.found, refl)),
       Does-part _ _ answer _ _ c.in_err-stats_text.ensures.written c.in_err-stats_text.ensures.fault c.from_residual-in_err-stats_text.ensures.1,
     )
 
 pub returns : goal.returns
 returns g c =
-    let checked = c.in_ok-checked.checked in
+    let opened = c.in_ok-checked.ensures in
     let figures = c.in_ok-figures.figures in
     let answer = done (stats_text figures) in (
       answer,
-      inl (
-        meta_of checked,
-        c.in_ok-checked.ensures.sound,
-        subst (λ (f : List ℕ). IsStatsAnswer f (path_in c.args.path.now) (meta_of checked) answer) c.in_ok-checked.ensures.bytes (inl (figures, c.in_ok-figures.ensures.found, refl)),
-      ),
+      of_read (λ (f : List ℕ). IsStatsAnswer f (path_in c.args.path.now)) c.args.file.now c.args.slot c.in_ok-checked.checked opened.bytes opened.sound answer (inl (figures, c.in_ok-figures.ensures.found, refl)),
       Does-whole _ _ answer _ c.in_ok-stats_text.ensures.written,
     )

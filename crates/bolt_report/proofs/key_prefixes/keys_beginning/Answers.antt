@@ -1,21 +1,30 @@
 -- Each entry that begins with the prefix has its line written, and the first that doesn't ends the text.
-use Rattle.std.proofs.Common.{◌≡◌, ◌∙◌, [], ◌∷◌, ◌++◌, Option, Some, Ok, Err, None, drop, suc, ap, sym, refl, subst, true, false, arith}
+use Rattle.std.proofs.Common.{◌≡◌, ◌∙◌, [], ◌∷◌, ◌++◌, ℕ, List, Option, Some, Ok, Err, None, drop, suc, ap, sym, refl, subst, true, false, arith}
 use Rattle.std.proofs.Math.Logic.{∥∥₁_elim}
 use Rattle.std.proofs.Props.{props}
 use Rattle.std.specs.Option.{option_map}
 use Rattle.std.specs.Prelude.{⊤}
 use Rattle.bolt_format.proofs.WriteLemmas.{Writes-none}
+use Rattle.bolt_check.specs.Keys.{Key}
+use Rattle.bolt_format.specs.Elements.{LeafElement}
 use Rattle.bolt_report.specs.Forms.{value_text}
 use Rattle.bolt_report.specs.KeyPrefixes.{beginning, begins}
 use Rattle.bolt_report.specs.Reports.{Reports}
 use Rattle.bolt_report.specs.declared.form.Form.{Form}
 use Rattle.bolt_tree.specs.Cursors.{cursor_bucket, cursor_checked, cursor_opened, cursor_place, cursor_start}
+use Rattle.bolt_tree.specs.BucketViews.{BucketView}
 use Rattle.bolt_tree.specs.Entries.{EntryView}
+use Rattle.bolt_tree.specs.Places.{Place}
 use Rattle.bolt_tree.specs.ShownEntries.{shown_entry}
 use Rattle.bolt_tree.specs.declared.entry.Entry.{Entry}
 use Rattle.bolt_report.proofs.PrefixLemmas.{key_begins}
 use Rattle.bolt_report.proofs.PrefixSteps.{Stage, keeps, all_done, cursor_entries, fault_handed_on, fewer_shown, memory_handed_on, moves_there, nothing_shown, opens_there, line_more, line_stop, lines_end, moved, none_shown, number_of, other_shown, sought, stage_next, stage_sought}
 use Rattle.bolt_report.proofs.key_prefixes.keys_beginning.Goals as goal
+
+-- what the cursor shows, by what it found
+now_shows : {b : BucketView} {first : ℕ} {prefix : Key} {entries : List LeafElement} {opened : ℕ} {place : Place} {done : List LeafElement} (found shown : Option Entry) → found ≡ shown
+    → Stage b first prefix entries opened place (option_map shown_entry found) done → Stage b first prefix entries opened place (option_map shown_entry shown) done
+now_shows {b} {first} {prefix} {entries} {opened} {place} {done} found shown is stage = subst (λ (o : Option Entry). Stage b first prefix entries opened place (option_map shown_entry o) done) is stage
 
 pub rest-init : goal.rest-init
 rest-init g c = record {
@@ -35,41 +44,29 @@ rest-init g c = record {
 
 pub returns-then-not-starts_with-clause-written : goal.returns-then-not-starts_with-clause-written
 returns-then-not-starts_with-clause-written g c = λ entries are.
-    let b = cursor_bucket c.args.cursor.now in
-    let first = cursor_opened c.args.cursor.now in
     let prefix = c.args.prefix.now in
-    let opened = cursor_opened c.rest.cursor in
-    let place = cursor_place c.rest.cursor in
     let v = shown_entry c.in-Some.entry in
     let (done, shows, before) = c.rest.invariant.put entries are in
-    let stage = subst (λ (o : Option Entry). Stage b first prefix entries opened place (option_map shown_entry o) done) c.in-Some.is shows in
+    let stage = now_shows c.rest.found (Some c.in-Some.entry) c.in-Some.is shows in
     let differs : key_begins v.key prefix ≡ false = sym c.starts_with.ensures.value ∙ c.if-not-starts_with.true in
-    let (n, whole, none) = other_shown b first prefix entries opened place done v stage differs in
+    let (n, whole, none) = other_shown _ _ _ _ _ _ done v stage differs in
     lines_end g.S.Sink.taken g.S.Sink.failed c.args.form c.args.sink.now c.rest.sink done (beginning prefix entries) (beginning prefix (drop n entries)) whole none before
 
 pub returns-then-not-starts_with-clause-opens : goal.returns-then-not-starts_with-clause-opens
 returns-then-not-starts_with-clause-opens g c = λ entries seek gap are is gaps.
-    let b = cursor_bucket c.args.cursor.now in
-    let first = cursor_opened c.args.cursor.now in
     let prefix = c.args.prefix.now in
-    let opened = cursor_opened c.rest.cursor in
-    let place = cursor_place c.rest.cursor in
     let v = shown_entry c.in-Some.entry in
     let (done, shows, before) = c.rest.invariant.put entries are in
-    let stage = subst (λ (o : Option Entry). Stage b first prefix entries opened place (option_map shown_entry o) done) c.in-Some.is shows in
+    let stage = now_shows c.rest.found (Some c.in-Some.entry) c.in-Some.is shows in
     let differs : key_begins v.key prefix ≡ false = sym c.starts_with.ensures.value ∙ c.if-not-starts_with.true in
-    let (n, whole, none) = other_shown b first prefix entries opened place done v stage differs in
-    all_done b first prefix entries opened place done (Some v) stage (beginning prefix (drop n entries)) whole none seek gap is gaps
+    let (n, whole, none) = other_shown _ _ _ _ _ _ done v stage differs in
+    all_done _ _ _ _ _ _ done (Some v) stage (beginning prefix (drop n entries)) whole none seek gap is gaps
 
 pub returns-in_err-put_line-clause-written : goal.returns-in_err-put_line-clause-written
 returns-in_err-put_line-clause-written g c = λ entries are.
-    let b = cursor_bucket c.args.cursor.now in
-    let first = cursor_opened c.args.cursor.now in
     let prefix = c.args.prefix.now in
-    let opened = cursor_opened c.rest.cursor in
-    let place = cursor_place c.rest.cursor in
     let (done, shows, before) = c.rest.invariant.put entries are in
-    let stage = subst (λ (o : Option Entry). Stage b first prefix entries opened place (option_map shown_entry o) done) c.in-Some.is shows in
+    let stage = now_shows c.rest.found (Some c.in-Some.entry) c.in-Some.is shows in
     let (e, shown, on, rest) = stage.stands in
     let n = stage.n in
     let starts : begins prefix e ≡ true = subst (λ (w : EntryView). key_begins w.key prefix ≡ true) shown (sym c.starts_with.ensures.value ∙ c.if-not-starts_with.false) in
@@ -88,10 +85,6 @@ returns-in_err-put_line-clause-memory g c = memory_handed_on _ _ _ c.from_residu
 
 pub rest-smaller : goal.rest-smaller
 rest-smaller g c =
-    let b = cursor_bucket c.args.cursor.now in
-    let first = cursor_opened c.args.cursor.now in
-    let prefix = c.args.prefix.now in
-    let opened = cursor_opened c.rest.cursor in
     let place = cursor_place c.rest.cursor in
     let opened2 = cursor_opened c.next-found.new.self in
     let place2 = cursor_place c.next-found.new.self in
@@ -100,7 +93,7 @@ rest-smaller g c =
     let entries = (cursor_entries c.args.cursor.now).0 in
     ∥∥₁_elim (cursor_entries c.args.cursor.now).1 (hlevel props) (λ are.
     let (done, shows, before) = c.rest.invariant.put entries are in
-    let stage = subst (λ (o : Option Entry). Stage b first prefix entries opened place (option_map shown_entry o) done) c.in-Some.is shows in
+    let stage = now_shows c.rest.found (Some c.in-Some.entry) c.in-Some.is shows in
     let (e, shown, on, rest) = stage.stands in
     let less = fewer_shown entries stage.n place place2 x2 on (moved entries stage.n place place2 x2 on (moves entries are)) (λ none. c.next-found.ensures.none (nothing_shown c.next-found.result none)) in
     let one = ap (λ (o : Option Entry). number_of (option_map shown_entry o)) c.in-Some.is in
@@ -108,17 +101,14 @@ rest-smaller g c =
 
 pub rest-preserved : goal.rest-preserved
 rest-preserved g c =
-    let b = cursor_bucket c.args.cursor.now in
-    let first = cursor_opened c.args.cursor.now in
     let prefix = c.args.prefix.now in
-    let opened = cursor_opened c.rest.cursor in
     let place = cursor_place c.rest.cursor in
     let v = shown_entry c.in-Some.entry in
     let opened2 = cursor_opened c.next-found.new.self in
     let place2 = cursor_place c.next-found.new.self in
     let x2 = option_map shown_entry c.next-found.result in
     let moves = moves_there (cursor_checked c.rest.cursor) (cursor_checked c.args.cursor.now) (cursor_start c.rest.cursor) (cursor_start c.args.cursor.now) place place2 x2 c.rest.invariant.checked c.rest.invariant.start c.next-found.ensures.moves in
-    let opens = opens_there (cursor_checked c.rest.cursor) (cursor_checked c.args.cursor.now) (cursor_start c.rest.cursor) (cursor_start c.args.cursor.now) place opened opened2 c.rest.invariant.checked c.rest.invariant.start c.next-found.ensures.opens in
+    let opens = opens_there (cursor_checked c.rest.cursor) (cursor_checked c.args.cursor.now) (cursor_start c.rest.cursor) (cursor_start c.args.cursor.now) place _ opened2 c.rest.invariant.checked c.rest.invariant.start c.next-found.ensures.opens in
     let starts : key_begins v.key prefix ≡ true = sym c.starts_with.ensures.value ∙ c.if-not-starts_with.false in
     record {
       checked = c.next-found.ensures.checked ∙ c.rest.invariant.checked;
@@ -127,37 +117,29 @@ rest-preserved g c =
       counted = c.in_ok-put_line.ensures.written.sound ∙ c.rest.invariant.counted;
       put = λ entries are.
           let (done, shows, before) = c.rest.invariant.put entries are in
-          let stage = subst (λ (o : Option Entry). Stage b first prefix entries opened place (option_map shown_entry o) done) c.in-Some.is shows in
+          let stage = now_shows c.rest.found (Some c.in-Some.entry) c.in-Some.is shows in
           let (e, shown, on, rest) = stage.stands in
           let line : Reports {A = ⊤} g.S.Sink.taken g.S.Sink.failed c.rest.sink c.put_line.new.sink (value_text c.args.form e.key) (Ok tt) =
           subst (λ (w : EntryView). Reports {A = ⊤} g.S.Sink.taken g.S.Sink.failed c.rest.sink c.put_line.new.sink (value_text c.args.form w.key) (Ok tt)) shown
           (subst (λ (form : Form). Reports {A = ⊤} g.S.Sink.taken g.S.Sink.failed c.rest.sink c.put_line.new.sink (value_text form c.in-Some.entry.key.now) (Ok tt)) c.rest.invariant.form c.in_ok-put_line.ensures.written) in (
             done ++ e ∷ [],
-            stage_next b first prefix entries opened place done v stage starts opened2 place2 x2 are (moves entries are) opens,
+            stage_next _ _ _ _ _ _ done v stage starts opened2 place2 x2 are (moves entries are) opens,
             line_more g.S.Sink.taken g.S.Sink.failed c.args.form c.args.sink.now c.rest.sink c.put_line.new.sink done before e line,
           );
     }
 
 pub returns-clause-written : goal.returns-clause-written
 returns-clause-written g c = λ entries are.
-    let b = cursor_bucket c.args.cursor.now in
-    let first = cursor_opened c.args.cursor.now in
     let prefix = c.args.prefix.now in
-    let opened = cursor_opened c.rest.cursor in
-    let place = cursor_place c.rest.cursor in
     let (done, shows, before) = c.rest.invariant.put entries are in
-    let stage : Stage b first prefix entries opened place None done = subst (λ (o : Option Entry). Stage b first prefix entries opened place (option_map shown_entry o) done) c.in_default.is shows in
-    let (n, whole, none) = none_shown b first prefix entries opened place done stage in
+    let stage = now_shows c.rest.found None c.in_default.is shows in
+    let (n, whole, none) = none_shown _ _ _ _ _ _ done stage in
     lines_end g.S.Sink.taken g.S.Sink.failed c.args.form c.args.sink.now c.rest.sink done (beginning prefix entries) (beginning prefix (drop n entries)) whole none before
 
 pub returns-clause-opens : goal.returns-clause-opens
 returns-clause-opens g c = λ entries seek gap are is gaps.
-    let b = cursor_bucket c.args.cursor.now in
-    let first = cursor_opened c.args.cursor.now in
     let prefix = c.args.prefix.now in
-    let opened = cursor_opened c.rest.cursor in
-    let place = cursor_place c.rest.cursor in
     let (done, shows, before) = c.rest.invariant.put entries are in
-    let stage : Stage b first prefix entries opened place None done = subst (λ (o : Option Entry). Stage b first prefix entries opened place (option_map shown_entry o) done) c.in_default.is shows in
-    let (n, whole, none) = none_shown b first prefix entries opened place done stage in
-    all_done b first prefix entries opened place done None stage (beginning prefix (drop n entries)) whole none seek gap is gaps
+    let stage = now_shows c.rest.found None c.in_default.is shows in
+    let (n, whole, none) = none_shown _ _ _ _ _ _ done stage in
+    all_done _ _ _ _ _ _ done None stage (beginning prefix (drop n entries)) whole none seek gap is gaps

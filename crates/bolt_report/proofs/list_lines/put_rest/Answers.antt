@@ -9,7 +9,7 @@ use Rattle.bolt_report.specs.ListForms.{lines_form, list_line, listing_lines}
 use Rattle.bolt_tree.specs.Listing.{Member, rest_from}
 use Rattle.bolt_tree.specs.Paths.{Path, path_cmp, path_of}
 use Rattle.bolt_tree.specs.ShownEntries.{item_view}
-use Rattle.bolt_report.proofs.ListTexts.{more_written, next_hidden, next_text, reports_stop, reports_whole}
+use Rattle.bolt_report.proofs.ListTexts.{iff_then, more_written, next_hidden, next_text, reports_stop, reports_whole}
 use Rattle.bolt_report.proofs.list_lines.put_rest.Goals as goal
 
 pub rest-init : goal.rest-init
@@ -28,10 +28,7 @@ rest-preserved-in-Continue-branch-3 g c =
     let reported = path_of c.path-then-not-is_before.result.now in
     let after : is_lt (path_cmp reported from) ≡ false = ap (λ (p : Path). is_lt (path_cmp p from)) (c.path-then-not-is_before.ensures ∙ sym c.path.ensures) ∙ sym c.is_before.ensures ∙ c.if-not-is_before.true in
     record {
-      same = λ listing. (
-        λ is. (c.rest.invariant.same listing).0 ((c.next.ensures.listing listing).0 is),
-        λ is. (c.next.ensures.listing listing).1 ((c.rest.invariant.same listing).1 is),
-      );
+      same = λ listing. iff_then (c.next.ensures.listing listing) (c.rest.invariant.same listing);
       end = λ end is. c.rest.invariant.end end (c.next.ensures.same_end end is);
       form = c.put.ensures.form ∙ c.rest.invariant.form;
       counted = c.in_ok-put.ensures.written.sound ∙ c.rest.invariant.counted;
@@ -56,10 +53,7 @@ rest-preserved g c =
     let reported = path_of c.path.result.now in
     let before : is_lt (path_cmp reported from) ≡ true = sym c.is_before.ensures ∙ c.if-not-is_before.false in
     record {
-      same = λ listing. (
-        λ is. (c.rest.invariant.same listing).0 ((c.next.ensures.listing listing).0 is),
-        λ is. (c.next.ensures.listing listing).1 ((c.rest.invariant.same listing).1 is),
-      );
+      same = λ listing. iff_then (c.next.ensures.listing listing) (c.rest.invariant.same listing);
       end = λ end is. c.rest.invariant.end end (c.next.ensures.same_end end is);
       form = c.rest.invariant.form;
       counted = c.rest.invariant.counted;

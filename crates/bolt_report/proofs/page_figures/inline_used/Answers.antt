@@ -1,18 +1,13 @@
-use Rattle.std.proofs.Common.{◌∙◌, ◌+◌, ap, arith, drop, length, sum_by}
-use Rattle.std.proofs.lemmas.List.{drop_all}
-use Rattle.std.proofs.lemmas.List.Sums.{sum_by-cons}
+use Rattle.std.proofs.Common.{◌+◌, arith, length}
 use Rattle.bolt_format.specs.ElementPlaces.{leaf_view}
 use Rattle.bolt_format.specs.Elements.{LeafElement}
 use Rattle.bolt_format.specs.ShownInline.{shown_inline}
-use Rattle.bolt_format.proofs.ListLemmas.{drop_next}
+use Rattle.bolt_report.proofs.FigureLemmas.{sum_end, sum_next}
 use Rattle.bolt_report.proofs.page_figures.inline_used.Goals as goal
 
 pub loop-i-preserved : goal.loop-i-preserved
 loop-i-preserved c =
-    let xs = (shown_inline c.args.page.now) in
-    let e = leaf_view c.leaf.result in
-    let sum = ap (sum_by (λ (x : LeafElement). 16 + length x.key + length x.value)) (drop_next xs c.loop-i.i e c.leaf.ensures.element)
-    ∙ sum_by-cons (λ (x : LeafElement). 16 + length x.key + length x.value) e (drop (c.loop-i.i + 1) xs) in
+    let sum = sum_next (λ (x : LeafElement). 16 + length x.key + length x.value) (shown_inline c.args.page.now) c.loop-i.i (leaf_view c.leaf.result) c.leaf.ensures.element in
     record {
       fits = omega (arith, c.saturating_add-used.ensures);
       whole = omega (arith, c.leaf_size.ensures, c.saturating_add-used.ensures, sum, c.loop-i.invariant.whole);
@@ -20,7 +15,6 @@ loop-i-preserved c =
 
 pub returns : goal.returns
 returns c =
-    let xs = (shown_inline c.args.page.now) in
     let long = c.count-i-end.ensures in
-    let none = ap (sum_by (λ (x : LeafElement). 16 + length x.key + length x.value)) (drop_all c.loop-i.i xs (omega (arith, long))) in
+    let none = sum_end (λ (x : LeafElement). 16 + length x.key + length x.value) (shown_inline c.args.page.now) c.loop-i.i (omega (arith, long)) in
     omega (arith, none, c.loop-i.invariant.whole, c.loop-i.invariant.fits)

@@ -1,16 +1,12 @@
-use Rattle.std.proofs.Common.{◌≡◌, ◌∙◌, ◌+◌, ap, arith, drop, sum_by}
-use Rattle.std.proofs.lemmas.List.Sums.{sum_by-cons}
+use Rattle.std.proofs.Common.{◌≡◌, ◌∙◌, ◌+◌, ap, arith}
 use Rattle.bolt_format.specs.ElementPlaces.{leaf_view}
 use Rattle.bolt_format.specs.Shown.{shown}
-use Rattle.bolt_format.proofs.ListLemmas.{drop_next}
 use Rattle.bolt_report.specs.Figures.{Figure, capped, element_figure, figure}
-use Rattle.bolt_report.proofs.FigureLemmas.{figure_add}
+use Rattle.bolt_report.proofs.FigureLemmas.{figure_add, sum_next}
 use Rattle.bolt_report.proofs.page_figures.inner_stats.Goals as goal
 
 pub loop-i-preserved : goal.loop-i-preserved
 loop-i-preserved c =
-    let xs = (shown c.args.page.now).leaves in
-    let e = leaf_view c.leaf.result in
     let added : (f : Figure) → figure f c.add-inner.result ≡ capped (figure f c.loop-i.inner + figure f c.element_stats.result)
     = λ f. ap (figure f) c.add-inner.ensures ∙ figure_add f c.loop-i.inner c.element_stats.result in
     record {
@@ -19,6 +15,6 @@ loop-i-preserved c =
           let a = added f in
           let b = c.element_stats.ensures f in
           let w = c.loop-i.invariant.whole f in
-          let sum = ap (sum_by (element_figure f)) (drop_next xs c.loop-i.i e c.leaf.ensures.element) ∙ sum_by-cons (element_figure f) e (drop (c.loop-i.i + 1) xs) in
+          let sum = sum_next (element_figure f) (shown c.args.page.now).leaves c.loop-i.i (leaf_view c.leaf.result) c.leaf.ensures.element in
           omega (arith, a, b, sum, w);
     }

@@ -13,7 +13,7 @@ use Rattle.bolt_tree.specs.ListingParts.{begins_with, bucket_part, is_bucket_at}
 use Rattle.bolt_tree.specs.Order.{Rises}
 use Rattle.bolt_tree.specs.Paths.{Path, path_cmp, path_of}
 use Rattle.bolt_tree.specs.ShownEntries.{item_view}
-use Rattle.bolt_report.proofs.ListTexts.{more_written, reports_stop}
+use Rattle.bolt_report.proofs.ListTexts.{iff_then, more_written, reports_stop}
 use Rattle.bolt_report.proofs.BucketPartTexts.{before_bucket, has_next, left_part, over_unwanted, with_wanted}
 use Rattle.bolt_report.proofs.part_lines.put_bucket_part.Goals as goal
 use Rattle.bolt_report.proofs.part_lines.put_bucket_part.Goals.{else-found-via-then-found+else-is_wanted, else-found-via-else-found}
@@ -56,10 +56,7 @@ part-preserved-then-is_wanted g c =
     given listing ((c.part.invariant.same listing).1 lists) ∙ ap (λ (p : Path). (p, item_view c.in-Some.item) ∷ g.M.Members.left c.next.new.self listing) (sym c.path-then-is_wanted.ensures) in
     record {
       form = c.put.ensures.form ∙ c.part.invariant.form;
-      same = λ listing. (
-        λ is. (c.part.invariant.same listing).0 ((c.next.ensures.listing listing).0 is),
-        λ is. (c.next.ensures.listing listing).1 ((c.part.invariant.same listing).1 is),
-      );
+      same = λ listing. iff_then (c.next.ensures.listing listing) (c.part.invariant.same listing);
       end = λ end is. c.part.invariant.end end (c.next.ensures.same_end end is);
       counted = c.in_ok-put.ensures.written.sound ∙ c.part.invariant.counted;
       has = λ listing lists.
@@ -123,10 +120,7 @@ part-preserved g c =
     ] in
     record {
       form = c.part.invariant.form;
-      same = λ listing. (
-        λ is. (c.part.invariant.same listing).0 ((c.next.ensures.listing listing).0 is),
-        λ is. (c.next.ensures.listing listing).1 ((c.part.invariant.same listing).1 is),
-      );
+      same = λ listing. iff_then (c.next.ensures.listing listing) (c.part.invariant.same listing);
       end = λ end is. c.part.invariant.end end (c.next.ensures.same_end end is);
       counted = c.part.invariant.counted;
       has = λ listing lists.

@@ -8,7 +8,7 @@ use Rattle.bolt_report.specs.declared.form.ListForm.{ListForm}
 use Rattle.bolt_tree.specs.ListingParts.{begins_with}
 use Rattle.bolt_tree.specs.Paths.{path_of}
 use Rattle.bolt_tree.specs.ShownEntries.{item_view}
-use Rattle.bolt_report.proofs.ListTexts.{more_written, reports_stop}
+use Rattle.bolt_report.proofs.ListTexts.{iff_then, more_written, reports_stop}
 use Rattle.bolt_report.proofs.ListPartTexts.{front, front_text}
 use Rattle.bolt_report.proofs.part_lines.put_part.Goals as goal
 
@@ -28,10 +28,7 @@ part-preserved g c =
     let form = lines_form c.args.lines.now in
     record {
       form = c.put.ensures.form ∙ c.part.invariant.form;
-      same = λ listing. (
-        λ is. (c.part.invariant.same listing).0 ((c.next.ensures.listing listing).0 is),
-        λ is. (c.next.ensures.listing listing).1 ((c.part.invariant.same listing).1 is),
-      );
+      same = λ listing. iff_then (c.next.ensures.listing listing) (c.part.invariant.same listing);
       counted = c.in_ok-put.ensures.written.sound ∙ c.part.invariant.counted;
       put = λ listing lists.
           let given = rw c.in-Some.is at c.in_ok-item.ensures.given in
