@@ -33,6 +33,8 @@ from wanted import Wanted
 from words import Unread, bytes_of, halves, path_of
 
 SECONDS = 120
+# The program's texts have the name by which it was called, whatever its file is called.
+NAME = "luntsegi"
 
 
 def key(word):
@@ -85,11 +87,12 @@ class Bench:
         self.program, self.calls, self.folder = program, calls, folder
         self.file, self.kept, self.held, self.failed = b"", b"", 0, 0
 
-    def run(self, *words):
+    def run(self, program, *words):
         """What a program writes on the file, its status, and what it writes into OUT."""
         with open(os.path.join(self.folder, "FILE"), "wb") as it:
             it.write(self.file)
-        ran = subprocess.run(words, cwd=self.folder, stdin=subprocess.DEVNULL, capture_output=True, timeout=SECONDS)
+        how = {"cwd": self.folder, "stdin": subprocess.DEVNULL, "capture_output": True, "timeout": SECONDS}
+        ran = subprocess.run([NAME, *words], executable=program, **how)
         out = os.path.join(self.folder, "OUT")
         copy = b""
         if os.path.exists(out):
