@@ -17,7 +17,7 @@ lines with an empty line between. A block's first word is its verb:
 | `#` | a comment |
 
 Other verbs are calls, which crates/test_calls/src/main.rt lists, and their results. In their words keys are written
-as in `file`, and in their results in hexadecimal.
+as in `file`. Walks and recoveries print lines in hexadecimal, as `list` does; other calls print keys as they are.
 
 Prints each test case that doesn't hold, and how many of each file do. The status is 1 unless all hold, and unless a
 file of test cases holds some. With `--none` before the FILEs no test case may hold: so a file of wrong ones shows
