@@ -14,11 +14,11 @@ pub struct Checked<'a> {
     pub ghost sound: { ∥ IsSound bytes.now meta accounts ∥₁ },
 }
 
+#[tactic(auto, unfolding(crate::specs::CheckedFiles::bytes_of, crate::specs::CheckedFiles::meta_of, crate::specs::CheckedFiles::has_accounts))]
 impl<'a> Checked<'a> {
     ghost use Rattle.bolt_check.specs.CheckedFiles.{bytes_of, has_accounts, meta_of};
 
     /// The bytes of the file.
-    #[tactic(auto, unfolding(crate::specs::CheckedFiles::bytes_of))]
     pub fn bytes(&self) -> &'a [u8]
         ensures { result.now ≡ bytes_of self.now }
     {
@@ -26,7 +26,6 @@ impl<'a> Checked<'a> {
     }
 
     /// The meta that the file was tested under.
-    #[tactic(auto, unfolding(crate::specs::CheckedFiles::meta_of))]
     pub fn meta(&self) -> Meta
         ensures { result ≡ meta_of self.now }
     {
@@ -34,7 +33,6 @@ impl<'a> Checked<'a> {
     }
 
     /// Whether the accounts were tested too, and are right.
-    #[tactic(auto, unfolding(crate::specs::CheckedFiles::has_accounts))]
     pub fn accounts(&self) -> bool
         ensures { result ≡ has_accounts self.now }
     {

@@ -31,6 +31,7 @@ pub struct Claims<'a> {
     ghost room: { HasRoom file.now meta table.items },
 }
 
+#[tactic(auto, unfolding(crate::specs::Claims::claims_file, crate::specs::Claims::claims_meta, crate::specs::Claims::is_claimed, crate::specs::Claims::pages_left))]
 impl<'a> Claims<'a> {
     ghost use Rattle.bolt_check.specs.Claims.{claims_file, claims_meta, is_claimed, pages_left};
 
@@ -39,7 +40,6 @@ impl<'a> Claims<'a> {
     /// # Errors
     ///
     /// `NoMemory` if there is no memory for the table.
-    #[tactic(auto, unfolding(crate::specs::Claims::claims_file, crate::specs::Claims::claims_meta, crate::specs::Claims::is_claimed))]
     pub fn new(alloc: Global, file: &'a [u8], meta: Meta) -> Result<Claims<'a>, NoMemory>
         requires { 0 < meta.page_size }
         ensures file { IfOk result (λ claims. claims_file claims ≡ file.now) }
@@ -51,7 +51,6 @@ impl<'a> Claims<'a> {
     }
 
     /// The file whose pages they are.
-    #[tactic(auto, unfolding(crate::specs::Claims::claims_file))]
     pub fn file(&self) -> &'a [u8]
         ensures { result.now ≡ claims_file self.now }
     {
@@ -60,7 +59,6 @@ impl<'a> Claims<'a> {
 
     /// Tests a page that a way leads to, and claims its span if the tests find nothing. If they
     /// find something, no page is claimed.
-    #[tactic(auto, unfolding(crate::specs::Claims::claims_file, crate::specs::Claims::claims_meta, crate::specs::Claims::is_claimed, crate::specs::Claims::pages_left))]
     pub fn visit(&mut self, spot: &PageSpot<'_>) -> Result<TreePage<'a>, Finding>
         ensures file { claims_file self.new ≡ claims_file self.old }
         ensures meta { claims_meta self.new ≡ claims_meta self.old }

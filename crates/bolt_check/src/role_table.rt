@@ -19,11 +19,11 @@ pub struct Roles<'a> {
     ghost uses: { ∥ AreUses checked.bytes.now checked.meta table.items ∥₁ },
 }
 
+#[tactic(auto, unfolding(crate::specs::RoledFiles::roles_checked, crate::specs::CheckedFiles::bytes_of, crate::specs::CheckedFiles::meta_of))]
 impl<'a> Roles<'a> {
     ghost use Rattle.bolt_check.specs.RoledFiles.{roles_checked};
 
     /// The file whose pages have these roles.
-    #[tactic(auto, unfolding(crate::specs::RoledFiles::roles_checked))]
     pub fn checked(&self) -> Checked<'a>
         ensures { result ≡ roles_checked self.now }
     {
@@ -31,7 +31,6 @@ impl<'a> Roles<'a> {
     }
 
     /// The role of the page with this number, which is below the high-water mark. Needs no memory.
-    #[tactic(auto, unfolding(crate::specs::RoledFiles::roles_checked, crate::specs::CheckedFiles::bytes_of, crate::specs::CheckedFiles::meta_of))]
     pub fn role(&self, id: u64) -> Role
         requires { id < (meta_of (roles_checked self.now)).high_water }
         ensures { ∥ HasRole (bytes_of (roles_checked self.now)) (meta_of (roles_checked self.now)) id result ∥₁ }

@@ -22,11 +22,11 @@ pub struct TreePage<'a> {
     pub ghost kind: { (shown page).kind ≡ tree_kind is_leaf } by { Prim.hlevel props },
 }
 
+#[tactic(auto, unfolding(crate::specs::ShownNodes::shown_node))]
 impl<'a> TreePage<'a> {
     ghost use Rattle.bolt_check.specs.ShownNodes.{shown_node};
 
     /// The number of its elements.
-    #[tactic(auto, unfolding(crate::specs::ShownNodes::shown_node))]
     pub fn count(&self) -> u16
         ensures { result ≡ length (shown_node self.now).entries }
     {
@@ -34,7 +34,6 @@ impl<'a> TreePage<'a> {
     }
 
     /// The key of element `i`.
-    #[tactic(auto, unfolding(crate::specs::ShownNodes::shown_node))]
     pub fn key(&self, i: u16) -> &'a [u8]
         requires { i < length (shown_node self.now).entries }
         ensures { slice_get (keys_of (shown_node self.now).entries) i ≡ Some result.now }
@@ -48,7 +47,6 @@ impl<'a> TreePage<'a> {
 
     /// What element `i` leads to from a spot at this page: a child of a branch, or a bucket on a
     /// leaf. An element that is a value leads nowhere.
-    #[tactic(auto, unfolding(crate::specs::ShownNodes::shown_node))]
     pub fn spot(&self, i: u16, spot: &PageSpot<'a>) -> Option<Spot<'a>>
         requires below { i < length (shown_node self.now).entries }
         requires shallow { spot.now.depth ≤ 64 }

@@ -18,11 +18,11 @@ pub struct Page<'a> {
     ghost good: { content_fault kind count span.now ≡ None } by { Prim.hlevel props },
 }
 
+#[tactic(auto, unfolding(crate::specs::Shown::shown))]
 impl<'a> Page<'a> {
     ghost use Rattle.bolt_format.specs.Shown.{shown};
 
     /// The kind of the page.
-    #[tactic(auto, unfolding(crate::specs::Shown::shown))]
     pub fn kind(&self) -> Kind
         ensures { result ≡ (shown self.now).kind }
     {
@@ -30,7 +30,6 @@ impl<'a> Page<'a> {
     }
 
     /// The count in its header: the number of elements of a branch or a leaf.
-    #[tactic(auto, unfolding(crate::specs::Shown::shown))]
     pub fn count(&self) -> u16
         ensures count { result ≡ (shown self.now).count }
         ensures branches { (shown self.now).kind ≡ Kind.Branch → length (shown self.now).branches ≡ result }
@@ -40,7 +39,6 @@ impl<'a> Page<'a> {
     }
 
     /// The number of further pages of its span.
-    #[tactic(auto, unfolding(crate::specs::Shown::shown))]
     pub fn overflow(&self) -> u32
         ensures { result ≡ (shown self.now).overflow }
     {
@@ -48,7 +46,6 @@ impl<'a> Page<'a> {
     }
 
     /// Element `i` of a branch page. `i` is below `count`.
-    #[tactic(auto, unfolding(crate::specs::Shown::shown))]
     pub fn branch(&self, i: u16) -> Branch<'a>
         requires kind { (shown self.now).kind ≡ Kind.Branch }
         requires below { i < (shown self.now).count }
@@ -58,7 +55,6 @@ impl<'a> Page<'a> {
     }
 
     /// Element `i` of a leaf page. `i` is below `count`.
-    #[tactic(auto, unfolding(crate::specs::Shown::shown))]
     pub fn leaf(&self, i: u16) -> Leaf<'a>
         requires kind { (shown self.now).kind ≡ Kind.Leaf }
         requires below { i < (shown self.now).count }

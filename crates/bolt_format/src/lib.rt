@@ -37,7 +37,7 @@ pub use meta::{
     page_size_ok, slot_meta,
 };
 pub use open_bucket::{head, inline};
-pub use open_freelist::free_ids;
+pub use open_freelist::{free_ids, free_ids_at};
 pub use open_page::{known, page};
 pub use sink::{Sink, SinkFault};
 pub use write_sink::WriteSink;

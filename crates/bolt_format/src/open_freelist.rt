@@ -23,8 +23,7 @@ const LONG_START: usize = 24;
 ///
 /// # Errors
 ///
-/// The first test of its number, header and span that the page fails; `PAGE_KIND` if it isn't a
-/// freelist; `ELEMENT_CUT` if its ids go past its span. The fault has the freelist's page number.
+/// Those of `free_ids_at` of the freelist's page number.
 pub fn free_ids<'a>(file: &'a [u8], meta: &Meta) -> Result<Option<FreeIds<'a>>, PageFault>
     ensures ids { IfOk result (λ found. option_map shown_ids found ≡ free_ids_of file.now meta.now) }
     ensures good { OnOk result (freelist_fault_of file.now meta.now ≡ None) }
@@ -33,18 +32,26 @@ pub fn free_ids<'a>(file: &'a [u8], meta: &Meta) -> Result<Option<FreeIds<'a>>, 
     if meta.freelist == NO_FREELIST {
         return Ok(None);
     }
-    match ids_at(file, meta, meta.freelist) {
-        Ok(ids) => Ok(Some(ids)),
-        Err(number) => Err(PageFault {
-            number,
-            page: meta.freelist,
-        }),
-    }
+    Ok(Some(free_ids_at(file, meta, meta.freelist)?))
+}
+
+/// The ids of page `id` of a file under a meta, which may name another freelist or none.
+///
+/// # Errors
+///
+/// The first test of its number, header and span that the page fails; `PAGE_KIND` if it isn't a
+/// freelist; `ELEMENT_CUT` if its ids go past its span. The fault has the page number `id`.
+pub fn free_ids_at<'a>(file: &'a [u8], meta: &Meta, id: u64) -> Result<FreeIds<'a>, PageFault>
+    ensures ids { IfOk result (λ ids. shown_ids ids ≡ free_ids_at file.now meta.now id) }
+    ensures good { OnOk result (freelist_fault file.now meta.now id ≡ None) }
+    ensures fault { IfErr result (λ fault. (freelist_fault file.now meta.now id ≡ Some fault.number) × (fault.page ≡ id)) }
+{
+    ids_of_page(file, meta, id).map_err(|number| PageFault { number, page: id })
 }
 
 /// Reads page `id` as a freelist.
 #[tactic(auto, unfolding(crate::specs::Freelists::freelist_fault, crate::specs::Freelists::free_ids_at))]
-fn ids_at<'a>(file: &'a [u8], meta: &Meta, id: u64) -> Result<FreeIds<'a>, u8>
+fn ids_of_page<'a>(file: &'a [u8], meta: &Meta, id: u64) -> Result<FreeIds<'a>, u8>
     ensures fault { result_err result ≡ freelist_fault file.now meta.now id }
     ensures ids { IfOk result (λ ids. shown_ids ids ≡ free_ids_at file.now meta.now id) }
 {

@@ -1,4 +1,6 @@
 //! Writes what `header`, `element`, `bucket` and `meta` read.
+#![tactic(auto, unfolding(crate::specs::Written::number_bytes, crate::specs::Written::header_bytes, crate::specs::Written::branch_header, crate::specs::Written::leaf_header, crate::specs::Written::head_bytes, crate::specs::Written::meta_record, crate::specs::Written::meta_bytes))]
+
 ghost use Rattle.std.specs.Prelude.{◌≡◌, ◌≤◌, ◌++◌, drop, length};
 ghost use Rattle.bolt_format.specs.Written.{branch_header, head_bytes, header_bytes, leaf_header, meta_bytes, meta_record};
 
@@ -14,7 +16,6 @@ use byteorder::{ByteOrder, LittleEndian};
 const RECORD_LEN: usize = 56;
 
 /// The header of a page (docs/FORMAT.md, "Page header").
-#[tactic(auto, unfolding(crate::specs::Written::number_bytes, crate::specs::Written::header_bytes))]
 pub fn page_header(number: u64, kind: Kind, count: u16, overflow: u32) -> [u8; HEADER_LEN]
     ensures { result ≡ header_bytes number kind count overflow }
 {
@@ -28,7 +29,6 @@ pub fn page_header(number: u64, kind: Kind, count: u16, overflow: u32) -> [u8; H
 
 /// The header of a branch element (docs/FORMAT.md, "Elements"). Its key has `key` bytes, and begins
 /// `pos` bytes after the start of this header.
-#[tactic(auto, unfolding(crate::specs::Written::number_bytes, crate::specs::Written::branch_header))]
 pub fn branch_header(pos: u32, key: u32, child: u64) -> [u8; ELEMENT_LEN]
     ensures { result ≡ branch_header pos key child }
 {
@@ -41,7 +41,6 @@ pub fn branch_header(pos: u32, key: u32, child: u64) -> [u8; ELEMENT_LEN]
 
 /// The header of a leaf element (docs/FORMAT.md, "Elements"). Its key has `key` bytes, and begins
 /// `pos` bytes after the start of this header. Its value has `value` bytes.
-#[tactic(auto, unfolding(crate::specs::Written::number_bytes, crate::specs::Written::leaf_header))]
 pub fn leaf_header(is_bucket: bool, pos: u32, key: u32, value: u32) -> [u8; ELEMENT_LEN]
     ensures { result ≡ leaf_header is_bucket pos key value }
 {
@@ -55,7 +54,6 @@ pub fn leaf_header(is_bucket: bool, pos: u32, key: u32, value: u32) -> [u8; ELEM
 }
 
 /// The first bytes of a bucket's value (docs/FORMAT.md, "Buckets").
-#[tactic(auto, unfolding(crate::specs::Written::number_bytes, crate::specs::Written::head_bytes))]
 pub fn bucket_head(root: u64, sequence: u64) -> [u8; HEAD_LEN]
     ensures { result ≡ head_bytes root sequence }
 {
@@ -66,7 +64,6 @@ pub fn bucket_head(root: u64, sequence: u64) -> [u8; HEAD_LEN]
 }
 
 /// A meta record, up to its checksum.
-#[tactic(auto, unfolding(crate::specs::Written::number_bytes, crate::specs::Written::meta_record))]
 fn meta_record(meta: &Meta) -> [u8; RECORD_LEN]
     ensures { result ≡ meta_record meta.now }
 {
@@ -92,7 +89,6 @@ fn write_part(bytes: &mut [u8], part: &[u8])
 
 /// The bytes of a meta page before its zeros: its header, its record and the checksum (docs/FORMAT.md,
 /// "Meta pages").
-#[tactic(auto, unfolding(crate::specs::Written::number_bytes, crate::specs::Written::header_bytes, crate::specs::Written::meta_record, crate::specs::Written::meta_bytes))]
 pub fn meta_page(number: u64, meta: &Meta) -> [u8; META_LEN]
     ensures { result ≡ meta_bytes number meta.now }
 {

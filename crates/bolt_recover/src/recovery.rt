@@ -33,6 +33,7 @@ pub struct Recovery<'a> {
     ghost root: { ∥ KeepsRoot (claims_file steps.claims) meta ∥₁ },
 }
 
+#[tactic(auto, unfolding(crate::specs::Recoveries::recovery_file, crate::specs::Recoveries::recovery_left, crate::specs::Recoveries::recovery_losses, crate::specs::Recoveries::recovery_meta, crate::specs::Recoveries::recovery_path, crate::specs::Recoveries::recovery_work))]
 impl<'a> Recovery<'a> {
     ghost use Rattle.bolt_recover.specs.Recoveries.{AreFirst, ForLosses, recovery_file, recovery_left, recovery_losses, recovery_meta, recovery_path, recovery_work};
 
@@ -74,7 +75,6 @@ impl<'a> Recovery<'a> {
     }
 
     /// A walk under a valid meta.
-    #[tactic(auto, unfolding(crate::specs::Recoveries::recovery_file, crate::specs::Recoveries::recovery_left, crate::specs::Recoveries::recovery_losses, crate::specs::Recoveries::recovery_meta, crate::specs::Recoveries::recovery_path))]
     fn under(alloc: Global, file: &'a [u8], meta: Meta) -> Result<Recovery<'a>, CheckFault>
         requires { 0 < meta.page_size }
         ensures file { IfOk result (λ recovery. recovery_file recovery ≡ file.now) }
@@ -94,7 +94,6 @@ impl<'a> Recovery<'a> {
     /// # Errors
     ///
     /// `NoMemory` if memory runs out.
-    #[tactic(auto, unfolding(crate::specs::Recoveries::recovery_file, crate::specs::Recoveries::recovery_meta))]
     pub fn again(&self, alloc: Global) -> Result<Recovery<'a>, NoMemory>
         ensures file { IfOk result (λ again. recovery_file again ≡ recovery_file self.now) }
         ensures meta { IfOk result (λ again. recovery_meta again ≡ recovery_meta self.now) }
@@ -112,7 +111,6 @@ impl<'a> Recovery<'a> {
     }
 
     /// The file that is read.
-    #[tactic(auto, unfolding(crate::specs::Recoveries::recovery_file))]
     pub fn file(&self) -> &'a [u8]
         ensures { result.now ≡ recovery_file self.now }
     {
@@ -120,7 +118,6 @@ impl<'a> Recovery<'a> {
     }
 
     /// The meta that the file is read under.
-    #[tactic(auto, unfolding(crate::specs::Recoveries::recovery_meta))]
     pub fn meta(&self) -> Meta
         ensures { result ≡ recovery_meta self.now }
     {
@@ -134,7 +131,6 @@ impl<'a> Recovery<'a> {
     ///
     /// `NoMemory` if there is no memory for one more open page or one more loss. The same is left
     /// then, the path is the same, and `next` may be called again.
-    #[tactic(auto, unfolding(crate::specs::Recoveries::recovery_file, crate::specs::Recoveries::recovery_left, crate::specs::Recoveries::recovery_losses, crate::specs::Recoveries::recovery_meta, crate::specs::Recoveries::recovery_path, crate::specs::Recoveries::recovery_work))]
     pub fn next(&mut self) -> Result<Option<Item<'a>>, NoMemory>
         ensures file { recovery_file self.new ≡ recovery_file self.old }
         ensures meta { recovery_meta self.new ≡ recovery_meta self.old }
@@ -152,7 +148,6 @@ impl<'a> Recovery<'a> {
 
     /// The path of the last item that was returned, from the root bucket down. It is empty before
     /// the first item and after the last.
-    #[tactic(auto, unfolding(crate::specs::Recoveries::recovery_path))]
     pub fn path(&self) -> &[&'a [u8]]
         ensures { path_of result.now ≡ recovery_path self.now }
     {
@@ -161,7 +156,6 @@ impl<'a> Recovery<'a> {
 
     /// The losses so far, in the order of ways. Once `next` has returned `None`, these are all
     /// losses.
-    #[tactic(auto, unfolding(crate::specs::Recoveries::recovery_file, crate::specs::Recoveries::recovery_losses, crate::specs::Recoveries::recovery_meta))]
     pub fn losses(&self) -> &[Loss<'a>]
         ensures losses { map loss_view result.now ≡ recovery_losses self.now }
         ensures first { ForLosses (recovery_file self.now) (recovery_meta self.now) (AreFirst (recovery_losses self.now)) }

@@ -1,11 +1,12 @@
 -- The fault of a page that is to be printed.
 use Rattle.std.proofs.Common.{◌≡◌, ◌∙◌, ℕ, List, Option, None, Some, ap, sym}
+use Rattle.bolt_format.specs.Freelists.{freelist_fault}
 use Rattle.bolt_format.specs.Headers.{count_field, flags_field, kind_of}
 use Rattle.bolt_format.specs.Pages.{from_page, page_at, page_fault, page_overflow, shown_as, span_bytes}
 use Rattle.bolt_format.specs.declared.fault.PageFault.{PageFault}
 use Rattle.bolt_format.specs.declared.kind.Kind.{Kind}
 use Rattle.bolt_format.specs.declared.meta.Meta.{Meta}
-use Rattle.bolt_report.specs.PageTexts.{fault_of, page_ids_fault, page_text_fault, shown_fault}
+use Rattle.bolt_report.specs.PageTexts.{fault_of, page_text_fault, shown_fault}
 
 shown_as-fault : (fault : ℕ) (kind : Option Kind) (count overflow : ℕ) (bytes : List ℕ) (found : Option ℕ) → found ≡ Some fault
     → shown_as found kind count overflow bytes ≡ None
@@ -22,5 +23,5 @@ page_at-fault file meta id fault e =
 pub page_text_fault-bad : (file : List ℕ) (meta : Meta) (id : ℕ) (fault : PageFault) → (page_fault file meta id ≡ Some fault.number) × (fault.page ≡ id)
     → page_text_fault file meta id ≡ Some fault
 page_text_fault-bad file meta id fault e =
-    ap (shown_fault (fault_of id (page_fault file meta id)) (page_ids_fault file meta id)) (page_at-fault file meta id fault.number e.0) ∙ ap (fault_of id) e.0
+    ap (shown_fault (fault_of id (page_fault file meta id)) (fault_of id (freelist_fault file meta id))) (page_at-fault file meta id fault.number e.0) ∙ ap (fault_of id) e.0
     ∙ ap (λ page. Some (record { number = fault.number; page = page })) (sym e.1)

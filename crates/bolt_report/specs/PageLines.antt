@@ -1,5 +1,5 @@
 -- A page as a text: docs/COMMANDS.md, "What is printed".
-use Rattle.std.specs.Prelude.{ℕ, List, [], ◌++◌, codes, decimal, flat_map, length, if◌then◌else◌}
+use Rattle.std.specs.Prelude.{ℕ, List, [], ◌++◌, codes, decimal, flat_map, length, if◌then◌else◌, Option, Some, None}
 use Rattle.hex.specs.Hex.{encode_lower}
 use Rattle.bolt_format.specs.Elements.{BranchElement, LeafElement, head_root, head_sequence}
 use Rattle.bolt_format.specs.Pages.{PageView}
@@ -40,6 +40,11 @@ leaf_line e = encode_lower e.key ++ (if e.is_bucket then bucket_end e.value else
 
 unfoldable pub id_line : ℕ → List ℕ
 id_line id = line (decimal id)
+
+-- the ids that were read of a page, none if it is no freelist
+abbrev pub known_ids : Option (List ℕ) → List ℕ
+known_ids (Some ids) = ids
+known_ids None = []
 
 -- The items of a branch or a leaf are its elements, those of a freelist its ids; a meta page has none.
 abbrev pub items_on : Kind → ℕ → List ℕ → ℕ

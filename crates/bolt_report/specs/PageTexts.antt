@@ -1,7 +1,7 @@
 -- Any page of a file as a text: docs/COMMANDS.md, "What is printed".
 use Rattle.std.specs.Prelude.{ℕ, List, [], Option, Some, None}
 use Rattle.std.specs.Option.{option_map}
-use Rattle.bolt_format.specs.Freelists.{free_ids_of, freelist_fault_of}
+use Rattle.bolt_format.specs.Freelists.{free_ids_at, freelist_fault}
 use Rattle.bolt_format.specs.Pages.{PageView, page_at, page_fault}
 use Rattle.bolt_format.specs.declared.fault.PageFault.{PageFault}
 use Rattle.bolt_format.specs.declared.kind.Kind.{Kind}
@@ -9,38 +9,16 @@ use Rattle.bolt_format.specs.declared.kind.Kind.TheVariants as kind
 use Rattle.bolt_format.specs.declared.meta.Meta.{Meta}
 use Rattle.bolt_report.specs.PageLines.{page_lines}
 
--- A page is read as a freelist under the meta, changed so that it names this page.
-abbrev pub with_freelist : Meta → ℕ → Meta
-with_freelist meta id = record {
-  page_size = meta.page_size;
-  root = meta.root;
-  root_sequence = meta.root_sequence;
-  freelist = id;
-  high_water = meta.high_water;
-  txid = meta.txid;
-}
-
-abbrev pub known_ids : Option (List ℕ) → List ℕ
-known_ids (Some ids) = ids
-known_ids None = []
-
-abbrev pub page_ids : List ℕ → Meta → ℕ → List ℕ
-page_ids file meta id = known_ids (free_ids_of file (with_freelist meta id))
-
 abbrev pub shown_text : ℕ → List ℕ → Option PageView → List ℕ
 shown_text id ids (Some view) = page_lines id view ids
 shown_text id ids None = []
 
 -- the text of a page, which is empty if the page is refused
 abbrev pub page_text : List ℕ → Meta → ℕ → List ℕ
-page_text file meta id = shown_text id (page_ids file meta id) (page_at file meta id)
+page_text file meta id = shown_text id (free_ids_at file meta id) (page_at file meta id)
 
 abbrev pub fault_of : ℕ → Option ℕ → Option PageFault
 fault_of id fault = option_map (λ number. record { number = number; page = id }) fault
-
--- the fault of a page as the freelist of its file
-abbrev pub page_ids_fault : List ℕ → Meta → ℕ → Option PageFault
-page_ids_fault file meta id = fault_of id (freelist_fault_of file (with_freelist meta id))
 
 -- The ids of a freelist page are tested too.
 abbrev pub kind_fault : Option PageFault → Kind → Option PageFault
@@ -56,4 +34,4 @@ shown_fault fault ids_fault None = fault
 
 -- the first fault of a page that is to be printed
 abbrev pub page_text_fault : List ℕ → Meta → ℕ → Option PageFault
-page_text_fault file meta id = shown_fault (fault_of id (page_fault file meta id)) (page_ids_fault file meta id) (page_at file meta id)
+page_text_fault file meta id = shown_fault (fault_of id (page_fault file meta id)) (fault_of id (freelist_fault file meta id)) (page_at file meta id)

@@ -31,3 +31,11 @@ impl From<NoMemory> for ReportFault {
         ReportFault::NoMemory
     }
 }
+
+impl From<PageFault> for ReportFault {
+    ghost from_gives = { λ page report. report ≡ fault.Page page };
+
+    fn from(fault: PageFault) -> ReportFault {
+        ReportFault::Page(fault)
+    }
+}

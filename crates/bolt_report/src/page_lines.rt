@@ -2,19 +2,20 @@
 ghost use Rattle.std.specs.Prelude.{◌≡◌, ◌≢◌, ◌↔◌, ◌+◌, ◌≤◌, ◌++◌, Err, IfOk, Some, length};
 ghost use Rattle.std.specs.Option.{option_map};
 ghost use Rattle.std.specs.Result.{result_err};
+ghost use Rattle.bolt_format.specs.Freelists.{free_ids_at};
 ghost use Rattle.bolt_format.specs.Pages.{page_at};
 ghost use Rattle.bolt_format.specs.Shown.{shown};
 ghost use Rattle.bolt_format.specs.ShownIds.{shown_ids};
 ghost use Rattle.bolt_format.specs.Writes.{Writes};
-ghost use Rattle.bolt_report.specs.PageLines.{head_lines, item_lines, items_on, kind_line, kind_text, page_lines};
-ghost use Rattle.bolt_report.specs.PageTexts.{known_ids, page_ids, page_ids_fault, page_text, page_text_fault};
+ghost use Rattle.bolt_report.specs.PageLines.{head_lines, item_lines, items_on, kind_line, kind_text, known_ids, page_lines};
+ghost use Rattle.bolt_report.specs.PageTexts.{page_text, page_text_fault};
 ghost use Rattle.bolt_report.specs.Reports.{Reports};
 
 use crate::elements::{put_branches, put_ids, put_leaves};
 use crate::fault::ReportFault;
 use crate::puts::put;
 use crate::text::{TEXT_LEN, Text, push_bytes, push_figure};
-use bolt_format::{FreeIds, Kind, Meta, Page, PageFault, Sink, SinkFault, free_ids, page};
+use bolt_format::{FreeIds, Kind, Meta, Page, PageFault, Sink, SinkFault, free_ids_at, page};
 
 /// A page that passed its tests, with its ids if it is a freelist.
 #[derive(Clone, Copy)]
@@ -43,41 +44,28 @@ pub fn page_text<S: Sink>(
     ensures page { (fault : PageFault) → (result ≡ Err (ReportFault.Page fault)) ↔ (page_text_fault file.now meta.now id ≡ Some fault) }
     ensures untouched { (fault : PageFault) → result ≡ Err (ReportFault.Page fault) → sink.new ≡ sink.old }
 {
-    match find(file, meta, id) {
-        Ok(found) => {
-            put_page(id, &found.page, found.ids, sink)?;
-            Ok(())
-        }
-        Err(fault) => Err(ReportFault::Page(fault)),
-    }
+    let found = find(file, meta, id)?;
+    put_page(id, &found.page, found.ids, sink)?;
+    Ok(())
 }
 
 /// The page, and its ids if it is a freelist.
 fn find<'a>(file: &'a [u8], meta: &Meta, id: u64) -> Result<PageWithIds<'a>, PageFault>
     ensures page { IfOk result (λ found. page_at file.now meta.now id ≡ Some (shown found.page)) }
-    ensures ids { IfOk result (λ found. (shown found.page).kind ≡ Kind.Freelist → known_ids (option_map shown_ids found.ids) ≡ page_ids file.now meta.now id) }
+    ensures ids { IfOk result (λ found. (shown found.page).kind ≡ Kind.Freelist → known_ids (option_map shown_ids found.ids) ≡ free_ids_at file.now meta.now id) }
     ensures fault { result_err result ≡ page_text_fault file.now meta.now id }
 {
     let page = page(file, meta, id)?;
     match page.kind() {
         Kind::Freelist => {
-            let ids = own_ids(file, meta, id)?;
-            Ok(PageWithIds { page, ids })
+            let ids = free_ids_at(file, meta, id)?;
+            Ok(PageWithIds {
+                page,
+                ids: Some(ids),
+            })
         }
         _ => Ok(PageWithIds { page, ids: None }),
     }
-}
-
-/// The ids of the page, read as if it were the freelist of its file.
-fn own_ids<'a>(file: &'a [u8], meta: &Meta, id: u64) -> Result<Option<FreeIds<'a>>, PageFault>
-    ensures ids { IfOk result (λ ids. known_ids (option_map shown_ids ids) ≡ page_ids file.now meta.now id) }
-    ensures fault { result_err result ≡ page_ids_fault file.now meta.now id }
-{
-    let own = Meta {
-        freelist: id,
-        ..*meta
-    };
-    free_ids(file, &own)
 }
 
 fn put_page<S: Sink>(

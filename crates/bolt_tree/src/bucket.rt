@@ -27,12 +27,12 @@ pub struct Bucket<'a> {
     ghost begins: { HasStart checked (start_at at) } by { Prim.hlevel props },
 }
 
+#[tactic(auto, unfolding(crate::specs::Buckets::bucket_checked, crate::specs::Buckets::bucket_sequence, crate::specs::Buckets::bucket_start))]
 impl<'a> Bucket<'a> {
     ghost use Rattle.bolt_tree.specs.Buckets.{bucket_checked, bucket_sequence, bucket_start};
     ghost use Rattle.bolt_tree.specs.Lookups.{IsBucketAt, IsElementAt, IsValueAt};
 
     /// The root bucket.
-    #[tactic(auto, unfolding(crate::specs::Buckets::bucket_checked, crate::specs::Buckets::bucket_start, crate::specs::Buckets::bucket_sequence))]
     pub fn root(checked: Checked<'a>) -> Bucket<'a>
         ensures checked { bucket_checked result ≡ checked.entry }
         ensures start { bucket_start result ≡ Root_page (meta_of checked.entry).root }
@@ -47,7 +47,6 @@ impl<'a> Bucket<'a> {
     }
 
     /// The bucket of a leaf element with this value.
-    #[tactic(auto, unfolding(crate::specs::Buckets::bucket_checked, crate::specs::Buckets::bucket_start, crate::specs::Buckets::bucket_sequence))]
     pub(crate) fn of(checked: Checked<'a>, value: &'a [u8]) -> Bucket<'a>
         requires value { IsBucketValue value.now }
         requires begins { HasStart checked (start_of value.now) }
@@ -64,7 +63,6 @@ impl<'a> Bucket<'a> {
     }
 
     /// The bucket's sequence.
-    #[tactic(auto, unfolding(crate::specs::Buckets::bucket_sequence))]
     pub fn sequence(&self) -> u64
         ensures { result ≡ bucket_sequence self.now }
     {
@@ -72,7 +70,6 @@ impl<'a> Bucket<'a> {
     }
 
     /// The file that contains the bucket.
-    #[tactic(auto, unfolding(crate::specs::Buckets::bucket_checked))]
     pub fn checked(&self) -> Checked<'a>
         ensures { result ≡ bucket_checked self.now }
     {
@@ -80,7 +77,6 @@ impl<'a> Bucket<'a> {
     }
 
     /// Where the bucket's tree begins.
-    #[tactic(auto, unfolding(crate::specs::Buckets::bucket_checked, crate::specs::Buckets::bucket_start))]
     pub fn at(&self) -> At<'a>
         ensures start { start_at result ≡ bucket_start self.now }
         ensures begins { HasStart (bucket_checked self.now) (start_at result) }
@@ -89,7 +85,6 @@ impl<'a> Bucket<'a> {
     }
 
     /// A cursor over the bucket's entries, before the first call. Needs no memory.
-    #[tactic(auto, unfolding(crate::specs::Buckets::bucket_checked, crate::specs::Buckets::bucket_start))]
     pub fn cursor(&self) -> Cursor<'a>
         ensures checked { cursor_checked result ≡ bucket_checked self.now }
         ensures start { cursor_start result ≡ bucket_start self.now }

@@ -32,13 +32,13 @@ pub struct Cursor<'a> {
     ghost held: { ∥ IsHeld trail is_past ∥₁ },
 }
 
+#[tactic(auto, unfolding(crate::specs::Cursors::cursor_checked, crate::specs::Cursors::cursor_compared, crate::specs::Cursors::cursor_opened, crate::specs::Cursors::cursor_place, crate::specs::Cursors::cursor_start))]
 impl<'a> Cursor<'a> {
     ghost use Rattle.bolt_tree.specs.Cursors.{cursor_bucket, cursor_checked, cursor_compared, cursor_opened, cursor_place, cursor_start};
     ghost use Rattle.bolt_tree.specs.Private.CursorViews.{cursor_view};
 
     /// A cursor before the first call, over a bucket of the pager's file. Only its pager opens
     /// pages by their numbers.
-    #[tactic(auto, unfolding(crate::specs::Cursors::cursor_checked, crate::specs::Cursors::cursor_compared, crate::specs::Cursors::cursor_opened, crate::specs::Cursors::cursor_place, crate::specs::Cursors::cursor_start))]
     pub fn new(pager: Pager<'a>, at: At<'a>) -> Cursor<'a>
         requires { HasStart (pager_checked pager) (start_at at) }
         ensures checked { cursor_checked result ≡ pager_checked pager.entry }
@@ -61,7 +61,6 @@ impl<'a> Cursor<'a> {
     }
 
     /// Starts again in a bucket of the same file, before the first call.
-    #[tactic(auto, unfolding(crate::specs::Cursors::cursor_checked, crate::specs::Cursors::cursor_place, crate::specs::Cursors::cursor_start))]
     pub(crate) fn begin(&mut self, at: At<'a>)
         requires { HasStart (cursor_checked self.old) (start_at at) }
         ensures checked { cursor_checked self.new ≡ cursor_checked self.old }
@@ -74,7 +73,6 @@ impl<'a> Cursor<'a> {
     }
 
     /// Takes the place of a cursor of the same file that had these positions.
-    #[tactic(auto, unfolding(crate::specs::Cursors::cursor_checked, crate::specs::Cursors::cursor_place, crate::specs::Cursors::cursor_start))]
     pub(crate) fn resume(&mut self, at: At<'a>, is_past: bool, positions: &[Position<'a>])
         requires { ∥ IsKept (cursor_checked self.old) at is_past positions.now ∥₁ }
         ensures { cursor_view self.new ≡ kept_view (cursor_checked self.old) at.entry is_past positions.now }
@@ -106,7 +104,6 @@ impl<'a> Cursor<'a> {
     }
 
     /// The number of pages that its pager has opened.
-    #[tactic(auto, unfolding(crate::specs::Cursors::cursor_opened))]
     pub fn opened(&self) -> u64
         ensures { result ≡ cursor_opened self.now }
     {
@@ -115,7 +112,6 @@ impl<'a> Cursor<'a> {
 
     /// The number of keys that were compared since the last `first`, `last` or `seek`, that call
     /// included.
-    #[tactic(auto, unfolding(crate::specs::Cursors::cursor_compared))]
     pub fn compared(&self) -> u64
         ensures { result ≡ cursor_compared self.now }
     {
@@ -123,7 +119,6 @@ impl<'a> Cursor<'a> {
     }
 
     /// Moves to the first entry, and returns it. If there are no entries, returns `None`.
-    #[tactic(auto, unfolding(crate::specs::Cursors::cursor_checked, crate::specs::Cursors::cursor_compared, crate::specs::Cursors::cursor_opened, crate::specs::Cursors::cursor_place, crate::specs::Cursors::cursor_start))]
     pub fn first(&mut self) -> Option<Entry<'a>>
         ensures checked { cursor_checked self.new ≡ cursor_checked self.old }
         ensures start { cursor_start self.new ≡ cursor_start self.old }
@@ -138,7 +133,6 @@ impl<'a> Cursor<'a> {
     }
 
     /// Moves to the last entry, and returns it. If there are no entries, returns `None`.
-    #[tactic(auto, unfolding(crate::specs::Cursors::cursor_checked, crate::specs::Cursors::cursor_compared, crate::specs::Cursors::cursor_opened, crate::specs::Cursors::cursor_place, crate::specs::Cursors::cursor_start))]
     pub fn last(&mut self) -> Option<Entry<'a>>
         ensures checked { cursor_checked self.new ≡ cursor_checked self.old }
         ensures start { cursor_start self.new ≡ cursor_start self.old }
@@ -166,7 +160,6 @@ impl<'a> Cursor<'a> {
 
     /// Moves to the preceding entry, and returns it. If there is none, it stays where it is, and
     /// returns `None`.
-    #[tactic(auto, unfolding(crate::specs::Cursors::cursor_checked, crate::specs::Cursors::cursor_compared, crate::specs::Cursors::cursor_opened, crate::specs::Cursors::cursor_place, crate::specs::Cursors::cursor_start))]
     pub fn prev(&mut self) -> Option<Entry<'a>>
         ensures checked { cursor_checked self.new ≡ cursor_checked self.old }
         ensures start { cursor_start self.new ≡ cursor_start self.old }
@@ -201,7 +194,6 @@ impl<'a> Cursor<'a> {
 
     /// Moves to the next entry, and returns its element. If there is none, it stays where it is.
     #[inline(always)]
-    #[tactic(auto, unfolding(crate::specs::Cursors::cursor_checked, crate::specs::Cursors::cursor_compared, crate::specs::Cursors::cursor_opened, crate::specs::Cursors::cursor_place, crate::specs::Cursors::cursor_start))]
     pub(crate) fn next_element(&mut self) -> Option<Leaf<'a>>
         ensures checked { cursor_checked self.new ≡ cursor_checked self.old }
         ensures start { cursor_start self.new ≡ cursor_start self.old }
@@ -222,7 +214,6 @@ impl<'a> Cursor<'a> {
 
     /// Moves to the first entry whose key isn't below `key`, and returns its element. If there is
     /// none, moves past the last entry.
-    #[tactic(auto, unfolding(crate::specs::Cursors::cursor_checked, crate::specs::Cursors::cursor_compared, crate::specs::Cursors::cursor_opened, crate::specs::Cursors::cursor_place, crate::specs::Cursors::cursor_start))]
     pub(crate) fn seek_element(&mut self, key: &[u8]) -> Option<Leaf<'a>>
         ensures checked { cursor_checked self.new ≡ cursor_checked self.old }
         ensures start { cursor_start self.new ≡ cursor_start self.old }

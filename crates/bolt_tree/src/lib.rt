@@ -18,7 +18,6 @@ mod pager;
 pub mod part_laws;
 mod position;
 mod trail;
-mod trail_moves;
 mod walk;
 
 pub use at::At;

@@ -17,11 +17,11 @@ pub struct Pager<'a> {
     ghost fits: { opened < 2 ^ 64 },
 }
 
+#[tactic(auto, unfolding(crate::specs::Pagers::pager_checked, crate::specs::Pagers::pager_opened))]
 impl<'a> Pager<'a> {
     ghost use Rattle.bolt_tree.specs.Pagers.{counted, pager_checked, pager_opened};
 
     /// A pager that has opened no page.
-    #[tactic(auto, unfolding(crate::specs::Pagers::pager_checked, crate::specs::Pagers::pager_opened))]
     pub fn new(checked: Checked<'a>) -> Pager<'a>
         ensures checked { pager_checked result ≡ checked.entry }
         ensures opened { pager_opened result ≡ 0 }
@@ -30,7 +30,6 @@ impl<'a> Pager<'a> {
     }
 
     /// Opens page `id`. A way leads to it.
-    #[tactic(auto, unfolding(crate::specs::Pagers::pager_checked, crate::specs::Pagers::pager_opened))]
     pub fn open(&mut self, id: u64) -> Page<'a>
         requires { ∥ ((depth : ℕ) × IsOnWay (bytes_of (pager_checked self.old)) (meta_of (pager_checked self.old)) id depth) ∥₁ }
         ensures page { page_at (bytes_of (pager_checked self.old)) (meta_of (pager_checked self.old)) id ≡ Some (shown result) }
@@ -42,7 +41,6 @@ impl<'a> Pager<'a> {
     }
 
     /// Counts an inline page, which is in a value.
-    #[tactic(auto, unfolding(crate::specs::Pagers::pager_checked, crate::specs::Pagers::pager_opened))]
     pub fn note(&mut self)
         ensures checked { pager_checked self.new ≡ pager_checked self.old }
         ensures opened { pager_opened self.new ≡ counted (pager_opened self.old) 1 }
@@ -51,7 +49,6 @@ impl<'a> Pager<'a> {
     }
 
     /// The number of pages that it has opened. Saturates at 2^64 - 1.
-    #[tactic(auto, unfolding(crate::specs::Pagers::pager_opened))]
     pub fn opened(&self) -> u64
         ensures { result ≡ pager_opened self.now }
     {

@@ -1,22 +1,24 @@
-//! A stack of open pages, and its steps from page to page.
-ghost use Rattle.std.specs.Prelude.{◌≡◌, ◌∷◌, [], ◌<◌, ◌≤◌, ◌+◌, ◌-◌, ◌*◌, IsTrue, IfSome, Some, length, slice_get};
+//! A stack of open pages, and its moves from page to page and from entry to entry.
+ghost use Rattle.std.specs.Prelude.{◌≡◌, ◌∷◌, [], ◌<◌, ◌≤◌, ◌+◌, ◌-◌, ◌*◌, ◌++◌, IfSome, IsTrue, MatchOption, Some, drop, length, slice_get};
 ghost use Rattle.std.specs.Option.{option_map};
 ghost use Rattle.bolt_format.specs.ElementPlaces.{leaf_view};
 ghost use Rattle.bolt_format.specs.Elements.{BranchElement, IsBucketValue};
 ghost use Rattle.bolt_format.specs.Shown.{shown};
-ghost use Rattle.bolt_tree.specs.Private.BucketPages.{contents_in, elements_in, root_content};
-ghost use Rattle.bolt_tree.specs.Private.Contents.{Of_branch, content_length};
-ghost use Rattle.bolt_tree.specs.Private.Entered.{IsEntered, entered_pages, taken_at};
+ghost use Rattle.bolt_tree.specs.CursorBounds.{OpensSeek, SeeksInBounds};
 ghost use Rattle.bolt_tree.specs.Pagers.{counted, pager_opened};
+ghost use Rattle.bolt_tree.specs.Places.{least_from};
+ghost use Rattle.bolt_tree.specs.Private.BucketPages.{contents_in, elements_in, pages_in, root_content};
+ghost use Rattle.bolt_tree.specs.Private.Contents.{Of_branch, content_length};
+ghost use Rattle.bolt_tree.specs.Private.Entered.{IsEntered, entered_pages, opened_to, taken_at};
 ghost use Rattle.bolt_tree.specs.Private.Seeks.{IsNearTop, IsSought};
 ghost use Rattle.bolt_tree.specs.Private.ShownPages.{opened_content};
-ghost use Rattle.bolt_tree.specs.Private.Stacks.{HasStack, IsLeafTop};
+ghost use Rattle.bolt_tree.specs.Private.Stacks.{HasStack, IsAtRest, IsLeafTop, IsOn, here_of};
 
 use crate::at::At;
 use crate::halves::keys_before;
 use crate::opened::{BranchPage, Opened};
 use crate::pager::Pager;
-use crate::position::{Position, Stack};
+use crate::position::{Position, Stack, set_positions};
 use bolt_format::Leaf;
 
 /// The open pages of a bucket, from its root page on, each with the number of elements up to where
@@ -28,37 +30,208 @@ pub(crate) struct Trail<'a> {
     pub stack: Stack<'a>,
 }
 
-impl<'a> Trail<'a> {
-    ghost use Rattle.bolt_tree.specs.Private.Trails.{HasBucket, HasTrail, IsSameBucket, ahead, trail_bucket, trail_frames};
+/// The element that a search found, and how many keys it compared.
+#[derive(Clone, Copy)]
+pub(crate) struct SeekResult<'a> {
+    pub found: Option<Leaf<'a>>,
+    pub compared: u64,
+}
 
-    /// Pushes a page onto the stack.
-    pub fn push(&mut self, page: Opened<'a>, taken: u32)
-        requires { HasStack (trail_bucket self.old) (record { content = opened_content page; taken = taken } ∷ trail_frames self.old) }
+impl<'a> Trail<'a> {
+    ghost use Rattle.bolt_tree.specs.Private.Trails.{HasBucket, HasTrail, IsSameBucket, ahead, preceding, right, trail_bucket, trail_frames};
+
+    /// Goes to the first entry or, if there is none, before the first call.
+    pub fn first(&mut self) -> Option<Leaf<'a>>
+        requires { HasBucket self.old }
         ensures same { IsSameBucket self.old self.new }
         ensures stack { HasTrail self.new }
-        ensures frames { trail_frames self.new ≡ record { content = opened_content page.entry; taken = taken } ∷ trail_frames self.old }
-        ensures opened { pager_opened self.new.pager ≡ pager_opened self.old.pager }
+        ensures rest { IsAtRest (trail_frames self.new) }
+        ensures found { MatchOption result ((elements_in (trail_bucket self.old) ≡ []) × (trail_frames self.new ≡ []))
+            (λ leaf. (elements_in (trail_bucket self.old) ≡ leaf_view leaf ∷ ahead self.new) × IsOn (trail_frames self.new) (leaf_view leaf)) }
+        ensures bucket { IfSome result (λ leaf. IsTrue leaf.is_bucket → IsBucketValue leaf.value.now) }
+        ensures opened { pager_opened self.new.pager ≡ counted (pager_opened self.old.pager) (length (pages_in (trail_bucket self.old)) - length (right self.new)) }
     {
-        self.stack.push(Position { page, taken });
+        self.begin(false);
+        self.advance()
     }
 
-    /// Pushes a page onto the stack, before its first element or past its last.
-    fn stand(&mut self, page: Opened<'a>, at_end: bool)
-        requires { HasStack (trail_bucket self.old) (record { content = opened_content page; taken = 0 } ∷ trail_frames self.old) }
+    /// Goes to the last entry or, if there is none, before the first call.
+    pub fn last(&mut self) -> Option<Leaf<'a>>
+        requires { HasBucket self.old }
         ensures same { IsSameBucket self.old self.new }
         ensures stack { HasTrail self.new }
-        ensures frames { trail_frames self.new ≡ record { content = opened_content page.entry; taken = taken_at at_end (opened_content page.entry) } ∷ trail_frames self.old }
-        ensures opened { pager_opened self.new.pager ≡ pager_opened self.old.pager }
+        ensures rest { IsAtRest (trail_frames self.new) }
+        ensures found { MatchOption result ((elements_in (trail_bucket self.old) ≡ []) × (trail_frames self.new ≡ []))
+            (λ leaf. (elements_in (trail_bucket self.old) ≡ preceding self.new ++ leaf_view leaf ∷ []) × IsOn (trail_frames self.new) (leaf_view leaf)) }
+        ensures bucket { IfSome result (λ leaf. IsTrue leaf.is_bucket → IsBucketValue leaf.value.now) }
     {
-        if at_end {
-            self.push(page, u32::from(page.count()) + 1);
-        } else {
-            self.push(page, 0);
+        self.begin(true);
+        self.retreat()
+    }
+
+    /// Moves to the next entry. If there is none, it stays. The content of `spare` is lost.
+    #[inline(always)]
+    pub fn next(&mut self, spare: &mut Stack<'a>) -> Option<Leaf<'a>>
+        requires stack { HasTrail self.old }
+        requires rest { IsAtRest (trail_frames self.old) }
+        ensures same { IsSameBucket self.old self.new }
+        ensures stack { HasTrail self.new }
+        ensures rest { IsAtRest (trail_frames self.new) }
+        ensures found { MatchOption result ((ahead self.old ≡ []) × (trail_frames self.new ≡ trail_frames self.old))
+            (λ leaf. (ahead self.old ≡ leaf_view leaf ∷ ahead self.new) × IsOn (trail_frames self.new) (leaf_view leaf)) }
+        ensures bucket { IfSome result (λ leaf. IsTrue leaf.is_bucket → IsBucketValue leaf.value.now) }
+        ensures opened { pager_opened self.new.pager ≡ counted (pager_opened self.old.pager) (length (right self.old) - opened_to (option_map leaf_view result) (right self.new)) }
+    {
+        let found = self.next_here();
+        if found.is_some() {
+            return found;
+        }
+        if self.stack.len() < 2 {
+            return None;
+        }
+        self.next_further(spare)
+    }
+
+    /// Moves to the preceding entry. If there is none, it stays. The content of `spare` is lost.
+    pub fn prev(&mut self, spare: &mut Stack<'a>) -> Option<Leaf<'a>>
+        requires stack { HasTrail self.old }
+        requires rest { IsAtRest (trail_frames self.old) }
+        ensures same { IsSameBucket self.old self.new }
+        ensures stack { HasTrail self.new }
+        ensures rest { IsAtRest (trail_frames self.new) }
+        ensures found { MatchOption result ((preceding self.old ≡ []) × (trail_frames self.new ≡ trail_frames self.old))
+            (λ leaf. (preceding self.old ≡ preceding self.new ++ leaf_view leaf ∷ []) × IsOn (trail_frames self.new) (leaf_view leaf)) }
+        ensures bucket { IfSome result (λ leaf. IsTrue leaf.is_bucket → IsBucketValue leaf.value.now) }
+    {
+        set_positions(spare, self.stack.as_slice());
+        match self.retreat() {
+            Some(leaf) => Some(leaf),
+            None => {
+                set_positions(&mut self.stack, spare.as_slice());
+                None
+            }
         }
     }
 
+    /// Goes to the first entry whose key isn't below `key`. If there is none, the stack is empty.
+    pub fn seek(&mut self, key: &[u8]) -> SeekResult<'a>
+        requires { HasBucket self.old }
+        ensures same { IsSameBucket self.old self.new }
+        ensures stack { HasTrail self.new }
+        ensures rest { IsAtRest (trail_frames self.new) }
+        ensures found { MatchOption result.found ((drop (least_from key.now (elements_in (trail_bucket self.old))) (elements_in (trail_bucket self.old)) ≡ []) × (trail_frames self.new ≡ []))
+            (λ leaf. (drop (least_from key.now (elements_in (trail_bucket self.old))) (elements_in (trail_bucket self.old)) ≡ leaf_view leaf ∷ ahead self.new) × IsOn (trail_frames self.new) (leaf_view leaf)) }
+        ensures number { least_from key.now (elements_in (trail_bucket self.old)) ≤ length (elements_in (trail_bucket self.old)) }
+        ensures bucket { IfSome result.found (λ leaf. IsTrue leaf.is_bucket → IsBucketValue leaf.value.now) }
+        ensures opened { OpensSeek (trail_bucket self.old) key.now (pager_opened self.old.pager) (pager_opened self.new.pager) }
+        ensures compared { SeeksInBounds (trail_bucket self.old) key.now result.compared }
+    {
+        let root = self.open_root();
+        let compared = self.descend(root, key);
+        let found = self.advance();
+        SeekResult { found, compared }
+    }
+
+    /// Moves to the next entry if it is in the same leaf. Otherwise it stays.
+    fn next_here(&mut self) -> Option<Leaf<'a>>
+        requires stack { HasTrail self.old }
+        requires rest { IsAtRest (trail_frames self.old) }
+        ensures same { IsSameBucket self.old self.new }
+        ensures stack { HasTrail self.new }
+        ensures found { MatchOption result ((here_of (trail_frames self.old) ≡ []) × (trail_frames self.new ≡ trail_frames self.old))
+            (λ leaf. (ahead self.old ≡ leaf_view leaf ∷ ahead self.new) × IsOn (trail_frames self.new) (leaf_view leaf) × (right self.old ≡ right self.new)) }
+        ensures bucket { IfSome result (λ leaf. IsTrue leaf.is_bucket → IsBucketValue leaf.value.now) }
+        ensures opened { pager_opened self.new.pager ≡ pager_opened self.old.pager }
+    {
+        let Some(last) = self.stack.len().checked_sub(1) else {
+            return None;
+        };
+        let top = &self.stack[last];
+        if top.taken >= u32::from(top.page.count()) {
+            return None;
+        }
+        let leaf = top.page.entry(top.taken as u16);
+        self.stack[last].taken += 1;
+        Some(leaf)
+    }
+
+    /// Moves to the next entry, past the end of the leaf. If there is none, the stack is restored.
+    #[inline(never)]
+    fn next_further(&mut self, spare: &mut Stack<'a>) -> Option<Leaf<'a>>
+        requires stack { HasTrail self.old }
+        requires rest { IsAtRest (trail_frames self.old) }
+        ensures same { IsSameBucket self.old self.new }
+        ensures stack { HasTrail self.new }
+        ensures rest { IsAtRest (trail_frames self.new) }
+        ensures found { MatchOption result ((ahead self.old ≡ []) × (trail_frames self.new ≡ trail_frames self.old))
+            (λ leaf. (ahead self.old ≡ leaf_view leaf ∷ ahead self.new) × IsOn (trail_frames self.new) (leaf_view leaf)) }
+        ensures bucket { IfSome result (λ leaf. IsTrue leaf.is_bucket → IsBucketValue leaf.value.now) }
+        ensures opened { pager_opened self.new.pager ≡ counted (pager_opened self.old.pager) (length (right self.old) - opened_to (option_map leaf_view result) (right self.new)) }
+    {
+        set_positions(spare, self.stack.as_slice());
+        match self.advance() {
+            Some(leaf) => Some(leaf),
+            None => {
+                set_positions(&mut self.stack, spare.as_slice());
+                None
+            }
+        }
+    }
+
+    /// Moves to the next entry. If there is none, the stack is empty.
+    fn advance(&mut self) -> Option<Leaf<'a>>
+        requires { HasTrail self.old }
+        ensures same { IsSameBucket self.old self.new }
+        ensures stack { HasTrail self.new }
+        ensures found { MatchOption result ((ahead self.old ≡ []) × (trail_frames self.new ≡ []))
+            (λ leaf. (ahead self.old ≡ leaf_view leaf ∷ ahead self.new) × IsOn (trail_frames self.new) (leaf_view leaf)) }
+        ensures bucket { IfSome result (λ leaf. IsTrue leaf.is_bucket → IsBucketValue leaf.value.now) }
+        ensures less { length (right self.new) ≤ length (right self.old) }
+        ensures opened { pager_opened self.new.pager ≡ counted (pager_opened self.old.pager) (length (right self.old) - length (right self.new)) }
+    {
+        while let Some(top) = self.stack.pop() {
+            if top.taken < u32::from(top.page.count()) {
+                if let Some(leaf) = self.enter(top.page, top.taken as u16, false) {
+                    return Some(leaf);
+                }
+            }
+        }
+        None
+    }
+
+    /// Moves to the preceding entry. If there is none, the stack is empty.
+    fn retreat(&mut self) -> Option<Leaf<'a>>
+        requires { HasTrail self.old }
+        ensures same { IsSameBucket self.old self.new }
+        ensures stack { HasTrail self.new }
+        ensures found { MatchOption result ((preceding self.old ≡ []) × (trail_frames self.new ≡ []))
+            (λ leaf. (preceding self.old ≡ preceding self.new ++ leaf_view leaf ∷ []) × IsOn (trail_frames self.new) (leaf_view leaf)) }
+        ensures bucket { IfSome result (λ leaf. IsTrue leaf.is_bucket → IsBucketValue leaf.value.now) }
+    {
+        while let Some(top) = self.stack.pop() {
+            if top.taken > 1 {
+                if let Some(leaf) = self.enter(top.page, (top.taken - 2) as u16, true) {
+                    return Some(leaf);
+                }
+            }
+        }
+        None
+    }
+
+    /// Opens the root page, and pushes it before its first element or past its last.
+    fn begin(&mut self, at_end: bool)
+        requires { HasBucket self.old }
+        ensures same { IsSameBucket self.old self.new }
+        ensures stack { HasTrail self.new }
+        ensures frames { let root = root_content (trail_bucket self.old) in trail_frames self.new ≡ record { content = root; taken = taken_at at_end root } ∷ [] }
+        ensures opened { pager_opened self.new.pager ≡ counted (pager_opened self.old.pager) 1 }
+    {
+        let page = self.open_root();
+        self.stand(page, at_end);
+    }
+
     /// Opens the root page of the bucket, or its inline page, which isn't on the stack yet.
-    pub fn open_root(&mut self) -> Opened<'a>
+    fn open_root(&mut self) -> Opened<'a>
         requires { HasBucket self.old }
         ensures same { IsSameBucket self.old self.new }
         ensures content { opened_content result ≡ root_content (trail_bucket self.old) }
@@ -75,36 +248,37 @@ impl<'a> Trail<'a> {
         }
     }
 
-    /// Opens the root page, and pushes it before its first element or past its last.
-    pub fn begin(&mut self, at_end: bool)
-        requires { HasBucket self.old }
+    /// Goes down from the root page to the leaf that is near a key, and stops before its first
+    /// entry that isn't below the key. Returns how many keys were compared, at most 16 for each
+    /// page.
+    fn descend(&mut self, root: Opened<'a>, key: &[u8]) -> u64
+        requires bucket { HasBucket self.old }
+        requires empty { trail_frames self.old ≡ [] }
+        requires root { opened_content root ≡ root_content (trail_bucket self.old) }
         ensures same { IsSameBucket self.old self.new }
         ensures stack { HasTrail self.new }
-        ensures frames { let root = root_content (trail_bucket self.old) in trail_frames self.new ≡ record { content = root; taken = taken_at at_end root } ∷ [] }
-        ensures opened { pager_opened self.new.pager ≡ counted (pager_opened self.old.pager) 1 }
+        ensures near { IsNearTop (trail_bucket self.old) key.now (trail_frames self.new) }
+        ensures sought { IsSought (elements_in (trail_bucket self.old)) key.now (ahead self.new) }
+        ensures compared { result ≤ 16 * length (trail_frames self.new) }
+        ensures opened { pager_opened self.new.pager ≡ counted (pager_opened self.old.pager) (length (trail_frames self.new) - 1) }
+        ensures leaf { IsLeafTop (trail_frames self.new) }
     {
-        let page = self.open_root();
-        self.stand(page, at_end);
-    }
-
-    /// Opens the page under element `i` of a branch, and pushes the branch.
-    pub fn go_under(&mut self, page: BranchPage<'a>, i: u16) -> Opened<'a>
-        requires stack { HasStack (trail_bucket self.old) (record { content = Of_branch (shown page.page).branches; taken = 0 } ∷ trail_frames self.old) }
-        requires below { i < length (shown page.page).branches }
-        ensures same { IsSameBucket self.old self.new }
-        ensures frames { trail_frames self.new ≡ record { content = Of_branch (shown page.entry.page).branches; taken = i + 1 } ∷ trail_frames self.old }
-        ensures child { (e : BranchElement) × (slice_get (shown page.entry.page).branches i ≡ Some e) × (opened_content result ≡ contents_in (trail_bucket self.old) e.child) }
-        ensures stack { HasStack (trail_bucket self.new) (record { content = opened_content result; taken = 0 } ∷ trail_frames self.new) }
-        ensures opened { pager_opened self.new.pager ≡ counted (pager_opened self.old.pager) 1 }
-    {
-        self.push(Opened::Branch(page), u32::from(i) + 1);
-        Opened::of_page(self.pager.open(page.element(i).child))
+        let mut opened = root;
+        let mut compared = 0;
+        while let Opened::Branch(page) = opened {
+            let found = keys_before(&opened, key, true);
+            compared += found.compared;
+            opened = self.go_under(page, found.before.saturating_sub(1));
+        }
+        let found = keys_before(&opened, key, false);
+        self.push(opened, u32::from(found.before));
+        compared + found.compared
     }
 
     /// Goes to element `i` of a page, and pushes the page again. The element is an entry of a leaf,
     /// which is returned; or it leads from a branch to a page, which is opened and pushed, before
     /// its first element or past its last.
-    pub fn enter(&mut self, page: Opened<'a>, i: u16, at_end: bool) -> Option<Leaf<'a>>
+    fn enter(&mut self, page: Opened<'a>, i: u16, at_end: bool) -> Option<Leaf<'a>>
         requires stack { HasStack (trail_bucket self.old) (record { content = opened_content page; taken = 0 } ∷ trail_frames self.old) }
         requires below { i < content_length (opened_content page) }
         ensures same { IsSameBucket self.old self.new }
@@ -131,30 +305,43 @@ impl<'a> Trail<'a> {
         }
     }
 
-    /// Goes down from the root page to the leaf that is near a key, and stops before its first
-    /// entry that isn't below the key. Returns how many keys were compared, at most 16 for each
-    /// page.
-    pub fn descend(&mut self, root: Opened<'a>, key: &[u8]) -> u64
-        requires bucket { HasBucket self.old }
-        requires empty { trail_frames self.old ≡ [] }
-        requires root { opened_content root ≡ root_content (trail_bucket self.old) }
+    /// Opens the page under element `i` of a branch, and pushes the branch.
+    fn go_under(&mut self, page: BranchPage<'a>, i: u16) -> Opened<'a>
+        requires stack { HasStack (trail_bucket self.old) (record { content = Of_branch (shown page.page).branches; taken = 0 } ∷ trail_frames self.old) }
+        requires below { i < length (shown page.page).branches }
+        ensures same { IsSameBucket self.old self.new }
+        ensures frames { trail_frames self.new ≡ record { content = Of_branch (shown page.entry.page).branches; taken = i + 1 } ∷ trail_frames self.old }
+        ensures child { (e : BranchElement) × (slice_get (shown page.entry.page).branches i ≡ Some e) × (opened_content result ≡ contents_in (trail_bucket self.old) e.child) }
+        ensures stack { HasStack (trail_bucket self.new) (record { content = opened_content result; taken = 0 } ∷ trail_frames self.new) }
+        ensures opened { pager_opened self.new.pager ≡ counted (pager_opened self.old.pager) 1 }
+    {
+        self.push(Opened::Branch(page), u32::from(i) + 1);
+        Opened::of_page(self.pager.open(page.element(i).child))
+    }
+
+    /// Pushes a page onto the stack, before its first element or past its last.
+    fn stand(&mut self, page: Opened<'a>, at_end: bool)
+        requires { HasStack (trail_bucket self.old) (record { content = opened_content page; taken = 0 } ∷ trail_frames self.old) }
         ensures same { IsSameBucket self.old self.new }
         ensures stack { HasTrail self.new }
-        ensures near { IsNearTop (trail_bucket self.old) key.now (trail_frames self.new) }
-        ensures sought { IsSought (elements_in (trail_bucket self.old)) key.now (ahead self.new) }
-        ensures compared { result ≤ 16 * length (trail_frames self.new) }
-        ensures opened { pager_opened self.new.pager ≡ counted (pager_opened self.old.pager) (length (trail_frames self.new) - 1) }
-        ensures leaf { IsLeafTop (trail_frames self.new) }
+        ensures frames { trail_frames self.new ≡ record { content = opened_content page.entry; taken = taken_at at_end (opened_content page.entry) } ∷ trail_frames self.old }
+        ensures opened { pager_opened self.new.pager ≡ pager_opened self.old.pager }
     {
-        let mut opened = root;
-        let mut compared = 0;
-        while let Opened::Branch(page) = opened {
-            let found = keys_before(&opened, key, true);
-            compared += found.compared;
-            opened = self.go_under(page, found.before.saturating_sub(1));
+        if at_end {
+            self.push(page, u32::from(page.count()) + 1);
+        } else {
+            self.push(page, 0);
         }
-        let found = keys_before(&opened, key, false);
-        self.push(opened, u32::from(found.before));
-        compared + found.compared
+    }
+
+    /// Pushes a page onto the stack.
+    fn push(&mut self, page: Opened<'a>, taken: u32)
+        requires { HasStack (trail_bucket self.old) (record { content = opened_content page; taken = taken } ∷ trail_frames self.old) }
+        ensures same { IsSameBucket self.old self.new }
+        ensures stack { HasTrail self.new }
+        ensures frames { trail_frames self.new ≡ record { content = opened_content page.entry; taken = taken } ∷ trail_frames self.old }
+        ensures opened { pager_opened self.new.pager ≡ pager_opened self.old.pager }
+    {
+        self.stack.push(Position { page, taken });
     }
 }

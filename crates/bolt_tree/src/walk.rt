@@ -19,13 +19,13 @@ pub struct Walk<'a> {
     ghost placed: { ∥ IsInPlace buckets × IsAhead buckets ahead ∥₁ },
 }
 
+#[tactic(auto, unfolding(crate::specs::Walks::left_of, crate::specs::Walks::walk_checked, crate::specs::Walks::walk_path))]
 impl<'a> Walk<'a> {
     ghost use Rattle.bolt_tree.specs.FileListings.{ForListing};
     ghost use Rattle.bolt_tree.specs.Paths.{path_of};
     ghost use Rattle.bolt_tree.specs.Walks.{GivesNext, left_of, walk_checked, walk_path};
 
     /// A walk that has the whole listing ahead of it. Needs no memory.
-    #[tactic(auto, unfolding(crate::specs::Walks::left_of, crate::specs::Walks::walk_checked, crate::specs::Walks::walk_path))]
     pub fn new(alloc: Global, checked: Checked<'a>) -> Walk<'a>
         ensures checked { walk_checked result ≡ checked.entry }
         ensures all { ForListing checked.entry (λ listing. left_of result listing ≡ listing) }
@@ -44,7 +44,6 @@ impl<'a> Walk<'a> {
     /// # Errors
     ///
     /// `NoMemory` if memory runs out for the buckets that it opens on the way.
-    #[tactic(auto, unfolding(crate::specs::Walks::left_of, crate::specs::Walks::walk_checked, crate::specs::Walks::walk_path))]
     pub fn from(alloc: Global, checked: Checked<'a>, path: &[&[u8]]) -> Result<Walk<'a>, NoMemory>
         ensures checked { IfOk result (λ walk. walk_checked walk ≡ checked.entry) }
         ensures rest { IfOk result (λ walk. ForListing checked.entry (λ listing. left_of walk listing ≡ rest_from (path_of path.now) listing)) }
@@ -61,7 +60,6 @@ impl<'a> Walk<'a> {
     ///
     /// `NoMemory` if memory runs out for one more open bucket. The walk then has the same ahead of
     /// it and returns the same path, and `next` may be called again.
-    #[tactic(auto, unfolding(crate::specs::Walks::left_of, crate::specs::Walks::walk_checked, crate::specs::Walks::walk_path))]
     #[inline(always)]
     pub fn next(&mut self) -> Result<Option<Item<'a>>, NoMemory>
         ensures checked { walk_checked self.new ≡ walk_checked self.old }
@@ -82,7 +80,6 @@ impl<'a> Walk<'a> {
     }
 
     /// The file that is walked.
-    #[tactic(auto, unfolding(crate::specs::Walks::walk_checked))]
     pub fn checked(&self) -> Checked<'a>
         ensures { result ≡ walk_checked self.now }
     {
@@ -91,7 +88,6 @@ impl<'a> Walk<'a> {
 
     /// The path of the last item that was returned, from the root bucket down. It is empty before
     /// the first item and after the last.
-    #[tactic(auto, unfolding(crate::specs::Walks::walk_path))]
     pub fn path(&self) -> &[&'a [u8]]
         ensures { path_of result.now ≡ walk_path self.now }
     {

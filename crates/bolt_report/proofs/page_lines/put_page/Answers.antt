@@ -2,8 +2,7 @@ use Rattle.std.proofs.Common.{◌∙◌}
 use Rattle.std.specs.Option.{option_map}
 use Rattle.bolt_format.specs.Shown.{shown}
 use Rattle.bolt_format.specs.ShownIds.{shown_ids}
-use Rattle.bolt_report.specs.PageLines.{item_lines}
-use Rattle.bolt_report.specs.PageTexts.{known_ids}
+use Rattle.bolt_report.specs.PageLines.{item_lines, known_ids}
 use Rattle.bolt_format.proofs.WriteLemmas.{Writes-same, Writes-then}
 use Rattle.bolt_report.proofs.page_lines.put_page.Goals as goal
 
