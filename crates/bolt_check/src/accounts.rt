@@ -34,7 +34,7 @@ pub(crate) fn test_accounts(
     let ids = match free_ids(file, meta) {
         Ok(Some(ids)) => ids,
         Ok(None) => return Ok(Vec::new(alloc)),
-        Err(fault) => return alone(alloc, Finding::of_page(fault.number, fault.page)),
+        Err(fault) => return alone(alloc, Finding::from(fault)),
     };
     match claim_freelist(file, meta, table) {
         Some(page) => alone(alloc, Finding::of_page(Finding::TWICE, page)),

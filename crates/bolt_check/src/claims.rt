@@ -57,8 +57,11 @@ impl<'a> Claims<'a> {
         self.file
     }
 
-    /// Tests a page that a way leads to, and claims its span if the tests find nothing. If they
-    /// find something, no page is claimed.
+    /// Tests a page that a way leads to, and claims its span.
+    ///
+    /// # Errors
+    ///
+    /// The first finding of the tests. Then no page is claimed.
     pub fn visit(&mut self, spot: &PageSpot<'_>) -> Result<TreePage<'a>, Finding>
         ensures file { claims_file self.new ≡ claims_file self.old }
         ensures meta { claims_meta self.new ≡ claims_meta self.old }

@@ -1,5 +1,8 @@
 //! What the checker reports.
 ghost use Rattle.std.specs.Prelude.{◌≡◌};
+ghost use Rattle.bolt_check.specs.Findings.{finding};
+
+use bolt_format::PageFault;
 
 /// What is wrong with a page, or with a run of pages (docs/SOUND.md).
 #[derive(Clone, Copy, Debug, PartialEq, Eq)]
@@ -43,5 +46,13 @@ impl Finding {
             page,
             last: page,
         }
+    }
+}
+
+impl From<PageFault> for Finding {
+    ghost from_gives = { λ fault gives. gives ≡ finding fault.number fault.page };
+
+    fn from(fault: PageFault) -> Self {
+        Finding::of_page(fault.number, fault.page)
     }
 }

@@ -14,12 +14,12 @@ use bolt_format::{Kind, Meta, PageFault, page};
 ///
 /// The page's first fault, or `PAGE_KIND` if it is neither a branch nor a leaf.
 #[tactic(auto, unfolding(crate::specs::Nodes::node_at, crate::specs::ShownNodes::shown_node))]
-pub(crate) fn open<'a>(file: &'a [u8], meta: &Meta, id: u64) -> Result<TreePage<'a>, u8>
-    ensures node { MatchResult result (λ node. node_at file.now meta.now id ≡ Ok (shown_node node)) (λ fault. node_at file.now meta.now id ≡ Err fault) }
+pub(crate) fn open<'a>(file: &'a [u8], meta: &Meta, id: u64) -> Result<TreePage<'a>, PageFault>
+    ensures node { MatchResult result (λ node. node_at file.now meta.now id ≡ Ok (shown_node node)) (λ fault. (node_at file.now meta.now id ≡ Err fault.number) × (fault.page ≡ id)) }
     ensures page { IfOk result (λ node. page_at file.now meta.now id ≡ Some (shown node.page)) }
     ensures within { IfOk result (λ node. IsInFile file.now meta.now id (shown node.page)) }
 {
-    let page = page(file, meta, id).map_err(|fault| fault.number)?;
+    let page = page(file, meta, id)?;
     match page.kind() {
         Kind::Branch => Ok(TreePage {
             is_leaf: false,
@@ -29,6 +29,9 @@ pub(crate) fn open<'a>(file: &'a [u8], meta: &Meta, id: u64) -> Result<TreePage<
             is_leaf: true,
             page,
         }),
-        Kind::Meta | Kind::Freelist => Err(PageFault::PAGE_KIND),
+        Kind::Meta | Kind::Freelist => Err(PageFault {
+            number: PageFault::PAGE_KIND,
+            page: id,
+        }),
     }
 }

@@ -35,8 +35,8 @@ impl<'a> Roles<'a> {
         requires { id < (meta_of (roles_checked self.now)).high_water }
         ensures { ∥ HasRole (bytes_of (roles_checked self.now)) (meta_of (roles_checked self.now)) id result ∥₁ }
     {
-        // The proof needs that the high-water mark is a 64-bit number, so that no page has the
-        // number NO_FREELIST. Of a field behind a reference that isn't known; of a result it is.
+        // The proof needs `mark() < 2^64`, which the prover knows of a call's result but not of a
+        // field behind a reference.
         let _mark = self.mark();
         role_by(&self.checked.meta, id, page_use(&self.table, id))
     }

@@ -11,25 +11,34 @@ use bolt_format::Inline;
 /// The greatest depth of a page. The root page of a bucket has depth 1.
 pub const MAX_DEPTH: usize = 64;
 
-/// A page to be visited: its number, its depth (1 for the root page of its bucket), and the bounds
-/// of its keys.
+/// A page to be visited.
 #[derive(Clone, Copy)]
 pub struct PageSpot<'a> {
+    /// The number of the page.
     pub number: u64,
+    /// Its depth: 1 for the root page of its bucket.
     pub depth: u8,
+    /// None of its keys may be below this one.
     pub lower: Option<&'a [u8]>,
+    /// All of its keys must be below this one.
     pub upper: Option<&'a [u8]>,
 }
 
-/// The page of an inline bucket to be visited, and the number of the page that contains the bucket.
+/// The page of an inline bucket to be visited.
 #[derive(Clone, Copy)]
 pub struct BucketSpot<'a> {
+    /// The number of the page that contains the bucket.
     pub host: u64,
+    /// The bucket's own page, which is in its value.
     pub page: Inline<'a>,
 }
 
 impl<'a> BucketSpot<'a> {
-    /// Tests the keys of the inline page. A finding has the number of the page that contains the
+    /// Tests that the keys of the inline page rise.
+    ///
+    /// # Errors
+    ///
+    /// The finding of the first key that doesn't, with the number of the page that contains the
     /// bucket.
     pub fn test(&self) -> Result<(), Finding>
         ensures { result_err result ≡ inline_finding self.now.host (inline_keys self.now.page) }
@@ -44,6 +53,8 @@ impl<'a> BucketSpot<'a> {
 /// What a way leads to: a page, or an inline bucket.
 #[derive(Clone, Copy)]
 pub enum Spot<'a> {
+    /// A page of its own.
     Page(PageSpot<'a>),
+    /// An inline bucket.
     Bucket(BucketSpot<'a>),
 }

@@ -17,7 +17,9 @@ use bolt_format::{Leaf, Page, head, inline};
 /// A page that is a branch or a leaf.
 #[derive(Clone, Copy)]
 pub struct TreePage<'a> {
+    /// The page, which passed its tests.
     pub page: Page<'a>,
+    /// Whether it is a leaf.
     pub is_leaf: bool,
     pub ghost kind: { (shown page).kind ≡ tree_kind is_leaf } by { Prim.hlevel props },
 }
@@ -100,7 +102,7 @@ fn bucket_spot<'a>(leaf: Leaf<'a>, spot: &PageSpot<'a>) -> Option<Spot<'a>>
         return None;
     }
     let head = head(leaf.value);
-    if head.root == 0 {
+    if head.is_inline() {
         return Some(Spot::Bucket(BucketSpot {
             host: spot.number,
             page: inline(leaf.value),

@@ -43,10 +43,7 @@ pub(crate) fn visit<'a>(
     if usize::from(spot.depth) > MAX_DEPTH {
         return Err(Finding::of_page(Finding::TOO_DEEP, spot.number));
     }
-    let node = match open(file, meta, spot.number) {
-        Ok(node) => node,
-        Err(number) => return Err(Finding::of_page(number, spot.number)),
-    };
+    let node = open(file, meta, spot.number)?;
     let from = spot.number as usize;
     let last = from + node.page.overflow() as usize;
     if let Some(n) = first_claimed(table, from, last) {

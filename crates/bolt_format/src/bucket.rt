@@ -1,5 +1,5 @@
 //! What the value of a bucket's element contains: its head and, if it is inline, its leaf page.
-ghost use Rattle.std.specs.Prelude.{◌≡◌, ◌<◌, None, Some, false, length, slice_get};
+ghost use Rattle.std.specs.Prelude.{◌≡◌, ◌<◌, ◌==◌, None, Some, false, length, slice_get};
 ghost use Rattle.std.proofs.Props.{props};
 ghost use Rattle.bolt_format.specs.Elements.{has_bucket, head_fault, leaves_fault};
 ghost use Rattle.bolt_format.specs.ElementPlaces.{leaf_view};
@@ -16,6 +16,15 @@ pub struct Head {
     pub root: u64,
     /// The bucket's sequence.
     pub sequence: u64,
+}
+
+impl Head {
+    /// Whether the bucket is inline: its page is in its value.
+    pub fn is_inline(&self) -> bool
+        ensures { result ≡ (self.now.root == 0) }
+    {
+        self.root == 0
+    }
 }
 
 /// The page of an inline bucket, which passed all tests. Its elements are read in place, each in

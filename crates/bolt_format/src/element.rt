@@ -18,9 +18,10 @@ const MAX_VALUE_LEN: usize = 0x7FFF_FFFE;
 /// The flags of a leaf element that is a bucket.
 pub(crate) const BUCKET_FLAGS: u32 = 1;
 
-/// An element of a branch page. It leads to a child, whose keys are not below `key`.
+/// An element of a branch page, which leads to a child.
 #[derive(Clone, Copy, Debug)]
 pub struct Branch<'a> {
+    /// No key of the child is below it.
     pub key: &'a [u8],
     /// The page number of the child.
     pub child: u64,
@@ -29,9 +30,11 @@ pub struct Branch<'a> {
 /// An element of a leaf page: a value or a bucket under a key.
 #[derive(Clone, Copy, Debug)]
 pub struct Leaf<'a> {
+    /// The key of the value or of the bucket.
     pub key: &'a [u8],
     /// The bytes of the value or, for a bucket, those that `head` and `inline` read.
     pub value: &'a [u8],
+    /// Whether it is a bucket.
     pub is_bucket: bool,
 }
 
@@ -52,7 +55,7 @@ pub(crate) struct LeafPlace {
 
 /// The offset of element `i`, which is also the length of a table of `i` elements with the page
 /// header.
-pub(crate) fn element_offset(i: u16) -> usize
+fn element_offset(i: u16) -> usize
     ensures { result ≡ element_at i }
 {
     HEADER_LEN + ELEMENT_LEN * usize::from(i)
@@ -92,8 +95,9 @@ fn test_data(bytes: &[u8], free: usize, start: usize, end: usize) -> Result<(), 
     Ok(())
 }
 
+/// Where the key of branch element `i` is.
 #[tactic(auto, unfolding(crate::specs::Elements::branch_key_start, crate::specs::Elements::branch_key_length))]
-pub(crate) fn branch_place(bytes: &[u8], i: u16) -> BranchPlace
+fn branch_place(bytes: &[u8], i: u16) -> BranchPlace
     requires { element_at (i + 1) ≤ length bytes.now }
     ensures { IsBranchPlace bytes.now i result }
 {
@@ -107,7 +111,7 @@ pub(crate) fn branch_place(bytes: &[u8], i: u16) -> BranchPlace
 
 /// The page number that branch element `i` leads to.
 #[tactic(auto, unfolding(crate::specs::Elements::branch_child))]
-pub(crate) fn child_at(bytes: &[u8], i: u16) -> u64
+fn child_at(bytes: &[u8], i: u16) -> u64
     requires { element_at (i + 1) ≤ length bytes.now }
     ensures { result ≡ branch_child bytes.now i }
 {
@@ -127,8 +131,9 @@ pub(crate) fn test_branch(bytes: &[u8], free: usize, i: u16) -> Result<usize, u8
     Ok(place.end)
 }
 
+/// Where the parts of leaf element `i` are.
 #[tactic(auto, unfolding(crate::specs::Elements::leaf_key_start, crate::specs::Elements::leaf_key_length, crate::specs::Elements::leaf_value_length))]
-pub(crate) fn leaf_place(bytes: &[u8], i: u16) -> LeafPlace
+fn leaf_place(bytes: &[u8], i: u16) -> LeafPlace
     requires { element_at (i + 1) ≤ length bytes.now }
     ensures { IsLeafPlace bytes.now i result }
 {

@@ -6,7 +6,7 @@ use crate::bytes::{u32_at, u64_at};
 use crate::checksum::fnv1a;
 
 /// The accepted page sizes, in bytes, in rising order.
-pub const PAGE_SIZES: [u64; 16] = [
+const PAGE_SIZES: [u64; 16] = [
     1024, 2048, 4096, 8192, 16_384, 32_768, 65_536, 131_072, 262_144, 524_288, 1_048_576,
     2_097_152, 4_194_304, 8_388_608, 16_777_216, 33_554_432,
 ];

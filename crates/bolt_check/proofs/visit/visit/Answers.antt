@@ -12,51 +12,51 @@ use Rattle.bolt_check.proofs.visit.visit.Goals as goal
 
 pub first_claimed-requires-clause-within : goal.first_claimed-requires-clause-within
 first_claimed-requires-clause-within c =
-    omega (arith, in_room c.args.file.now c.args.meta.now c.args.spot.now.number _ c.args.table.now c.in-Ok.ensures.within c.requires, c.overflow.ensures)
+    omega (arith, in_room c.args.file.now c.args.meta.now c.args.spot.now.number _ c.args.table.now c.in_ok-node.ensures.within c.requires, c.overflow.ensures)
 
 pub claim-requires-clause-within : goal.claim-requires-clause-within
 claim-requires-clause-within c =
-    omega (arith, in_room c.args.file.now c.args.meta.now c.args.spot.now.number _ c.args.table.now c.in-Ok.ensures.within c.requires, c.overflow.ensures)
+    omega (arith, in_room c.args.file.now c.args.meta.now c.args.spot.now.number _ c.args.table.now c.in_ok-node.ensures.within c.requires, c.overflow.ensures)
 
 pub returns-in-Some-clause-found : goal.returns-in-Some-clause-found
 returns-in-Some-clause-found c =
-    let node = c.in-Ok.node in
+    let node = c.in_ok-node.node in
     let (from, to, was, lowest) = c.in-Some.ensures.lowest in
     let last = overflow-is node _ c.overflow.ensures in
     rw c.of_page-in-Some.ensures
-    (twice (shown_node node) (early_passes (node_at c.args.file.now c.args.meta.now) (page_spot c.args.spot.now) (shown_node node) (omega (arith, c.from.ensures, c.if-from-gt-MAX_DEPTH.false)) c.in-Ok.ensures.node) c.in-Ok.ensures.node
+    (twice (shown_node node) (early_passes (node_at c.args.file.now c.args.meta.now) (page_spot c.args.spot.now) (shown_node node) (omega (arith, c.from.ensures, c.if-from-gt-MAX_DEPTH.false)) c.in_ok-node.ensures.node) c.in_ok-node.ensures.node
     (record { in_span = (from, omega (arith, to, last)); was = was; lowest = λ k span lt h. not_both c.args.table.now k (lowest k span.0 lt) h }) refl)
 
 pub returns-in_err-test_node-clause-found : goal.returns-in_err-test_node-clause-found
 returns-in_err-test_node-clause-found c =
-    let node = c.in-Ok.node in
+    let node = c.in_ok-node.node in
     let last = overflow-is node _ c.overflow.ensures in
-    passed_on c.from_residual.result c.in_err-test_node.field-0.0 (PageTests (node_at c.args.file.now c.args.meta.now) (IsClaimed c.args.table.now) (page_spot c.args.spot.now))
-    (late (shown_node node) (early_passes (node_at c.args.file.now c.args.meta.now) (page_spot c.args.spot.now) (shown_node node) (omega (arith, c.from.ensures, c.if-from-gt-MAX_DEPTH.false)) c.in-Ok.ensures.node) c.in-Ok.ensures.node
-    (λ n span h. not_both c.args.table.now n (c.in_default.ensures.none n span.0 (let to = span.1 in omega (arith, to, last))) h) (sym c.in_err-test_node.ensures)) c.from_residual.ensures.1
+    passed_on c.from_residual-in_err-test_node.result c.in_err-test_node.field-0.0 (PageTests (node_at c.args.file.now c.args.meta.now) (IsClaimed c.args.table.now) (page_spot c.args.spot.now))
+    (late (shown_node node) (early_passes (node_at c.args.file.now c.args.meta.now) (page_spot c.args.spot.now) (shown_node node) (omega (arith, c.from.ensures, c.if-from-gt-MAX_DEPTH.false)) c.in_ok-node.ensures.node) c.in_ok-node.ensures.node
+    (λ n span h. not_both c.args.table.now n (c.in_default.ensures.none n span.0 (let to = span.1 in omega (arith, to, last))) h) (sym c.in_err-test_node.ensures)) c.from_residual-in_err-test_node.ensures.1
 
 pub returns-clause-passes : goal.returns-clause-passes
 returns-clause-passes c =
-    let node = c.in-Ok.node in
+    let node = c.in_ok-node.node in
     let last = overflow-is node _ c.overflow.ensures in
     record {
       node = shown_node node;
-      early = early_passes (node_at c.args.file.now c.args.meta.now) (page_spot c.args.spot.now) (shown_node node) (omega (arith, c.from.ensures, c.if-from-gt-MAX_DEPTH.false)) c.in-Ok.ensures.node;
-      page = c.in-Ok.ensures.node;
+      early = early_passes (node_at c.args.file.now c.args.meta.now) (page_spot c.args.spot.now) (shown_node node) (omega (arith, c.from.ensures, c.if-from-gt-MAX_DEPTH.false)) c.in_ok-node.ensures.node;
+      page = c.in_ok-node.ensures.node;
       free = λ n span h. not_both c.args.table.now n (c.in_default.ensures.none n span.0 (let to = span.1 in omega (arith, to, last))) h;
       content = sym c.in_ok-test_node.ensures;
     }
 
 pub returns-clause-claims : goal.returns-clause-claims
 returns-clause-claims c =
-    let node = c.in-Ok.node in
+    let node = c.in_ok-node.node in
     let last = overflow-is node _ c.overflow.ensures in
-    claims_made (node_at c.args.file.now c.args.meta.now) (page_spot c.args.spot.now) (shown_node node) c.args.table.now c.claim.new.table c.in-Ok.ensures.node
+    claims_made (node_at c.args.file.now c.args.meta.now) (page_spot c.args.spot.now) (shown_node node) c.args.table.now c.claim.new.table c.in_ok-node.ensures.node
     (λ k a b. c.claim.ensures.span k a (omega (arith, b, last))) c.claim.ensures.below (λ k h. c.claim.ensures.above k (omega (arith, h, last)))
 
 pub returns-clause-notes : goal.returns-clause-notes
 returns-clause-notes c =
-    let node = c.in-Ok.node in
+    let node = c.in_ok-node.node in
     let last = overflow-is node _ c.overflow.ensures in
-    notes_made (node_at c.args.file.now c.args.meta.now) (page_spot c.args.spot.now) (shown_node node) c.args.table.now c.claim.new.table _ (omega (arith, last)) c.in-Ok.ensures.node
+    notes_made (node_at c.args.file.now c.args.meta.now) (page_spot c.args.spot.now) (shown_node node) c.args.table.now c.claim.new.table _ (omega (arith, last)) c.in_ok-node.ensures.node
     (c.claim.ensures.first ∙ c.first_use.ensures ∙ leaf-is node) c.claim.ensures.later c.claim.ensures.below c.claim.ensures.above
