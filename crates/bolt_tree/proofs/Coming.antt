@@ -20,8 +20,8 @@ use Rattle.bolt_tree.specs.Private.Kept.{CursorView}
 use Rattle.bolt_tree.specs.Private.OpenBuckets.{AreOpen, IsInside, StandsOn, is_end}
 use Rattle.bolt_tree.specs.Private.RestAfter.{beyond}
 use Rattle.bolt_tree.specs.declared.bucket.Bucket.{Bucket}
-use Rattle.bolt_tree.proofs.CursorMoves.{comes_from}
-use Rattle.bolt_tree.proofs.Entering.{Fresh_at, leads_in, leads_inside, made, placed_in}
+use Rattle.bolt_tree.proofs.CursorMoves.{by_key}
+use Rattle.bolt_tree.proofs.Entering.{Fresh_at, MovesBy, comes_by, leads_by, leads_in, leads_inside, made, opens_by, placed_in}
 use Rattle.bolt_tree.proofs.EntryOrder.{contains_at, seek_from}
 use Rattle.bolt_tree.proofs.PathOrder.{key_exact, key_total, less_lt}
 use Rattle.bolt_tree.proofs.Seeking.{rest_greater, rest_none, rest_past_value}
@@ -34,41 +34,14 @@ neither a b Greater e h k = absurd (let f : key_cmp b a ≡ Less = key_total.ant
 
 module _ (checked : Checked) (cursors : List CursorView) (keys : Path) (fresh moved : CursorView) (part : Key) (known : ∥ Fresh_at checked cursors keys fresh ∥₁) where
   abbrev MovesFrom : Option LeafElement → Type 0
-  MovesFrom o = Moves (entries_of fresh.checked) fresh.start (λ entries place. seek_move part entries) fresh.place moved.place o
-
-  here : (o : Option LeafElement) → Fresh_at checked cursors keys fresh → MovesFrom o → Moves (entries_of checked) fresh.start (λ entries place. seek_move part entries) fresh.place moved.place o
-  here o k moves = subst (λ (file : Checked). Moves (entries_of file) fresh.start (λ entries place. seek_move part entries) fresh.place moved.place o) k.file moves
-
-  stands : (e : LeafElement) → Fresh_at checked cursors keys fresh → moved.start ≡ fresh.start → MovesFrom (Some e) → StandsOn (entries_of checked) moved e.key
-  stands e k start moves entries are =
-      let own : AreEntries (entries_of checked) fresh.start entries = subst (λ (s : Start). AreEntries (entries_of checked) s entries) start are in
-      let came = comes_from part entries moved.place (Some e) (here (Some e) k moves entries own) in
-      (least_from part entries, e, came.0, came.1, refl)
-
-  pub from_opens : (e : LeafElement) (after : List CursorView) (path : Path) → moved.checked ≡ fresh.checked → moved.start ≡ fresh.start → MovesFrom (Some e)
-      → after ≡ cursors ++ moved ∷ [] → path ≡ keys ++ e.key ∷ [] → ∥ HasEntries (entries_of checked) (root_start checked) × AreOpen checked [] after path ∥₁
-  from_opens e after path file start moves put at =
-      ∥∥₁_map known (λ k. (
-        k.all,
-        subst (λ (cs : List CursorView). AreOpen checked [] cs path) (sym put) (subst (λ (ks : Path). AreOpen checked [] (cursors ++ moved ∷ []) ks) (sym at)
-            (open_push checked [] cursors moved keys e.key k.are (file ∙ k.file) (subst (λ (s : Start). Names (entries_of checked) (root_start checked) keys s) (sym start) k.names)
-            (stands e k start moves))),
-      ))
-
-  pub from_leads : (e : LeafElement) (path : Path) → MovesFrom (Some e) → path ≡ keys ++ e.key ∷ []
-      → ∥ ((front : Path) × (bucket : Start) × (path ≡ front ++ e.key ∷ []) × Names (entries_of checked) (root_start checked) front bucket × entries_of checked bucket e) ∥₁
-  from_leads e path moves at =
-      ∥∥₁_map known (λ k.
-      let own = k.all keys fresh.start k.names in
-      let came = comes_from part own.0 moved.place (Some e) (here (Some e) k moves own.0 own.1) in
-      (keys, fresh.start, at, k.names, (own.1.exact e).0 (contains_at own.0 (least_from part own.0) e came.1)))
+  MovesFrom o = MovesBy (by_key part) checked cursors keys fresh moved o
 
   -- it is the part itself, or behind it
   pub from_same : (e : LeafElement) → MovesFrom (Some e) → is_lt (key_cmp part e.key) ≡ false → part ≡ e.key
   from_same e moves not_less =
       ∥∥₁_elim known (hlevel props) (λ k.
       let own = k.all keys fresh.start k.names in
-      let came = comes_from part own.0 moved.place (Some e) (here (Some e) k moves own.0 own.1) in
+      let came = comes_by (by_key part) checked cursors keys fresh moved (Some e) k moves own.0 own.1 in
       neither part e.key (key_cmp part e.key) refl not_less (seek_from part own.0 e came.1))
 
   pub from_greater : (e : LeafElement) (rest path : Path) → MovesFrom (Some e) → is_lt (key_cmp part e.key) ≡ true → path ≡ keys ++ e.key ∷ []
@@ -76,7 +49,7 @@ module _ (checked : Checked) (cursors : List CursorView) (keys : Path) (fresh mo
   from_greater e rest path moves less at listing lists =
       ∥∥₁_elim known (hlevel props) (λ k.
       let own = k.all keys fresh.start k.names in
-      let came = comes_from part own.0 moved.place (Some e) (here (Some e) k moves own.0 own.1) in
+      let came = comes_by (by_key part) checked cursors keys fresh moved (Some e) k moves own.0 own.1 in
       subst (λ (ks : Path). rest_from ks listing ≡ rest_from (keys ++ part ∷ rest) listing) (sym at)
       (sym (rest_greater (entries_of checked) (root_start checked) k.all listing lists keys fresh.start k.names own.0 e part rest own.1 came.1 (less_lt _ less))))
 
@@ -85,7 +58,7 @@ module _ (checked : Checked) (cursors : List CursorView) (keys : Path) (fresh mo
   from_none rest moves listing lists =
       ∥∥₁_elim known (hlevel props) (λ k.
       let own = k.all keys fresh.start k.names in
-      let long = comes_from part own.0 moved.place None (here None k moves own.0 own.1) in
+      let long = comes_by (by_key part) checked cursors keys fresh moved None k moves own.0 own.1 in
       sym (rest_none (entries_of checked) (root_start checked) k.all listing lists keys fresh.start k.names own.0 part rest own.1 long))
 
   -- the path goes on below a value
@@ -95,7 +68,7 @@ module _ (checked : Checked) (cursors : List CursorView) (keys : Path) (fresh mo
   from_value e (k ∷ rest) path moves same value more at listing lists =
       ∥∥₁_elim known (hlevel props) (λ n.
       let own = n.all keys fresh.start n.names in
-      let came = comes_from part own.0 moved.place (Some e) (here (Some e) n moves own.0 own.1) in
+      let came = comes_by (by_key part) checked cursors keys fresh moved (Some e) n moves own.0 own.1 in
       let is : entries_of checked fresh.start e = (own.1.exact e).0 (contains_at own.0 (least_from part own.0) e came.1) in
       let whole : (keys ++ e.key ∷ []) ++ k ∷ rest ≡ keys ++ part ∷ k ∷ rest = append_assoc keys (e.key ∷ []) (k ∷ rest) ∙ ap (λ (q : Key). keys ++ q ∷ k ∷ rest) (sym same) in
       subst (λ (ks : Path). beyond ks listing ≡ rest_from (keys ++ part ∷ k ∷ rest) listing) (sym at)
@@ -117,10 +90,10 @@ module _ (checked file : Checked) (cursors after : List CursorView) (keys path :
 
   pub placed_there : ∥ HasEntries (entries_of file) (root_start file) × AreOpen file [] after path ∥₁
   placed_there = placed_in checked file after after path path same refl refl
-      (from_opens checked cursors keys (fresh_view bucket) opens.moved part known_there e after path opens.file opens.start opens.moves opens.is at)
+      (opens_by (by_key part) checked cursors keys (fresh_view bucket) opens.moved known_there e after path opens.file opens.start opens.moves opens.is at)
 
   pub leads_there : ∥ ((front : Path) × (outer : Start) × (path ≡ front ++ e.key ∷ []) × Names (entries_of file) (root_start file) front outer × entries_of file outer e) ∥₁
-  leads_there = leads_in checked file path e same (from_leads checked cursors keys (fresh_view bucket) opens.moved part known_there e path opens.moves at)
+  leads_there = leads_in checked file path e same (leads_by (by_key part) checked cursors keys (fresh_view bucket) opens.moved known_there e path opens.moves at)
 
   pub inside_there : IsTrue e.is_bucket → IsInside file path (start_of e.value)
   inside_there b = leads_inside file path e leads_there b

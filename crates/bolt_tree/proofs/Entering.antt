@@ -2,6 +2,7 @@
 use Rattle.std.proofs.Common.{◌≡◌, ◌∙◌, IsTrue, false, List, [], ◌∷◌, ◌++◌, Option, Some, None, refl, sym, subst}
 use Rattle.std.proofs.Math.Logic.{∥∥₁_elim, ∥∥₁_map, ∥∥₁_prop}
 use Rattle.std.proofs.Props.{props}
+use Rattle.std.proofs.lemmas.List.{drop_all}
 use Rattle.bolt_format.specs.Elements.{LeafElement}
 use Rattle.bolt_check.specs.declared.checked_file.Checked.{Checked}
 use Rattle.bolt_tree.specs.Buckets.{bucket_checked, bucket_start}
@@ -13,12 +14,12 @@ use Rattle.bolt_tree.proofs.BucketWays.{root_starts, starts_named}
 use Rattle.bolt_tree.specs.Entries.{AreEntries, Start, item_of, start_of}
 use Rattle.bolt_tree.specs.Listing.{Lists, Member, rest_from}
 use Rattle.bolt_tree.specs.Paths.{HasEntries, Names, Path}
-use Rattle.bolt_tree.specs.Places.{Moves, first_move}
+use Rattle.bolt_tree.specs.Places.{Moves, place_in}
 use Rattle.bolt_tree.specs.Private.Kept.{CursorView}
 use Rattle.bolt_tree.specs.Private.OpenBuckets.{AreOpen, IsInside, StandsOn}
 use Rattle.bolt_tree.specs.Private.RestAfter.{rest_after, beyond}
 use Rattle.bolt_tree.specs.declared.bucket.Bucket.{Bucket}
-use Rattle.bolt_tree.proofs.CursorMoves.{comes_first}
+use Rattle.bolt_tree.proofs.CursorMoves.{ComesTo, FirstMove, by_first}
 use Rattle.bolt_tree.proofs.EntryOrder.{contains_at}
 use Rattle.bolt_tree.proofs.Giving.{give_first, give_itself, give_none, give_past_value}
 use Rattle.bolt_tree.proofs.Named.{names_push}
@@ -42,22 +43,25 @@ made checked cursors keys bucket fresh buckets named file start =
       names = subst (λ (s : Start). Names (entries_of checked) (root_start checked) keys s) (sym start) n.1;
     }))
 
-module _ (checked : Checked) (cursors : List CursorView) (keys : Path) (fresh moved : CursorView) (known : ∥ Fresh_at checked cursors keys fresh ∥₁) where
-  abbrev MovesFirst : Option LeafElement → Type 0
-  MovesFirst o = Moves (entries_of fresh.checked) fresh.start (λ entries place. first_move entries) fresh.place moved.place o
+-- its first move
+module _ (by : FirstMove) (checked : Checked) (cursors : List CursorView) (keys : Path) (fresh moved : CursorView) where
+  abbrev pub MovesBy : Option LeafElement → Type 0
+  MovesBy o = Moves (entries_of fresh.checked) fresh.start by.move fresh.place moved.place o
 
-  here : (o : Option LeafElement) → Fresh_at checked cursors keys fresh → MovesFirst o → Moves (entries_of checked) fresh.start (λ entries place. first_move entries) fresh.place moved.place o
-  here o k moves = subst (λ (file : Checked). Moves (entries_of file) fresh.start (λ entries place. first_move entries) fresh.place moved.place o) k.file moves
+  pub comes_by : (o : Option LeafElement) → Fresh_at checked cursors keys fresh → MovesBy o → (entries : List LeafElement) → AreEntries (entries_of checked) fresh.start entries
+      → ComesTo entries (by.to entries) moved.place o
+  comes_by o k moves entries are =
+      by.comes entries (place_in entries fresh.place) moved.place o
+      (subst (λ (file : Checked). Moves (entries_of file) fresh.start by.move fresh.place moved.place o) k.file moves entries are)
 
-  stands : (e : LeafElement) → Fresh_at checked cursors keys fresh → moved.start ≡ fresh.start → MovesFirst (Some e) → StandsOn (entries_of checked) moved e.key
+  stands : (e : LeafElement) → Fresh_at checked cursors keys fresh → moved.start ≡ fresh.start → MovesBy (Some e) → StandsOn (entries_of checked) moved e.key
   stands e k start moves entries are =
-      let own : AreEntries (entries_of checked) fresh.start entries = subst (λ (s : Start). AreEntries (entries_of checked) s entries) start are in
-      let came = comes_first entries moved.place (Some e) (here (Some e) k moves entries own) in
-      (0, e, came.0, came.1, refl)
+      let came = comes_by (Some e) k moves entries (subst (λ (s : Start). AreEntries (entries_of checked) s entries) start are) in
+      (by.to entries, e, came.0, came.1, refl)
 
-  pub first_opens : (e : LeafElement) (after : List CursorView) (path : Path) → moved.checked ≡ fresh.checked → moved.start ≡ fresh.start → MovesFirst (Some e)
+  pub opens_by : ∥ Fresh_at checked cursors keys fresh ∥₁ → (e : LeafElement) (after : List CursorView) (path : Path) → moved.checked ≡ fresh.checked → moved.start ≡ fresh.start → MovesBy (Some e)
       → after ≡ cursors ++ moved ∷ [] → path ≡ keys ++ e.key ∷ [] → ∥ HasEntries (entries_of checked) (root_start checked) × AreOpen checked [] after path ∥₁
-  first_opens e after path file start moves put at =
+  opens_by known e after path file start moves put at =
       ∥∥₁_map known (λ k. (
         k.all,
         subst (λ (cs : List CursorView). AreOpen checked [] cs path) (sym put) (subst (λ (ks : Path). AreOpen checked [] (cursors ++ moved ∷ []) ks) (sym at)
@@ -65,28 +69,29 @@ module _ (checked : Checked) (cursors : List CursorView) (keys : Path) (fresh mo
             (stands e k start moves))),
       ))
 
-  pub first_leads : (e : LeafElement) (path : Path) → MovesFirst (Some e) → path ≡ keys ++ e.key ∷ []
+  pub leads_by : ∥ Fresh_at checked cursors keys fresh ∥₁ → (e : LeafElement) (path : Path) → MovesBy (Some e) → path ≡ keys ++ e.key ∷ []
       → ∥ ((front : Path) × (bucket : Start) × (path ≡ front ++ e.key ∷ []) × Names (entries_of checked) (root_start checked) front bucket × entries_of checked bucket e) ∥₁
-  first_leads e path moves at =
+  leads_by known e path moves at =
       ∥∥₁_map known (λ k.
       let own = k.all keys fresh.start k.names in
-      let came = comes_first own.0 moved.place (Some e) (here (Some e) k moves own.0 own.1) in
-      (keys, fresh.start, at, k.names, (own.1.exact e).0 (contains_at own.0 0 e came.1)))
+      let came = comes_by (Some e) k moves own.0 own.1 in
+      (keys, fresh.start, at, k.names, (own.1.exact e).0 (contains_at own.0 (by.to own.0) e came.1)))
 
-  pub first_gives : (e : LeafElement) (path : Path) → MovesFirst (Some e) → path ≡ keys ++ e.key ∷ [] → (listing : List Member) → Lists (entries_of checked) (root_start checked) listing
-      → rest_after keys listing ≡ (path, item_of e) ∷ rest_after path listing
+module _ (checked : Checked) (cursors : List CursorView) (keys : Path) (fresh moved : CursorView) (known : ∥ Fresh_at checked cursors keys fresh ∥₁) where
+  pub first_gives : (e : LeafElement) (path : Path) → MovesBy by_first checked cursors keys fresh moved (Some e) → path ≡ keys ++ e.key ∷ []
+      → (listing : List Member) → Lists (entries_of checked) (root_start checked) listing → rest_after keys listing ≡ (path, item_of e) ∷ rest_after path listing
   first_gives e path moves at listing lists =
       ∥∥₁_elim known (hlevel props) (λ k.
       let own = k.all keys fresh.start k.names in
-      let came = comes_first own.0 moved.place (Some e) (here (Some e) k moves own.0 own.1) in
+      let came = comes_by by_first checked cursors keys fresh moved (Some e) k moves own.0 own.1 in
       subst (λ (ks : Path). rest_after keys listing ≡ (ks, item_of e) ∷ rest_after ks listing) (sym at)
       (give_first (entries_of checked) (root_start checked) k.all listing lists keys fresh.start k.names own.0 e own.1 came.1))
 
-  pub first_none : MovesFirst None → (listing : List Member) → Lists (entries_of checked) (root_start checked) listing → rest_after keys listing ≡ beyond keys listing
+  pub first_none : MovesBy by_first checked cursors keys fresh moved None → (listing : List Member) → Lists (entries_of checked) (root_start checked) listing → rest_after keys listing ≡ beyond keys listing
   first_none moves listing lists =
       ∥∥₁_elim known (hlevel props) (λ k.
       let own = k.all keys fresh.start k.names in
-      let none = comes_first own.0 moved.place None (here None k moves own.0 own.1) in
+      let none = drop_all 0 own.0 (comes_by by_first checked cursors keys fresh moved None k moves own.0 own.1) in
       give_none (entries_of checked) (root_start checked) k.all listing lists keys fresh.start k.names
       (subst (λ (es : List LeafElement). AreEntries (entries_of checked) fresh.start es) none own.1))
 

@@ -5,7 +5,7 @@ ghost use Rattle.bolt_format.specs.ElementPlaces.{leaf_view};
 ghost use Rattle.bolt_format.specs.Elements.{IsBucketValue};
 ghost use Rattle.bolt_tree.specs.Buckets.{bucket_checked};
 ghost use Rattle.bolt_tree.specs.Places.{first_move, next_move, seek_move};
-ghost use Rattle.bolt_tree.specs.Private.CursorViews.{AreOfFile, MovesLast, Opens, fresh_view};
+ghost use Rattle.bolt_tree.specs.Private.CursorViews.{AreOfFile, Keeps, MovesLast, Opens, fresh_view};
 ghost use Rattle.bolt_tree.specs.Private.Kept.{CursorView};
 
 use crate::at::At;
@@ -107,13 +107,8 @@ impl<'a> OpenCursors<'a> {
         ensures same { OnErr result (cursors_of self.new ≡ cursors_of self.old) }
     {
         self.open(bucket)?;
-        match self.next_element() {
-            Some(leaf) => Ok(Some(leaf)),
-            None => {
-                self.pop();
-                Ok(None)
-            }
-        }
+        let found = self.next_element();
+        Ok(self.keep_if_some(found))
     }
 
     /// Opens a bucket within the innermost one, on its first entry whose key isn't below `key`. If
@@ -126,13 +121,20 @@ impl<'a> OpenCursors<'a> {
         ensures same { OnErr result (cursors_of self.new ≡ cursors_of self.old) }
     {
         self.open(bucket)?;
-        match self.seek_element(key) {
-            Some(leaf) => Ok(Some(leaf)),
-            None => {
-                self.pop();
-                Ok(None)
-            }
+        let found = self.seek_element(key);
+        Ok(self.keep_if_some(found))
+    }
+
+    /// Drops the innermost cursor if it found nothing.
+    fn keep_if_some(&mut self, found: Option<Leaf<'a>>) -> Option<Leaf<'a>>
+        ensures checked { self.new.checked ≡ self.old.checked }
+        ensures found { result ≡ found.entry }
+        ensures keeps { Keeps (option_map leaf_view result) (cursors_of self.old) (cursors_of self.new) }
+    {
+        if found.is_none() {
+            self.pop();
         }
+        found
     }
 
     /// Moves the innermost cursor to its next entry. If there is none, it stays where it is.

@@ -39,6 +39,10 @@ pub record MovesLast (move : List LeafElement → Place → Move) (old new : Lis
   pub start : moved.start ≡ cursor.start
   pub moves : Moves (entries_of cursor.checked) cursor.start move cursor.place moved.place answer
 
+-- The last cursor is dropped if it returned nothing.
+abbrev pub Keeps : Option LeafElement → (old new : List CursorView) → Type 0
+Keeps answer old new = MatchOption answer ((outer : List CursorView) (last : CursorView) → old ≡ outer ++ last ∷ [] → new ≡ outer) (λ e. new ≡ old)
+
 -- a cursor of the bucket before the first call
 abbrev pub fresh_view : Bucket → CursorView
 fresh_view bucket = record { checked = bucket_checked bucket; start = bucket_start bucket; place = Fresh }

@@ -5,7 +5,8 @@ use Rattle.bolt_format.specs.ElementPlaces.{leaf_view}
 use Rattle.bolt_tree.specs.Paths.{path_of}
 use Rattle.bolt_tree.specs.Private.CursorViews.{fresh_view}
 use Rattle.bolt_tree.specs.Private.OpenCursors.{cursors_of}
-use Rattle.bolt_tree.proofs.Entering.{first_gives, first_leads, first_none, first_opens, leads_in, made, placed_in}
+use Rattle.bolt_tree.proofs.CursorMoves.{by_first}
+use Rattle.bolt_tree.proofs.Entering.{first_gives, first_none, leads_by, leads_in, made, opens_by, placed_in}
 use Rattle.bolt_tree.proofs.OpenSteps.{path_put}
 use Rattle.bolt_tree.proofs.open_buckets.OpenBuckets.enter.Goals as goal
 
@@ -45,7 +46,7 @@ returns-clause-placed c =
     let path = path_put old.path.items c.reserve.new.self.items c.push_reserved.new.self.items c.in-Some.leaf.key c.reserve.ensures.items c.push_reserved.ensures.items in
     placed_in old.cursors.checked c.enter.new.self.checked (cursors_of c.enter.new.self) (cursors_of c.enter.new.self) (path_of c.push_reserved.new.self.items) (path_of c.push_reserved.new.self.items)
     c.in_ok-leaf.ensures.checked refl refl
-    (first_opens old.cursors.checked (cursors_of old.cursors) (path_of old.path.items) (fresh_view c.args.bucket) opens.moved known
+    (opens_by by_first old.cursors.checked (cursors_of old.cursors) (path_of old.path.items) (fresh_view c.args.bucket) opens.moved known
     (leaf_view c.in-Some.leaf) (cursors_of c.enter.new.self) (path_of c.push_reserved.new.self.items) opens.file opens.start opens.moves opens.is path)
 
 pub returns-clause-on : goal.returns-clause-on
@@ -56,7 +57,7 @@ returns-clause-on c =
     let path = path_put old.path.items c.reserve.new.self.items c.push_reserved.new.self.items c.in-Some.leaf.key c.reserve.ensures.items c.push_reserved.ensures.items in (
       rw c.in-Some.is at c.in_ok-leaf.ensures.bucket,
       leads_in old.cursors.checked c.enter.new.self.checked (path_of c.push_reserved.new.self.items) (leaf_view c.in-Some.leaf) c.in_ok-leaf.ensures.checked
-          (first_leads old.cursors.checked (cursors_of old.cursors) (path_of old.path.items) (fresh_view c.args.bucket) opens.moved known
+          (leads_by by_first old.cursors.checked (cursors_of old.cursors) (path_of old.path.items) (fresh_view c.args.bucket) opens.moved known
           (leaf_view c.in-Some.leaf) (path_of c.push_reserved.new.self.items) opens.moves path),
     )
 
