@@ -1,6 +1,7 @@
 -- The findings of a listing are those of the accounts.
 use Rattle.std.proofs.Common.{◌≡◌, ◌≢◌, ◌∙◌, ◌==◌, ℕ, suc, ◌≤◌, inl, inr, ◌↔◌, List, [], ◌∷◌, Some, None, min, refl, sym, ap, subst, arith, Contains}
 use Rattle.std.proofs.lemmas.Bool.{cases_lt, cond-false, cond-true, eq-eqb, ne_eqb}
+use Rattle.std.proofs.lemmas.Option.{none-some, same_Some}
 use Rattle.bolt_format.specs.Freelists.{free_ids_at, free_ids_of, freelist_fault, freelist_fault_of}
 use Rattle.bolt_format.specs.declared.meta.Meta.{Meta}
 use Rattle.bolt_format.specs.declared.meta.TheConstants.{NO_FREELIST}
@@ -100,25 +101,13 @@ module _ (mark : ℕ) (in_use : ℕ → Type 0) (times : ℕ → ℕ) where
   finding_none [] reported lists some = some refl
   finding_none (x ∷ findings) reported lists some = lists_none lists x ((reported.exact x).0 (0, omega arith, refl))
 
-some_same : (a b : List ℕ) → Some a ≡ Some b → a ≡ b
-some_same a b e = cc
-
-some_number : (a b : ℕ) → Some a ≡ Some b → a ≡ b
-some_number a b e = cc
-
-no_fault : (a : ℕ) → None ≡ Some a → ⊥
-no_fault a e = cc
-
-none_some : (a : List ℕ) → None ≡ Some a → ⊥
-none_some a e = cc
-
 module _ (file : List ℕ) (meta : Meta) where
   -- whether a freelist was written
   pub unwritten : free_ids_of file meta ≡ None → meta.freelist ≢ NO_FREELIST → ⊥
-  unwritten e ne = none_some _ (sym e ∙ cond-false (meta.freelist == NO_FREELIST) None (Some (free_ids_at file meta meta.freelist)) (ne_eqb meta.freelist NO_FREELIST ne))
+  unwritten e ne = none-some _ (sym e ∙ cond-false (meta.freelist == NO_FREELIST) None (Some (free_ids_at file meta meta.freelist)) (ne_eqb meta.freelist NO_FREELIST ne))
 
   pub written : (ids : List ℕ) → free_ids_of file meta ≡ Some ids → meta.freelist ≢ NO_FREELIST
-  written ids e is = none_some ids (sym (cond-true (meta.freelist == NO_FREELIST) None (Some (free_ids_at file meta meta.freelist)) (eq-eqb meta.freelist NO_FREELIST is)) ∙ e)
+  written ids e is = none-some ids (sym (cond-true (meta.freelist == NO_FREELIST) None (Some (free_ids_at file meta meta.freelist)) (eq-eqb meta.freelist NO_FREELIST is)) ∙ e)
 
   module _ (used : ℕ → Type 0) where
     reported_alone : (x : Finding) → meta.freelist ≢ NO_FREELIST → IsFreelistFinding file meta used x → ((y : Finding) → IsFreelistFinding file meta used y → y ≡ x)
@@ -131,19 +120,19 @@ module _ (file : List ℕ) (meta : Meta) where
     }
 
     only_fault : (fault : ℕ) → freelist_fault_of file meta ≡ Some fault → (y : Finding) → IsFreelistFinding file meta used y → y ≡ finding fault meta.freelist
-    only_fault fault e y (bad {fault = other} f) = let same : other ≡ fault = some_number other fault (sym f ∙ e) in ap (λ (number : ℕ). finding number meta.freelist) same
-    only_fault fault e y (shared {n = n} is at lowest) = absurd (no_fault fault (sym is.good ∙ e))
+    only_fault fault e y (bad {fault = other} f) = let same : other ≡ fault = same_Some other fault (sym f ∙ e) in ap (λ (number : ℕ). finding number meta.freelist) same
+    only_fault fault e y (shared {n = n} is at lowest) = absurd (none-some fault (sym is.good ∙ e))
 
     -- the freelist's own page has a fault
     pub reported_fault : (fault : ℕ) → freelist_fault_of file meta ≡ Some fault → AreAccountFindings file meta used (finding fault meta.freelist ∷ [])
     reported_fault fault e =
         reported_alone (finding fault meta.freelist)
-        (λ is. no_fault fault (sym (cond-true (meta.freelist == NO_FREELIST) None (freelist_fault file meta meta.freelist) (eq-eqb meta.freelist NO_FREELIST is)) ∙ e))
+        (λ is. none-some fault (sym (cond-true (meta.freelist == NO_FREELIST) None (freelist_fault file meta meta.freelist) (eq-eqb meta.freelist NO_FREELIST is)) ∙ e))
         (bad e) (only_fault fault e)
 
     only_shared : (n : ℕ) → IsInFreelist file meta n → used n → ((k : ℕ) → IsInFreelist file meta k → used k → n ≤ k)
         → (y : Finding) → IsFreelistFinding file meta used y → y ≡ finding TWICE n
-    only_shared n is at lowest y (bad {fault = fault} f) = absurd (no_fault fault (sym is.good ∙ f))
+    only_shared n is at lowest y (bad {fault = fault} f) = absurd (none-some fault (sym is.good ∙ f))
     only_shared n is at lowest y (shared {n = k} also here least) =
         let same : k ≡ n = (let a = lowest k also here in let b = least n is at in omega (arith, a, b)) in ap (λ (page : ℕ). finding TWICE page) same
 
@@ -153,7 +142,7 @@ module _ (file : List ℕ) (meta : Meta) where
 
   module _ (used : ℕ → Type 0) (ids : List ℕ) (good : freelist_fault_of file meta ≡ None) (are : free_ids_of file meta ≡ Some ids) where
     same_ids : (others : List ℕ) → free_ids_of file meta ≡ Some others → ids ≡ others
-    same_ids others e = some_same ids others (sym are ∙ e)
+    same_ids others e = same_Some ids others (sym are ∙ e)
 
     module _ (apart : (n : ℕ) → IsInFreelist file meta n → used n → ⊥) (findings : List Finding) (reported : AreAllFindings meta.high_water (IsInUse file meta used) (times_in ids) findings) where
       pub accounts_right : findings ≡ [] → HasAccounts file meta used

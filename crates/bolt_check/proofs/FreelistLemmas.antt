@@ -9,11 +9,9 @@ use Rattle.bolt_format.specs.declared.kind.Kind.{Kind}
 use Rattle.bolt_format.specs.declared.kind.Kind.TheVariants as kind
 use Rattle.bolt_format.specs.declared.meta.Meta.{Meta}
 use Rattle.bolt_format.specs.declared.meta.TheConstants.{NO_FREELIST}
-use Rattle.bolt_check.proofs.MarkLemmas.{span_within}
-
-first_of-none : (a b : Option ℕ) → first_of a b ≡ None → (a ≡ None) × (b ≡ None)
-first_of-none None b e = (refl, e)
-first_of-none (Some fault) b e = absurd (cc)
+use Rattle.bolt_check.proofs.MarkLemmas.{page_overflows}
+use Rattle.bolt_format.proofs.FaultLemmas.{first_of-none}
+use Rattle.bolt_format.proofs.PageFacts.{span_within}
 
 is_freelist : (k : Option Kind) → freelist_kind_fault k ≡ None → k ≡ Some kind.Freelist
 is_freelist None e = absurd (cc)
@@ -43,14 +41,7 @@ module _ (file : List ℕ) (meta : Meta) (written : meta.freelist ≢ NO_FREELIS
 
   -- so what it shows has its overflow,
   pub overflow_shown : (view : PageView) → page_at file meta meta.freelist ≡ Some view → view.overflow ≡ page_overflow file meta meta.freelist
-  overflow_shown view e =
-      let same : Some (view_of kind.Freelist (count_field (from_page file meta meta.freelist)) (page_overflow file meta meta.freelist) (span_bytes file meta meta.freelist)) ≡ Some view
-      = sym freelist_page ∙ e in
-      sym (ap overflow_of same)
-    where
-      overflow_of : Option PageView → ℕ
-      overflow_of None = 0
-      overflow_of (Some view) = view.overflow
+  overflow_shown view e = page_overflows file meta meta.freelist view e
 
   -- and its span lies below the mark and in the file
   pub freelist_within : (meta.freelist + page_overflow file meta meta.freelist < meta.high_water)

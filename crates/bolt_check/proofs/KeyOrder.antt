@@ -1,12 +1,10 @@
 -- That the tests of the keys find nothing, in the words of the shape.
 use Rattle.std.proofs.Common.{◌≡◌, ℕ, zero, suc, Bool, true, false, not, if◌then◌else◌, List, [], ◌∷◌, Option, Some, None, slice_get, refl, arith}
+use Rattle.std.proofs.lemmas.Option.{none-some}
 use Rattle.bolt_format.proofs.FaultLemmas.{first_of-none}
 use Rattle.bolt_check.specs.Keys.{Key, KeysRise, is_above, is_below, is_from, keys_order_fault, key_lt, key_order_fault}
 use Rattle.bolt_check.specs.declared.finding.TheConstants.Finding.{ORDER, BELOW_PARENT, ABOVE_NEXT}
 use Rattle.bolt_check.proofs.KeyLaws.{above_more}
-
-none_key : (x : Key) → None ≡ Some x → ⊥
-none_key x e = cc
 
 reported : (x : ℕ) → Some x ≡ None → ⊥
 reported x e = cc
@@ -20,7 +18,7 @@ three_none x y z false b c e = absurd (reported x e)
 
 pub key_each : (before lower upper : Option Key) (keys : List Key) → keys_order_fault before lower upper keys ≡ None → (j : ℕ) (q : Key) → slice_get keys j ≡ Some q
     → (is_above before q ≡ true) × (is_from lower q ≡ true) × (is_below upper q ≡ true)
-key_each before lower upper [] e j q g = absurd (none_key q g)
+key_each before lower upper [] e j q g = absurd (none-some q g)
 key_each before lower upper (p ∷ keys) e zero q g =
     let f = first_of-none (key_order_fault before lower upper p) (keys_order_fault (Some p) lower upper keys) e in
     let same : p ≡ q = cc in
@@ -37,7 +35,7 @@ rise_cons p keys first rest zero (suc j) a b lt g h = let same : p ≡ a = cc in
 rise_cons p keys first rest (suc i) (suc j) a b lt g h = rest i j a b (omega arith) g h
 
 pub key_rise : (before lower upper : Option Key) (keys : List Key) → keys_order_fault before lower upper keys ≡ None → KeysRise keys
-key_rise before lower upper [] e = λ i j a b lt g h. absurd (none_key a g)
+key_rise before lower upper [] e = λ i j a b lt g h. absurd (none-some a g)
 key_rise before lower upper (p ∷ keys) e =
     let f = first_of-none (key_order_fault before lower upper p) (keys_order_fault (Some p) lower upper keys) e in
     rise_cons p keys (λ j q g. (key_each (Some p) lower upper keys f.1 j q g).0) (key_rise (Some p) lower upper keys f.1)

@@ -10,6 +10,7 @@ use Rattle.bolt_format.specs.declared.meta.Meta.{Meta}
 use Rattle.bolt_check.specs.Nodes.{Node, node_at, node_of, node_seen}
 use Rattle.bolt_check.specs.Findings.{IsClaimedBefore, IsClean, IsMetaPage, PagePasses}
 use Rattle.bolt_check.specs.Ways.{At_page, reached, root_spot}
+use Rattle.bolt_format.proofs.PageFacts.{span_passes, span_within}
 
 abbrev node_overflow : Result Node ℕ → ℕ
 node_overflow (Ok node) = node.overflow
@@ -20,40 +21,6 @@ seen-some (Some view) fault node e = (view, refl)
 seen-some None (Some number) node e = absurd (cc)
 seen-some None None node e = absurd (cc)
 
-shown-passed : (fault : Option ℕ) (kind : Option Kind) (count overflow : ℕ) (bytes : List ℕ) (view : PageView) → shown_as fault kind count overflow bytes ≡ Some view → fault ≡ None
-shown-passed None kind count overflow bytes view e = refl
-shown-passed (Some fault) kind count overflow bytes view e = absurd (cc)
-
-first-none : (a b : Option ℕ) → first_of a b ≡ None → a ≡ None
-first-none None b e = refl
-first-none (Some fault) b e = absurd (cc)
-
-pub guard-none : (test : Bool) (fault : ℕ) (next : Option ℕ) → cond test (Some fault) next ≡ None → (test ≡ false) × (next ≡ None)
-guard-none true fault next e = absurd (cc)
-guard-none false fault next e = (refl, e)
-
-page_passes : (file : List ℕ) (meta : Meta) (id : ℕ) (view : PageView) → page_at file meta id ≡ Some view → page_fault file meta id ≡ None
-unfolding page_at
-page_passes file meta id view e = shown-passed (page_fault file meta id) _ _ _ _ view e
-
-span_passes : (file : List ℕ) (meta : Meta) (id : ℕ) → page_fault file meta id ≡ None → span_fault file meta id ≡ None
-unfolding page_fault
-span_passes file meta id e = first-none (span_fault file meta id) _ e
-
--- a span that passed its tests lies below the mark and in the file
-pub span_within : (file : List ℕ) (meta : Meta) (id : ℕ) → span_fault file meta id ≡ None
-    → (id + page_overflow file meta id < meta.high_water) × ((id + page_overflow file meta id + 1) * meta.page_size ≤ length file)
-unfolding span_fault
-span_within file meta id passed =
-    let in_range = guard-none (nat_le meta.high_water id) _ _ passed in
-    let header = guard-none (nat_lt (length file) (id * meta.page_size + 16)) _ _ in_range.1 in
-    let own = guard-none (not (id_field (from_page file meta id) == id)) _ _ header.1 in
-    let kind = guard-none (not (is_some (kind_of (flags_field (from_page file meta id))))) _ _ own.1 in
-    let last = guard-none (nat_le meta.high_water (id + page_overflow file meta id)) _ _ kind.1 in
-    let end = guard-none (nat_lt (length file) ((id + 1 + page_overflow file meta id) * meta.page_size)) _ None last.1 in
-    let same : id + 1 + page_overflow file meta id ≡ id + page_overflow file meta id + 1 = omega arith in
-    (leb-false _ _ last.0, subst (λ (n : ℕ). n * meta.page_size ≤ length file) same (ltb-false _ _ end.0))
-
 abbrev overflow_of : Option PageView → ℕ
 overflow_of None = 0
 overflow_of (Some view) = view.overflow
@@ -63,7 +30,7 @@ shown-overflow None (Some kind) count overflow bytes view e = sym (ap overflow_o
 shown-overflow None None count overflow bytes view e = absurd (cc)
 shown-overflow (Some fault) kind count overflow bytes view e = absurd (cc)
 
-page_overflows : (file : List ℕ) (meta : Meta) (id : ℕ) (view : PageView) → page_at file meta id ≡ Some view → view.overflow ≡ page_overflow file meta id
+pub page_overflows : (file : List ℕ) (meta : Meta) (id : ℕ) (view : PageView) → page_at file meta id ≡ Some view → view.overflow ≡ page_overflow file meta id
 unfolding page_at
 page_overflows file meta id view e = shown-overflow (page_fault file meta id) _ _ _ _ view e
 
@@ -85,7 +52,7 @@ pub node_within : (file : List ℕ) (meta : Meta) (id : ℕ) (node : Node) → n
 node_within file meta id node e =
     let (view, is, same) = node_page file meta id node e in
     subst (λ (n : ℕ). (id + n < meta.high_water) × ((id + n + 1) * meta.page_size ≤ length file)) (sym (same ∙ page_overflows file meta id view is))
-    (span_within file meta id (span_passes file meta id (page_passes file meta id view is)))
+    (span_within file meta id (span_passes file meta id view is))
 
 pub node_below : (file : List ℕ) (meta : Meta) (id : ℕ) (node : Node) → node_at file meta id ≡ Ok node → id < meta.high_water
 node_below file meta id node e = let within = (node_within file meta id node e).0 in omega (arith, within)

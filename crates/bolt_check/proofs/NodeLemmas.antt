@@ -2,7 +2,7 @@
 use Rattle.std.proofs.Common.{◌≡◌, ◌∙◌, ℕ, suc, ◌+◌, ◌≤◌, List, true, false, Option, None, Some, length, sym, ap, arith, slice_get}
 use Rattle.std.specs.Option.{option_map}
 use Rattle.std.proofs.lemmas.List.{length-map}
-use Rattle.std.proofs.lemmas.Option.{slice_get-map, slice_get_past}
+use Rattle.std.proofs.lemmas.Option.{slice_get-map, slice_get_past, none-some}
 use Rattle.bolt_format.specs.Elements.{BranchElement, LeafElement}
 use Rattle.bolt_format.specs.Shown.{shown}
 use Rattle.bolt_format.proofs.PageLaws.{length-shown_branches, length-shown_leaves}
@@ -41,16 +41,9 @@ unfolding shown_node
 branch-entry node i e is found =
     ap (λ b. slice_get (entries_of b (shown node.page)) i) is ∙ slice_get-map branch_entry (shown node.page).branches i ∙ ap (option_map branch_entry) found
 
--- the key of an entry
-pub key-entry : (entries : List Entry) (i : ℕ) (e : Entry) → slice_get entries i ≡ Some e → slice_get (keys_of entries) i ≡ Some e.key
-key-entry entries i e found = slice_get-map (λ (e : Entry). e.key) entries i ∙ ap (option_map (λ (e : Entry). e.key)) found
-
-no_key : (key : Key) → None ≡ Some key → ⊥
-no_key key e = cc
-
 -- the upper bound of the child of entry i
 by_key : (next : Option Entry) (upper : Option Key) (key : Key) → option_map (λ (e : Entry). e.key) next ≡ Some key → upper_from next upper ≡ Some key
-by_key None upper key found = absurd (no_key key found)
+by_key None upper key found = absurd (none-some key found)
 by_key (Some e) upper key found = found
 
 pub upper-next : (entries : List Entry) (i : ℕ) (upper : Option Key) (key : Key) → slice_get (keys_of entries) (i + 1) ≡ Some key

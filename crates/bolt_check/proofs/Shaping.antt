@@ -1,7 +1,8 @@
 -- If the tests find nothing at any way, the shape holds.
 use Rattle.std.proofs.Common.{◌≡◌, ◌≢◌, ℕ, suc, ◌≤◌, inl, inr, Bool, true, false, not, ◌&&◌, ◌==◌, if◌then◌else◌, nat_lt, List, [], ◌∷◌, ◌++◌, length, Option, Some, None, Result, Ok, Err, slice_get, refl, sym, ap, arith, ◌∙◌}
-use Rattle.std.proofs.lemmas.Bool.{cases_lt}
+use Rattle.std.proofs.lemmas.Bool.{cases_lt, not-true}
 use Rattle.std.proofs.lemmas.Bool.Decides.{nat_tests}
+use Rattle.std.proofs.lemmas.Option.{none-some}
 use Rattle.bolt_check.specs.Ways.{PageSpot}
 use Rattle.bolt_check.specs.declared.finding.TheConstants.Finding.{EMPTY_BRANCH, TOO_DEEP}
 use Rattle.bolt_check.specs.declared.finding.Finding.{Finding}
@@ -11,12 +12,9 @@ use Rattle.bolt_check.specs.Findings.{keys_of, early_finding, open_finding, node
 use Rattle.bolt_check.specs.Keys.{Key, is_below, is_from, keys_order_fault, key_lt}
 use Rattle.bolt_check.specs.Shape.{child_of, child_in, child_at, leads, HasShape}
 use Rattle.bolt_check.proofs.WayOrder.{before_total}
-use Rattle.bolt_check.proofs.KeyLaws.{below_less, from_more, not_true}
+use Rattle.bolt_check.proofs.KeyLaws.{below_less, from_more}
 use Rattle.bolt_check.proofs.KeyOrder.{key_each, key_rise}
-use Rattle.bolt_check.proofs.WayFacts.{follow_append, key_at, leads_none, none_number, step_child}
-
-pub same_spot : (o : Option Spot) (s t : PageSpot) → o ≡ Some (At_page s) → o ≡ Some (At_page t) → s ≡ t
-same_spot o s t e h = cc
+use Rattle.bolt_check.proofs.WayFacts.{follow_append, key_at, leads_none, step_child}
 
 -- the content's tests report nothing
 pub finding_none : (o : Option ℕ) (page : ℕ) → finding_of o page ≡ None → o ≡ None
@@ -42,18 +40,18 @@ abbrev pub KeysFine : Nodes → PageSpot → Type 0
 KeysFine nodes s = (node : Node) → nodes s.number ≡ Ok node → keys_order_fault None s.lower s.upper (keys_of node.entries) ≡ None
 
 is_entry : (leaf : Bool) (o : Option Entry) (c : ℕ) → child_of leaf o ≡ Some c → (e : Entry) × (leaf ≡ false) × (o ≡ Some e) × (e.child ≡ c)
-is_entry true o c h = absurd (none_number c h)
-is_entry false None c h = absurd (none_number c h)
+is_entry true o c h = absurd (none-some c h)
+is_entry false None c h = absurd (none-some c h)
 is_entry false (Some e) c h = (e, refl, refl, cc)
 
 -- a child of a branch
 is_child : (nodes : Nodes) (s : PageSpot) (i : ℕ) (o : Result Node ℕ) (c : ℕ) → nodes s.number ≡ o → child_in o i ≡ Some c
     → (node : Node) × (e : Entry) × (nodes s.number ≡ Ok node) × (node.is_leaf ≡ false) × (slice_get node.entries i ≡ Some e) × (e.child ≡ c)
-is_child nodes s i (Err f) c q h = absurd (none_number c h)
+is_child nodes s i (Err f) c q h = absurd (none-some c h)
 is_child nodes s i (Ok node) c q h = let p = is_entry node.is_leaf (slice_get node.entries i) c h in (node, p.0, q, p.1, p.2, p.3)
 
 leads_some : (nodes : Nodes) (o : Option ℕ) (address : List ℕ) (below : ℕ) → leads nodes o address ≡ Some below → (c : ℕ) × (o ≡ Some c)
-leads_some nodes None address below e = absurd (none_number below (sym (leads_none nodes address) ∙ e))
+leads_some nodes None address below e = absurd (none-some below (sym (leads_none nodes address) ∙ e))
 leads_some nodes (Some c) address below e = (c, refl)
 
 upper_less : (next : Option Entry) (upper : Option Key) (key : Key) → ((n : Entry) → next ≡ Some n → is_below upper n.key ≡ true) → is_below (upper_from next upper) key ≡ true → is_below upper key ≡ true
@@ -80,7 +78,7 @@ keys_below nodes (i ∷ address) s fine below j key under l e g =
     let r = keys_below nodes address t (λ v u f. fine (i ∷ v) u (rw st f)) below j key under l3 e g in
     let mine = fine [] s refl node h.2 in
     let kp = key_each None s.lower s.upper (keys_of node.entries) mine i p.key (key_at node.entries i p h.4) in (
-      from_more s.lower p.key key kp.1 (not_true (key_lt key p.key) r.0),
+      from_more s.lower p.key key kp.1 (not-true (key_lt key p.key) r.0),
       upper_less (slice_get node.entries (suc i)) s.upper key
           (λ n f. (key_each None s.lower s.upper (keys_of node.entries) mine (suc i) n.key (key_at node.entries (suc i) n f)).2) r.1,
     )
@@ -140,5 +138,5 @@ shape_of nodes root clean = record {
       let t = child_spot s e (upper_from (slice_get node.entries (suc i)) s.upper) in
       let st = step_child nodes s i node e h leaf g in
       let r = keys_below nodes address t (λ v x f. fine_at nodes root clean (way ++ i ∷ v) x (snoc_reached nodes root way i (At_page s) (Some (At_page t)) q st v ∙ f)) below j key under l u k in
-      (not_true (key_lt key e.key) r.0, λ next f. rw f at r.1);
+      (not-true (key_lt key e.key) r.0, λ next f. rw f at r.1);
 }

@@ -8,6 +8,7 @@ use Rattle.bolt_check.specs.Nodes.{Nodes, Node}
 use Rattle.bolt_check.specs.Ways.{Spot, At_page, At_inline, Reach}
 use Rattle.bolt_check.specs.Findings.{finding, early_finding, node_finding, inline_finding, Tests, PageTests, early, twice, late, IsLowestClaimed, IsClaimedBefore, IsFirst}
 use Rattle.bolt_check.proofs.WayOrder.{before_total}
+use Rattle.bolt_format.proofs.ListLemmas.{one_some}
 
 same_lowest : (before : ℕ → Type 0) (node : Node) (number n m : ℕ) → IsLowestClaimed before node number n → IsLowestClaimed before node number m → n ≡ m
 same_lowest before node number n m h k =
@@ -15,9 +16,6 @@ same_lowest before node number n m h k =
       | inl e ↦ e
       | inr d ↦ elim d [ inl lt ↦ absurd (k.lowest n h.in_span lt h.was) | inr gt ↦ absurd (h.lowest m k.in_span gt k.was) ]
     ]
-
-one_some : (x y : Finding) (o : Option Finding) → o ≡ Some x → o ≡ Some y → x ≡ y
-one_some x y o h k = cc
 
 early_not : (nodes : Nodes) (s : PageSpot) (x : Finding) → early_finding nodes s ≡ None → early_finding nodes s ≡ Some x → ⊥
 early_not nodes s x a b = cc
@@ -41,7 +39,7 @@ page_one nodes before s x y (late node e p free c) (late m f q free2 d) =
 
 pub tests_one : (nodes : Nodes) (before : ℕ → Type 0) (s : Spot) (x y : Finding) → Tests nodes before s x → Tests nodes before s y → x ≡ y
 tests_one nodes before (At_page s) x y h k = page_one nodes before s x y h k
-tests_one nodes before (At_inline host keys) x y h k = one_some x y (inline_finding host keys) h k
+tests_one nodes before (At_inline host keys) x y h k = one_some (inline_finding host keys) x y h k
 
 at_one : (nodes : Nodes) (reach : Reach) (start : ℕ → Type 0) (v w : List ℕ) (s t : Spot) (x y : Finding) → v ≡ w → reach v ≡ Some s → reach w ≡ Some t
     → Tests nodes (IsClaimedBefore nodes reach start v) s x → Tests nodes (IsClaimedBefore nodes reach start w) t y → x ≡ y

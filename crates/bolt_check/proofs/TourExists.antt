@@ -175,13 +175,9 @@ sound_fits file meta trees =
 pub sound_tour : (file : List ℕ) (meta : Meta) → HasSoundTrees file meta → (tour : Ways) × IsTour (reached (node_at file meta) meta.root) tour
 sound_tour file meta trees = tour_of (node_at file meta) (numbers meta.high_water) meta.root (sound_fits file meta trees)
 
-abbrev rest_of : List ℕ → List ℕ
-rest_of [] = []
-rest_of (i ∷ way) = way
-
 pub cancel : (u v w : List ℕ) → u ++ v ≡ u ++ w → v ≡ w
 cancel [] v w e = e
-cancel (i ∷ u) v w e = cancel u v w (ap rest_of e)
+cancel (i ∷ u) v w e = let same : u ++ v ≡ u ++ w = cc in cancel u v w same
 
 -- a bucket that a way leads to has a tour of its own
 pub bucket_tour : (file : List ℕ) (meta : Meta) → HasSoundTrees file meta → (way : List ℕ) (root : ℕ) → reached (node_at file meta) meta.root way ≡ Some (At_page (root_spot root))

@@ -1,7 +1,7 @@
 -- Pages that ways lead to: each is a leaf or a branch, as bolt_format's page and as the rules' node; what its elements lead to.
 use Rattle.std.proofs.Common.{◌≡◌, ◌==◌, ℕ, suc, ◌≤◌, List, [], ◌∷◌, ◌++◌, true, false, Option, Some, None, Result, Ok, slice_get, map, refl, sym, ap, ◌∙◌, arith, subst}
 use Rattle.std.specs.Option.{option_map}
-use Rattle.std.proofs.lemmas.Option.{slice_get-map}
+use Rattle.std.proofs.lemmas.Option.{slice_get-map, none-some}
 use Rattle.bolt_format.specs.Elements.{BranchElement, LeafElement, head_root, inline_elements}
 use Rattle.bolt_format.specs.Pages.{PageView, page_at, page_fault}
 use Rattle.bolt_format.specs.declared.kind.Kind.{Kind}
@@ -13,7 +13,7 @@ use Rattle.bolt_check.specs.OnWays.{IsOnWay}
 use Rattle.bolt_check.specs.Shape.{child_at, child_in, leads}
 use Rattle.bolt_check.specs.Sound.{HasSoundTrees}
 use Rattle.bolt_check.specs.Ways.{At_inline, At_page, PageSpot, Spot, bucket_spot, child_spot, reached, root_spot, step, upper_from}
-use Rattle.bolt_check.proofs.WayFacts.{follow_append, key_at, leads_none, none_number, step_child}
+use Rattle.bolt_check.proofs.WayFacts.{follow_append, key_at, leads_none, step_child}
 
 abbrev pub leaf_node : PageView → Node
 leaf_node view = record { is_leaf = true; overflow = view.overflow; entries = map leaf_entry view.leaves }
@@ -126,7 +126,7 @@ module _ (file : List ℕ) (meta : Meta) where
 pub leaf_ends : (nodes : Nodes) (number i m : ℕ) (view : PageView) (rest : List ℕ) → nodes number ≡ Ok (leaf_node view) → leads nodes (Some number) (i ∷ rest) ≡ Some m → ⊥
 leaf_ends nodes number i m view rest node l =
     let c : child_at nodes (Some number) i ≡ None = ap (λ (o : Result Node ℕ). child_in o i) node in
-    none_number m (sym (leads_none nodes rest) ∙ (sym (ap (λ (o : Option ℕ). leads nodes o rest) c) ∙ l))
+    none-some m (sym (leads_none nodes rest) ∙ (sym (ap (λ (o : Option ℕ). leads nodes o rest) c) ∙ l))
 
 child_by : (elements : List BranchElement) (i : ℕ) (o : Option BranchElement) → slice_get elements i ≡ o → (rest : List ℕ) (nodes : Nodes) (number m : ℕ) (view : PageView)
     → view.branches ≡ elements → nodes number ≡ Ok (branch_node view) → leads nodes (Some number) (i ∷ rest) ≡ Some m
@@ -135,7 +135,7 @@ child_by elements i (Some e) g rest nodes number m view is node l = (e, g)
 child_by elements i None g rest nodes number m view is node l =
     let n : slice_get (map branch_entry view.branches) i ≡ None = slice_get-map branch_entry view.branches i ∙ ap (option_map branch_entry) (ap (λ (es : List BranchElement). slice_get es i) is ∙ g) in
     let c : child_at nodes (Some number) i ≡ None = ap (λ (o : Result Node ℕ). child_in o i) node ∙ rw n refl in
-    absurd (none_number m (sym (leads_none nodes rest) ∙ (sym (ap (λ (o : Option ℕ). leads nodes o rest) c) ∙ l)))
+    absurd (none-some m (sym (leads_none nodes rest) ∙ (sym (ap (λ (o : Option ℕ). leads nodes o rest) c) ∙ l)))
 
 -- a step of an address takes an element of a branch
 pub branch_step : (nodes : Nodes) (number i m : ℕ) (view : PageView) (rest : List ℕ) → nodes number ≡ Ok (branch_node view) → leads nodes (Some number) (i ∷ rest) ≡ Some m

@@ -1,5 +1,7 @@
 -- Ways, addresses and the pages that they lead to, for the crates above too.
 use Rattle.std.proofs.Common.{◌≡◌, ◌∙◌, ℕ, zero, suc, Bool, true, false, List, [], ◌∷◌, ◌++◌, map, Option, Some, None, Result, Ok, Err, slice_get, refl, sym, ap, subst, arith}
+use Rattle.std.proofs.lemmas.Option.{same_Some, slice_get-map, none-some}
+use Rattle.std.specs.Option.{option_map}
 use Rattle.bolt_format.specs.Pages.{PageView, page_at, page_fault}
 use Rattle.bolt_format.specs.declared.kind.Kind.{Kind}
 use Rattle.bolt_format.specs.declared.kind.Kind.TheVariants as kind
@@ -15,14 +17,9 @@ pub follow_append : (nodes : Nodes) (here : Option Spot) (v w : List ℕ) → fo
 follow_append nodes here [] w = refl
 follow_append nodes here (i ∷ v) w = follow_append nodes (step nodes here i) v w
 
-no_entry : (e : Entry) → None ≡ Some e → ⊥
-no_entry e h = cc
-
 -- the key of an entry
 pub key_at : (entries : List Entry) (i : ℕ) (e : Entry) → slice_get entries i ≡ Some e → slice_get (keys_of entries) i ≡ Some e.key
-key_at [] i e h = absurd (no_entry e h)
-key_at (x ∷ entries) zero e h = let same : x ≡ e = cc in let f : Entry → Key = λ y. y.key in let k = ap f same in cc
-key_at (x ∷ entries) (suc i) e h = key_at entries i e h
+key_at entries i e h = slice_get-map (λ (e : Entry). e.key) entries i ∙ ap (option_map (λ (e : Entry). e.key)) h
 
 -- a step to a child of a branch
 pub step_child : (nodes : Nodes) (s : PageSpot) (i : ℕ) (node : Node) (e : Entry) → nodes s.number ≡ Ok node → node.is_leaf ≡ false → slice_get node.entries i ≡ Some e
@@ -41,23 +38,20 @@ leads_none nodes (i ∷ address) = leads_none nodes address
 by_entry : (nodes : Nodes) (s : PageSpot) (is_leaf : Bool) (o next : Option Entry) (address : List ℕ) (n : ℕ) → leads nodes (child_of is_leaf o) address ≡ Some n
     → ((t : PageSpot) → leads nodes (Some t.number) address ≡ Some n → (u : PageSpot) × (follow nodes (Some (At_page t)) address ≡ Some (At_page u)) × (u.number ≡ n))
     → (u : PageSpot) × (follow nodes (step_entry is_leaf s o next) address ≡ Some (At_page u)) × (u.number ≡ n)
-by_entry nodes s true None next address n e more = absurd (none_number n (sym (leads_none nodes address) ∙ e))
-by_entry nodes s true (Some x) next address n e more = absurd (none_number n (sym (leads_none nodes address) ∙ e))
-by_entry nodes s false None next address n e more = absurd (none_number n (sym (leads_none nodes address) ∙ e))
+by_entry nodes s true None next address n e more = absurd (none-some n (sym (leads_none nodes address) ∙ e))
+by_entry nodes s true (Some x) next address n e more = absurd (none-some n (sym (leads_none nodes address) ∙ e))
+by_entry nodes s false None next address n e more = absurd (none-some n (sym (leads_none nodes address) ∙ e))
 by_entry nodes s false (Some x) next address n e more = more (child_spot s x (upper_from next s.upper)) e
 
 by_node : (nodes : Nodes) (s : PageSpot) (r : Result Node ℕ) (i : ℕ) (address : List ℕ) (n : ℕ) → leads nodes (child_in r i) address ≡ Some n
     → ((t : PageSpot) → leads nodes (Some t.number) address ≡ Some n → (u : PageSpot) × (follow nodes (Some (At_page t)) address ≡ Some (At_page u)) × (u.number ≡ n))
     → (u : PageSpot) × (follow nodes (step_at r s i) address ≡ Some (At_page u)) × (u.number ≡ n)
-by_node nodes s (Err fault) i address n e more = absurd (none_number n (sym (leads_none nodes address) ∙ e))
+by_node nodes s (Err fault) i address n e more = absurd (none-some n (sym (leads_none nodes address) ∙ e))
 by_node nodes s (Ok node) i address n e more = by_entry nodes s node.is_leaf (slice_get node.entries i) (slice_get node.entries (suc i)) address n e more
-
-number_is : (a b : ℕ) → Some a ≡ Some b → a ≡ b
-number_is a b e = cc
 
 pub leads_follow : (nodes : Nodes) (s : PageSpot) (address : List ℕ) (n : ℕ) → leads nodes (Some s.number) address ≡ Some n
     → (t : PageSpot) × (follow nodes (Some (At_page s)) address ≡ Some (At_page t)) × (t.number ≡ n)
-leads_follow nodes s [] n e = (s, refl, number_is s.number n e)
+leads_follow nodes s [] n e = (s, refl, same_Some s.number n e)
 leads_follow nodes s (i ∷ address) n e = by_node nodes s (nodes s.number) i address n e (λ t h. leads_follow nodes t address n h)
 
 -- a good leaf page as a node

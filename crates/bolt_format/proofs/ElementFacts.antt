@@ -1,7 +1,7 @@
 -- The elements of good pages have lengths that the format allows, and their values are bytes of the file.
 use Rattle.std.proofs.Common.{◌≡◌, ℕ, ◌+◌, ◌-◌, ◌<◌, ◌≤◌, ◌==◌, ◌||◌, nat_lt, List, length, take, drop, Option, None, Some, sym, ap, subst, inl, inr, arith}
 use Rattle.std.specs.List.{Contains, slice_range}
-use Rattle.std.proofs.lemmas.Bool.{cases_lt, eqb-false, ltb-false}
+use Rattle.std.proofs.lemmas.Bool.{cases_lt, eqb-false, ltb-false, or_parts}
 use Rattle.std.proofs.lemmas.List.{get_or-drop, get_or-take, get_or_past, length-drop, length-take}
 use Rattle.bolt_format.specs.Bytes.{IsBytes}
 use Rattle.bolt_format.specs.ElementLengths.{HasFitLengths, IsKeyLength, IsValueLength}
@@ -10,12 +10,12 @@ use Rattle.bolt_format.specs.Pages.{PageView, page_at, span_bytes}
 use Rattle.bolt_format.specs.declared.kind.Kind.TheVariants as kind
 use Rattle.bolt_format.specs.declared.meta.Meta.{Meta}
 use Rattle.bolt_format.proofs.FaultLemmas.{first_of-none}
-use Rattle.bolt_format.proofs.GoodPages.{faults_from-none, guard-none, neither, plain-none}
+use Rattle.bolt_format.proofs.GoodPages.{faults_from-none, guard-none, plain-none}
 use Rattle.bolt_format.proofs.PageFacts.{in_inline, on_leaf}
 
 key_fits : (n : ℕ) → key_length_fault n ≡ None → IsKeyLength n
 key_fits n e =
-    let both = neither (n == 0) (nat_lt 0x40000000 n) (guard-none (n == 0 || nat_lt 0x40000000 n) _ None e).0 in
+    let both = or_parts (n == 0) (nat_lt 0x40000000 n) (guard-none (n == 0 || nat_lt 0x40000000 n) _ None e).0 in
     let some = eqb-false n 0 both.0 in
     let most = ltb-false 0x40000000 n both.1 in
     (elim (cases_lt 0 n) [ inl more ↦ omega (arith, more) | inr none ↦ absurd (some (omega (arith, none))) ], omega (arith, most))

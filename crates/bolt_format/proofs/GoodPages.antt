@@ -1,7 +1,7 @@
 -- What follows of the elements of a page that passed its tests.
 use Rattle.std.proofs.Common.{◌≡◌, ◌∙◌, ℕ, zero, suc, ◌+◌, ◌-◌, ◌<◌, ◌≤◌, List, Bool, true, false, Option, None, Some, IsSome, is_some, length, not, zero-add, ◌||◌, eq-eqb, ◌*◌, ◌==◌, nat_le, map, arith, ap, refl, sym, subst, cond, nat_lt, slice_get, inl, inr, take, drop}
 use Rattle.std.specs.List.{list_any, range_with_len}
-use Rattle.std.proofs.lemmas.Bool.{cases_lt, ltb-false}
+use Rattle.std.proofs.lemmas.Bool.{cases_lt, ltb-false, not-false, or_parts}
 use Rattle.std.proofs.lemmas.Bool.Decides.{nat_tests}
 use Rattle.std.proofs.lemmas.List.FromFn.{get_or-map-range_with_len, get_or-range_with_len, length-map-range_with_len, length-range_with_len}
 use Rattle.std.proofs.lemmas.List.{take_rest}
@@ -85,10 +85,6 @@ slice_get-made f count i h =
     slice_get-get_or (map f (range_with_len 0 count)) i (f i) (let n = length-map-range_with_len f 0 count in omega (arith, n))
     ∙ ap Some (get_or-map-range_with_len f 0 count i i (f i) h (omega arith))
 
-not-false : (b : Bool) → not b ≡ false → b ≡ true
-not-false true e = refl
-not-false false e = absurd (cc)
-
 below-of : {m n : ℕ} → nat_le m n ≡ false → n < m
 below-of e = grind (arith, nat_tests)
 
@@ -142,16 +138,12 @@ not-some : (o : Option ℕ) → is_some o ≡ false → o ≡ None
 not-some None e = refl
 not-some (Some x) e = absurd (cc)
 
-pub neither : (a b : Bool) → (a || b) ≡ false → (a ≡ false) × (b ≡ false)
-neither false b e = (refl, e)
-neither true b e = absurd (cc)
-
 good_inline_fault : (bytes : List ℕ) → inline_fault bytes ≡ None → IsInlinePage bytes
 unfolding inline_fault
 good_inline_fault bytes e =
     let parts = first_of-none (inline_page_fault bytes) _ e in
-    let tests = neither (nat_lt (length bytes) 16) _ (guard-none (nat_lt (length bytes) 16 || (not (flags_field bytes == 2) || is_some (leaves_fault head_fault bytes (count_field bytes)))) _ None parts.0).0 in
-    let elements = neither (not (flags_field bytes == 2)) _ tests.1 in
+    let tests = or_parts (nat_lt (length bytes) 16) _ (guard-none (nat_lt (length bytes) 16 || (not (flags_field bytes == 2) || is_some (leaves_fault head_fault bytes (count_field bytes)))) _ None parts.0).0 in
+    let elements = or_parts (not (flags_field bytes == 2)) _ tests.1 in
     record {
       header = ltb-false _ _ tests.0;
       good = not-some _ elements.1;

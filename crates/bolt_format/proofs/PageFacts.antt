@@ -1,5 +1,5 @@
 -- What holds of each page that shows something, for the crates above.
-use Rattle.std.proofs.Common.{◌≡◌, ◌∙◌, ◌<◌, ℕ, List, true, false, Option, Some, None, IsSome, length, map, get_or, arith, ap, refl, sym, subst}
+use Rattle.std.proofs.Common.{◌≡◌, ◌∙◌, ◌<◌, ◌≤◌, ◌+◌, ◌*◌, ℕ, List, true, false, Option, Some, None, IsSome, length, map, get_or, arith, ap, refl, sym, subst}
 use Rattle.std.specs.List.{Contains, range_with_len}
 use Rattle.std.proofs.lemmas.List.FromFn.{get_or-map-range_with_len, length-map-range_with_len}
 use Rattle.bolt_format.specs.Elements.{IsBucketValue, LeafElement, head_fault, head_root, inline_bytes, inline_elements, leaf_element, leaf_elements, leaves_fault, value_fault}
@@ -9,7 +9,7 @@ use Rattle.bolt_format.specs.declared.meta.Meta.{Meta}
 use Rattle.bolt_format.specs.declared.kind.Kind.{Kind}
 use Rattle.bolt_format.specs.declared.kind.Kind.TheVariants as kind
 use Rattle.bolt_format.proofs.FaultLemmas.{first_of-none}
-use Rattle.bolt_format.proofs.GoodPages.{good_fault, good_inline, good_leaf, good_within, no_bucket-at}
+use Rattle.bolt_format.proofs.GoodPages.{good_fault, good_inline, good_leaf, good_within, no_bucket-at, good_span}
 
 -- its number is below the high-water mark
 pub below_mark : (file : List ℕ) (meta : Meta) (id : ℕ) → IsSome (page_at file meta id) → id < meta.high_water
@@ -42,6 +42,18 @@ leaves_good None (Some kind.Freelist) count overflow bytes view e leaf good =
 
 is_some_of : (o : Option PageView) (view : PageView) → o ≡ Some view → IsSome o
 is_some_of o view e = rw e refl
+
+-- a span that passed its tests lies below the mark and in the file
+pub span_within : (file : List ℕ) (meta : Meta) (id : ℕ) → span_fault file meta id ≡ None
+    → (id + page_overflow file meta id < meta.high_water) × ((id + page_overflow file meta id + 1) * meta.page_size ≤ length file)
+span_within file meta id passed =
+    let within = good_span file meta id passed in
+    let same : id + 1 + page_overflow file meta id ≡ id + page_overflow file meta id + 1 = omega arith in
+    (within.below, subst (λ (n : ℕ). n * meta.page_size ≤ length file) same within.end)
+
+pub span_passes : (file : List ℕ) (meta : Meta) (id : ℕ) (view : PageView) → page_at file meta id ≡ Some view → span_fault file meta id ≡ None
+unfolding page_fault
+span_passes file meta id view shows = (first_of-none (span_fault file meta id) _ (good_fault file meta id (is_some_of (page_at file meta id) view shows))).0
 
 -- an element on it is one of good elements
 pub record IsOnLeaf (file : List ℕ) (meta : Meta) (id : ℕ) (e : LeafElement) : Type 0 where
