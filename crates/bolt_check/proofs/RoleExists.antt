@@ -8,12 +8,12 @@ use Rattle.bolt_check.specs.Accounts.{IsInFreelist}
 use Rattle.bolt_check.specs.Nodes.{Node, Nodes, node_at}
 use Rattle.bolt_check.specs.Roles.{HasRole}
 use Rattle.bolt_check.specs.Sound.{HasRightAccounts, HasSoundTrees}
-use Rattle.bolt_check.specs.Tours.{IsIn}
 use Rattle.bolt_check.specs.Ways.{At_inline, At_page, PageSpot, Reach, SpanHas, SpanOf, Spot, reached}
 use Rattle.bolt_check.specs.declared.role.Role.{Role}
 use Rattle.bolt_check.specs.declared.role.Role.TheVariants as role
 use Rattle.bolt_check.proofs.TourExists.{sound_tour}
 use Rattle.bolt_check.proofs.TourLemmas.{Ways}
+use Rattle.bolt_check.specs.Subtrees.{Has}
 
 abbrev Either : Type 0 → Type 0
 Either A = A ⊎ (A → ⊥)
@@ -44,7 +44,7 @@ module _ (file : List ℕ) (meta : Meta) (n : ℕ) where
   at_spot (Some (At_page s)) = in_node (nodes s.number) s.number
   at_spot (Some (At_inline host keys)) = inr (λ h. h)
 
-  pick : (ways : Ways) → ((way : List ℕ) × SpanHas nodes (reach way) n) ⊎ ((way : List ℕ) → IsIn way ways → SpanHas nodes (reach way) n → ⊥)
+  pick : (ways : Ways) → ((way : List ℕ) × SpanHas nodes (reach way) n) ⊎ ((way : List ℕ) → Has way ways → SpanHas nodes (reach way) n → ⊥)
   pick [] = inr (λ way i h. i)
   pick (w ∷ ways) =
       elim (at_spot (reach w)) [

@@ -1,34 +1,35 @@
 -- Tours: there is at most one, and a visit puts a way before those of what is left.
 use Rattle.std.proofs.Common.{◌≡◌, ℕ, inl, inr, List, [], ◌∷◌, map, Some, refl, sym, ap, ap₂, subst}
 use Rattle.bolt_check.specs.Nodes.{Nodes}
-use Rattle.bolt_check.specs.Tours.{IsBeforeAll, IsIn, IsTour, Rises}
+use Rattle.bolt_check.specs.Tours.{IsBeforeAll, IsTour, Rises}
 use Rattle.bolt_check.specs.Ways.{Before, Reach, Spot}
 use Rattle.bolt_check.proofs.Visiting.{Visits}
 use Rattle.bolt_check.proofs.WayOrder.{before_irreflexive, before_trans}
+use Rattle.bolt_check.specs.Subtrees.{Has}
 
 abbrev pub Ways : Type 0
 Ways = List (List ℕ)
 
-pub in_map : (f : List ℕ → List ℕ) (way : List ℕ) (ways : Ways) → IsIn way ways → IsIn (f way) (map f ways)
+pub in_map : (f : List ℕ → List ℕ) (way : List ℕ) (ways : Ways) → Has way ways → Has (f way) (map f ways)
 in_map f way [] h = h
 in_map f way (v ∷ ways) (inl e) = inl (ap f e)
 in_map f way (v ∷ ways) (inr h) = inr (in_map f way ways h)
 
-pub from_map : (f : List ℕ → List ℕ) (v : List ℕ) (ways : Ways) → IsIn v (map f ways) → (way : List ℕ) × (IsIn way ways × (v ≡ f way))
+pub from_map : (f : List ℕ → List ℕ) (v : List ℕ) (ways : Ways) → Has v (map f ways) → (way : List ℕ) × (Has way ways × (v ≡ f way))
 from_map f v [] h = absurd h
 from_map f v (w ∷ ways) (inl e) = (w, (inl refl, e))
 from_map f v (w ∷ ways) (inr h) = let p = from_map f v ways h in (p.0, (inr p.1.0, p.1.1))
 
-pub before_all : (v : List ℕ) (ways : Ways) → ((w : List ℕ) → IsIn w ways → Before v w) → IsBeforeAll v ways
+pub before_all : (v : List ℕ) (ways : Ways) → ((w : List ℕ) → Has w ways → Before v w) → IsBeforeAll v ways
 before_all v [] h = tt
 before_all v (w ∷ ways) h = (h w (inl refl), before_all v ways (λ x i. h x (inr i)))
 
-pub before_each : (v : List ℕ) (ways : Ways) → IsBeforeAll v ways → (w : List ℕ) → IsIn w ways → Before v w
+pub before_each : (v : List ℕ) (ways : Ways) → IsBeforeAll v ways → (w : List ℕ) → Has w ways → Before v w
 before_each v [] h w i = absurd i
 before_each v (x ∷ ways) h w (inl e) = rw e h.0
 before_each v (x ∷ ways) h w (inr i) = before_each v ways h.1 w i
 
-pub rises_map : (f : List ℕ → List ℕ) (ways : Ways) → ((a b : List ℕ) → IsIn a ways → IsIn b ways → Before a b → Before (f a) (f b)) → Rises ways → Rises (map f ways)
+pub rises_map : (f : List ℕ → List ℕ) (ways : Ways) → ((a b : List ℕ) → Has a ways → Has b ways → Before a b → Before (f a) (f b)) → Rises ways → Rises (map f ways)
 rises_map f [] up h = tt
 rises_map f (v ∷ ways) up h = (
   before_all (f v) (map f ways) (λ w i. let p = from_map f w ways i in rw p.1.1 (up v p.0 (inl refl) (inr p.1.0) (before_each v ways h.0 p.0 p.1.0))),
@@ -36,16 +37,16 @@ rises_map f (v ∷ ways) up h = (
 )
 
 -- a rising list is known by what it has
-same_head : (v w : List ℕ) (vs ws : Ways) → IsBeforeAll v vs → IsBeforeAll w ws → IsIn v (w ∷ ws) → IsIn w (v ∷ vs) → v ≡ w
+same_head : (v w : List ℕ) (vs ws : Ways) → IsBeforeAll v vs → IsBeforeAll w ws → Has v (w ∷ ws) → Has w (v ∷ vs) → v ≡ w
 same_head v w vs ws a b (inl e) j = e
 same_head v w vs ws a b (inr i) (inl e) = sym e
 same_head v w vs ws a b (inr i) (inr j) = absurd (before_irreflexive v (before_trans v w v (before_each v vs a w j) (before_each w ws b v i)))
 
-in_rest : (v w x : List ℕ) (ws : Ways) → v ≡ w → Before v x → IsIn x (w ∷ ws) → IsIn x ws
+in_rest : (v w x : List ℕ) (ws : Ways) → v ≡ w → Before v x → Has x (w ∷ ws) → Has x ws
 in_rest v w x ws e lt (inl h) = absurd (before_irreflexive x (subst (λ (z : List ℕ). Before z x) (let f : v ≡ x = cc in f) lt))
 in_rest v w x ws e lt (inr h) = h
 
-pub same_ways : (vs ws : Ways) → Rises vs → Rises ws → ((x : List ℕ) → IsIn x vs → IsIn x ws) → ((x : List ℕ) → IsIn x ws → IsIn x vs) → vs ≡ ws
+pub same_ways : (vs ws : Ways) → Rises vs → Rises ws → ((x : List ℕ) → Has x vs → Has x ws) → ((x : List ℕ) → Has x ws → Has x vs) → vs ≡ ws
 same_ways [] [] a b to from = refl
 same_ways [] (w ∷ ws) a b to from = absurd (from w (inl refl))
 same_ways (v ∷ vs) [] a b to from = absurd (to v (inl refl))
@@ -66,7 +67,7 @@ tour_step nodes old new c d first s f v tour is = record {
     before_all first (map f tour) (λ w i. let p = from_map f w tour i in let q = is.only p.0 p.1.0 in subst (λ (z : List ℕ). Before first z) (sym p.1.1) (v.after p.0 q.0 q.1)),
     rises_map f tour (λ a b i j. v.rising a b) is.rises,
   );
-  all = λ way t e. elim (v.all way t e) [ inl same ↦ inl same | inr (b, (same, leads)) ↦ inr (subst (λ (z : List ℕ). IsIn z (map f tour)) (sym same) (in_map f b tour (is.all b t leads))) ];
+  all = λ way t e. elim (v.all way t e) [ inl same ↦ inl same | inr (b, (same, leads)) ↦ inr (subst (λ (z : List ℕ). Has z (map f tour)) (sym same) (in_map f b tour (is.all b t leads))) ];
   only = λ way i. elim i [
     | inl same ↦ (s, subst (λ (z : List ℕ). old z ≡ Some s) (sym same) v.leads)
     | inr h ↦ let p = from_map f way tour h in let q = is.only p.0 p.1.0 in (q.0, subst (λ (z : List ℕ). old z ≡ Some q.0) (sym p.1.1) (v.same p.0 q.0 q.1))

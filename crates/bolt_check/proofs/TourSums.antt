@@ -9,7 +9,7 @@ use Rattle.bolt_check.specs.Nodes.{Entry, Node, Nodes, node_at}
 use Rattle.bolt_check.specs.Private.Pending.{forest, places, somes}
 use Rattle.bolt_check.specs.Sound.{HasSoundTrees}
 use Rattle.bolt_check.specs.Subtrees.{Enough, Has, kid_pages, kids_at, root_page, weight}
-use Rattle.bolt_check.specs.Tours.{IsIn, IsTour}
+use Rattle.bolt_check.specs.Tours.{IsTour}
 use Rattle.bolt_check.specs.Ways.{At_inline, At_page, PageSpot, Reach, Spot, follow, reached, root_spot, step}
 use Rattle.bolt_check.proofs.Forest.{flat, inline_visits, kids_step, visits}
 use Rattle.bolt_check.proofs.MarkLemmas.{node_page}
@@ -142,7 +142,7 @@ module _ (nodes : Nodes) where
   spot_weight own (Some (At_page s)) = own s.number
   spot_weight own (Some (At_inline host keys)) = 0
 
-  sum_map : (f : List ℕ → List ℕ) (g h : List ℕ → ℕ) (ways : Ways) → ((way : List ℕ) → IsIn way ways → g (f way) ≡ h way) → sum_by g (map f ways) ≡ sum_by h ways
+  sum_map : (f : List ℕ → List ℕ) (g h : List ℕ → ℕ) (ways : Ways) → ((way : List ℕ) → Has way ways → g (f way) ≡ h way) → sum_by g (map f ways) ≡ sum_by h ways
   sum_map f g h [] same = refl
   sum_map f g h (w ∷ ways) same =
       let rest = sum_map f g h ways (λ x i. same x (inr i)) in let here = same w (inl refl) in

@@ -2,9 +2,10 @@
 use Rattle.std.specs.Prelude.{◌≡◌, ◌==◌, ◌⊎◌, ℕ, zero, suc, ◌+◌, Bool, true, false, List, [], ◌∷◌, ◌++◌, Result, Ok, Err, cond, sum_by}
 use Rattle.bolt_check.specs.Nodes.{Entry, Node, Nodes}
 
-abbrev pub Has : ℕ → List ℕ → Type 0
-Has n [] = ⊥
-Has n (x ∷ xs) = (n ≡ x) ⊎ Has n xs
+-- x is one of these
+abbrev pub Has : {X : Type 0} → X → List X → Type 0
+Has x [] = ⊥
+Has x (y ∷ ys) = (x ≡ y) ⊎ Has x ys
 
 -- the root page of the bucket that an entry of a leaf is, unless it is inline
 abbrev pub root_page : Entry → List ℕ

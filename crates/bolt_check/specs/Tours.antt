@@ -1,6 +1,7 @@
 -- The tour of a bucket: all ways that lead somewhere, in their order.
 use Rattle.std.specs.Prelude.{◌≡◌, ◌⊎◌, ℕ, List, [], ◌∷◌, Some}
 use Rattle.bolt_check.specs.Ways.{Before, Reach, Spot}
+use Rattle.bolt_check.specs.Subtrees.{Has}
 
 -- a way comes before each of these
 abbrev pub IsBeforeAll : List ℕ → List (List ℕ) → Type 0
@@ -11,12 +12,8 @@ abbrev pub Rises : List (List ℕ) → Type 0
 Rises [] = Unit {0}
 Rises (v ∷ ways) = IsBeforeAll v ways × Rises ways
 
-abbrev pub IsIn : List ℕ → List (List ℕ) → Type 0
-IsIn way [] = ⊥
-IsIn way (v ∷ ways) = (way ≡ v) ⊎ IsIn way ways
-
 -- the rising list of exactly the ways that lead somewhere
 pub record IsTour (reach : Reach) (tour : List (List ℕ)) : Type 0 where
   pub rises : Rises tour
-  pub all : (way : List ℕ) (s : Spot) → reach way ≡ Some s → IsIn way tour
-  pub only : (way : List ℕ) → IsIn way tour → (s : Spot) × (reach way ≡ Some s)
+  pub all : (way : List ℕ) (s : Spot) → reach way ≡ Some s → Has way tour
+  pub only : (way : List ℕ) → Has way tour → (s : Spot) × (reach way ≡ Some s)

@@ -1,6 +1,5 @@
 //! The claimed pages of a file, and the tests of one more page.
 ghost use Rattle.std.specs.Prelude.{◌≡◌, ◌↔◌, ◌⊎◌, ◌<◌, ◌≤◌, ℕ, true, IfErr, IfOk, Ok, OnErr, OnOk, Some};
-ghost use Rattle.std.proofs.Props.{props};
 ghost use Rattle.bolt_format.specs.Pages.{page_at};
 ghost use Rattle.bolt_format.specs.Shown.{shown};
 ghost use Rattle.bolt_check.specs.Findings.{IsMetaPage, PagePasses, PageTests};

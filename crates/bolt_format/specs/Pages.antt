@@ -92,7 +92,3 @@ page_at file meta id =
 pub record IsInFile (file : List ℕ) (meta : Meta) (id : ℕ) (view : PageView) : Type 0 where
   pub below : id + view.overflow < meta.high_water
   pub end : (id + 1 + view.overflow) * meta.page_size ≤ length file
-
--- pages by number, as everything above sees them
-abbrev pub Pages : Type 0
-Pages = ℕ → Option PageView
