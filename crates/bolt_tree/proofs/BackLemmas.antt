@@ -4,6 +4,7 @@ use Rattle.std.proofs.Math.Logic.{∥∥₁_elim}
 use Rattle.std.proofs.Props.{props}
 use Rattle.std.proofs.lemmas.List.{length-take, take_all}
 use Rattle.std.proofs.lemmas.List.Concat.{flat_map-append}
+use Rattle.std.proofs.lemmas.Option.{none-some}
 use Rattle.bolt_format.specs.Elements.{BranchElement, LeafElement}
 use Rattle.bolt_tree.specs.BucketViews.{BucketView}
 use Rattle.bolt_tree.specs.Private.BucketPages.{contents_in, elements_in, root_content}
@@ -22,13 +23,10 @@ take_none : {X : Type 0} (xs : List X) → take 0 xs ≡ []
 take_none [] = refl
 take_none (x ∷ xs) = refl
 
-no_element : (e : BranchElement) → None ≡ Some e → ⊥
-no_element e h = cc
-
 -- what lies under one more element
 under_more : (f : ℕ → ℕ → List Visit) (i k j : ℕ) (elements : List BranchElement) (e : BranchElement) → slice_get elements k ≡ Some e → j ≡ i + k
     → all_under f i (take (suc k) elements) ≡ all_under f i (take k elements) ++ f j e.child
-under_more f i k j [] e g s = absurd (no_element e g)
+under_more f i k j [] e g s = absurd (none-some e g)
 under_more f i zero j (x ∷ elements) e g s =
     let same : x ≡ e = cc in
     let here : j ≡ i = omega arith in

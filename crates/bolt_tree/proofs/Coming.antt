@@ -23,9 +23,10 @@ use Rattle.bolt_tree.specs.declared.bucket.Bucket.{Bucket}
 use Rattle.bolt_tree.proofs.CursorMoves.{by_key}
 use Rattle.bolt_tree.proofs.Entering.{Fresh_at, MovesBy, comes_by, leads_by, leads_in, leads_inside, made, opens_by, placed_in}
 use Rattle.bolt_tree.proofs.EntryOrder.{contains_at, seek_from}
-use Rattle.bolt_tree.proofs.PathOrder.{key_exact, key_total, less_lt}
+use Rattle.bolt_tree.proofs.PathOrder.{key_exact, key_total}
 use Rattle.bolt_tree.proofs.Seeking.{rest_greater, rest_none, rest_past_value}
 use Rattle.bolt_tree.proofs.OpenSteps.{open_push}
+use Rattle.bolt_check.proofs.KeyLaws.{less_of}
 
 pub neither : (a b : Key) (o : Ordering) → key_cmp a b ≡ o → is_lt (key_cmp a b) ≡ false → is_lt (key_cmp b a) ≡ false → a ≡ b
 neither a b Less e h k = absurd (let f = ap is_lt e in cc)
@@ -51,7 +52,7 @@ module _ (checked : Checked) (cursors : List CursorView) (keys : Path) (fresh mo
       let own = k.all keys fresh.start k.names in
       let came = comes_by (by_key part) checked cursors keys fresh moved (Some e) k moves own.0 own.1 in
       subst (λ (ks : Path). rest_from ks listing ≡ rest_from (keys ++ part ∷ rest) listing) (sym at)
-      (sym (rest_greater (entries_of checked) (root_start checked) k.all listing lists keys fresh.start k.names own.0 e part rest own.1 came.1 (less_lt _ less))))
+      (sym (rest_greater (entries_of checked) (root_start checked) k.all listing lists keys fresh.start k.names own.0 e part rest own.1 came.1 (less_of _ less))))
 
   pub from_none : (rest : Path) → MovesFrom None → (listing : List Member) → Lists (entries_of checked) (root_start checked) listing
       → beyond keys listing ≡ rest_from (keys ++ part ∷ rest) listing

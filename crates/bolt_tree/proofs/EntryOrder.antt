@@ -4,6 +4,7 @@ use Rattle.std.proofs.Common.{◌≡◌, ◌∙◌, ◌⊎◌, ◌≤◌, ◌+�
 use Rattle.std.specs.List.{Contains}
 use Rattle.std.specs.Ordering.{is_lt}
 use Rattle.std.specs.declared.cmp.Ordering.TheVariants.{Less}
+use Rattle.std.proofs.lemmas.Option.{none-some, same_Some}
 use Rattle.bolt_format.specs.Elements.{LeafElement}
 use Rattle.bolt_check.specs.Keys.{Key, key_cmp}
 use Rattle.bolt_tree.specs.Entries.{entry_cmp}
@@ -18,15 +19,9 @@ not_behind a b e = ap is_lt (flip_less key_total a b e)
 pub not_before_itself : (a b : Key) → a ≡ b → is_lt (key_cmp b a) ≡ false
 not_before_itself a b e = rw e (ap is_lt (key_same b))
 
-none_is : (e : LeafElement) → None ≡ Some e → ⊥
-none_is e h = cc
-
-some_is : (a b : LeafElement) → Some a ≡ Some b → a ≡ b
-some_is a b h = cc
-
 pub contains_at : (entries : List LeafElement) (i : ℕ) (e : LeafElement) → slice_get entries i ≡ Some e → Contains entries e
-contains_at [] i e at = absurd (none_is e at)
-contains_at (x ∷ entries) zero e at = subst (λ (y : LeafElement). Contains (x ∷ entries) y) (some_is x e at) (contains_head x entries)
+contains_at [] i e at = absurd (none-some e at)
+contains_at (x ∷ entries) zero e at = subst (λ (y : LeafElement). Contains (x ∷ entries) y) (same_Some x e at) (contains_head x entries)
 contains_at (x ∷ entries) (suc i) e at = contains_tail x e entries (contains_at entries i e at)
 
 -- no key is before the first one
@@ -35,21 +30,21 @@ by_first_entry x e f entries same below (inl s) = not_before_itself e.key f.key 
 by_first_entry x e f entries same below (inr h) = rw (← same) (not_behind x.key f.key (below f h))
 
 pub first_least : (entries : List LeafElement) (e f : LeafElement) → Rises entry_cmp entries → slice_get entries 0 ≡ Some e → Contains entries f → is_lt (key_cmp f.key e.key) ≡ false
-first_least [] e f r at h = absurd (none_is e at)
-first_least (x ∷ entries) e f r at h = by_first_entry x e f entries (some_is x e at) r.0 (contains_cases x f entries h)
+first_least [] e f r at h = absurd (none-some e at)
+first_least (x ∷ entries) e f r at h = by_first_entry x e f entries (same_Some x e at) r.0 (contains_cases x f entries h)
 
 -- the next key is behind, and none is between
 pub next_less : (entries : List LeafElement) (i : ℕ) (e g : LeafElement) → Rises entry_cmp entries → slice_get entries i ≡ Some e → slice_get entries (suc i) ≡ Some g → key_cmp e.key g.key ≡ Less
-next_less [] i e g r at next = absurd (none_is e at)
-next_less (x ∷ entries) zero e g r at next = rw (← some_is x e at) (r.0 g (contains_at entries 0 g next))
+next_less [] i e g r at next = absurd (none-some e at)
+next_less (x ∷ entries) zero e g r at next = rw (← same_Some x e at) (r.0 g (contains_at entries 0 g next))
 next_less (x ∷ entries) (suc i) e g r at next = next_less entries i e g r.1 at next
 
 pub next_least : (entries : List LeafElement) (i : ℕ) (e g f : LeafElement) → Rises entry_cmp entries → slice_get entries i ≡ Some e → slice_get entries (suc i) ≡ Some g
     → Contains entries f → key_cmp e.key f.key ≡ Less → is_lt (key_cmp f.key g.key) ≡ false
-next_least [] i e g f r at next h less = absurd (none_is e at)
+next_least [] i e g f r at next h less = absurd (none-some e at)
 next_least (x ∷ entries) zero e g f r at next h less =
     elim (contains_cases x f entries h) [
-      | inl s ↦ absurd (irreflexive key_total f.key (subst (λ (y : LeafElement). key_cmp y.key f.key ≡ Less) (sym (some_is x e at) ∙ s) less))
+      | inl s ↦ absurd (irreflexive key_total f.key (subst (λ (y : LeafElement). key_cmp y.key f.key ≡ Less) (sym (same_Some x e at) ∙ s) less))
       | inr later ↦ first_least entries g f r.1 next later
     ]
 next_least (x ∷ entries) (suc i) e g f r at next h less =
@@ -61,10 +56,10 @@ next_least (x ∷ entries) (suc i) e g f r at next h less =
 -- nothing is behind the last one
 pub last_greatest : (entries : List LeafElement) (i : ℕ) (e f : LeafElement) → Rises entry_cmp entries → slice_get entries i ≡ Some e → length entries ≤ suc i
     → Contains entries f → key_cmp e.key f.key ≡ Less → ⊥
-last_greatest [] i e f r at short h less = none_is e at
+last_greatest [] i e f r at short h less = none-some e at
 last_greatest (x ∷ []) zero e f r at short h less =
     elim (contains_cases x f [] h) [
-      | inl s ↦ irreflexive key_total f.key (subst (λ (y : LeafElement). key_cmp y.key f.key ≡ Less) (sym (some_is x e at) ∙ s) less)
+      | inl s ↦ irreflexive key_total f.key (subst (λ (y : LeafElement). key_cmp y.key f.key ≡ Less) (sym (same_Some x e at) ∙ s) less)
       | inr later ↦ contains_none f later
     ]
 last_greatest (x ∷ y ∷ entries) zero e f r at short h less = omega arith
@@ -85,11 +80,11 @@ by_test key x e f entries true t r at h after more =
       | inr later ↦ let next : 1 + least_from key entries ≡ suc (least_from key entries) = omega arith in more r.1 (rw next at at) later
     ]
 by_test key x e f entries false t r at h after more =
-    (subst (λ (y : LeafElement). is_lt (key_cmp y.key key) ≡ false) (some_is x e at) t, first_least (x ∷ entries) e f r at h)
+    (subst (λ (y : LeafElement). is_lt (key_cmp y.key key) ≡ false) (same_Some x e at) t, first_least (x ∷ entries) e f r at h)
 
 pub seek_least : (key : Key) (entries : List LeafElement) (e f : LeafElement) → Rises entry_cmp entries → slice_get entries (least_from key entries) ≡ Some e
     → Contains entries f → is_lt (key_cmp f.key key) ≡ false → (is_lt (key_cmp e.key key) ≡ false) × (is_lt (key_cmp f.key e.key) ≡ false)
-seek_least key [] e f r at h after = absurd (none_is e at)
+seek_least key [] e f r at h after = absurd (none-some e at)
 seek_least key (x ∷ entries) e f r at h after =
     by_test key x e f entries (is_lt (key_cmp x.key key)) refl r at h after (λ r2 at2 h2. seek_least key entries e f r2 at2 h2 after)
 
@@ -111,8 +106,8 @@ from_test : (key : Key) (x e : LeafElement) (entries : List LeafElement) (b : Bo
     → slice_get (x ∷ entries) (cond (not (not b)) (1 + least_from key entries) 0) ≡ Some e
     → (slice_get entries (least_from key entries) ≡ Some e → is_lt (key_cmp e.key key) ≡ false) → is_lt (key_cmp e.key key) ≡ false
 from_test key x e entries true t at more = let next : 1 + least_from key entries ≡ suc (least_from key entries) = omega arith in more (rw next at at)
-from_test key x e entries false t at more = subst (λ (y : LeafElement). is_lt (key_cmp y.key key) ≡ false) (some_is x e at) t
+from_test key x e entries false t at more = subst (λ (y : LeafElement). is_lt (key_cmp y.key key) ≡ false) (same_Some x e at) t
 
 pub seek_from : (key : Key) (entries : List LeafElement) (e : LeafElement) → slice_get entries (least_from key entries) ≡ Some e → is_lt (key_cmp e.key key) ≡ false
-seek_from key [] e at = absurd (none_is e at)
+seek_from key [] e at = absurd (none-some e at)
 seek_from key (x ∷ entries) e at = from_test key x e entries (is_lt (key_cmp x.key key)) refl at (λ at2. seek_from key entries e at2)

@@ -25,11 +25,6 @@ pub filter_all : {A : Type 0} (f : A → Bool) (xs : List A) → ((x : A) → Co
 filter_all f [] all = refl
 filter_all f (x ∷ xs) all = rw (all x (contains_head x xs)) (ap (λ ys. x ∷ ys) (filter_all f xs (λ y h. all y (contains_tail x y xs h))))
 
-pub same_bool : (a b : Bool) → (a ≡ true → b ≡ true) → (b ≡ true → a ≡ true) → a ≡ b
-same_bool true b to from = sym (to refl)
-same_bool false true to from = from refl
-same_bool false false to from = refl
-
 pub not_true : (a : Bool) → (a ≡ true → ⊥) → a ≡ false
 not_true true h = absurd (h refl)
 not_true false h = refl

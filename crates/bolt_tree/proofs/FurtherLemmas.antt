@@ -17,20 +17,15 @@ use Rattle.bolt_tree.proofs.CountLemmas.{address_visited, addresses_of, count_is
 use Rattle.bolt_tree.proofs.ListLemmas.{Has, RisesBy, has_left, has_map, has_right, has_split, map_has, rises_across, rises_left, rises_map, rises_right, rises_weaker}
 use Rattle.bolt_tree.proofs.SortedLemmas.{start_rises, visit_is}
 use Rattle.bolt_tree.proofs.TourLemmas.{IsApart}
-
-one_element : (o : Option BranchElement) (a b : BranchElement) → o ≡ Some a → o ≡ Some b → a ≡ b
-one_element o a b e h = cc
-
-one_view : (o : Option PageView) (a b : PageView) → o ≡ Some a → o ≡ Some b → a ≡ b
-one_view o a b e h = cc
+use Rattle.bolt_format.proofs.ListLemmas.{one_some}
 
 kinds_apart : (k : Kind) → k ≡ kind.Leaf → k ≡ kind.Branch → ⊥
 kinds_apart k e h = cc
 
 -- there is one nearest element, and one nearest leaf
 one_nearest : (bs : List BranchElement) (key : Key) (i j : ℕ) (a b : BranchElement) → IsNearest bs key i → IsNearest bs key j → slice_get bs i ≡ Some a → slice_get bs j ≡ Some b → (i < j → ⊥)
-one_nearest bs key i j a b (inl h) (inl k) g q l = let t = h.3 j b l q in let u : key_lt key b.key ≡ Rattle.std.proofs.Common.false = (let same : k.0 ≡ b = one_element (slice_get bs j) k.0 b k.1 q in rw (← same) k.2) in cc
-one_nearest bs key i j a b (inr h) (inl k) g q l = let t = h.1 j b q in let u : key_lt key b.key ≡ Rattle.std.proofs.Common.false = (let same : k.0 ≡ b = one_element (slice_get bs j) k.0 b k.1 q in rw (← same) k.2) in cc
+one_nearest bs key i j a b (inl h) (inl k) g q l = let t = h.3 j b l q in let u : key_lt key b.key ≡ Rattle.std.proofs.Common.false = (let same : k.0 ≡ b = one_some (slice_get bs j) k.0 b k.1 q in rw (← same) k.2) in cc
+one_nearest bs key i j a b (inr h) (inl k) g q l = let t = h.1 j b q in let u : key_lt key b.key ≡ Rattle.std.proofs.Common.false = (let same : k.0 ≡ b = one_some (slice_get bs j) k.0 b k.1 q in rw (← same) k.2) in cc
 one_nearest bs key i j a b h (inr k) g q l = let z = k.0 in omega (arith, z, l)
 
 by_order : (i j : ℕ) → (i < j → ⊥) → (j < i → ⊥) → i ≡ j
@@ -45,18 +40,18 @@ same_nearest bs key i j a b h k g q = let x = one_nearest bs key i j a b h k g q
 one_near_from : (file : List ℕ) (meta : Meta) (number : ℕ) (key : Key) (a b : List ℕ) → IsNearFrom file meta number key a → IsNearFrom file meta number key b → a ≡ b
 one_near_from file meta number key [] [] h k = refl
 one_near_from file meta number key [] (j ∷ b) h k =
-    let same : h.0 ≡ k.0 = one_view (page_at file meta number) h.0 k.0 h.1 k.2 in
+    let same : h.0 ≡ k.0 = one_some (page_at file meta number) h.0 k.0 h.1 k.2 in
     absurd (kinds_apart k.0.kind (ap (λ (v : PageView). v.kind) (sym same) ∙ h.2) k.3)
 one_near_from file meta number key (i ∷ a) [] h k =
-    let same : k.0 ≡ h.0 = one_view (page_at file meta number) k.0 h.0 k.1 h.2 in
+    let same : k.0 ≡ h.0 = one_some (page_at file meta number) k.0 h.0 k.1 h.2 in
     absurd (kinds_apart h.0.kind (ap (λ (v : PageView). v.kind) (sym same) ∙ k.2) h.3)
 one_near_from file meta number key (i ∷ a) (j ∷ b) h k =
-    let same : k.0 ≡ h.0 = one_view (page_at file meta number) k.0 h.0 k.2 h.2 in
+    let same : k.0 ≡ h.0 = one_some (page_at file meta number) k.0 h.0 k.2 h.2 in
     let bs = ap (λ (v : PageView). v.branches) same in
     let nearest : IsNearest h.0.branches key j = subst (λ (es : List BranchElement). IsNearest es key j) bs k.4 in
     let got : slice_get h.0.branches j ≡ Some k.1 = ap (λ (es : List BranchElement). slice_get es j) (sym bs) ∙ k.5 in
     let step : i ≡ j = same_nearest h.0.branches key i j h.1 k.1 h.4 nearest h.5 got in
-    let child : h.1 ≡ k.1 = one_element (slice_get h.0.branches j) h.1 k.1 (ap (slice_get h.0.branches) (sym step) ∙ h.5) got in
+    let child : h.1 ≡ k.1 = one_some (slice_get h.0.branches j) h.1 k.1 (ap (slice_get h.0.branches) (sym step) ∙ h.5) got in
     let there : IsNearFrom file meta h.1.child key b = subst (λ (e : BranchElement). IsNearFrom file meta e.child key b) (sym child) k.6 in
     let rest = one_near_from file meta h.1.child key a b h.6 there in
     cc

@@ -5,6 +5,8 @@ use Rattle.std.specs.List.{Contains}
 use Rattle.std.specs.Ordering.{is_lt}
 use Rattle.std.specs.declared.cmp.Ordering.{Ordering}
 use Rattle.std.specs.declared.cmp.Ordering.TheVariants.{Less, Equal, Greater}
+use Rattle.std.specs.Cmp.{both_ways}
+use Rattle.std.proofs.lemmas.Bool.{false_from_ne_true}
 use Rattle.bolt_format.specs.Elements.{LeafElement}
 use Rattle.bolt_check.specs.Keys.{Key, key_cmp}
 use Rattle.bolt_tree.specs.Entries.{AreEntries, Item, Start, item_of}
@@ -12,11 +14,12 @@ use Rattle.bolt_tree.specs.Listing.{Lists, Member, rest_from}
 use Rattle.bolt_tree.specs.Paths.{HasEntries, Holds, Names, Path, path_cmp}
 use Rattle.bolt_tree.specs.Private.RestAfter.{is_beyond, rest_after, beyond}
 use Rattle.bolt_tree.proofs.EntryOrder.{contains_at, first_least, last_greatest, next_least, next_less}
-use Rattle.bolt_tree.proofs.Filters.{filter_first, filter_same, lt_of, not_true, same_bool}
+use Rattle.bolt_tree.proofs.Filters.{filter_first, filter_same, lt_of}
 use Rattle.bolt_tree.proofs.Lists.{contains_none, irreflexive}
 use Rattle.bolt_tree.proofs.Named.{first_of_held, held_below, held_down, held_here}
-use Rattle.bolt_tree.proofs.PathOrder.{before_longer, beyond_here, beyond_less, beyond_longer, beyond_or_longer, beyond_push, beyond_up, flip_less, less_lt, path_same, path_total, same_front}
+use Rattle.bolt_tree.proofs.PathOrder.{before_longer, beyond_here, beyond_less, beyond_longer, beyond_or_longer, beyond_push, beyond_up, flip_less, path_same, path_total, same_front}
 use Rattle.bolt_tree.proofs.Single.{member_total}
+use Rattle.bolt_check.proofs.KeyLaws.{less_of}
 
 -- a path is not rest_after another with a part in the same place that is not rest_after its own
 greater_part : (o r : Ordering) → is_lt o ≡ false → (o ≡ Equal → is_lt r ≡ false) → is_lt (Rattle.std.specs.Ordering.ordering_then o r) ≡ false
@@ -64,14 +67,14 @@ module _ (Entry : Start → LeafElement → Type 0) (from : Start) (all : HasEnt
       (λ m in_it h. least_held m.0 m.1 ((lists.exact m.0 m.1).0 in_it) h)
 
   up_behind : (q t : Path) → is_lt (path_cmp path q) ≡ true → path_cmp q t ≡ Less → is_lt (path_cmp path t) ≡ true
-  up_behind q t h less = lt_of (path_cmp path t) (path_total.trans path q t (less_lt (path_cmp path q) h) less)
+  up_behind q t h less = lt_of (path_cmp path t) (path_total.trans path q t (less_of (path_cmp path q) h) less)
 
   -- a bucket is entered
   pub give_first : (entries : List LeafElement) (e : LeafElement) → AreEntries Entry bucket entries → slice_get entries 0 ≡ Some e
       → rest_after path listing ≡ (path ++ e.key ∷ [], item_of e) ∷ rest_after (path ++ e.key ∷ []) listing
   give_first entries e are at =
       give (λ q. is_lt (path_cmp path q)) e ((are.exact e).0 (contains_at entries 0 e at)) up_behind (lt_of _ (before_longer path e.key []))
-      (λ q h. beyond_or_longer path q (less_lt (path_cmp path q) h))
+      (λ q h. beyond_or_longer path q (less_of (path_cmp path q) h))
       (λ z r g h is key. rw (← key) (first_least entries e g are.rises at ((are.exact g).1 is)))
 
   -- it has no entry
@@ -82,8 +85,8 @@ module _ (Entry : Start → LeafElement → Type 0) (from : Start) (all : HasEnt
       let (g, gis, gkey) = first_of_held Entry bucket z r item down in
       contains_none g ((are.exact g).1 gis) in
       filter_same (λ m. is_lt (path_cmp path m.0)) (λ m. is_beyond path m.0) listing (λ m in_it.
-      same_bool _ _
-      (λ h. elim (beyond_or_longer path m.0 (less_lt (path_cmp path m.0) h)) as (λ w. is_beyond path m.0 ≡ true) [
+      both_ways _ _
+      (λ h. elim (beyond_or_longer path m.0 (less_of (path_cmp path m.0) h)) as (λ w. is_beyond path m.0 ≡ true) [
         | inl far ↦ far
         | inr (z, r, longer) ↦ absurd (nothing m.0 m.1 ((lists.exact m.0 m.1).0 in_it) z r longer)
       ])
@@ -111,7 +114,7 @@ module _ (Entry : Start → LeafElement → Type 0) (from : Start) (all : HasEnt
       → beyond (path ++ e.key ∷ []) listing ≡ beyond path listing
   give_after_last entries i e are at short =
       filter_same (λ m. is_beyond (path ++ e.key ∷ []) m.0) (λ m. is_beyond path m.0) listing (λ m in_it.
-      same_bool _ _
+      both_ways _ _
       (λ h. elim (beyond_push path e.key m.0 h) as (λ w. is_beyond path m.0 ≡ true) [
         | inl far ↦ far
         | inr (z, r, longer, behind_e) ↦
@@ -127,8 +130,8 @@ module _ (Entry : Start → LeafElement → Type 0) (from : Start) (all : HasEnt
   give_past_value e is value =
       let own : Path = path ++ e.key ∷ [] in
       filter_same (λ m. is_lt (path_cmp own m.0)) (λ m. is_beyond own m.0) listing (λ m in_it.
-      same_bool _ _
-      (λ h. elim (beyond_or_longer own m.0 (less_lt (path_cmp own m.0) h)) as (λ w. is_beyond own m.0 ≡ true) [
+      both_ways _ _
+      (λ h. elim (beyond_or_longer own m.0 (less_of (path_cmp own m.0) h)) as (λ w. is_beyond own m.0 ≡ true) [
         | inl far ↦ far
         | inr (z, r, longer) ↦
             let held = (lists.exact m.0 m.1).0 in_it in
@@ -144,4 +147,4 @@ module _ (Entry : Start → LeafElement → Type 0) (from : Start) (all : HasEnt
       filter_first member_total (λ m. not (is_lt (path_cmp m.0 own))) (own, item_of e)
       (λ m after. ap not (ap is_lt (flip_less path_total own m.0 after))) listing lists.rises
       ((lists.exact own (item_of e)).1 (held_here Entry from path bucket e names is)) (ap not (ap is_lt (path_same own)))
-      (λ m in_it h. not_true _ (λ lt. let x = ap not lt in cc))
+      (λ m in_it h. false_from_ne_true _ (λ lt. let x = ap not lt in cc))

@@ -1,6 +1,6 @@
 -- What a cursor keeps, and its moves by those of its trail.
 use Rattle.std.proofs.Common.{◌≡◌, ◌∙◌, ℕ, ◌-◌, ◌≤◌, Bool, true, false, List, [], ◌∷◌, Option, Some, None, is_some, length, drop, ap, refl, sym, subst}
-use Rattle.std.specs.Option.{option_map}
+use Rattle.std.specs.Option.{is_none, option_map}
 use Rattle.std.proofs.Math.Logic.{∥∥₁_elim, ∥∥₁_map}
 use Rattle.std.proofs.Props.{props}
 use Rattle.bolt_format.specs.ElementPlaces.{leaf_view}
@@ -21,7 +21,7 @@ use Rattle.bolt_tree.specs.Private.Trails.{HasBucket, HasTrail, trail_bucket, tr
 use Rattle.bolt_tree.specs.declared.trail.Trail.{Trail}
 use Rattle.bolt_tree.proofs.MoveLemmas.{Finds, FindsBack}
 use Rattle.bolt_tree.proofs.OpeningMoves.{first_opens, next_opens}
-use Rattle.bolt_tree.proofs.PlaceMoves.{Comes, first_moves, last_moves, next_moves, prev_moves, seek_moves, sought_place, stack_bucket, the_entries}
+use Rattle.bolt_tree.proofs.PlaceMoves.{Comes, first_moves, last_moves, next_moves, prev_moves, seek_moves, stack_bucket, the_entries}
 
 rest_on_prop : (content : Content) (taken : ℕ) → IsProp (RestsOn content taken)
 rest_on_prop (Of_leaf elements) taken = Prim.hlevel props
@@ -53,13 +53,10 @@ pub not_past : (trail : Trail) (is_past : Bool) → ∥ IsHeld trail is_past ∥
 not_past trail false held h = refl
 not_past trail true held h = absurd (h (∥∥₁_elim held (Prim.hlevel props) (λ k. k.empty refl)))
 
-pub found_none : (found : Option Leaf) → is_some found ≡ false → found ≡ None
-found_none (Some leaf) e = absurd (cc)
-found_none None e = refl
-
-pub found_some : (found : Option Leaf) → is_some found ≡ true → (leaf : Leaf) × (found ≡ Some leaf)
-found_some None some = absurd (cc)
-found_some (Some leaf) some = (leaf, refl)
+-- a seek that finds nothing leaves an empty stack
+pub sought_empty : (found : Option Leaf) (before after : List LeafElement) (frames : List Frame) → Finds found before after frames [] → is_none found ≡ true → frames ≡ []
+sought_empty None before after frames h none = h.1
+sought_empty (Some leaf) before after frames h none = absurd (cc)
 
 -- what a call returns is shown as the move says
 pub shows_by : (Entry : Start → LeafElement → Type 0) (bucket : Start) (move : List LeafElement → Place → Move) (old new : Place) (answer : Option LeafElement) (shown : Option EntryView)
@@ -105,10 +102,10 @@ module _ (bucket other : BucketView) (same : other ≡ bucket) (is : ∥ IsSound
       (λ h. moves_by (λ entries place. last_move entries) from (place_on (contents_in bucket) new) (last_moves bucket found new there h))
 
   pub moves_seek : (key : Key) (from : Place) → Finds found (drop (least_from key (elements_in bucket)) (elements_in bucket)) (ahead_of (contents_in other) new) new []
-      → least_from key (elements_in bucket) ≤ length (elements_in bucket) → MovesTo (λ entries place. seek_move key entries) from (sought_place found (contents_in other) new)
+      → least_from key (elements_in bucket) ≤ length (elements_in bucket) → MovesTo (λ entries place. seek_move key entries) from (place_by (is_none found) (contents_in other) new)
   moves_seek key from = subst (λ (b : BucketView). Finds found (drop (least_from key (elements_in bucket)) (elements_in bucket)) (ahead_of (contents_in b) new) new []
-      → least_from key (elements_in bucket) ≤ length (elements_in bucket) → MovesTo (λ entries place. seek_move key entries) from (sought_place found (contents_in b) new)) (sym same)
-      (λ h number. moves_by (λ entries place. seek_move key entries) from (sought_place found (contents_in bucket) new) (seek_moves bucket key found new there h number))
+      → least_from key (elements_in bucket) ≤ length (elements_in bucket) → MovesTo (λ entries place. seek_move key entries) from (place_by (is_none found) (contents_in b) new)) (sym same)
+      (λ h number. moves_by (λ entries place. seek_move key entries) from (place_by (is_none found) (contents_in bucket) new) (seek_moves bucket key found new there h number))
 
   moves_as : (f g : List LeafElement → Place → Move) (from to : Place) → ((entries : List LeafElement) → f entries (place_in entries from) ≡ g entries (place_in entries from)) → MovesTo f from to → MovesTo g from to
   moves_as f g from to same moves = λ entries are. let m = moves entries are in (m.0 ∙ ap (λ (t : Move). t.place) (same entries), m.1 ∙ ap (λ (t : Move). t.answer) (same entries))

@@ -14,7 +14,7 @@ pub mod FirstMoves
 pub mod FurtherLemmas
 pub mod GapLemmas
 mod Giving
-pub mod HalvesLemmas
+pub mod KeySearchLemmas
 pub mod HeldLemmas
 pub mod ListLemmas
 pub mod KeptLemmas

@@ -3,6 +3,7 @@ use Rattle.std.proofs.Common.{◌≡◌, ℕ, zero, suc, ◌+◌, ◌<◌, ◌�
 use Rattle.std.specs.List.{AllPairs, All, Contains, flat_map}
 use Rattle.std.proofs.lemmas.List.Elements.{All-cons, All-nil, All-head, All-tail}
 use Rattle.std.proofs.lemmas.List.Kept.{AllPairs-cons}
+use Rattle.std.proofs.lemmas.Option.{none-some}
 
 -- x is a member
 abbrev pub Has : {X : Type 0} → List X → X → Type 0
@@ -33,9 +34,6 @@ module _ {X : Type 0} where
   has_split (y ∷ xs) ys x (inl e) = inl (inl e)
   has_split (y ∷ xs) ys x (inr h) = elim (has_split xs ys x h) [ inl l ↦ inl (inr l) | inr r ↦ inr r ]
 
-  no_member : (x : X) → None ≡ Some x → ⊥
-  no_member x e = cc
-
   -- where a member stands
   pub has_at : (xs : List X) (x : X) → Has xs x → (k : ℕ) × (slice_get xs k ≡ Some x)
   has_at [] x h = absurd h
@@ -43,7 +41,7 @@ module _ {X : Type 0} where
   has_at (y ∷ xs) x (inr h) = let r = has_at xs x h in (suc r.0, r.1)
 
   pub at_has : (xs : List X) (k : ℕ) (x : X) → slice_get xs k ≡ Some x → Has xs x
-  at_has [] k x e = absurd (no_member x e)
+  at_has [] k x e = absurd (none-some x e)
   at_has (y ∷ xs) zero x e = inl (cc)
   at_has (y ∷ xs) (suc k) x e = inr (at_has xs k x e)
 
@@ -112,7 +110,7 @@ module _ {X : Type 0} where
 
   -- what stands before a member
   pub get_before : (xs : List X) (k l : ℕ) (x : X) → k < l → slice_get xs l ≡ Some x → (y : X) × (slice_get xs k ≡ Some y)
-  get_before [] k l x h g = absurd (no_member x g)
+  get_before [] k l x h g = absurd (none-some x g)
   get_before (y ∷ xs) k zero x h g = absurd (omega arith)
   get_before (y ∷ xs) zero (suc l) x h g = (y, refl)
   get_before (y ∷ xs) (suc k) (suc l) x h g = get_before xs k l x (omega arith) g
@@ -129,7 +127,7 @@ module _ {X : Type 0} where
   get_behind (x ∷ xs) ys (suc n) k e = get_behind xs ys n k (omega arith)
 
   pub get_front : (xs ys : List X) (k : ℕ) (x : X) → slice_get xs k ≡ Some x → slice_get (xs ++ ys) k ≡ Some x
-  get_front [] ys k x g = absurd (no_member x g)
+  get_front [] ys k x g = absurd (none-some x g)
   get_front (y ∷ xs) ys zero x g = g
   get_front (y ∷ xs) ys (suc k) x g = get_front xs ys k x g
 

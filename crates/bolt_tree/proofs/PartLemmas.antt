@@ -8,16 +8,18 @@ use Rattle.std.specs.declared.cmp.Ordering.{Ordering}
 use Rattle.std.specs.declared.cmp.Ordering.TheVariants.{Less, Equal, Greater}
 use Rattle.std.proofs.lemmas.List.Sums.{take_while-cons}
 use Rattle.std.proofs.lemmas.Slice.Eq.{bytes_eq-Decides, starts_is}
+use Rattle.std.proofs.lemmas.Bool.{not-true, false_from_ne_true}
 use Rattle.bolt_tree.specs.Entries.{Item}
 use Rattle.bolt_tree.specs.Listing.{Member, member_cmp, rest_from}
 use Rattle.bolt_tree.specs.ListingParts.{begins_with, later_path, part_below}
 use Rattle.bolt_tree.specs.Order.{Rises}
 use Rattle.bolt_tree.specs.Paths.{Path, path_cmp}
 use Rattle.bolt_tree.specs.Private.RestAfter.{is_beyond}
-use Rattle.bolt_tree.proofs.Filters.{filter_all, filter_first, filter_none, not_true}
+use Rattle.bolt_tree.proofs.Filters.{filter_all, filter_first, filter_none}
 use Rattle.bolt_tree.proofs.Single.{member_total}
 use Rattle.bolt_tree.proofs.Lists.{contains_cases, contains_head, contains_none, contains_tail, irreflexive}
-use Rattle.bolt_tree.proofs.PathOrder.{before_longer, beyond_less, beyond_or_longer, beyond_up, flip_less, less_lt, path_exact, path_same, path_total}
+use Rattle.bolt_tree.proofs.PathOrder.{before_longer, beyond_less, beyond_or_longer, beyond_up, flip_less, path_exact, path_same, path_total}
+use Rattle.bolt_check.proofs.KeyLaws.{less_of}
 
 -- a path that begins with another, by its parts
 pub begins_of : (below path : Path) → begins_with below path ≡ true → path ≡ below ++ drop (length below) path
@@ -41,7 +43,7 @@ begins_after below path e = longer_after below (drop (length below) path) path (
 -- and doesn't stand beyond it
 beyond_apart : (below path : Path) → is_beyond below path ≡ true → begins_with below path ≡ false
 beyond_apart below path h =
-    not_true (begins_with below path) (λ e.
+    false_from_ne_true (begins_with below path) (λ e.
     let same = begins_of below path e in
     let less = beyond_less below (drop (length below) path) path h in
     irreflexive path_total path (ap (λ (p : Path). path_cmp p path) same ∙ less))
@@ -129,16 +131,12 @@ module _ (below : Path) where
       filter_all (λ (m : Member). not (is_lt (path_cmp m.0 from))) (part_below below listing) (λ m h.
       ap not (later m.0 (begins_after below m.0 (filtered (λ (x : Member). begins_with below x.0) listing m h).1)))
 
-  pub not_both : (b : Bool) → not b ≡ true → b ≡ false
-  not_both true e = absurd (let f : false ≡ true = e in cc)
-  not_both false e = refl
-
   -- from a path on that doesn't come before the part's own
   pub part_from : (from : Path) (listing : List Member) → Rises member_cmp listing → ((path : Path) → is_lt (path_cmp path from) ≡ false → is_lt (path_cmp path below) ≡ false)
       → part_below below (rest_from from listing) ≡ take_while (λ (x : Member). begins_with below x.0) (rest_from from listing)
   part_from from listing rises later =
       part_first (rest_from from listing) (filter_rises member_cmp (λ (m : Member). not (is_lt (path_cmp m.0 from))) listing rises) (λ x h.
-      later x.0 (not_both (is_lt (path_cmp x.0 from)) (filtered (λ (m : Member). not (is_lt (path_cmp m.0 from))) listing x h).1))
+      later x.0 (not-true (is_lt (path_cmp x.0 from)) (filtered (λ (m : Member). not (is_lt (path_cmp m.0 from))) listing x h).1))
 
   -- the members of the part stand together
   pub part_together : (listing : List Member) → Rises member_cmp listing → part_below below listing ≡ take_while (λ (x : Member). begins_with below x.0) (rest_from below listing)
@@ -148,8 +146,8 @@ module _ (below : Path) where
   -- what doesn't come before a path doesn't come before one that isn't later
   up_less : (from path : Path) → path_cmp from below ≡ Less → is_lt (path_cmp path below) ≡ false → is_lt (path_cmp path from) ≡ false
   up_less from path e after =
-      not_true (is_lt (path_cmp path from)) (λ h.
-      let less = path_total.trans path from below (less_lt (path_cmp path from) h) e in
+      false_from_ne_true (is_lt (path_cmp path from)) (λ h.
+      let less = path_total.trans path from below (less_of (path_cmp path from) h) e in
       let g : true ≡ false = sym (ap is_lt less) ∙ after in cc)
 
   up_other : (from path : Path) (o : Ordering) → path_cmp from below ≡ o → is_lt o ≡ false → is_lt (path_cmp path from) ≡ false → is_lt (path_cmp path below) ≡ false
@@ -157,15 +155,15 @@ module _ (below : Path) where
   up_other from path Equal e out after = ap (λ (p : Path). is_lt (path_cmp path p)) (sym (path_exact from below e)) ∙ after
   up_other from path Greater e out after =
       let less : path_cmp below from ≡ Less = path_total.antisymm below from ∙ ap ordering_reverse e in
-      not_true (is_lt (path_cmp path below)) (λ h.
-      let before = path_total.trans path below from (less_lt (path_cmp path below) h) less in
+      false_from_ne_true (is_lt (path_cmp path below)) (λ h.
+      let before = path_total.trans path below from (less_of (path_cmp path below) h) less in
       let g : true ≡ false = sym (ap is_lt before) ∙ after in cc)
 
   -- A walk from the later of the two paths comes to the rest of the part first.
   pub later_below : (from : Path) (listing : List Member) → Rises member_cmp listing → is_lt (path_cmp from below) ≡ true
       → rest_from from (part_below below listing) ≡ take_while (λ (x : Member). begins_with below x.0) (rest_from below listing)
   later_below from listing rises less =
-      whole_part from listing (λ path h. up_less from path (less_lt (path_cmp from below) less) h) ∙ part_together listing rises
+      whole_part from listing (λ path h. up_less from path (less_of (path_cmp from below) less) h) ∙ part_together listing rises
 
   pub later_from : (from : Path) (listing : List Member) → Rises member_cmp listing → is_lt (path_cmp from below) ≡ false
       → rest_from from (part_below below listing) ≡ take_while (λ (x : Member). begins_with below x.0) (rest_from from listing)
@@ -192,7 +190,7 @@ member_first below item listing rises has =
     let mine : Member = (below, item) in
     let kept = ap not (longer_after below [] below (sym (append-nil below))) in
     let first = filter_first member_total (λ (m : Member). not (is_lt (path_cmp m.0 below))) mine
-    (λ m after. ap not (ap is_lt (flip_less path_total below m.0 after))) listing rises has kept (λ m in_it h. not_both below (is_lt (path_cmp m.0 below)) h) in
+    (λ m after. ap not (ap is_lt (flip_less path_total below m.0 after))) listing rises has kept (λ m in_it h. not-true (is_lt (path_cmp m.0 below)) h) in
     let later = filter (λ (m : Member). is_lt (member_cmp mine m)) listing in
     let passes : (λ (m : Member). begins_with below m.0) mine ≡ true = begins_by below below [] (sym (append-nil below)) in (
       take_while (λ (m : Member). begins_with below m.0) later,

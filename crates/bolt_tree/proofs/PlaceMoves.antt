@@ -1,6 +1,6 @@
 -- What the moves of a trail are to a cursor's place among the entries.
 use Rattle.std.proofs.Common.{◌≡◌, ℕ, suc, ◌+◌, ◌-◌, ◌≤◌, ◌<◌, List, [], ◌∷◌, ◌++◌, Some, None, Option, slice_get, length, drop, refl, sym, ap, ◌∙◌, arith, length-append}
-use Rattle.std.specs.Option.{option_map}
+use Rattle.std.specs.Option.{is_none, option_map}
 use Rattle.std.proofs.Math.Logic.{∥∥₁_elim, ∥∥₁_map}
 use Rattle.std.proofs.Props.{props}
 use Rattle.std.proofs.lemmas.Bool.{lt-ltb, le-ltb}
@@ -13,7 +13,7 @@ use Rattle.bolt_check.specs.Keys.{Key}
 use Rattle.bolt_tree.specs.BucketViews.{AreSorted, BucketView}
 use Rattle.bolt_tree.specs.Private.BucketPages.{IsSoundBucket, contents_in, elements_in, pages_in}
 use Rattle.bolt_tree.specs.Private.Contents.{Content, Contents, Of_branch, Of_leaf}
-use Rattle.bolt_tree.specs.Private.Held.{place_on}
+use Rattle.bolt_tree.specs.Private.Held.{place_by, place_on}
 use Rattle.bolt_tree.specs.Places.{Move, On, Past, Place, first_move, last_move, least_from, next_move, place_in, prev_move, seek_move}
 use Rattle.bolt_tree.specs.Private.Stacks.{Frame, HasStack, IsAtRest, IsOn, StandsOn, address_on, ahead_of, preceding_of, index_of, left_of, right_of}
 use Rattle.bolt_tree.specs.Private.Tours.{Visit, elements_of, tour}
@@ -88,11 +88,6 @@ seek_onto key (x ∷ entries) i k answer e s g h = let b = lt-ltb i (length (x �
 seek_past : (key : Key) (entries : List LeafElement) → length entries ≤ least_from key entries → Comes entries (seek_move key entries) Past None
 seek_past key [] h = (refl, refl)
 seek_past key (x ∷ entries) h = let b = le-ltb (least_from key (x ∷ entries)) (length (x ∷ entries)) h in rw b (refl, refl)
-
--- where it stands after a seek
-abbrev pub sought_place : Option Leaf → Contents → List Frame → Place
-sought_place None contents frames = Past
-sought_place (Some leaf) contents frames = place_on contents frames
 
 -- the entry on which a stack stands
 current_content : (contents : Contents) (n : ℕ) (whole : List Visit) (content : Content) (t : ℕ) (below : List Frame) (e : LeafElement) → StandsOn content t e
@@ -180,7 +175,7 @@ module _ (bucket : BucketView) where
   pub seek_moves : (key : Key) (found : Option Leaf) (frames : List Frame) → HasStack bucket frames
       → Finds found (drop (least_from key (elements_in bucket)) (elements_in bucket)) (ahead_of (contents_in bucket) frames) frames []
       → least_from key (elements_in bucket) ≤ length (elements_in bucket)
-      → Comes (elements_in bucket) (seek_move key (elements_in bucket)) (sought_place found (contents_in bucket) frames) (option_map leaf_view found)
+      → Comes (elements_in bucket) (seek_move key (elements_in bucket)) (place_by (is_none found) (contents_in bucket) frames) (option_map leaf_view found)
   seek_moves key None frames stack h number =
       let least = least_from key (elements_in bucket) in
       let none : length (elements_in bucket) - least ≡ 0 = sym (length-drop least (elements_in bucket)) ∙ ap length h.0 in

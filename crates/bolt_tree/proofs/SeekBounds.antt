@@ -2,6 +2,7 @@
 -- below the key, so the page of the entry before is not after that leaf.
 use Rattle.std.proofs.Common.{◌≡◌, ℕ, zero, suc, ◌+◌, ◌-◌, ◌≤◌, ◌<◌, inl, inr, Bool, true, false, not, cond, List, [], ◌∷◌, ◌++◌, Some, None, Option, slice_get, length, refl, sym, ap, ◌∙◌, subst, arith, length-append}
 use Rattle.std.proofs.lemmas.Bool.{cases_lt}
+use Rattle.std.proofs.lemmas.Option.{none-some}
 use Rattle.bolt_format.specs.Elements.{BranchElement, LeafElement}
 use Rattle.bolt_format.specs.declared.kind.Kind.TheVariants as kind
 use Rattle.bolt_format.specs.declared.meta.Meta.{Meta}
@@ -27,9 +28,6 @@ use Rattle.bolt_tree.proofs.SortedLemmas.{start_rises, visit_is}
 use Rattle.bolt_tree.proofs.TourLemmas.{IsApart, IsUnder, entries_shown, under_child}
 use Rattle.bolt_tree.proofs.WayPages.{content_is}
 
-no_element : (e : LeafElement) → None ≡ Some e → ⊥
-no_element e g = cc
-
 -- what comes before the least entry from a key is below the key
 least_test : (key : Key) (x e : LeafElement) (entries : List LeafElement) (i : ℕ) (b : Bool) → key_lt x.key key ≡ b → i < cond (not (not b)) (1 + least_from key entries) 0 → slice_get (x ∷ entries) i ≡ Some e
     → ((j : ℕ) → j < least_from key entries → slice_get entries j ≡ Some e → key_lt e.key key ≡ true) → key_lt e.key key ≡ true
@@ -38,7 +36,7 @@ least_test key x e entries (suc i) true t l g more = more i (omega arith) g
 least_test key x e entries i false t l g more = absurd (omega arith)
 
 below_least : (key : Key) (entries : List LeafElement) (i : ℕ) (e : LeafElement) → i < least_from key entries → slice_get entries i ≡ Some e → key_lt e.key key ≡ true
-below_least key [] i e l g = absurd (no_element e g)
+below_least key [] i e l g = absurd (none-some e g)
 below_least key (x ∷ entries) i e l g = least_test key x e entries i (key_lt x.key key) refl l g (λ j m h. below_least key entries j e m h)
 
 least_within : (key : Key) (entries : List LeafElement) → least_from key entries ≤ length entries

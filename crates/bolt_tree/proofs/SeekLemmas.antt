@@ -3,7 +3,7 @@ use Rattle.std.proofs.Common.{◌≡◌, ℕ, zero, suc, ◌+◌, ◌-◌, ◌�
 use Rattle.std.specs.Option.{option_map}
 use Rattle.std.proofs.Math.Logic.{∥∥₁_elim}
 use Rattle.std.proofs.Props.{props}
-use Rattle.std.proofs.lemmas.Bool.{cases_lt}
+use Rattle.std.proofs.lemmas.Bool.{cases_lt, not-false, not-true}
 use Rattle.std.proofs.lemmas.List.Concat.{flat_map-append}
 use Rattle.std.proofs.lemmas.Option.{slice_get-map}
 use Rattle.bolt_format.specs.Elements.{BranchElement, LeafElement}
@@ -14,7 +14,7 @@ use Rattle.bolt_check.specs.Keys.{Key, key_lt}
 use Rattle.bolt_check.specs.Nodes.{node_at}
 use Rattle.bolt_check.specs.OnWays.{IsOnWay}
 use Rattle.bolt_check.specs.Sound.{HasSoundTrees}
-use Rattle.bolt_check.proofs.KeyLaws.{lt_not_trans, lt_trans, not_true}
+use Rattle.bolt_check.proofs.KeyLaws.{lt_not_trans, lt_trans}
 use Rattle.bolt_check.proofs.TreePages.{branch_node, on_child}
 use Rattle.bolt_tree.specs.BucketViews.{BucketView}
 use Rattle.bolt_tree.specs.Private.BucketPages.{contents_in}
@@ -103,19 +103,15 @@ module _ (file : List ℕ) (meta : Meta) (trees : HasSoundTrees file meta) where
         let at : slice_get view.branches (i + q.0) ≡ Some q.2 = drop_get view.branches i q.0 (i + q.0) q.2 refl q.3 in
         not_below x.key q.2.key key (from_under (i + q.0) q.1 q.2 r.0 x at q.5 r.2) (later (i + q.0) q.2 (omega arith) at)
 
-not_false : (b : Bool) → not b ≡ false → b ≡ true
-not_false true e = refl
-not_false false e = absurd (cc)
-
 branch_key_at : (elements : List BranchElement) (k : ℕ) (d : BranchElement) → slice_get elements k ≡ Some d → slice_get (content_keys (Of_branch elements)) k ≡ Some d.key
 branch_key_at elements k d g = slice_get-map (λ (e : BranchElement). e.key) elements k ∙ ap (option_map (λ (e : BranchElement). e.key)) g
 
 -- keys by the place of one among them
 pub not_above : (elements : List BranchElement) (key : Key) (n k : ℕ) (d : BranchElement) → IsPlaceOf (content_keys (Of_branch elements)) true key n → k < n → slice_get elements k ≡ Some d → key_lt key d.key ≡ false
-not_above elements key n k d place h g = not_true (key_lt key d.key) (place.below k d.key h (branch_key_at elements k d g))
+not_above elements key n k d place h g = not-true (key_lt key d.key) (place.below k d.key h (branch_key_at elements k d g))
 
 pub is_above : (elements : List BranchElement) (key : Key) (n k : ℕ) (d : BranchElement) → IsPlaceOf (content_keys (Of_branch elements)) true key n → n ≤ k → slice_get elements k ≡ Some d → key_lt key d.key ≡ true
-is_above elements key n k d place h g = not_false (key_lt key d.key) (place.above k d.key h (branch_key_at elements k d g))
+is_above elements key n k d place h g = not-false (key_lt key d.key) (place.above k d.key h (branch_key_at elements k d g))
 
 pub are_append : (below : Bool) (key : Key) (xs ys : List LeafElement) → AreBelow below key xs → AreBelow below key ys → AreBelow below key (xs ++ ys)
 are_append below key xs ys a b k e g = elim (has_split xs ys e (at_has (xs ++ ys) k e g)) [

@@ -5,6 +5,8 @@ use Rattle.std.specs.List.{Contains}
 use Rattle.std.specs.Ordering.{is_lt}
 use Rattle.std.specs.declared.cmp.Ordering.{Ordering}
 use Rattle.std.specs.declared.cmp.Ordering.TheVariants.{Less, Equal, Greater}
+use Rattle.std.proofs.lemmas.Bool.{not-true, false_from_ne_true}
+use Rattle.std.specs.Cmp.{both_ways}
 use Rattle.bolt_format.specs.Elements.{LeafElement}
 use Rattle.bolt_check.specs.Keys.{Key, key_cmp}
 use Rattle.bolt_tree.specs.Entries.{AreEntries, Item, Start}
@@ -13,10 +15,11 @@ use Rattle.bolt_tree.specs.Paths.{HasEntries, Holds, Names, Path, path_cmp}
 use Rattle.bolt_tree.specs.Places.{least_from}
 use Rattle.bolt_tree.specs.Private.RestAfter.{is_beyond, rest_after, beyond}
 use Rattle.bolt_tree.proofs.EntryOrder.{seek_least, seek_none}
-use Rattle.bolt_tree.proofs.Filters.{filter_all, filter_same, not_true, same_bool}
+use Rattle.bolt_tree.proofs.Filters.{filter_all, filter_same}
 use Rattle.bolt_tree.proofs.Giving.{not_before, not_before_beyond}
 use Rattle.bolt_tree.proofs.Named.{first_of_held, held_below, held_down}
-use Rattle.bolt_tree.proofs.PathOrder.{before_longer, beyond_less, beyond_or_longer, flip_less, less_lt, path_exact, path_total, same_front}
+use Rattle.bolt_tree.proofs.PathOrder.{before_longer, beyond_less, beyond_or_longer, flip_less, path_exact, path_total, same_front}
+use Rattle.bolt_check.proofs.KeyLaws.{less_of}
 
 -- from p < w and not m < w
 behind_from : (p w m : Path) → path_cmp p w ≡ Less → is_lt (path_cmp m w) ≡ false → path_cmp p m ≡ Less
@@ -27,17 +30,13 @@ behind_from p w m less from = by (path_cmp w m) refl
     by Equal e = rw (← path_exact w m e) less
     by Greater e = absurd (let f : path_cmp m w ≡ Less = path_total.antisymm m w ∙ ap Rattle.std.specs.Ordering.ordering_reverse e in let g = ap is_lt f in cc)
 
-not_of : (a : Bool) → not a ≡ true → a ≡ false
-not_of true e = absurd (cc)
-not_of false e = refl
-
 -- a path with a lesser part in that place stands before
 lesser_part : (p : Path) (z k : Key) (r s : Path) → key_cmp z k ≡ Less → path_cmp (p ++ z ∷ r) (p ++ k ∷ s) ≡ Less
 lesser_part p z k r s e = rw same_front (rw e refl)
 
 -- and so a path that does not stand before has no lesser part there
 from_part : (p : Path) (z k : Key) (r s : Path) → is_lt (path_cmp (p ++ z ∷ r) (p ++ k ∷ s)) ≡ false → is_lt (key_cmp z k) ≡ false
-from_part p z k r s h = not_true _ (λ lt. let less = lesser_part p z k r s (less_lt (key_cmp z k) lt) in let f = ap is_lt less in cc)
+from_part p z k r s h = false_from_ne_true _ (λ lt. let less = lesser_part p z k r s (less_of (key_cmp z k) lt) in let f = ap is_lt less in cc)
 
 module _ (Entry : Start → LeafElement → Type 0) (from : Start) (all : HasEntries Entry from) (listing : List Member) (lists : Lists Entry from listing) where
   -- where nothing below a path comes from there on, the rest is what stands beyond the path
@@ -47,8 +46,8 @@ module _ (Entry : Start → LeafElement → Type 0) (from : Start) (all : HasEnt
   rest_beyond path k s none =
       let w : Path = path ++ k ∷ s in
       filter_same (λ m. not (is_lt (path_cmp m.0 w))) (λ m. is_beyond path m.0) listing (λ m in_it.
-      same_bool _ _
-      (λ h. let from_w = not_of _ h in elim (beyond_or_longer path m.0 (behind_from path w m.0 (before_longer path k s) from_w)) as (λ v. is_beyond path m.0 ≡ true) [
+      both_ways _ _
+      (λ h. let from_w = not-true _ h in elim (beyond_or_longer path m.0 (behind_from path w m.0 (before_longer path k s) from_w)) as (λ v. is_beyond path m.0 ≡ true) [
         | inl far ↦ far
         | inr (z, r, longer) ↦
             let held = (lists.exact m.0 m.1).0 in_it in
@@ -82,8 +81,8 @@ module _ (Entry : Start → LeafElement → Type 0) (from : Start) (all : HasEnt
         let w : Path = path ++ key ∷ s in
         let own : Path = path ++ e.key ∷ [] in
         filter_same (λ m. not (is_lt (path_cmp m.0 w))) (λ m. not (is_lt (path_cmp m.0 own))) listing (λ m in_it.
-        same_bool _ _
-        (λ h. let from_w = not_of _ h in elim (beyond_or_longer path m.0 (behind_from path w m.0 (before_longer path key s) from_w)) as (λ v. not (is_lt (path_cmp m.0 own)) ≡ true) [
+        both_ways _ _
+        (λ h. let from_w = not-true _ h in elim (beyond_or_longer path m.0 (behind_from path w m.0 (before_longer path key s) from_w)) as (λ v. not (is_lt (path_cmp m.0 own)) ≡ true) [
           | inl far ↦ ap not (not_before_beyond path e.key m.0 far)
           | inr (z, r, longer) ↦
               let held = (lists.exact m.0 m.1).0 in_it in
@@ -92,8 +91,8 @@ module _ (Entry : Start → LeafElement → Type 0) (from : Start) (all : HasEnt
               let least = (seek_least key entries e g are.rises at ((are.exact g).1 gis) (rw gkey not_less)).1 in
               let out : is_lt (path_cmp m.0 own) ≡ false = rw longer (not_before path e.key z r (rw (← gkey) least)) in ap not out
         ])
-        (λ h. let from_own = not_of _ h in ap not (not_true _ (λ lt.
-        let less : path_cmp m.0 own ≡ Less = path_total.trans m.0 w own (less_lt _ lt) (lesser_part path key e.key s [] greater) in
+        (λ h. let from_own = not-true _ h in ap not (false_from_ne_true _ (λ lt.
+        let less : path_cmp m.0 own ≡ Less = path_total.trans m.0 w own (less_of _ lt) (lesser_part path key e.key s [] greater) in
         let f = ap is_lt less in cc))))
 
   -- all is from the empty path on

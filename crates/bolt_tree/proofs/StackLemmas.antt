@@ -2,6 +2,7 @@
 use Rattle.std.proofs.Common.{◌≡◌, ℕ, zero, suc, ◌+◌, ◌-◌, ◌≤◌, ◌<◌, List, [], ◌∷◌, ◌++◌, Some, None, slice_get, length, drop, take, refl, sym, ap, ◌∙◌, subst, arith, append_assoc}
 use Rattle.std.proofs.Math.Logic.{∥∥₁_elim, ∥∥₁_map}
 use Rattle.std.proofs.Props.{props}
+use Rattle.std.proofs.lemmas.Option.{none-some}
 use Rattle.bolt_format.specs.Elements.{BranchElement, LeafElement}
 use Rattle.bolt_check.specs.OnWays.{IsOnWay}
 use Rattle.bolt_check.specs.Sound.{HasSoundTrees}
@@ -14,13 +15,10 @@ use Rattle.bolt_tree.specs.Private.Tours.{Visit, all_under, tour}
 use Rattle.bolt_tree.proofs.TourLemmas.{not_deepest}
 use Rattle.bolt_tree.proofs.WayPages.{IsWayPage, a_branch, a_leaf, on_way_page}
 
-no_element : (e : BranchElement) → None ≡ Some e → ⊥
-no_element e h = cc
-
 -- what lies under the elements of a branch, cut at one
 pub under_cut : (f : ℕ → ℕ → List Visit) (i k j : ℕ) (elements : List BranchElement) (e : BranchElement) → slice_get elements k ≡ Some e → j ≡ i + k
     → all_under f i elements ≡ all_under f i (take k elements) ++ (f j e.child ++ all_under f (suc j) (drop (suc k) elements))
-under_cut f i k j [] e g s = absurd (no_element e g)
+under_cut f i k j [] e g s = absurd (none-some e g)
 under_cut f i zero j (x ∷ elements) e g s =
     let same : x ≡ e = cc in
     let here : j ≡ i = omega arith in
@@ -32,7 +30,7 @@ under_cut f i (suc k) j (x ∷ elements) e g s =
 -- what lies to the right of what is taken, from the next element on
 pub under_next : (f : ℕ → ℕ → List Visit) (i k : ℕ) (elements : List BranchElement) (e : BranchElement) → slice_get elements k ≡ Some e
     → all_under f i (drop k elements) ≡ f i e.child ++ all_under f (suc i) (drop (suc k) elements)
-under_next f i k [] e g = absurd (no_element e g)
+under_next f i k [] e g = absurd (none-some e g)
 under_next f i zero (x ∷ elements) e g = let same : x ≡ e = cc in rw same refl
 under_next f i (suc k) (x ∷ elements) e g = under_next f i k elements e g
 

@@ -2,6 +2,7 @@
 use Rattle.std.proofs.Common.{◌≡◌, ℕ, zero, suc, ◌+◌, ◌≤◌, ◌<◌, inl, inr, List, [], ◌∷◌, ◌++◌, false, Some, None, Ok, slice_get, length, map, refl, sym, ap, ◌∙◌, subst, arith, append_assoc, append-nil}
 use Rattle.std.specs.Prelude.{IsTrue}
 use Rattle.std.proofs.lemmas.Bool.{cases_lt}
+use Rattle.std.proofs.lemmas.Option.{none-some}
 use Rattle.bolt_format.specs.Elements.{BranchElement, LeafElement}
 use Rattle.bolt_format.specs.Pages.{PageView, page_at}
 use Rattle.bolt_format.specs.declared.kind.Kind.TheVariants as kind
@@ -29,12 +30,9 @@ under_has f i (e ∷ elements) v h = elim (has_split (f i e.child) (all_under f 
   | inr r ↦ (let q = under_has f (suc i) elements v r in (suc q.0, q.1, q.2, q.3, (let s = q.4 in omega (arith, s)), q.5))
 ]
 
-no_element : (e : BranchElement) → None ≡ Some e → ⊥
-no_element e h = cc
-
 pub has_under : (f : ℕ → ℕ → List Visit) (i : ℕ) (elements : List BranchElement) (k j : ℕ) (e : BranchElement) (v : Visit) → slice_get elements k ≡ Some e → j ≡ i + k
     → Has (f j e.child) v → Has (all_under f i elements) v
-has_under f i [] k j e v g s h = absurd (no_element e g)
+has_under f i [] k j e v g s h = absurd (none-some e g)
 has_under f i (x ∷ elements) zero j e v g s h =
     let same : x ≡ e = cc in
     let here : j ≡ i = omega arith in
@@ -94,7 +92,7 @@ tour_at file meta n address number = tour (content_at file meta) n address (cont
 
 module _ (file : List ℕ) (meta : Meta) (trees : HasSoundTrees file meta) where
   first_length : (elements : List BranchElement) (e : BranchElement) → slice_get elements 0 ≡ Some e → 1 ≤ length elements
-  first_length [] e g = absurd (no_element e g)
+  first_length [] e g = absurd (none-some e g)
   first_length (x ∷ elements) e g = omega arith
 
   first_entry : (elements : List BranchElement) → (elements ≡ [] → ⊥) → (e : BranchElement) × (slice_get elements 0 ≡ Some e)

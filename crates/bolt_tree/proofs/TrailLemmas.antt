@@ -24,6 +24,7 @@ use Rattle.bolt_tree.specs.declared.position.Position.{Position}
 use Rattle.bolt_tree.specs.declared.trail.Trail.{Trail}
 use Rattle.bolt_tree.proofs.StackLemmas.{branch_room, stack_short, under_next}
 use Rattle.bolt_tree.proofs.WayPages.{IsWayPage, a_branch, a_leaf, on_way_page}
+use Rattle.bolt_format.proofs.ListLemmas.{one_some, drop_at}
 
 -- one equation moves every fact of a bucket
 pub same_bucket : (old new : Trail) → IsSameBucket old new → trail_bucket new ≡ trail_bucket old
@@ -49,12 +50,9 @@ nonempty items empty e f nil =
     grind (arith, nat_tests, l, z, e, f)
 
 -- the pages of the tree have its kinds
-same_view : (o : Option PageView) (a c : PageView) → o ≡ Some a → o ≡ Some c → a ≡ c
-same_view o a c e h = cc
-
 tree_kind_at : (file : List ℕ) (meta : Meta) (number : ℕ) (view : PageView) → IsWayPage file meta number → page_at file meta number ≡ Some view → IsTrue (is_tree_kind view.kind)
-tree_kind_at file meta number view (a_leaf v at is node content) e = let same = same_view (page_at file meta number) v view at e in ap is_tree_kind (sym (ap (λ (w : PageView). w.kind) same) ∙ is)
-tree_kind_at file meta number view (a_branch v at is node content) e = let same = same_view (page_at file meta number) v view at e in ap is_tree_kind (sym (ap (λ (w : PageView). w.kind) same) ∙ is)
+tree_kind_at file meta number view (a_leaf v at is node content) e = let same = one_some (page_at file meta number) v view at e in ap is_tree_kind (sym (ap (λ (w : PageView). w.kind) same) ∙ is)
+tree_kind_at file meta number view (a_branch v at is node content) e = let same = one_some (page_at file meta number) v view at e in ap is_tree_kind (sym (ap (λ (w : PageView). w.kind) same) ∙ is)
 
 pub way_kind : (checked : Checked) (number : ℕ) (view : PageView) → ∥ ((depth : ℕ) × IsOnWay (bytes_of checked) (meta_of checked) number depth) ∥₁
     → page_at (bytes_of checked) (meta_of checked) number ≡ Some view → IsTrue (is_tree_kind view.kind)
@@ -67,18 +65,13 @@ tour_top : (contents : Contents) (n h : ℕ) (address : List ℕ) (content : Con
 tour_top contents n h address (Of_leaf elements) same = refl
 tour_top contents n h address (Of_branch elements) same = ap (λ (m : ℕ). tour contents m address (Of_branch elements)) (same elements refl)
 
-drop_next : {X : Type 0} (xs : List X) (i : ℕ) (x : X) → slice_get xs i ≡ Some x → drop i xs ≡ x ∷ drop (suc i) xs
-drop_next [] i x g = absurd (let h : (None ≡ Some x → ⊥) = λ e. cc in h g)
-drop_next {X = X} (y ∷ xs) zero x g = let same : y ≡ x = cc in ap (λ (z : X). z ∷ xs) same
-drop_next (y ∷ xs) (suc i) x g = drop_next xs i x g
-
 -- an entry is taken
 pub entered_some : (contents : Contents) (content : Content) (i : ℕ) (below new : List Frame) (e : LeafElement) → IsEntered contents false content i below new (Some e)
     → (ahead_of contents (record { content = content; taken = i } ∷ below) ≡ e ∷ ahead_of contents new) × (right_of contents (record { content = content; taken = i } ∷ below) ≡ right_of contents new) × IsOn new e
 entered_some contents (Of_leaf elements) i below new e h =
     let next : suc i ≡ i + 1 = omega arith in
     let back : i ≡ (i + 1) - 1 = omega arith in
-    let cut : drop i elements ≡ e ∷ drop (i + 1) elements = rw (← next) (drop_next elements i e h.0) in
+    let cut : drop i elements ≡ e ∷ drop (i + 1) elements = rw (← next) (drop_at elements i e h.0) in
     let on : IsOn (record { content = Of_leaf elements; taken = i + 1 } ∷ below) e = (omega arith, rw (← back) h.0) in
     (rw (h.1, cut) refl, rw h.1 refl, subst (λ (fs : List Frame). IsOn fs e) (sym h.1) on)
 entered_some contents (Of_branch elements) i below new e h = absurd h

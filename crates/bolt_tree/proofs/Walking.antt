@@ -13,20 +13,20 @@ use Rattle.bolt_tree.specs.Private.Kept.{CursorView}
 use Rattle.bolt_tree.specs.Private.OpenCursors.{cursors_of}
 use Rattle.bolt_tree.specs.Private.OpenBuckets.{AreOpen, IsAhead, IsInPlace, IsInside, open_path}
 use Rattle.bolt_tree.specs.Private.RestAfter.{rest_after}
-use Rattle.bolt_tree.specs.declared.open_buckets.Ahead.{Ahead}
-use Rattle.bolt_tree.specs.declared.open_buckets.Ahead.TheVariants.{Begin, Enter, Give, Leave}
+use Rattle.bolt_tree.specs.declared.open_buckets.WalkStep.{WalkStep}
+use Rattle.bolt_tree.specs.declared.open_buckets.WalkStep.TheVariants.{Begin, Enter, Give, Leave}
 use Rattle.bolt_tree.specs.declared.open_buckets.OpenBuckets.{OpenBuckets}
 use Rattle.bolt_tree.proofs.AllEntries.{checked_entries}
 use Rattle.bolt_tree.proofs.Seeking.{behind_all}
 
-pub ahead_prop : (buckets : OpenBuckets) (ahead : Ahead) → IsProp (IsAhead buckets ahead)
+pub ahead_prop : (buckets : OpenBuckets) (ahead : WalkStep) → IsProp (IsAhead buckets ahead)
 ahead_prop buckets Begin = hlevel props
 ahead_prop buckets (Enter value) = hlevel props
 ahead_prop buckets (Give leaf) = hlevel props
 ahead_prop buckets Leave = hlevel props
 
 -- where only the room for more has changed
-pub ahead_in : (old new : OpenBuckets) (ahead : Ahead) → new.cursors.checked ≡ old.cursors.checked → open_path new ≡ open_path old → IsAhead old ahead → IsAhead new ahead
+pub ahead_in : (old new : OpenBuckets) (ahead : WalkStep) → new.cursors.checked ≡ old.cursors.checked → open_path new ≡ open_path old → IsAhead old ahead → IsAhead new ahead
 ahead_in old new Begin file same h = same ∙ h
 ahead_in old new (Enter value) file same h = (
   h.0,

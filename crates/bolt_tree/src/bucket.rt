@@ -3,7 +3,7 @@ ghost use Rattle.std.specs.Prelude.{◌≡◌, IfSome, IsTrue};
 ghost use Rattle.std.specs.Option.{option_map};
 ghost use Rattle.std.proofs.Props.{props};
 ghost use Rattle.bolt_format.specs.ElementPlaces.{leaf_view};
-ghost use Rattle.bolt_format.specs.Elements.{IsBucketValue, head_sequence};
+ghost use Rattle.bolt_format.specs.Elements.{IsBucketValue, head_root, head_sequence};
 ghost use Rattle.bolt_check.specs.CheckedFiles.{meta_of};
 ghost use Rattle.bolt_tree.specs.BucketViews.{entries_of};
 ghost use Rattle.bolt_tree.specs.Cursors.{cursor_checked, cursor_compared, cursor_opened, cursor_place, cursor_start};
@@ -15,7 +15,7 @@ use crate::at::At;
 use crate::cursor::Cursor;
 use crate::pager::Pager;
 use bolt_check::Checked;
-use bolt_format::{Leaf, head, inline};
+use bolt_format::{Head, Leaf, head, inline};
 
 /// A bucket of a checked file. It is made only if a way of the file leads to it (docs/TREE.md,
 /// "Buckets").
@@ -57,7 +57,7 @@ impl<'a> Bucket<'a> {
         let head = head(value);
         Bucket {
             checked,
-            at: at_of(value),
+            at: at_of(value, head),
             sequence: head.sequence,
         }
     }
@@ -101,9 +101,7 @@ impl<'a> Bucket<'a> {
         ensures bucket { IfSome result (λ leaf. IsTrue leaf.is_bucket → IsBucketValue leaf.value.now) }
     {
         let mut cursor = self.cursor();
-        let Some(leaf) = cursor.seek_element(key) else {
-            return None;
-        };
+        let leaf = cursor.seek_element(key)?;
         if key.cmp(leaf.key).is_lt() {
             return None;
         }
@@ -115,9 +113,7 @@ impl<'a> Bucket<'a> {
     pub fn get(&self, key: &[u8]) -> Option<&'a [u8]>
         ensures { IsValueAt (entries_of (bucket_checked self.now)) (bucket_start self.now) key.now (option_map (λ value. value.now) result) }
     {
-        let Some(leaf) = self.element(key) else {
-            return None;
-        };
+        let leaf = self.element(key)?;
         if leaf.is_bucket {
             return None;
         }
@@ -130,9 +126,7 @@ impl<'a> Bucket<'a> {
         ensures checked { IfSome result (λ inner. bucket_checked inner ≡ bucket_checked self.now) }
         ensures bucket { IsBucketAt (entries_of (bucket_checked self.now)) (bucket_start self.now) key.now result }
     {
-        let Some(leaf) = self.element(key) else {
-            return None;
-        };
+        let leaf = self.element(key)?;
         if !leaf.is_bucket {
             return None;
         }
@@ -140,15 +134,15 @@ impl<'a> Bucket<'a> {
     }
 }
 
-/// Where the tree of a bucket with this value begins.
-fn at_of(value: &[u8]) -> At<'_>
-    requires { IsBucketValue value.now }
+/// Where the tree of a bucket with this value and this head begins.
+fn at_of(value: &[u8], head: Head) -> At<'_>
+    requires value { IsBucketValue value.now }
+    requires root { head.root ≡ head_root value.now }
     ensures { start_at result ≡ start_of value.now }
 {
-    let root = head(value).root;
-    if root == 0 {
+    if head.is_inline() {
         At::Inline(inline(value))
     } else {
-        At::Page(root)
+        At::Page(head.root)
     }
 }

@@ -170,13 +170,9 @@ impl<'a> Cursor<'a> {
         if !self.trail.stack.is_empty() {
             return entry_of(self.trail.prev(&mut self.spare));
         }
-        match self.trail.last() {
-            Some(leaf) => {
-                self.is_past = false;
-                Some(Entry::of(&leaf))
-            }
-            None => None,
-        }
+        let leaf = self.trail.last()?;
+        self.is_past = false;
+        Some(Entry::of(&leaf))
     }
 
     /// Moves to the first entry whose key isn't below `key`, and returns it. If there is none,
@@ -223,17 +219,10 @@ impl<'a> Cursor<'a> {
         ensures compared { SeeksInBounds (cursor_bucket self.old) key.now (cursor_compared self.new) }
         ensures bucket { IfSome result (λ leaf. IsTrue leaf.is_bucket → IsBucketValue leaf.value.now) }
     {
-        self.is_past = false;
         let sought = self.trail.seek(key);
         self.compared = sought.compared;
-        let found = sought.found;
-        match found {
-            Some(leaf) => Some(leaf),
-            None => {
-                self.is_past = true;
-                None
-            }
-        }
+        self.is_past = sought.found.is_none();
+        sought.found
     }
 }
 

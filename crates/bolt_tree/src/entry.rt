@@ -9,14 +9,21 @@ use bolt_format::{Leaf, head};
 /// What is under a key: a value, or a bucket with its sequence.
 #[derive(Clone, Copy, Debug, PartialEq, Eq)]
 pub enum Item<'a> {
+    /// The bytes of a value.
     Value(&'a [u8]),
-    Bucket { sequence: u64 },
+    /// A bucket.
+    Bucket {
+        /// The bucket's sequence.
+        sequence: u64,
+    },
 }
 
 /// An entry of a bucket.
 #[derive(Clone, Copy, Debug, PartialEq, Eq)]
 pub struct Entry<'a> {
+    /// The key, which no other entry of the bucket has.
     pub key: &'a [u8],
+    /// What is under the key.
     pub item: Item<'a>,
 }
 

@@ -8,7 +8,7 @@ mod at;
 mod bucket;
 mod cursor;
 mod entry;
-mod halves;
+mod key_search;
 pub mod laws;
 pub mod listing_laws;
 mod open_buckets;

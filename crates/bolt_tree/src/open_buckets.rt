@@ -1,10 +1,8 @@
 //! The open buckets of a walk, and the path that it has come to. That path alone says what is left
 //! of a listing; the cursors say where to go on.
 ghost use Rattle.std.specs.Option.{IfNone};
-ghost use Rattle.std.specs.Prelude.{◌≡◌, ◌∷◌, [], IfSome, IfOk, MatchOption, MatchResult, OnOk, OnErr, IsTrue};
-ghost use Rattle.bolt_format.specs.Elements.{IsBucketValue};
+ghost use Rattle.std.specs.Prelude.{◌≡◌, ◌∷◌, [], IfSome, IfOk, MatchOption, OnOk, OnErr};
 ghost use Rattle.bolt_format.specs.ElementPlaces.{leaf_view};
-ghost use Rattle.bolt_tree.specs.Buckets.{bucket_checked, bucket_start};
 ghost use Rattle.bolt_tree.specs.Entries.{item_of};
 ghost use Rattle.bolt_tree.specs.Listing.{rest_from};
 ghost use Rattle.bolt_tree.specs.Private.RestAfter.{rest_after, beyond};
@@ -20,7 +18,7 @@ use std::alloc::Global;
 
 /// What a walk does next.
 #[derive(Clone, Copy)]
-pub(crate) enum Ahead<'a> {
+pub(crate) enum WalkStep<'a> {
     /// It enters the root bucket.
     Begin,
     /// It enters the bucket that its path names, whose value this is.
@@ -37,7 +35,7 @@ pub(crate) enum PartResult<'a> {
     /// The part names this bucket, and the path goes on.
     Inside(Bucket<'a>),
     /// The search ends here, and the walk does this next.
-    Here(Ahead<'a>),
+    Here(WalkStep<'a>),
 }
 
 /// A cursor for each open bucket, from the root bucket on, and the keys that the cursors are on,
@@ -87,7 +85,7 @@ impl<'a> OpenBuckets<'a> {
 
     /// Goes to the next entry that is to be returned. If memory runs out, nothing has changed.
     #[inline(always)]
-    pub fn advance(&mut self, ahead: Ahead<'a>) -> Result<Option<Leaf<'a>>, NoMemory>
+    pub fn advance(&mut self, ahead: WalkStep<'a>) -> Result<Option<Leaf<'a>>, NoMemory>
         requires placed { IsInPlace self.old }
         requires ahead { IsAhead self.old ahead }
         ensures checked { self.new.cursors.checked ≡ self.old.cursors.checked }
@@ -99,10 +97,10 @@ impl<'a> OpenBuckets<'a> {
             (λ leaf. left_by ahead.entry (open_path self.old) listing ≡ (open_path self.new, item_of (leaf_view leaf)) ∷ rest_after (open_path self.new) listing))) }
     {
         let bucket = match ahead {
-            Ahead::Begin => Bucket::root(self.cursors.checked),
-            Ahead::Enter(value) => Bucket::of(self.cursors.checked, value),
-            Ahead::Give(leaf) => return Ok(Some(leaf)),
-            Ahead::Leave => return Ok(self.climb()),
+            WalkStep::Begin => Bucket::root(self.cursors.checked),
+            WalkStep::Enter(value) => Bucket::of(self.cursors.checked, value),
+            WalkStep::Give(leaf) => return Ok(Some(leaf)),
+            WalkStep::Leave => return Ok(self.climb()),
         };
         match self.enter(bucket)? {
             Some(leaf) => Ok(Some(leaf)),
@@ -111,7 +109,7 @@ impl<'a> OpenBuckets<'a> {
     }
 
     /// What is next after the element that the path leads to was returned.
-    pub fn after(&self, leaf: &Leaf<'a>) -> Ahead<'a>
+    pub fn after(&self, leaf: &Leaf<'a>) -> WalkStep<'a>
         requires placed { IsInPlace self.now }
         requires on { IsAt self.now leaf.now }
         ensures ahead { IsAhead self.now result }
@@ -119,14 +117,14 @@ impl<'a> OpenBuckets<'a> {
         ensures reported { reported_path result (open_path self.now) ≡ open_path self.now }
     {
         if leaf.is_bucket {
-            Ahead::Enter(leaf.value)
+            WalkStep::Enter(leaf.value)
         } else {
-            Ahead::Leave
+            WalkStep::Leave
         }
     }
 
     /// Goes to the next entry after everything that begins with the path, to return it.
-    fn come(&mut self) -> Ahead<'a>
+    fn next_step(&mut self) -> WalkStep<'a>
         requires { IsInPlace self.old }
         ensures checked { self.new.cursors.checked ≡ self.old.cursors.checked }
         ensures placed { IsInPlace self.new }
@@ -135,8 +133,8 @@ impl<'a> OpenBuckets<'a> {
         ensures left { ForListing self.old.cursors.checked (λ listing. left_by result (open_path self.new) listing ≡ beyond (open_path self.old) listing) }
     {
         match self.climb() {
-            Some(leaf) => Ahead::Give(leaf),
-            None => Ahead::Leave,
+            Some(leaf) => WalkStep::Give(leaf),
+            None => WalkStep::Leave,
         }
     }
 
@@ -155,20 +153,20 @@ impl<'a> OpenBuckets<'a> {
     {
         self.path.reserve(1)?;
         let Some(leaf) = self.cursors.seek(bucket, part)? else {
-            return Ok(PartResult::Here(self.come()));
+            return Ok(PartResult::Here(self.next_step()));
         };
         self.path.push_reserved(leaf.key);
         if part.cmp(leaf.key).is_lt() || is_last {
-            return Ok(PartResult::Here(Ahead::Give(leaf)));
+            return Ok(PartResult::Here(WalkStep::Give(leaf)));
         }
         if leaf.is_bucket {
             return Ok(PartResult::Inside(Bucket::of(self.cursors.checked, leaf.value)));
         }
-        Ok(PartResult::Here(self.come()))
+        Ok(PartResult::Here(self.next_step()))
     }
 
     /// Searches for a path, from the root bucket on.
-    pub fn seek(&mut self, path: &[&[u8]]) -> Result<Ahead<'a>, NoMemory>
+    pub fn seek(&mut self, path: &[&[u8]]) -> Result<WalkStep<'a>, NoMemory>
         requires placed { IsInPlace self.old }
         requires empty { open_path self.old ≡ [] }
         ensures checked { OnOk result (self.new.cursors.checked ≡ self.old.cursors.checked) }
@@ -184,7 +182,7 @@ impl<'a> OpenBuckets<'a> {
                 PartResult::Here(ahead) => return Ok(ahead),
             }
         }
-        Ok(Ahead::Begin)
+        Ok(WalkStep::Begin)
     }
 
     /// Goes to the next entry after everything that begins with the path, and closes the buckets
@@ -201,7 +199,7 @@ impl<'a> OpenBuckets<'a> {
     {
         while !self.cursors.is_empty() {
             let found = self.cursors.next_element();
-            let _ = self.path.pop();
+            self.path.pop();
             if let Some(leaf) = found {
                 self.path.push_reserved(leaf.key);
                 return Some(leaf);

@@ -15,7 +15,7 @@ ghost use Rattle.bolt_tree.specs.Private.ShownPages.{opened_content};
 ghost use Rattle.bolt_tree.specs.Private.Stacks.{HasStack, IsAtRest, IsLeafTop, IsOn, here_of};
 
 use crate::at::At;
-use crate::halves::keys_before;
+use crate::key_search::keys_before;
 use crate::opened::{BranchPage, Opened};
 use crate::pager::Pager;
 use crate::position::{Position, Stack, set_positions};
@@ -82,9 +82,8 @@ impl<'a> Trail<'a> {
         ensures bucket { IfSome result (λ leaf. IsTrue leaf.is_bucket → IsBucketValue leaf.value.now) }
         ensures opened { pager_opened self.new.pager ≡ counted (pager_opened self.old.pager) (length (right self.old) - opened_to (option_map leaf_view result) (right self.new)) }
     {
-        let found = self.next_here();
-        if found.is_some() {
-            return found;
+        if let Some(leaf) = self.next_here() {
+            return Some(leaf);
         }
         if self.stack.len() < 2 {
             return None;
@@ -143,9 +142,7 @@ impl<'a> Trail<'a> {
         ensures bucket { IfSome result (λ leaf. IsTrue leaf.is_bucket → IsBucketValue leaf.value.now) }
         ensures opened { pager_opened self.new.pager ≡ pager_opened self.old.pager }
     {
-        let Some(last) = self.stack.len().checked_sub(1) else {
-            return None;
-        };
+        let last = self.stack.len().checked_sub(1)?;
         let top = &self.stack[last];
         if top.taken >= u32::from(top.page.count()) {
             return None;
@@ -227,7 +224,7 @@ impl<'a> Trail<'a> {
         ensures opened { pager_opened self.new.pager ≡ counted (pager_opened self.old.pager) 1 }
     {
         let page = self.open_root();
-        self.stand(page, at_end);
+        self.push_at_edge(page, at_end);
     }
 
     /// Opens the root page of the bucket, or its inline page, which isn't on the stack yet.
@@ -299,7 +296,7 @@ impl<'a> Trail<'a> {
             }
             Opened::Branch(branch) => {
                 let child = self.go_under(branch, i);
-                self.stand(child, at_end);
+                self.push_at_edge(child, at_end);
                 None
             }
         }
@@ -320,7 +317,7 @@ impl<'a> Trail<'a> {
     }
 
     /// Pushes a page onto the stack, before its first element or past its last.
-    fn stand(&mut self, page: Opened<'a>, at_end: bool)
+    fn push_at_edge(&mut self, page: Opened<'a>, at_end: bool)
         requires { HasStack (trail_bucket self.old) (record { content = opened_content page; taken = 0 } ∷ trail_frames self.old) }
         ensures same { IsSameBucket self.old self.new }
         ensures stack { HasTrail self.new }

@@ -6,7 +6,7 @@ ghost use Rattle.bolt_tree.specs.Listing.{rest_from};
 ghost use Rattle.bolt_tree.specs.Private.OpenBuckets.{IsAhead, IsInPlace};
 
 use crate::entry::Item;
-use crate::open_buckets::{Ahead, OpenBuckets};
+use crate::open_buckets::{OpenBuckets, WalkStep};
 use bolt_check::{Checked, NoMemory};
 use std::alloc::Global;
 
@@ -15,7 +15,7 @@ use std::alloc::Global;
 #[derive(Drop)]
 pub struct Walk<'a> {
     buckets: OpenBuckets<'a>,
-    ahead: Ahead<'a>,
+    ahead: WalkStep<'a>,
     ghost placed: { ∥ IsInPlace buckets × IsAhead buckets ahead ∥₁ },
 }
 
@@ -33,7 +33,7 @@ impl<'a> Walk<'a> {
     {
         Walk {
             buckets: OpenBuckets::new(alloc, checked),
-            ahead: Ahead::Begin,
+            ahead: WalkStep::Begin,
         }
     }
 
@@ -73,7 +73,7 @@ impl<'a> Walk<'a> {
                 Ok(Some(Item::of(&leaf)))
             }
             None => {
-                self.ahead = Ahead::Leave;
+                self.ahead = WalkStep::Leave;
                 Ok(None)
             }
         }
@@ -92,8 +92,8 @@ impl<'a> Walk<'a> {
         ensures { path_of result.now ≡ walk_path self.now }
     {
         match self.ahead {
-            Ahead::Give(_) => &[],
-            Ahead::Begin | Ahead::Enter(_) | Ahead::Leave => self.buckets.path.as_slice(),
+            WalkStep::Give(_) => &[],
+            WalkStep::Begin | WalkStep::Enter(_) | WalkStep::Leave => self.buckets.path.as_slice(),
         }
     }
 }

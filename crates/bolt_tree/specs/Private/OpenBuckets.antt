@@ -17,8 +17,8 @@ use Rattle.bolt_tree.specs.Private.RestAfter.{rest_after, beyond}
 use Rattle.bolt_tree.specs.Private.Kept.{CursorView}
 use Rattle.bolt_tree.specs.Private.OpenCursors.{cursors_of}
 use Rattle.bolt_tree.specs.declared.bucket.Bucket.{Bucket}
-use Rattle.bolt_tree.specs.declared.open_buckets.Ahead.{Ahead}
-use Rattle.bolt_tree.specs.declared.open_buckets.Ahead.TheVariants.{Begin, Enter, Give, Leave}
+use Rattle.bolt_tree.specs.declared.open_buckets.WalkStep.{WalkStep}
+use Rattle.bolt_tree.specs.declared.open_buckets.WalkStep.TheVariants.{Begin, Enter, Give, Leave}
 use Rattle.bolt_tree.specs.declared.open_buckets.PartResult.{PartResult}
 use Rattle.bolt_tree.specs.declared.open_buckets.PartResult.TheVariants.{Here, Inside}
 use Rattle.bolt_tree.specs.declared.open_buckets.OpenBuckets.{OpenBuckets}
@@ -59,7 +59,7 @@ abbrev pub IsNamed : OpenBuckets → Bucket → Type 0
 IsNamed buckets bucket = ∥ (bucket_checked bucket ≡ buckets.cursors.checked) × Names (entries_of buckets.cursors.checked) (root_start buckets.cursors.checked) (open_path buckets) (bucket_start bucket) ∥₁
 
 -- open buckets from which this may be done next
-abbrev pub IsAhead : OpenBuckets → Ahead → Type 0
+abbrev pub IsAhead : OpenBuckets → WalkStep → Type 0
 IsAhead buckets Begin = open_path buckets ≡ []
 IsAhead buckets (Enter value) = IsBucketValue value.now × IsInside buckets.cursors.checked (open_path buckets) (start_of value.now)
 IsAhead buckets (Give leaf) = IsAt buckets leaf
@@ -67,14 +67,14 @@ IsAhead buckets Leave = Unit {0}
 
 -- what is left of a listing: if a bucket is entered, everything after the path; if an element is returned, everything from there; else
 -- everything beyond
-abbrev pub left_by : Ahead → Path → List Member → List Member
+abbrev pub left_by : WalkStep → Path → List Member → List Member
 left_by Begin path listing = rest_after path listing
 left_by (Enter value) path listing = rest_after path listing
 left_by (Give leaf) path listing = rest_from path listing
 left_by Leave path listing = beyond path listing
 
 -- the path of what was returned last
-abbrev pub reported_path : Ahead → Path → Path
+abbrev pub reported_path : WalkStep → Path → Path
 reported_path Begin path = path
 reported_path (Enter value) path = path
 reported_path (Give leaf) path = []

@@ -6,12 +6,12 @@ use Rattle.bolt_tree.specs.Starts.{start_at}
 use Rattle.bolt_tree.proofs.Looking.{same_kind}
 use Rattle.bolt_tree.proofs.bucket.Bucket.get.Goals as goal
 
-pub returns-in_default : goal.returns-in_default
-returns-in_default c = λ e is same. absurd (c.in_default.ensures.element e is same)
+pub returns-in_err-leaf : goal.returns-in_err-leaf
+returns-in_err-leaf c = rw c.from_residual.ensures (λ e is same. absurd (c.in_err-leaf.ensures.element e is same))
 
 pub returns-then-leaf : goal.returns-then-leaf
 unfolding bucket_checked bucket_start
-returns-then-leaf c = λ e is same. same_kind c.args.self.now.checked (start_at c.args.self.now.at) c.args.key.now (leaf_view c.in-Some.leaf) c.args.self.now.begins c.in-Some.ensures.element e is same ∙ c.if-leaf.true
+returns-then-leaf c = λ e is same. same_kind c.args.self.now.checked (start_at c.args.self.now.at) c.args.key.now (leaf_view c.in_ok-leaf.leaf) c.args.self.now.begins c.in_ok-leaf.ensures.element e is same ∙ c.if-leaf.true
 
 pub returns : goal.returns
-returns c = ∥∥₁_map c.in-Some.ensures.element (λ (is, at). (leaf_view c.in-Some.leaf, is, at, c.if-leaf.false, refl))
+returns c = ∥∥₁_map c.in_ok-leaf.ensures.element (λ (is, at). (leaf_view c.in_ok-leaf.leaf, is, at, c.if-leaf.false, refl))

@@ -32,20 +32,20 @@ returns-then-not-is_empty-clause-moves c =
     (trail_frames c.args.self.now.trail) c.args.self.now.is_past (not_past c.args.self.now.trail c.args.self.now.is_past c.args.self.now.held some)
     (held_stack c.args.self.now.trail c.args.self.now.is_past c.args.self.now.held) (held_rest c.args.self.now.trail c.args.self.now.is_past c.args.self.now.held) some c.prev.ensures.found)
 
-pub returns-in-Some-clause-moves : goal.returns-in-Some-clause-moves
+pub returns-clause-moves : goal.returns-clause-moves
 unfolding cursor_checked cursor_place cursor_start
-returns-in-Some-clause-moves c =
+returns-clause-moves c =
     let empty = no_frames c.args.self.now.trail.stack.items c.is_empty.result c.is_empty.ensures c.if-not-is_empty.false in
-    shows_by _ _ prev_move (cursor_place c.args.self.now) _ (option_map leaf_view c.last.result) _ (rw c.in-Some.is (ap Some c.of.ensures))
+    shows_by _ _ prev_move (cursor_place c.args.self.now) _ (option_map leaf_view c.last.result) _ (rw c.in_ok-leaf.was (ap Some c.of.ensures))
     (moves_prev_last (trail_bucket c.args.self.now.trail) (trail_bucket c.last.new.self) (same_bucket c.args.self.now.trail c.last.new.self c.last.ensures.same)
     (held_bucket c.args.self.now.trail c.args.self.now.is_past c.args.self.now.held) c.last.result (trail_frames c.last.new.self) c.last.ensures.stack
     (trail_frames c.args.self.now.trail) c.args.self.now.is_past empty c.last.ensures.found)
 
-pub returns-in-None-clause-moves : goal.returns-in-None-clause-moves
+pub returns-in_err-leaf-clause-moves : goal.returns-in_err-leaf-clause-moves
 unfolding cursor_checked cursor_place cursor_start
-returns-in-None-clause-moves c =
-    let found = rw c.in-None.is at c.last.ensures.found in
-    shows_by _ _ prev_move (cursor_place c.args.self.now) _ (option_map leaf_view c.last.result) _ (rw c.in-None.is refl)
+returns-in_err-leaf-clause-moves c =
+    let found = rw c.in_err-leaf.was at c.last.ensures.found in
+    shows_by _ _ prev_move (cursor_place c.args.self.now) _ (option_map leaf_view c.last.result) _ (rw (c.from_residual.ensures, c.in_err-leaf.was) refl)
     (moves_nowhere (trail_bucket c.args.self.now.trail) (trail_bucket c.last.new.self) (same_bucket c.args.self.now.trail c.last.new.self c.last.ensures.same)
     (held_bucket c.args.self.now.trail c.args.self.now.is_past c.args.self.now.held) c.last.result (trail_frames c.last.new.self) c.last.ensures.stack
-    (cursor_place c.args.self.now) _ c.in-None.is found.0)
+    (cursor_place c.args.self.now) _ c.in_err-leaf.was found.0)

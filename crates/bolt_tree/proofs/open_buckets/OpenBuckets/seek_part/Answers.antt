@@ -20,8 +20,8 @@ use Rattle.bolt_tree.proofs.open_buckets.OpenBuckets.seek_part.Goals.{then-is_lt
 pub seek-requires : goal.seek-requires
 seek-requires c = ∥∥₁_elim c.requires.named (hlevel props) (λ n. n.0)
 
-pub come-requires : goal.come-requires
-come-requires c =
+pub next_step-requires : goal.next_step-requires
+next_step-requires c =
     let old = c.args.self.now in
     let opens = rw c.in_default.is at c.in_ok-leaf.ensures.opens in
     placed_in old.cursors.checked c.seek.new.self.checked (cursors_of old.cursors) (cursors_of c.seek.new.self) (path_of old.path.items) (path_of c.reserve.new.self.items) c.in_ok-leaf.ensures.checked opens.is
@@ -33,10 +33,10 @@ returns-in_default-clause-sought c =
     let fresh = fresh_view c.args.bucket in
     let opens = rw c.in_default.is at c.in_ok-leaf.ensures.opens in
     let known = made old.cursors.checked (cursors_of old.cursors) (path_of old.path.items) c.args.bucket fresh c.requires.placed c.requires.named refl refl in (
-      c.come.ensures.ahead,
-      c.come.ensures.unreported,
+      c.next_step.ensures.ahead,
+      c.next_step.ensures.unreported,
       λ rest end listing lists.
-          c.come.ensures.left listing (listed_in c.seek.new.self.checked old.cursors.checked listing c.in_ok-leaf.ensures.checked lists)
+          c.next_step.ensures.left listing (listed_in c.seek.new.self.checked old.cursors.checked listing c.in_ok-leaf.ensures.checked lists)
           ∙ (ap (λ (keys : Path). beyond keys listing) (ap path_of c.reserve.ensures.items)
           ∙ from_none old.cursors.checked (cursors_of old.cursors) (path_of old.path.items) fresh opens.moved c.args.part.now known rest opens.moves listing lists),
     )
@@ -86,17 +86,17 @@ of-requires-clause-begins c =
     c.args.bucket c.args.part.now (leaf_view c.in-Some.leaf) c.requires.placed c.requires.named c.in_ok-leaf.ensures.checked (rw c.in-Some.is at c.in_ok-leaf.ensures.opens)
     (path_put c.args.self.now.path.items c.reserve.new.self.items c.push_reserved.new.self.items c.in-Some.leaf.key c.reserve.ensures.items c.push_reserved.ensures.items) c.if-leaf.true)
 
-pub come-requires-2 : goal.come-requires-2
-come-requires-2 c = placed_there c.args.self.now.cursors.checked c.seek.new.self.checked (cursors_of c.args.self.now.cursors) (cursors_of c.seek.new.self) (path_of c.args.self.now.path.items) (path_of c.push_reserved.new.self.items)
+pub next_step-requires-2 : goal.next_step-requires-2
+next_step-requires-2 c = placed_there c.args.self.now.cursors.checked c.seek.new.self.checked (cursors_of c.args.self.now.cursors) (cursors_of c.seek.new.self) (path_of c.args.self.now.path.items) (path_of c.push_reserved.new.self.items)
     c.args.bucket c.args.part.now (leaf_view c.in-Some.leaf) c.requires.placed c.requires.named c.in_ok-leaf.ensures.checked (rw c.in-Some.is at c.in_ok-leaf.ensures.opens)
     (path_put c.args.self.now.path.items c.reserve.new.self.items c.push_reserved.new.self.items c.in-Some.leaf.key c.reserve.ensures.items c.push_reserved.ensures.items)
 
 pub returns-clause-sought : goal.returns-clause-sought
 returns-clause-sought c = (
-  c.come-2.ensures.ahead,
-  c.come-2.ensures.unreported,
+  c.next_step-2.ensures.ahead,
+  c.next_step-2.ensures.unreported,
   λ rest end listing lists.
-      c.come-2.ensures.left listing (listed_in c.seek.new.self.checked c.args.self.now.cursors.checked listing c.in_ok-leaf.ensures.checked lists)
+      c.next_step-2.ensures.left listing (listed_in c.seek.new.self.checked c.args.self.now.cursors.checked listing c.in_ok-leaf.ensures.checked lists)
       ∙ beyond_there c.args.self.now.cursors.checked c.seek.new.self.checked (cursors_of c.args.self.now.cursors) (cursors_of c.seek.new.self) (path_of c.args.self.now.path.items) (path_of c.push_reserved.new.self.items)
       c.args.bucket c.args.part.now (leaf_view c.in-Some.leaf) c.requires.placed c.requires.named c.in_ok-leaf.ensures.checked (rw c.in-Some.is at c.in_ok-leaf.ensures.opens)
       (path_put c.args.self.now.path.items c.reserve.new.self.items c.push_reserved.new.self.items c.in-Some.leaf.key c.reserve.ensures.items c.push_reserved.ensures.items) (ap is_lt (sym c.cmp.ensures) ∙ (sym c.is_lt.ensures ∙ c.if-is_lt.false)) c.if-leaf.false rest (end ∙ c.if-is_last.false) listing lists,

@@ -15,7 +15,7 @@ pub returns-then-top-from-clause-found : goal.returns-then-top-from-clause-found
 returns-then-top-from-clause-found c =
     let items = c.args.self.now.stack.items in
     let top = c.index-deref-last.result in
-    let frames = was items c.deref.result.now items c.len.result c.in-Some.last top top top c.len.ensures.value c.in-Some.ensures.0 c.in-Some.ensures.1 c.index-deref-last.is c.deref.ensures.0 refl in
+    let frames = was items c.deref.result.now items c.len.result c.in_ok-last.last top top top c.len.ensures.value c.in_ok-last.ensures.0 c.in_ok-last.ensures.1 c.index-deref-last.is c.deref.ensures.0 refl in
     (ap here_of frames ∙ nothing_here (opened_content top.page) top.taken (omega (arith, c.if-top-from.true, c.from.ensures, c.count.ensures)), refl)
 
 pub returns-clause-stack : goal.returns-clause-stack
@@ -23,12 +23,12 @@ returns-clause-stack c =
     let old = c.args.self.now in
     let items = old.stack.items in
     let top = c.index-deref-last.result in
-    let before = was items c.deref.result.now c.deref_mut.result.now c.len.result c.in-Some.last top c.index-deref_mut-last.result c.index-deref_mut-last-2.result
-    c.len.ensures.value c.in-Some.ensures.0 c.in-Some.ensures.1 c.index-deref-last.is c.deref.ensures.0 c.deref_mut.ensures.value in
-    let after = is items c.deref.result.now c.deref_mut.result.now c.len.result c.in-Some.last top c.index-deref_mut-last.result c.index-deref_mut-last-2.result
-    c.len.ensures.value c.in-Some.ensures.0 c.in-Some.ensures.1 c.index-deref-last.is c.deref.ensures.0 c.deref_mut.ensures.value in
+    let before = was items c.deref.result.now c.deref_mut.result.now c.len.result c.in_ok-last.last top c.index-deref_mut-last.result c.index-deref_mut-last-2.result
+    c.len.ensures.value c.in_ok-last.ensures.0 c.in_ok-last.ensures.1 c.index-deref-last.is c.deref.ensures.0 c.deref_mut.ensures.value in
+    let after = is items c.deref.result.now c.deref_mut.result.now c.len.result c.in_ok-last.last top c.index-deref_mut-last.result c.index-deref_mut-last-2.result
+    c.len.ensures.value c.in_ok-last.ensures.0 c.in_ok-last.ensures.1 c.index-deref-last.is c.deref.ensures.0 c.deref_mut.ensures.value in
     subst (λ (fs : List Frame). HasStack (trail_bucket old) fs) (sym after)
-    (retaken (trail_bucket old) (opened_content top.page) top.taken (top.taken + 1) (frames_of (take c.in-Some.last items))
+    (retaken (trail_bucket old) (opened_content top.page) top.taken (top.taken + 1) (frames_of (take c.in_ok-last.last items))
     (subst (λ (fs : List Frame). HasStack (trail_bucket old) fs) before c.requires.stack)
     (omega (arith, c.if-top-from.false, c.from.ensures, c.count.ensures)) (omega (arith, c.if-top-from.false, c.from.ensures, c.count.type_inv)))
 
@@ -37,10 +37,10 @@ returns-clause-found c =
     let old = c.args.self.now in
     let items = old.stack.items in
     let top = c.index-deref-last.result in
-    let before = was items c.deref.result.now c.deref_mut.result.now c.len.result c.in-Some.last top c.index-deref_mut-last.result c.index-deref_mut-last-2.result
-    c.len.ensures.value c.in-Some.ensures.0 c.in-Some.ensures.1 c.index-deref-last.is c.deref.ensures.0 c.deref_mut.ensures.value in
-    let after = is items c.deref.result.now c.deref_mut.result.now c.len.result c.in-Some.last top c.index-deref_mut-last.result c.index-deref_mut-last-2.result
-    c.len.ensures.value c.in-Some.ensures.0 c.in-Some.ensures.1 c.index-deref-last.is c.deref.ensures.0 c.deref_mut.ensures.value in
-    next_in_leaf (trail_bucket old) (trail_bucket old) (trail_frames old) (frames_of (take c.in-Some.last items)) _ (frame_of top) (Some c.entry-leaf.result) refl before
+    let before = was items c.deref.result.now c.deref_mut.result.now c.len.result c.in_ok-last.last top c.index-deref_mut-last.result c.index-deref_mut-last-2.result
+    c.len.ensures.value c.in_ok-last.ensures.0 c.in_ok-last.ensures.1 c.index-deref-last.is c.deref.ensures.0 c.deref_mut.ensures.value in
+    let after = is items c.deref.result.now c.deref_mut.result.now c.len.result c.in_ok-last.last top c.index-deref_mut-last.result c.index-deref_mut-last-2.result
+    c.len.ensures.value c.in_ok-last.ensures.0 c.in_ok-last.ensures.1 c.index-deref-last.is c.deref.ensures.0 c.deref_mut.ensures.value in
+    next_in_leaf (trail_bucket old) (trail_bucket old) (trail_frames old) (frames_of (take c.in_ok-last.last items)) _ (frame_of top) (Some c.entry-leaf.result) refl before
     (rest_on_top _ _ (frame_of top) before c.requires.rest)
-    (taken_entry (contents_in (trail_bucket old)) (opened_content top.page) top.taken (frames_of (take c.in-Some.last items)) _ (leaf_view c.entry-leaf.result) c.entry-leaf.ensures.entry after)
+    (taken_entry (contents_in (trail_bucket old)) (opened_content top.page) top.taken (frames_of (take c.in_ok-last.last items)) _ (leaf_view c.entry-leaf.result) c.entry-leaf.ensures.entry after)

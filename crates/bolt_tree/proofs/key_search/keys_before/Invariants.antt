@@ -3,7 +3,7 @@ use Rattle.bolt_check.specs.Keys.{Key}
 use Rattle.bolt_tree.specs.Private.PageKeys.{doubled, stands_before}
 use Rattle.bolt_tree.specs.Private.ShownPages.{opened_content}
 use Rattle.bolt_tree.specs.Private.Contents.{content_keys, content_length}
-use Rattle.bolt_tree.proofs.halves.keys_before.Given as goal
+use Rattle.bolt_tree.proofs.key_search.keys_before.Given as goal
 
 abbrev pub invariant-loop-from : goal.invariant-loop-from
 invariant-loop-from l = record {

@@ -5,7 +5,7 @@ use Rattle.bolt_format.specs.ElementPlaces.{leaf_view}
 use Rattle.bolt_tree.specs.Private.OpenBuckets.{open_path}
 use Rattle.bolt_tree.proofs.Climbing.{listed_in, none_beyond}
 use Rattle.bolt_tree.proofs.Entering.{itself}
-use Rattle.bolt_tree.proofs.open_buckets.OpenBuckets.come.Goals as goal
+use Rattle.bolt_tree.proofs.open_buckets.OpenBuckets.next_step.Goals as goal
 
 pub returns-in-Some-clause-left : goal.returns-in-Some-clause-left
 returns-in-Some-clause-left c = λ listing lists.

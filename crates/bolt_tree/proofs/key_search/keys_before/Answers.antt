@@ -1,8 +1,8 @@
 use Rattle.std.proofs.Common.{◌+◌, ◌-◌, ◌/◌, arith, sym, ◌∙◌}
 use Rattle.bolt_tree.specs.Private.Contents.{content_keys}
 use Rattle.bolt_tree.specs.Private.ShownPages.{opened_content}
-use Rattle.bolt_tree.proofs.HalvesLemmas.{above_middle, below_middle, halved, sixteen}
-use Rattle.bolt_tree.proofs.halves.keys_before.Goals as goal
+use Rattle.bolt_tree.proofs.KeySearchLemmas.{above_middle, below_middle, halved, sixteen}
+use Rattle.bolt_tree.proofs.key_search.keys_before.Goals as goal
 
 pub loop-from-preserved-then-is_before : goal.loop-from-preserved-then-is_before
 loop-from-preserved-then-is_before c =

@@ -1,14 +1,10 @@
 -- A search by halves.
 use Rattle.std.proofs.Common.{◌≡◌, ℕ, zero, suc, ◌+◌, ◌*◌, ◌≤◌, ◌<◌, inl, inr, Bool, true, false, not, List, Some, slice_get, refl, sym, ap, ◌∙◌, arith, add-one}
 use Rattle.std.proofs.Math.Nat.{mul-le-mul_left}
-use Rattle.std.proofs.lemmas.Bool.{cases_lt}
+use Rattle.std.proofs.lemmas.Bool.{cases_lt, not-true}
 use Rattle.bolt_check.specs.Keys.{Key, KeysRise, key_lt}
 use Rattle.bolt_tree.specs.Private.PageKeys.{doubled, stands_before}
 use Rattle.bolt_check.proofs.KeyLaws.{lt_trans}
-
-not_false : (b : Bool) → not b ≡ true → b ≡ false
-not_false true e = absurd (cc)
-not_false false e = refl
 
 by_test : (a b s : Key) (t : Bool) → key_lt s a ≡ t → key_lt a b ≡ true → key_lt s b ≡ false → not t ≡ true
 by_test a b s false e h k = refl
@@ -16,7 +12,7 @@ by_test a b s true e h k = let r : key_lt s b ≡ true = lt_trans s a b e h in a
 
 -- what stands before a key that stands before does so too
 pub before_down : (or_equal : Bool) (a b s : Key) → key_lt a b ≡ true → stands_before or_equal b s ≡ true → stands_before or_equal a s ≡ true
-before_down true a b s h e = by_test a b s (key_lt s a) refl h (not_false (key_lt s b) e)
+before_down true a b s h e = by_test a b s (key_lt s a) refl h (not-true (key_lt s b) e)
 before_down false a b s h e = lt_trans a b s h e
 
 -- and the other way round
