@@ -17,9 +17,8 @@ use Rattle.bolt_tree.specs.Private.Held.{IsHeld, place_by, place_on}
 use Rattle.bolt_tree.specs.Pagers.{counted}
 use Rattle.bolt_tree.specs.Places.{Move, Moves, Place, ShowsMove, first_move, last_move, least_from, next_move, place_in, prev_move, seek_move}
 use Rattle.bolt_tree.specs.Private.Stacks.{Frame, HasStack, IsAtRest, RestsOn, ahead_of, preceding_of, right_of}
-use Rattle.bolt_tree.specs.Private.Trails.{HasBucket, HasTrail, trail_bucket, trail_frames}
+use Rattle.bolt_tree.specs.Private.Trails.{HasBucket, HasTrail, trail_bucket, trail_frames, Finds, FindsBack}
 use Rattle.bolt_tree.specs.declared.trail.Trail.{Trail}
-use Rattle.bolt_tree.proofs.MoveLemmas.{Finds, FindsBack}
 use Rattle.bolt_tree.proofs.OpeningMoves.{first_opens, next_opens}
 use Rattle.bolt_tree.proofs.PlaceMoves.{Comes, first_moves, last_moves, next_moves, prev_moves, seek_moves, stack_bucket, the_entries}
 

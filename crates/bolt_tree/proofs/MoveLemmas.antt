@@ -11,18 +11,11 @@ use Rattle.bolt_tree.specs.Private.Contents.{Content, Contents, Of_branch, Of_le
 use Rattle.bolt_tree.specs.Private.Entered.{IsEntered}
 use Rattle.bolt_tree.specs.Private.Stacks.{Frame, IsAtRest, IsOn, RestsOn, ahead_of, here_of, right_of, right_under}
 use Rattle.bolt_tree.proofs.TrailLemmas.{step_some}
-
--- what a move to the next entry finds, over what was ahead
-abbrev pub Finds : Option Leaf → List LeafElement → List LeafElement → List Frame → List Frame → Type 0
-Finds found before after frames end = MatchOption found ((before ≡ []) × (frames ≡ end)) (λ leaf. (before ≡ leaf_view leaf ∷ after) × IsOn frames (leaf_view leaf))
+use Rattle.bolt_tree.specs.Private.Trails.{Finds, FindsBack}
 
 pub found_over : (found : Option Leaf) (whole before after : List LeafElement) (frames end : List Frame) → whole ≡ before → Finds found before after frames end → Finds found whole after frames end
 found_over None whole before after frames end e h = (e ∙ h.0, h.1)
 found_over (Some leaf) whole before after frames end e h = (e ∙ h.0, h.1)
-
--- what a move to the entry before finds, over what was behind
-abbrev pub FindsBack : Option Leaf → List LeafElement → List LeafElement → List Frame → List Frame → Type 0
-FindsBack found before after frames end = MatchOption found ((before ≡ []) × (frames ≡ end)) (λ leaf. (before ≡ after ++ leaf_view leaf ∷ []) × IsOn frames (leaf_view leaf))
 
 pub back_over : (found : Option Leaf) (whole before after : List LeafElement) (frames end : List Frame) → whole ≡ before → FindsBack found before after frames end → FindsBack found whole after frames end
 back_over None whole before after frames end e h = (e ∙ h.0, h.1)

@@ -19,9 +19,9 @@ use Rattle.bolt_tree.specs.Private.Stacks.{Frame, HasStack, IsAtRest, RestsOn, a
 use Rattle.bolt_tree.specs.Private.Tours.{Visit, elements_of, tour}
 use Rattle.bolt_tree.proofs.CountLemmas.{all_is, upto_is}
 use Rattle.bolt_tree.proofs.ListLemmas.{at_has, get_behind, get_exists, get_front}
-use Rattle.bolt_tree.proofs.MoveLemmas.{Finds}
 use Rattle.bolt_tree.proofs.PlaceLemmas.{on_rests, split}
 use Rattle.bolt_tree.proofs.PlaceMoves.{ahead_number, the_entries}
+use Rattle.bolt_tree.specs.Private.Trails.{Finds}
 
 module _ (bucket : BucketView) where
   -- the number of pages up to that of this entry

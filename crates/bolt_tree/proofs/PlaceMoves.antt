@@ -19,9 +19,9 @@ use Rattle.bolt_tree.specs.Private.Stacks.{Frame, HasStack, IsAtRest, IsOn, Stan
 use Rattle.bolt_tree.specs.Private.Tours.{Visit, elements_of, tour}
 use Rattle.bolt_tree.proofs.BackLemmas.{behind_index}
 use Rattle.bolt_tree.proofs.ListLemmas.{get_behind, get_front}
-use Rattle.bolt_tree.proofs.MoveLemmas.{Finds, FindsBack}
 use Rattle.bolt_tree.proofs.PlaceLemmas.{IsSplit, get_next, on_rests, split}
 use Rattle.bolt_tree.proofs.SortedLemmas.{sorted, sorted_one}
+use Rattle.bolt_tree.specs.Private.Trails.{Finds, FindsBack}
 
 -- a stack is one of a sound bucket
 pub stack_bucket : (bucket : BucketView) (frames : List Frame) → HasStack bucket frames → ∥ IsSoundBucket bucket ∥₁

@@ -21,10 +21,10 @@ use Rattle.bolt_tree.specs.Private.Stacks.{Frame, HasStack, IsLeafContent, IsLea
 use Rattle.bolt_tree.specs.Private.Tours.{Visit}
 use Rattle.bolt_tree.proofs.FurtherLemmas.{after_count, between_count, one_near}
 use Rattle.bolt_tree.proofs.ListLemmas.{Has, at_has}
-use Rattle.bolt_tree.proofs.MoveLemmas.{Finds}
 use Rattle.bolt_tree.proofs.PlaceLemmas.{get_next}
 use Rattle.bolt_tree.proofs.PlaceMoves.{the_entries}
 use Rattle.bolt_tree.proofs.StackLemmas.{stack_short}
+use Rattle.bolt_tree.specs.Private.Trails.{Finds}
 
 pub length-address : (frames : List Frame) → length (address_on frames) ≡ length frames
 length-address [] = refl

@@ -38,7 +38,7 @@ pub(crate) struct SeekResult<'a> {
 }
 
 impl<'a> Trail<'a> {
-    ghost use Rattle.bolt_tree.specs.Private.Trails.{HasBucket, HasTrail, IsSameBucket, ahead, preceding, right, trail_bucket, trail_frames};
+    ghost use Rattle.bolt_tree.specs.Private.Trails.{Finds, FindsBack, HasBucket, HasTrail, IsSameBucket, ahead, preceding, right, trail_bucket, trail_frames};
 
     /// Goes to the first entry or, if there is none, before the first call.
     pub fn first(&mut self) -> Option<Leaf<'a>>
@@ -46,8 +46,7 @@ impl<'a> Trail<'a> {
         ensures same { IsSameBucket self.old self.new }
         ensures stack { HasTrail self.new }
         ensures rest { IsAtRest (trail_frames self.new) }
-        ensures found { MatchOption result ((elements_in (trail_bucket self.old) ≡ []) × (trail_frames self.new ≡ []))
-            (λ leaf. (elements_in (trail_bucket self.old) ≡ leaf_view leaf ∷ ahead self.new) × IsOn (trail_frames self.new) (leaf_view leaf)) }
+        ensures found { Finds result (elements_in (trail_bucket self.old)) (ahead self.new) (trail_frames self.new) [] }
         ensures bucket { IfSome result (λ leaf. IsTrue leaf.is_bucket → IsBucketValue leaf.value.now) }
         ensures opened { pager_opened self.new.pager ≡ counted (pager_opened self.old.pager) (length (pages_in (trail_bucket self.old)) - length (right self.new)) }
     {
@@ -61,8 +60,7 @@ impl<'a> Trail<'a> {
         ensures same { IsSameBucket self.old self.new }
         ensures stack { HasTrail self.new }
         ensures rest { IsAtRest (trail_frames self.new) }
-        ensures found { MatchOption result ((elements_in (trail_bucket self.old) ≡ []) × (trail_frames self.new ≡ []))
-            (λ leaf. (elements_in (trail_bucket self.old) ≡ preceding self.new ++ leaf_view leaf ∷ []) × IsOn (trail_frames self.new) (leaf_view leaf)) }
+        ensures found { FindsBack result (elements_in (trail_bucket self.old)) (preceding self.new) (trail_frames self.new) [] }
         ensures bucket { IfSome result (λ leaf. IsTrue leaf.is_bucket → IsBucketValue leaf.value.now) }
     {
         self.begin(true);
@@ -77,8 +75,7 @@ impl<'a> Trail<'a> {
         ensures same { IsSameBucket self.old self.new }
         ensures stack { HasTrail self.new }
         ensures rest { IsAtRest (trail_frames self.new) }
-        ensures found { MatchOption result ((ahead self.old ≡ []) × (trail_frames self.new ≡ trail_frames self.old))
-            (λ leaf. (ahead self.old ≡ leaf_view leaf ∷ ahead self.new) × IsOn (trail_frames self.new) (leaf_view leaf)) }
+        ensures found { Finds result (ahead self.old) (ahead self.new) (trail_frames self.new) (trail_frames self.old) }
         ensures bucket { IfSome result (λ leaf. IsTrue leaf.is_bucket → IsBucketValue leaf.value.now) }
         ensures opened { pager_opened self.new.pager ≡ counted (pager_opened self.old.pager) (length (right self.old) - opened_to (option_map leaf_view result) (right self.new)) }
     {
@@ -98,8 +95,7 @@ impl<'a> Trail<'a> {
         ensures same { IsSameBucket self.old self.new }
         ensures stack { HasTrail self.new }
         ensures rest { IsAtRest (trail_frames self.new) }
-        ensures found { MatchOption result ((preceding self.old ≡ []) × (trail_frames self.new ≡ trail_frames self.old))
-            (λ leaf. (preceding self.old ≡ preceding self.new ++ leaf_view leaf ∷ []) × IsOn (trail_frames self.new) (leaf_view leaf)) }
+        ensures found { FindsBack result (preceding self.old) (preceding self.new) (trail_frames self.new) (trail_frames self.old) }
         ensures bucket { IfSome result (λ leaf. IsTrue leaf.is_bucket → IsBucketValue leaf.value.now) }
     {
         set_positions(spare, self.stack.as_slice());
@@ -118,8 +114,7 @@ impl<'a> Trail<'a> {
         ensures same { IsSameBucket self.old self.new }
         ensures stack { HasTrail self.new }
         ensures rest { IsAtRest (trail_frames self.new) }
-        ensures found { MatchOption result.found ((drop (least_from key.now (elements_in (trail_bucket self.old))) (elements_in (trail_bucket self.old)) ≡ []) × (trail_frames self.new ≡ []))
-            (λ leaf. (drop (least_from key.now (elements_in (trail_bucket self.old))) (elements_in (trail_bucket self.old)) ≡ leaf_view leaf ∷ ahead self.new) × IsOn (trail_frames self.new) (leaf_view leaf)) }
+        ensures found { Finds result.found (drop (least_from key.now (elements_in (trail_bucket self.old))) (elements_in (trail_bucket self.old))) (ahead self.new) (trail_frames self.new) [] }
         ensures number { least_from key.now (elements_in (trail_bucket self.old)) ≤ length (elements_in (trail_bucket self.old)) }
         ensures bucket { IfSome result.found (λ leaf. IsTrue leaf.is_bucket → IsBucketValue leaf.value.now) }
         ensures opened { OpensSeek (trail_bucket self.old) key.now (pager_opened self.old.pager) (pager_opened self.new.pager) }
@@ -160,8 +155,7 @@ impl<'a> Trail<'a> {
         ensures same { IsSameBucket self.old self.new }
         ensures stack { HasTrail self.new }
         ensures rest { IsAtRest (trail_frames self.new) }
-        ensures found { MatchOption result ((ahead self.old ≡ []) × (trail_frames self.new ≡ trail_frames self.old))
-            (λ leaf. (ahead self.old ≡ leaf_view leaf ∷ ahead self.new) × IsOn (trail_frames self.new) (leaf_view leaf)) }
+        ensures found { Finds result (ahead self.old) (ahead self.new) (trail_frames self.new) (trail_frames self.old) }
         ensures bucket { IfSome result (λ leaf. IsTrue leaf.is_bucket → IsBucketValue leaf.value.now) }
         ensures opened { pager_opened self.new.pager ≡ counted (pager_opened self.old.pager) (length (right self.old) - opened_to (option_map leaf_view result) (right self.new)) }
     {
@@ -180,8 +174,7 @@ impl<'a> Trail<'a> {
         requires { HasTrail self.old }
         ensures same { IsSameBucket self.old self.new }
         ensures stack { HasTrail self.new }
-        ensures found { MatchOption result ((ahead self.old ≡ []) × (trail_frames self.new ≡ []))
-            (λ leaf. (ahead self.old ≡ leaf_view leaf ∷ ahead self.new) × IsOn (trail_frames self.new) (leaf_view leaf)) }
+        ensures found { Finds result (ahead self.old) (ahead self.new) (trail_frames self.new) [] }
         ensures bucket { IfSome result (λ leaf. IsTrue leaf.is_bucket → IsBucketValue leaf.value.now) }
         ensures less { length (right self.new) ≤ length (right self.old) }
         ensures opened { pager_opened self.new.pager ≡ counted (pager_opened self.old.pager) (length (right self.old) - length (right self.new)) }
@@ -201,8 +194,7 @@ impl<'a> Trail<'a> {
         requires { HasTrail self.old }
         ensures same { IsSameBucket self.old self.new }
         ensures stack { HasTrail self.new }
-        ensures found { MatchOption result ((preceding self.old ≡ []) × (trail_frames self.new ≡ []))
-            (λ leaf. (preceding self.old ≡ preceding self.new ++ leaf_view leaf ∷ []) × IsOn (trail_frames self.new) (leaf_view leaf)) }
+        ensures found { FindsBack result (preceding self.old) (preceding self.new) (trail_frames self.new) [] }
         ensures bucket { IfSome result (λ leaf. IsTrue leaf.is_bucket → IsBucketValue leaf.value.now) }
     {
         while let Some(top) = self.stack.pop() {

@@ -1,11 +1,13 @@
 -- What a trail shows: its bucket, and its stack with the top first.
-use Rattle.std.specs.Prelude.{◌≡◌, List, map, reverse}
+use Rattle.std.specs.Prelude.{◌≡◌, List, [], ◌∷◌, ◌++◌, MatchOption, Option, map, reverse}
+use Rattle.bolt_format.specs.ElementPlaces.{leaf_view}
 use Rattle.bolt_format.specs.Elements.{LeafElement}
+use Rattle.bolt_format.specs.declared.element.Leaf.{Leaf}
 use Rattle.bolt_tree.specs.BucketViews.{BucketView, bucket_in}
 use Rattle.bolt_tree.specs.Private.BucketPages.{IsSoundBucket, contents_in}
 use Rattle.bolt_tree.specs.Pagers.{pager_checked}
 use Rattle.bolt_tree.specs.Private.ShownPages.{opened_content}
-use Rattle.bolt_tree.specs.Private.Stacks.{Frame, HasStack, ahead_of, before_of, preceding_of, right_of}
+use Rattle.bolt_tree.specs.Private.Stacks.{Frame, HasStack, IsOn, ahead_of, before_of, preceding_of, right_of}
 use Rattle.bolt_tree.specs.Starts.{start_at}
 use Rattle.bolt_tree.specs.Private.Tours.{Visit}
 use Rattle.bolt_tree.specs.declared.position.Position.{Position}
@@ -48,3 +50,11 @@ preceding trail = preceding_of (contents_in (trail_bucket trail)) (trail_frames 
 
 abbrev pub before : Trail → List Visit
 before trail = before_of (contents_in (trail_bucket trail)) (trail_frames trail)
+
+-- a move to the next entry: what it returns, what was ahead and is ahead now, and its stack; without an entry, that stack is `end`
+abbrev pub Finds : Option Leaf → (before after : List LeafElement) (frames end : List Frame) → Type 0
+Finds found before after frames end = MatchOption found ((before ≡ []) × (frames ≡ end)) (λ leaf. (before ≡ leaf_view leaf ∷ after) × IsOn frames (leaf_view leaf))
+
+-- a move to the preceding entry, and what preceded
+abbrev pub FindsBack : Option Leaf → (before after : List LeafElement) (frames end : List Frame) → Type 0
+FindsBack found before after frames end = MatchOption found ((before ≡ []) × (frames ≡ end)) (λ leaf. (before ≡ after ++ leaf_view leaf ∷ []) × IsOn frames (leaf_view leaf))

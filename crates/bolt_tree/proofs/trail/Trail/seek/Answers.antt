@@ -6,8 +6,8 @@ use Rattle.bolt_tree.specs.Pagers.{counted, pager_opened}
 use Rattle.bolt_tree.specs.Places.{least_from}
 use Rattle.bolt_tree.specs.Private.Seeks.{IsNearTop, IsSought}
 use Rattle.bolt_tree.specs.Private.Stacks.{HasStack, ahead_of, right_of}
-use Rattle.bolt_tree.specs.Private.Trails.{ahead, right, trail_bucket, trail_frames}
-use Rattle.bolt_tree.proofs.MoveLemmas.{Finds, found_over}
+use Rattle.bolt_tree.specs.Private.Trails.{ahead, right, trail_bucket, trail_frames, Finds}
+use Rattle.bolt_tree.proofs.MoveLemmas.{found_over}
 use Rattle.bolt_tree.proofs.PagerLemmas.{counted_more}
 use Rattle.bolt_tree.proofs.SoughtLemmas.{leaf_nonempty, seek_bounds, seek_opens}
 use Rattle.bolt_tree.proofs.TrailLemmas.{same_bucket}
