@@ -1,7 +1,6 @@
 -- The span of a freelist whose page is good.
-use Rattle.std.proofs.Common.{◌≡◌, ◌≢◌, ◌∙◌, ◌==◌, ℕ, ◌+◌, ◌*◌, ◌<◌, ◌≤◌, List, Option, Some, None, length, refl, sym, ap}
+use Rattle.std.proofs.Common.{◌≡◌, ◌≢◌, ◌∙◌, ◌==◌, ℕ, ◌+◌, ◌*◌, ◌<◌, ◌≤◌, List, Option, Some, None, length, refl, sym}
 use Rattle.std.proofs.lemmas.Bool.{cond-false, ne_eqb}
-use Rattle.bolt_format.specs.Elements.{first_of}
 use Rattle.bolt_format.specs.Freelists.{freelist_fault, freelist_fault_of, freelist_kind_fault}
 use Rattle.bolt_format.specs.Headers.{count_field, flags_field, kind_of}
 use Rattle.bolt_format.specs.Pages.{PageView, from_page, page_at, page_fault, page_overflow, span_bytes, span_fault, view_of}

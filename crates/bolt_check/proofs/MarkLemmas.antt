@@ -1,9 +1,7 @@
 -- A good page lies below the mark and in the file.
-use Rattle.std.proofs.Common.{◌≡◌, ◌∙◌, ◌==◌, ℕ, ◌+◌, ◌*◌, ◌<◌, ◌≤◌, Bool, true, false, not, is_some, List, Option, Some, None, Result, Ok, Err, cond, length, nat_le, nat_lt, refl, sym, ap, subst, inl, inr, arith, []}
-use Rattle.std.proofs.lemmas.Bool.{cases_lt, leb-false, ltb-false}
-use Rattle.bolt_format.specs.Elements.{first_of}
-use Rattle.bolt_format.specs.Headers.{flags_field, id_field, kind_of}
-use Rattle.bolt_format.specs.Pages.{PageView, from_page, page_at, page_fault, page_overflow, shown_as, span_fault}
+use Rattle.std.proofs.Common.{◌≡◌, ◌∙◌, ℕ, ◌+◌, ◌*◌, ◌<◌, ◌≤◌, List, Option, Some, None, Result, Ok, Err, length, refl, sym, ap, subst, inl, inr, arith, []}
+use Rattle.std.proofs.lemmas.Bool.{cases_lt}
+use Rattle.bolt_format.specs.Pages.{PageView, page_at, page_fault, page_overflow, shown_as}
 use Rattle.bolt_format.specs.declared.kind.Kind.{Kind}
 use Rattle.bolt_format.specs.declared.kind.Kind.TheVariants as kind
 use Rattle.bolt_format.specs.declared.meta.Meta.{Meta}

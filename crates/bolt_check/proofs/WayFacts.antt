@@ -1,5 +1,5 @@
 -- Ways, addresses and the pages that they lead to, for the crates above too.
-use Rattle.std.proofs.Common.{◌≡◌, ◌∙◌, ℕ, zero, suc, Bool, true, false, List, [], ◌∷◌, ◌++◌, map, Option, Some, None, Result, Ok, Err, slice_get, refl, sym, ap, subst, arith}
+use Rattle.std.proofs.Common.{◌≡◌, ◌∙◌, ℕ, suc, Bool, true, false, List, [], ◌∷◌, ◌++◌, map, Option, Some, None, Result, Ok, Err, slice_get, refl, sym, ap, subst, arith}
 use Rattle.std.proofs.lemmas.Option.{same_Some, slice_get-map, none-some}
 use Rattle.std.specs.Option.{option_map}
 use Rattle.bolt_format.specs.Pages.{PageView, page_at, page_fault}
@@ -7,7 +7,6 @@ use Rattle.bolt_format.specs.declared.kind.Kind.{Kind}
 use Rattle.bolt_format.specs.declared.kind.Kind.TheVariants as kind
 use Rattle.bolt_format.specs.declared.meta.Meta.{Meta}
 use Rattle.bolt_check.specs.Findings.{keys_of}
-use Rattle.bolt_check.specs.Keys.{Key}
 use Rattle.bolt_check.specs.Nodes.{Entry, Node, Nodes, leaf_entry, node_at, node_of, node_seen}
 use Rattle.bolt_check.specs.Shape.{HasShape, child_in, child_of, leads}
 use Rattle.bolt_check.specs.Ways.{At_page, PageSpot, SpanHas, SpanOf, Spot, child_spot, follow, reached, step, step_at, step_entry, upper_from}

@@ -1,5 +1,5 @@
 -- The tour of a bucket: all ways that lead somewhere, in their order.
-use Rattle.std.specs.Prelude.{◌≡◌, ◌⊎◌, ℕ, List, [], ◌∷◌, Some}
+use Rattle.std.specs.Prelude.{◌≡◌, ℕ, List, [], ◌∷◌, Some}
 use Rattle.bolt_check.specs.Ways.{Before, Reach, Spot}
 use Rattle.bolt_check.specs.Subtrees.{Has}
 

@@ -1,5 +1,5 @@
 -- What is read of headers, and of the head of a bucket's value, after they were written.
-use Rattle.std.specs.Prelude.{◌≡◌, ◌<◌, ◌^◌, ℕ, ◌+◌, Bool, List, Option, None, Some}
+use Rattle.std.specs.Prelude.{◌≡◌, ◌<◌, ◌^◌, ℕ, ◌+◌, Bool, List, None, Some}
 use Rattle.bolt_format.specs.Elements.{branch_child, branch_key_length, branch_key_start, element_at, head_fault, head_root, head_sequence, inline_bytes, is_bucket_at, leaf_flags, leaf_key_length, leaf_key_start, leaf_value_length}
 use Rattle.bolt_format.specs.Headers.{count_field, flags_field, flags_of, id_field, kind_of, overflow_field}
 use Rattle.bolt_format.specs.Metas.{IsPageSize}
