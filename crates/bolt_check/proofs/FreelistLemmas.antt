@@ -3,12 +3,11 @@ use Rattle.std.proofs.Common.{◌≡◌, ◌≢◌, ◌∙◌, ◌==◌, ℕ, �
 use Rattle.std.proofs.lemmas.Bool.{cond-false, ne_eqb}
 use Rattle.bolt_format.specs.Freelists.{freelist_fault, freelist_fault_of, freelist_kind_fault}
 use Rattle.bolt_format.specs.Headers.{count_field, flags_field, kind_of}
-use Rattle.bolt_format.specs.Pages.{PageView, from_page, page_at, page_fault, page_overflow, span_bytes, span_fault, view_of}
+use Rattle.bolt_format.specs.Pages.{from_page, page_at, page_fault, page_overflow, span_bytes, span_fault, view_of}
 use Rattle.bolt_format.specs.declared.kind.Kind.{Kind}
 use Rattle.bolt_format.specs.declared.kind.Kind.TheVariants as kind
 use Rattle.bolt_format.specs.declared.meta.Meta.{Meta}
 use Rattle.bolt_format.specs.declared.meta.TheConstants.{NO_FREELIST}
-use Rattle.bolt_check.proofs.MarkLemmas.{page_overflows}
 use Rattle.bolt_format.proofs.FaultLemmas.{first_of-none}
 use Rattle.bolt_format.proofs.PageFacts.{span_within}
 
@@ -37,10 +36,6 @@ module _ (file : List ℕ) (meta : Meta) (written : meta.freelist ≢ NO_FREELIS
       ≡ Some (view_of kind.Freelist (count_field (from_page file meta meta.freelist)) (page_overflow file meta meta.freelist) (span_bytes file meta meta.freelist))
   unfolding page_at page_fault
   freelist_page = rw (own_span, own_kind) refl
-
-  -- so what it shows has its overflow,
-  pub overflow_shown : (view : PageView) → page_at file meta meta.freelist ≡ Some view → view.overflow ≡ page_overflow file meta meta.freelist
-  overflow_shown view e = page_overflows file meta meta.freelist view e
 
   -- and its span lies below the mark and in the file
   pub freelist_within : (meta.freelist + page_overflow file meta meta.freelist < meta.high_water)

@@ -1,5 +1,5 @@
 -- How open buckets change: a cursor is removed and added again.
-use Rattle.std.proofs.Common.{◌≡◌, ◌∙◌, ◌-◌, ℕ, suc, List, [], ◌∷◌, ◌++◌, take, Option, Some, None, MatchOption, refl, sym, ap, subst, append_assoc, append-nil, Bor}
+use Rattle.std.proofs.Common.{◌≡◌, ◌∙◌, ◌-◌, ℕ, suc, List, [], ◌∷◌, ◌++◌, take, Option, Some, None, MatchOption, refl, sym, ap, subst, append_assoc, append-nil, Bor, slice_get}
 use Rattle.std.specs.Option.{option_to_list}
 use Rattle.bolt_format.specs.Elements.{LeafElement}
 use Rattle.bolt_check.specs.Keys.{Key}
@@ -13,7 +13,7 @@ use Rattle.bolt_tree.specs.Places.{Moves, next_move}
 use Rattle.bolt_tree.specs.Private.Kept.{CursorView}
 use Rattle.bolt_tree.specs.Private.OpenBuckets.{AreOpen, StandsOn}
 use Rattle.bolt_tree.specs.Private.RestAfter.{rest_after, beyond}
-use Rattle.bolt_tree.proofs.CursorMoves.{comes_next}
+use Rattle.bolt_tree.proofs.CursorMoves.{ComesTo, comes_next}
 use Rattle.bolt_tree.proofs.EntryOrder.{contains_at}
 use Rattle.bolt_tree.proofs.Giving.{give_after_last, give_next}
 
@@ -114,16 +114,18 @@ module _ (checked : Checked) (all : HasEntries (entries_of checked) (root_start 
   abbrev MovesOn : Option LeafElement → Type 0
   MovesOn o = Moves (entries_of cursor.checked) cursor.start next_move cursor.place moved.place o
 
-  here : (o : Option LeafElement) → MovesOn o → Moves (entries_of checked) cursor.start next_move cursor.place moved.place o
-  here o moves =
-      subst (λ (file : Checked). Moves (entries_of file) cursor.start next_move cursor.place moved.place o) top.checked_file moves
+  -- the entry that it was on, and where it comes
+  goes : (o : Option LeafElement) → MovesOn o → (entries : List LeafElement) → AreEntries (entries_of checked) cursor.start entries
+      → (i : ℕ) × (old : LeafElement) × (slice_get entries i ≡ Some old) × (top.front ++ old.key ∷ [] ≡ keys) × ComesTo entries (suc i) moved.place o
+  goes o moves entries are =
+      let (i, old, on, at, key) = top.stands entries are in
+      let here = subst (λ (file : Checked). Moves (entries_of file) cursor.start next_move cursor.place moved.place o) top.checked_file moves in
+      (i, old, at, ap (λ (k : Key). top.front ++ k ∷ []) key ∙ sym top.split, comes_next entries i old cursor.place moved.place o on at (here entries are))
 
   -- to an entry
   pub next_stands : (e : LeafElement) → moved.start ≡ cursor.start → MovesOn (Some e) → StandsOn (entries_of checked) moved e.key
   next_stands e start moves entries are =
-      let own : AreEntries (entries_of checked) cursor.start entries = subst (λ (s : Start). AreEntries (entries_of checked) s entries) start are in
-      let (i, old, on, at, key) = top.stands entries own in
-      let came = comes_next entries i old cursor.place moved.place (Some e) on at (here (Some e) moves entries own) in
+      let (i, old, at, same, came) = goes (Some e) moves entries (subst (λ (s : Start). AreEntries (entries_of checked) s entries) start are) in
       (suc i, e, came.0, came.1, refl)
 
   pub next_open : (e : LeafElement) → moved.checked ≡ cursor.checked → moved.start ≡ cursor.start → MovesOn (Some e)
@@ -135,17 +137,14 @@ module _ (checked : Checked) (all : HasEntries (entries_of checked) (root_start 
   pub next_entry : (e : LeafElement) → MovesOn (Some e) → entries_of checked cursor.start e
   next_entry e moves =
       let own = all top.front cursor.start top.names in
-      let (i, old, on, at, key) = top.stands own.0 own.1 in
-      let came = comes_next own.0 i old cursor.place moved.place (Some e) on at (here (Some e) moves own.0 own.1) in
+      let (i, old, at, same, came) = goes (Some e) moves own.0 own.1 in
       (own.1.exact e).0 (contains_at own.0 (suc i) e came.1)
 
   pub next_given : (e : LeafElement) → MovesOn (Some e) → (listing : List Member) → Lists (entries_of checked) (root_start checked) listing
       → beyond keys listing ≡ (top.front ++ e.key ∷ [], item_of e) ∷ rest_after (top.front ++ e.key ∷ []) listing
   next_given e moves listing lists =
       let own = all top.front cursor.start top.names in
-      let (i, old, on, at, key) = top.stands own.0 own.1 in
-      let came = comes_next own.0 i old cursor.place moved.place (Some e) on at (here (Some e) moves own.0 own.1) in
-      let same : top.front ++ old.key ∷ [] ≡ keys = ap (λ (k : Key). top.front ++ k ∷ []) key ∙ sym top.split in
+      let (i, old, at, same, came) = goes (Some e) moves own.0 own.1 in
       subst (λ (p : Path). beyond p listing ≡ (top.front ++ e.key ∷ [], item_of e) ∷ rest_after (top.front ++ e.key ∷ []) listing) same
       (give_next (entries_of checked) (root_start checked) all listing lists top.front cursor.start top.names own.0 i old e own.1 at came.1)
 
@@ -153,8 +152,6 @@ module _ (checked : Checked) (all : HasEntries (entries_of checked) (root_start 
   pub next_ended : MovesOn None → (listing : List Member) → Lists (entries_of checked) (root_start checked) listing → beyond keys listing ≡ beyond top.front listing
   next_ended moves listing lists =
       let own = all top.front cursor.start top.names in
-      let (i, old, on, at, key) = top.stands own.0 own.1 in
-      let short = comes_next own.0 i old cursor.place moved.place None on at (here None moves own.0 own.1) in
-      let same : top.front ++ old.key ∷ [] ≡ keys = ap (λ (k : Key). top.front ++ k ∷ []) key ∙ sym top.split in
+      let (i, old, at, same, short) = goes None moves own.0 own.1 in
       subst (λ (p : Path). beyond p listing ≡ beyond top.front listing) same
       (give_after_last (entries_of checked) (root_start checked) all listing lists top.front cursor.start top.names own.0 i old own.1 at short)

@@ -2,7 +2,8 @@ use Rattle.std.proofs.Common.{◌∙◌, ℕ, ◌+◌, ap, arith, refl}
 use Rattle.bolt_format.specs.Shown.{shown}
 use Rattle.bolt_check.specs.declared.table.PageUse.TheVariants.{Used}
 use Rattle.bolt_check.proofs.ClaimLemmas.{all_used, claims_freelist, lowest_shared, span_within}
-use Rattle.bolt_check.proofs.FreelistLemmas.{freelist_page, overflow_shown}
+use Rattle.bolt_check.proofs.FreelistLemmas.{freelist_page}
+use Rattle.bolt_check.proofs.MarkLemmas.{page_overflows}
 use Rattle.bolt_check.proofs.accounts.claim_freelist.Goals as goal
 
 pub known-requires : goal.known-requires
@@ -10,29 +11,29 @@ known-requires c = rw (freelist_page c.args.file.now c.args.meta.now c.requires.
 
 pub overflow_add-last : goal.overflow_add-last
 overflow_add-last c =
-    let same = c.overflow-overflow.ensures ∙ overflow_shown c.args.file.now c.args.meta.now c.requires.written c.requires.good (shown c.known.result) c.known.ensures in
+    let same = c.overflow-overflow.ensures ∙ page_overflows c.args.file.now c.args.meta.now c.args.meta.now.freelist (shown c.known.result) c.known.ensures in
     let inside = span_within c.args.file.now c.args.meta.now c.args.table.now c.overflow-overflow.result same c.requires.written c.requires.good c.requires.room in
     omega (arith, inside)
 
 pub first_claimed-requires-clause-within : goal.first_claimed-requires-clause-within
 first_claimed-requires-clause-within c =
-    let same = c.overflow-overflow.ensures ∙ overflow_shown c.args.file.now c.args.meta.now c.requires.written c.requires.good (shown c.known.result) c.known.ensures in
+    let same = c.overflow-overflow.ensures ∙ page_overflows c.args.file.now c.args.meta.now c.args.meta.now.freelist (shown c.known.result) c.known.ensures in
     span_within c.args.file.now c.args.meta.now c.args.table.now c.overflow-overflow.result same c.requires.written c.requires.good c.requires.room
 
 pub returns-in-Some-clause-shared : goal.returns-in-Some-clause-shared
 returns-in-Some-clause-shared c =
-    let same = c.overflow-overflow.ensures ∙ overflow_shown c.args.file.now c.args.meta.now c.requires.written c.requires.good (shown c.known.result) c.known.ensures in
+    let same = c.overflow-overflow.ensures ∙ page_overflows c.args.file.now c.args.meta.now c.args.meta.now.freelist (shown c.known.result) c.known.ensures in
     lowest_shared c.args.file.now c.args.meta.now c.args.table.now (c.args.meta.now.freelist + c.overflow-overflow.result) c.in-Some.page
     (ap (λ (m : ℕ). c.args.meta.now.freelist + m) same) c.requires.written c.requires.good c.in-Some.ensures.lowest
 
 pub claim-requires-clause-within : goal.claim-requires-clause-within
 claim-requires-clause-within c =
-    let same = c.overflow-overflow.ensures ∙ overflow_shown c.args.file.now c.args.meta.now c.requires.written c.requires.good (shown c.known.result) c.known.ensures in
+    let same = c.overflow-overflow.ensures ∙ page_overflows c.args.file.now c.args.meta.now c.args.meta.now.freelist (shown c.known.result) c.known.ensures in
     span_within c.args.file.now c.args.meta.now c.args.table.now c.overflow-overflow.result same c.requires.written c.requires.good c.requires.room
 
 pub returns-clause-claimed : goal.returns-clause-claimed
 returns-clause-claimed c =
-    let same = c.overflow-overflow.ensures ∙ overflow_shown c.args.file.now c.args.meta.now c.requires.written c.requires.good (shown c.known.result) c.known.ensures in
+    let same = c.overflow-overflow.ensures ∙ page_overflows c.args.file.now c.args.meta.now c.args.meta.now.freelist (shown c.known.result) c.known.ensures in
     claims_freelist c.args.file.now c.args.meta.now c.args.table.now c.claim.new.table (c.args.meta.now.freelist + c.overflow-overflow.result)
     (ap (λ (m : ℕ). c.args.meta.now.freelist + m) same) c.requires.written c.requires.good
     c.in_default.ensures.none c.claim.ensures.span c.claim.ensures.unlisted
