@@ -1,10 +1,6 @@
-use Rattle.std.proofs.Common.{◌≡◌, ◌∙◌, ◌-◌, Option, length, sym, ap, arith}
-use Rattle.std.specs.Option.{option_map}
-use Rattle.bolt_format.specs.ElementPlaces.{leaf_view}
-use Rattle.bolt_format.specs.declared.element.Leaf.{Leaf}
+use Rattle.std.proofs.Common.{◌≡◌, ◌∙◌, ◌-◌, length, sym, ap, arith}
 use Rattle.bolt_tree.specs.Pagers.{counted, pager_opened}
 use Rattle.bolt_tree.specs.Private.BucketPages.{contents_in}
-use Rattle.bolt_tree.specs.Private.Entered.{opened_to}
 use Rattle.bolt_tree.specs.Private.Trails.{right, trail_bucket, trail_frames}
 use Rattle.bolt_tree.proofs.MoveLemmas.{alone}
 use Rattle.bolt_tree.proofs.PagerLemmas.{counted_zero}
