@@ -6,7 +6,7 @@ use Rattle.bolt_format.specs.Elements.{LeafElement, head_root, inline_elements}
 use Rattle.bolt_format.specs.declared.meta.Meta.{Meta}
 use Rattle.bolt_check.specs.Nodes.{Entry, Node, Nodes, leaf_entry, node_at}
 use Rattle.bolt_check.specs.Shape.{leads}
-use Rattle.bolt_check.specs.Ways.{At_inline, At_page, PageSpot, Spot, SpanHas, child_spot, follow, reached, spot_of, root_spot, step_at, step_entry, step_on, upper_from}
+use Rattle.bolt_check.specs.Ways.{At_page, PageSpot, Spot, follow, root_spot, step_at, step_entry, bucket_spots}
 use Rattle.bolt_tree.specs.Entries.{Inline_page, IsEntry, IsStart, Root_page, ShowsEntry, Start, start_of}
 use Rattle.bolt_check.specs.OnWays.{IsOnWay}
 use Rattle.bolt_check.proofs.WayFacts.{follow_append, leads_follow, leaf_node}
@@ -23,7 +23,7 @@ place_of (x ∷ leaves) e h =
       | inr g ↦ let (i, at) = place_of leaves e g in (suc i, at)
     ]
 
-spot_for : (host : ℕ) (e : LeafElement) → e.is_bucket ≡ true → eqb (head_root e.value) 0 ≡ false → Rattle.bolt_check.specs.Ways.bucket_spots host (leaf_entry e) ≡ Some (At_page (root_spot (head_root e.value)))
+spot_for : (host : ℕ) (e : LeafElement) → e.is_bucket ≡ true → eqb (head_root e.value) 0 ≡ false → bucket_spots host (leaf_entry e) ≡ Some (At_page (root_spot (head_root e.value)))
 spot_for host e b page = rw (b, page) refl
 
 entry_step : (t : PageSpot) (o next : Option Entry) (e : LeafElement) → o ≡ Some (leaf_entry e) → e.is_bucket ≡ true → eqb (head_root e.value) 0 ≡ false

@@ -1,5 +1,5 @@
 -- How many pages lie between the leaf that is nearest to a key and the page that a seek comes to.
-use Rattle.std.proofs.Common.{◌≡◌, ℕ, zero, suc, ◌+◌, ◌-◌, ◌≤◌, ◌<◌, ◌⊎◌, inl, inr, List, [], ◌∷◌, ◌++◌, Some, None, Option, slice_get, length, map, refl, sym, ap, ◌∙◌, subst, arith, append_assoc, length-append}
+use Rattle.std.proofs.Common.{◌≡◌, ℕ, zero, suc, ◌+◌, ◌-◌, ◌≤◌, ◌<◌, ◌⊎◌, inl, inr, List, [], ◌∷◌, ◌++◌, Some, slice_get, length, refl, sym, ap, ◌∙◌, subst, arith, append_assoc, length-append, false}
 use Rattle.std.proofs.lemmas.List.{length-map}
 use Rattle.bolt_format.specs.Elements.{BranchElement, LeafElement}
 use Rattle.bolt_format.specs.Pages.{PageView, page_at}
@@ -24,8 +24,8 @@ kinds_apart k e h = cc
 
 -- there is one nearest element, and one nearest leaf
 one_nearest : (bs : List BranchElement) (key : Key) (i j : ℕ) (a b : BranchElement) → IsNearest bs key i → IsNearest bs key j → slice_get bs i ≡ Some a → slice_get bs j ≡ Some b → (i < j → ⊥)
-one_nearest bs key i j a b (inl h) (inl k) g q l = let t = h.3 j b l q in let u : key_lt key b.key ≡ Rattle.std.proofs.Common.false = (let same : k.0 ≡ b = one_some (slice_get bs j) k.0 b k.1 q in rw (← same) k.2) in cc
-one_nearest bs key i j a b (inr h) (inl k) g q l = let t = h.1 j b q in let u : key_lt key b.key ≡ Rattle.std.proofs.Common.false = (let same : k.0 ≡ b = one_some (slice_get bs j) k.0 b k.1 q in rw (← same) k.2) in cc
+one_nearest bs key i j a b (inl h) (inl k) g q l = let t = h.3 j b l q in let u : key_lt key b.key ≡ false = (let same : k.0 ≡ b = one_some (slice_get bs j) k.0 b k.1 q in rw (← same) k.2) in cc
+one_nearest bs key i j a b (inr h) (inl k) g q l = let t = h.1 j b q in let u : key_lt key b.key ≡ false = (let same : k.0 ≡ b = one_some (slice_get bs j) k.0 b k.1 q in rw (← same) k.2) in cc
 one_nearest bs key i j a b h (inr k) g q l = let z = k.0 in omega (arith, z, l)
 
 by_order : (i j : ℕ) → (i < j → ⊥) → (j < i → ⊥) → i ≡ j

@@ -1,8 +1,7 @@
 -- Which member of a listing comes next if a bucket is entered, if its cursor moves on, or if it has ended.
 -- Rests on the order of paths, and on what a named bucket holds (Named).
 use Rattle.std.proofs.Common.{◌≡◌, ◌∙◌, ◌⊎◌, ◌≤◌, inl, inr, Bool, true, false, not, ℕ, suc, List, [], ◌∷◌, ◌++◌, length, filter, Some, slice_get, refl, sym, ap, subst, append-nil}
-use Rattle.std.specs.List.{Contains}
-use Rattle.std.specs.Ordering.{is_lt}
+use Rattle.std.specs.Ordering.{is_lt, ordering_then}
 use Rattle.std.specs.declared.cmp.Ordering.{Ordering}
 use Rattle.std.specs.declared.cmp.Ordering.TheVariants.{Less, Equal, Greater}
 use Rattle.std.specs.Cmp.{both_ways}
@@ -22,7 +21,7 @@ use Rattle.bolt_tree.proofs.Single.{member_total}
 use Rattle.bolt_check.proofs.KeyLaws.{less_of}
 
 -- a path is not rest_after another with a part in the same place that is not rest_after its own
-greater_part : (o r : Ordering) → is_lt o ≡ false → (o ≡ Equal → is_lt r ≡ false) → is_lt (Rattle.std.specs.Ordering.ordering_then o r) ≡ false
+greater_part : (o r : Ordering) → is_lt o ≡ false → (o ≡ Equal → is_lt r ≡ false) → is_lt (ordering_then o r) ≡ false
 greater_part Less r e more = e
 greater_part Equal r e more = more refl
 greater_part Greater r e more = refl

@@ -1,6 +1,6 @@
 -- Buckets nest only finitely deep: each has a root page of its own, and the pages are so many. So each has a tree.
 -- Rests on the shape of a sound file: two ways to one page are one.
-use Rattle.std.proofs.Common.{◌≡◌, ◌∙◌, ◌⊎◌, ◌≤◌, ◌<◌, inl, inr, Bool, true, false, not, IsTrue, ℕ, zero, suc, eqb, eq-eqb, eqb-true, List, [], ◌∷◌, ◌++◌, length, map, filter, cond, Option, Some, None, Result, Ok, Err, slice_get, refl, sym, ap, subst, arith, append_assoc}
+use Rattle.std.proofs.Common.{◌≡◌, ◌∙◌, ◌≤◌, ◌<◌, inl, inr, Bool, true, false, not, ℕ, zero, suc, eqb, eq-eqb, eqb-true, List, [], ◌∷◌, ◌++◌, length, filter, Option, Some, refl, sym, ap, subst, arith, length-append}
 use Rattle.std.specs.List.{Contains}
 use Rattle.std.proofs.lemmas.Bool.{cases_lt}
 use Rattle.bolt_format.specs.Elements.{LeafElement, head_root, head_sequence, inline_elements}
@@ -37,9 +37,9 @@ has_number (suc n) k h =
 no_longer : (w v : List ℕ) (i : ℕ) (x : List ℕ) → w ≡ (w ++ (v ++ i ∷ [])) ++ x → ⊥
 no_longer w v i x e =
     let n = ap length e in
-    let a = Rattle.std.proofs.Common.length-append (w ++ (v ++ i ∷ [])) x in
-    let b = Rattle.std.proofs.Common.length-append w (v ++ i ∷ []) in
-    let c = Rattle.std.proofs.Common.length-append v (i ∷ []) in
+    let a = length-append (w ++ (v ++ i ∷ [])) x in
+    let b = length-append w (v ++ i ∷ []) in
+    let c = length-append v (i ∷ []) in
     let one : length (i ∷ []) ≡ 1 = refl in
     omega (arith, n, a, b, c, one)
 

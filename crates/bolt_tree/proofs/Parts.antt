@@ -43,7 +43,3 @@ from_start checked cursors keys path buckets none empty listing lists =
     ∥∥₁_elim buckets (hlevel props) (λ t.
     ap (λ (p : Path). rest_after p listing) none ∙ (behind_all (entries_of checked) (root_start checked) t.0 listing lists
     ∙ (sym (rest_all (entries_of checked) (root_start checked) t.0 listing lists) ∙ ap (λ (p : Path). rest_from p listing) (sym empty))))
-
-pub take_none : {A : Type 0} (i : ℕ) → take {A = A} i [] ≡ []
-take_none zero = refl
-take_none (suc i) = refl

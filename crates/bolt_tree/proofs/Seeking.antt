@@ -1,8 +1,7 @@
 -- The rest of a listing from a path, found part by part: if a bucket has no entry from a part on, a greater one, or a value.
 -- Rests on the order of paths, and on what a named bucket holds (Named).
 use Rattle.std.proofs.Common.{◌≡◌, ◌∙◌, ◌≤◌, inl, inr, true, false, not, List, [], ◌∷◌, ◌++◌, length, Some, slice_get, refl, ap, subst}
-use Rattle.std.specs.List.{Contains}
-use Rattle.std.specs.Ordering.{is_lt}
+use Rattle.std.specs.Ordering.{is_lt, ordering_reverse}
 use Rattle.std.specs.declared.cmp.Ordering.{Ordering}
 use Rattle.std.specs.declared.cmp.Ordering.TheVariants.{Less, Equal, Greater}
 use Rattle.std.proofs.lemmas.Bool.{not-true, false_from_ne_true}
@@ -16,7 +15,7 @@ use Rattle.bolt_tree.specs.Places.{least_from}
 use Rattle.bolt_tree.specs.Private.RestAfter.{is_beyond, rest_after, beyond}
 use Rattle.bolt_tree.proofs.EntryOrder.{seek_least, seek_none}
 use Rattle.bolt_tree.proofs.Filters.{filter_all, filter_same}
-use Rattle.bolt_tree.proofs.Giving.{not_before, not_before_beyond}
+use Rattle.bolt_tree.proofs.Giving.{not_before, not_before_beyond, after_end}
 use Rattle.bolt_tree.proofs.Named.{first_of_held, held_below, held_down}
 use Rattle.bolt_tree.proofs.PathOrder.{before_longer, beyond_less, beyond_or_longer, flip_less, path_exact, path_total, same_front}
 use Rattle.bolt_check.proofs.KeyLaws.{less_of}
@@ -28,7 +27,7 @@ behind_from p w m less from = by (path_cmp w m) refl
     by : (o : Ordering) → path_cmp w m ≡ o → path_cmp p m ≡ Less
     by Less e = path_total.trans p w m less e
     by Equal e = rw (← path_exact w m e) less
-    by Greater e = absurd (let f : path_cmp m w ≡ Less = path_total.antisymm m w ∙ ap Rattle.std.specs.Ordering.ordering_reverse e in let g = ap is_lt f in cc)
+    by Greater e = absurd (let f : path_cmp m w ≡ Less = path_total.antisymm m w ∙ ap ordering_reverse e in let g = ap is_lt f in cc)
 
 -- a path with a lesser part in that place stands before
 lesser_part : (p : Path) (z k : Key) (r s : Path) → key_cmp z k ≡ Less → path_cmp (p ++ z ∷ r) (p ++ k ∷ s) ≡ Less
@@ -97,7 +96,7 @@ module _ (Entry : Start → LeafElement → Type 0) (from : Start) (all : HasEnt
 
   -- all is from the empty path on
   pub rest_all : rest_from [] listing ≡ listing
-  rest_all = filter_all (λ m. not (is_lt (path_cmp m.0 []))) listing (λ m in_it. ap not (Rattle.bolt_tree.proofs.Giving.after_end m.0))
+  rest_all = filter_all (λ m. not (is_lt (path_cmp m.0 []))) listing (λ m in_it. ap not (after_end m.0))
 
   held_some : (q : Path) (item : Item) → Holds Entry from q item → is_lt (path_cmp [] q) ≡ true
   held_some [] item h = absurd h

@@ -1,10 +1,11 @@
 use Rattle.bolt_tree.specs.Private.OpenCursors.{cursors_of}
 use Rattle.std.proofs.Common.{◌∙◌, ◌++◌, ◌∷◌, [], List, Bor, ℕ, suc, drop, take, length, get_or, refl, ap}
+use Rattle.std.proofs.Math.Seq.{take-nil}
 use Rattle.bolt_tree.specs.Listing.{rest_from}
 use Rattle.bolt_tree.specs.Paths.{Path, path_of}
 use Rattle.bolt_tree.specs.Private.OpenBuckets.{open_path}
 use Rattle.bolt_tree.proofs.Climbing.{listed_in}
-use Rattle.bolt_tree.proofs.Parts.{ends_at, from_start, none_left, parts_whole, take_none}
+use Rattle.bolt_tree.proofs.Parts.{ends_at, from_start, none_left, parts_whole}
 use Rattle.bolt_tree.proofs.open_buckets.OpenBuckets.seek.Goals as goal
 
 pub returns-in-Here-clause-left : goal.returns-in-Here-clause-left
@@ -21,5 +22,5 @@ pub returns-clause-left : goal.returns-clause-left
 returns-clause-left c = λ listing lists.
     let empty = none_left c.args.path.now c.loop-i.i c.loop-i.auto.i-end c.loop-i-test.false c.loop-i.invariant.more in
     from_start c.loop-i.self.cursors.checked (cursors_of c.loop-i.self.cursors) (open_path c.loop-i.self) (path_of c.args.path.now) c.loop-i.invariant.placed
-    (c.loop-i.invariant.parts ∙ ap (λ (p : List (Bor (List ℕ))). path_of (take c.loop-i.i p)) empty ∙ ap path_of (take_none c.loop-i.i)) (ap path_of empty) listing
+    (c.loop-i.invariant.parts ∙ ap (λ (p : List (Bor (List ℕ))). path_of (take c.loop-i.i p)) empty ∙ ap path_of (take-nil c.loop-i.i)) (ap path_of empty) listing
     (listed_in c.loop-i.self.cursors.checked c.args.self.now.cursors.checked listing c.loop-i.invariant.checked lists)
