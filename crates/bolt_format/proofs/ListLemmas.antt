@@ -1,5 +1,5 @@
--- What is left of a list, and what an option holds, for the crates above too.
-use Rattle.std.proofs.Common.{◌≡◌, ◌∙◌, ℕ, zero, suc, ◌+◌, List, [], ◌∷◌, Some, drop, slice_get, ap, arith, Option, sym}
+-- The elements of a list up to one and from it on, and what an option holds, for the crates above too.
+use Rattle.std.proofs.Common.{◌≡◌, ◌∙◌, ℕ, zero, suc, ◌+◌, List, [], ◌∷◌, Some, drop, slice_get, ap, arith, Option, sym, take, ◌++◌, refl}
 use Rattle.std.proofs.lemmas.Option.{none-some, same_Some}
 
 pub drop_at : {X : Type 0} (xs : List X) (i : ℕ) (x : X) → slice_get xs i ≡ Some x → drop i xs ≡ x ∷ drop (suc i) xs
@@ -10,6 +10,11 @@ drop_at (y ∷ xs) (suc i) x e = drop_at xs i x e
 -- the element with this number, and then the rest
 pub drop_next : {X : Type 0} (xs : List X) (i : ℕ) (x : X) → slice_get xs i ≡ Some x → drop i xs ≡ x ∷ drop (i + 1) xs
 drop_next xs i x e = drop_at xs i x e ∙ (let next : suc i ≡ i + 1 = omega arith in ap (λ j. x ∷ drop j xs) next)
+
+pub take_next : {X : Type 0} (xs : List X) (i : ℕ) (x : X) → slice_get xs i ≡ Some x → take (suc i) xs ≡ take i xs ++ x ∷ []
+take_next [] i x e = absurd (none-some x e)
+take_next (y ∷ xs) zero x e = let same : y ≡ x = cc in rw same refl
+take_next {X = X} (y ∷ xs) (suc i) x e = ap (λ (l : List X). y ∷ l) (take_next xs i x e)
 
 pub one_some : {X : Type 0} (o : Option X) (x y : X) → o ≡ Some x → o ≡ Some y → x ≡ y
 one_some o x y e h = same_Some x y (sym e ∙ h)

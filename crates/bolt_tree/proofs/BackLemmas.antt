@@ -13,11 +13,7 @@ use Rattle.bolt_tree.specs.Private.Entered.{IsEntered}
 use Rattle.bolt_tree.specs.Private.Stacks.{Frame, HasStack, IsAtRest, IsBranchContent, IsBranchTop, IsOn, RestsOn, address_on, before_of, before_under, preceding_of, done_of, done_under, index_of, left_of, left_under, under_at}
 use Rattle.bolt_tree.specs.Private.Tours.{Visit, all_under, elements_of, tour}
 use Rattle.bolt_tree.proofs.StackLemmas.{branch_room}
-
-take_next : {X : Type 0} (xs : List X) (i : ℕ) (x : X) → slice_get xs i ≡ Some x → take (suc i) xs ≡ take i xs ++ x ∷ []
-take_next [] i x g = absurd (let h : (None ≡ Some x → ⊥) = λ e. cc in h g)
-take_next (y ∷ xs) zero x g = let same : y ≡ x = cc in rw same refl
-take_next {X = X} (y ∷ xs) (suc i) x g = ap (λ (l : List X). y ∷ l) (take_next xs i x g)
+use Rattle.bolt_format.proofs.ListLemmas.{take_next}
 
 take_none : {X : Type 0} (xs : List X) → take 0 xs ≡ []
 take_none [] = refl

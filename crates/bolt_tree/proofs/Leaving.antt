@@ -24,7 +24,7 @@ use Rattle.bolt_tree.proofs.SortedLemmas.{sorted_one}
 abbrev pub TheEntries : Checked → Start → Type 0
 TheEntries checked start = (entries : List LeafElement) × ∥ AreEntries (entries_of checked) start entries ∥₁
 
-the_one : (checked : Checked) (start : Start) → IsProp (TheEntries checked start)
+pub the_one : (checked : Checked) (start : Start) → IsProp (TheEntries checked start)
 the_one checked start = λ a b.
     Σ_prop_path (λ l. ∥∥₁_prop) (∥∥₁_elim a.1 (hlevel props) (λ h. ∥∥₁_elim b.1 (hlevel props) (λ k. sorted_one (bytes_of checked) (meta_of checked) start a.0 b.0 h k)))
 
