@@ -37,7 +37,7 @@ pub use figures::{Stats, add, stats_text};
 pub use form::{Form, ListForm};
 pub use key_lines::{buckets, keys};
 pub use key_prefixes::keys_beginning;
-pub use list_lines::{list, list_recovered};
+pub use list_lines::list;
 pub use loss_lines::{all_lost_text, counted_losses_text, losses_text};
 pub use maps::page_map;
 pub use member_lines::MemberLines;
