@@ -1,5 +1,5 @@
 -- The lines of the buckets among entries, entry by entry.
-use Rattle.std.proofs.Common.{◌≡◌, ◌∙◌, ℕ, zero, suc, drop, Bool, true, false, List, [], ◌∷◌, ◌++◌, Option, Some, Result, Ok, Err, ap, append-nil, cond, filter, map, refl, subst, sym, rules}
+use Rattle.std.proofs.Common.{if◌then◌else◌, ◌≡◌, ◌∙◌, ℕ, zero, suc, drop, Bool, true, false, List, [], ◌∷◌, ◌++◌, Option, Some, Result, Ok, Err, ap, append-nil, cond, filter, map, refl, subst, sym, rules}
 use Rattle.std.proofs.KnownBytes.{Appends-trans}
 use Rattle.std.proofs.Math.Logic.{∥∥₁_elim}
 use Rattle.std.proofs.Props.{props}
@@ -7,14 +7,15 @@ use Rattle.std.proofs.lemmas.Grind.{flat_map-append}
 use Rattle.std.specs.List.{AllByRecursion, Contains}
 use Rattle.std.specs.Prelude.{⊤, IsErr, IsErrAnd}
 use Rattle.bolt_format.proofs.SinkLemmas.{AppendsBeginning-first, AppendsBeginning-second}
-use Rattle.bolt_format.specs.Elements.{LeafElement}
+use Rattle.bolt_format.specs.Elements.{LeafElement, head_sequence}
 use Rattle.bolt_format.specs.declared.meta.Meta.{Meta}
 use Rattle.bolt_check.specs.CheckedFiles.{bytes_of, meta_of}
 use Rattle.bolt_check.specs.Keys.{Key}
 use Rattle.bolt_check.specs.declared.checked_file.Checked.{Checked}
 use Rattle.bolt_tree.specs.BucketViews.{entries_of}
 use Rattle.bolt_tree.specs.Buckets.{bucket_checked, bucket_start}
-use Rattle.bolt_tree.specs.Entries.{Start, start_of}
+use Rattle.bolt_tree.specs.Entries as items
+use Rattle.bolt_tree.specs.Entries.{EntryView, Start, entry_view, item_of, start_of}
 use Rattle.bolt_tree.specs.EntriesLeft.{entries_left}
 use Rattle.bolt_tree.specs.Lookups.{IsBucketAt}
 use Rattle.bolt_tree.specs.Places.{Fresh, On, Past, Place}
@@ -139,6 +140,19 @@ pub no_line : (file : List ℕ) (meta : Meta) (form : Form) (entries : List Leaf
 no_line file meta form entries [] none are = refl
 no_line file meta form entries (s ∷ sized) none are =
     absurd (let c : s.entry ∷ map (λ (s : Sized). s.entry) sized ≡ [] = are.buckets ∙ ap buckets_of none in cc)
+
+-- an entry that shows a value is no bucket
+value_entry : (e : LeafElement) (b : Bool) (value : List ℕ) → e.is_bucket ≡ b → item_of e ≡ items.Value value → b ≡ false
+value_entry e false value is item = refl
+value_entry e true value is item =
+    absurd (let c : items.Bucket (head_sequence e.value) ≡ items.Value value = sym (ap (λ (b : Bool). if b then items.Bucket (head_sequence e.value) else items.Value e.value) is) ∙ item in cc)
+
+-- and has no line
+pub no_value_line : (file : List ℕ) (meta : Meta) (form : Form) (e : LeafElement) (v : EntryView) (value : List ℕ) (sized : List Sized)
+    → v ≡ entry_view e → v.item ≡ items.Value value → AreSized file meta (e ∷ []) sized → sizes_text form sized ≡ []
+no_value_line file meta form e v value sized shown item are =
+    let plain = value_entry e e.is_bucket value refl (sym (ap (λ (w : EntryView). w.item) shown) ∙ item) in
+    no_line file meta form [] sized refl (record { buckets = are.buckets ∙ by_kind e [] false plain; figures = are.figures })
 
 -- ---- one text after another
 

@@ -10,6 +10,7 @@ use Rattle.bolt_tree.specs.Places.{Place}
 use Rattle.bolt_tree.specs.ShownEntries.{shown_entry}
 use Rattle.bolt_tree.proofs.Leaving.{fewer_left, next_shows}
 use Rattle.bolt_report.specs.Reports.{Reports}
+use Rattle.bolt_report.specs.declared.form.Form.{Form}
 use Rattle.bolt_report.specs.SizeLines.{AreSized, sizes_text}
 use Rattle.bolt_report.proofs.ReportLemmas.{reports_ok}
 use Rattle.bolt_report.proofs.SizeLemmas.{cut, cut_text, first_left, handed_on, no_line, reports_cut, reports_more}
@@ -19,6 +20,7 @@ pub rest-init : goal.rest-init
 rest-init g c = record {
   checked = c.cursor-cursor.ensures.checked;
   start = c.cursor-cursor.ensures.start;
+  form = c.new-items.ensures;
   counted = refl;
   put = λ entries are sized figures. (
     [],
@@ -38,6 +40,7 @@ pub rest-preserved : goal.rest-preserved
 rest-preserved g c = record {
   checked = c.in-Some.ensures.checked ∙ c.rest.invariant.checked;
   start = c.in-Some.ensures.start ∙ c.rest.invariant.start;
+  form = c.put_entry.ensures.form ∙ c.rest.invariant.form;
   counted = c.in_ok-put_entry.ensures.sound ∙ c.rest.invariant.counted;
   put = λ entries are sized figures.
       let bucket = c.args.bucket.now in
@@ -50,7 +53,7 @@ rest-preserved g c = record {
       let own : List ℕ = sizes_text c.args.form k.own in
       let rest : List ℕ = sizes_text c.args.form k.rest in
       let text = cut_text c.args.form (sizes_text c.args.form sized) written left k.own k.rest same k.whole in
-      let one = c.in_ok-put_entry.ensures.written e entry shown k.own k.first in (
+      let one = subst (λ (form : Form). Reports {A = ⊤} g.S.Sink.taken g.S.Sink.failed c.rest.sink c.put_entry.new.sink (sizes_text form k.own) (Ok tt)) c.rest.invariant.form (c.in_ok-put_entry.ensures.written e entry shown k.own k.first) in (
         written ++ own,
         k.rest,
         k.later,
@@ -71,7 +74,7 @@ returns-in_err-put_entry-clause-written g c = λ entries are sized figures.
     let own : List ℕ = sizes_text c.args.form k.own in
     let rest : List ℕ = sizes_text c.args.form k.rest in
     let text = cut_text c.args.form (sizes_text c.args.form sized) written left k.own k.rest same k.whole in
-    let one = c.in_err-put_entry.ensures.written e entry shown k.own k.first in
+    let one = subst (λ (form : Form). Reports {A = ⊤} g.S.Sink.taken g.S.Sink.failed c.rest.sink c.put_entry.new.sink (sizes_text form k.own) (Err c.in_err-put_entry.field-0.0)) c.rest.invariant.form (c.in_err-put_entry.ensures.written e entry shown k.own k.first) in
     let whole = reports_cut g.S.Sink.taken g.S.Sink.failed c.args.sink.now c.rest.sink c.put_entry.new.sink written own rest _ before one in
     let reported = handed_on c.in_err-put_entry.field-0.0 c.from_residual.result c.from_residual.ensures.0 c.from_residual.ensures.1 in
     subst (Reports {A = ⊤} g.S.Sink.taken g.S.Sink.failed c.args.sink.now c.put_entry.new.sink (sizes_text c.args.form sized)) reported
