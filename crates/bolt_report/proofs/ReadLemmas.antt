@@ -11,7 +11,7 @@ use Rattle.bolt_check.proofs.TourSums.{enough_node}
 use Rattle.bolt_check.proofs.TreePages.{node_is}
 use Rattle.bolt_report.specs.Deepest.{greatest, inline_depth}
 use Rattle.bolt_report.specs.Readings.{unread_page, root_of}
-use Rattle.bolt_report.specs.declared.bucket_figures.UnreadPage.{UnreadPage}
+use Rattle.bolt_report.specs.declared.bucket_stats.UnreadPage.{UnreadPage}
 use Rattle.bolt_report.proofs.DepthSums.{greatest_append}
 use Rattle.bolt_report.proofs.ListWrites.{flat_map-take_more, take_more}
 

@@ -5,7 +5,7 @@ use Rattle.bolt_format.specs.Pages.{PageView}
 use Rattle.bolt_format.specs.declared.kind.Kind.{Kind}
 use Rattle.bolt_format.specs.declared.kind.Kind.TheVariants as kind
 use Rattle.bolt_report.specs.Lines.{figure_line}
-use Rattle.bolt_report.specs.declared.figures.Stats.{Stats}
+use Rattle.bolt_report.specs.declared.statistics.Stats.{Stats}
 
 -- which figure; depth is none of them, as it is no sum
 pub data Figure : Type 0 where

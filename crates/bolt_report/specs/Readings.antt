@@ -6,8 +6,8 @@ use Rattle.bolt_format.specs.declared.meta.Meta.{Meta}
 use Rattle.bolt_check.specs.Nodes.{Entry, Node, node_at}
 use Rattle.bolt_check.specs.Subtrees.{Enough, Has, kid_pages, weight}
 use Rattle.bolt_report.specs.Figures.{Figure, page_figure}
-use Rattle.bolt_report.specs.declared.bucket_figures.UnreadBucket.{UnreadBucket}
-use Rattle.bolt_report.specs.declared.bucket_figures.UnreadPage.{UnreadPage}
+use Rattle.bolt_report.specs.declared.bucket_stats.UnreadBucket.{UnreadBucket}
+use Rattle.bolt_report.specs.declared.bucket_stats.UnreadPage.{UnreadPage}
 
 -- the pages and the buckets of the code, by their numbers
 abbrev pub numbers_of : List UnreadPage → List ℕ

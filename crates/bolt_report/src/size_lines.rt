@@ -12,12 +12,12 @@ ghost use Rattle.bolt_report.specs.Reports.{Reports};
 ghost use Rattle.bolt_report.specs.declared.text.TheConstants.{TEXT_LEN};
 ghost use Rattle.bolt_report.specs.SizeLines.{AreSized, Sized, bytes_allocated, bytes_used, size_columns, sizes_text};
 
-use crate::bucket_figures::stats;
+use crate::bucket_stats::stats;
 use crate::fault::ReportFault;
-use crate::figures::Stats;
 use crate::form::Form;
 use crate::item_writer::ItemWriter;
 use crate::puts::put;
+use crate::statistics::Stats;
 use crate::text::{Text, push_bytes, push_number};
 use bolt_format::Sink;
 use bolt_tree::{Bucket, Entry, Item};
@@ -74,8 +74,8 @@ fn put_entry<S: Sink>(
     }
     match bucket.bucket(entry.key) {
         Some(inner) => {
-            let figures = stats(alloc, &inner)?;
-            put_size(&figures, entry.key, items, sink)
+            let stats = stats(alloc, &inner)?;
+            put_size(&stats, entry.key, items, sink)
         }
         None => Ok(()),
     }
@@ -83,29 +83,29 @@ fn put_entry<S: Sink>(
 
 /// Writes the line of the bucket with these figures and this name.
 fn put_size<S: Sink>(
-    figures: &Stats,
+    stats: &Stats,
     name: &[u8],
     items: &mut ItemWriter,
     sink: &mut S,
 ) -> Result<(), ReportFault>
     ensures form { items.new.form ≡ items.old.form }
-    ensures written { Reports S.taken S.failed sink.old sink.new (size_columns figures.now ++ value_text items.old.form name.now) result }
+    ensures written { Reports S.taken S.failed sink.old sink.new (size_columns stats.now ++ value_text items.old.form name.now) result }
     ensures fault { IfErr result (λ fault. (fault ≡ ReportFault.Sink) ⊎ (fault ≡ ReportFault.NoMemory)) }
     ensures memory { IfErr result (λ fault. fault ≡ ReportFault.NoMemory → S.failed sink.new ≡ S.failed sink.old) }
 {
-    put(size_columns(figures).as_slice(), sink)?;
+    put(size_columns(stats).as_slice(), sink)?;
     items.put_line(name, sink)
 }
 
 /// The number of keys, the bytes used and the bytes allocated, each followed by a space.
 #[tactic(auto, unfolding(crate::specs::SizeLines::size_columns))]
-fn size_columns(figures: &Stats) -> Text
-    ensures { result.items ≡ size_columns figures.now }
+fn size_columns(stats: &Stats) -> Text
+    ensures { result.items ≡ size_columns stats.now }
 {
     let mut text = Text::new();
-    push_column(&mut text, figures.keys);
-    push_column(&mut text, bytes_used(figures));
-    push_column(&mut text, bytes_allocated(figures));
+    push_column(&mut text, stats.keys);
+    push_column(&mut text, bytes_used(stats));
+    push_column(&mut text, bytes_allocated(stats));
     text
 }
 
@@ -120,21 +120,21 @@ fn push_column(text: &mut Text, n: u64)
 }
 
 /// The bytes used of pages and of inline buckets.
-fn bytes_used(figures: &Stats) -> u64
-    ensures { result ≡ bytes_used figures.now }
+fn bytes_used(stats: &Stats) -> u64
+    ensures { result ≡ bytes_used stats.now }
 {
-    figures
+    stats
         .branch_used
-        .saturating_add(figures.leaf_used)
-        .saturating_add(figures.inline_used)
+        .saturating_add(stats.leaf_used)
+        .saturating_add(stats.inline_used)
 }
 
 /// The bytes allocated to pages and inline buckets.
-fn bytes_allocated(figures: &Stats) -> u64
-    ensures { result ≡ bytes_allocated figures.now }
+fn bytes_allocated(stats: &Stats) -> u64
+    ensures { result ≡ bytes_allocated stats.now }
 {
-    figures
+    stats
         .branch_allocated
-        .saturating_add(figures.leaf_allocated)
-        .saturating_add(figures.inline_used)
+        .saturating_add(stats.leaf_allocated)
+        .saturating_add(stats.inline_used)
 }

@@ -10,10 +10,10 @@ use Rattle.bolt_report.proofs.ReportLemmas.{reports_ok}
 use Rattle.bolt_report.proofs.SizeLemmas.{line_found, no_value_line}
 use Rattle.bolt_report.proofs.size_lines.put_entry.Goals as goal
 
-pub returns-in_ok-figures-in-Some-clause-written : goal.returns-in_ok-figures-in-Some-clause-written
-returns-in_ok-figures-in-Some-clause-written g c = λ e entry shown sized are.
-    let text = line_found c.args.bucket.now c.in-Some.inner c.args.items.now.form c.args.entry.now.key.now c.in_ok-figures-in-Some.figures e sized c.in-Some.ensures.checked c.in-Some.ensures.bucket
-    c.in_ok-figures-in-Some.ensures entry (ap (λ (v : EntryView). v.key) shown) are in
+pub returns-in_ok-stats-in-Some-clause-written : goal.returns-in_ok-stats-in-Some-clause-written
+returns-in_ok-stats-in-Some-clause-written g c = λ e entry shown sized are.
+    let text = line_found c.args.bucket.now c.in-Some.inner c.args.items.now.form c.args.entry.now.key.now c.in_ok-stats-in-Some.stats e sized c.in-Some.ensures.checked c.in-Some.ensures.bucket
+    c.in_ok-stats-in-Some.ensures entry (ap (λ (v : EntryView). v.key) shown) are in
     subst (λ (t : List ℕ). Reports {A = ⊤} g.S.Sink.taken g.S.Sink.failed c.args.sink.now c.put_size.new.sink t c.put_size.result) text c.put_size.ensures.written
 
 pub returns-in-Value-clause-written : goal.returns-in-Value-clause-written

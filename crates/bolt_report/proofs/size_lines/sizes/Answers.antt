@@ -22,10 +22,10 @@ rest-init g c = record {
   start = c.cursor-cursor.ensures.start;
   form = c.new-items.ensures;
   counted = refl;
-  put = λ entries are sized figures. (
+  put = λ entries are sized stats. (
     [],
     sized,
-    subst (λ (place : Place). AreSized (bytes_of (bucket_checked c.args.bucket.now)) (meta_of (bucket_checked c.args.bucket.now)) (entries_left entries place) sized) (sym c.cursor-cursor.ensures.place) figures,
+    subst (λ (place : Place). AreSized (bytes_of (bucket_checked c.args.bucket.now)) (meta_of (bucket_checked c.args.bucket.now)) (entries_left entries place) sized) (sym c.cursor-cursor.ensures.place) stats,
     refl,
     reports_ok g.S.Sink.taken g.S.Sink.failed c.args.sink.now c.args.sink.now [] (Writes-none c.args.sink.now),
   );
@@ -42,11 +42,11 @@ rest-preserved g c = record {
   start = c.in-Some.ensures.start ∙ c.rest.invariant.start;
   form = c.put_entry.ensures.form ∙ c.rest.invariant.form;
   counted = c.in_ok-put_entry.ensures.sound ∙ c.rest.invariant.counted;
-  put = λ entries are sized figures.
+  put = λ entries are sized stats.
       let bucket = c.args.bucket.now in
       let (e, shown, first) = next_shows (cursor_checked c.rest.cursor) (bucket_checked bucket) (cursor_start c.rest.cursor) (bucket_start bucket)
       (cursor_place c.rest.cursor) (cursor_place c.next.new.self) (Some (shown_entry c.in-Some.entry)) c.rest.invariant.checked c.rest.invariant.start c.in-Some.ensures.moves entries are in
-      let (written, left, left_are, same, before) = c.rest.invariant.put entries are sized figures in
+      let (written, left, left_are, same, before) = c.rest.invariant.put entries are sized stats in
       let entry = (are.exact e).0 (first_left entries (cursor_place c.rest.cursor) e _ first) in
       let k = cut (bytes_of (bucket_checked bucket)) (meta_of (bucket_checked bucket)) e (entries_left entries (cursor_place c.next.new.self)) left
       (subst (λ (xs : List LeafElement). AreSized (bytes_of (bucket_checked bucket)) (meta_of (bucket_checked bucket)) xs left) first left_are) in
@@ -63,11 +63,11 @@ rest-preserved g c = record {
 }
 
 pub returns-in_err-put_entry-clause-written : goal.returns-in_err-put_entry-clause-written
-returns-in_err-put_entry-clause-written g c = λ entries are sized figures.
+returns-in_err-put_entry-clause-written g c = λ entries are sized stats.
     let bucket = c.args.bucket.now in
     let (e, shown, first) = next_shows (cursor_checked c.rest.cursor) (bucket_checked bucket) (cursor_start c.rest.cursor) (bucket_start bucket)
     (cursor_place c.rest.cursor) (cursor_place c.next.new.self) (Some (shown_entry c.in-Some.entry)) c.rest.invariant.checked c.rest.invariant.start c.in-Some.ensures.moves entries are in
-    let (written, left, left_are, same, before) = c.rest.invariant.put entries are sized figures in
+    let (written, left, left_are, same, before) = c.rest.invariant.put entries are sized stats in
     let entry = (are.exact e).0 (first_left entries (cursor_place c.rest.cursor) e _ first) in
     let k = cut (bytes_of (bucket_checked bucket)) (meta_of (bucket_checked bucket)) e (entries_left entries (cursor_place c.next.new.self)) left
     (subst (λ (xs : List LeafElement). AreSized (bytes_of (bucket_checked bucket)) (meta_of (bucket_checked bucket)) xs left) first left_are) in
@@ -81,10 +81,10 @@ returns-in_err-put_entry-clause-written g c = λ entries are sized figures.
     (subst (λ (t : List ℕ). Reports {A = ⊤} g.S.Sink.taken g.S.Sink.failed c.args.sink.now c.put_entry.new.sink t (Err c.in_err-put_entry.field-0.0)) (sym text) whole)
 
 pub returns-clause-written : goal.returns-clause-written
-returns-clause-written g c = λ entries are sized figures.
+returns-clause-written g c = λ entries are sized stats.
     let bucket = c.args.bucket.now in
     let none = next_shows (cursor_checked c.rest.cursor) (bucket_checked bucket) (cursor_start c.rest.cursor) (bucket_start bucket)
     (cursor_place c.rest.cursor) (cursor_place c.next.new.self) _ c.rest.invariant.checked c.rest.invariant.start c.in_default.ensures.moves entries are in
-    let (written, left, left_are, same, before) = c.rest.invariant.put entries are sized figures in
+    let (written, left, left_are, same, before) = c.rest.invariant.put entries are sized stats in
     let text = same ∙ ap (λ (t : List ℕ). written ++ t) (no_line (bytes_of (bucket_checked bucket)) (meta_of (bucket_checked bucket)) c.args.form _ left none left_are) ∙ append-nil written in
     subst (λ (t : List ℕ). Reports {A = ⊤} g.S.Sink.taken g.S.Sink.failed c.args.sink.now c.rest.sink t (Ok tt)) (sym text) before
