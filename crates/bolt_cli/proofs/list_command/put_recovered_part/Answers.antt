@@ -4,7 +4,7 @@ use Rattle.bolt_recover.specs.Recoveries.{recovery_left}
 use Rattle.bolt_tree.specs.Paths.{Path, path_of}
 use Rattle.bolt_report.specs.Reports.{Reports}
 use Rattle.bolt_cli.specs.Answers.{part_text}
-use Rattle.bolt_cli.proofs.list_command.put_rest.Goals as goal
+use Rattle.bolt_cli.proofs.list_command.put_recovered_part.Goals as goal
 
 pub returns-clause-written : goal.returns-clause-written
 returns-clause-written g c = λ listing lists.

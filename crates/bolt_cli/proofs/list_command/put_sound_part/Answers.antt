@@ -5,7 +5,7 @@ use Rattle.bolt_tree.specs.ListingParts.{part_below}
 use Rattle.bolt_tree.specs.Paths.{Path, path_of}
 use Rattle.bolt_report.specs.ListForms.{listing_lines}
 use Rattle.bolt_report.specs.Reports.{Reports}
-use Rattle.bolt_cli.proofs.list_command.put_part.Goals as goal
+use Rattle.bolt_cli.proofs.list_command.put_sound_part.Goals as goal
 
 pub returns-clause-written : goal.returns-clause-written
 returns-clause-written g c = λ listing lists.
