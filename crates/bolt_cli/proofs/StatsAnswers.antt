@@ -75,8 +75,8 @@ abbrev AreZero : Stats → Type 0
 AreZero s =
     (s.buckets ≡ 0) × ((s.inline_buckets ≡ 0) × ((s.inline_used ≡ 0) × ((s.keys ≡ 0) × ((s.depth ≡ 0) × ((s.branch_pages ≡ 0) × ((s.branch_overflow ≡ 0) × ((s.branch_allocated ≡ 0) × ((s.branch_used ≡ 0) × ((s.leaf_pages ≡ 0) × ((s.leaf_overflow ≡ 0) × ((s.leaf_allocated ≡ 0) × ((s.leaf_used ≡ 0)))))))))))))
 
-pub no_stats : (s : Stats) → AreZero s → s ≡ no_stats
-no_stats s none = λ i. record {
+pub zero_stats : (s : Stats) → AreZero s → s ≡ no_stats
+zero_stats s none = λ i. record {
   buckets = none.0 i;
   inline_buckets = none.1.0 i;
   inline_used = none.1.1.0 i;

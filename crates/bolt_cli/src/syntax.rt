@@ -282,7 +282,7 @@ pub(crate) static SYNTAXES: [Syntax; 10] = [
     },
     Syntax {
         name: "stats",
-        about: "Print stats of all buckets, or of one and all in it: their number, keys, depth and pages",
+        about: "Print figures of all buckets, or of one and all in it: their number, keys, depth and pages",
         operands: &[FILE, BUCKET_IN],
         options: &[PARTS, META],
         note: None,

@@ -50,5 +50,5 @@ module _ {S : Type 0} (taken : S → Option (List ℕ)) (failed : S → ℕ) whe
       → Reports {A = ⊤} taken failed mid new piece (Ok tt) → (whole ≡ (written ++ piece) ++ rest) × Writes {A = ⊤} {E = ReportFault} taken failed old new (written ++ piece) (Ok tt)
   more_written old mid new whole written piece rest same before one = (
     same ∙ sym (append_assoc written piece rest),
-    Writes-then old mid new written piece tt (Ok tt) before (record { all = one.all; sound = one.sound; beginning = one.beginning; failure = tt }),
+    Writes-then old mid new written piece tt (Ok tt) before (record { all = one.all; sound = one.sound; prefix = one.prefix; failure = tt }),
   )

@@ -35,7 +35,7 @@ pub use fault::ReportFault;
 pub use fault_lines::{finding_text, findings_text, meta_fault_text, page_fault_text};
 pub use form::{Form, ListForm};
 pub use key_lines::{buckets, keys};
-pub use key_prefixes::keys_beginning;
+pub use key_prefixes::keys_with_prefix;
 pub use list_lines::list;
 pub use loss_lines::{all_lost_text, counted_losses_text, losses_text};
 pub use maps::page_map;

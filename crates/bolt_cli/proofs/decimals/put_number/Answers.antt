@@ -10,4 +10,4 @@ pub returns : goal.returns
 returns g c =
     let put = c.put.ensures in
     Writes-then _ _ _ (decimal c.args.number) c.args.words.now _ _ c.in_ok-put_digits.ensures
-    (record { all = put.all; sound = put.sound; beginning = put.beginning; failure = put.failure })
+    (record { all = put.all; sound = put.sound; prefix = put.prefix; failure = put.failure })

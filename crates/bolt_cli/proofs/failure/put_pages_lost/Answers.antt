@@ -17,4 +17,4 @@ pub returns : goal.returns
 returns g c =
     let put = c.in_ok-put_number.ensures in
     Writes-then _ _ _ (codes "pages lost: ") (decimal c.args.count ++ codes "\n") _ _ c.in_ok-put_words.ensures
-    (record { all = put.all; sound = put.sound; beginning = put.beginning; failure = tt })
+    (record { all = put.all; sound = put.sound; prefix = put.prefix; failure = tt })
