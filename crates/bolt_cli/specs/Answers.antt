@@ -20,7 +20,7 @@ use Rattle.bolt_recover.specs.Losses.{AreLosses, LossView}
 use Rattle.bolt_recover.specs.Recovered.{IsRecovered}
 use Rattle.bolt_recover.specs.Refusals.{IsSlotUnrecoverable, IsUnrecoverable, KeepsRoot}
 use Rattle.bolt_report.specs.FaultWords.{findings_text}
-use Rattle.bolt_report.specs.Forms.{shown_as, value_text}
+use Rattle.bolt_report.specs.Forms.{item_text, value_text}
 use Rattle.bolt_report.specs.Figures.{add_stats, stats_text}
 use Rattle.bolt_report.specs.KeyLines.{buckets_text, keys_text}
 use Rattle.bolt_report.specs.KeyPrefixes.{with_prefix}
@@ -153,7 +153,7 @@ HoldsNone file path meta reason =
 -- a value in a form, with a line feed or without one
 abbrev pub value_shown : (no_newline : Bool) → Form → List ℕ → List ℕ
 value_shown false form value = value_text form value
-value_shown true form value = shown_as form value
+value_shown true form value = item_text form value
 
 -- the value that the path holds; or why it holds none
 abbrev pub IsGetAnswer : List ℕ → Path → Form → (no_newline : Bool) → Meta → Answer → Type 0
