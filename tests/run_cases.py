@@ -1,7 +1,7 @@
 #!/usr/bin/env python3
 r"""Runs test cases: command lines and calls on files, and their results.
 
-    run_rows.py PROGRAM CALLS FILE..
+    run_cases.py PROGRAM CALLS FILE..
 
 PROGRAM is luntsegi, and CALLS the program test_calls, which makes calls of the libraries. The FILEs have blocks of
 lines with an empty line between. A block's first word is its verb:
