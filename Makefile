@@ -39,7 +39,7 @@ cases: $(PROGRAM) $(CALLS)
 	$(RUN_CASES) $(PROGRAM) $(CALLS) $(CASES)
 	$(RUN_CASES) $(PROGRAM) $(CALLS) --none tests/cases/wrong.cases > /dev/null
 	if test -e $(PROGRAM).by-rattle -a -e $(CALLS).by-rattle; then $(RUN_CASES) $(PROGRAM).by-rattle \
-		$(CALLS).by-rattle $(filter-out tests/cases/changed.cases tests/cases/failing.cases,$(CASES)); fi
+		$(CALLS).by-rattle $(filter-out tests/cases/sweep_changes.cases tests/cases/sweep_failures.cases,$(CASES)); fi
 
 COPY = out/copy.db
 # Sources that refer to sections of documents.
@@ -228,7 +228,7 @@ memory: $(PROGRAM) $(CALLS) $(REFUSE) $(NESTED) $(DEEP) $(DAMAGED)
 	$(SWEEP) memory 1 $(DAMAGED) "check --all" $(RECOVERIES)
 	$(SWEEP) memory 1 $(NESTED) "check --all" "check --all --etcd-snapshot" "list b b --recover" \
 		$(RECOVERIES)
-	PYTHONPATH=tests:tools/format python3 -B tools/refuse/try_calls.py $(CALLS) $(REFUSE) tests/cases/refusals.cases
+	PYTHONPATH=tests:tools/format python3 -B tools/refuse/try_calls.py $(CALLS) $(REFUSE) tests/cases/call_again_and_between.cases
 
 $(NESTED): tools/bench/make_deep.py
 	mkdir -p $(@D)

@@ -4,7 +4,8 @@ r"""Runs test cases: command lines and calls on files, and their results.
     run_cases.py PROGRAM CALLS FILE..
 
 PROGRAM is luntsegi, and CALLS the program test_calls, which makes calls of the libraries. The FILEs have blocks of
-lines with an empty line between. A block's first word is its verb:
+lines with an empty line between. Lines that begin with `#` are a comment. Before the other lines of a block it says
+what this test case and those after it show, up to the next comment. Then a block's first word is its verb:
 
 | verb | what |
 |---|---|
@@ -14,27 +15,34 @@ lines with an empty line between. A block's first word is its verb:
 | `$` | a command line and its result (wanted.py) |
 | `cuts` | `FIRST-LAST` and a command line, which has this result on each prefix of the file with a length in this range |
 | `changes` | the same with each byte of this range changed to each other value in turn |
-| `#` | a comment |
 
 Other verbs are calls, which crates/test_calls/src/main.rt lists, and their results. In their words keys are written
 as in `file`. Walks and recoveries print lines in hexadecimal, as `list` does; other calls print keys as they are.
 
-Prints each test case that doesn't hold, and how many of each file do. The status is 1 unless all hold, and unless a
-file of test cases holds some. With `--none` before the FILEs no test case may hold: so a file of wrong ones shows
-that these are found."""
+Prints each test case that doesn't hold, after its comment and what its file is, and how many of each file do. The
+status is 1 unless all hold, and unless a file of test cases holds some. With `--none` before the FILEs no test case
+may hold: so a file of wrong ones shows that these are found."""
 
 import os
 import subprocess
 import sys
 import tempfile
+from itertools import takewhile
 
 from draft import make
 from wanted import Wanted
 from words import Unread, bytes_of, halves, path_of
 
 SECONDS = 120
-# The program's texts have the name by which it was called, whatever its file is called.
+# The program prints the name by which it was called, so it is always called by this one.
 NAME = "luntsegi"
+
+
+def parted(block):
+    """The comment of a block, and its other lines."""
+    lines = block.split("\n")
+    comment = [*takewhile(lambda line: line.startswith("#"), lines)]
+    return "\n".join(comment), "\n".join(lines[len(comment) :])
 
 
 def key(word):
@@ -81,11 +89,13 @@ def handed_over(verb, words):
 
 
 class Bench:
-    """The file of the next test cases, another one that is kept, and how many test cases held and didn't."""
+    """The file of the next test cases, with its description and their comment; another file, which is kept; and how
+    many test cases held and didn't."""
 
     def __init__(self, program, calls, folder):
         self.program, self.calls, self.folder = program, calls, folder
         self.file, self.kept, self.held, self.failed = b"", b"", 0, 0
+        self.comment, self.described = "", ""
 
     def run(self, program, *words):
         """What a program writes on the file, its status, and what it writes into OUT."""
@@ -102,16 +112,19 @@ class Bench:
         return ran.stdout, ran.stderr, ran.returncode, copy
 
     def take(self, block):
+        comment, block = parted(block)
+        self.comment = comment or self.comment
         head, *lines = block.split("\n")
         verb, words = halves(head, " ")
         match verb:
             case "file":
+                self.described = head
                 self.file = make("\n".join(lines))
             case "cut":
                 self.file = self.file[: int(words)]
             case "swap":
                 self.file, self.kept = self.kept, self.file
-            case "#" | "":
+            case "":
                 pass
             case _:
                 self.compare(self.result(verb, words.split()), Wanted(it for it in lines if it))
@@ -139,7 +152,9 @@ class Bench:
             self.take(block)
         except (Differs, Unread, subprocess.TimeoutExpired, ValueError, KeyError, IndexError) as fault:
             self.failed += 1
-            print(f"{type(fault).__name__}: {block}\n{fault!s:.1000}\n")
+            case = parted(block)[1]
+            what = [case] if case.startswith("file") else [self.comment, self.described, case]
+            print(f"{type(fault).__name__}:", "\n".join(it for it in what if it), f"\n{fault!s:.1000}\n")
 
 
 class Differs(Exception):

@@ -16,7 +16,7 @@ import tempfile
 from collections import Counter
 
 from draft import make
-from run_cases import handed_over
+from run_cases import handed_over, parted
 from words import halves
 
 SECONDS = 60
@@ -61,7 +61,7 @@ def is_right(verb, path, said):
 
 def try_block(calls, library, folder, block):
     """Writes a file that is described, or tries a call. Returns whether it ended as it must."""
-    head, *lines = block.split("\n")
+    head, *lines = parted(block)[1].split("\n")
     verb, words = halves(head, " ")
     if verb == "file":
         with open(os.path.join(folder, "FILE"), "wb") as it:
