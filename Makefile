@@ -129,7 +129,7 @@ FUZZ = $(MAKER) tools/fuzz
 SECONDS ?= 60
 SEED ?= $(shell date +%s)
 
-# Compares the program's answers on random files. SEED=N repeats the files of another run.
+# Compares what the program prints of random files. SEED=N repeats the files of another run.
 fuzz: $(PROGRAM)
 	$(FUZZ)/fuzz.py $(PROGRAM) --seed $(SEED) --seconds $(SECONDS)
 
@@ -138,7 +138,7 @@ fuzz: $(PROGRAM)
 bbolt: $(PROGRAM)
 	tools/bbolt/try.sh $(PROGRAM) 30
 
-# Alters the program's answers in many ways. The comparisons must find each alteration.
+# Alters the program's output in many ways. The comparisons must find each alteration.
 fuzz-wrong: $(PROGRAM)
 	$(FUZZ)/try_wrong.py $(PROGRAM)
 

@@ -4,8 +4,9 @@ r"""Runs test cases: command lines and calls on files, and their results.
     run_cases.py PROGRAM CALLS FILE..
 
 PROGRAM is luntsegi, and CALLS the program test_calls, which makes calls of the libraries. The FILEs have blocks of
-lines with an empty line between. Lines that begin with `#` are a comment. Before the other lines of a block it says
-what this test case and those after it show, up to the next comment. Then a block's first word is its verb:
+lines with an empty line between. Lines that begin with `#` are a comment. A block of them is a heading. Before the
+other lines of a block they say what this test case and those after it show, up to the next comment. The first word
+of these other lines is the verb:
 
 | verb | what |
 |---|---|

@@ -42,11 +42,11 @@ def outcomes_of(calls, library, folder, words):
 
     full = run(0)
     said = []
-    answer = run(1)
+    result = run(1)
     while os.path.exists(mark):
-        status, out, err = answer
-        said.append(b"" if answer == full else err if (status, out) == (3, b"") else b"another end")
-        answer = run(len(said) + 1)
+        status, out, err = result
+        said.append(b"" if result == full else err if (status, out) == (3, b"") else b"another end")
+        result = run(len(said) + 1)
     return said
 
 

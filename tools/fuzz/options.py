@@ -1,9 +1,9 @@
-"""What holds of the daily questions on a sound file: each is another question to the same listing."""
+"""What holds of the options of `list`, `keys`, `buckets` and `get` on a sound file: all print parts of one listing."""
 
 import json
 
-from answers import FORMS, entries_of, lines_in, words_of, word_of
 from program import want
+from results import FORMS, entries_of, lines_in, words_of, word_of
 
 MOST_BUCKETS = 4
 GREATEST = 2**64 - 1
@@ -132,7 +132,7 @@ def compare_alone(file, entries):
         want(form != "json" or bytes_in(json.loads(alone)) == entries[path], "get --form json", *words)
 
 
-def compare_daily(file, listing, entries):
+def compare_options(file, listing, entries):
     """All of these on a sound file."""
     compare_parts(file, listing, entries)
     compare_json(file, listing, entries)
