@@ -3,7 +3,7 @@
 
     fuzz.py PROGRAM --seed N [--seconds N | --files N] [--first N] [--folder F]
 
-File N of a seed is the same in each run, whatever the others are. Every second file is sound, and the
+File N of a seed is the same in each run, for any number of files. Every second file is sound, and the
 program must accept it and list what it was made of. The others are damaged in one to eight places. If
 a comparison fails, the file is kept in the folder, and the difference is printed. The status is 1 if
 one failed.
