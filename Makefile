@@ -8,7 +8,7 @@ SOUND = $(wildcard examples/*.buckets)
 LISTED = $(filter-out $(LEAKED).list,$(wildcard examples/*.list))
 LEAKED = examples/leaked
 
-.PHONY: build fmt demo rows examples manual failures bbolt fuzz fuzz-wrong wrong-bodies test bench memory install dist deb clean
+.PHONY: build fmt demo cases examples manual failures bbolt fuzz fuzz-wrong wrong-bodies test bench memory install dist deb clean
 
 # Proves the libraries and the program, and builds it.
 build:
@@ -30,16 +30,16 @@ demo:
 	cd crates/luntsegi && rt try --data app.db=$(abspath examples/app.db) -- list app.db
 	@echo "That was the program before any proof: make build proves it and builds it."
 
-RUN_ROWS = $(MAKER) tests/run_rows.py
-ROWS = $(filter-out tests/rows/wrong.rows,$(wildcard tests/rows/*.rows))
+RUN_CASES = $(MAKER) tests/run_cases.py
+CASES = $(filter-out tests/cases/wrong.cases,$(wildcard tests/cases/*.cases))
 
 # Runs the test cases: command lines by the program, and calls by test_calls. Of the wrong ones none may hold. If rt
 # ci has built the programs by Rattle's own compiler, these are run too, but for sweeps over many files and failures.
-rows: $(PROGRAM) $(CALLS)
-	$(RUN_ROWS) $(PROGRAM) $(CALLS) $(ROWS)
-	$(RUN_ROWS) $(PROGRAM) $(CALLS) --none tests/rows/wrong.rows > /dev/null
-	if test -e $(PROGRAM).by-rattle -a -e $(CALLS).by-rattle; then $(RUN_ROWS) $(PROGRAM).by-rattle \
-		$(CALLS).by-rattle $(filter-out tests/rows/changed.rows tests/rows/failing.rows,$(ROWS)); fi
+cases: $(PROGRAM) $(CALLS)
+	$(RUN_CASES) $(PROGRAM) $(CALLS) $(CASES)
+	$(RUN_CASES) $(PROGRAM) $(CALLS) --none tests/cases/wrong.cases > /dev/null
+	if test -e $(PROGRAM).by-rattle -a -e $(CALLS).by-rattle; then $(RUN_CASES) $(PROGRAM).by-rattle \
+		$(CALLS).by-rattle $(filter-out tests/cases/sweep_changes.cases tests/cases/sweep_failures.cases,$(CASES)); fi
 
 COPY = out/copy.db
 # Sources that refer to sections of documents.
@@ -129,7 +129,7 @@ FUZZ = $(MAKER) tools/fuzz
 SECONDS ?= 60
 SEED ?= $(shell date +%s)
 
-# Compares the program's answers on random files. SEED=N repeats the files of another run.
+# Compares what the program prints of random files. SEED=N repeats the files of another run.
 fuzz: $(PROGRAM)
 	$(FUZZ)/fuzz.py $(PROGRAM) --seed $(SEED) --seconds $(SECONDS)
 
@@ -138,7 +138,7 @@ fuzz: $(PROGRAM)
 bbolt: $(PROGRAM)
 	tools/bbolt/try.sh $(PROGRAM) 30
 
-# Alters the program's answers in many ways. The comparisons must find each alteration.
+# Alters the program's output in many ways. The comparisons must find each alteration.
 fuzz-wrong: $(PROGRAM)
 	$(FUZZ)/try_wrong.py $(PROGRAM)
 
@@ -159,7 +159,7 @@ test:
 	python3 -B tools/wrong_bodies/try_bodies.py --read
 	RT_JOBS=$(JOBS) rt ci
 	RT_JOBS=$(JOBS) python3 -B tools/wrong_bodies/try_bodies.py
-	$(MAKE) rows examples manual failures memory
+	$(MAKE) cases examples manual failures memory
 	$(FUZZ)/fuzz.py $(PROGRAM) --seed 1 --files 36
 	tools/bbolt/try.sh $(PROGRAM) 3
 
@@ -228,7 +228,7 @@ memory: $(PROGRAM) $(CALLS) $(REFUSE) $(NESTED) $(DEEP) $(DAMAGED)
 	$(SWEEP) memory 1 $(DAMAGED) "check --all" $(RECOVERIES)
 	$(SWEEP) memory 1 $(NESTED) "check --all" "check --all --etcd-snapshot" "list b b --recover" \
 		$(RECOVERIES)
-	PYTHONPATH=tests:tools/format python3 -B tools/refuse/try_calls.py $(CALLS) $(REFUSE) tests/rows/refusals.rows
+	PYTHONPATH=tests:tools/format python3 -B tools/refuse/try_calls.py $(CALLS) $(REFUSE) tests/cases/call_again_and_between.cases
 
 $(NESTED): tools/bench/make_deep.py
 	mkdir -p $(@D)

@@ -3,7 +3,7 @@
 | line | what |
 |---|---|
 | `meta root=4 mark=5 ..` | fields of both metas that differ from those of a fresh file; `meta0` and `meta1` of one |
-| `size N` | pages have this size, whatever the metas say |
+| `size N` | pages have this size, even if the metas say another |
 | `pages N` | this many pages, with the metas and an empty freelist at page 2; later lines may overwrite them |
 | `inline SEQUENCE ELEMENT ..` | an inline bucket, to which `@0`, `@1` and so on refer |
 | `leaf PAGE ELEMENT ..`, `branch PAGE KEY>CHILD ..` | a page; `PAGE+1` is one with overflow 1 |

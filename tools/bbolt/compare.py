@@ -1,4 +1,4 @@
-"""Compares the program's answers with those of bbolt's own library.
+"""Compares the program's output with that of bbolt's own library.
 
     compare.py PROGRAM BBOLT FOLDER [--rounds N] FILE ..
 

@@ -1,15 +1,15 @@
-"""What holds of the answers to any file. Only the program's own answers are compared."""
+"""What holds of the output on any file. Only the program's own results are compared."""
 
 import os
 
-from answers import entries_of, info_of, read, shown_tree
-from copies import compare_prefixes, compare_copy, compare_slot
-from daily import compare_daily
+from copies import compare_copy, compare_prefixes, compare_slot
 from findings import ACCOUNT_FAULTS, compare_accounts, compare_bad_page, findings_of
 from listings import compare_keys, compare_missing, compare_order, compare_rests, compare_values
+from options import compare_options
 from pages import compare_figures, compare_pages, compare_tree
 from program import want
 from recoveries import compare_pages_lost, compare_recovery, compare_refused
+from results import entries_of, info_of, read, shown_tree
 from snapshots import compare_hash, compare_snapshot
 
 UNDER_ALL = ("pages", "buckets", "stats", "list")
@@ -25,7 +25,7 @@ def compare_sound(file):
     compare_keys(file, entries)
     compare_values(file, entries)
     compare_missing(file, entries)
-    compare_daily(file, listing, entries)
+    compare_options(file, listing, entries)
     tree = shown_tree(file, info)
     if tree:
         compare_tree(tree, entries)
@@ -44,11 +44,11 @@ def compare_sound(file):
 def compare_refusals(file, fault):
     """Each command that needs a sound file is refused alike, and a copy is empty."""
     copy = file.copy("copy.db")
-    answers = [file.run(command) for command in UNDER_ALL]
-    answers += [file.run("keys", "00"), file.run("get", "00"), file.run("compact", "-o", copy)]
-    answers += [file.run("buckets", "--sizes"), file.run("list", "--form", "json"), file.run("list", "00")]
-    for answer in answers:
-        want(answer.status == 1 and answer.err == fault, "reported is", answer, "and not", fault)
+    results = [file.run(command) for command in UNDER_ALL]
+    results += [file.run("keys", "00"), file.run("get", "00"), file.run("compact", "-o", copy)]
+    results += [file.run("buckets", "--sizes"), file.run("list", "--form", "json"), file.run("list", "00")]
+    for result in results:
+        want(result.status == 1 and result.err == fault, "reported is", result, "and not", fault)
     want(read(copy) == b"", "the copy of what is refused isn't empty")
 
 
@@ -78,8 +78,8 @@ def compare_closed(file, checked):
     compare_refusals(file, checked.err)
     compare_refused(file, [], checked.err)
     for words in (["info"], ["page", 0], ["list", "--meta", 0], ["list", "--meta", 1], ["check", "--all"]):
-        answer = file.run(*words)
-        want(answer.status == 1 and answer.err == checked.err, *words, "answered:", answer)
+        result = file.run(*words)
+        want(result.status == 1 and result.err == checked.err, *words, "printed:", result)
 
 
 def compare_limits(file):
@@ -89,12 +89,12 @@ def compare_limits(file):
     past_end = os.path.getsize(file.path) // page_size + 1
     for number, words in ((mark, "out of range"), (past_end, "cut off")):
         words = words if number < mark else "out of range"
-        answer = file.run("page", number)
-        want(answer.err == f"error: page {number}: {words}\n".encode(), "page", number, "answered:", answer)
+        result = file.run("page", number)
+        want(result.err == f"error: page {number}: {words}\n".encode(), "page", number, "printed:", result)
 
 
 def compare(file):
-    """Compares all answers to a file. Returns what `check` says of it, and its listing if it is sound."""
+    """Compares all results on a file. Returns what `check` says of it, and its listing if it is sound."""
     before = read(file.path)
     checked = file.run("check")
     listing = None

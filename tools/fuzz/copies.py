@@ -2,9 +2,9 @@
 
 import os
 
-from answers import File, info_of, read
 from pages import compare_pages
 from program import want
+from results import File, info_of, read
 
 PAGE_SIZES = [2**power for power in range(10, 17)]
 LEAST_META = 80
@@ -51,11 +51,11 @@ def compare_prefixes(file, copy):
         cut = file.copy("cut.db")
         with open(cut, "wb") as out:
             out.write(whole[:length])
-        answer = file.program.run("check", cut)
+        result = file.program.run("check", cut)
         line = f"page {root}: cut off\n1 errors found\n" if length >= LEAST_META else ""
         fault = "" if line else "error: file too short\n"
-        is_refused = answer.status == 1 and answer.out.decode() == line and answer.err.decode() == fault
-        want(is_refused, "the first", length, "bytes of a copy:", answer)
+        is_refused = result.status == 1 and result.out.decode() == line and result.err.decode() == fault
+        want(is_refused, "the first", length, "bytes of a copy:", result)
 
 
 def compare_slot(file, slot):
@@ -64,8 +64,8 @@ def compare_slot(file, slot):
     copy = file.copy("copy.db")
     copied = file.run("compact", "--meta", slot, "-o", copy)
     for command in ("buckets", "stats"):
-        answer = file.run(command, "--meta", slot)
-        want((answer.status, answer.err) == (listed.status, listed.err), command, "--meta", slot, ":", answer)
+        result = file.run(command, "--meta", slot)
+        want((result.status, result.err) == (listed.status, listed.err), command, "--meta", slot, ":", result)
     want((copied.status, copied.err) == (listed.status, listed.err), "compact --meta", slot, ":", copied)
     if listed.is_ok():
         want(file.program.text("list", copy) == listed.out, "the copy under meta", slot, "lists other things")

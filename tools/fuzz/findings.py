@@ -2,8 +2,8 @@
 
 import re
 
-from answers import Shown, shown_tree
 from program import want
+from results import Shown, shown_tree
 
 FINDING = re.compile(r"pages? (\d+)(?: to (\d+))?: (.*)")
 # Findings of a page itself, by the tests of docs/FORMAT.md: of its header and span, and after these.
@@ -30,27 +30,27 @@ def findings_of(text):
 
 def compare_bad_page(file, info, number, words):
     """Compares the first finding of `check` with what `page` says of that page."""
-    answer = file.run("page", number)
+    result = file.run("page", number)
     if words in KEY_FAULTS:
-        want(answer.is_ok(), "check says", words, "of page", number, "and page", answer)
-        compare_keys_found(Shown(answer.out), words)
-    elif words == "invalid type" and (answer.is_ok() or number == info["freelist"]):
-        compare_kind(info, number, answer)
+        want(result.is_ok(), "check says", words, "of page", number, "and page", result)
+        compare_keys_found(Shown(result.out), words)
+    elif words == "invalid type" and (result.is_ok() or number == info["freelist"]):
+        compare_kind(info, number, result)
     elif words in SPAN_FAULTS | ELEMENT_FAULTS:
         fault = f"error: page {number}: {words}\n".encode()
-        want(answer.err == fault, "check says", words, "of page", number, "and page", answer)
+        want(result.err == fault, "check says", words, "of page", number, "and page", result)
 
 
-def compare_kind(info, number, answer):
+def compare_kind(info, number, result):
     """A page of another kind than it should be, which is a good one for `page` or, in the place of
     the freelist, one whose elements aren't looked at."""
-    if answer.is_ok():
-        kind = Shown(answer.out).kind
+    if result.is_ok():
+        kind = Shown(result.out).kind
         is_so = kind in ("freelist", "meta") or number == info["freelist"]
     else:
         faults = ELEMENT_FAULTS | {"invalid type"}
-        is_so = answer.err.decode() in {f"error: page {number}: {words}\n" for words in faults}
-    want(is_so, "check says invalid type of page", number, "and page", answer)
+        is_so = result.err.decode() in {f"error: page {number}: {words}\n" for words in faults}
+    want(is_so, "check says invalid type of page", number, "and page", result)
 
 
 def compare_keys_found(page, words):

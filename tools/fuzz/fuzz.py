@@ -1,9 +1,9 @@
 #!/usr/bin/env python3
-"""Compares the program's answers on random files, for `make fuzz`.
+"""Compares what the program prints of random files, for `make fuzz`.
 
     fuzz.py PROGRAM --seed N [--seconds N | --files N] [--first N] [--folder F]
 
-File N of a seed is the same in each run, whatever the others are. Every second file is sound, and the
+File N of a seed is the same in each run, for any number of files. Every second file is sound, and the
 program must accept it and list what it was made of. The others are damaged in one to eight places. If
 a comparison fails, the file is kept in the folder, and the difference is printed. The status is 1 if
 one failed.
@@ -18,11 +18,11 @@ import tempfile
 import time
 from collections import Counter
 
-from answers import File
 from buckets import listing_text
 from comparisons import compare
 from damage import damage
 from program import FAILURES, Program, want
+from results import File
 from sound import draw_sound
 
 
@@ -41,7 +41,7 @@ def compare_made(file, made, kind, listing):
 
 
 def compare_one(program, seed, number, folder):
-    """Makes this file of the seed and compares all answers to it. Returns what it was."""
+    """Makes this file of the seed and compares all results on it. Returns what it was."""
     draw = random.Random(f"{seed} {number}")
     made = draw_sound(draw)
     is_damaged = number % 2 == 1

@@ -1,7 +1,7 @@
 """What `keys`, `get`, `buckets` and `list` say of a sound file, compared with its listing."""
 
-from answers import FORMS, entries_of, lines_in, word_of, words_of
 from program import want
+from results import FORMS, entries_of, lines_in, word_of, words_of
 
 
 # Commands on a bucket, beside `keys`.
@@ -69,7 +69,7 @@ def compare_missing(file, entries):
         parts = [file.run(*command, *words) for command in IN_BUCKETS]
         if not isinstance(entries.get(path), bytes):
             fault = b"key not found" if in_bucket else b"bucket not found"
-            want(got.err == b"error: " + fault + b"\n", "get", *words, "answered:", got)
+            want(got.err == b"error: " + fault + b"\n", "get", *words, "printed:", got)
         if not isinstance(entries.get(path), int):
-            for answer in [keys, *parts]:
-                want(answer.err == b"error: bucket not found\n", "there is no bucket", *words, ":", answer)
+            for result in [keys, *parts]:
+                want(result.err == b"error: bucket not found\n", "there is no bucket", *words, ":", result)

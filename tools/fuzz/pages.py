@@ -1,7 +1,7 @@
 """What `page`, `pages` and `stats` say of a sound file, compared with its listing and each other."""
 
-from answers import Shown, figures_of, rows_of, word_of
 from program import want
+from results import Shown, figures_of, rows_of, word_of
 
 FIRST_ROLES = ("branch", "leaf", "freelist")
 

@@ -65,7 +65,7 @@ class Difference(Exception):
     """What doesn't hold of a file."""
 
 
-# How a failed comparison ends: an answer may also have a form that can't be read.
+# How a failed comparison ends: a result may also have a form that can't be read.
 FAILURES = (Difference, LookupError, ValueError)
 
 
@@ -74,7 +74,7 @@ def want(is_so, *what):
         raise Difference(" ".join(str(part) for part in what))
 
 
-class Answer:
+class Result:
     """What a run printed, and its status."""
 
     def __init__(self, status, out, err):
@@ -97,25 +97,25 @@ class Program:
         self.runs = 0
 
     def ask(self, words):
-        """What the program answers to these words."""
+        """What the program prints for these words."""
         self.runs += 1
         try:
             ended = subprocess.run([self.path, *words], capture_output=True, timeout=SECONDS, close_fds=False)
         except subprocess.TimeoutExpired:
             raise Difference(*words, "didn't end within", SECONDS, "seconds") from None
-        return Answer(ended.returncode, ended.stdout, ended.stderr)
+        return Result(ended.returncode, ended.stdout, ended.stderr)
 
     def run(self, *words):
-        """The answer to these words: status 0 with a text, or 1 with a fault or with findings."""
-        answer = self.ask([str(word) for word in words])
-        want(is_stated(words, answer), *words, "answered:", answer)
-        return answer
+        """The result of these words: status 0 with a text, or 1 with a fault or with findings."""
+        result = self.ask([str(word) for word in words])
+        want(is_stated(words, result), *words, "printed:", result)
+        return result
 
     def text(self, *words):
         """What these words print. They must not fail."""
-        answer = self.run(*words)
-        want(answer.is_ok(), *words, "answered:", answer)
-        return answer.out
+        result = self.run(*words)
+        want(result.is_ok(), *words, "printed:", result)
+        return result.out
 
 
 def form_of(words):
@@ -130,28 +130,28 @@ def text_form(words):
     return TEXTS["list json"] if is_json else TEXTS.get(words[0])
 
 
-def without_hash(words, answer):
-    """The answer without the line of a snapshot's hash, which `check --etcd-snapshot` may have first."""
-    line = re.match(HASH_FAULT, answer.out) if "--etcd-snapshot" in words and words[0] == "check" else None
+def without_hash(words, result):
+    """The result without the line of a snapshot's hash, which `check --etcd-snapshot` may have first."""
+    line = re.match(HASH_FAULT, result.out) if "--etcd-snapshot" in words and words[0] == "check" else None
     if line is None:
-        return answer
-    rest = answer.out[line.end() :]
+        return result
+    rest = result.out[line.end() :]
     is_alone = rest == b"1 errors found\n"
-    return Answer(0 if is_alone else answer.status, b"OK\n" if is_alone else rest, answer.err)
+    return Result(0 if is_alone else result.status, b"OK\n" if is_alone else rest, result.err)
 
 
-def is_stated(words, answer):
-    """Whether the answer has a form that is documented for the command."""
+def is_stated(words, result):
+    """Whether the result has a form that is documented for the command."""
     command = words[0]
-    answer = without_hash(words, answer)
-    if answer.status == 0:
+    result = without_hash(words, result)
+    if result.status == 0:
         form = text_form(words)
-        return answer.err == b"" and (form is None or re.fullmatch(form, answer.out) is not None)
-    if answer.status != 1:
+        return result.err == b"" and (form is None or re.fullmatch(form, result.out) is not None)
+    if result.status != 1:
         return False
     if form_of(words) in FAILED:
         out, err = FAILED[form_of(words)]
-        if re.fullmatch(out, answer.out) and re.fullmatch(err, answer.err):
+        if re.fullmatch(out, result.out) and re.fullmatch(err, result.err):
             return True
     faults = META_FAULT + b"|" + FAULTS.get(command, META_FAULT)
-    return answer.out == b"" and re.fullmatch(rb"error: (?:%b)\n" % faults, answer.err) is not None
+    return result.out == b"" and re.fullmatch(rb"error: (?:%b)\n" % faults, result.err) is not None

@@ -3,10 +3,10 @@
 import os
 import re
 
-from answers import File, entries_of, info_of, read, rows_of, word_of, words_of
-from daily import buckets_of, lines_of_json, part_of
 from listings import paths_between
+from options import buckets_of, lines_of_json, part_of
 from program import want
+from results import File, entries_of, info_of, read, rows_of, word_of, words_of
 from snapshots import compare_hash, compare_snapshot
 
 LOSS = re.compile(
@@ -58,15 +58,15 @@ def recover_copy(file, words, name="recovered.db"):
     return file.run("compact", "--recover", "-o", copy, *words), copy
 
 
-def same(answer, other):
-    return (answer.status, answer.out, answer.err) == (other.status, other.out, other.err)
+def same(result, other):
+    return (result.status, result.out, result.err) == (other.status, other.out, other.err)
 
 
 def compare_refused(file, words, fault):
-    """Nothing is recovered: the answers have this fault, and the copy is empty."""
+    """Nothing is recovered: the results have this fault, and the copy is empty."""
     copied, copy = recover_copy(file, words)
-    for answer in (file.run("list", "--recover", *words), copied):
-        want(answer.status == 1 and (answer.out, answer.err) == (b"", fault), *words, "recovers:", answer)
+    for result in (file.run("list", "--recover", *words), copied):
+        want(result.status == 1 and (result.out, result.err) == (b"", fault), *words, "recovers:", result)
     want(read(copy) == b"", "the copy of what is refused isn't empty")
 
 
@@ -98,9 +98,9 @@ def compare_rests(file, words, listed, entries):
     firsts = list(paths_between(file.draw, file.some(paths)))
     for first in file.draw.sample(firsts, min(MOST_RESTS, len(firsts))):
         rest = b"".join(line for line, path in zip(lines, paths) if path >= first)
-        answer = file.run("list", "--recover", "--from", word_of(first), *words)
-        is_rest = (answer.status, answer.out, answer.err) == (1, rest, listed.err)
-        want(is_rest, "list --recover --from", word_of(first), "answered:", answer)
+        result = file.run("list", "--recover", "--from", word_of(first), *words)
+        is_rest = (result.status, result.out, result.err) == (1, rest, listed.err)
+        want(is_rest, "list --recover --from", word_of(first), "printed:", result)
 
 
 def compare_recovered_parts(file, words, listed, entries):
@@ -108,16 +108,16 @@ def compare_recovered_parts(file, words, listed, entries):
     such bucket, this is reported and not what is lost."""
     shown = file.run("list", "--recover", "--form", "json", *words)
     is_same = (shown.status, shown.err) == (1, listed.err) and lines_of_json(shown.out) == listed.out
-    want(is_same, "list --recover --form json", *words, "answered:", shown)
+    want(is_same, "list --recover --form json", *words, "printed:", shown)
     for bucket in file.some(buckets_of(entries))[:MOST_RESTS]:
-        answer = file.run("list", "--recover", *words, *words_of(file.draw, bucket))
-        is_part = (answer.status, answer.out, answer.err) == (1, part_of(listed.out, bucket), listed.err)
-        want(is_part, "list --recover", word_of(bucket), "answered:", answer)
+        result = file.run("list", "--recover", *words, *words_of(file.draw, bucket))
+        is_part = (result.status, result.out, result.err) == (1, part_of(listed.out, bucket), listed.err)
+        want(is_part, "list --recover", word_of(bucket), "printed:", result)
     for path in list(paths_between(file.draw, file.some(entries)))[-MOST_RESTS:]:
         if not isinstance(entries.get(path), int):
-            answer = file.run("list", "--recover", *words, *words_of(file.draw, path))
-            is_missing = (answer.status, answer.out, answer.err) == (1, b"", b"error: bucket not found\n")
-            want(is_missing, "list --recover", word_of(path), "answered:", answer)
+            result = file.run("list", "--recover", *words, *words_of(file.draw, path))
+            is_missing = (result.status, result.out, result.err) == (1, b"", b"error: bucket not found\n")
+            want(is_missing, "list --recover", word_of(path), "printed:", result)
 
 
 def compare_copies(file, words, lines, listing):

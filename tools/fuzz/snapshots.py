@@ -3,8 +3,8 @@
 import hashlib
 import os
 
-from answers import read
 from program import want
+from results import read
 
 BLOCK, HASH = 512, 32
 
@@ -30,10 +30,10 @@ def with_hash(line, checked):
 def compare_hash(file, *words):
     """`check --etcd-snapshot` prints what is wrong with the hash, and then what `check` prints."""
     checked = file.run("check", *words)
-    answer = file.run("check", "--etcd-snapshot", *words)
+    result = file.run("check", "--etcd-snapshot", *words)
     wanted = with_hash(hash_lines(read(file.path)), checked)
-    printed = answer.status, answer.out, answer.err
-    want(printed == wanted, "check --etcd-snapshot", *words, "answered:", answer, "and not", wanted)
+    printed = result.status, result.out, result.err
+    want(printed == wanted, "check --etcd-snapshot", *words, "printed:", result, "and not", wanted)
 
 
 def compare_changed(file, snapshot):
@@ -48,9 +48,9 @@ def compare_changed(file, snapshot):
         with open(path, "wb") as out:
             out.write(changed)
         checked = file.program.run("check", path)
-        answer = file.program.run("check", "--etcd-snapshot", path)
-        printed = answer.status, answer.out, answer.err
-        want(line != b"" and printed == with_hash(line, checked), "a changed snapshot:", answer)
+        result = file.program.run("check", "--etcd-snapshot", path)
+        printed = result.status, result.out, result.err
+        want(line != b"" and printed == with_hash(line, checked), "a changed snapshot:", result)
 
 
 def compare_snapshot(file, listing, *words):

@@ -1,9 +1,9 @@
 #!/usr/bin/env python3
-"""Shows that the comparisons find wrong answers, for `make fuzz-wrong`.
+"""Shows that the comparisons find wrong output, for `make fuzz-wrong`.
 
     try_wrong.py PROGRAM
 
-Each alteration below is between the program and the comparisons, and makes one kind of answer wrong.
+Each alteration below is between the program and the comparisons, and makes one kind of output wrong.
 The comparisons must find it on one of the first files of a seed. The status is 1 if they don't find
 one of them on any file.
 """
@@ -22,26 +22,26 @@ ALTERATIONS = []
 
 
 class Wrong(Program):
-    """The program, with its answers altered."""
+    """The program, with its output altered."""
 
     def __init__(self, path, alter):
         super().__init__(path)
         self.alter = alter
 
     def ask(self, words):
-        answer = super().ask(words)
-        self.alter(words, answer)
-        return answer
+        result = super().ask(words)
+        self.alter(words, result)
+        return result
 
 
 def alters(command, *options, status=0):
-    """Registers an alteration of the answers of this command, with these options and this status."""
+    """Registers an alteration of the results of this command, with these options and this status."""
 
     def register(alter):
-        def alter_meant(words, answer):
+        def alter_meant(words, result):
             is_meant = words[0] == command and all(option in words for option in options)
-            if is_meant and answer.status == status:
-                alter(words, answer)
+            if is_meant and result.status == status:
+                alter(words, result)
 
         ALTERATIONS.append((alter.__doc__, alter_meant))
         return alter
@@ -60,7 +60,7 @@ def set_bytes(path, place, data):
         file.write(data)
 
 
-# A command, with what status it ends, what it does wrong, what of its answer is replaced, and by what.
+# A command, with what status it ends, what it does wrong, what of its result is replaced, and by what.
 REPLACED = [
     ("list", 0, "shows another sequence", rb"bucket \d+", b"bucket 5"),
     ("pages", 0, "calls a leaf a branch", b"leaf  ", b"branch"),
@@ -76,20 +76,20 @@ FIGURES = [b"buckets", b"inline buckets", b"keys", b"branch pages", b"leaf alloc
 
 
 def alters_text(command, status, what, pattern, other):
-    def replace(words, answer):
-        answer.out = re.sub(pattern, other, answer.out)
-        answer.err = re.sub(pattern, other, answer.err)
+    def replace(words, result):
+        result.out = re.sub(pattern, other, result.out)
+        result.err = re.sub(pattern, other, result.err)
 
     replace.__doc__ = f"{command} {what}"
     alters(command, status=status)(replace)
 
 
 def alters_figure(name):
-    def add_one(words, answer):
-        answer.out = re.sub(
+    def add_one(words, result):
+        result.out = re.sub(
             rb"^%b (\d+)$" % name,
             lambda found: b"%b %d" % (name, int(found[1]) + 1),
-            answer.out,
+            result.out,
             flags=re.MULTILINE,
         )
 
@@ -98,8 +98,8 @@ def alters_figure(name):
 
 
 def drops_last_line(command):
-    def drop(words, answer):
-        answer.out = b"".join(answer.out.splitlines(keepends=True)[:-1])
+    def drop(words, result):
+        result.out = b"".join(result.out.splitlines(keepends=True)[:-1])
 
     drop.__doc__ = f"{command} drops its last line"
     alters(command)(drop)
@@ -114,257 +114,257 @@ for command in ("list", "keys", "pages"):
 
 
 @alters("list")
-def repeat_line(words, answer):
+def repeat_line(words, result):
     """list repeats its first line"""
-    answer.out = b"".join(answer.out.splitlines(keepends=True)[:1]) + answer.out
+    result.out = b"".join(result.out.splitlines(keepends=True)[:1]) + result.out
 
 
 @alters("list")
-def swap_lines(words, answer):
+def swap_lines(words, result):
     """list swaps two lines"""
-    lines = answer.out.splitlines(keepends=True)
-    answer.out = b"".join(lines[1:2] + lines[:1] + lines[2:])
+    lines = result.out.splitlines(keepends=True)
+    result.out = b"".join(lines[1:2] + lines[:1] + lines[2:])
 
 
 @alters("list")
-def change_value(words, answer):
+def change_value(words, result):
     """list shows another value"""
-    answer.out = re.sub(rb"= [0-9a-f]{2}", b"= 00", answer.out, count=1)
+    result.out = re.sub(rb"= [0-9a-f]{2}", b"= 00", result.out, count=1)
 
 
 @alters("list", "--from")
-def drop_first(words, answer):
+def drop_first(words, result):
     """list --from drops its first line"""
-    answer.out = b"".join(answer.out.splitlines(keepends=True)[1:])
+    result.out = b"".join(result.out.splitlines(keepends=True)[1:])
 
 
 @alters("list", "--meta")
-def list_nothing(words, answer):
+def list_nothing(words, result):
     """list --meta lists nothing"""
-    answer.out = b""
+    result.out = b""
 
 
 @alters("buckets")
-def add_name(words, answer):
+def add_name(words, result):
     """buckets adds a name"""
-    answer.out += b"more\n"
+    result.out += b"more\n"
 
 
 @alters("get")
-def change_got(words, answer):
+def change_got(words, result):
     """get shows another value"""
-    answer.out = b"other\n"
+    result.out = b"other\n"
 
 
 @alters("get", status=1)
-def swap_faults(words, answer):
+def swap_faults(words, result):
     """get reports that there is no bucket where there is no key"""
-    answer.err = answer.err.replace(b"key not", b"bucket not")
+    result.err = result.err.replace(b"key not", b"bucket not")
 
 
 @alters("keys", status=1)
-def show_nothing(words, answer):
+def show_nothing(words, result):
     """keys shows nothing where there is no bucket"""
-    answer.status, answer.err = 0, b""
+    result.status, result.err = 0, b""
 
 
 @alters("page")
-def show_all(words, answer):
+def show_all(words, result):
     """page shows an id more of a freelist"""
-    if b"type freelist" in answer.out:
-        answer.out += b"9\n"
+    if b"type freelist" in result.out:
+        result.out += b"9\n"
 
 
 @alters("page", status=1)
-def accept_page(words, answer):
+def accept_page(words, result):
     """page accepts every page"""
     text = f"page {words[2]}\ntype leaf\nitems 0\noverflow 0\n"
-    answer.status, answer.out, answer.err = 0, text.encode(), b""
+    result.status, result.out, result.err = 0, text.encode(), b""
 
 
 @alters("info")
-def change_slot(words, answer):
+def change_slot(words, result):
     """info shows the other slot"""
-    answer.out = re.sub(rb"meta (\d)", lambda found: b"meta %d" % (1 - int(found[1])), answer.out)
+    result.out = re.sub(rb"meta (\d)", lambda found: b"meta %d" % (1 - int(found[1])), result.out)
 
 
 @alters("check", status=1)
-def accept_all(words, answer):
+def accept_all(words, result):
     """check accepts every file"""
-    answer.status, answer.out, answer.err = 0, b"OK\n", b""
+    result.status, result.out, result.err = 0, b"OK\n", b""
 
 
 @alters("check")
-def refuse_all(words, answer):
+def refuse_all(words, result):
     """check refuses every file"""
-    answer.status, answer.out = 1, b"page 2: cut off\n1 errors found\n"
+    result.status, result.out = 1, b"page 2: cut off\n1 errors found\n"
 
 
 @alters("check", status=1)
-def drop_finding(words, answer):
+def drop_finding(words, result):
     """check drops its last finding"""
-    *findings, _, count = answer.out.splitlines(keepends=True) or [b"", b""]
+    *findings, _, count = result.out.splitlines(keepends=True) or [b"", b""]
     if findings:
-        answer.out = b"".join(findings) + b"%d errors found\n" % len(findings)
+        result.out = b"".join(findings) + b"%d errors found\n" % len(findings)
 
 
 @alters("check", status=1)
-def change_number(words, answer):
+def change_number(words, result):
     """check finds something of another page"""
-    answer.out = re.sub(rb"page (\d+)", lambda found: b"page %d" % (int(found[1]) + 1), answer.out)
+    result.out = re.sub(rb"page (\d+)", lambda found: b"page %d" % (int(found[1]) + 1), result.out)
 
 
 @alters("list", status=1)
-def report_other(words, answer):
+def report_other(words, result):
     """list reports another finding than the rest"""
-    answer.err = answer.err.replace(b"page ", b"page 1")
+    result.err = result.err.replace(b"page ", b"page 1")
 
 
 @alters("stats", status=1)
-def stats_of_all(words, answer):
+def stats_of_all(words, result):
     """stats ends without a word on what is refused"""
-    answer.err = b""
+    result.err = b""
 
 
 @alters("compact")
-def cut_copy(words, answer):
+def cut_copy(words, result):
     """compact drops the last byte of the copy"""
     os.truncate(out_of(words), os.path.getsize(out_of(words)) - 1)
 
 
 @alters("compact", "--page-size")
-def change_copy(words, answer):
+def change_copy(words, result):
     """compact puts another last byte at another page size"""
     set_bytes(out_of(words), -1, b"\1")
 
 
 @alters("compact")
-def lose_copy(words, answer):
+def lose_copy(words, result):
     """compact copies nothing but the metas"""
     set_bytes(out_of(words), 2048, bytes(os.path.getsize(out_of(words)) - 2048))
 
 
 @alters("compact", status=1)
-def fill_copy(words, answer):
+def fill_copy(words, result):
     """compact puts something of what is refused"""
     set_bytes(out_of(words), 0, b"luntsegi")
 
 
 @alters("compact")
-def report_lengths(words, answer):
+def report_lengths(words, result):
     """compact reports other lengths"""
-    answer.out = b"1 -> 1 bytes\n"
+    result.out = b"1 -> 1 bytes\n"
 
 
 @alters("stats")
-def touch_file(words, answer):
+def touch_file(words, result):
     """stats writes into its file"""
     set_bytes(words[1], 0, b"\xff")
 
 
 @alters("pages")
-def add_noise(words, answer):
+def add_noise(words, result):
     """pages says more on standard error"""
-    answer.err = b"done\n"
+    result.err = b"done\n"
 
 
 @alters("buckets")
-def crash(words, answer):
+def crash(words, result):
     """buckets ends by a signal"""
-    answer.status = -11
+    result.status = -11
 
 
 @alters("check", "--all", status=1)
-def drop_loss(words, answer):
+def drop_loss(words, result):
     """check --all drops its last loss"""
-    *losses, _, count = answer.out.splitlines(keepends=True) or [b"", b""]
+    *losses, _, count = result.out.splitlines(keepends=True) or [b"", b""]
     if losses:
-        answer.out = b"".join(losses) + b"%d errors found\n" % len(losses)
+        result.out = b"".join(losses) + b"%d errors found\n" % len(losses)
 
 
 @alters("check", "--all", status=1)
-def widen_loss(words, answer):
+def widen_loss(words, result):
     """check --all reports no bounds"""
-    answer.out = re.sub(rb", keys from .*", b"", answer.out)
+    result.out = re.sub(rb", keys from .*", b"", result.out)
 
 
 @alters("check", "--all", status=1)
-def drop_upper(words, answer):
+def drop_upper(words, result):
     """check --all reports no upper bound"""
-    answer.out = re.sub(rb" to below .*", b"", answer.out)
+    result.out = re.sub(rb" to below .*", b"", result.out)
 
 
 @alters("check", "--all", status=1)
-def lose_all(words, answer):
+def lose_all(words, result):
     """check --all says that everything is lost"""
-    answer.out = re.sub(rb"(?:root bucket|bucket [0-9a-f/]+).*", b"everything", answer.out)
+    result.out = re.sub(rb"(?:root bucket|bucket [0-9a-f/]+).*", b"everything", result.out)
 
 
 @alters("check", "--all", status=1)
-def lose_nothing(words, answer):
+def lose_nothing(words, result):
     """check --all finds nothing"""
-    answer.status, answer.out, answer.err = 0, b"OK\n", b""
+    result.status, result.out, result.err = 0, b"OK\n", b""
 
 
 @alters("check", "--meta")
-def refuse_slot(words, answer):
+def refuse_slot(words, result):
     """check --meta refuses what is sound"""
-    answer.status, answer.out = 1, b"page 2: cut off\n1 errors found\n"
+    result.status, result.out = 1, b"page 2: cut off\n1 errors found\n"
 
 
 @alters("list", "--recover")
-def drop_recovered(words, answer):
+def drop_recovered(words, result):
     """list --recover drops its last line of a sound file"""
-    answer.out = b"".join(answer.out.splitlines(keepends=True)[:-1])
+    result.out = b"".join(result.out.splitlines(keepends=True)[:-1])
 
 
 @alters("list", "--recover", status=1)
-def drop_kept(words, answer):
+def drop_kept(words, result):
     """list --recover drops its last line of a damaged file"""
-    answer.out = b"".join(answer.out.splitlines(keepends=True)[:-1])
+    result.out = b"".join(result.out.splitlines(keepends=True)[:-1])
 
 
 @alters("list", "--recover", status=1)
-def count_losses(words, answer):
+def count_losses(words, result):
     """list --recover counts a loss more"""
-    answer.err = re.sub(rb"lost: (\d+)", lambda found: b"lost: %d" % (int(found[1]) + 1), answer.err)
+    result.err = re.sub(rb"lost: (\d+)", lambda found: b"lost: %d" % (int(found[1]) + 1), result.err)
 
 
 @alters("list", "--recover", "--from", status=1)
-def list_from_start(words, answer):
+def list_from_start(words, result):
     """list --recover --from drops its first line"""
-    answer.out = b"".join(answer.out.splitlines(keepends=True)[1:])
+    result.out = b"".join(result.out.splitlines(keepends=True)[1:])
 
 
 @alters("compact", "--recover", status=1)
-def report_less(words, answer):
+def report_less(words, result):
     """compact --recover reports a loss less"""
-    answer.out = b"".join(answer.out.splitlines(keepends=True)[1:])
+    result.out = b"".join(result.out.splitlines(keepends=True)[1:])
 
 
 @alters("compact", "--recover", status=1)
-def cut_recovered(words, answer):
+def cut_recovered(words, result):
     """compact --recover drops the last byte of the copy"""
-    if answer.out:
+    if result.out:
         os.truncate(out_of(words), os.path.getsize(out_of(words)) - 1)
 
 
 @alters("compact", "--recover", "--for-bbolt")
-def change_balanced(words, answer):
+def change_balanced(words, result):
     """compact --recover --for-bbolt puts another last byte"""
     set_bytes(out_of(words), -1, b"\1")
 
 
 @alters("compact", "--recover", status=1)
-def end_well(words, answer):
+def end_well(words, result):
     """compact --recover ends with status 0 although something is lost"""
-    if answer.out:
-        answer.status = 0
+    if result.out:
+        result.status = 0
 
 
 def drops_line_of_part(status, *options):
-    def drop(words, answer):
-        answer.out = b"".join(answer.out.splitlines(keepends=True)[:-1])
+    def drop(words, result):
+        result.out = b"".join(result.out.splitlines(keepends=True)[:-1])
 
     drop.__doc__ = f"list {' '.join(options)} of a bucket drops its last line, with status {status}"
     alters("list", *options, status=status)(drop)
@@ -377,78 +377,78 @@ drops_line_of_part(1, "--recover", "--parts")
 
 
 @alters("list", "--parts")
-def repeat_bucket(words, answer):
+def repeat_bucket(words, result):
     """list of a bucket repeats its first line"""
-    answer.out = b"".join(answer.out.splitlines(keepends=True)[:1]) + answer.out
+    result.out = b"".join(result.out.splitlines(keepends=True)[:1]) + result.out
 
 
 @alters("list", status=1)
-def find_no_bucket(words, answer):
+def find_no_bucket(words, result):
     """list reports that there is no key where there is no bucket"""
-    answer.err = answer.err.replace(b"bucket not", b"key not")
+    result.err = result.err.replace(b"bucket not", b"key not")
 
 
 @alters("list", status=1)
-def end_without_bucket(words, answer):
+def end_without_bucket(words, result):
     """list shows nothing where there is no bucket"""
-    if b"bucket not" in answer.err:
-        answer.status, answer.err = 0, b""
+    if b"bucket not" in result.err:
+        result.status, result.err = 0, b""
 
 
 @alters("list", "--recover", status=1)
-def report_losses(words, answer):
+def report_losses(words, result):
     """list --recover reports losses where there is no bucket"""
-    answer.err = answer.err.replace(b"bucket not found", b"pages lost: 1")
+    result.err = result.err.replace(b"bucket not found", b"pages lost: 1")
 
 
 @alters("list", "json")
-def drop_json(words, answer):
+def drop_json(words, result):
     """list --form json drops its last line"""
-    answer.out = b"".join(answer.out.splitlines(keepends=True)[:-1])
+    result.out = b"".join(result.out.splitlines(keepends=True)[:-1])
 
 
 @alters("list", "json")
-def show_hex(words, answer):
+def show_hex(words, result):
     """list --form json shows a value in hexadecimal as a string"""
-    answer.out = re.sub(rb'"value":\{"hex":("[0-9a-f]*")\}', rb'"value":\1', answer.out)
+    result.out = re.sub(rb'"value":\{"hex":("[0-9a-f]*")\}', rb'"value":\1', result.out)
 
 
 @alters("list", "json")
-def lose_escape(words, answer):
+def lose_escape(words, result):
     """list --form json loses a control character"""
-    answer.out = answer.out.replace(rb"\u0000", b"")
+    result.out = result.out.replace(rb"\u0000", b"")
 
 
 @alters("list", "json")
-def change_sequence(words, answer):
+def change_sequence(words, result):
     """list --form json shows another sequence"""
-    answer.out = re.sub(rb'"bucket":\d+', b'"bucket":5', answer.out)
+    result.out = re.sub(rb'"bucket":\d+', b'"bucket":5', result.out)
 
 
 @alters("list", "--recover", "json", status=1)
-def drop_recovered_json(words, answer):
+def drop_recovered_json(words, result):
     """list --recover --form json drops its last line of a damaged file"""
-    answer.out = b"".join(answer.out.splitlines(keepends=True)[:-1])
+    result.out = b"".join(result.out.splitlines(keepends=True)[:-1])
 
 
 @alters("keys", "--prefix")
-def drop_key(words, answer):
+def drop_key(words, result):
     """keys --prefix drops its last key"""
-    answer.out = b"".join(answer.out.splitlines(keepends=True)[:-1])
+    result.out = b"".join(result.out.splitlines(keepends=True)[:-1])
 
 
 @alters("keys", "--prefix")
-def add_key(words, answer):
+def add_key(words, result):
     """keys --prefix adds a key"""
-    answer.out += b"more\n"
+    result.out += b"more\n"
 
 
 def alters_size(column, name):
-    def add_one(words, answer):
-        lines = [line.split(b" ", 3) for line in answer.out.splitlines()]
+    def add_one(words, result):
+        lines = [line.split(b" ", 3) for line in result.out.splitlines()]
         for line in lines:
             line[column] = b"%d" % (int(line[column]) + 1)
-        answer.out = b"".join(b" ".join(line) + b"\n" for line in lines)
+        result.out = b"".join(b" ".join(line) + b"\n" for line in lines)
 
     add_one.__doc__ = f"buckets --sizes adds one to its {name}"
     alters("buckets", "--sizes")(add_one)
@@ -459,84 +459,84 @@ for column, name in enumerate(("keys", "bytes used", "bytes allocated")):
 
 
 @alters("buckets", "--sizes")
-def drop_size(words, answer):
+def drop_size(words, result):
     """buckets --sizes drops its last bucket"""
-    answer.out = b"".join(answer.out.splitlines(keepends=True)[:-1])
+    result.out = b"".join(result.out.splitlines(keepends=True)[:-1])
 
 
 @alters("buckets", "--sizes")
-def swap_sizes(words, answer):
+def swap_sizes(words, result):
     """buckets --sizes shows the first two buckets in another order"""
-    lines = answer.out.splitlines(keepends=True)
-    answer.out = b"".join(lines[1:2] + lines[:1] + lines[2:])
+    lines = result.out.splitlines(keepends=True)
+    result.out = b"".join(lines[1:2] + lines[:1] + lines[2:])
 
 
 @alters("get", "-n")
-def keep_newline(words, answer):
+def keep_newline(words, result):
     """get -n prints a line feed"""
-    answer.out += b"\n"
+    result.out += b"\n"
 
 
 @alters("get", "--no-newline")
-def drop_byte(words, answer):
+def drop_byte(words, result):
     """get --no-newline drops the last byte of the value"""
-    answer.out = answer.out[:-1]
+    result.out = result.out[:-1]
 
 
 @alters("compact", "--etcd-snapshot")
-def change_hash(words, answer):
+def change_hash(words, result):
     """compact --etcd-snapshot puts another last byte"""
     set_bytes(out_of(words), -1, b"\1")
 
 
 @alters("compact", "--etcd-snapshot")
-def drop_hash(words, answer):
+def drop_hash(words, result):
     """compact --etcd-snapshot writes no hash"""
     os.truncate(out_of(words), os.path.getsize(out_of(words)) - 32)
 
 
 @alters("compact", "--etcd-snapshot")
-def count_without_hash(words, answer):
+def count_without_hash(words, result):
     """compact --etcd-snapshot doesn't count the hash"""
-    answer.out = re.sub(rb"> (\d+)", lambda found: b"> %d" % (int(found[1]) - 32), answer.out)
+    result.out = re.sub(rb"> (\d+)", lambda found: b"> %d" % (int(found[1]) - 32), result.out)
 
 
 @alters("compact", "--recover", "--etcd-snapshot", status=1)
-def change_recovered_hash(words, answer):
+def change_recovered_hash(words, result):
     """compact --recover --etcd-snapshot puts another last byte"""
-    if answer.out:
+    if result.out:
         set_bytes(out_of(words), -1, b"\1")
 
 
 @alters("check", "--etcd-snapshot", status=1)
-def accept_hash(words, answer):
+def accept_hash(words, result):
     """check --etcd-snapshot accepts every hash"""
-    answer.out = re.sub(rb"snapshot hash .*\n", b"", answer.out)
+    result.out = re.sub(rb"snapshot hash .*\n", b"", result.out)
 
 
 @alters("check", "--etcd-snapshot", status=1)
-def call_missing(words, answer):
+def call_missing(words, result):
     """check --etcd-snapshot calls a hash missing that differs"""
-    answer.out = answer.out.replace(b"hash differs", b"hash missing")
+    result.out = result.out.replace(b"hash differs", b"hash missing")
 
 
 @alters("check", "--etcd-snapshot", status=1)
-def count_hash(words, answer):
+def count_hash(words, result):
     """check --etcd-snapshot doesn't count the hash"""
-    answer.out = re.sub(rb"(\d+) errors", lambda found: b"%d errors" % (int(found[1]) - 1), answer.out)
+    result.out = re.sub(rb"(\d+) errors", lambda found: b"%d errors" % (int(found[1]) - 1), result.out)
 
 
 @alters("check", "--etcd-snapshot", status=1)
-def stop_at_hash(words, answer):
+def stop_at_hash(words, result):
     """check --etcd-snapshot stops at a wrong hash"""
-    if answer.out.startswith(b"snapshot hash"):
-        answer.out, answer.err = answer.out.splitlines(keepends=True)[0] + b"1 errors found\n", b""
+    if result.out.startswith(b"snapshot hash"):
+        result.out, result.err = result.out.splitlines(keepends=True)[0] + b"1 errors found\n", b""
 
 
 @alters("check", "--etcd-snapshot")
-def refuse_hash(words, answer):
+def refuse_hash(words, result):
     """check --etcd-snapshot refuses every hash"""
-    answer.status, answer.out = 1, b"snapshot hash differs\n1 errors found\n"
+    result.status, result.out = 1, b"snapshot hash differs\n1 errors found\n"
 
 
 def finds(path, alter, folder):

@@ -6,7 +6,7 @@
 CALL is memory, read, write or sync; LIBRARY refuses the calls (refuse.c). A COMMAND may have several
 words; those after the first come after FILE; OUT stands for a file that doesn't exist. With STEP 1
 each call that a command makes is refused in a run of its own; with STEP N the first one and then each
-N-th. A run must end as docs/COMMANDS.md says: with the full answer, or with status 1, the line of the
+N-th. A run must end as docs/COMMANDS.md says: with the full result, or with status 1, the line of the
 failure, and the parts of the text and of OUT that may be there then. Writes move at most seven bytes,
 so they fail at many places. Prints how many runs ended in which way. The status is 1 if one ends
 otherwise, or if no failure is reported.
@@ -20,7 +20,7 @@ from collections import Counter
 
 SECONDS = 60
 MOST_WRITTEN = "7"
-FULL = "the full answer"
+FULL = "the full result"
 PART_OF_LINE = "a part of its line"
 # The commands that may have printed a part of their text when memory runs out: always, or with one of
 # these words.
@@ -80,10 +80,10 @@ class Command:
         words = MAY_BEGIN.get(self.name, ())
         return words is None or any(word in self.words for word in words)
 
-    def outcome(self, full, answer):
+    def outcome(self, full, result):
         """How a run with a refusal ended, or nothing if it ended in no documented way."""
-        status, out, err, copy = answer
-        if answer == full:
+        status, out, err, copy = result
+        if result == full:
             return FULL
         if self.call == "write" and (status, out, copy) == (full[0], full[1], full[3]):
             return PART_OF_LINE if full[2].startswith(err) else None
@@ -100,18 +100,18 @@ def sweep(command, step):
     full = command.run(0)
     outcomes, wrong = Counter(), []
     number = 1
-    answer = command.run(number)
+    result = command.run(number)
     while command.was_refused():
-        outcome = command.outcome(full, answer)
+        outcome = command.outcome(full, result)
         if outcome is None:
             wrong.append(number)
-            print(f"{command.call} {number} of {command.words[1:]}: {answer[:3]!r:.500}")
+            print(f"{command.call} {number} of {command.words[1:]}: {result[:3]!r:.500}")
         outcomes[outcome] += 1
         number += step
-        answer = command.run(number)
+        result = command.run(number)
     ends = ", ".join(f"{count} {outcome}" for outcome, count in outcomes.items())
     print(f"{' '.join(command.words[1:])}: {sum(outcomes.values())} times {command.call}: {ends}", flush=True)
-    is_done = full[2] not in command.lines and answer == full
+    is_done = full[2] not in command.lines and result == full
     return is_done and not wrong and any(outcomes[outcome] > 0 for outcome in LINES[command.call])
 
 

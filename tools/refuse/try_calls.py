@@ -1,9 +1,9 @@
 #!/usr/bin/env python3
 """Refuses calls of the libraries each of their requests for memory in turn, for `make memory`.
 
-    try_calls.py CALLS LIBRARY ROWS
+    try_calls.py CALLS LIBRARY CASES
 
-CALLS is the program test_calls, LIBRARY refuses the requests (refuse.c), and ROWS has test cases (tests/run_rows.py)
+CALLS is the program test_calls, LIBRARY refuses the requests (refuse.c), and CASES has test cases (tests/run_cases.py)
 of the verbs `again` and `between`. Each run must end with the full result, or with status 3 and what was refused: the
 walk of `again` goes on or begins again with the same members; or memory ran out before or after it. In `between` the
 calls that need no memory are between two requests, so these must be neighbours. Prints how many runs ended in which
@@ -16,7 +16,7 @@ import tempfile
 from collections import Counter
 
 from draft import make
-from run_rows import handed_over
+from run_cases import handed_over, parted
 from words import halves
 
 SECONDS = 60
@@ -42,11 +42,11 @@ def outcomes_of(calls, library, folder, words):
 
     full = run(0)
     said = []
-    answer = run(1)
+    result = run(1)
     while os.path.exists(mark):
-        status, out, err = answer
-        said.append(b"" if answer == full else err if (status, out) == (3, b"") else b"another end")
-        answer = run(len(said) + 1)
+        status, out, err = result
+        said.append(b"" if result == full else err if (status, out) == (3, b"") else b"another end")
+        result = run(len(said) + 1)
     return said
 
 
@@ -61,7 +61,7 @@ def is_right(verb, path, said):
 
 def try_block(calls, library, folder, block):
     """Writes a file that is described, or tries a call. Returns whether it ended as it must."""
-    head, *lines = block.split("\n")
+    head, *lines = parted(block)[1].split("\n")
     verb, words = halves(head, " ")
     if verb == "file":
         with open(os.path.join(folder, "FILE"), "wb") as it:
@@ -76,8 +76,8 @@ def try_block(calls, library, folder, block):
 
 
 def main():
-    calls, library, rows = (os.path.abspath(it) for it in sys.argv[1:])
-    with open(rows, encoding="utf-8", newline="\n") as it:
+    calls, library, cases = (os.path.abspath(it) for it in sys.argv[1:])
+    with open(cases, encoding="utf-8", newline="\n") as it:
         blocks = it.read().rstrip("\n").split("\n\n")
     with tempfile.TemporaryDirectory() as folder:
         good = [try_block(calls, library, folder, block) for block in blocks]

@@ -78,7 +78,7 @@ want_cut_snapshot() {
 	rm "$copy"
 }
 
-# Standard output that can't be written is reported, whatever the command.
+# Standard output that can't be written is reported by each command.
 full_output() {
 	out=/dev/full
 	for command in "$@"; do

@@ -16,7 +16,7 @@ such lines.
 on its own body and on the contracts of what it calls, and never on another body. So in a copy of the crate each other function has a loop as its
 body and a hole as its proof. First the functions must pass in this copy as they are. Then the edits are applied, those of different functions side
 by side. An edit is refused if the prover refuses its functions for what they do themselves. If a function calls another that is edited beside it,
-its edit is tried again alone. An edit outside bodies is always tried alone, so that whatever is refused then is refused because of it.
+its edit is tried again alone. An edit outside bodies is always tried alone, so that what is refused then is refused because of it.
 
 With --all, the prover begins with what `rt check` has kept in the crate's folder out, if that is there. The functions must then pass in the crate as
 it is, which that work shows in seconds.
@@ -218,17 +218,17 @@ class Trial:
         return found[1] if found else UNSAID
 
     def refusal_of(self, said, name, is_wide, beside):
-        """Why the prover refuses the function for what it does itself, or "". That can't be told if it calls one of those that are edited beside it."""
+        """Why the prover refuses the function for what it does itself, or "". This can't be known if it calls one of those that are edited beside it."""
         line, path = self.line_of(said, name), name.replace("::", "/")
         if any(f"`{self.crate.name}::{it}`" in line.partition("; it calls ")[2] for it in beside):
             return ""
         if line.startswith("no proof: expected answers in ") and "; `search` did not prove " in line:
             return line[:160]
         own = "" if is_wide else "[^;]*" + re.escape(f"`Rattle.{self.crate.name}.proofs.{name.replace('::', '.')}.")
-        told = re.findall(rf"^(?:\./)?proofs/{re.escape(path)}/\S+: error: .*", said, re.M)
-        if line.startswith("not proved") and told and all(NAMES.search(it) for it in told):
+        errors = re.findall(rf"^(?:\./)?proofs/{re.escape(path)}/\S+: error: .*", said, re.M)
+        if line.startswith("not proved") and errors and all(NAMES.search(it) for it in errors):
             # (beside others, it may name what is refused of these)
-            return "" if beside else f"only because its proof names what the edit took away, which says little of the contract: {told[0][:160]}"
+            return "" if beside else f"only because its proof names what the edit took away, which says little of the contract: {errors[0][:160]}"
         return line[:160] if re.match(f"not proved; it stands on {own}", line) else ""
 
     def are_apart(self, one, other):
@@ -255,10 +255,10 @@ class Trial:
         for edit in applied:
             unread = next((it for it in said.split("\n") if rt.unread(it, edit.files)), "")
             beside = [name for it in applied if it is not edit for name in it.real]
-            told = {it: self.refusal_of(said, it, edit.is_wide, beside) for it in edit.functions}
-            passing = [it for it in told if not told[it]]
+            refusals = {it: self.refusal_of(said, it, edit.is_wide, beside) for it in edit.functions}
+            passing = [it for it in refusals if not refusals[it]]
             if not unread and not passing:
-                self.say(f"wrong body {edit.name}: refused, as it must be: {'; '.join(f'{it}: {why}' for it, why in told.items())}")
+                self.say(f"wrong body {edit.name}: refused, as it must be: {'; '.join(f'{it}: {why}' for it, why in refusals.items())}")
                 self.refused += 1
             elif len(edits) > 1:
                 again.append(edit)

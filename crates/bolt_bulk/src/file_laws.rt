@@ -15,7 +15,7 @@ ghost use Rattle.bolt_layout.specs.declared.layout.Layout.{Layout};
 use bolt_check::Checked;
 use bolt_layout::laws::{
     a_copy_lists_the_same, a_files_listing_is_of_one_tree, a_held_listing_is_of_one_tree,
-    prefixes_are_refused, held_is_small, layout_has_length,
+    held_is_small, layout_has_length, prefixes_are_refused,
 };
 use bolt_recover::Recovery;
 use bolt_recover::laws::{

@@ -22,7 +22,7 @@ pub Writes-reported : {S A : Type 0} {taken : S → Option (List ℕ)} {failed :
 Writes-reported {taken} {failed} old new text (Ok x) a only = record { all = a.all; sound = a.sound; prefix = a.prefix; failure = tt }
 Writes-reported {taken} {failed} old new text (Err e) a only = record { all = tt; sound = tt; prefix = a.prefix; failure = a.failure (ap Err only) }
 
--- the text was put, and the job ends as its answer says
+-- the text was written, and the job ends as its answer says
 pub Does-whole : {S A : Type 0} {taken : S → Option (List ℕ)} {failed : S → ℕ} (old new : S) (answer : Answer) (x : A)
     → Reports taken failed old new answer.out (Ok x) → Does taken failed old new answer answer.ending
 Does-whole {taken} {failed} old new answer x a = inl (a.all, a.sound, refl)
@@ -61,7 +61,7 @@ Does-second_unwritten {A} taken failed old mid new first second end x e ending l
     (Writes-then old mid new first second x stop line (Writes-reported mid new second stop rest only))
     (subst (λ (fault : ReportFault). IsErrAnd ending (λ why. why ≡ reported fault)) only reason)
 
--- nothing was put
+-- nothing was written
 pub Does-nothing : {S : Type 0} (taken : S → Option (List ℕ)) (failed : S → ℕ) (old : S) (failure : Failure) (result : Ending)
     → IsErrAnd result (λ said. said ≡ failure) → Does taken failed old old (refused failure) result
 Does-nothing taken failed old failure (Ok x) is = absurd is

@@ -17,13 +17,13 @@ use Rattle.bolt_tree.proofs.Leaving.{the_entries}
 use Rattle.bolt_tree.proofs.Named.{entry_once}
 use Rattle.bolt_report.specs.Figures.{add_stats}
 use Rattle.bolt_report.specs.StatsOf.{IsStatsOf}
-use Rattle.bolt_report.specs.declared.figures.Stats.{Stats}
+use Rattle.bolt_report.specs.declared.statistics.Stats.{Stats}
 use Rattle.bolt_tree.specs.Paths.{Path}
 use Rattle.bolt_check.specs.Sound.{HasSoundTrees}
 use Rattle.bolt_cli.specs.PlainWords.{path_in}
 use Rattle.bolt_cli.proofs.AtPaths.{no_parts}
 use Rattle.bolt_cli.proofs.RootEntries.{of_root, root_entries}
-use Rattle.bolt_cli.specs.Answers.{AddsBy, AddsEntry, HasFigures, IsStatsAnswer, IsTotal, LeadsTo, no_stats, refused}
+use Rattle.bolt_cli.specs.Answers.{AddsBy, AddsEntry, HasStats, IsStatsAnswer, IsTotal, LeadsTo, no_stats, refused}
 use Rattle.bolt_cli.specs.declared.failure.Failure.{Failure}
 use Rattle.bolt_cli.specs.declared.failure.Failure.TheVariants as failure
 
@@ -52,8 +52,8 @@ module _ (bucket : Bucket) where
       → Entry (bucket_start bucket) e → e.key ≡ key → ∥ AddsEntry file_in meta_in e before sum ∥₁
   adds_found inner key own before sum e same found stats is entry named =
       let (entries, known) = the_entries bucket in
-      let figures = subst (λ (c : Checked). ∥ IsStatsOf (bytes_of c) (meta_of c) (bucket_start inner) own ∥₁) same stats in
-      ∥∥₁_elim known (hlevel props) (λ are. ∥∥₁_elim found (hlevel props) (λ (x, there, key_is, is_bucket, start, sequence). ∥∥₁_map figures (λ own_are.
+      let its_stats = subst (λ (c : Checked). ∥ IsStatsOf (bytes_of c) (meta_of c) (bucket_start inner) own ∥₁) same stats in
+      ∥∥₁_elim known (hlevel props) (λ are. ∥∥₁_elim found (hlevel props) (λ (x, there, key_is, is_bucket, start, sequence). ∥∥₁_map its_stats (λ own_are.
       let one = entry_once Entry (bucket_start bucket) entries are x e there entry (key_is ∙ sym named) in
       let at = subst (λ (s : Start). IsStatsOf file_in meta_in s own) start own_are in
       subst (AddsEntry file_in meta_in e before) (sym is)
@@ -75,8 +75,8 @@ abbrev AreZero : Stats → Type 0
 AreZero s =
     (s.buckets ≡ 0) × ((s.inline_buckets ≡ 0) × ((s.inline_used ≡ 0) × ((s.keys ≡ 0) × ((s.depth ≡ 0) × ((s.branch_pages ≡ 0) × ((s.branch_overflow ≡ 0) × ((s.branch_allocated ≡ 0) × ((s.branch_used ≡ 0) × ((s.leaf_pages ≡ 0) × ((s.leaf_overflow ≡ 0) × ((s.leaf_allocated ≡ 0) × ((s.leaf_used ≡ 0)))))))))))))
 
-pub no_figures : (s : Stats) → AreZero s → s ≡ no_stats
-no_figures s none = λ i. record {
+pub zero_stats : (s : Stats) → AreZero s → s ≡ no_stats
+zero_stats s none = λ i. record {
   buckets = none.0 i;
   inline_buckets = none.1.0 i;
   inline_used = none.1.1.0 i;
@@ -95,29 +95,29 @@ no_figures s none = λ i. record {
 -- ---- the bucket at a path
 
 -- the figures of the root bucket
-pub root_figures : {Z : Type 0} (path : List (Vec ℕ Z)) (checked : Checked) (root : Bucket) (total : Stats) → length path ≡ 0 → HasSoundTrees (bytes_of checked) (meta_of checked)
+pub root_stats : {Z : Type 0} (path : List (Vec ℕ Z)) (checked : Checked) (root : Bucket) (total : Stats) → length path ≡ 0 → HasSoundTrees (bytes_of checked) (meta_of checked)
     → bucket_checked root ≡ checked → bucket_start root ≡ Root_page (meta_of checked).root
     → ForEntries (bucket_checked root) (bucket_start root) (λ entries. ∥ IsTotal (bytes_of (bucket_checked root)) (meta_of (bucket_checked root)) entries no_stats total ∥₁)
-    → HasFigures (bytes_of checked) (path_in path) (meta_of checked) total
-root_figures path checked root total empty trees is begins promised =
+    → HasStats (bytes_of checked) (path_in path) (meta_of checked) total
+root_stats path checked root total empty trees is begins promised =
     let file = bytes_of checked in
     let (entries, are) = root_entries file (meta_of checked) trees in
     let known = of_root file checked root (λ entries. ∥ IsTotal (bytes_of (bucket_checked root)) (meta_of (bucket_checked root)) entries no_stats total ∥₁) refl is begins promised entries are in
     let of_checked = subst (λ (c : Checked). ∥ IsTotal (bytes_of c) (meta_of c) entries no_stats total ∥₁) is known in
-    subst (λ (p : Path). HasFigures file p (meta_of checked) total) (sym (no_parts path empty)) (entries, ∥∥₁_map of_checked (λ sum. (are, sum)))
+    subst (λ (p : Path). HasStats file p (meta_of checked) total) (sym (no_parts path empty)) (entries, ∥∥₁_map of_checked (λ sum. (are, sum)))
 
 -- and those of another bucket
-pub bucket_figures : {Z : Type 0} (path : List (Vec ℕ Z)) (checked : Checked) (bucket : Bucket) (own : Stats) → (length path ≡ 0 → ⊥)
+pub bucket_stats : {Z : Type 0} (path : List (Vec ℕ Z)) (checked : Checked) (bucket : Bucket) (own : Stats) → (length path ≡ 0 → ⊥)
     → bucket_checked bucket ≡ checked → ∥ LeadsTo (bytes_of checked) (meta_of checked) (path_in path) (bucket_start bucket) ∥₁
-    → ∥ IsStatsOf (bytes_of (bucket_checked bucket)) (meta_of (bucket_checked bucket)) (bucket_start bucket) own ∥₁ → HasFigures (bytes_of checked) (path_in path) (meta_of checked) own
-bucket_figures [] checked bucket own some is named stats = absurd (some refl)
-bucket_figures (part ∷ path) checked bucket own some is named stats =
-    let figures = subst (λ (c : Checked). ∥ IsStatsOf (bytes_of c) (meta_of c) (bucket_start bucket) own ∥₁) is stats in
-    (bucket_start bucket, ∥∥₁_elim named (hlevel props) (λ led. ∥∥₁_map figures (λ are. (led, are))))
+    → ∥ IsStatsOf (bytes_of (bucket_checked bucket)) (meta_of (bucket_checked bucket)) (bucket_start bucket) own ∥₁ → HasStats (bytes_of checked) (path_in path) (meta_of checked) own
+bucket_stats [] checked bucket own some is named stats = absurd (some refl)
+bucket_stats (part ∷ path) checked bucket own some is named stats =
+    let its_stats = subst (λ (c : Checked). ∥ IsStatsOf (bytes_of c) (meta_of c) (bucket_start bucket) own ∥₁) is stats in
+    (bucket_start bucket, ∥∥₁_elim named (hlevel props) (λ led. ∥∥₁_map its_stats (λ are. (led, are))))
 
 -- why there are none
-pub figures_missing : (checked : Checked) (path : Path) (reason : Failure)
+pub stats_missing : (checked : Checked) (path : Path) (reason : Failure)
     → (reason ≡ failure.Memory) ⊎ ((reason ≡ failure.NoBucket) × ((bucket : Start) → LeadsTo (bytes_of checked) (meta_of checked) path bucket → ⊥))
     → IsStatsAnswer (bytes_of checked) path (meta_of checked) (refused reason)
-figures_missing checked path reason (inl full) = inr (inr (ap refused full))
-figures_missing checked path reason (inr (is, nowhere)) = inr (inl (nowhere, ap refused is))
+stats_missing checked path reason (inl full) = inr (inr (ap refused full))
+stats_missing checked path reason (inr (is, nowhere)) = inr (inl (nowhere, ap refused is))

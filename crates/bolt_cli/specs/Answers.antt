@@ -20,7 +20,7 @@ use Rattle.bolt_recover.specs.Losses.{AreLosses, LossView}
 use Rattle.bolt_recover.specs.Recovered.{IsRecovered}
 use Rattle.bolt_recover.specs.Refusals.{IsSlotUnrecoverable, IsUnrecoverable, KeepsRoot}
 use Rattle.bolt_report.specs.FaultWords.{findings_text}
-use Rattle.bolt_report.specs.Forms.{shown_as, value_text}
+use Rattle.bolt_report.specs.Forms.{item_text, value_text}
 use Rattle.bolt_report.specs.Figures.{add_stats, stats_text}
 use Rattle.bolt_report.specs.KeyLines.{buckets_text, keys_text}
 use Rattle.bolt_report.specs.KeyPrefixes.{with_prefix}
@@ -32,7 +32,7 @@ use Rattle.bolt_report.specs.PageTables.{pages_text}
 use Rattle.bolt_report.specs.PageTexts.{page_text, page_text_fault}
 use Rattle.bolt_report.specs.SizeLines.{AreSized, Sized, sizes_text}
 use Rattle.bolt_report.specs.StatsOf.{IsStatsOf}
-use Rattle.bolt_report.specs.declared.figures.Stats.{Stats}
+use Rattle.bolt_report.specs.declared.statistics.Stats.{Stats}
 use Rattle.bolt_report.specs.declared.form.Form.{Form}
 use Rattle.bolt_report.specs.declared.form.Form.TheVariants.{Json}
 use Rattle.bolt_report.specs.declared.form.ListForm.{ListForm}
@@ -153,7 +153,7 @@ HoldsNone file path meta reason =
 -- a value in a form, with a line feed or without one
 abbrev pub value_shown : (no_newline : Bool) → Form → List ℕ → List ℕ
 value_shown false form value = value_text form value
-value_shown true form value = shown_as form value
+value_shown true form value = item_text form value
 
 -- the value that the path holds; or why it holds none
 abbrev pub IsGetAnswer : List ℕ → Path → Form → (no_newline : Bool) → Meta → Answer → Type 0
@@ -227,15 +227,15 @@ IsTotal file meta [] before total = total ≡ before
 IsTotal file meta (e ∷ entries) before total = (after : Stats) × AddsEntry file meta e before after × IsTotal file meta entries after total
 
 -- the figures of the bucket that the path leads to, with all in it; the root bucket's are the sum over its buckets
-abbrev pub HasFigures : List ℕ → Path → Meta → Stats → Type 0
-HasFigures file [] meta figures =
-    (entries : List LeafElement) × ∥ AreEntries (IsEntry file meta) (Root_page meta.root) entries × IsTotal file meta entries no_stats figures ∥₁
-HasFigures file (part ∷ path) meta figures = (bucket : Start) × ∥ LeadsTo file meta (part ∷ path) bucket × IsStatsOf file meta bucket figures ∥₁
+abbrev pub HasStats : List ℕ → Path → Meta → Stats → Type 0
+HasStats file [] meta stats =
+    (entries : List LeafElement) × ∥ AreEntries (IsEntry file meta) (Root_page meta.root) entries × IsTotal file meta entries no_stats stats ∥₁
+HasStats file (part ∷ path) meta stats = (bucket : Start) × ∥ LeadsTo file meta (part ∷ path) bucket × IsStatsOf file meta bucket stats ∥₁
 
 -- the figures; or the path leads to no bucket; or memory ran out before anything was written
 abbrev pub IsStatsAnswer : List ℕ → Path → Meta → Answer → Type 0
 IsStatsAnswer file path meta answer =
-    ((figures : Stats) × HasFigures file path meta figures × (answer ≡ done (stats_text figures)))
+    ((stats : Stats) × HasStats file path meta stats × (answer ≡ done (stats_text stats)))
     ⊎ (((bucket : Start) → LeadsTo file meta path bucket → ⊥) × (answer ≡ refused failure.NoBucket))
     ⊎ (answer ≡ refused failure.Memory)
 

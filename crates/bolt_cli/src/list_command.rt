@@ -65,7 +65,7 @@ fn print_sound<O: Sink>(
     let checked = open_read(alloc, file, slot)?;
     // Only for the error if there is no such bucket.
     open_bucket(checked, wanted.path)?;
-    put_part(alloc, checked, wanted, out)?;
+    put_sound_part(alloc, checked, wanted, out)?;
     Ok(0)
 }
 
@@ -80,14 +80,14 @@ fn print_recovered<O: Sink>(
         × Does O.taken O.failed out.old out.new answer result }
 {
     let mut recovery = open_recovery(alloc, file, slot)?;
-    if !put_rest(alloc, &mut recovery, wanted, out)? {
+    if !put_recovered_part(alloc, &mut recovery, wanted, out)? {
         return Err(Failure::NoBucket);
     }
     ending_of(recovery.losses())
 }
 
 /// Writes the part that is wanted of a sound file.
-fn put_part<O: Sink>(
+fn put_sound_part<O: Sink>(
     alloc: Global,
     checked: Checked<'_>,
     wanted: &WantedList<'_>,
@@ -110,7 +110,7 @@ fn put_part<O: Sink>(
 }
 
 /// Writes the part that is wanted of what is recovered, and returns whether it has the bucket.
-fn put_rest<O: Sink>(
+fn put_recovered_part<O: Sink>(
     alloc: Global,
     recovery: &mut Recovery<'_>,
     wanted: &WantedList<'_>,

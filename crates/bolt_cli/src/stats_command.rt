@@ -7,7 +7,7 @@ ghost use Rattle.bolt_tree.specs.Buckets.{bucket_checked, bucket_start};
 ghost use Rattle.bolt_tree.specs.BucketViews.{entries_of};
 ghost use Rattle.bolt_tree.specs.Entries.{Start};
 ghost use Rattle.bolt_tree.specs.EntriesLeft.{ForEntries};
-ghost use Rattle.bolt_cli.specs.Answers.{AddsEntry, Answer, Does, HasFigures, IsReadAnswer, IsStatsAnswer, IsTotal, LeadsTo, no_stats};
+ghost use Rattle.bolt_cli.specs.Answers.{AddsEntry, Answer, Does, HasStats, IsReadAnswer, IsStatsAnswer, IsTotal, LeadsTo, no_stats};
 ghost use Rattle.bolt_cli.specs.PlainWords.{path_in};
 ghost use Rattle.bolt_cli.specs.declared.failure.Failure.TheVariants.{Memory, NoBucket};
 
@@ -33,15 +33,15 @@ pub(crate) fn print_stats<O: Sink>(
         × Does O.taken O.failed out.old out.new answer result }
 {
     let checked = open_read(alloc, file, slot)?;
-    let figures = find_figures(alloc, checked, path)?;
-    stats_text(&figures, out)?;
+    let stats = find_stats(alloc, checked, path)?;
+    stats_text(&stats, out)?;
     Ok(0)
 }
 
 /// The figures of the bucket at a path.
-fn find_figures(alloc: Global, checked: Checked<'_>, path: &[Vec<u8>]) -> Result<Stats, Failure>
+fn find_stats(alloc: Global, checked: Checked<'_>, path: &[Vec<u8>]) -> Result<Stats, Failure>
     requires { HasSoundTrees (bytes_of checked) (meta_of checked) }
-    ensures found { IfOk result (HasFigures (bytes_of checked.entry) (path_in path.now) (meta_of checked.entry)) }
+    ensures found { IfOk result (HasStats (bytes_of checked.entry) (path_in path.now) (meta_of checked.entry)) }
     ensures missing { IfErr result (λ failure. (failure ≡ Memory) ⊎ ((failure ≡ NoBucket)
         × ((bucket : Start) → LeadsTo (bytes_of checked.entry) (meta_of checked.entry) (path_in path.now) bucket → ⊥))) }
 {

@@ -39,7 +39,7 @@ pub fn read_words(alloc: Global, words: Vec<String>) -> Result<Job, Refusal>
     read(alloc, words)
 }
 
-// Reads them by the command line as `clap` knows it.
+/// Reads them by the command line as `clap` knows it.
 fn read(alloc: Global, words: Vec<String>) -> Result<Job, Refusal>
     ensures job { IfOk result (Asks (map string_bytes words.items)) }
     ensures refusal { let texts = map string_bytes words.items in
@@ -203,7 +203,7 @@ fn read_compact(alloc: Global, matches: &ArgMatches<'_>) -> Result<Job, Refusal>
     })
 }
 
-// The path that the words of PART stand for.
+/// The path that the words of PART stand for.
 fn read_parts_of(alloc: Global, matches: &ArgMatches<'_>) -> Result<Vec<Vec<u8>>, Refusal>
     ensures { Gives (λ path. path_in path.items) (path_by (values_in (rows_of (found_of matches.now)))) result }
 {
@@ -214,7 +214,7 @@ fn read_parts_of(alloc: Global, matches: &ArgMatches<'_>) -> Result<Vec<Vec<u8>>
     }
 }
 
-// The bytes that the word of `--prefix` stands for, which is written as those of PART are.
+/// The bytes that the word of `--prefix` stands for, which is written as those of PART are.
 fn read_prefix_of(alloc: Global, matches: &ArgMatches<'_>) -> Result<Vec<u8>, Refusal>
     ensures { Gives (λ prefix. prefix.items) (prefix_by (values_in (rows_of (found_of matches.now)))) result }
 {
@@ -228,17 +228,14 @@ fn read_text(alloc: Global, matches: &ArgMatches<'_>, id: &str) -> Result<String
     Ok(String::from_str(alloc, value(matches, id)?)?)
 }
 
-// The value of an argument that is required.
+/// The value of an argument that is required.
 fn value<'a>(matches: &ArgMatches<'a>, id: &str) -> Result<&'a str, Refusal>
     ensures { Gives (λ text. text.now) (text_by id.now (values_in (rows_of (found_of matches.now)))) result }
 {
-    match choice(matches, id) {
-        Some(text) => Ok(text),
-        None => Err(Refusal::Word("value missing")),
-    }
+    choice(matches, id).ok_or(Refusal::Word("value missing"))
 }
 
-// The value of an argument that may be missing.
+/// The value of an argument that may be missing.
 fn choice<'a>(matches: &ArgMatches<'a>, id: &str) -> Option<&'a str>
     ensures { option_map (λ text. text.now) result ≡ first_of (values_in (rows_of (found_of matches.now)) id.now) }
 {
@@ -248,10 +245,7 @@ fn choice<'a>(matches: &ArgMatches<'a>, id: &str) -> Option<&'a str>
 fn read_page_id(word: &str) -> Result<u64, Refusal>
     ensures { Gives (λ id. id) (page_id word.now) result }
 {
-    match read_number(word) {
-        Some(id) => Ok(id),
-        None => Err(Refusal::Word("bad page id")),
-    }
+    read_number(word).ok_or(Refusal::Word("bad page id"))
 }
 
 fn read_page_size(word: Option<&str>) -> Result<Option<PageSize>, Refusal>
@@ -260,14 +254,12 @@ fn read_page_size(word: Option<&str>) -> Result<Option<PageSize>, Refusal>
     let Some(word) = word else {
         return Ok(None);
     };
-    match read_size(word) {
-        Some(size) => Ok(Some(size)),
-        None => Err(Refusal::Word("bad page size")),
-    }
+    let size = read_size(word).ok_or(Refusal::Word("bad page size"))?;
+    Ok(Some(size))
 }
 
-// The kind of a copy, by the words of `--for-bbolt` and `--etcd-snapshot` if they are given. A
-// snapshot is for bbolt too.
+/// The kind of a copy, by the words of `--for-bbolt` and `--etcd-snapshot` if they are given. A
+/// snapshot is for bbolt too.
 fn read_copy_kind(for_bbolt: Option<&str>, snapshot: Option<&str>) -> CopyKind
     ensures { result ≡ copy_kind_by (option_map (λ text. text.now) for_bbolt.entry) (option_map (λ text. text.now) snapshot.entry) }
 {
@@ -284,7 +276,7 @@ fn read_size(word: &str) -> Option<PageSize>
     PageSize::new(read_number(word)?)
 }
 
-// The number that these digits stand for.
+/// The number that these digits stand for.
 fn read_number(word: &str) -> Option<u64>
     ensures { result ≡ number_of word.now }
 {

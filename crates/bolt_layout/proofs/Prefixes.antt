@@ -87,7 +87,7 @@ no_slot file short Zero meta valid = no_meta file 0 meta short valid
 no_slot file short One meta (inl (other, first, second)) = no_meta file 0 other short first
 no_slot file short One meta (inr (none, lone)) = no_meta file lone.at meta short lone.valid
 
--- Which meta is in force in a layout that is cut short.
+-- Which meta is active in a layout that is cut short.
 not_second : (file : List ℕ) (page_size root sequence mark : ℕ) (other : Meta) → IsMeta file 0 (meta_of page_size root sequence mark 0) → length file < page_size + 80
     → IsInOne file other → ⊥
 not_second file page_size root sequence mark other first short (inl (before, zeroth, second)) =

@@ -4,7 +4,7 @@ use Rattle.std.proofs.lemmas.List.{drop_all}
 use Rattle.std.proofs.lemmas.List.Sums.{sum_by-cons}
 use Rattle.bolt_format.proofs.ListLemmas.{drop_next}
 use Rattle.bolt_report.specs.Figures.{Figure, add_stats, buckets, inline_buckets, inline_used, keys, branch_pages, branch_overflow, branch_allocated, branch_used, leaf_pages, leaf_overflow, leaf_allocated, leaf_used, capped, figure}
-use Rattle.bolt_report.specs.declared.figures.Stats.{Stats}
+use Rattle.bolt_report.specs.declared.statistics.Stats.{Stats}
 
 pub figure_add : (f : Figure) (a b : Stats) → figure f (add_stats a b) ≡ capped (figure f a + figure f b)
 figure_add buckets a b = refl

@@ -22,35 +22,11 @@ use Rattle.bolt_report.proofs.ReportLemmas.{Reports-stop, Reports-then, reports}
 pub iff_then : {A B C : Type 0} → A ↔ B → B ↔ C → A ↔ C
 iff_then f g = (λ a. g.0 (f.0 a), λ c. f.1 (g.1 c))
 
--- a path in hexadecimal: its first part, and each later one behind a slash
+-- a path in hexadecimal: its first part, and each later one after a slash
 pub hex_path-parts : (first : Bor (List ℕ)) (rest : List (Bor (List ℕ)))
     → hex_path (path_of (first ∷ rest)) ≡ encode_lower first.now ++ flat_map (λ (part : Bor (List ℕ)). 0x2F ∷ encode_lower part.now) rest
 hex_path-parts first [] = sym (append-nil (encode_lower first.now))
 hex_path-parts first (next ∷ rest) = ap (λ (text : List ℕ). encode_lower first.now ++ (0x2F ∷ text)) (hex_path-parts next rest)
-
--- no path comes before the empty one
-never_before : (path : Path) → is_lt (path_cmp path []) ≡ false
-never_before [] = refl
-never_before (part ∷ path) = refl
-
-pub from_the_root : (members : List Member) → rest_from [] members ≡ members
-from_the_root members = filter_all (λ (m : Member). not (is_lt (path_cmp m.0 []))) members (λ m has. ap not (never_before m.0))
-
--- The text of what is left from a path on, where its first member is returned: the line of a member that doesn't come before that path,
-pub next_text : (form : ListForm) (from : Path) (old new : List Member) (path reported : Path) (item : Item) → old ≡ (path, item) ∷ new → reported ≡ path → is_lt (path_cmp reported from) ≡ false
-    → listing_lines form (rest_from from old) ≡ list_line form (reported, item) ++ listing_lines form (rest_from from new)
-next_text form from old new path reported item given same after =
-    let first : old ≡ (reported, item) ∷ new = given ∙ ap (λ (p : Path). (p, item) ∷ new) (sym same) in
-    let kept : rest_from from ((reported, item) ∷ new) ≡ (reported, item) ∷ rest_from from new = (rw after refl) in
-    ap (λ (ms : List Member). listing_lines form (rest_from from ms)) first ∙ ap (listing_lines form) kept
-
--- and nothing of one that does.
-pub next_hidden : (from : Path) (old new : List Member) (path reported : Path) (item : Item) → old ≡ (path, item) ∷ new → reported ≡ path → is_lt (path_cmp reported from) ≡ true
-    → rest_from from old ≡ rest_from from new
-next_hidden from old new path reported item given same before =
-    let first : old ≡ (reported, item) ∷ new = given ∙ ap (λ (p : Path). (p, item) ∷ new) (sym same) in
-    let dropped : rest_from from ((reported, item) ∷ new) ≡ rest_from from new = (rw before refl) in
-    ap (rest_from from) first ∙ dropped
 
 -- the listing of the same file
 pub same_listing : (a b : Checked) (listing : List Member) → a ≡ b → IsListing (bytes_of b) (meta_of b) listing → IsListing (bytes_of a) (meta_of a) listing

@@ -7,8 +7,8 @@ use Rattle.bolt_check.specs.Subtrees.{Enough}
 use Rattle.bolt_report.specs.Deepest.{deepest_of, depth_of, greatest, height_from, height_of, inner_inline, leaf_at, leaf_depth, pages_at}
 use Rattle.bolt_report.specs.Figures.{capped}
 use Rattle.bolt_report.specs.Readings.{inner_pages, inner_roots, numbers_of, unread_bucket, unread_page}
-use Rattle.bolt_report.specs.declared.bucket_figures.UnreadBucket.{UnreadBucket}
-use Rattle.bolt_report.specs.declared.bucket_figures.UnreadPage.{UnreadPage}
+use Rattle.bolt_report.specs.declared.bucket_stats.UnreadBucket.{UnreadBucket}
+use Rattle.bolt_report.specs.declared.bucket_stats.UnreadPage.{UnreadPage}
 use Rattle.bolt_report.proofs.DepthSums.{deepest_kids, greatest_append, greatest_map, height_kids}
 
 -- a depth that is capped counts the same

@@ -9,9 +9,9 @@ use Rattle.bolt_check.specs.Subtrees.{Enough, Has, kid_pages, weight}
 use Rattle.bolt_check.proofs.TourSums.{enough_kids, has_either, has_left, has_right, sum_append, weight_kids}
 use Rattle.bolt_report.specs.Figures.{Figure, bucket_figure, buckets, inline_buckets, inline_used, keys, branch_pages, branch_overflow, branch_allocated, branch_used, leaf_pages, leaf_overflow, leaf_allocated, leaf_used, figure}
 use Rattle.bolt_report.specs.Readings.{AreGood, inner_pages, inner_roots, numbers_of, pages_in_bucket, roots_in_bucket, roots_of, total_of}
-use Rattle.bolt_report.specs.declared.figures.Stats.{Stats}
-use Rattle.bolt_report.specs.declared.bucket_figures.UnreadBucket.{UnreadBucket}
-use Rattle.bolt_report.specs.declared.bucket_figures.UnreadPage.{UnreadPage}
+use Rattle.bolt_report.specs.declared.statistics.Stats.{Stats}
+use Rattle.bolt_report.specs.declared.bucket_stats.UnreadBucket.{UnreadBucket}
+use Rattle.bolt_report.specs.declared.bucket_stats.UnreadPage.{UnreadPage}
 use Rattle.bolt_report.proofs.DepthSums.{page_has, root_has}
 
 -- the last page was taken

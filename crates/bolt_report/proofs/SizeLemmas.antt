@@ -1,5 +1,5 @@
 -- The lines of the buckets among entries, entry by entry.
-use Rattle.std.proofs.Common.{◌≡◌, ◌∙◌, ℕ, zero, suc, drop, Bool, true, false, List, [], ◌∷◌, ◌++◌, Option, Some, Result, Ok, Err, ap, append-nil, cond, filter, map, refl, subst, sym, rules}
+use Rattle.std.proofs.Common.{if◌then◌else◌, ◌≡◌, ◌∙◌, ℕ, zero, suc, drop, Bool, true, false, List, [], ◌∷◌, ◌++◌, Option, Some, Result, Ok, Err, ap, append-nil, cond, filter, map, refl, subst, sym, rules}
 use Rattle.std.proofs.KnownBytes.{Appends-trans}
 use Rattle.std.proofs.Math.Logic.{∥∥₁_elim}
 use Rattle.std.proofs.Props.{props}
@@ -7,14 +7,15 @@ use Rattle.std.proofs.lemmas.Grind.{flat_map-append}
 use Rattle.std.specs.List.{AllByRecursion, Contains}
 use Rattle.std.specs.Prelude.{⊤, IsErr, IsErrAnd}
 use Rattle.bolt_format.proofs.SinkLemmas.{AppendsPrefix-first, AppendsPrefix-second}
-use Rattle.bolt_format.specs.Elements.{LeafElement}
+use Rattle.bolt_format.specs.Elements.{LeafElement, head_sequence}
 use Rattle.bolt_format.specs.declared.meta.Meta.{Meta}
 use Rattle.bolt_check.specs.CheckedFiles.{bytes_of, meta_of}
 use Rattle.bolt_check.specs.Keys.{Key}
 use Rattle.bolt_check.specs.declared.checked_file.Checked.{Checked}
 use Rattle.bolt_tree.specs.BucketViews.{entries_of}
 use Rattle.bolt_tree.specs.Buckets.{bucket_checked, bucket_start}
-use Rattle.bolt_tree.specs.Entries.{Start, start_of}
+use Rattle.bolt_tree.specs.Entries as items
+use Rattle.bolt_tree.specs.Entries.{EntryView, Start, entry_view, item_of, start_of}
 use Rattle.bolt_tree.specs.EntriesLeft.{entries_left}
 use Rattle.bolt_tree.specs.Lookups.{IsBucketAt}
 use Rattle.bolt_tree.specs.Places.{Fresh, On, Past, Place}
@@ -28,7 +29,7 @@ use Rattle.bolt_report.specs.SizeLines.{AreSized, Sized, size_columns, size_line
 use Rattle.bolt_report.specs.StatsOf.{IsStatsOf}
 use Rattle.bolt_report.specs.declared.fault.ReportFault.{ReportFault}
 use Rattle.bolt_report.specs.declared.fault.ReportFault.TheVariants.{Sink}
-use Rattle.bolt_report.specs.declared.figures.Stats.{Stats}
+use Rattle.bolt_report.specs.declared.statistics.Stats.{Stats}
 use Rattle.bolt_report.specs.declared.form.Form.{Form}
 use Rattle.bolt_report.proofs.StatsOnce.{one_stats}
 
@@ -39,8 +40,8 @@ pub by_kind : (e : LeafElement) (entries : List LeafElement) (b : Bool) → e.is
 by_kind e entries b is = ap (λ (b : Bool). cond b (e ∷ buckets_of entries) (buckets_of entries)) is
 
 module _ (file : List ℕ) (meta : Meta) where
-  abbrev pub HasFigures : Sized → Type 0
-  HasFigures s = IsStatsOf file meta (start_of s.entry.value) s.figures
+  abbrev pub HasStats : Sized → Type 0
+  HasStats s = IsStatsOf file meta (start_of s.entry.value) s.stats
 
   -- ---- the buckets of one entry, and of those after it
 
@@ -52,16 +53,16 @@ module _ (file : List ℕ) (meta : Meta) where
     pub later : AreSized file meta entries rest
 
   cut_by : (e : LeafElement) (entries : List LeafElement) (b : Bool) → e.is_bucket ≡ b → (sized : List Sized)
-      → map (λ (s : Sized). s.entry) sized ≡ cond b (e ∷ buckets_of entries) (buckets_of entries) → AllByRecursion HasFigures sized → Cut e entries sized
-  cut_by e entries false is sized same figures = record {
+      → map (λ (s : Sized). s.entry) sized ≡ cond b (e ∷ buckets_of entries) (buckets_of entries) → AllByRecursion HasStats sized → Cut e entries sized
+  cut_by e entries false is sized same stats = record {
     own = [];
     rest = sized;
     whole = refl;
-    first = record { buckets = sym (by_kind e [] false is); figures = tt };
-    later = record { buckets = same; figures = figures };
+    first = record { buckets = sym (by_kind e [] false is); stats = tt };
+    later = record { buckets = same; stats = stats };
   }
-  cut_by e entries true is [] same figures = absurd (let c : [] ≡ e ∷ buckets_of entries = same in cc)
-  cut_by e entries true is (s ∷ sized) same figures =
+  cut_by e entries true is [] same stats = absurd (let c : [] ≡ e ∷ buckets_of entries = same in cc)
+  cut_by e entries true is (s ∷ sized) same stats =
       let c : s.entry ∷ map (λ (s : Sized). s.entry) sized ≡ e ∷ buckets_of entries = same in
       let head : s.entry ≡ e = cc in
       let tail : map (λ (s : Sized). s.entry) sized ≡ buckets_of entries = cc in
@@ -69,33 +70,33 @@ module _ (file : List ℕ) (meta : Meta) where
         own = s ∷ [];
         rest = sized;
         whole = refl;
-        first = record { buckets = ap (λ (x : LeafElement). x ∷ []) head ∙ sym (by_kind e [] true is); figures = (figures.0, tt) };
-        later = record { buckets = tail; figures = figures.1 };
+        first = record { buckets = ap (λ (x : LeafElement). x ∷ []) head ∙ sym (by_kind e [] true is); stats = (stats.0, tt) };
+        later = record { buckets = tail; stats = stats.1 };
       }
 
   pub cut : (e : LeafElement) (entries : List LeafElement) (sized : List Sized) → AreSized file meta (e ∷ entries) sized → Cut e entries sized
-  cut e entries sized are = cut_by e entries e.is_bucket refl sized are.buckets are.figures
+  cut e entries sized are = cut_by e entries e.is_bucket refl sized are.buckets are.stats
 
   -- ---- the line of one bucket
 
-  same_figures : (e : LeafElement) (own : Stats) (s : Sized) → s.entry ≡ e → IsStatsOf file meta (start_of e.value) own → HasFigures s → own ≡ s.figures
-  same_figures e own s is known figures =
-      one_stats file meta (start_of e.value) own s.figures known (subst (λ (x : LeafElement). IsStatsOf file meta (start_of x.value) s.figures) is figures)
+  same_stats : (e : LeafElement) (own : Stats) (s : Sized) → s.entry ≡ e → IsStatsOf file meta (start_of e.value) own → HasStats s → own ≡ s.stats
+  same_stats e own s is known stats =
+      one_stats file meta (start_of e.value) own s.stats known (subst (λ (x : LeafElement). IsStatsOf file meta (start_of x.value) s.stats) is stats)
 
   one_line : (form : Form) (e : LeafElement) (own : Stats) (sized : List Sized) → IsStatsOf file meta (start_of e.value) own
-      → map (λ (s : Sized). s.entry) sized ≡ e ∷ [] → AllByRecursion HasFigures sized → size_columns own ++ value_text form e.key ≡ sizes_text form sized
-  one_line form e own [] known same figures = absurd (let c : [] ≡ e ∷ [] = same in cc)
-  one_line form e own (s ∷ t ∷ sized) known same figures =
+      → map (λ (s : Sized). s.entry) sized ≡ e ∷ [] → AllByRecursion HasStats sized → size_columns own ++ value_text form e.key ≡ sizes_text form sized
+  one_line form e own [] known same stats = absurd (let c : [] ≡ e ∷ [] = same in cc)
+  one_line form e own (s ∷ t ∷ sized) known same stats =
       absurd (let c : s.entry ∷ t.entry ∷ map (λ (s : Sized). s.entry) sized ≡ e ∷ [] = same in cc)
-  one_line form e own (s ∷ []) known same figures =
+  one_line form e own (s ∷ []) known same stats =
       let c : s.entry ∷ [] ≡ e ∷ [] = same in
       let head : s.entry ≡ e = cc in
-      ap (λ (x : Stats). size_columns x ++ value_text form e.key) (same_figures e own s head known figures.0)
-      ∙ ap (λ (x : LeafElement). size_columns s.figures ++ value_text form x.key) (sym head) ∙ sym (append-nil (size_line form s))
+      ap (λ (x : Stats). size_columns x ++ value_text form e.key) (same_stats e own s head known stats.0)
+      ∙ ap (λ (x : LeafElement). size_columns s.stats ++ value_text form x.key) (sym head) ∙ sym (append-nil (size_line form s))
 
   pub line_of : (form : Form) (e : LeafElement) (own : Stats) (sized : List Sized) → e.is_bucket ≡ true → IsStatsOf file meta (start_of e.value) own
       → AreSized file meta (e ∷ []) sized → size_columns own ++ value_text form e.key ≡ sizes_text form sized
-  line_of form e own sized is known are = one_line form e own sized known (are.buckets ∙ by_kind e [] true is) are.figures
+  line_of form e own sized is known are = one_line form e own sized known (are.buckets ∙ by_kind e [] true is) are.stats
 
 -- ---- the entry that a cursor shows
 
@@ -110,8 +111,8 @@ line_found bucket inner form key own e sized same found stats entry named sized_
     let file : List ℕ = bytes_of (bucket_checked bucket) in
     let meta : Meta = meta_of (bucket_checked bucket) in
     let (entries, known) = the_entries bucket in
-    let figures = subst (λ (c : Checked). ∥ IsStatsOf (bytes_of c) (meta_of c) (bucket_start inner) own ∥₁) same stats in
-    ∥∥₁_elim known (hlevel props) (λ are. ∥∥₁_elim found (hlevel props) (λ (x, there, key_is, is_bucket, start, sequence). ∥∥₁_elim figures (hlevel props) (λ own_are.
+    let its_stats = subst (λ (c : Checked). ∥ IsStatsOf (bytes_of c) (meta_of c) (bucket_start inner) own ∥₁) same stats in
+    ∥∥₁_elim known (hlevel props) (λ are. ∥∥₁_elim found (hlevel props) (λ (x, there, key_is, is_bucket, start, sequence). ∥∥₁_elim its_stats (hlevel props) (λ own_are.
     let one = entry_once (entries_of (bucket_checked bucket)) (bucket_start bucket) entries are x e there entry (key_is ∙ named) in
     let at = subst (λ (s : Start). IsStatsOf file meta s own) start own_are in
     ap (λ (k : Key). size_columns own ++ value_text form k) named
@@ -139,6 +140,19 @@ pub no_line : (file : List ℕ) (meta : Meta) (form : Form) (entries : List Leaf
 no_line file meta form entries [] none are = refl
 no_line file meta form entries (s ∷ sized) none are =
     absurd (let c : s.entry ∷ map (λ (s : Sized). s.entry) sized ≡ [] = are.buckets ∙ ap buckets_of none in cc)
+
+-- an entry that shows a value is no bucket
+value_entry : (e : LeafElement) (b : Bool) (value : List ℕ) → e.is_bucket ≡ b → item_of e ≡ items.Value value → b ≡ false
+value_entry e false value is item = refl
+value_entry e true value is item =
+    absurd (let c : items.Bucket (head_sequence e.value) ≡ items.Value value = sym (ap (λ (b : Bool). if b then items.Bucket (head_sequence e.value) else items.Value e.value) is) ∙ item in cc)
+
+-- and has no line
+pub no_value_line : (file : List ℕ) (meta : Meta) (form : Form) (e : LeafElement) (v : EntryView) (value : List ℕ) (sized : List Sized)
+    → v ≡ entry_view e → v.item ≡ items.Value value → AreSized file meta (e ∷ []) sized → sizes_text form sized ≡ []
+no_value_line file meta form e v value sized shown item are =
+    let plain = value_entry e e.is_bucket value refl (sym (ap (λ (w : EntryView). w.item) shown) ∙ item) in
+    no_line file meta form [] sized refl (record { buckets = are.buckets ∙ by_kind e [] false plain; stats = are.stats })
 
 -- ---- one text after another
 

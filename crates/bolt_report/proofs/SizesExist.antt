@@ -11,7 +11,7 @@ use Rattle.bolt_tree.proofs.BucketWays.{root_starts, starts_below, starts_named}
 use Rattle.bolt_tree.proofs.Lists.{contains_head, contains_tail}
 use Rattle.bolt_report.specs.SizeLines.{AreSized, Sized}
 use Rattle.bolt_report.specs.StatsOf.{IsStatsOf}
-use Rattle.bolt_report.proofs.SizeLemmas.{HasFigures, by_kind}
+use Rattle.bolt_report.proofs.SizeLemmas.{HasStats, by_kind}
 use Rattle.bolt_report.proofs.StatsExist.{some_stats}
 use Rattle.bolt_report.proofs.StatsOnce.{one_stats}
 
@@ -23,18 +23,18 @@ module _ (file : List ℕ) (meta : Meta) where
 
   module _ (trees : HasSoundTrees file meta) where
     size_first : (e : LeafElement) (entries : List LeafElement) (b : Bool) → e.is_bucket ≡ b → (e.is_bucket ≡ true → IsStart file meta (start_of e.value)) → HasSizes entries → HasSizes (e ∷ entries)
-    size_first e entries false is on (sized, are) = (sized, record { buckets = are.buckets ∙ sym (by_kind e entries false is); figures = are.figures })
+    size_first e entries false is on (sized, are) = (sized, record { buckets = are.buckets ∙ sym (by_kind e entries false is); stats = are.stats })
     size_first e entries true is on (sized, are) =
         let (own, known) = some_stats file meta (start_of e.value) trees (on is) in (
-          record { entry = e; figures = own } ∷ sized,
+          record { entry = e; stats = own } ∷ sized,
           record {
             buckets = ap (λ (l : List LeafElement). e ∷ l) are.buckets ∙ sym (by_kind e entries true is);
-            figures = (known, are.figures);
+            stats = (known, are.stats);
           },
         )
 
     size_all : (start : Start) → IsStart file meta start → (entries : List LeafElement) → ((e : LeafElement) → Contains entries e → IsEntry file meta start e) → HasSizes entries
-    size_all start on [] has = ([], record { buckets = refl; figures = tt })
+    size_all start on [] has = ([], record { buckets = refl; stats = tt })
     size_all start on (e ∷ entries) has =
         size_first e entries e.is_bucket refl (λ is. starts_below file meta start e on (has e (contains_head e entries)) is)
         (size_all start on entries (λ x h. has x (contains_tail e x entries h)))
@@ -51,13 +51,13 @@ module _ (file : List ℕ) (meta : Meta) where
 
   -- ---- and no other
 
-  same_sized : (s t : Sized) → s.entry ≡ t.entry → HasFigures file meta s → HasFigures file meta t → s ≡ t
+  same_sized : (s t : Sized) → s.entry ≡ t.entry → HasStats file meta s → HasStats file meta t → s ≡ t
   same_sized s t is a b =
-      let there = subst (λ (x : LeafElement). IsStatsOf file meta (start_of x.value) t.figures) (sym is) b in
-      let same = one_stats file meta (start_of s.entry.value) s.figures t.figures a there in
-      λ i. record { entry = is i; figures = same i }
+      let there = subst (λ (x : LeafElement). IsStatsOf file meta (start_of x.value) t.stats) (sym is) b in
+      let same = one_stats file meta (start_of s.entry.value) s.stats t.stats a there in
+      λ i. record { entry = is i; stats = same i }
 
-  one_by : (a b : List Sized) → map (λ (s : Sized). s.entry) a ≡ map (λ (s : Sized). s.entry) b → AllByRecursion (HasFigures file meta) a → AllByRecursion (HasFigures file meta) b → a ≡ b
+  one_by : (a b : List Sized) → map (λ (s : Sized). s.entry) a ≡ map (λ (s : Sized). s.entry) b → AllByRecursion (HasStats file meta) a → AllByRecursion (HasStats file meta) b → a ≡ b
   one_by [] [] same h k = refl
   one_by [] (t ∷ b) same h k = absurd (let c : [] ≡ t.entry ∷ map (λ (s : Sized). s.entry) b = same in cc)
   one_by (s ∷ a) [] same h k = absurd (let c : s.entry ∷ map (λ (s : Sized). s.entry) a ≡ [] = same in cc)
@@ -70,4 +70,4 @@ module _ (file : List ℕ) (meta : Meta) where
       ap (λ (x : Sized). x ∷ a) first ∙ ap (λ (l : List Sized). t ∷ l) rest
 
   pub one_sizes : (entries : List LeafElement) (a b : List Sized) → AreSized file meta entries a → AreSized file meta entries b → a ≡ b
-  one_sizes entries a b h k = one_by a b (h.buckets ∙ sym k.buckets) h.figures k.figures
+  one_sizes entries a b h k = one_by a b (h.buckets ∙ sym k.buckets) h.stats k.stats

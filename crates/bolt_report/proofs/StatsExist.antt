@@ -16,7 +16,7 @@ use Rattle.bolt_report.specs.Depths.{IsDepth}
 use Rattle.bolt_report.specs.Figures.{Figure, bucket_figure, buckets, inline_buckets, inline_used, keys, branch_pages, branch_overflow, branch_allocated, branch_used, leaf_pages, leaf_overflow, leaf_allocated, leaf_used, capped, figure, inline_figure}
 use Rattle.bolt_report.specs.Readings.{AreGood, own_figure, total_of}
 use Rattle.bolt_report.specs.StatsOf.{IsPagedStats, IsStatsOf, spot_figure, tour_figure}
-use Rattle.bolt_report.specs.declared.figures.Stats.{Stats}
+use Rattle.bolt_report.specs.declared.statistics.Stats.{Stats}
 use Rattle.bolt_report.proofs.DepthExists.{AllFilled, depth_is}
 
 -- A page that a way leads to is its bucket's root page, or at depth 2 or more.

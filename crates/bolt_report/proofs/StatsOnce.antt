@@ -8,7 +8,7 @@ use Rattle.bolt_tree.specs.Entries.{Inline_page, Root_page, Start}
 use Rattle.bolt_report.specs.Depths.{IsBucketIn, IsDeepest, IsDepth, IsHeight, inline, paged}
 use Rattle.bolt_report.specs.Figures.{Figure, bucket_figure, buckets, inline_buckets, inline_used, keys, branch_pages, branch_overflow, branch_allocated, branch_used, leaf_pages, leaf_overflow, leaf_allocated, leaf_used, capped, figure}
 use Rattle.bolt_report.specs.StatsOf.{AreSums, IsStatsOf, tour_figure}
-use Rattle.bolt_report.specs.declared.figures.Stats.{Stats}
+use Rattle.bolt_report.specs.declared.statistics.Stats.{Stats}
 
 one_height : (nodes : Nodes) (root a b : ℕ) → IsHeight nodes root a → IsHeight nodes root b → a ≡ b
 one_height nodes root a b h k =

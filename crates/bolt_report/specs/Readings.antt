@@ -6,8 +6,8 @@ use Rattle.bolt_format.specs.declared.meta.Meta.{Meta}
 use Rattle.bolt_check.specs.Nodes.{Entry, Node, node_at}
 use Rattle.bolt_check.specs.Subtrees.{Enough, Has, kid_pages, weight}
 use Rattle.bolt_report.specs.Figures.{Figure, page_figure}
-use Rattle.bolt_report.specs.declared.bucket_figures.UnreadBucket.{UnreadBucket}
-use Rattle.bolt_report.specs.declared.bucket_figures.UnreadPage.{UnreadPage}
+use Rattle.bolt_report.specs.declared.bucket_stats.UnreadBucket.{UnreadBucket}
+use Rattle.bolt_report.specs.declared.bucket_stats.UnreadPage.{UnreadPage}
 
 -- the pages and the buckets of the code, by their numbers
 abbrev pub numbers_of : List UnreadPage → List ℕ
@@ -39,8 +39,8 @@ abbrev pub one : ℕ → ℕ
 one n = 1
 
 -- the root page of the bucket that an element of a leaf is, unless it is inline
-abbrev pub root_of : LeafElement → List ℕ
-root_of e = if e.is_bucket then (if head_root e.value == 0 then [] else head_root e.value ∷ []) else []
+abbrev pub root_page_of : LeafElement → List ℕ
+root_page_of e = if e.is_bucket then (if head_root e.value == 0 then [] else head_root e.value ∷ []) else []
 
 -- the children of a branch, and the root pages of the buckets of a leaf
 abbrev pub pages_in_bucket : Bool → List Entry → List ℕ

@@ -7,7 +7,7 @@ use Rattle.bolt_tree.specs.Entries.{start_of}
 use Rattle.bolt_report.specs.Figures.{capped}
 use Rattle.bolt_report.specs.Forms.{value_text}
 use Rattle.bolt_report.specs.StatsOf.{IsStatsOf}
-use Rattle.bolt_report.specs.declared.figures.Stats.{Stats}
+use Rattle.bolt_report.specs.declared.statistics.Stats.{Stats}
 use Rattle.bolt_report.specs.declared.form.Form.{Form}
 
 -- the bytes used and allocated; a sum above 2^64 - 1 saturates there
@@ -24,11 +24,11 @@ size_columns stats = (decimal stats.keys ++ codes " ") ++ ((decimal (bytes_used 
 -- a bucket's entry, with the figures of that bucket and all buckets in it
 pub record Sized : Type 0 where
   pub entry : LeafElement
-  pub figures : Stats
+  pub stats : Stats
 
 -- its line: the columns, and the bucket's name in a form
 abbrev pub size_line : Form → Sized → List ℕ
-size_line form sized = size_columns sized.figures ++ value_text form sized.entry.key
+size_line form sized = size_columns sized.stats ++ value_text form sized.entry.key
 
 abbrev pub sizes_text : Form → List Sized → List ℕ
 sizes_text form sized = flat_map (size_line form) sized
@@ -36,4 +36,4 @@ sizes_text form sized = flat_map (size_line form) sized
 -- the buckets among these entries in their order, each with its figures
 pub record AreSized (file : List ℕ) (meta : Meta) (entries : List LeafElement) (sized : List Sized) : Type 0 where
   pub buckets : map (λ (s : Sized). s.entry) sized ≡ filter (λ (e : LeafElement). e.is_bucket) entries
-  pub figures : AllByRecursion (λ (s : Sized). IsStatsOf file meta (start_of s.entry.value) s.figures) sized
+  pub stats : AllByRecursion (λ (s : Sized). IsStatsOf file meta (start_of s.entry.value) s.stats) sized

@@ -10,7 +10,7 @@ use Rattle.bolt_check.specs.Ways.{At_inline, At_page, Reach, Spot, reached}
 use Rattle.bolt_tree.specs.Entries.{Inline_page, Root_page, Start}
 use Rattle.bolt_report.specs.Depths.{IsDepth}
 use Rattle.bolt_report.specs.Figures.{Figure, bucket_figure, capped, figure, inline_figure, page_figure}
-use Rattle.bolt_report.specs.declared.figures.Stats.{Stats}
+use Rattle.bolt_report.specs.declared.statistics.Stats.{Stats}
 
 -- the figures of where a way leads; an inline bucket's are those of the page that holds it
 abbrev pub spot_figure : List ℕ → Meta → Figure → Option Spot → ℕ

@@ -11,7 +11,7 @@ ghost use Rattle.bolt_report.specs.ListForms.{listing_lines};
 ghost use Rattle.bolt_report.specs.ListLines.{listing_text};
 ghost use Rattle.bolt_report.specs.SizeLines.{AreSized, Sized};
 ghost use Rattle.bolt_report.specs.StatsOf.{IsStatsOf};
-ghost use Rattle.bolt_report.specs.declared.figures.Stats.{Stats};
+ghost use Rattle.bolt_report.specs.declared.statistics.Stats.{Stats};
 ghost use Rattle.bolt_report.specs.declared.form.ListForm.TheVariants as ListForm;
 ghost use Rattle.bolt_tree.specs.Entries.{AreEntries, IsEntry, IsStart, Start};
 ghost use Rattle.bolt_tree.specs.Listing.{Member};

@@ -1,16 +1,12 @@
 //! The text of everything in a file.
-ghost use Rattle.std.specs.Prelude.{◌≡◌, ◌∷◌, ◌++◌, ◌⊎◌, IfErr, List, OnOk, codes, decimal, flat_map};
-ghost use Rattle.std.specs.Ordering.{is_lt};
+ghost use Rattle.std.specs.Prelude.{◌≡◌, ◌∷◌, ◌++◌, ◌⊎◌, IfErr, codes, decimal, flat_map};
 ghost use Rattle.hex.specs.Hex.{encode_lower};
 ghost use Rattle.bolt_format.specs.Writes.{Writes};
 ghost use Rattle.bolt_tree.specs.FileListings.{ForListing};
-ghost use Rattle.bolt_recover.specs.Recovered.{ForRecovered};
-ghost use Rattle.bolt_recover.specs.Recoveries.{ForLosses, recovery_file, recovery_left, recovery_losses, recovery_meta};
-ghost use Rattle.bolt_tree.specs.Listing.{Member, rest_from};
-ghost use Rattle.bolt_tree.specs.Paths.{path_cmp, path_of};
+ghost use Rattle.bolt_tree.specs.Listing.{rest_from};
+ghost use Rattle.bolt_tree.specs.Paths.{path_of};
 ghost use Rattle.bolt_tree.specs.ShownEntries.{item_view};
 ghost use Rattle.bolt_report.specs.Lines.{line};
-ghost use Rattle.bolt_report.specs.ListForms.{lines_form, listing_lines};
 ghost use Rattle.bolt_report.specs.ListLines.{hex_path, item_end, listing_text, member_line};
 ghost use Rattle.bolt_report.specs.Reports.{Reports};
 
@@ -18,11 +14,11 @@ use crate::elements::put_value_end;
 use crate::fault::ReportFault;
 use crate::hexadecimal::put_hex;
 use crate::member_lines::MemberLines;
+use crate::part_lines::put_part;
 use crate::puts::put;
 use crate::text::{Text, push_bytes, push_number};
 use bolt_check::Checked;
 use bolt_format::{Sink, SinkFault};
-use bolt_recover::{Members, Recovery};
 use bolt_tree::{Item, Walk};
 use std::alloc::Global;
 
@@ -44,51 +40,10 @@ pub fn list<S: Sink>(
     ensures memory { IfErr result (λ fault. fault ≡ ReportFault.NoMemory → S.failed sink.new ≡ S.failed sink.old) }
 {
     let mut walk = Walk::from(alloc, checked, from)?;
-    put_rest(&mut walk, &[], &mut MemberLines::hex(), sink)
+    put_part(&mut walk, &[], &mut MemberLines::hex(), sink)
 }
 
-/// Writes a line for each path that is left to a recovery and doesn't come before `from`, as `list`
-/// does, with its errors. If it returns `Ok`, the recovery has reported all losses.
-pub fn list_recovered<S: Sink>(
-    recovery: &mut Recovery<'_>,
-    from: &[&[u8]],
-    sink: &mut S,
-) -> Result<(), ReportFault>
-    ensures written { ForRecovered (recovery_file recovery.old) (recovery_meta recovery.old) (λ listing. Reports S.taken S.failed sink.old sink.new (listing_text (rest_from (path_of from.now) (recovery_left recovery.old listing))) result) }
-    ensures all { OnOk result (ForLosses (recovery_file recovery.old) (recovery_meta recovery.old) (λ losses. recovery_losses recovery.new ≡ losses)) }
-    ensures fault { IfErr result (λ fault. (fault ≡ ReportFault.Sink) ⊎ (fault ≡ ReportFault.NoMemory)) }
-    ensures memory { IfErr result (λ fault. fault ≡ ReportFault.NoMemory → S.failed sink.new ≡ S.failed sink.old) }
-{
-    put_rest(recovery, from, &mut MemberLines::hex(), sink)
-}
-
-/// Writes a line for each member that is left and whose path doesn't come before `from`.
-fn put_rest<'a, M: Members<'a>, S: Sink>(
-    members: &mut M,
-    from: &[&[u8]],
-    lines: &mut MemberLines,
-    sink: &mut S,
-) -> Result<(), ReportFault>
-    ensures written { (listing : List Member) → M.lists members.old listing → Reports S.taken S.failed sink.old sink.new (listing_lines (lines_form lines.old) (rest_from (path_of from.now) (M.left members.old listing))) result }
-    ensures end { OnOk result (M.ends_as members.old members.new) }
-    ensures fault { IfErr result (λ fault. (fault ≡ ReportFault.Sink) ⊎ (fault ≡ ReportFault.NoMemory)) }
-    ensures memory { IfErr result (λ fault. fault ≡ ReportFault.NoMemory → S.failed sink.new ≡ S.failed sink.old) }
-{
-    'rest: while let Some(item) = members.next()? {
-        if !is_before(members.path(), from) {
-            lines.put(members.path(), &item, sink)?;
-        }
-    }
-    Ok(())
-}
-
-/// Whether a path comes before another.
-pub(crate) fn is_before(path: &[&[u8]], other: &[&[u8]]) -> bool
-    ensures { result ≡ is_lt (path_cmp (path_of path.now) (path_of other.now)) }
-{
-    path.cmp(other).is_lt()
-}
-
+/// Writes the line of a member at a path.
 #[tactic(auto, unfolding(crate::specs::ListLines::member_line))]
 pub(crate) fn put_member<S: Sink>(
     path: &[&[u8]],

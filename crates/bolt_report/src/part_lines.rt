@@ -15,7 +15,6 @@ ghost use Rattle.bolt_report.specs.Reports.{Reports};
 
 use crate::fault::ReportFault;
 use crate::form::ListForm;
-use crate::list_lines::is_before;
 use crate::member_lines::MemberLines;
 use bolt_check::Checked;
 use bolt_format::Sink;
@@ -73,7 +72,7 @@ pub fn list_recovered_part<S: Sink>(
 
 /// Writes a line for each member that is left, up to the first whose path doesn't begin with
 /// `below`.
-fn put_part<'a, M: Members<'a>, S: Sink>(
+pub(crate) fn put_part<'a, M: Members<'a>, S: Sink>(
     members: &mut M,
     below: &[&[u8]],
     lines: &mut MemberLines,
@@ -116,6 +115,13 @@ fn put_bucket_part<'a, M: Members<'a>, S: Sink>(
         }
     }
     Ok(found)
+}
+
+/// Whether a path comes before another.
+fn is_before(path: &[&[u8]], other: &[&[u8]]) -> bool
+    ensures { result ≡ is_lt (path_cmp (path_of path.now) (path_of other.now)) }
+{
+    path.cmp(other).is_lt()
 }
 
 /// The later of two paths.

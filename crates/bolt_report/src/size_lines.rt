@@ -12,13 +12,13 @@ ghost use Rattle.bolt_report.specs.Reports.{Reports};
 ghost use Rattle.bolt_report.specs.declared.text.TheConstants.{TEXT_LEN};
 ghost use Rattle.bolt_report.specs.SizeLines.{AreSized, Sized, bytes_allocated, bytes_used, size_columns, sizes_text};
 
-use crate::bucket_figures::stats;
+use crate::bucket_stats::stats;
 use crate::fault::ReportFault;
-use crate::figures::Stats;
 use crate::form::Form;
+use crate::item_writer::ItemWriter;
 use crate::puts::put;
+use crate::statistics::Stats;
 use crate::text::{Text, push_bytes, push_number};
-use crate::values::value;
 use bolt_format::Sink;
 use bolt_tree::{Bucket, Entry, Item};
 use std::alloc::Global;
@@ -31,7 +31,8 @@ use std::alloc::Global;
 /// # Errors
 ///
 /// `Sink` if the sink failed; `NoMemory` if memory ran out for the figures of a bucket or for a
-/// name as JSON, and the sink had not failed. The sink has then accepted a prefix of the text. There is no other error.
+/// name as JSON, and the sink had not failed. The sink has then accepted a prefix of the text. There
+/// is no other error.
 pub fn sizes<S: Sink>(
     alloc: Global,
     bucket: &Bucket<'_>,
@@ -45,8 +46,9 @@ pub fn sizes<S: Sink>(
     ensures memory { IfErr result (λ fault. fault ≡ ReportFault.NoMemory → S.failed sink.new ≡ S.failed sink.old) }
 {
     let mut cursor = bucket.cursor();
+    let mut items = ItemWriter::new(alloc, form);
     'rest: while let Some(entry) = cursor.next() {
-        put_entry(alloc, bucket, &entry, form, sink)?;
+        put_entry(alloc, bucket, &entry, &mut items, sink)?;
     }
     Ok(())
 }
@@ -56,12 +58,13 @@ fn put_entry<S: Sink>(
     alloc: Global,
     bucket: &Bucket<'_>,
     entry: &Entry<'_>,
-    form: Form,
+    items: &mut ItemWriter,
     sink: &mut S,
 ) -> Result<(), ReportFault>
+    ensures form { items.new.form ≡ items.old.form }
     ensures written { (e : LeafElement) → entries_of (bucket_checked bucket.now) (bucket_start bucket.now) e → shown_entry entry.now ≡ entry_view e
         → (sized : List Sized) → AreSized (bytes_of (bucket_checked bucket.now)) (meta_of (bucket_checked bucket.now)) (e ∷ []) sized
-        → Reports S.taken S.failed sink.old sink.new (sizes_text form sized) result }
+        → Reports S.taken S.failed sink.old sink.new (sizes_text items.old.form sized) result }
     ensures sound { OnOk result (S.failed sink.new ≡ S.failed sink.old) }
     ensures fault { IfErr result (λ fault. (fault ≡ ReportFault.Sink) ⊎ (fault ≡ ReportFault.NoMemory)) }
     ensures memory { IfErr result (λ fault. fault ≡ ReportFault.NoMemory → S.failed sink.new ≡ S.failed sink.old) }
@@ -71,8 +74,8 @@ fn put_entry<S: Sink>(
     }
     match bucket.bucket(entry.key) {
         Some(inner) => {
-            let figures = stats(alloc, &inner)?;
-            put_size(alloc, &figures, entry.key, form, sink)
+            let stats = stats(alloc, &inner)?;
+            put_size(&stats, entry.key, items, sink)
         }
         None => Ok(()),
     }
@@ -80,29 +83,29 @@ fn put_entry<S: Sink>(
 
 /// Writes the line of the bucket with these figures and this name.
 fn put_size<S: Sink>(
-    alloc: Global,
-    figures: &Stats,
+    stats: &Stats,
     name: &[u8],
-    form: Form,
+    items: &mut ItemWriter,
     sink: &mut S,
 ) -> Result<(), ReportFault>
-    ensures written { Reports S.taken S.failed sink.old sink.new (size_columns figures.now ++ value_text form name.now) result }
+    ensures form { items.new.form ≡ items.old.form }
+    ensures written { Reports S.taken S.failed sink.old sink.new (size_columns stats.now ++ value_text items.old.form name.now) result }
     ensures fault { IfErr result (λ fault. (fault ≡ ReportFault.Sink) ⊎ (fault ≡ ReportFault.NoMemory)) }
     ensures memory { IfErr result (λ fault. fault ≡ ReportFault.NoMemory → S.failed sink.new ≡ S.failed sink.old) }
 {
-    put(size_columns(figures).as_slice(), sink)?;
-    value(alloc, name, form, sink)
+    put(size_columns(stats).as_slice(), sink)?;
+    items.put_line(name, sink)
 }
 
 /// The number of keys, the bytes used and the bytes allocated, each followed by a space.
 #[tactic(auto, unfolding(crate::specs::SizeLines::size_columns))]
-fn size_columns(figures: &Stats) -> Text
-    ensures { result.items ≡ size_columns figures.now }
+fn size_columns(stats: &Stats) -> Text
+    ensures { result.items ≡ size_columns stats.now }
 {
     let mut text = Text::new();
-    push_column(&mut text, figures.keys);
-    push_column(&mut text, bytes_used(figures));
-    push_column(&mut text, bytes_allocated(figures));
+    push_column(&mut text, stats.keys);
+    push_column(&mut text, bytes_used(stats));
+    push_column(&mut text, bytes_allocated(stats));
     text
 }
 
@@ -117,21 +120,21 @@ fn push_column(text: &mut Text, n: u64)
 }
 
 /// The bytes used of pages and of inline buckets.
-fn bytes_used(figures: &Stats) -> u64
-    ensures { result ≡ bytes_used figures.now }
+fn bytes_used(stats: &Stats) -> u64
+    ensures { result ≡ bytes_used stats.now }
 {
-    figures
+    stats
         .branch_used
-        .saturating_add(figures.leaf_used)
-        .saturating_add(figures.inline_used)
+        .saturating_add(stats.leaf_used)
+        .saturating_add(stats.inline_used)
 }
 
 /// The bytes allocated to pages and inline buckets.
-fn bytes_allocated(figures: &Stats) -> u64
-    ensures { result ≡ bytes_allocated figures.now }
+fn bytes_allocated(stats: &Stats) -> u64
+    ensures { result ≡ bytes_allocated stats.now }
 {
-    figures
+    stats
         .branch_allocated
-        .saturating_add(figures.leaf_allocated)
-        .saturating_add(figures.inline_used)
+        .saturating_add(stats.leaf_allocated)
+        .saturating_add(stats.inline_used)
 }

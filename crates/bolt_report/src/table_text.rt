@@ -18,38 +18,33 @@ pub(crate) fn head_text() -> Text
     text
 }
 
-/// The row of a page that has items.
-#[tactic(auto, unfolding(crate::specs::PageTables::row))]
+/// The row of a page that has items. An overflow of 0 is left out.
 pub(crate) fn items_row(id: u64, kind: &[u8], items: u64, overflow: u32) -> Text
     requires { length kind.now ≤ 20 }
     ensures { result.items ≡ row (decimal id) kind.now (decimal items) (overflow_text overflow) }
 {
     let mut text = Text::new();
-    push_number_column(&mut text, id, 8);
-    push_bytes(&mut text, b" ");
-    push_column(&mut text, kind, 10);
-    push_bytes(&mut text, b" ");
-    push_number_column(&mut text, items, 6);
-    push_bytes(&mut text, b" ");
-    push_overflow(&mut text, overflow);
-    push_bytes(&mut text, b"\n");
+    let mut id_digits = Buffer::new();
+    let mut items_digits = Buffer::new();
+    let mut overflow_digits = Buffer::new();
+    let id = id_digits.format(id).as_bytes();
+    let items = items_digits.format(items).as_bytes();
+    if overflow == 0 {
+        push_row(&mut text, id, kind, items, b"");
+    } else {
+        let overflow = overflow_digits.format(overflow).as_bytes();
+        push_row(&mut text, id, kind, items, overflow);
+    }
     text
 }
 
 /// The row of a free page.
-#[tactic(auto, unfolding(crate::specs::PageTables::row))]
 pub(crate) fn free_row(id: u64) -> Text
     ensures { result.items ≡ row (decimal id) (codes "free") [] [] }
 {
     let mut text = Text::new();
-    push_number_column(&mut text, id, 8);
-    push_bytes(&mut text, b" ");
-    push_column(&mut text, b"free", 10);
-    push_bytes(&mut text, b" ");
-    push_column(&mut text, b"", 6);
-    push_bytes(&mut text, b" ");
-    push_column(&mut text, b"", 6);
-    push_bytes(&mut text, b"\n");
+    let mut digits = Buffer::new();
+    push_row(&mut text, digits.format(id).as_bytes(), b"free", b"", b"");
     text
 }
 
@@ -72,19 +67,6 @@ fn push_row(text: &mut Text, id: &[u8], kind: &[u8], items: &[u8], overflow: &[u
     push_bytes(text, b" ");
     push_column(text, overflow, 6);
     push_bytes(text, b"\n");
-}
-
-/// Adds an overflow in its column, unless it is 0.
-fn push_overflow(text: &mut Text, overflow: u32)
-    requires room { length text.old.items + 20 ≤ TEXT_LEN }
-    ensures column { text.new.items ≡ text.old.items ++ column 6 (overflow_text overflow) }
-    ensures short { length text.new.items ≤ length text.old.items + 20 }
-{
-    if overflow == 0 {
-        push_column(text, b"", 6);
-    } else {
-        push_number_column(text, u64::from(overflow), 6);
-    }
 }
 
 /// Adds a number in a column of this width.

@@ -54,8 +54,8 @@ pub fn run_calls(
     let mut line = Vec::new(alloc);
     for call in calls {
         let before = cursor.compared();
-        let answer = make_call(alloc, &mut cursor, call.as_str())?;
-        push_result(&mut line, &cursor, before, answer, printed)?;
+        let found = make_call(alloc, &mut cursor, call.as_str())?;
+        push_result(&mut line, &cursor, before, found, printed)?;
     }
     Ok(line)
 }
@@ -64,14 +64,14 @@ fn push_result(
     line: &mut Vec<u8>,
     cursor: &Cursor<'_>,
     before: u64,
-    answer: Option<Entry<'_>>,
+    found: Option<Entry<'_>>,
     printed: Printed,
 ) -> Result<(), Fault> {
     let (opened, compared) = (cursor.opened(), cursor.compared());
     if compared > 1024 {
         return Err(Fault::Wrong("more than 1024 comparisons", line.len()));
     }
-    let key = match answer {
+    let key = match found {
         Some(entry) => entry.key,
         None => b"-",
     };

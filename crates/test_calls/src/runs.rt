@@ -49,12 +49,12 @@ pub struct Ran {
 impl Ran {
     /// A run over sinks that accept everything.
     pub fn on(alloc: Global, job: &Job, file: &[u8]) -> Ran {
-        let [out, err, target] = [
+        let sinks = [
             MemSink::new(alloc),
             MemSink::new(alloc),
             MemSink::new(alloc),
         ];
-        Ran::over(alloc, job, file, [out, err, target])
+        Ran::over(alloc, job, file, sinks)
     }
 
     /// A run over these sinks for standard output, standard error and the copy.

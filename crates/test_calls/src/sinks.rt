@@ -18,12 +18,12 @@ fn put_pieces<S: Sink>(
     let mut line = Vec::new(alloc);
     for word in pieces {
         let before = sink.failures();
-        let answer = if word.as_str() == "." {
+        let result = if word.as_str() == "." {
             sink.put(file)
         } else {
             sink.put(bytes_of(alloc, word.as_str())?.as_slice())
         };
-        match answer {
+        match result {
             Ok(()) if sink.failures() == 0 => push_word(&mut line, b"ok")?,
             Err(_) if sink.failures() >= before.max(1) => push_word(&mut line, b"failed")?,
             _ => return Err(Fault::Wrong("the number of failures", line.len())),
@@ -117,8 +117,8 @@ pub fn hashes(alloc: Global, words: &[String]) -> Result<Vec<u8>, Fault> {
             continue;
         }
         let piece = bytes_of(alloc, word.as_str())?;
-        let answer = sink.put(piece.as_slice());
-        let came = if answer.is_ok() { "ok" } else { "failed" };
+        let result = sink.put(piece.as_slice());
+        let came = if result.is_ok() { "ok" } else { "failed" };
         push_word(&mut line, came.as_bytes())?;
     }
     let came = match sink.put_hash(number(length.as_str())?) {

@@ -26,14 +26,14 @@ returns-in_err-open_bucket g c =
           (subst (λ (reason : Failure). IsErrAnd c.from_residual-in_err-open_bucket.result (λ said. said ≡ reason)) said.0 c.from_residual-in_err-open_bucket.ensures.1),
     )
 
-pub returns-in_err-put_part : goal.returns-in_err-put_part
-returns-in_err-put_part g c =
+pub returns-in_err-put_sound_part : goal.returns-in_err-put_sound_part
+returns-in_err-put_sound_part g c =
     let checked = c.in_ok-checked.checked in
     let under = c.in_ok-checked.ensures.sound in
     let wanted = c.args.wanted.now in
-    let failed = c.in_err-put_part.ensures in
+    let failed = c.in_err-put_sound_part.ensures in
     let (answer, listed, does) = list_put c.args.file.now checked wanted.form (path_in wanted.path.now) (path_in wanted.from.now) c.in_ok-checked.ensures.bytes (read_trees c.args.file.now c.args.slot (meta_of checked) under)
-    (bucket_start c.in_ok-open_bucket.field-0) c.in_ok-open_bucket.ensures.named c.args.out.now c.put_part.new.out _ _ failed.written failed.fault failed.memory c.from_residual-in_err-put_part.ensures.1 in
+    (bucket_start c.in_ok-open_bucket.field-0) c.in_ok-open_bucket.ensures.named c.args.out.now c.put_sound_part.new.out _ _ failed.written failed.fault failed.memory c.from_residual-in_err-put_sound_part.ensures.1 in
     (answer, inl (meta_of checked, under, listed), does)
 
 pub returns : goal.returns
@@ -42,5 +42,5 @@ returns g c =
     let under = c.in_ok-checked.ensures.sound in
     let wanted = c.args.wanted.now in
     let (answer, listed, does) = list_put c.args.file.now checked wanted.form (path_in wanted.path.now) (path_in wanted.from.now) c.in_ok-checked.ensures.bytes (read_trees c.args.file.now c.args.slot (meta_of checked) under)
-    (bucket_start c.in_ok-open_bucket.field-0) c.in_ok-open_bucket.ensures.named c.args.out.now c.put_part.new.out _ _ c.in_ok-put_part.ensures.written tt tt refl in
+    (bucket_start c.in_ok-open_bucket.field-0) c.in_ok-open_bucket.ensures.named c.args.out.now c.put_sound_part.new.out _ _ c.in_ok-put_sound_part.ensures.written tt tt refl in
     (answer, inl (meta_of checked, under, listed), does)

@@ -4,38 +4,38 @@ use Rattle.bolt_cli.specs.Answers.{IsStatsAnswer, done, refused}
 use Rattle.bolt_cli.specs.PlainWords.{path_in}
 use Rattle.bolt_cli.proofs.Doing.{Does-nothing, Does-part, Does-unread, Does-whole}
 use Rattle.bolt_cli.proofs.ReadFiles.{of_read}
-use Rattle.bolt_cli.proofs.StatsAnswers.{figures_missing}
+use Rattle.bolt_cli.proofs.StatsAnswers.{stats_missing}
 use Rattle.bolt_cli.proofs.stats_command.print_stats.Goals as goal
 
 pub returns-in_err-checked : goal.returns-in_err-checked
 returns-in_err-checked g c = Does-unread g.O.Sink.taken g.O.Sink.failed c.args.out.now c.args.file.now c.args.slot c.in_err-checked.field-0.0 _ c.in_err-checked.ensures.refused c.from_residual.ensures.1
 
-pub returns-in_err-figures : goal.returns-in_err-figures
-returns-in_err-figures g c =
+pub returns-in_err-stats : goal.returns-in_err-stats
+returns-in_err-stats g c =
     let opened = c.in_ok-checked.ensures in
-    let failure = c.in_err-figures.field-0.0 in (
+    let failure = c.in_err-stats.field-0.0 in (
       refused failure,
       of_read (λ (f : List ℕ). IsStatsAnswer f (path_in c.args.path.now)) c.args.file.now c.args.slot c.in_ok-checked.checked opened.bytes opened.sound (refused failure)
-          (figures_missing c.in_ok-checked.checked (path_in c.args.path.now) failure c.in_err-figures.ensures.missing),
-      Does-nothing g.O.Sink.taken g.O.Sink.failed c.args.out.now failure _ c.from_residual-in_err-figures.ensures.1,
+          (stats_missing c.in_ok-checked.checked (path_in c.args.path.now) failure c.in_err-stats.ensures.missing),
+      Does-nothing g.O.Sink.taken g.O.Sink.failed c.args.out.now failure _ c.from_residual-in_err-stats.ensures.1,
     )
 
 pub returns-in_err-stats_text : goal.returns-in_err-stats_text
 returns-in_err-stats_text g c =
     let opened = c.in_ok-checked.ensures in
-    let figures = c.in_ok-figures.figures in
-    let answer = done (stats_text figures) in (
+    let stats = c.in_ok-stats.stats in
+    let answer = done (stats_text stats) in (
       answer,
-      of_read (λ (f : List ℕ). IsStatsAnswer f (path_in c.args.path.now)) c.args.file.now c.args.slot c.in_ok-checked.checked opened.bytes opened.sound answer (inl (figures, c.in_ok-figures.ensures.found, refl)),
+      of_read (λ (f : List ℕ). IsStatsAnswer f (path_in c.args.path.now)) c.args.file.now c.args.slot c.in_ok-checked.checked opened.bytes opened.sound answer (inl (stats, c.in_ok-stats.ensures.found, refl)),
       Does-part _ _ answer _ _ c.in_err-stats_text.ensures.written c.in_err-stats_text.ensures.fault c.from_residual-in_err-stats_text.ensures.1,
     )
 
 pub returns : goal.returns
 returns g c =
     let opened = c.in_ok-checked.ensures in
-    let figures = c.in_ok-figures.figures in
-    let answer = done (stats_text figures) in (
+    let stats = c.in_ok-stats.stats in
+    let answer = done (stats_text stats) in (
       answer,
-      of_read (λ (f : List ℕ). IsStatsAnswer f (path_in c.args.path.now)) c.args.file.now c.args.slot c.in_ok-checked.checked opened.bytes opened.sound answer (inl (figures, c.in_ok-figures.ensures.found, refl)),
+      of_read (λ (f : List ℕ). IsStatsAnswer f (path_in c.args.path.now)) c.args.file.now c.args.slot c.in_ok-checked.checked opened.bytes opened.sound answer (inl (stats, c.in_ok-stats.ensures.found, refl)),
       Does-whole _ _ answer _ c.in_ok-stats_text.ensures.written,
     )

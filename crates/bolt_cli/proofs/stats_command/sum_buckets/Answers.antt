@@ -1,6 +1,6 @@
 use Rattle.std.proofs.Common.{◌∙◌, Some, ap, subst, sym}
 use Rattle.bolt_check.specs.CheckedFiles.{bytes_of, meta_of}
-use Rattle.bolt_report.specs.declared.figures.Stats.{Stats}
+use Rattle.bolt_report.specs.declared.statistics.Stats.{Stats}
 use Rattle.bolt_tree.specs.Buckets.{bucket_checked, bucket_start}
 use Rattle.bolt_tree.specs.Cursors.{cursor_checked, cursor_place, cursor_start}
 use Rattle.bolt_tree.specs.Entries.{EntryView}
@@ -10,7 +10,7 @@ use Rattle.bolt_tree.specs.ShownEntries.{shown_entry}
 use Rattle.bolt_tree.proofs.Leaving.{fewer_left, next_shows}
 use Rattle.bolt_cli.specs.Answers.{IsTotal}
 use Rattle.bolt_report.proofs.SizeLemmas.{first_left}
-use Rattle.bolt_cli.proofs.StatsAnswers.{no_figures, total_end, total_more}
+use Rattle.bolt_cli.proofs.StatsAnswers.{total_end, total_more, zero_stats}
 use Rattle.bolt_cli.proofs.stats_command.sum_buckets.Goals as goal
 
 pub rest-init : goal.rest-init
@@ -20,7 +20,7 @@ rest-init c = record {
   sum = λ entries are total known.
       let bucket = c.args.bucket.now in
       let Sum : Stats → Place → Type 0 = λ before place. ∥ IsTotal (bytes_of (bucket_checked bucket)) (meta_of (bucket_checked bucket)) (entries_left entries place) before total ∥₁ in
-      subst (λ (before : Stats). Sum before Fresh) (no_figures c.default-total.result c.default-total.ensures) (subst (Sum c.default-total.result) c.cursor-cursor.ensures.place known);
+      subst (λ (before : Stats). Sum before Fresh) (zero_stats c.default-total.result c.default-total.ensures) (subst (Sum c.default-total.result) c.cursor-cursor.ensures.place known);
 }
 
 pub rest-smaller : goal.rest-smaller

@@ -1,0 +1,26 @@
+use Rattle.std.proofs.Common.{◌≡◌, ◌∙◌, [], ap, arith, inl, ℕ, refl, sum_by, vec_len}
+use Rattle.bolt_report.specs.Deepest.{greatest}
+use Rattle.bolt_report.specs.Readings.{unread_bucket}
+use Rattle.bolt_report.proofs.ReadDepths.{moved_depth}
+use Rattle.bolt_report.proofs.ReadSums.{moved_from, moved_sum, none_left}
+use Rattle.bolt_report.proofs.bucket_stats.add_buckets.Goals as goal
+
+pub roots-preserved : goal.roots-preserved
+roots-preserved c = record {
+  sums = λ w. moved_sum c.roots.buckets.items c.push.new.self.items _ c.roots.roots.items c.pop.new.self.items c.in-Some.root c.in-Some.ensures.items c.in_ok-push.ensures.items refl w ∙ c.roots.invariant.sums w;
+  from = λ m h. c.roots.invariant.from m (moved_from c.roots.buckets.items c.push.new.self.items _ c.roots.roots.items c.pop.new.self.items c.in-Some.root c.in-Some.ensures.items c.in_ok-push.ensures.items refl m h);
+  deepest = λ f. moved_depth c.roots.buckets.items c.push.new.self.items c.roots.roots.items c.pop.new.self.items c.in-Some.root f c.args.above c.in-Some.ensures.items c.in_ok-push.ensures.items ∙ c.roots.invariant.deepest f;
+}
+
+pub returns-clause-sums : goal.returns-clause-sums
+returns-clause-sums c = λ w.
+    let none : c.roots.roots.items ≡ [] = none_left c.roots.roots.items c.pop.new.self.items (vec_len c.roots.roots) c.in_default.ensures.cases.0 c.in_default.ensures.rest c.in_default.ensures.items in
+    let zero = ap (sum_by w) none in let whole = c.roots.invariant.sums w in omega (arith, zero, whole)
+
+pub returns-clause-from : goal.returns-clause-from
+returns-clause-from c = λ m h. c.roots.invariant.from m (inl h)
+
+pub returns-clause-deepest : goal.returns-clause-deepest
+returns-clause-deepest c = λ f.
+    let none : c.roots.roots.items ≡ [] = none_left c.roots.roots.items c.pop.new.self.items (vec_len c.roots.roots) c.in_default.ensures.cases.0 c.in_default.ensures.rest c.in_default.ensures.items in
+    let zero = ap (greatest (λ (root : ℕ). f (unread_bucket c.args.above root))) none in let whole = c.roots.invariant.deepest f in omega (arith, zero, whole)

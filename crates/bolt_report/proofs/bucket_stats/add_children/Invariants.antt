@@ -1,0 +1,10 @@
+use Rattle.std.proofs.Common.{◌≡◌, ◌+◌, ◌++◌, map, take}
+use Rattle.bolt_format.specs.Elements.{BranchElement}
+use Rattle.bolt_format.specs.Shown.{shown}
+use Rattle.bolt_report.specs.Figures.{capped}
+use Rattle.bolt_report.specs.Readings.{unread_page}
+use Rattle.bolt_report.proofs.bucket_stats.add_children.Given as goal
+
+-- the children of the elements before this one were opened
+abbrev pub invariant-loop-i : goal.invariant-loop-i
+invariant-loop-i l = l.pages.items ≡ l.initial.pages.items ++ map (λ (e : BranchElement). unread_page (capped (l.depth + 1)) e.child) (take l.i (shown l.page).branches)

@@ -1,0 +1,55 @@
+use Rattle.std.proofs.Common.{◌∙◌, ◌+◌, ◌++◌, List, ℕ, ap, append-nil, refl, sym}
+use Rattle.std.proofs.Math.Logic.{∥∥₁_elim}
+use Rattle.std.proofs.Props.{props}
+use Rattle.bolt_format.specs.Shown.{shown}
+use Rattle.bolt_format.specs.declared.kind.Kind.TheVariants as kind
+use Rattle.bolt_check.specs.CheckedFiles.{bytes_of, meta_of}
+use Rattle.bolt_check.specs.Nodes.{leaf_entry}
+use Rattle.bolt_check.proofs.TourSums.{enough_shown}
+use Rattle.bolt_check.proofs.TreePages.{node_is}
+use Rattle.bolt_report.specs.Deepest.{inline_depth}
+use Rattle.bolt_report.specs.Figures.{capped}
+use Rattle.bolt_report.specs.declared.bucket_stats.UnreadPage.{UnreadPage}
+use Rattle.bolt_report.proofs.DepthSums.{greatest_map}
+use Rattle.bolt_report.proofs.ReadLemmas.{branch_kids, leaf_kids, no_freelist, no_meta}
+use Rattle.bolt_report.proofs.bucket_stats.read_page.Goals as goal
+
+pub known-page-requires : goal.known-page-requires
+known-page-requires c =
+    rw (c.bytes.ensures, c.meta-meta.ensures) (∥∥₁_elim c.requires (Prim.hlevel props) (λ h. enough_shown (bytes_of c.args.checked.now) (meta_of c.args.checked.now) _ c.args.next.number h))
+
+pub unreachable-requires : goal.unreachable-requires
+unreachable-requires c =
+    let at = rw (c.bytes.ensures, c.meta-meta.ensures) at c.known-page.ensures in
+    ∥∥₁_elim c.requires (Prim.hlevel props) (λ h. no_meta (bytes_of c.args.checked.now) (meta_of c.args.checked.now) c.args.next.number (shown c.known-page.result) at _ h (sym c.kind.ensures ∙ c.in-Meta.is))
+
+pub unreachable-requires-in-Freelist : goal.unreachable-requires-in-Freelist
+unreachable-requires-in-Freelist c =
+    let at = rw (c.bytes.ensures, c.meta-meta.ensures) at c.known-page.ensures in
+    ∥∥₁_elim c.requires (Prim.hlevel props) (λ h. no_freelist (bytes_of c.args.checked.now) (meta_of c.args.checked.now) c.args.next.number (shown c.known-page.result) at _ h (sym c.kind.ensures ∙ c.in-Freelist.is))
+
+pub returns-in_ok-add_children-in-Branch-clause-kids : goal.returns-in_ok-add_children-in-Branch-clause-kids
+returns-in_ok-add_children-in-Branch-clause-kids c =
+    let at = rw (c.bytes.ensures, c.meta-meta.ensures) at c.known-page.ensures in
+    let view = shown c.known-page.result in
+    ∣ (
+      _,
+      node_is (bytes_of c.args.checked.now) (meta_of c.args.checked.now) c.args.next.number view kind.Branch at (sym c.kind.ensures ∙ c.in-Branch.is),
+      c.in_ok-add_children-in-Branch.ensures ∙ ap (λ (l : List UnreadPage). c.args.pages.now.items ++ l) (sym (branch_kids (capped (c.args.next.depth + 1)) view.branches)),
+      sym (append-nil c.args.roots.now.items),
+      refl,
+      refl,
+    ) ∣₁
+
+pub returns-in_ok-inline_depth-in-Leaf-clause-kids : goal.returns-in_ok-inline_depth-in-Leaf-clause-kids
+returns-in_ok-inline_depth-in-Leaf-clause-kids c =
+    let at = rw (c.bytes.ensures, c.meta-meta.ensures) at c.known-page.ensures in
+    let view = shown c.known-page.result in
+    ∣ (
+      _,
+      node_is (bytes_of c.args.checked.now) (meta_of c.args.checked.now) c.args.next.number view kind.Leaf at (sym c.kind.ensures ∙ c.in-Leaf.is),
+      sym (append-nil c.args.pages.now.items),
+      c.in_ok-inline_depth-in-Leaf.ensures.roots ∙ ap (λ (l : List ℕ). c.args.roots.now.items ++ l) (sym (leaf_kids view.leaves)),
+      refl,
+      c.in_ok-inline_depth-in-Leaf.ensures.depth ∙ sym (greatest_map inline_depth leaf_entry view.leaves),
+    ) ∣₁

@@ -1,0 +1,189 @@
+#!/usr/bin/env python3
+r"""Runs test cases: command lines and calls on files, and their results.
+
+    run_cases.py PROGRAM CALLS FILE..
+
+PROGRAM is luntsegi, and CALLS the program test_calls, which makes calls of the libraries. The FILEs have blocks of
+lines with an empty line between. Lines that begin with `#` are a comment. A block of them is a heading. Before the
+other lines of a block they say what this test case and those after it show, up to the next comment. The first word
+of these other lines is the verb:
+
+| verb | what |
+|---|---|
+| `file` | describes the file of the next test cases (draft.py) |
+| `swap` | exchanges it for the one that is kept |
+| `cut` | ends it at a length |
+| `$` | a command line and its result (wanted.py) |
+| `cuts` | `FIRST-LAST` and a command line, which has this result on each prefix of the file with a length in this range |
+| `changes` | the same with each byte of this range changed to each other value in turn |
+
+Other verbs are calls, which crates/test_calls/src/main.rt lists, and their results. In their words keys are written
+as in `file`. Walks and recoveries print lines in hexadecimal, as `list` does; other calls print keys as they are.
+
+Prints each test case that doesn't hold, after its comment and what its file is, and how many of each file do. The
+status is 1 unless all hold, and unless a file of test cases holds some. With `--none` before the FILEs no test case
+may hold: so a file of wrong ones shows that these are found."""
+
+import os
+import subprocess
+import sys
+import tempfile
+from itertools import takewhile
+
+from draft import make
+from wanted import Wanted
+from words import Unread, bytes_of, halves, path_of
+
+SECONDS = 120
+# The program prints the name by which it was called, so it is always called by this one.
+NAME = "luntsegi"
+
+
+def parted(block):
+    """The comment of a block, and its other lines."""
+    lines = block.split("\n")
+    comment = [*takewhile(lambda line: line.startswith("#"), lines)]
+    return "\n".join(comment), "\n".join(lines[len(comment) :])
+
+
+def key(word):
+    return bytes_of(word).hex()
+
+
+def path(word):
+    return "/".join(it.hex() for it in path_of(word)) or "."
+
+
+def move(word):
+    """A call on a cursor: its name, and the key after `seek=`."""
+    name, mark, sought = word.partition("=")
+    return name + mark + key(sought)
+
+
+def piece(word):
+    """Bytes that are written to a sink, or the name of some."""
+    return word if word in (".", "start") else key(word)
+
+
+# How the words of calls are handed over. The last way is that of all further words. Those of other calls are bytes.
+WAYS = {
+    "moves": (path, move),
+    "opens": (path, move),
+    "compares": (path, move),
+    "under": (path, key),
+    "begins": (path, key),
+    "between": (path, key),
+    "bucket": (key,),
+    "checksums": (key,),
+    "walk": (path,),
+    "depths": (path,),
+    "again": (path,),
+    "puts": (str, str, piece),
+    "hashes": (str, str, piece),
+}
+
+
+def handed_over(verb, words):
+    """The words of a call as the program gets them."""
+    ways = WAYS.get(verb, (bytes_of,))
+    return [ways[min(i, len(ways) - 1)](word) for i, word in enumerate(words)]
+
+
+class Bench:
+    """The file of the next test cases, with its description and their comment; another file, which is kept; and how
+    many test cases held and didn't."""
+
+    def __init__(self, program, calls, folder):
+        self.program, self.calls, self.folder = program, calls, folder
+        self.file, self.kept, self.held, self.failed = b"", b"", 0, 0
+        self.comment, self.described = "", ""
+
+    def run(self, program, *words):
+        """What a program writes on the file, its status, and what it writes into OUT."""
+        with open(os.path.join(self.folder, "FILE"), "wb") as it:
+            it.write(self.file)
+        how = {"cwd": self.folder, "stdin": subprocess.DEVNULL, "capture_output": True, "timeout": SECONDS}
+        ran = subprocess.run([NAME, *words], executable=program, **how)
+        out = os.path.join(self.folder, "OUT")
+        copy = b""
+        if os.path.exists(out):
+            with open(out, "rb") as it:
+                copy = it.read()
+            os.remove(out)
+        return ran.stdout, ran.stderr, ran.returncode, copy
+
+    def take(self, block):
+        comment, block = parted(block)
+        self.comment = comment or self.comment
+        head, *lines = block.split("\n")
+        verb, words = halves(head, " ")
+        match verb:
+            case "file":
+                self.described = head
+                self.file = make("\n".join(lines))
+            case "cut":
+                self.file = self.file[: int(words)]
+            case "swap":
+                self.file, self.kept = self.kept, self.file
+            case "":
+                pass
+            case _:
+                self.compare(self.result(verb, words.split()), Wanted(it for it in lines if it))
+
+    def result(self, verb, words):
+        if verb == "$":
+            return self.run(self.program, *(bytes_of(word) for word in words))
+        if verb in ("cuts", "changes"):
+            bounds, *line = words
+            return self.run(self.calls, verb, "FILE", *bounds.split("-"), *(bytes_of(word) for word in line))
+        return self.run(self.calls, verb, "FILE", *handed_over(verb, words))
+
+    def compare(self, result, wanted):
+        out, err, status, copy = result
+        copies = {"": b"", "FILE": self.file, "kept": self.kept, "new": copy}
+        is_copy = copy == copies[wanted.copy] and (wanted.copy != "new" or copy != b"")
+        if not is_copy or (out, err, status) != (wanted.out, wanted.err, wanted.status):
+            raise Differs(result)
+        if wanted.copy == "new":
+            self.file = copy
+        self.held += 1
+
+    def try_block(self, block):
+        try:
+            self.take(block)
+        except (Differs, Unread, subprocess.TimeoutExpired, ValueError, KeyError, IndexError) as fault:
+            self.failed += 1
+            case = parted(block)[1]
+            what = [case] if case.startswith("file") else [self.comment, self.described, case]
+            print(f"{type(fault).__name__}:", "\n".join(it for it in what if it), f"\n{fault!s:.1000}\n")
+
+
+class Differs(Exception):
+    """A test case that doesn't hold, and its result."""
+
+    def __str__(self):
+        out, err, status, copy = self.args[0]
+        return f"standard output {out!r:.600}\nstandard error {err!r:.300}\nstatus {status}, {len(copy)} bytes in OUT"
+
+
+def try_file(name, program, calls):
+    """Tries the test cases of a file. Returns how many hold and how many don't."""
+    with open(name, encoding="utf-8", newline="\n") as it:
+        blocks = it.read().rstrip("\n").split("\n\n")
+    with tempfile.TemporaryDirectory() as folder:
+        bench = Bench(program, calls, folder)
+        for block in blocks:
+            bench.try_block(block)
+    print(f"{name}: {bench.held} hold, {bench.failed} don't", flush=True)
+    return bench.held, bench.failed
+
+
+def main(words):
+    program, calls, *names = words
+    are_wrong = names[:1] == ["--none"]
+    counts = [try_file(name, os.path.abspath(program), os.path.abspath(calls)) for name in names[are_wrong:]]
+    return all(failed > 0 and held == 0 if are_wrong else held > 0 and failed == 0 for held, failed in counts)
+
+
+if __name__ == "__main__":
+    sys.exit(0 if main(sys.argv[1:]) else 1)
