@@ -204,7 +204,7 @@ fn inline_depth(leaf: &Leaf<'_>) -> u64
     requires { IsTrue leaf.now.is_bucket → IsBucketValue leaf.now.value.now }
     ensures { result ≡ inline_depth (leaf_entry (leaf_view leaf.now)) }
 {
-    if leaf.is_bucket && head(leaf.value).root == 0 {
+    if leaf.is_bucket && head(leaf.value).is_inline() {
         1
     } else {
         0
@@ -217,9 +217,9 @@ fn push_root(leaf: &Leaf<'_>, roots: &mut Vec<u64>) -> Result<(), AllocError>
     ensures { OnOk result (roots.new.items ≡ roots.old.items ++ root_page_of (leaf_view leaf.now)) }
 {
     if leaf.is_bucket {
-        let root = head(leaf.value).root;
-        if root != 0 {
-            roots.push(root)?;
+        let head = head(leaf.value);
+        if !head.is_inline() {
+            roots.push(head.root)?;
         }
     }
     Ok(())

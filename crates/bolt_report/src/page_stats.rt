@@ -57,7 +57,7 @@ fn element_stats(leaf: &Leaf<'_>) -> Stats
     if !leaf.is_bucket {
         return Stats::default();
     }
-    if head(leaf.value).root == 0 {
+    if head(leaf.value).is_inline() {
         return inline_stats(&inline(leaf.value));
     }
     Stats {
