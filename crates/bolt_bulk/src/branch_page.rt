@@ -9,9 +9,10 @@ ghost use Rattle.bolt_bulk.specs.Puts.{PutsWhole};
 
 use crate::branch_run::BranchRun;
 use crate::headers::Headers;
-use crate::page_setup::{PageSetup, overflow};
+use crate::page_header::put_page_header;
+use crate::page_setup::PageSetup;
 use crate::pieces::{put, put_zeros};
-use bolt_format::{Branch, Kind, Sink, SinkFault, page_header};
+use bolt_format::{Branch, Kind, Sink, SinkFault};
 
 /// Writes the headers of elements. All keys are packed after the last header.
 fn put_headers<S: Sink>(branches: &[Branch<'_>], sink: &mut S) -> Result<(), SinkFault>
@@ -49,10 +50,8 @@ pub(crate) fn put_branch_page<S: Sink>(
     ensures { PutsWhole S.taken S.failed sink.old sink.new (placed_bytes setup.now.page_size (run_page setup.now.page_size (run_view run.now) number ∷ [])) result }
 {
     let branches = run.elements.as_slice();
-    let further = overflow(setup.page_size, run.size);
-    let header = page_header(number, Kind::Branch, branches.len() as u16, further as u32);
-    put(&header, sink)?;
+    let zeros = put_page_header(setup, number, Kind::Branch, branches.len(), run.size, sink)?;
     put_headers(branches, sink)?;
     put_keys(branches, sink)?;
-    put_zeros((1 + further) * setup.page_size - run.size, sink)
+    put_zeros(zeros, sink)
 }

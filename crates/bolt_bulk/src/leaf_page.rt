@@ -9,9 +9,10 @@ ghost use Rattle.bolt_bulk.specs.Puts.{PutsWhole};
 use crate::headers::Headers;
 use crate::held::Held;
 use crate::leaf_run::LeafRun;
-use crate::page_setup::{PageSetup, overflow};
+use crate::page_header::put_page_header;
+use crate::page_setup::PageSetup;
 use crate::pieces::{put, put_zeros};
-use bolt_format::{Kind, Leaf, Sink, SinkFault, page_header};
+use bolt_format::{Kind, Leaf, Sink, SinkFault};
 
 /// Writes the headers of items. All their data is packed after the last header.
 fn put_headers<S: Sink>(
@@ -68,10 +69,8 @@ pub(crate) fn put_leaf_page<S: Sink>(
 {
     let items = run.items.as_slice();
     let inlined = run.inlined.as_slice();
-    let further = overflow(setup.page_size, run.size);
-    let header = page_header(number, Kind::Leaf, items.len() as u16, further as u32);
-    put(&header, sink)?;
+    let zeros = put_page_header(setup, number, Kind::Leaf, items.len(), run.size, sink)?;
     put_headers(items, inlined, sink)?;
     put_data(items, inlined, sink)?;
-    put_zeros((1 + further) * setup.page_size - run.size, sink)
+    put_zeros(zeros, sink)
 }

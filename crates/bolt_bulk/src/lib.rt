@@ -24,6 +24,7 @@ mod no_sink;
 mod noted_limits;
 mod open_bucket;
 mod outcome;
+mod page_header;
 mod page_setup;
 mod pass;
 mod pending_bucket;
