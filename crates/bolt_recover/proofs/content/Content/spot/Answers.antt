@@ -1,5 +1,5 @@
 use Rattle.bolt_recover.proofs.Leading.{leads_to}
-use Rattle.bolt_recover.proofs.open_page.Content.spot.Goals as goal
+use Rattle.bolt_recover.proofs.content.Content.spot.Goals as goal
 
 pub returns-in-Page : goal.returns-in-Page
 returns-in-Page c = λ file meta path good.
