@@ -161,25 +161,6 @@ added_views inlined entries run first sequence key items more x behind at all sa
     ap (λ (xs : List Held). held_views run xs) same
     ∙ (views_push run items x ∙ (ap (λ (es : List LeafElement). es ++ held_view run x ∷ []) old ∙ ap (λ (e : LeafElement). held_views inlined items ++ e ∷ []) new))
 
--- each entry takes 16 bytes of the page at least, and so does each item
-pub value_least : (inlined : List Leaf) (x : Stored) → IsStored inlined x → 16 * inlined_by x ≤ length (stored_value inlined x)
-value_least inlined (stored.Value value) is = omega arith
-value_least inlined (stored.Root page sequence) is = omega arith
-value_least inlined (stored.Inline sequence first count size) is =
-    let entries : List LeafElement = entries_in inlined first count in
-    let l = length-inline_value sequence entries in
-    let d = length-drop first inlined in
-    let t = length-take-le count (drop first inlined) (let h = is.there in omega arith) in
-    let m = length-map (take count (drop first inlined)) leaf_view in omega arith
-
-data_least : (inlined : List Leaf) (items : List Held) → AreHeld inlined items → 16 * inlined_in items ≤ length (leaf_data (held_views inlined items))
-data_least inlined [] all = omega arith
-data_least inlined (x ∷ items) all =
-    let ih = data_least inlined items all.1 in
-    let v = value_least inlined x.stored all.0.1 in
-    let a = length-append x.key.now (stored_value inlined x.stored ++ leaf_data (held_views inlined items)) in
-    let b = length-append (stored_value inlined x.stored) (leaf_data (held_views inlined items)) in omega arith
-
 -- The items of values are these values,
 pub values_view : (entries : List Leaf) → AllByRecursion (λ (entry : Leaf). entry.is_bucket ≡ false) entries → held_views [] (map value_item entries) ≡ map leaf_view entries
 values_view [] all = refl

@@ -1,11 +1,13 @@
-//! An open bucket: the run of items of its leaf under way, and the runs of pages above.
-ghost use Rattle.std.specs.Prelude.{◌≡◌, ◌+◌, ◌<◌, ◌≤◌, true, false, ℕ, [], IfErr, IfOk, OnErr, OnOk, length, map, min, vec_capacity, vec_len};
+//! The open runs of a bucket: the run of items of its leaf under way, and the runs of pages above.
+ghost use Rattle.std.specs.Prelude.{◌≡◌, ◌+◌, ◌<◌, ◌≤◌, true, false, ℕ, [], IfErr, IfOk, OnErr, OnOk, length, map, vec_capacity, vec_len};
 ghost use Rattle.std.specs.List.{AllByRecursion};
+ghost use Rattle.bolt_format.specs.ElementLengths.{IsValueLength};
 ghost use Rattle.bolt_format.specs.ElementPlaces.{leaf_view};
 ghost use Rattle.bolt_format.specs.Sinks.{AppendsProperBeginning};
 ghost use Rattle.bolt_format.specs.declared.element.Leaf.{Leaf};
 ghost use Rattle.bolt_layout.specs.Layout.{placed_bytes};
-ghost use Rattle.bolt_bulk.specs.Private.HeldCounts.{items_in};
+ghost use Rattle.bolt_bulk.specs.Private.FormatLimits.{length_end, longest_key};
+ghost use Rattle.bolt_bulk.specs.Private.HeldCounts.{capped, items_in};
 ghost use Rattle.bolt_bulk.specs.Private.HeldItems.{IsHeld, held_view, inlined_by, stored_value, value_item};
 ghost use Rattle.bolt_bulk.specs.Private.OpenBuckets.{HasRoomFor, IsOpenBucket, bucket_end_next, leaves_of, bucket_runs};
 ghost use Rattle.bolt_bulk.specs.Private.RunViews.{leaves_have_room, no_leaves, runs_end, runs_end_put, runs_push, runs_room, runs_room_put};
@@ -25,9 +27,9 @@ use crate::waiting_bucket::{ROOT_ITEM_LEN, WaitingBucket};
 use bolt_format::{ELEMENT_LEN, HEAD_LEN, HEADER_LEN, Leaf, Sink};
 use std::alloc::Global;
 
-/// An open bucket.
+/// The open runs of a bucket.
 #[derive(Drop)]
-pub(crate) struct OpenBucket<'a> {
+pub(crate) struct BucketRuns<'a> {
     pub leaves: LeafRun<'a>,
     pub uppers: UpperRuns<'a>,
 }
@@ -38,8 +40,7 @@ fn value_items<'a>(alloc: Global, entries: &[Leaf<'a>]) -> Result<Vec<Held<'a>>,
     ensures fault { IfErr result (λ e. e ≡ fault.Memory) }
 {
     let mut items = Vec::new(alloc);
-    for i in 0..entries.len() {
-        let entry = entries[i];
+    for entry in entries {
         let held = Held {
             key: entry.key,
             stored: Stored::Value(entry.value),
@@ -49,13 +50,13 @@ fn value_items<'a>(alloc: Global, entries: &[Leaf<'a>]) -> Result<Vec<Held<'a>>,
     Ok(items)
 }
 
-impl<'a> OpenBucket<'a> {
+impl<'a> BucketRuns<'a> {
     /// A bucket that has no item yet.
-    pub(crate) fn new(alloc: Global, limits: BucketLimits<'a>) -> OpenBucket<'a>
+    pub(crate) fn new(alloc: Global, limits: BucketLimits<'a>) -> BucketRuns<'a>
         ensures open { IsOpenBucket result }
         ensures runs { (next : ℕ) → bucket_runs result next ≡ record { leaves = no_leaves; uppers = []; limits = limits.entry; next = next } }
     {
-        OpenBucket {
+        BucketRuns {
             leaves: LeafRun {
                 items: Vec::new(alloc),
                 inlined: Vec::new(alloc),
@@ -72,11 +73,11 @@ impl<'a> OpenBucket<'a> {
         entries: &[Leaf<'a>],
         size: usize,
         limits: BucketLimits<'a>,
-    ) -> Result<OpenBucket<'a>, BulkFault>
+    ) -> Result<BucketRuns<'a>, BulkFault>
         requires size { size ≡ entries_size (map leaf_view entries.now) }
-        requires small { size < 4294967296 }
+        requires small { size < length_end }
         requires few { length entries.now < 65535 }
-        requires keys { AllByRecursion (λ (entry : Leaf). length entry.key.now ≤ 1073741824) entries.now }
+        requires keys { AllByRecursion (λ (entry : Leaf). length entry.key.now ≤ longest_key) entries.now }
         requires values { AllByRecursion (λ (entry : Leaf). entry.is_bucket ≡ false) entries.now }
         ensures open { IfOk result (λ bucket. IsOpenBucket bucket) }
         ensures runs { IfOk result (λ bucket. (next : ℕ) → bucket_runs bucket next ≡ record { leaves = record { elements = map leaf_view entries.now; size = size }; uppers = []; limits = limits.entry; next = next }) }
@@ -88,7 +89,7 @@ impl<'a> OpenBucket<'a> {
             inlined: Vec::new(alloc),
             size,
         };
-        Ok(OpenBucket {
+        Ok(BucketRuns {
             leaves,
             uppers: UpperRuns::new(alloc, limits),
         })
@@ -97,7 +98,7 @@ impl<'a> OpenBucket<'a> {
     /// Makes room for the next item, which has this key and size. If there is none, the leaf
     /// closes, before any page of the item is written.
     #[inline(always)]
-    pub(crate) fn make_room<S: Sink>(
+    fn make_room<S: Sink>(
         &mut self,
         setup: &PageSetup,
         key: &[u8],
@@ -106,8 +107,8 @@ impl<'a> OpenBucket<'a> {
         sink: &mut S,
     ) -> Result<(), BulkFault>
         requires open { IsOpenBucket self.old }
-        requires key { length key.now ≤ 1073741824 }
-        requires size { size < 4294967296 }
+        requires key { length key.now ≤ longest_key }
+        requires size { size < length_end }
         requires next { next.old ≤ setup.now.limit }
         ensures pages { Puts S.taken S.failed sink.old sink.new (placed_bytes setup.now.page_size (runs_room_put setup.now.page_size (bucket_runs self.old next.old) key.now size)) result }
         ensures runs { OnOk result (bucket_runs self.new next.new ≡ runs_room setup.now.page_size (bucket_runs self.old next.old) key.now size) }
@@ -151,7 +152,7 @@ impl<'a> OpenBucket<'a> {
     }
 
     /// Adds an item of this size, for which there is room. It isn't an inline bucket.
-    pub(crate) fn push_item(&mut self, held: Held<'a>, size: usize) -> Result<(), BulkFault>
+    fn push_item(&mut self, held: Held<'a>, size: usize) -> Result<(), BulkFault>
         requires open { IsOpenBucket self.old }
         requires held { IsHeld self.old.leaves.inlined.items held }
         requires apart { inlined_by held.stored ≡ 0 }
@@ -168,7 +169,7 @@ impl<'a> OpenBucket<'a> {
 
     /// Adds an inline bucket with these entries, for which there is room. Its value has `size`
     /// bytes.
-    pub(crate) fn push_inline(
+    fn push_inline(
         &mut self,
         key: &'a [u8],
         sequence: u64,
@@ -176,10 +177,10 @@ impl<'a> OpenBucket<'a> {
         size: usize,
     ) -> Result<(), BulkFault>
         requires open { IsOpenBucket self.old }
-        requires key { length key.now ≤ 1073741824 }
+        requires key { length key.now ≤ longest_key }
         requires few { length entries.now < 65535 }
         requires size { size ≡ inline_size (map leaf_view entries.now) }
-        requires small { size < 4294967296 }
+        requires small { size < length_end }
         requires room { HasRoomFor self.old.leaves (16 + (length key.now + size)) }
         ensures runs { OnOk result ((before next : ℕ) → bucket_runs self.new next ≡ runs_push (bucket_runs self.old before) (inline_element key.now sequence (map leaf_view entries.now)) (16 + (length key.now + size)) next) }
         ensures open { OnOk result (IsOpenBucket self.new) }
@@ -209,8 +210,8 @@ impl<'a> OpenBucket<'a> {
         sink: &mut S,
     ) -> Result<(), BulkFault>
         requires open { IsOpenBucket self.old }
-        requires key { length key.now ≤ 1073741824 }
-        requires value { length value.now < 2147483647 }
+        requires key { length key.now ≤ longest_key }
+        requires value { IsValueLength (length value.now) }
         requires next { next.old ≤ setup.now.limit }
         ensures pages { Puts S.taken S.failed sink.old sink.new (placed_bytes setup.now.page_size (runs_room_put setup.now.page_size (bucket_runs self.old next.old) key.now (16 + (length key.now + length value.now)))) result }
         ensures runs { OnOk result (bucket_runs self.new next.new ≡ runs_taking setup.now.page_size (bucket_runs self.old next.old) (value_element key.now value.now) (16 + (length key.now + length value.now))) }
@@ -234,7 +235,7 @@ impl<'a> OpenBucket<'a> {
         sink: &mut S,
     ) -> Result<(), BulkFault>
         requires open { IsOpenBucket self.old }
-        requires key { length pending.key.now ≤ 1073741824 }
+        requires key { length pending.key.now ≤ longest_key }
         requires few { length entries.now < 65535 }
         requires size { pending.size + 16 ≡ inline_size (map leaf_view entries.now) }
         requires small { pending.size < 2147483632 }
@@ -262,7 +263,7 @@ impl<'a> OpenBucket<'a> {
         sink: &mut S,
     ) -> Result<WaitingBucket<'a>, BulkFault>
         requires open { IsOpenBucket self }
-        requires key { length pending.key.now ≤ 1073741824 }
+        requires key { length pending.key.now ≤ longest_key }
         requires next { next.old ≤ setup.now.limit }
         ensures pages { Puts S.taken S.failed sink.old sink.new (placed_bytes setup.now.page_size (runs_room_put setup.now.page_size (bucket_runs self.entry next.old) pending.entry.key.now (32 + length pending.entry.key.now))) result }
         ensures runs { IfOk result (λ waiting. bucket_runs waiting.bucket next.new ≡ runs_room setup.now.page_size (bucket_runs self.entry next.old) pending.entry.key.now (32 + length pending.entry.key.now)) }
@@ -306,11 +307,11 @@ impl<'a> OpenBucket<'a> {
 
     /// How many items its runs hold. Saturates at 2^64 - 1.
     pub(crate) fn held(&self) -> u64
-        ensures { result ≡ min (items_in self.now) 18446744073709551615 }
+        ensures { result ≡ capped (items_in self.now) }
     {
         let mut held = self.leaves.items.len() as u64;
-        for i in 0..self.uppers.runs.len() {
-            held = held.saturating_add(self.uppers.runs[i].elements.len() as u64);
+        for run in &self.uppers.runs {
+            held = held.saturating_add(run.elements.len() as u64);
         }
         held
     }

@@ -1,6 +1,7 @@
 //! A leaf page, as it is written.
 ghost use Rattle.std.specs.Prelude.{◌+◌, ◌*◌, ◌<◌, ◌++◌, length};
 ghost use Rattle.bolt_layout.specs.PageBytes.{leaf_data, leaf_headers, page_bytes};
+ghost use Rattle.bolt_bulk.specs.Private.FormatLimits.{length_end};
 ghost use Rattle.bolt_bulk.specs.Private.HeldItems.{AreHeld, IsHeld, held_views, stored_value};
 ghost use Rattle.bolt_bulk.specs.Private.OpenBuckets.{IsLeafRun, leaves_of};
 ghost use Rattle.bolt_bulk.specs.Private.RunViews.{leaf_page};
@@ -21,12 +22,11 @@ fn put_headers<S: Sink>(
     sink: &mut S,
 ) -> Result<(), SinkFault>
     requires held { AreHeld inlined.now items.now }
-    requires size { 16 * length items.now + length (leaf_data (held_views inlined.now items.now)) < 4294967296 }
+    requires size { 16 * length items.now + length (leaf_data (held_views inlined.now items.now)) < length_end }
     ensures { PutsWhole S.taken S.failed sink.old sink.new (leaf_headers 0 (held_views inlined.now items.now)) result }
 {
     let mut headers = Headers::new(items.len());
-    for i in 0..items.len() {
-        let held = &items[i];
+    for held in items {
         let value = held.stored.len();
         headers.put_leaf(held.stored.is_bucket(), held.key.len(), value, sink)?;
     }
@@ -51,8 +51,8 @@ fn put_data<S: Sink>(
     requires { AreHeld inlined.now items.now }
     ensures { PutsWhole S.taken S.failed sink.old sink.new (leaf_data (held_views inlined.now items.now)) result }
 {
-    for i in 0..items.len() {
-        put_item(&items[i], inlined, sink)?;
+    for held in items {
+        put_item(held, inlined, sink)?;
     }
     Ok(())
 }

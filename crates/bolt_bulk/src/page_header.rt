@@ -3,6 +3,7 @@ ghost use Rattle.std.specs.Prelude.{◌≡◌, ◌+◌, ◌-◌, ◌*◌, ◌<�
 ghost use Rattle.bolt_format.specs.Written.{header_bytes};
 ghost use Rattle.bolt_layout.specs.Levels.{overflow_of};
 ghost use Rattle.bolt_bulk.specs.Puts.{PutsWhole};
+ghost use Rattle.bolt_bulk.specs.Private.FormatLimits.{length_end};
 
 use crate::page_setup::{PageSetup, overflow};
 use crate::pieces::put;
@@ -19,7 +20,7 @@ pub(crate) fn put_page_header<S: Sink>(
     sink: &mut S,
 ) -> Result<usize, SinkFault>
     requires some { 0 < size }
-    requires small { size < 4294967296 }
+    requires small { size < length_end }
     requires few { count < 65536 }
     ensures header { PutsWhole S.taken S.failed sink.old sink.new (header_bytes number kind count (overflow_of setup.now.page_size size)) result }
     ensures zeros { IfOk result (λ zeros. zeros ≡ (1 + overflow_of setup.now.page_size size) * setup.now.page_size - size) }

@@ -1,5 +1,5 @@
 //! A kept page, and how many of its elements are done.
-ghost use Rattle.std.specs.Prelude.{◌≡◌, ◌≤◌, ◌<◌, ◌+◌, ℕ, List, true, IfErr, IfOk, IfSome, OnErr, OnOk, IsTrue, length, slice_get};
+ghost use Rattle.std.specs.Prelude.{◌≡◌, ◌≤◌, ◌<◌, ◌+◌, ℕ, List, true, IfErr, IfOk, IfSome, OnErr, OnOk, IsTrue, slice_get};
 ghost use Rattle.std.specs.Option.{option_map};
 ghost use Rattle.bolt_format.specs.Elements.{IsBucketValue};
 ghost use Rattle.bolt_format.specs.ElementPlaces.{leaf_view};

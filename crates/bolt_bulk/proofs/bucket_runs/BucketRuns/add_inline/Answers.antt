@@ -4,7 +4,7 @@ use Rattle.bolt_format.specs.ElementPlaces.{leaf_view}
 use Rattle.bolt_bulk.specs.Private.OpenBuckets.{bucket_runs}
 use Rattle.bolt_bulk.specs.Private.TakenItems.{inline_element}
 use Rattle.bolt_bulk.proofs.BucketLemmas.{on_ok, take_runs}
-use Rattle.bolt_bulk.proofs.open_bucket.OpenBucket.add_inline.Goals as goal
+use Rattle.bolt_bulk.proofs.bucket_runs.BucketRuns.add_inline.Goals as goal
 
 pub returns-clause-runs : goal.returns-clause-runs
 returns-clause-runs g c =

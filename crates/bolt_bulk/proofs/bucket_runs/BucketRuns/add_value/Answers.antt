@@ -3,7 +3,7 @@ use Rattle.std.proofs.Common.{◌+◌, length}
 use Rattle.bolt_bulk.specs.Private.OpenBuckets.{bucket_runs}
 use Rattle.bolt_bulk.specs.Private.TakenItems.{value_element}
 use Rattle.bolt_bulk.proofs.BucketLemmas.{on_ok, take_runs}
-use Rattle.bolt_bulk.proofs.open_bucket.OpenBucket.add_value.Goals as goal
+use Rattle.bolt_bulk.proofs.bucket_runs.BucketRuns.add_value.Goals as goal
 
 pub returns-clause-runs : goal.returns-clause-runs
 returns-clause-runs g c =

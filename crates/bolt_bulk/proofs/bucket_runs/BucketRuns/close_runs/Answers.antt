@@ -5,7 +5,7 @@ use Rattle.bolt_bulk.specs.Private.OpenBuckets.{bucket_runs}
 use Rattle.bolt_bulk.proofs.BucketLemmas.{closed_short, end_large, end_made, end_short}
 use Rattle.bolt_bulk.proofs.PutsLemmas.{puts_first}
 use Rattle.bolt_bulk.proofs.WholePuts.{proper_first}
-use Rattle.bolt_bulk.proofs.open_bucket.OpenBucket.close_runs.Goals as goal
+use Rattle.bolt_bulk.proofs.bucket_runs.BucketRuns.close_runs.Goals as goal
 
 pub close_all-requires-clause-closed : goal.close_all-requires-clause-closed
 close_all-requires-clause-closed g c =

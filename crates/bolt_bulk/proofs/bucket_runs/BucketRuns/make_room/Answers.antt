@@ -5,7 +5,7 @@ use Rattle.bolt_bulk.specs.Private.OpenBuckets.{bucket_runs}
 use Rattle.bolt_bulk.proofs.BucketLemmas.{closed_short, room_large, room_made}
 use Rattle.std.proofs.lemmas.Result.{err_from_is_err_and}
 use Rattle.bolt_bulk.proofs.PutsLemmas.{puts_first}
-use Rattle.bolt_bulk.proofs.open_bucket.OpenBucket.make_room.Goals as goal
+use Rattle.bolt_bulk.proofs.bucket_runs.BucketRuns.make_room.Goals as goal
 
 pub climb-requires-clause-closed : goal.climb-requires-clause-closed
 climb-requires-clause-closed g c =

@@ -7,7 +7,7 @@ use Rattle.bolt_bulk.specs.Private.HeldItems.{inlined_in}
 use Rattle.bolt_bulk.specs.declared.branch_run.BranchRun.{BranchRun}
 use Rattle.bolt_bulk.specs.declared.held.Held.{Held}
 use Rattle.bolt_bulk.proofs.HeldRuns.{IsRun, values_none, values_run, values_view}
-use Rattle.bolt_bulk.proofs.open_bucket.OpenBucket.of_values.Goals as goal
+use Rattle.bolt_bulk.proofs.bucket_runs.BucketRuns.of_values.Goals as goal
 
 pub returns-clause-open : goal.returns-clause-open
 returns-clause-open c =

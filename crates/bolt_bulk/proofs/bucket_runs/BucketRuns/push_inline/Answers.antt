@@ -4,11 +4,11 @@ use Rattle.std.proofs.lemmas.List.{length-append}
 use Rattle.bolt_format.specs.Elements.{LeafElement}
 use Rattle.bolt_format.specs.declared.element.Leaf.{Leaf}
 use Rattle.bolt_bulk.specs.Private.BranchRuns.{runs_above}
-use Rattle.bolt_bulk.specs.Private.RunViews.{BucketRuns}
+use Rattle.bolt_bulk.specs.Private.RunViews.{BucketRunsView}
 use Rattle.bolt_bulk.specs.declared.held.Held.{Held}
 use Rattle.bolt_bulk.specs.declared.held.Stored.TheVariants as stored
 use Rattle.bolt_bulk.proofs.HeldRuns.{IsRun, added_held, added_size, added_views, counted, run_more, run_pushed}
-use Rattle.bolt_bulk.proofs.open_bucket.OpenBucket.push_inline.Goals as goal
+use Rattle.bolt_bulk.proofs.bucket_runs.BucketRuns.push_inline.Goals as goal
 
 pub returns-clause-open : goal.returns-clause-open
 returns-clause-open c =
@@ -41,6 +41,6 @@ returns-clause-runs c = λ before next.
     let behind : c.extend_from_slice.new.self.items ≡ leaves.inlined.items ++ entries = search rules in
     let first : c.len-first.result ≡ length leaves.inlined.items = search rules in
     let items : c.push.new.self.items ≡ leaves.items.items ++ held ∷ [] = search rules in
-    let runs : List LeafElement → BucketRuns = λ elements.
+    let runs : List LeafElement → BucketRunsView = λ elements.
     record { leaves = record { elements = elements; size = leaves.size + (16 + (length c.args.key.now + c.args.size)) }; uppers = runs_above c.args.self.now.uppers.runs.items; limits = c.args.self.now.uppers.limits; next = next } in
     ap runs (added_views leaves.inlined.items entries c.extend_from_slice.new.self.items c.len-first.result c.args.sequence c.args.key.now leaves.items.items c.push.new.self.items held behind first c.requires.open.leaves.held items refl)

@@ -1,7 +1,7 @@
 -- The run has one item more.
 use Rattle.std.proofs.Common.{rules}
 use Rattle.bolt_bulk.proofs.HeldRuns.{item_pushed}
-use Rattle.bolt_bulk.proofs.open_bucket.OpenBucket.push_item.Goals as goal
+use Rattle.bolt_bulk.proofs.bucket_runs.BucketRuns.push_item.Goals as goal
 
 pub returns-clause-open : goal.returns-clause-open
 returns-clause-open c = record {

@@ -6,7 +6,7 @@ use Rattle.std.proofs.lemmas.Result.{err_from_is_err_and}
 use Rattle.bolt_bulk.specs.Private.OpenBuckets.{IsOpenBucket}
 use Rattle.bolt_bulk.specs.declared.fault.BulkFault.TheVariants as fault
 use Rattle.bolt_bulk.specs.Private.WaitingBuckets.{IsWaiting}
-use Rattle.bolt_bulk.specs.declared.open_bucket.OpenBucket.{OpenBucket}
+use Rattle.bolt_bulk.specs.declared.bucket_runs.BucketRuns.{BucketRuns}
 use Rattle.bolt_bulk.specs.declared.waiting_bucket.WaitingBucket.{WaitingBucket}
 use Rattle.bolt_bulk.proofs.HeldPasses.{more_around, waits_more}
 use Rattle.bolt_layout.proofs.ListLemmas.{all_append}
@@ -42,7 +42,7 @@ count-requires g c =
     let ready = c.requires.ready in
     let items : c.push.new.self.items ≡ waiting ++ w ∷ [] = search rules in
     record {
-      bucket = subst (λ (bucket : OpenBucket). IsOpenBucket bucket) (sym c.replace-outer.ensures.after) c.in_ok-inner.ensures.open;
+      bucket = subst (λ (bucket : BucketRuns). IsOpenBucket bucket) (sym c.replace-outer.ensures.after) c.in_ok-inner.ensures.open;
       next = c.in_ok-waiting.ensures.within;
       waiting = subst (λ (ws : List WaitingBucket). AllByRecursion (IsWaiting c.args.self.now.setup.page_size) ws) (sym items)
           (all_append (IsWaiting c.args.self.now.setup.page_size) waiting (w ∷ []) ready.waiting (c.in_ok-waiting.ensures.waits, tt));
