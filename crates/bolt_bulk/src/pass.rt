@@ -147,7 +147,7 @@ impl<'a> Pass<'a> {
         if size <= self.setup.page_size / 4 && self.entries.len() < MAX_ITEMS {
             return self.keep_value(pending, key, value, size);
         }
-        self.open_pending(pending, sink)?;
+        self.open_pending(sink)?;
         self.put_value(key, value, sink)
     }
 
@@ -221,11 +221,7 @@ impl<'a> Pass<'a> {
         ensures steps { (wanted : Wanted) (inside after : Tree) (levels : List Level) (put : List Placed) → IsAt wanted self.old levels (with_bucket key.now sequence inside after) put
             → Steps wanted S.taken S.failed sink.old sink.new self.old.setup put (IsAt wanted self.new (record { key = key.now; after = after } ∷ levels) inside) result }
     {
-        let Some(pending) = self.pending else {
-            self.begin(key, sequence);
-            return Ok(());
-        };
-        self.open_pending(pending, sink)?;
+        self.open_pending(sink)?;
         self.begin(key, sequence);
         Ok(())
     }
@@ -248,15 +244,10 @@ impl<'a> Pass<'a> {
         });
     }
 
-    /// Opens the pending bucket with its entries so far, as it turns out to have a root page. The
-    /// bucket around it waits.
-    fn open_pending<S: Sink>(
-        &mut self,
-        pending: PendingBucket<'a>,
-        sink: &mut S,
-    ) -> Result<(), BulkFault>
-        requires ready { IsReady self.old }
-        requires pending { self.old.pending ≡ Some pending }
+    /// Opens the pending bucket, if there is one, with its entries so far, as it turns out to have
+    /// a root page. The bucket around it waits.
+    fn open_pending<S: Sink>(&mut self, sink: &mut S) -> Result<(), BulkFault>
+        requires { IsReady self.old }
         ensures setup { OnOk result (self.new.setup ≡ self.old.setup) }
         ensures ready { OnOk result (IsReady self.new) }
         ensures depth { OnOk result (depth_of self.new ≡ depth_of self.old) }
@@ -265,6 +256,9 @@ impl<'a> Pass<'a> {
             → HasRoot wanted.which self.old.setup.page_size (onto (map leaf_view self.old.entries.items) left)
             → Steps wanted S.taken S.failed sink.old sink.new self.old.setup put (IsAt wanted self.new levels left) result }
     {
+        let Some(pending) = self.pending else {
+            return Ok(());
+        };
         let limits = BucketLimits {
             all: self.limits,
             bucket: self.opened,

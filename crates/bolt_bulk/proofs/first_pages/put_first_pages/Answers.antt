@@ -1,7 +1,6 @@
 -- The first meta, the second, and then the freelist.
-use Rattle.std.proofs.Common.{◌∙◌, ap, arith}
+use Rattle.std.proofs.Common.{◌∙◌, ap}
 use Rattle.bolt_format.specs.Written.{meta_bytes}
-use Rattle.bolt_format.proofs.PageSizes.{size_bounds}
 use Rattle.bolt_layout.specs.PageBytes.{filled}
 use Rattle.bolt_bulk.proofs.FirstPuts.{first_pieces}
 use Rattle.bolt_bulk.proofs.WholePuts.{whole_same, whole_stop, whole_then}
