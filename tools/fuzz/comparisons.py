@@ -3,7 +3,7 @@
 import os
 
 from answers import entries_of, info_of, read, shown_tree
-from copies import compare_beginnings, compare_copy, compare_slot
+from copies import compare_prefixes, compare_copy, compare_slot
 from daily import compare_daily
 from findings import ACCOUNT_FAULTS, compare_accounts, compare_bad_page, findings_of
 from listings import compare_keys, compare_missing, compare_order, compare_rests, compare_values
@@ -32,7 +32,7 @@ def compare_sound(file):
     kinds = compare_pages(file, info, os.path.getsize(file.path))
     compare_figures(file, info, entries, kinds, tree)
     compare_copy(file, listing)
-    compare_beginnings(file, os.path.join(file.folder, "copy.db"))
+    compare_prefixes(file, os.path.join(file.folder, "copy.db"))
     compare_snapshot(file, listing)
     for slot in (0, 1):
         listed = compare_slot(file, slot)

@@ -41,7 +41,7 @@ def compare_copied(file, *copies):
         want("free" not in kinds, "a copy has a free page")
 
 
-def compare_beginnings(file, copy):
+def compare_prefixes(file, copy):
     """No proper prefix of a copy is accepted."""
     whole = read(copy)
     root = info_of(File(file.program, file.draw, copy, file.folder))["root"]

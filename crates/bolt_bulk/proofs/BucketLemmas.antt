@@ -3,7 +3,7 @@ use Rattle.std.proofs.Common.{◌≡◌, ◌≢◌, ◌∙◌, ℕ, ◌+◌, ◌
 use Rattle.std.proofs.lemmas.Bool.{leb-true, ltb-true}
 use Rattle.std.proofs.lemmas.List.{length-map}
 use Rattle.bolt_format.specs.Elements.{BranchElement, LeafElement}
-use Rattle.bolt_format.specs.Sinks.{AppendsProperBeginning}
+use Rattle.bolt_format.specs.Sinks.{AppendsProperPrefix}
 use Rattle.bolt_format.specs.declared.element.Leaf.{Leaf}
 use Rattle.bolt_layout.specs.Cut.{max_items}
 use Rattle.bolt_layout.specs.Laid.{Placed}
@@ -92,15 +92,15 @@ pub end_made : {S A B : Type 0} {taken : S → Option (List ℕ)} {failed : S �
 end_made page_size runs old mid new closed after x result same number one two =
     puts_same old new _ _ result (end_text page_size runs closed after same number) (puts_then old mid new _ _ x result one two)
 
-on_err_same : {A E : Type 0} (old new : Option (List ℕ)) (text same : List ℕ) (r : Result A E) → text ≡ same → OnErr r (AppendsProperBeginning old new text) → OnErr r (AppendsProperBeginning old new same)
+on_err_same : {A E : Type 0} (old new : Option (List ℕ)) (text same : List ℕ) (r : Result A E) → text ≡ same → OnErr r (AppendsProperPrefix old new text) → OnErr r (AppendsProperPrefix old new same)
 on_err_same old new text same (Ok x) e a = tt
 on_err_same old new text same (Err x) e a = proper_same old new text same e a
 
 pub end_short : {S A B : Type 0} {taken : S → Option (List ℕ)} {failed : S → ℕ} (page_size : ℕ) (runs : BucketRunsView) (old mid new : S) (closed : BranchElement) (after : ℕ) (x : A) (result : Result B BulkFault)
     → closed ≡ leaf_closed runs.leaves runs.next → after ≡ runs.next + (1 + overflow_of page_size runs.leaves.size)
     → Puts taken failed old mid (page_bytes page_size runs.next (leaf_page page_size runs.leaves runs.next).view) (Ok x)
-    → OnErr result (AppendsProperBeginning (taken mid) (taken new) (placed_bytes page_size (runs_close_put page_size closed after runs.uppers)))
-    → OnErr result (AppendsProperBeginning (taken old) (taken new) (placed_bytes page_size (runs_end_put page_size runs)))
+    → OnErr result (AppendsProperPrefix (taken mid) (taken new) (placed_bytes page_size (runs_close_put page_size closed after runs.uppers)))
+    → OnErr result (AppendsProperPrefix (taken old) (taken new) (placed_bytes page_size (runs_end_put page_size runs)))
 end_short {taken = taken} page_size runs old mid new closed after x result same number one two =
     on_err_same (taken old) (taken new) _ _ result (end_text page_size runs closed after same number) (short_then old mid new _ _ x result one two)
 

@@ -2,7 +2,7 @@
 use Rattle.std.proofs.Common.{◌≡◌, ◌∙◌, ℕ, ◌+◌, ◌<◌, ◌≤◌, List, [], ◌∷◌, ◌++◌, drop, set, Option, Ok, Err, sym, ap, subst, arith}
 use Rattle.std.proofs.lemmas.List.{drop-set-lt}
 use Rattle.bolt_format.specs.Elements.{BranchElement}
-use Rattle.bolt_format.specs.Sinks.{AppendsProperBeginning}
+use Rattle.bolt_format.specs.Sinks.{AppendsProperPrefix}
 use Rattle.bolt_layout.specs.Levels.{overflow_of}
 use Rattle.bolt_layout.specs.Layout.{placed_bytes}
 use Rattle.bolt_bulk.specs.Private.BranchRuns.{element_up, runs_end_next}
@@ -55,8 +55,8 @@ close_stops page_size e0 n0 runs0 old mid new runs i e next run fault at c one =
 -- and it leaves something out
 pub close_short : {S : Type 0} {taken : S → Option (List ℕ)} {failed : S → ℕ} (page_size : ℕ) (e0 : BranchElement) (n0 : ℕ) (runs0 : List RunView) (old mid new : S) (runs : List RunView) (i : ℕ)
     (e : BranchElement) (next : ℕ) (run : RunView) → drop i runs ≡ run ∷ drop (i + 1) runs
-    → Closing page_size e0 n0 runs0 taken failed old mid runs i e next → AppendsProperBeginning (taken mid) (taken new) (placed_bytes page_size (run_page page_size (run_push run e) next ∷ []))
-    → AppendsProperBeginning (taken old) (taken new) (placed_bytes page_size (runs_close_put page_size e0 n0 runs0))
+    → Closing page_size e0 n0 runs0 taken failed old mid runs i e next → AppendsProperPrefix (taken mid) (taken new) (placed_bytes page_size (run_page page_size (run_push run e) next ∷ []))
+    → AppendsProperPrefix (taken old) (taken new) (placed_bytes page_size (runs_close_put page_size e0 n0 runs0))
 close_short page_size e0 n0 runs0 old mid new runs i e next run at c one =
     short_stop old mid new _ (placed_bytes page_size (run_page page_size (run_push run e) next ∷ [])) _ _ (close_left page_size e next run (drop (i + 1) runs) (drop i runs) at) c.front one
 

@@ -2,7 +2,7 @@
 use Rattle.std.proofs.Common.{◌≡◌, ◌≢◌, ◌∙◌, ℕ, [], Result, ◌≤◌, ◌<◌, List, ◌++◌, length, Option, Ok, Err, refl, sym, ap, subst, arith, append_assoc}
 use Rattle.std.proofs.KnownBytes.{Appends-trans, Keeps-refl}
 use Rattle.std.specs.Io.KnownBytes.{Appends}
-use Rattle.bolt_format.specs.Sinks.{AppendsProperBeginning}
+use Rattle.bolt_format.specs.Sinks.{AppendsProperPrefix}
 use Rattle.bolt_tree.specs.Tree.{Tree}
 use Rattle.bolt_bulk.specs.Compacting.{Copies, too_many}
 use Rattle.bolt_layout.specs.Laid.{Placed}
@@ -92,7 +92,7 @@ module _ {S : Type 0} (taken : S → Option (List ℕ)) (failed : S → ℕ) (ol
   }
 
   pub stops_later : {A B E : Type 0} (mid : S) (x : A) (e : BulkFault) → PutsWhole {A = A} {E = E} taken failed old mid first (Ok x) → Puts {A = B} taken failed mid new pages (Err e)
-      → AppendsProperBeginning (taken mid) (taken new) pages → (e ≡ bulk.TooLarge → too_many ≤ length layout) → Copies taken failed old new layout (Err e)
+      → AppendsProperPrefix (taken mid) (taken new) pages → (e ≡ bulk.TooLarge → too_many ≤ length layout) → Copies taken failed old new layout (Err e)
   stops_later mid x e one two short large = record {
     all = tt;
     bytes = tt;

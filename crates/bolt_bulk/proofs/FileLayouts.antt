@@ -8,7 +8,7 @@ use Rattle.bolt_format.specs.Metas.{IsPageSize}
 use Rattle.bolt_tree.specs.Listing.{Member}
 use Rattle.bolt_tree.specs.Tree.{Tree, listing_of, tree_of}
 use Rattle.bolt_bulk.specs.Compacting.{too_many}
-use Rattle.bolt_layout.specs.Copies.{IsAsked, IsOfOneTree, IsSoundCopy, RefusesBeginnings, layout_of_listing}
+use Rattle.bolt_layout.specs.Copies.{IsAsked, IsOfOneTree, IsSoundCopy, RefusesPrefixes, layout_of_listing}
 use Rattle.bolt_layout.specs.Layout.{layout_held, layout_mark, layout_of, layout_root}
 use Rattle.bolt_bulk.specs.Private.Endings.{IsFitMember}
 use Rattle.bolt_layout.specs.Storable.{IsStorable}
@@ -31,9 +31,9 @@ abbrev pub CopiesListTheSame : Type 0
 CopiesListTheSame = (which : Layout) (listing : List Member) (page_size : ℕ) (sequence : ℕ) → IsOfOneTree listing → IsPageSize page_size → sequence < 2 ^ 64
     → length (layout_of_listing which page_size listing sequence) < 2 ^ 63 → IsSoundCopy which page_size (tree_of listing) sequence listing
 
-abbrev pub BeginningsAreRefused : Type 0
-BeginningsAreRefused = (which : Layout) (page_size : ℕ) (tree : Tree) (sequence : ℕ) → IsAsked page_size tree sequence → length (layout_of which page_size tree sequence) < 2 ^ 63
-    → RefusesBeginnings (layout_of which page_size tree sequence) (layout_root which page_size tree)
+abbrev pub PrefixesAreRefused : Type 0
+PrefixesAreRefused = (which : Layout) (page_size : ℕ) (tree : Tree) (sequence : ℕ) → IsAsked page_size tree sequence → length (layout_of which page_size tree sequence) < 2 ^ 63
+    → RefusesPrefixes (layout_of which page_size tree sequence) (layout_root which page_size tree)
 
 -- What the laws say of a listing of one tree holds where it is only known to be one.
 module _ (page_size sequence : ℕ) (size : IsPageSize page_size) where
@@ -49,8 +49,8 @@ module _ (page_size sequence : ℕ) (size : IsPageSize page_size) where
       → layout_held which page_size (tree_of listing) ≤ length (layout_of_listing which page_size listing sequence)
   holds_few few which listing one short = ∥∥₁_elim one (Prim.hlevel props) (λ is. few which page_size (tree_of listing) sequence size is.storable short)
 
-  pub refused : BeginningsAreRefused → sequence < 2 ^ 64 → (which : Layout) (listing : List Member) → ∥ IsOfOneTree listing ∥₁ → length (layout_of_listing which page_size listing sequence) < too_many
-      → ∥ RefusesBeginnings (layout_of_listing which page_size listing sequence) (layout_root which page_size (tree_of listing)) ∥₁
+  pub refused : PrefixesAreRefused → sequence < 2 ^ 64 → (which : Layout) (listing : List Member) → ∥ IsOfOneTree listing ∥₁ → length (layout_of_listing which page_size listing sequence) < too_many
+      → ∥ RefusesPrefixes (layout_of_listing which page_size listing sequence) (layout_root which page_size (tree_of listing)) ∥₁
   refused law fits which listing one short =
       ∥∥₁_map one (λ is. law which page_size (tree_of listing) sequence (record { size = size; storable = is.storable; sequence_fits = fits }) short)
 

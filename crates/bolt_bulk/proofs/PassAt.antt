@@ -7,7 +7,7 @@ use Rattle.std.proofs.lemmas.List.{append-nil, length-map, map-append, reverse-a
 use Rattle.bolt_format.specs.ElementPlaces.{leaf_view}
 use Rattle.bolt_format.specs.Elements.{LeafElement}
 use Rattle.bolt_format.specs.declared.element.Leaf.{Leaf}
-use Rattle.bolt_format.proofs.SinkLemmas.{AppendsBeginning-none, AppendsBeginning-whole}
+use Rattle.bolt_format.proofs.SinkLemmas.{AppendsPrefix-none, AppendsPrefix-whole}
 use Rattle.bolt_tree.specs.Tree.{Tree, end, with_bucket, with_value}
 use Rattle.bolt_layout.specs.Items.{items_of, leaf_item, root_of}
 use Rattle.bolt_layout.specs.Laid.{Laid, Placed}
@@ -66,25 +66,25 @@ if_err_map (Err e) p f = f e p
 -- nothing is written, and a fault other than Sink is returned
 pub puts_none : {S A : Type 0} {taken : S → Option (List ℕ)} {failed : S → ℕ} (old : S) (result : Result A BulkFault) → IfErr result (λ e. e ≡ fault.Sink → ⊥)
     → Puts taken failed old old [] result
-puts_none {taken} {failed} old (Ok x) other = record { all = Appends-nil (taken old); sound = refl; beginning = tt; failure = tt; other = tt }
-puts_none {taken} {failed} old (Err e) other = record { all = tt; sound = tt; beginning = AppendsBeginning-none (taken old) []; failure = λ s. absurd (other s); other = λ _. refl }
+puts_none {taken} {failed} old (Ok x) other = record { all = Appends-nil (taken old); sound = refl; prefix = tt; failure = tt; other = tt }
+puts_none {taken} {failed} old (Err e) other = record { all = tt; sound = tt; prefix = AppendsPrefix-none (taken old) []; failure = λ s. absurd (other s); other = λ _. refl }
 
 -- what was written well, if memory then runs out
 pub puts_failed : {S A B : Type 0} {taken : S → Option (List ℕ)} {failed : S → ℕ} (old new : S) (text : List ℕ) (x : A) → Puts taken failed old new text (Ok x) → Puts {A = B} taken failed old new text (Err fault.Memory)
 puts_failed {taken} {failed} old new text x a = record {
   all = tt;
   sound = tt;
-  beginning = AppendsBeginning-whole (taken old) (taken new) text a.all;
+  prefix = AppendsPrefix-whole (taken old) (taken new) text a.all;
   failure = λ s. absurd cc;
   other = λ _. a.sound;
 }
 
 -- the same of a call that returns nothing
 pub puts_well : {S A : Type 0} {taken : S → Option (List ℕ)} {failed : S → ℕ} (old new : S) (text : List ℕ) (x : A) → Puts taken failed old new text (Ok x) → Puts {A = ⊤} taken failed old new text (Ok tt)
-puts_well old new text x a = record { all = a.all; sound = a.sound; beginning = tt; failure = tt; other = tt }
+puts_well old new text x a = record { all = a.all; sound = a.sound; prefix = tt; failure = tt; other = tt }
 
 pub puts_fault : {S A B : Type 0} {taken : S → Option (List ℕ)} {failed : S → ℕ} (old new : S) (text : List ℕ) (e : BulkFault) → Puts {A = A} taken failed old new text (Err e) → Puts {A = B} taken failed old new text (Err e)
-puts_fault old new text e a = record { all = tt; sound = tt; beginning = a.beginning; failure = a.failure; other = a.other }
+puts_fault old new text e a = record { all = tt; sound = tt; prefix = a.prefix; failure = a.failure; other = a.other }
 
 -- ---- one step after another
 
@@ -110,7 +110,7 @@ module _ {S : Type 0} (wanted : Wanted) (taken : S → Option (List ℕ)) (faile
   steps_stop old new put Mid At e (Ok x) same one = absurd same
   steps_stop old new put Mid At e (Err f) same one = rw same (record {
     more = one.more;
-    puts = record { all = tt; sound = tt; beginning = one.puts.beginning; failure = one.puts.failure; other = one.puts.other };
+    puts = record { all = tt; sound = tt; prefix = one.puts.prefix; failure = one.puts.failure; other = one.puts.other };
     at = tt;
     before = one.before;
     large = one.large;

@@ -5,7 +5,7 @@ use Rattle.std.specs.List.{AllByRecursion}
 use Rattle.std.proofs.lemmas.List.{length-append}
 use Rattle.bolt_check.specs.Keys.{Key}
 use Rattle.bolt_format.specs.Elements.{BranchElement}
-use Rattle.bolt_format.specs.Sinks.{AppendsBeginning, AppendsProperBeginning}
+use Rattle.bolt_format.specs.Sinks.{AppendsPrefix, AppendsProperPrefix}
 use Rattle.bolt_tree.specs.Entries.{Bucket, Value}
 use Rattle.bolt_tree.specs.Listing.{Member}
 use Rattle.bolt_tree.specs.Paths.{Path}
@@ -217,7 +217,7 @@ some_more : (xs ys : List ℕ) → ys ≢ [] → (xs ++ ys) ≢ []
 some_more [] ys some = some
 some_more (x ∷ xs) ys some = λ e. cc
 
-proper_more : (old new : Option (List ℕ)) (first second : List ℕ) → AppendsBeginning old new first → second ≢ [] → AppendsProperBeginning old new (first ++ second)
+proper_more : (old new : Option (List ℕ)) (first second : List ℕ) → AppendsPrefix old new first → second ≢ [] → AppendsProperPrefix old new (first ++ second)
 proper_more old new first second a some = record {
   front = a.front;
   rest = a.rest ++ second;
@@ -242,8 +242,8 @@ module _ {S : Type 0} (wanted : Wanted) (taken : S → Option (List ℕ)) (faile
         others = others;
         all = steps.before.parts ∙ append_assoc put steps.more steps.before.rest;
         puts = subst (λ (bs : List ℕ). Puts {A = Ended} taken failed old new bs (Err e)) (sym bytes) (puts_first old new (placed_bytes P steps.more) (placed_bytes P steps.before.rest) e steps.puts);
-        short = subst (λ (bs : List ℕ). AppendsProperBeginning (taken old) (taken new) bs) (sym bytes)
-            (proper_more (taken old) (taken new) (placed_bytes P steps.more) (placed_bytes P steps.before.rest) steps.puts.beginning (rest_some P steps.before.rest steps.before.some));
+        short = subst (λ (bs : List ℕ). AppendsProperPrefix (taken old) (taken new) bs) (sym bytes)
+            (proper_more (taken old) (taken new) (placed_bytes P steps.more) (placed_bytes P steps.before.rest) steps.puts.prefix (rest_some P steps.before.rest steps.before.some));
         root = tt;
         mark = tt;
         within = tt;
@@ -264,7 +264,7 @@ module _ {S : Type 0} (wanted : Wanted) (taken : S → Option (List ℕ)) (faile
         others = others;
         all = then.all ∙ append_assoc put one.more then.others;
         puts = subst (λ (bs : List ℕ). Puts taken failed old new bs result) (sym bytes) (puts_then old mid new (placed_bytes P one.more) (placed_bytes P then.others) x result one.puts then.puts);
-        short = subst (λ (bs : List ℕ). OnErr result (AppendsProperBeginning (taken old) (taken new) bs)) (sym bytes)
+        short = subst (λ (bs : List ℕ). OnErr result (AppendsProperPrefix (taken old) (taken new) bs)) (sym bytes)
             (short_then old mid new (placed_bytes P one.more) (placed_bytes P then.others) x result one.puts then.short);
         root = then.root;
         mark = then.mark;

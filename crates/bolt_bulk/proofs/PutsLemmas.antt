@@ -4,9 +4,9 @@ use Rattle.std.specs.Prelude.{⊤}
 use Rattle.std.specs.Io.KnownBytes.{Appends}
 use Rattle.std.proofs.KnownBytes.{Appends-nil, Appends-trans}
 use Rattle.std.proofs.lemmas.List.{length-append}
-use Rattle.bolt_format.proofs.SinkLemmas.{AppendsBeginning-first, AppendsBeginning-second}
+use Rattle.bolt_format.proofs.SinkLemmas.{AppendsPrefix-first, AppendsPrefix-second}
 use Rattle.bolt_format.specs.Pages.{PageView}
-use Rattle.bolt_format.specs.Sinks.{AppendsProperBeginning}
+use Rattle.bolt_format.specs.Sinks.{AppendsProperPrefix}
 use Rattle.bolt_format.specs.declared.kind.Kind.{Kind}
 use Rattle.bolt_format.specs.declared.kind.Kind.TheVariants as kind
 use Rattle.bolt_layout.specs.Laid.{Placed}
@@ -20,11 +20,11 @@ use Rattle.bolt_bulk.specs.declared.fault.BulkFault.TheVariants as fault
 use Rattle.bolt_format.proofs.WrittenHeaders.{length-header_bytes}
 
 -- Nothing is a proper prefix of a text that has any bytes.
-pub proper_none : (old : Option (List ℕ)) (text : List ℕ) → text ≢ [] → AppendsProperBeginning old old text
+pub proper_none : (old : Option (List ℕ)) (text : List ℕ) → text ≢ [] → AppendsProperPrefix old old text
 proper_none old text some = record { front = []; rest = text; parts = refl; short = some; taken = Appends-nil old }
 
-pub proper_same : (old new : Option (List ℕ)) (text same : List ℕ) → text ≡ same → AppendsProperBeginning old new text → AppendsProperBeginning old new same
-proper_same old new text same e a = subst (λ (l : List ℕ). AppendsProperBeginning old new l) e a
+pub proper_same : (old new : Option (List ℕ)) (text same : List ℕ) → text ≡ same → AppendsProperPrefix old new text → AppendsProperPrefix old new same
+proper_same old new text same e a = subst (λ (l : List ℕ). AppendsProperPrefix old new l) e a
 
 -- a page has a header
 content_some : (kind : Kind) (number : ℕ) (view : PageView) → 16 ≤ length (content_bytes kind number view)
@@ -71,7 +71,7 @@ memory_apart e = cc
 -- if memory runs out, nothing is written
 pub puts_none : {S A : Type 0} {taken : S → Option (List ℕ)} {failed : S → ℕ} (old : S) (text : List ℕ) (result : Result A BulkFault) → result ≡ Err fault.Memory → Puts taken failed old old text result
 puts_none {A = A} {taken = taken} {failed = failed} old text result is = subst (λ (r : Result A BulkFault). Puts taken failed old old text r) (sym is)
-    (record { all = tt; sound = tt; beginning = record { front = []; rest = text; parts = refl; taken = Appends-nil (taken old) }; failure = λ same. absurd (memory_apart same); other = λ _. refl })
+    (record { all = tt; sound = tt; prefix = record { front = []; rest = text; parts = refl; taken = Appends-nil (taken old) }; failure = λ same. absurd (memory_apart same); other = λ _. refl })
 
 -- a text and then another
 pub puts_then : {S A B : Type 0} {taken : S → Option (List ℕ)} {failed : S → ℕ} (old mid new : S) (first second : List ℕ) (x : A) (result : Result B BulkFault)
@@ -79,14 +79,14 @@ pub puts_then : {S A B : Type 0} {taken : S → Option (List ℕ)} {failed : S �
 puts_then {taken = taken} {failed = failed} old mid new first second x (Ok y) a b = record {
   all = Appends-trans (taken old) (taken mid) (taken new) first second a.all b.all;
   sound = b.sound ∙ a.sound;
-  beginning = tt;
+  prefix = tt;
   failure = tt;
   other = tt;
 }
 puts_then {taken = taken} {failed = failed} old mid new first second x (Err e) a b = record {
   all = tt;
   sound = tt;
-  beginning = AppendsBeginning-second (taken old) (taken mid) (taken new) first second a.all b.beginning;
+  prefix = AppendsPrefix-second (taken old) (taken mid) (taken new) first second a.all b.prefix;
   failure = b.failure;
   other = λ no. b.other no ∙ a.sound;
 }
@@ -96,7 +96,7 @@ pub puts_first : {S A B : Type 0} {taken : S → Option (List ℕ)} {failed : S 
 puts_first {taken = taken} old new first second e a = record {
   all = tt;
   sound = tt;
-  beginning = AppendsBeginning-first (taken old) (taken new) first second a.beginning;
+  prefix = AppendsPrefix-first (taken old) (taken new) first second a.prefix;
   failure = a.failure;
   other = a.other;
 }
@@ -108,7 +108,7 @@ after_error P (Err e) p = p
 
 -- if the second call leaves something out, so do both
 pub short_then : {S A B : Type 0} {taken : S → Option (List ℕ)} {failed : S → ℕ} (old mid new : S) (first second : List ℕ) (x : A) (result : Result B BulkFault)
-    → Puts taken failed old mid first (Ok x) → OnErr result (AppendsProperBeginning (taken mid) (taken new) second) → OnErr result (AppendsProperBeginning (taken old) (taken new) (first ++ second))
+    → Puts taken failed old mid first (Ok x) → OnErr result (AppendsProperPrefix (taken mid) (taken new) second) → OnErr result (AppendsProperPrefix (taken old) (taken new) (first ++ second))
 short_then old mid new first second x (Ok y) a b = tt
 short_then {taken = taken} old mid new first second x (Err e) a b = proper_second (taken old) (taken mid) (taken new) first second a.all b
 
@@ -137,11 +137,11 @@ pub puts_stop : {S A B : Type 0} {taken : S → Option (List ℕ)} {failed : S �
     → PutsFront taken failed old mid whole left → Puts {A = A} taken failed mid new piece (Err e) → Puts {A = B} taken failed old new whole (Err e)
 puts_stop {taken = taken} {failed = failed} old mid new whole piece rest left e same before one =
     puts_same old new (before.front ++ left) whole (Err e) (sym before.parts)
-    (puts_then {A = ⊤} old mid new before.front left tt (Err e) (record { all = before.all; sound = before.sound; beginning = tt; failure = tt; other = tt })
+    (puts_then {A = ⊤} old mid new before.front left tt (Err e) (record { all = before.all; sound = before.sound; prefix = tt; failure = tt; other = tt })
     (puts_same mid new (piece ++ rest) left (Err e) (sym same) (puts_first mid new piece rest e one)))
 
 pub short_stop : {S : Type 0} {taken : S → Option (List ℕ)} {failed : S → ℕ} (old mid new : S) (whole piece rest left : List ℕ) → left ≡ piece ++ rest
-    → PutsFront taken failed old mid whole left → AppendsProperBeginning (taken mid) (taken new) piece → AppendsProperBeginning (taken old) (taken new) whole
+    → PutsFront taken failed old mid whole left → AppendsProperPrefix (taken mid) (taken new) piece → AppendsProperPrefix (taken old) (taken new) whole
 short_stop {taken = taken} old mid new whole piece rest left same before one =
     proper_same (taken old) (taken new) (before.front ++ left) whole (sym before.parts)
     (proper_second (taken old) (taken mid) (taken new) before.front left before.all
@@ -151,4 +151,4 @@ short_stop {taken = taken} old mid new whole piece rest left same before one =
 pub puts_whole : {S A : Type 0} {taken : S → Option (List ℕ)} {failed : S → ℕ} (old new : S) (whole rest : List ℕ) (x : A) → rest ≡ [] → PutsFront taken failed old new whole rest → Puts taken failed old new whole (Ok x)
 puts_whole {taken = taken} {failed = failed} old new whole rest x none before =
     puts_same old new before.front whole (Ok x) (sym (before.parts ∙ (ap (λ (xs : List ℕ). before.front ++ xs) none ∙ append-nil before.front)))
-    (record { all = before.all; sound = before.sound; beginning = tt; failure = tt; other = tt })
+    (record { all = before.all; sound = before.sound; prefix = tt; failure = tt; other = tt })

@@ -3,7 +3,7 @@ use Rattle.std.proofs.Common.{◌≡◌, ◌∙◌, ℕ, List, [], ◌∷◌, �
 use Rattle.std.specs.Prelude.{◌≢◌, ⊤, IsErr}
 use Rattle.std.specs.Io.KnownBytes.{Appends}
 use Rattle.std.proofs.KnownBytes.{Appends-nil, Appends-trans}
-use Rattle.bolt_format.specs.Sinks.{AppendsProperBeginning}
+use Rattle.bolt_format.specs.Sinks.{AppendsProperPrefix}
 use Rattle.bolt_bulk.specs.Puts.{PutsWhole}
 
 pub more_some : (xs ys : List ℕ) → xs ≢ [] → xs ++ ys ≢ []
@@ -11,7 +11,7 @@ more_some [] ys some none = some refl
 more_some (x ∷ xs) ys some none = absurd (cc)
 
 -- a proper prefix of the first text is one of both
-pub proper_first : (old new : Option (List ℕ)) (first second : List ℕ) → AppendsProperBeginning old new first → AppendsProperBeginning old new (first ++ second)
+pub proper_first : (old new : Option (List ℕ)) (first second : List ℕ) → AppendsProperPrefix old new first → AppendsProperPrefix old new (first ++ second)
 proper_first old new first second begun = record {
   front = begun.front;
   rest = begun.rest ++ second;
@@ -21,8 +21,8 @@ proper_first old new first second begun = record {
 }
 
 -- and so is the whole first text with a proper prefix of the second
-pub proper_second : (old mid new : Option (List ℕ)) (first second : List ℕ) → Appends old mid first → AppendsProperBeginning mid new second
-    → AppendsProperBeginning old new (first ++ second)
+pub proper_second : (old mid new : Option (List ℕ)) (first second : List ℕ) → Appends old mid first → AppendsProperPrefix mid new second
+    → AppendsProperPrefix old new (first ++ second)
 proper_second old mid new first second taken begun = record {
   front = first ++ begun.front;
   rest = begun.rest;

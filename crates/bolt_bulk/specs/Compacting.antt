@@ -2,7 +2,7 @@
 -- The layout is that of the listing of the file, at the page size asked for, with the sequence of the file's root bucket.
 use Rattle.std.specs.Prelude.{◌≡◌, ◌<◌, ◌≤◌, ◌^◌, ℕ, List, length, Option, Result, IfErr, IfOk, IsErr, OnErr, OnOk}
 use Rattle.std.specs.Io.KnownBytes.{Appends, Keeps}
-use Rattle.bolt_format.specs.Sinks.{AppendsProperBeginning}
+use Rattle.bolt_format.specs.Sinks.{AppendsProperPrefix}
 use Rattle.bolt_check.specs.CheckedFiles.{meta_of}
 use Rattle.bolt_check.specs.declared.checked_file.Checked.{Checked}
 use Rattle.bolt_tree.specs.Listing.{Member}
@@ -46,7 +46,7 @@ pub record Copies {S : Type 0} (taken : S → Option (List ℕ)) (failed : S →
   pub all : OnOk result (Appends (taken old) (taken new) layout)
   pub bytes : IfOk result (λ done. done.bytes ≡ length layout)
   pub sound : OnOk result (failed new ≡ failed old)
-  pub short : OnErr result (AppendsProperBeginning (taken old) (taken new) layout)
+  pub short : OnErr result (AppendsProperPrefix (taken old) (taken new) layout)
   pub failure : IfErr result (λ fault. fault ≡ bulk.Sink → 0 < failed new)
   pub other : IfErr result (λ fault. (fault ≡ bulk.Sink → ⊥) → failed new ≡ failed old)
   pub large : IfErr result (λ fault. fault ≡ bulk.TooLarge → too_many ≤ length layout)

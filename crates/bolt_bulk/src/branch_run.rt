@@ -1,7 +1,7 @@
 //! An open run of pages above a bucket's leaves.
 ghost use Rattle.std.specs.Prelude.{◌≡◌, ◌+◌, ◌<◌, ◌≤◌, true, false, [], ◌∷◌, IfErr, IfOk, OnErr, OnOk, length, option_map};
 ghost use Rattle.bolt_format.specs.ElementPlaces.{branch_view};
-ghost use Rattle.bolt_format.specs.Sinks.{AppendsProperBeginning};
+ghost use Rattle.bolt_format.specs.Sinks.{AppendsProperPrefix};
 ghost use Rattle.bolt_layout.specs.Layout.{placed_bytes};
 ghost use Rattle.bolt_layout.specs.Levels.{overflow_of};
 ghost use Rattle.bolt_bulk.specs.Private.FormatLimits.{longest_key};
@@ -125,7 +125,7 @@ impl<'a> BranchRun<'a> {
         requires closed { length closed.key.now ≤ longest_key }
         requires next { next.old ≤ setup.now.limit }
         ensures pages { Puts S.taken S.failed sink.old sink.new (placed_bytes setup.now.page_size (run_page setup.now.page_size (run_push (run_view self.old) (branch_view closed.entry)) next.old ∷ [])) result }
-        ensures short { OnErr result (AppendsProperBeginning (S.taken sink.old) (S.taken sink.new) (placed_bytes setup.now.page_size (run_page setup.now.page_size (run_push (run_view self.old) (branch_view closed.entry)) next.old ∷ []))) }
+        ensures short { OnErr result (AppendsProperPrefix (S.taken sink.old) (S.taken sink.new) (placed_bytes setup.now.page_size (run_page setup.now.page_size (run_push (run_view self.old) (branch_view closed.entry)) next.old ∷ []))) }
         ensures up { IfOk result (λ up. branch_view up ≡ element_up (branch_view closed.entry) next.old (run_view self.old)) }
         ensures standing { OnOk result (IsStanding (run_view self.new)) }
         ensures next { OnOk result (next.new ≡ next.old + (1 + overflow_of setup.now.page_size (run_push (run_view self.old) (branch_view closed.entry)).size)) }
@@ -146,7 +146,7 @@ impl<'a> BranchRun<'a> {
         requires pushed { IsPushed (run_view self.old) }
         requires next { next.old ≤ setup.now.limit }
         ensures pages { Puts S.taken S.failed sink.old sink.new (placed_bytes setup.now.page_size (run_page setup.now.page_size (run_view self.old) next.old ∷ [])) result }
-        ensures short { OnErr result (AppendsProperBeginning (S.taken sink.old) (S.taken sink.new) (placed_bytes setup.now.page_size (run_page setup.now.page_size (run_view self.old) next.old ∷ []))) }
+        ensures short { OnErr result (AppendsProperPrefix (S.taken sink.old) (S.taken sink.new) (placed_bytes setup.now.page_size (run_page setup.now.page_size (run_view self.old) next.old ∷ []))) }
         ensures up { IfOk result (λ up. branch_view up ≡ own_element (run_view self.old) next.old) }
         ensures run { OnOk result (run_view self.new ≡ no_run (one_less self.old.left) (one_closed self.old.closed)) }
         ensures next { OnOk result (next.new ≡ next.old + (1 + overflow_of setup.now.page_size self.old.size)) }

@@ -3,7 +3,7 @@ ghost use Rattle.std.specs.Prelude.{◌≡◌, ◌+◌, ◌<◌, ◌≤◌, true
 ghost use Rattle.std.specs.List.{AllByRecursion};
 ghost use Rattle.bolt_format.specs.ElementLengths.{IsValueLength};
 ghost use Rattle.bolt_format.specs.ElementPlaces.{leaf_view};
-ghost use Rattle.bolt_format.specs.Sinks.{AppendsProperBeginning};
+ghost use Rattle.bolt_format.specs.Sinks.{AppendsProperPrefix};
 ghost use Rattle.bolt_format.specs.declared.element.Leaf.{Leaf};
 ghost use Rattle.bolt_layout.specs.Layout.{placed_bytes};
 ghost use Rattle.bolt_bulk.specs.Private.FormatLimits.{length_end, longest_key};
@@ -295,7 +295,7 @@ impl<'a> BucketRuns<'a> {
         requires open { IsOpenBucket self.old }
         requires next { next.old ≤ setup.now.limit }
         ensures pages { Puts S.taken S.failed sink.old sink.new (placed_bytes setup.now.page_size (runs_end_put setup.now.page_size (bucket_runs self.old next.old))) result }
-        ensures short { OnErr result (AppendsProperBeginning (S.taken sink.old) (S.taken sink.new) (placed_bytes setup.now.page_size (runs_end_put setup.now.page_size (bucket_runs self.old next.old)))) }
+        ensures short { OnErr result (AppendsProperPrefix (S.taken sink.old) (S.taken sink.new) (placed_bytes setup.now.page_size (runs_end_put setup.now.page_size (bucket_runs self.old next.old)))) }
         ensures root { IfOk result (λ root. root ≡ runs_end setup.now.page_size (bucket_runs self.old next.old)) }
         ensures next { OnOk result (next.new ≡ bucket_end_next setup.now.page_size (bucket_runs self.old next.old)) }
         ensures within { OnOk result (next.new ≤ setup.now.limit) }

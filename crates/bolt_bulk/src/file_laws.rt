@@ -8,14 +8,14 @@ ghost use Rattle.bolt_tree.specs.FileListings.{ForListing};
 ghost use Rattle.bolt_tree.specs.Listing.{Member};
 ghost use Rattle.bolt_tree.specs.Tree.{tree_of};
 ghost use Rattle.bolt_bulk.specs.Compacting.{too_many};
-ghost use Rattle.bolt_layout.specs.Copies.{IsOfOneTree, IsSoundCopy, RefusesBeginnings, layout_of_listing};
+ghost use Rattle.bolt_layout.specs.Copies.{IsOfOneTree, IsSoundCopy, RefusesPrefixes, layout_of_listing};
 ghost use Rattle.bolt_layout.specs.Layout.{layout_held, layout_mark, layout_root};
 ghost use Rattle.bolt_layout.specs.declared.layout.Layout.{Layout};
 
 use bolt_check::Checked;
 use bolt_layout::laws::{
     a_copy_lists_the_same, a_files_listing_is_of_one_tree, a_held_listing_is_of_one_tree,
-    beginnings_are_refused, held_is_small, layout_has_length,
+    prefixes_are_refused, held_is_small, layout_has_length,
 };
 use bolt_recover::Recovery;
 use bolt_recover::laws::{
@@ -70,12 +70,12 @@ pub(crate) fn a_listing_has_one_layout(page_size: u64, sequence: u64)
         → ∥ IsSoundCopy which page_size (tree_of listing) sequence listing ∥₁ }
     ensures held { (which : Layout) (listing : List Member) → ∥ IsOfOneTree listing ∥₁ → length (layout_of_listing which page_size listing sequence) < too_many
         → layout_held which page_size (tree_of listing) ≤ length (layout_of_listing which page_size listing sequence) }
-    ensures beginnings { (which : Layout) (listing : List Member) → ∥ IsOfOneTree listing ∥₁ → length (layout_of_listing which page_size listing sequence) < too_many
-        → ∥ RefusesBeginnings (layout_of_listing which page_size listing sequence) (layout_root which page_size (tree_of listing)) ∥₁ }
+    ensures prefixes { (which : Layout) (listing : List Member) → ∥ IsOfOneTree listing ∥₁ → length (layout_of_listing which page_size listing sequence) < too_many
+        → ∥ RefusesPrefixes (layout_of_listing which page_size listing sequence) (layout_root which page_size (tree_of listing)) ∥₁ }
 {
     fits(sequence);
     layout_has_length();
     a_copy_lists_the_same();
-    beginnings_are_refused();
+    prefixes_are_refused();
     held_is_small();
 }

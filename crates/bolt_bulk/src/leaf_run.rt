@@ -1,7 +1,7 @@
 //! The run of items of a bucket's leaf under way.
 ghost use Rattle.std.specs.Prelude.{◌≡◌, ◌+◌, ◌<◌, ◌≤◌, IfErr, IfOk, OnErr, OnOk};
 ghost use Rattle.bolt_format.specs.ElementPlaces.{branch_view};
-ghost use Rattle.bolt_format.specs.Sinks.{AppendsProperBeginning};
+ghost use Rattle.bolt_format.specs.Sinks.{AppendsProperPrefix};
 ghost use Rattle.bolt_layout.specs.Levels.{overflow_of};
 ghost use Rattle.bolt_layout.specs.PageBytes.{page_bytes};
 ghost use Rattle.bolt_bulk.specs.Private.OpenBuckets.{IsLeafRun, leaf_closed, leaves_of};
@@ -44,7 +44,7 @@ impl<'a> LeafRun<'a> {
         requires run { IsLeafRun self.old }
         requires next { next.old ≤ setup.now.limit }
         ensures page { Puts S.taken S.failed sink.old sink.new (page_bytes setup.now.page_size next.old (leaf_page setup.now.page_size (leaves_of self.old) next.old).view) result }
-        ensures short { OnErr result (AppendsProperBeginning (S.taken sink.old) (S.taken sink.new) (page_bytes setup.now.page_size next.old (leaf_page setup.now.page_size (leaves_of self.old) next.old).view)) }
+        ensures short { OnErr result (AppendsProperPrefix (S.taken sink.old) (S.taken sink.new) (page_bytes setup.now.page_size next.old (leaf_page setup.now.page_size (leaves_of self.old) next.old).view)) }
         ensures closed { IfOk result (λ closed. branch_view closed ≡ leaf_closed (leaves_of self.old) next.old) }
         ensures leaves { OnOk result (leaves_of self.new ≡ no_leaves) }
         ensures run { OnOk result (IsLeafRun self.new) }

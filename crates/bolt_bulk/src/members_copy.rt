@@ -4,7 +4,7 @@ ghost use Rattle.bolt_format.specs.Metas.{IsPageSize};
 ghost use Rattle.bolt_tree.specs.Listing.{Member};
 ghost use Rattle.bolt_tree.specs.Tree.{tree_of};
 ghost use Rattle.bolt_bulk.specs.Compacting.{Copies, Plans, too_many};
-ghost use Rattle.bolt_layout.specs.Copies.{IsSoundCopy, RefusesBeginnings, layout_of_listing};
+ghost use Rattle.bolt_layout.specs.Copies.{IsSoundCopy, RefusesPrefixes, layout_of_listing};
 ghost use Rattle.bolt_layout.specs.Layout.{layout_held, layout_root};
 ghost use Rattle.bolt_layout.specs.declared.layout.Layout.{Layout};
 ghost use Rattle.bolt_layout.specs.declared.layout.Layout.TheVariants.{Balanced};
@@ -150,8 +150,8 @@ pub(crate) fn put_members<'a, M: Members<'a> + Drop, S: Sink>(
     ensures accepted { OnOk result ((listing : List Member) → M.lists members.old listing → ∥ IsSoundCopy shape.now.layout shape.now.page_size (tree_of listing) shape.now.sequence listing ∥₁) }
     ensures held { IfOk result (λ done. (listing : List Member) → M.lists members.old listing → done.held ≡ layout_held shape.now.layout shape.now.page_size (tree_of listing)) }
     ensures end { OnOk result (M.ends_as members.old members.new) }
-    ensures beginnings { (listing : List Member) → M.lists members.old listing → length (layout_of_listing shape.now.layout shape.now.page_size listing shape.now.sequence) < too_many
-        → ∥ RefusesBeginnings (layout_of_listing shape.now.layout shape.now.page_size listing shape.now.sequence) (layout_root shape.now.layout shape.now.page_size (tree_of listing)) ∥₁ }
+    ensures prefixes { (listing : List Member) → M.lists members.old listing → length (layout_of_listing shape.now.layout shape.now.page_size listing shape.now.sequence) < too_many
+        → ∥ RefusesPrefixes (layout_of_listing shape.now.layout shape.now.page_size listing shape.now.sequence) (layout_root shape.now.layout shape.now.page_size (tree_of listing)) ∥₁ }
 {
     a_listing_has_one_layout(shape.page_size, shape.sequence);
     let limits = limits_of(alloc, members, shape)?;

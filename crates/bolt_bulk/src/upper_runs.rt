@@ -2,7 +2,7 @@
 ghost use Rattle.std.specs.Prelude.{◌≡◌, ◌<◌, ◌≤◌, [], IfErr, IfOk, OnErr, OnOk, length};
 ghost use Rattle.std.specs.List.{AllByRecursion};
 ghost use Rattle.bolt_format.specs.ElementPlaces.{branch_view};
-ghost use Rattle.bolt_format.specs.Sinks.{AppendsProperBeginning};
+ghost use Rattle.bolt_format.specs.Sinks.{AppendsProperPrefix};
 ghost use Rattle.bolt_layout.specs.Layout.{placed_bytes};
 ghost use Rattle.bolt_bulk.specs.Private.FormatLimits.{longest_key};
 ghost use Rattle.bolt_bulk.specs.Private.BranchRuns.{IsStanding, runs_above, runs_end_next};
@@ -86,7 +86,7 @@ impl<'a> UpperRuns<'a> {
         requires closed { length closed.key.now ≤ longest_key }
         requires next { next.old ≤ setup.now.limit }
         ensures pages { Puts S.taken S.failed sink.old sink.new (placed_bytes setup.now.page_size (runs_close_put setup.now.page_size (branch_view closed.entry) next.old (runs_above self.old.runs.items))) result }
-        ensures short { OnErr result (AppendsProperBeginning (S.taken sink.old) (S.taken sink.new) (placed_bytes setup.now.page_size (runs_close_put setup.now.page_size (branch_view closed.entry) next.old (runs_above self.old.runs.items)))) }
+        ensures short { OnErr result (AppendsProperPrefix (S.taken sink.old) (S.taken sink.new) (placed_bytes setup.now.page_size (runs_close_put setup.now.page_size (branch_view closed.entry) next.old (runs_above self.old.runs.items)))) }
         ensures root { IfOk result (λ root. root ≡ runs_root setup.now.page_size (branch_view closed.entry) next.old (runs_above self.old.runs.items)) }
         ensures next { OnOk result (next.new ≡ runs_end_next setup.now.page_size (branch_view closed.entry) next.old (runs_above self.old.runs.items)) }
         ensures within { OnOk result (next.new ≤ setup.now.limit) }

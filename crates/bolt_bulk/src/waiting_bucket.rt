@@ -1,6 +1,6 @@
 //! A bucket that waits while one within it is open.
 ghost use Rattle.std.specs.Prelude.{◌≡◌, ◌+◌, ◌<◌, ◌≤◌, ℕ, IfErr, IfOk, OnErr, OnOk, length};
-ghost use Rattle.bolt_format.specs.Sinks.{AppendsProperBeginning};
+ghost use Rattle.bolt_format.specs.Sinks.{AppendsProperPrefix};
 ghost use Rattle.bolt_layout.specs.Layout.{placed_bytes};
 ghost use Rattle.bolt_bulk.specs.Private.OpenBuckets.{IsOpenBucket, bucket_end_next, bucket_runs};
 ghost use Rattle.bolt_bulk.specs.Private.RunViews.{runs_end, runs_end_put, runs_push};
@@ -42,7 +42,7 @@ impl<'a> WaitingBucket<'a> {
         requires waits { IsWaiting setup.now.page_size self }
         requires next { next.old ≤ setup.now.limit }
         ensures pages { Puts S.taken S.failed sink.old sink.new (placed_bytes setup.now.page_size (runs_end_put setup.now.page_size (bucket_runs bucket.entry next.old))) result }
-        ensures short { OnErr result (AppendsProperBeginning (S.taken sink.old) (S.taken sink.new) (placed_bytes setup.now.page_size (runs_end_put setup.now.page_size (bucket_runs bucket.entry next.old)))) }
+        ensures short { OnErr result (AppendsProperPrefix (S.taken sink.old) (S.taken sink.new) (placed_bytes setup.now.page_size (runs_end_put setup.now.page_size (bucket_runs bucket.entry next.old)))) }
         ensures runs { IfOk result (λ outer. (before : ℕ) → bucket_runs outer next.new
             ≡ runs_push (bucket_runs self.entry.bucket before) (root_element self.entry.key.now (runs_end setup.now.page_size (bucket_runs bucket.entry next.old)) self.entry.sequence)
             (32 + length self.entry.key.now) (bucket_end_next setup.now.page_size (bucket_runs bucket.entry next.old))) }

@@ -31,7 +31,7 @@ ended_put {A = A} old new text wanted (Err e) (Err said) written (inl sink) memo
     let answer : Answer = record { out = text; ending = wanted } in
     (answer, inl refl, Does-part old new answer e (Err said) written sink ends)
 ended_put old new text wanted (Err e) (Err said) written (inr full) memory ends =
-    let begun = written.beginning in (
+    let begun = written.prefix in (
       cut begun.front,
       inr (begun.front, begun.rest, begun.parts, refl),
       inl (begun.taken, memory full, ap Err (ends ∙ ap reported full)),

@@ -19,10 +19,10 @@ use Rattle.bolt_cli.proofs.ReadFiles.{unread_finding}
 -- a text that no other fault but the sink's can stop
 pub Writes-reported : {S A : Type 0} {taken : S → Option (List ℕ)} {failed : S → ℕ} (old new : S) (text : List ℕ) (result : Result A ReportFault)
     → Reports taken failed old new text result → IfErr result (λ fault. fault ≡ report.Sink) → Writes taken failed old new text result
-Writes-reported {taken} {failed} old new text (Ok x) a only = record { all = a.all; sound = a.sound; beginning = a.beginning; failure = tt }
-Writes-reported {taken} {failed} old new text (Err e) a only = record { all = tt; sound = tt; beginning = a.beginning; failure = a.failure (ap Err only) }
+Writes-reported {taken} {failed} old new text (Ok x) a only = record { all = a.all; sound = a.sound; prefix = a.prefix; failure = tt }
+Writes-reported {taken} {failed} old new text (Err e) a only = record { all = tt; sound = tt; prefix = a.prefix; failure = a.failure (ap Err only) }
 
--- the text was put, and the job ends as its answer says
+-- the text was written, and the job ends as its answer says
 pub Does-whole : {S A : Type 0} {taken : S → Option (List ℕ)} {failed : S → ℕ} (old new : S) (answer : Answer) (x : A)
     → Reports taken failed old new answer.out (Ok x) → Does taken failed old new answer answer.ending
 Does-whole {taken} {failed} old new answer x a = inl (a.all, a.sound, refl)
@@ -32,7 +32,7 @@ pub Does-part : {S A : Type 0} {taken : S → Option (List ℕ)} {failed : S →
     → Reports {A = A} taken failed old new answer.out (Err e) → e ≡ report.Sink → IsErrAnd result (λ failure. failure ≡ reported e)
     → Does taken failed old new answer result
 Does-part {taken} {failed} old new answer e (Ok x) a only is = absurd is
-Does-part {taken} {failed} old new answer e (Err failure) a only is = inr (a.failure (ap Err only), a.beginning, ap Err (is ∙ ap reported only))
+Does-part {taken} {failed} old new answer e (Err failure) a only is = inr (a.failure (ap Err only), a.prefix, ap Err (is ∙ ap reported only))
 
 -- a text that was written whole
 pub Does-written : {O E : Type 0} (taken : O → Option (List ℕ)) (failed : O → ℕ) (old new : O) (answer : Answer) (x : Unit {0}) → Writes {E = E} taken failed old new answer.out (Ok x) → Does taken failed old new answer answer.ending
@@ -42,7 +42,7 @@ Does-written taken failed old new answer x line = inl (line.all, line.sound, ref
 pub Does-unwritten : {O A E : Type 0} (taken : O → Option (List ℕ)) (failed : O → ℕ) (old new : O) (answer : Answer) (e : E) (ending : Ending) → Writes {A = A} taken failed old new answer.out (Err e)
     → IsErrAnd ending (λ reason. reason ≡ failure.Write) → Does taken failed old new answer ending
 Does-unwritten taken failed old new answer e (Ok x) line reason = absurd reason
-Does-unwritten taken failed old new answer e (Err why) line reason = inr (line.failure, line.beginning, ap Err reason)
+Does-unwritten taken failed old new answer e (Err why) line reason = inr (line.failure, line.prefix, ap Err reason)
 
 -- the first of two texts wasn't written whole
 pub Does-first_unwritten : {O A E : Type 0} (taken : O → Option (List ℕ)) (failed : O → ℕ) (old new : O) (first second : List ℕ) (end : Ending) (e : E) (ending : Ending)
@@ -61,7 +61,7 @@ Does-second_unwritten {A} taken failed old mid new first second end x e ending l
     (Writes-then old mid new first second x stop line (Writes-reported mid new second stop rest only))
     (subst (λ (fault : ReportFault). IsErrAnd ending (λ why. why ≡ reported fault)) only reason)
 
--- nothing was put
+-- nothing was written
 pub Does-nothing : {S : Type 0} (taken : S → Option (List ℕ)) (failed : S → ℕ) (old : S) (failure : Failure) (result : Ending)
     → IsErrAnd result (λ said. said ≡ failure) → Does taken failed old old (refused failure) result
 Does-nothing taken failed old failure (Ok x) is = absurd is

@@ -17,7 +17,7 @@ shown_put form old new text (Ok x) ending written fault memory ends = (done text
 shown_put form old new text (Err e) (Ok x) written fault memory ends = absurd ends
 shown_put form old new text (Err e) (Err said) written (inl sink) memory ends = (done text, inl refl, Does-part old new (done text) e (Err said) written sink ends)
 shown_put form old new text (Err e) (Err said) written (inr (full, json)) memory ends =
-    let begun = written.beginning in (
+    let begun = written.prefix in (
       cut begun.front,
       inr (json, begun.front, begun.rest, begun.parts, refl),
       inl (begun.taken, memory full, ap Err (ends ∙ ap reported full)),

@@ -5,7 +5,7 @@ use Rattle.std.proofs.KnownBytes.{Appends-kept, Appends-trans, Keeps-trans}
 use Rattle.std.specs.Io.KnownBytes.{Appends, Keeps}
 use Rattle.sha2.specs.Sha256.{sha256}
 use Rattle.sha2.proofs.Facts256.{length-sha256}
-use Rattle.bolt_format.specs.Sinks.{AppendsProperBeginning}
+use Rattle.bolt_format.specs.Sinks.{AppendsProperPrefix}
 use Rattle.bolt_bulk.specs.Compacting.{Copies, too_many}
 use Rattle.bolt_bulk.specs.declared.fault.BulkFault.{BulkFault}
 use Rattle.bolt_bulk.specs.declared.fault.BulkFault.TheVariants as bulk
@@ -29,7 +29,7 @@ kept_appends (Some x) None c bs kept taken = absurd kept
 kept_appends (Some x) (Some y) None bs kept taken = absurd taken
 kept_appends (Some x) (Some y) (Some z) bs kept taken = taken ∙ ap (λ l. l ++ bs) kept
 
-kept_proper : (a b c : Option (List ℕ)) (bs : List ℕ) → Keeps a b → AppendsProperBeginning b c bs → AppendsProperBeginning a c bs
+kept_proper : (a b c : Option (List ℕ)) (bs : List ℕ) → Keeps a b → AppendsProperPrefix b c bs → AppendsProperPrefix a c bs
 kept_proper a b c bs kept short = record { front = short.front; rest = short.rest; parts = short.parts; short = short.short; taken = kept_appends a b c short.front kept short.taken }
 
 -- ---- one text after another
@@ -38,7 +38,7 @@ more_some : (xs ys : List ℕ) → xs ≢ [] → (xs ++ ys) ≢ []
 more_some [] ys some e = some refl
 more_some (x ∷ xs) ys some e = cc
 
-proper_first : (a c : Option (List ℕ)) (first second : List ℕ) → AppendsProperBeginning a c first → AppendsProperBeginning a c (first ++ second)
+proper_first : (a c : Option (List ℕ)) (first second : List ℕ) → AppendsProperPrefix a c first → AppendsProperPrefix a c (first ++ second)
 proper_first a c first second short = record {
   front = short.front;
   rest = short.rest ++ second;
@@ -63,7 +63,7 @@ some_after : (first second : List ℕ) → second ≢ [] → (first ++ second) �
 some_after [] second some e = some e
 some_after (x ∷ first) second some e = cc
 
-both_short : (a c e : Option (List ℕ)) (first second : List ℕ) → second ≢ [] → Appends a c first → (EndsWith c first → AppendsProperBeginning c e second) → AppendsProperBeginning a e (first ++ second)
+both_short : (a c e : Option (List ℕ)) (first second : List ℕ) → second ≢ [] → Appends a c first → (EndsWith c first → AppendsProperPrefix c e second) → AppendsProperPrefix a e (first ++ second)
 both_short None c e first second some taken then = record { front = []; rest = first ++ second; parts = refl; short = some_after first second some; taken = tt }
 both_short (Some x) c e first second some taken then =
     let short = then (ends_with x c first taken) in
@@ -96,9 +96,9 @@ module _ {T : Type 0} (taken : T → Option (List ℕ)) (failed : T → ℕ) (ol
   abbrev Stops : T → Failure → Type 0
   Stops new reason = StopsShort taken failed old new layout (copy_of snapshot layout) reason
 
-  short_of : (new : T) → AppendsProperBeginning (taken mid) (taken new) layout → AppendsProperBeginning (taken old) (taken new) (copy_of snapshot layout)
+  short_of : (new : T) → AppendsProperPrefix (taken mid) (taken new) layout → AppendsProperPrefix (taken old) (taken new) (copy_of snapshot layout)
   short_of new short =
-      subst (λ (l : List ℕ). AppendsProperBeginning (taken old) (taken new) l) (copy_parts snapshot layout)
+      subst (λ (l : List ℕ). AppendsProperPrefix (taken old) (taken new) l) (copy_parts snapshot layout)
       (proper_first (taken old) (taken new) layout (ending_of snapshot layout) (kept_proper (taken old) (taken mid) (taken new) layout begun.kept short))
 
   kept_of : (new : T) → Keeps (taken mid) (taken new) → Keeps (taken old) (taken new)
@@ -136,14 +136,14 @@ module _ {T : Type 0} (taken : T → Option (List ℕ)) (failed : T → ℕ) (ol
     large new h = absurd (omega (arith, small))
 
     -- the layout is whole, and its hash isn't
-    hash_short : (new : T) → AppendsHashShort (taken late) (taken new) done.bytes → AppendsProperBeginning (taken old) (taken new) (layout ++ sha256 layout)
+    hash_short : (new : T) → AppendsHashShort (taken late) (taken new) done.bytes → AppendsProperPrefix (taken old) (taken new) (layout ++ sha256 layout)
     hash_short new short = both_short (taken old) (taken late) (taken new) layout (sha256 layout) (not_empty layout) accepted (short layout long)
 
-    hash_none : (new : T) → Keeps (taken late) (taken new) → AppendsProperBeginning (taken old) (taken new) (layout ++ sha256 layout)
+    hash_none : (new : T) → Keeps (taken late) (taken new) → AppendsProperPrefix (taken old) (taken new) (layout ++ sha256 layout)
     hash_none new kept = record { front = layout; rest = sha256 layout; parts = refl; short = not_empty layout; taken = Appends-kept (taken old) (taken late) (taken new) layout accepted kept }
 
-    in_snapshot : (new : T) → IsTrue snapshot → AppendsProperBeginning (taken old) (taken new) (layout ++ sha256 layout) → AppendsProperBeginning (taken old) (taken new) (copy_of snapshot layout)
-    in_snapshot new asked short = subst (λ (s : Bool). AppendsProperBeginning (taken old) (taken new) (copy_of s layout)) (sym asked) short
+    in_snapshot : (new : T) → IsTrue snapshot → AppendsProperPrefix (taken old) (taken new) (layout ++ sha256 layout) → AppendsProperPrefix (taken old) (taken new) (copy_of snapshot layout)
+    in_snapshot new asked short = subst (λ (s : Bool). AppendsProperPrefix (taken old) (taken new) (copy_of s layout)) (sym asked) short
 
     pub stops_in_hash : (new : T) (e : HashFault) → IsTrue snapshot
         → (e ≡ hash.Sink → AppendsHashShort (taken late) (taken new) done.bytes × (0 < failed new))

@@ -11,7 +11,7 @@ use Rattle.bolt_check.specs.declared.finding.Finding.{Finding}
 use Rattle.bolt_check.specs.declared.role.Role.{Role}
 use Rattle.bolt_format.specs.Elements.{LeafElement}
 use Rattle.bolt_format.specs.Metas.{HasMetaFault, HasSlotFault, IsChosen, IsInSlot}
-use Rattle.bolt_format.specs.Sinks.{AppendsBeginning, AppendsProperBeginning}
+use Rattle.bolt_format.specs.Sinks.{AppendsPrefix, AppendsProperPrefix}
 use Rattle.bolt_format.specs.declared.fault.PageFault.{PageFault}
 use Rattle.bolt_format.specs.declared.meta.Meta.{Meta}
 use Rattle.bolt_format.specs.declared.meta.MetaFault.{MetaFault}
@@ -20,10 +20,10 @@ use Rattle.bolt_recover.specs.Losses.{AreLosses, LossView}
 use Rattle.bolt_recover.specs.Recovered.{IsRecovered}
 use Rattle.bolt_recover.specs.Refusals.{IsSlotUnrecoverable, IsUnrecoverable, KeepsRoot}
 use Rattle.bolt_report.specs.FaultWords.{findings_text}
-use Rattle.bolt_report.specs.Forms.{shown_as, value_text}
+use Rattle.bolt_report.specs.Forms.{item_text, value_text}
 use Rattle.bolt_report.specs.Figures.{add_stats, stats_text}
 use Rattle.bolt_report.specs.KeyLines.{buckets_text, keys_text}
-use Rattle.bolt_report.specs.KeyPrefixes.{beginning}
+use Rattle.bolt_report.specs.KeyPrefixes.{with_prefix}
 use Rattle.bolt_report.specs.ListForms.{listing_lines}
 use Rattle.bolt_report.specs.LossLines.{all_lost_text, counted_losses_text, losses_text}
 use Rattle.bolt_report.specs.MetaLines.{info_text}
@@ -153,7 +153,7 @@ HoldsNone file path meta reason =
 -- a value in a form, with a line feed or without one
 abbrev pub value_shown : (no_newline : Bool) → Form → List ℕ → List ℕ
 value_shown false form value = value_text form value
-value_shown true form value = shown_as form value
+value_shown true form value = item_text form value
 
 -- the value that the path holds; or why it holds none
 abbrev pub IsGetAnswer : List ℕ → Path → Form → (no_newline : Bool) → Meta → Answer → Type 0
@@ -333,7 +333,7 @@ IsListedAnswer true file slot form path from answer = IsRecoveredAnswer file slo
 abbrev pub Does : {S : Type 0} → (taken : S → Option (List ℕ)) (failed : S → ℕ) (old new : S) → Answer → Ending → Type 0
 Does taken failed old new answer ending =
     (Appends (taken old) (taken new) answer.out × (failed new ≡ failed old) × (ending ≡ answer.ending))
-    ⊎ ((0 < failed new) × AppendsBeginning (taken old) (taken new) answer.out × (ending ≡ Err failure.Write))
+    ⊎ ((0 < failed new) × AppendsPrefix (taken old) (taken new) answer.out × (ending ≡ Err failure.Write))
 
 -- ---- `compact`
 
@@ -356,7 +356,7 @@ StopsCopy failed old new layout _ = ⊥
 -- The target accepted a prefix of the copy that isn't the whole, and the failure says why. Of a layout with 2^63 bytes or more it
 -- accepted nothing.
 pub record StopsShort {T : Type 0} (taken : T → Option (List ℕ)) (failed : T → ℕ) (old new : T) (layout copy : List ℕ) (failure : Failure) : Type 0 where
-  pub short : AppendsProperBeginning (taken old) (taken new) copy
+  pub short : AppendsProperPrefix (taken old) (taken new) copy
   pub why : StopsCopy failed old new layout failure
   pub large : too_many ≤ length layout → Keeps (taken old) (taken new)
 
@@ -424,7 +424,7 @@ module _ {O T : Type 0} (out_taken : O → Option (List ℕ)) (out_failed : O �
   DoesJob file (job.Check name slot all snapshot) = Prints (IsCheckAnswer all snapshot file slot)
   DoesJob file (job.Buckets name slot path form sizes) = Prints (IsReadAnswer file slot (IsBucketsAnswer file (path_in path.items) form sizes))
   DoesJob file (job.Stats name slot path) = Prints (IsReadAnswer file slot (IsStatsAnswer file (path_in path.items)))
-  DoesJob file (job.Keys name slot path prefix form) = Prints (IsReadAnswer file slot (IsEntriesAnswer file (path_in path.items) form (λ entries. keys_text form (beginning prefix.items entries))))
+  DoesJob file (job.Keys name slot path prefix form) = Prints (IsReadAnswer file slot (IsEntriesAnswer file (path_in path.items) form (λ entries. keys_text form (with_prefix prefix.items entries))))
   DoesJob file (job.Get name slot path form no_newline) = Prints (IsReadAnswer file slot (IsGetAnswer file (path_in path.items) form no_newline))
   DoesJob file (job.List name slot form path from recover) = Prints (IsListedAnswer recover file slot form (path_in path.items) (path_in from.items))
   DoesJob file (job.Compact name slot out size which recover) = MakesCopy file slot size (layout_for which) (is_snapshot which) recover
@@ -444,4 +444,4 @@ error_text (Err failure) = failure_line failure
 abbrev pub Accepts : {S : Type 0} → (taken : S → Option (List ℕ)) (failed : S → ℕ) (old new : S) → List ℕ → Type 0
 Accepts taken failed old new text =
     (Appends (taken old) (taken new) text × (failed new ≡ failed old))
-    ⊎ ((0 < failed new) × AppendsBeginning (taken old) (taken new) text)
+    ⊎ ((0 < failed new) × AppendsPrefix (taken old) (taken new) text)

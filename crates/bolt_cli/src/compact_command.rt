@@ -10,7 +10,7 @@ ghost use Rattle.bolt_snapshot.specs.declared.hash_fault.HashFault.TheVariants a
 ghost use Rattle.bolt_cli.specs.Answers.{Compacts, Does, MakesCopy, Recovers, copy_page_size, copy_report, lengths_line, lost_status};
 ghost use Rattle.bolt_cli.specs.SnapshotAnswers.{AppendsEnding, IsBegun, ending_length};
 
-use crate::decimals::put_number;
+use crate::decimals::put_number_and;
 use crate::failure::Failure;
 use crate::open_read::open_read;
 use crate::open_recovery::open_recovery;
@@ -156,6 +156,6 @@ fn size_of_copy(meta: &Meta, page_size: Option<PageSize>) -> u64
 fn put_lengths<O: Sink>(source: u64, copy: u64, out: &mut O) -> Result<(), SinkFault>
     ensures { Writes O.taken O.failed out.old out.new (lengths_line source copy) result }
 {
-    put_number(source, b" -> ", out)?;
-    put_number(copy, b" bytes\n", out)
+    put_number_and(source, b" -> ", out)?;
+    put_number_and(copy, b" bytes\n", out)
 }

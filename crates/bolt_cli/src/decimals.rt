@@ -6,7 +6,7 @@ use bolt_format::{Sink, SinkFault};
 use itoa::Buffer;
 
 /// Writes a number and the words after it.
-pub(crate) fn put_number<O: Sink>(number: u64, words: &[u8], out: &mut O) -> Result<(), SinkFault>
+pub(crate) fn put_number_and<O: Sink>(number: u64, words: &[u8], out: &mut O) -> Result<(), SinkFault>
     ensures { Writes O.taken O.failed out.old out.new (decimal number ++ words.now) result }
 {
     put_digits(number, out)?;

@@ -5,7 +5,7 @@ ghost use Rattle.bolt_report.specs.FaultWords.{finding_text};
 ghost use Rattle.bolt_cli.specs.Failures.{HasFinding, IsFailureOf, copied, failure_line, failure_text, hash_failed, reported};
 ghost use Rattle.bolt_cli.specs.declared.failure.Failure.TheVariants as failure;
 
-use crate::decimals::put_number;
+use crate::decimals::put_number_and;
 use bolt_bulk::BulkFault;
 use bolt_check::{CheckFault, Finding, NoMemory};
 use bolt_format::{MetaFault, PageFault, Sink, SinkFault};
@@ -113,7 +113,7 @@ impl From<HashFault> for Failure {
     ghost from_gives = { λ fault result. result ≡ hash_failed fault };
 
     /// A sink that hashed other bytes than those of the copy has none of its hash: that doesn't
-    /// happen, and is reported as want of memory.
+    /// happen, and is reported as lack of memory.
     fn from(fault: HashFault) -> Failure {
         match fault {
             HashFault::Sink => Failure::Write,
@@ -157,7 +157,7 @@ fn put_pages_lost<E: Sink>(count: u64, err: &mut E) -> Result<(), ReportFault>
     ensures { Writes E.taken E.failed err.old err.new (codes "pages lost: " ++ (decimal count ++ codes "\n")) result }
 {
     put_words(b"pages lost: ", err)?;
-    put_number(count, b"\n", err)?;
+    put_number_and(count, b"\n", err)?;
     Ok(())
 }
 

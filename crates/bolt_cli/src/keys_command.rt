@@ -1,6 +1,6 @@
 //! The command `keys`.
 ghost use Rattle.bolt_report.specs.KeyLines.{keys_text};
-ghost use Rattle.bolt_report.specs.KeyPrefixes.{beginning};
+ghost use Rattle.bolt_report.specs.KeyPrefixes.{with_prefix};
 ghost use Rattle.bolt_cli.specs.Answers.{Answer, Does, IsEntriesAnswer, IsReadAnswer};
 ghost use Rattle.bolt_cli.specs.PlainWords.{path_in};
 
@@ -8,7 +8,7 @@ use crate::failure::Failure;
 use crate::open_bucket::open_bucket;
 use crate::open_read::open_read;
 use bolt_format::{Sink, Slot};
-use bolt_report::{Form, keys_beginning};
+use bolt_report::{Form, keys_with_prefix};
 use std::alloc::Global;
 
 /// What `keys` is to write.
@@ -29,12 +29,12 @@ pub(crate) fn print_keys<O: Sink>(
     wanted: &WantedKeys<'_>,
     out: &mut O,
 ) -> Result<u8, Failure>
-    ensures { (answer : Answer) × IsReadAnswer file.now slot (IsEntriesAnswer file.now (path_in wanted.now.path.now) wanted.now.form (λ entries. keys_text wanted.now.form (beginning wanted.now.prefix.now entries))) answer
+    ensures { (answer : Answer) × IsReadAnswer file.now slot (IsEntriesAnswer file.now (path_in wanted.now.path.now) wanted.now.form (λ entries. keys_text wanted.now.form (with_prefix wanted.now.prefix.now entries))) answer
         × Does O.taken O.failed out.old out.new answer result }
 {
     let checked = open_read(alloc, file, slot)?;
     let bucket = open_bucket(checked, wanted.path)?;
     let mut cursor = bucket.cursor();
-    keys_beginning(alloc, &mut cursor, wanted.prefix, wanted.form, out)?;
+    keys_with_prefix(alloc, &mut cursor, wanted.prefix, wanted.form, out)?;
     Ok(0)
 }

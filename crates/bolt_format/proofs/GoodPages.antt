@@ -164,7 +164,7 @@ good_inline value bytes same e root =
     subst IsInlinePage (sym same) (good_inline_fault (inline_bytes value)
     (chosen-none (head_root value == 0) (inline_fault (inline_bytes value)) (first_of-none (head_fault value) _ e).1 (eq-eqb (head_root value) 0 root)))
 
--- what a bucket's value has behind its head, as the code cuts it
+-- what a bucket's value has after its head, as the code cuts it
 abbrev after_head : List ℕ → List ℕ
 after_head value = take (length value - 16) (drop 16 value)
 

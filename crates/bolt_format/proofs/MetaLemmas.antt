@@ -46,7 +46,7 @@ IsInSlot-one file One a b (inr (none, lone)) q = IsLoneMeta-one file a b lone (I
 One-Zero : One ≡ Zero → ⊥
 One-Zero e = cc
 
--- not both slots are in force
+-- not both slots are active
 not_both : (file : List ℕ) (zero one : Meta) → IsChosen file Zero zero → IsChosen file One one → ⊥
 not_both file zero one p q =
     elim (q.newest zero p.valid) [
@@ -57,7 +57,7 @@ not_both file zero one p q =
       | inr equal ↦ One-Zero equal.1
     ]
 
--- one meta is in force
+-- one meta is active
 pub IsChosen-one : (file : List ℕ) (slot : Slot) (meta : Meta) → IsChosen file slot meta
     → (other : Slot) (another : Meta) → IsChosen file other another → (other ≡ slot) × (another ≡ meta)
 IsChosen-one file Zero meta p Zero another q = (refl, IsInSlot-one file Zero another meta q.valid p.valid)
@@ -65,14 +65,14 @@ IsChosen-one file One meta p One another q = (refl, IsInSlot-one file One anothe
 IsChosen-one file Zero meta p One another q = absurd (not_both file meta another p q)
 IsChosen-one file One meta p Zero another q = absurd (not_both file another meta q p)
 
--- slot one is in force where its transaction is the greater
+-- slot one is active if its transaction is the greater
 pub newer_one : (file : List ℕ) (zero one : Meta) → IsInSlot file Zero zero → IsInSlot file One one → zero.txid < one.txid → IsChosen file One one
 newer_one file zero one first second newer = record {
   valid = second;
   newest = λ other valid. inl (let e : other.txid ≡ zero.txid = ap (λ (m : Meta). m.txid) (IsInSlot-one file Zero other zero valid first) in omega (arith, e, newer));
 }
 
--- slot zero is in force where the transaction of slot one is no greater
+-- slot zero is active if the transaction of slot one is no greater
 pub no_newer : (file : List ℕ) (zero one : Meta) → IsInSlot file Zero zero → IsInSlot file One one → one.txid ≤ zero.txid → IsChosen file Zero zero
 no_newer file zero one first second older = record {
   valid = first;
@@ -84,7 +84,7 @@ no_newer file zero one first second older = record {
       ];
 }
 
--- slot one is in force where slot zero has none
+-- slot one is active if slot zero has none
 pub lone_one : (file : List ℕ) (one : Meta) → ((zero : Meta) → IsInSlot file Zero zero → ⊥) → IsInSlot file One one → IsChosen file One one
 lone_one file one none second = record {
   valid = second;

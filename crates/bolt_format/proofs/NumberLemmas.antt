@@ -15,7 +15,7 @@ pub number_read : (bytes rest : List ℕ) (at n x : ℕ) → drop at bytes ≡ n
 unfolding number_at number_bytes
 number_read bytes rest at n x e h = ap (little_number n) e ∙ little_number-reads_back n x rest h
 
--- what stands behind a part
+-- what comes after a part
 pub part_next : (bytes part rest : List ℕ) (at m : ℕ) → drop at bytes ≡ part ++ rest → at + length part ≡ m → drop m bytes ≡ rest
 part_next bytes part rest at m e h =
     ap (λ (k : ℕ). drop k bytes) (sym h) ∙ (sym (drop-drop (length part) at bytes) ∙ (ap (drop (length part)) e ∙ drop_at part rest (length part) refl))

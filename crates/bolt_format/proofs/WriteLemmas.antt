@@ -2,7 +2,7 @@
 use Rattle.std.proofs.Common.{◌≡◌, ◌∙◌, ℕ, List, [], ◌++◌, Option, Result, Ok, Err, refl, subst}
 use Rattle.std.specs.Prelude.{⊤, IsErr}
 use Rattle.std.proofs.KnownBytes.{Appends-nil, Appends-trans}
-use Rattle.bolt_format.proofs.SinkLemmas.{AppendsBeginning-none, AppendsBeginning-first, AppendsBeginning-second}
+use Rattle.bolt_format.proofs.SinkLemmas.{AppendsPrefix-none, AppendsPrefix-first, AppendsPrefix-second}
 use Rattle.bolt_format.specs.Writes.{Writes}
 
 -- the first text whole, and then the second
@@ -11,24 +11,24 @@ pub Writes-then : {S A B E F : Type 0} {taken : S → Option (List ℕ)} {failed
 Writes-then {taken} {failed} old mid new first second x (Ok y) a b = record {
   all = Appends-trans (taken old) (taken mid) (taken new) first second a.all b.all;
   sound = b.sound ∙ a.sound;
-  beginning = AppendsBeginning-second (taken old) (taken mid) (taken new) first second a.all b.beginning;
+  prefix = AppendsPrefix-second (taken old) (taken mid) (taken new) first second a.all b.prefix;
   failure = tt;
 }
 Writes-then {taken} {failed} old mid new first second x (Err e) a b = record {
   all = tt;
   sound = tt;
-  beginning = AppendsBeginning-second (taken old) (taken mid) (taken new) first second a.all b.beginning;
+  prefix = AppendsPrefix-second (taken old) (taken mid) (taken new) first second a.all b.prefix;
   failure = b.failure;
 }
 
--- a beginning of the first text, and then nothing
+-- a prefix of the first text, and then nothing
 pub Writes-stop : {S A B E F : Type 0} {taken : S → Option (List ℕ)} {failed : S → ℕ} (old new : S) (first second : List ℕ) (e : E) (result : Result B F)
     → Writes {A = A} {E = E} taken failed old new first (Err e) → IsErr result → Writes taken failed old new (first ++ second) result
 Writes-stop {taken} {failed} old new first second e (Ok y) a err = absurd (cc)
 Writes-stop {taken} {failed} old new first second e (Err f) a err = record {
   all = tt;
   sound = tt;
-  beginning = AppendsBeginning-first (taken old) (taken new) first second a.beginning;
+  prefix = AppendsPrefix-first (taken old) (taken new) first second a.prefix;
   failure = a.failure;
 }
 
@@ -37,7 +37,7 @@ pub Writes-none : {S E : Type 0} {taken : S → Option (List ℕ)} {failed : S �
 Writes-none {taken} {failed} old = record {
   all = Appends-nil (taken old);
   sound = refl;
-  beginning = AppendsBeginning-none (taken old) [];
+  prefix = AppendsPrefix-none (taken old) [];
   failure = tt;
 }
 

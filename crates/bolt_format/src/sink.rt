@@ -1,7 +1,7 @@
 //! Sinks: what output is written to.
 ghost use Rattle.std.specs.Prelude.{◌≡◌, ◌≢◌, ◌<◌, ℕ, List, [], Option, OnErr, OnOk, IsErr};
 ghost use Rattle.std.specs.Io.KnownBytes.{Appends, Keeps};
-ghost use Rattle.bolt_format.specs.Sinks.{AppendsBeginning, AppendsProperBeginning};
+ghost use Rattle.bolt_format.specs.Sinks.{AppendsPrefix, AppendsProperPrefix};
 
 /// A sink has failed. It has accepted a prefix of the bytes at most, and accepts no more from now
 /// on.
@@ -27,8 +27,8 @@ pub trait Sink {
         ensures sound { OnOk result (failed self.new ≡ failed self.old) }
 
         // Whatever the result is.
-        ensures beginning { AppendsBeginning (taken self.old) (taken self.new) bytes.now }
-        ensures short { OnErr result (bytes.now ≢ [] → AppendsProperBeginning (taken self.old) (taken self.new) bytes.now) }
+        ensures prefix { AppendsPrefix (taken self.old) (taken self.new) bytes.now }
+        ensures short { OnErr result (bytes.now ≢ [] → AppendsProperPrefix (taken self.old) (taken self.new) bytes.now) }
         ensures failure { OnErr result (0 < failed self.new) }
 
         // After a failure.

@@ -85,7 +85,7 @@ branch_run bytes (e ∷ es) i before free tail rest heads text fits small within
       first_of-both (branch_fault bytes free i) _ (one.passes free (omega arith)) more.1,
     )
 
--- the elements of a branch page behind a header
+-- the elements of a branch page after a header
 pub branches_written : (bytes : List ℕ) (es : List BranchElement) (rest : List ℕ)
     → drop 16 bytes ≡ branch_bytes es ++ rest → 16 ≤ length bytes → AllByRecursion IsBranchFit es
     → 16 * length es + length (branch_data es) < 0x100000000

@@ -42,7 +42,7 @@ chosen_none : (b : Bool) (fault : Option ℕ) → (b ≡ true → fault ≡ None
 chosen_none true fault h = h refl
 chosen_none false fault h = refl
 
--- What is known of element i: it is e, its data ends there, and behind `free` it passes.
+-- What is known of element i: it is e, its data ends there, and after `free` it passes.
 record IsLeafRead (bucket_fault : List ℕ → Option ℕ) (bytes : List ℕ) (i end : ℕ) (e : LeafElement) : Type 0 where
   pub element : leaf_element bytes i ≡ e
   pub ends : leaf_end bytes i ≡ end
@@ -124,7 +124,7 @@ leaf_run bucket_fault bytes (e ∷ es) i before free tail rest heads text fits s
       first_of-both (leaf_fault bucket_fault bytes free i) _ (one.passes free (omega arith)) more.1,
     )
 
--- the elements of a leaf page behind a header
+-- the elements of a leaf page after a header
 pub leaves_written : (bucket_fault : List ℕ → Option ℕ) (bytes : List ℕ) (es : List LeafElement) (rest : List ℕ)
     → drop 16 bytes ≡ leaf_bytes es ++ rest → 16 ≤ length bytes → AllByRecursion (IsLeafFit bucket_fault) es
     → 16 * length es + length (leaf_data es) < 0x100000000

@@ -1,4 +1,4 @@
-mod Beginnings
+mod Prefixes
 mod BranchPages
 mod FileTrees
 mod FullPages

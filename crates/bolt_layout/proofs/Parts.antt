@@ -180,7 +180,7 @@ part_inline nodes host at keys fine = record {
   whole = λ n low high. absurd (omega arith);
 }
 
--- a page behind the parts that its entries lead to
+-- a page after the parts that its entries lead to
 pub part_page : (nodes : Nodes) (s : PageSpot) (node : Node) (os : List (Option Spot)) (from : ℕ) → nodes s.number ≡ Ok node
     → early_finding nodes s ≡ None → node_finding node s ≡ None → ((j : ℕ) → spot_in (slice_get os j) ≡ step nodes (Some (At_page s)) j)
     → AreParts nodes os from s.number → IsPart nodes (At_page s) from (s.number + (1 + node.overflow))

@@ -26,7 +26,7 @@ pub record IsAsked (page_size : ℕ) (tree : Tree) (sequence : ℕ) : Type 0 whe
   pub sequence_fits : sequence < 2 ^ 64
 
 -- A layout that is cut short anywhere is refused: it has no meta, or the first finding is that its root page is cut off.
-pub record RefusesBeginnings (layout : List ℕ) (root : ℕ) : Type 0 where
+pub record RefusesPrefixes (layout : List ℕ) (root : ℕ) : Type 0 where
   pub before_metas : (n : ℕ) → n < length layout → n < 80 → IsRefused (take n layout) (Open Cut)
   pub at_root : (n : ℕ) → n < length layout → 80 ≤ n → IsRefused (take n layout) (Structure (finding CUT root))
 

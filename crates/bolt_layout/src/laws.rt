@@ -9,7 +9,7 @@ ghost use Rattle.bolt_check.specs.Sound.{HasSoundTrees};
 ghost use Rattle.bolt_tree.specs.Entries.{IsEntry, Root_page};
 ghost use Rattle.bolt_tree.specs.Listing.{IsListing, Member};
 ghost use Rattle.bolt_tree.specs.Tree.{IsTreeOf, Tree, listing_of, tree_of};
-ghost use Rattle.bolt_layout.specs.Copies.{IsAsked, IsOfOneTree, IsSoundCopy, RefusesBeginnings, layout_of_listing};
+ghost use Rattle.bolt_layout.specs.Copies.{IsAsked, IsOfOneTree, IsSoundCopy, RefusesPrefixes, layout_of_listing};
 ghost use Rattle.bolt_layout.specs.Cut.{CutIsOne};
 ghost use Rattle.bolt_layout.specs.Laid.{Laid};
 ghost use Rattle.bolt_layout.specs.Held.{most_held};
@@ -63,10 +63,10 @@ pub fn balanced_branches_have_two()
 {}
 
 /// A layout that is cut short anywhere is refused.
-pub fn beginnings_are_refused()
+pub fn prefixes_are_refused()
     ensures { (which : Layout) (page_size : ℕ) (tree : Tree) (sequence : ℕ) → IsAsked page_size tree sequence
         → length (layout_of which page_size tree sequence) < 2 ^ 63
-        → RefusesBeginnings (layout_of which page_size tree sequence) (layout_root which page_size tree) }
+        → RefusesPrefixes (layout_of which page_size tree sequence) (layout_root which page_size tree) }
 {}
 
 /// There is one cut of each row of items.

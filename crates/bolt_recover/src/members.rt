@@ -31,7 +31,7 @@ pub trait Members<'a> {
     /// Whether the second can be what the first is once nothing is left.
     ghost ends_as: { Self → Self → Type 0 };
 
-    /// Returns the first member that is left, or `None` if nothing is left, then and ever after.
+    /// Returns the first member that is left, or `None` if nothing is left; so do all later calls.
     ///
     /// # Errors
     ///

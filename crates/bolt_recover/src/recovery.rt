@@ -123,7 +123,7 @@ impl<'a> Recovery<'a> {
         self.meta
     }
 
-    /// Returns the next item, or `None` if nothing is left, then and ever after. By then all losses
+    /// Returns the next item, or `None` if nothing is left; so do all later calls. By then all losses
     /// are reported.
     ///
     /// # Errors

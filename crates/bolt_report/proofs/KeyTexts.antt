@@ -26,7 +26,7 @@ module _ {S : Type 0} (taken : S → Option (List ℕ)) (failed : S → ℕ) (f 
   text : flat_map f all ≡ written ++ (f e ++ flat_map f after)
   text = same ∙ ap (λ (entries : List LeafElement). written ++ flat_map f entries) first
 
-  -- the line of the next entry was put
+  -- the line of the next entry was written
   pub key_more : Reports {A = ⊤} taken failed mid new (f e) (Ok tt)
       → (flat_map f all ≡ (written ++ f e) ++ flat_map f after) × Writes {A = ⊤} {E = ReportFault} taken failed old new (written ++ f e) (Ok tt)
   key_more one = more_written taken failed old mid new (flat_map f all) written (f e) (flat_map f after) text put one

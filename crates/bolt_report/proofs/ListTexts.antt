@@ -22,7 +22,7 @@ use Rattle.bolt_report.proofs.ReportLemmas.{Reports-stop, Reports-then, reports}
 pub iff_then : {A B C : Type 0} → A ↔ B → B ↔ C → A ↔ C
 iff_then f g = (λ a. g.0 (f.0 a), λ c. f.1 (g.1 c))
 
--- a path in hexadecimal: its first part, and each later one behind a slash
+-- a path in hexadecimal: its first part, and each later one after a slash
 pub hex_path-parts : (first : Bor (List ℕ)) (rest : List (Bor (List ℕ)))
     → hex_path (path_of (first ∷ rest)) ≡ encode_lower first.now ++ flat_map (λ (part : Bor (List ℕ)). 0x2F ∷ encode_lower part.now) rest
 hex_path-parts first [] = sym (append-nil (encode_lower first.now))
@@ -74,5 +74,5 @@ module _ {S : Type 0} (taken : S → Option (List ℕ)) (failed : S → ℕ) whe
       → Reports {A = ⊤} taken failed mid new piece (Ok tt) → (whole ≡ (written ++ piece) ++ rest) × Writes {A = ⊤} {E = ReportFault} taken failed old new (written ++ piece) (Ok tt)
   more_written old mid new whole written piece rest same before one = (
     same ∙ sym (append_assoc written piece rest),
-    Writes-then old mid new written piece tt (Ok tt) before (record { all = one.all; sound = one.sound; beginning = one.beginning; failure = tt }),
+    Writes-then old mid new written piece tt (Ok tt) before (record { all = one.all; sound = one.sound; prefix = one.prefix; failure = tt }),
   )

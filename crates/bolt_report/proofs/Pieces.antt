@@ -36,7 +36,7 @@ Writes-last_piece {taken} {failed} old mid new all front rest k x e result parts
     subst (λ text. Writes taken failed old new text result) (sym (ap encode_lower (front_grows all front rest k parts) ∙ encode_lower-append (front ++ take k rest) after))
     (Writes-stop old new (encode_lower (front ++ take k rest)) (encode_lower after) e result (Writes-piece old mid new front (take k rest) x (Err e) a b) err)
 
--- a piece that was put whole
+-- a piece that was written whole
 pub pieces_grow : {S A B E F : Type 0} {taken : S → Option (List ℕ)} {failed : S → ℕ} (old mid new : S) (all front rest : List ℕ) (k : ℕ) (x : A) (result : Result B F)
     → all ≡ front ++ rest → Writes {A = A} {E = E} taken failed old mid (encode_lower front) (Ok x) → Writes taken failed mid new (encode_lower (take k rest)) result
     → (longer : List ℕ) × (all ≡ longer ++ take (length rest - k) (drop k rest)) × Writes taken failed old new (encode_lower longer) result

@@ -13,7 +13,7 @@ use Rattle.bolt_tree.specs.Order.{Rises}
 use Rattle.bolt_tree.specs.Places.{least_from}
 use Rattle.bolt_tree.proofs.Filters.{filter_none, lt_of, not_true}
 use Rattle.bolt_tree.proofs.Lists.{contains_cases, contains_none}
-use Rattle.bolt_report.specs.KeyPrefixes.{beginning, begins}
+use Rattle.bolt_report.specs.KeyPrefixes.{with_prefix, begins}
 
 abbrev pub key_begins : Key → Key → Bool
 key_begins key prefix = starts_with (λ a b. a == b) key prefix
@@ -72,7 +72,7 @@ below_prefix (q ∷ p) (x ∷ a) less = step_below (nat_lt x q) (x == q) (q == x
 module _ (prefix : Key) where
   -- the first that doesn't begin so, and isn't below the prefix, ends them
   pub none_later : (e : LeafElement) (entries : List LeafElement) → Rises entry_cmp (e ∷ entries) → key_lt e.key prefix ≡ false → begins prefix e ≡ false
-      → beginning prefix (e ∷ entries) ≡ []
+      → with_prefix prefix (e ∷ entries) ≡ []
   none_later e entries rises after other =
       filter_none (begins prefix) (e ∷ entries) (λ f h. elim (contains_cases e f entries h) [
         | inl s ↦ subst (λ (x : LeafElement). begins prefix x ≡ false) s other
@@ -82,16 +82,16 @@ module _ (prefix : Key) where
       ])
 
   from_by : (e : LeafElement) (entries : List LeafElement) (b : Bool) → key_lt e.key prefix ≡ b
-      → beginning prefix entries ≡ beginning prefix (drop (least_from prefix entries) entries)
-      → beginning prefix (e ∷ entries) ≡ beginning prefix (drop (cond (not (not b)) (1 + least_from prefix entries) 0) (e ∷ entries))
+      → with_prefix prefix entries ≡ with_prefix prefix (drop (least_from prefix entries) entries)
+      → with_prefix prefix (e ∷ entries) ≡ with_prefix prefix (drop (cond (not (not b)) (1 + least_from prefix entries) 0) (e ∷ entries))
   from_by e entries true below later =
       let next : 1 + least_from prefix entries ≡ suc (least_from prefix entries) = omega arith in
-      let here : beginning prefix (e ∷ entries) ≡ beginning prefix entries = ap (λ (b : Bool). cond b (e ∷ beginning prefix entries) (beginning prefix entries)) (below_prefix prefix e.key below) in
-      here ∙ later ∙ ap (λ (n : ℕ). beginning prefix (drop n (e ∷ entries))) (sym next)
+      let here : with_prefix prefix (e ∷ entries) ≡ with_prefix prefix entries = ap (λ (b : Bool). cond b (e ∷ with_prefix prefix entries) (with_prefix prefix entries)) (below_prefix prefix e.key below) in
+      here ∙ later ∙ ap (λ (n : ℕ). with_prefix prefix (drop n (e ∷ entries))) (sym next)
   from_by e entries false below later = refl
 
   -- they are among the entries from the least one on that isn't below the prefix,
-  pub from_least : (entries : List LeafElement) → beginning prefix entries ≡ beginning prefix (drop (least_from prefix entries) entries)
+  pub from_least : (entries : List LeafElement) → with_prefix prefix entries ≡ with_prefix prefix (drop (least_from prefix entries) entries)
   from_least [] = refl
   from_least (e ∷ entries) = from_by e entries (key_lt e.key prefix) refl (from_least entries)
 

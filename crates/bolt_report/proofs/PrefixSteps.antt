@@ -34,7 +34,7 @@ use Rattle.bolt_tree.proofs.PagerLemmas.{counted_more}
 use Rattle.bolt_tree.proofs.SortedLemmas.{sorted_one}
 use Rattle.bolt_report.specs.Forms.{value_text}
 use Rattle.bolt_report.specs.KeyLines.{keys_text}
-use Rattle.bolt_report.specs.KeyPrefixes.{beginning, begins}
+use Rattle.bolt_report.specs.KeyPrefixes.{with_prefix, begins}
 use Rattle.bolt_report.specs.Reports.{Reports}
 use Rattle.bolt_report.specs.declared.fault.ReportFault.{ReportFault}
 use Rattle.bolt_report.specs.declared.fault.ReportFault.TheVariants.{NoMemory, Sink}
@@ -145,14 +145,14 @@ pub record Stage (b : BucketView) (first : ℕ) (prefix : Key) (entries : List L
   pub n : ℕ
   pub at : n ≡ least_from prefix entries + length done
   pub stands : StandsAt entries n place x
-  pub whole : beginning prefix entries ≡ done ++ beginning prefix (drop n entries)
+  pub whole : with_prefix prefix entries ≡ done ++ with_prefix prefix (drop n entries)
   pub rises : Rises entry_cmp (drop n entries)
   pub after : (f : LeafElement) → Contains (drop n entries) f → key_lt f.key prefix ≡ false
   pub opens : Opened b first prefix entries opened (length done)
 
 -- one that begins so is the first of them
-pub keeps : (prefix : Key) (e : LeafElement) (left : List LeafElement) → begins prefix e ≡ true → beginning prefix (e ∷ left) ≡ e ∷ beginning prefix left
-keeps prefix e left starts = ap (λ (t : Bool). cond t (e ∷ beginning prefix left) (beginning prefix left)) starts
+pub keeps : (prefix : Key) (e : LeafElement) (left : List LeafElement) → begins prefix e ≡ true → with_prefix prefix (e ∷ left) ≡ e ∷ with_prefix prefix left
+keeps prefix e left starts = ap (λ (t : Bool). cond t (e ∷ with_prefix prefix left) (with_prefix prefix left)) starts
 
 rises_later : (n : ℕ) (entries : List LeafElement) → Rises entry_cmp entries → Rises entry_cmp (drop n entries)
 rises_later zero entries rises = rises
@@ -193,8 +193,8 @@ module _ (b : BucketView) (first : ℕ) (prefix : Key) (entries : List LeafEleme
           n = suc n;
           at = let old = stage.at in omega (arith, old, count);
           stands = moved entries n place place2 x2 on moves;
-          whole = stage.whole ∙ ap (λ (l : List LeafElement). done ++ beginning prefix l) rest ∙ ap (λ (l : List LeafElement). done ++ l) (keeps prefix e (drop (suc n) entries) has)
-              ∙ sym (append_assoc done (e ∷ []) (beginning prefix (drop (suc n) entries)));
+          whole = stage.whole ∙ ap (λ (l : List LeafElement). done ++ with_prefix prefix l) rest ∙ ap (λ (l : List LeafElement). done ++ l) (keeps prefix e (drop (suc n) entries) has)
+              ∙ sym (append_assoc done (e ∷ []) (with_prefix prefix (drop (suc n) entries)));
           rises = rises.1;
           after = λ f more. stage.after f (subst (λ (l : List LeafElement). Contains l f) (sym rest) (contains_tail e f (drop (suc n) entries) more));
           opens = λ seek gap is gaps.
@@ -208,24 +208,24 @@ module _ (b : BucketView) (first : ℕ) (prefix : Key) (entries : List LeafEleme
         }
 
     -- no other begins so, since there is none,
-    pub none_shown : Stage b first prefix entries opened place None done → (n : ℕ) × (beginning prefix entries ≡ done ++ beginning prefix (drop n entries)) × (beginning prefix (drop n entries) ≡ [])
-    none_shown stage = (stage.n, stage.whole, ap (beginning prefix) stage.stands)
+    pub none_shown : Stage b first prefix entries opened place None done → (n : ℕ) × (with_prefix prefix entries ≡ done ++ with_prefix prefix (drop n entries)) × (with_prefix prefix (drop n entries) ≡ [])
+    none_shown stage = (stage.n, stage.whole, ap (with_prefix prefix) stage.stands)
 
     -- or since the next doesn't
     pub other_shown : (v : EntryView) → Stage b first prefix entries opened place (Some v) done → key_begins v.key prefix ≡ false
-        → (n : ℕ) × (beginning prefix entries ≡ done ++ beginning prefix (drop n entries)) × (beginning prefix (drop n entries) ≡ [])
+        → (n : ℕ) × (with_prefix prefix entries ≡ done ++ with_prefix prefix (drop n entries)) × (with_prefix prefix (drop n entries) ≡ [])
     other_shown v stage differs =
         let (e, shown, on, rest) = stage.stands in
         let n = stage.n in
         let apart : begins prefix e ≡ false = subst (λ (w : EntryView). key_begins w.key prefix ≡ false) shown differs in
         let after : key_lt e.key prefix ≡ false = stage.after e (subst (λ (l : List LeafElement). Contains l e) (sym rest) (contains_head e (drop (suc n) entries))) in
-        (n, stage.whole, ap (beginning prefix) rest ∙ none_later prefix e (drop (suc n) entries) (subst (Rises entry_cmp) rest stage.rises) after apart)
+        (n, stage.whole, ap (with_prefix prefix) rest ∙ none_later prefix e (drop (suc n) entries) (subst (Rises entry_cmp) rest stage.rises) after apart)
 
     -- so these are all
-    pub all_done : (x : Option EntryView) (stage : Stage b first prefix entries opened place x done) (left : List LeafElement) → beginning prefix entries ≡ done ++ left → left ≡ []
-        → Opened b first prefix entries opened (length (beginning prefix entries))
+    pub all_done : (x : Option EntryView) (stage : Stage b first prefix entries opened place x done) (left : List LeafElement) → with_prefix prefix entries ≡ done ++ left → left ≡ []
+        → Opened b first prefix entries opened (length (with_prefix prefix entries))
     all_done x stage left whole none =
-        let same : length (beginning prefix entries) ≡ length done = ap length (whole ∙ ap (λ (l : List LeafElement). done ++ l) none ∙ append-nil done) in
+        let same : length (with_prefix prefix entries) ≡ length done = ap length (whole ∙ ap (λ (l : List LeafElement). done ++ l) none ∙ append-nil done) in
         subst (Opened b first prefix entries opened) (sym same) stage.opens
 
 -- ---- their lines

@@ -10,7 +10,7 @@ use Rattle.bolt_check.specs.Subtrees.{Enough, kid_pages}
 use Rattle.bolt_check.proofs.TourSums.{enough_node}
 use Rattle.bolt_check.proofs.TreePages.{node_is}
 use Rattle.bolt_report.specs.Deepest.{greatest, inline_depth}
-use Rattle.bolt_report.specs.Readings.{unread_page, root_of}
+use Rattle.bolt_report.specs.Readings.{unread_page, root_page_of}
 use Rattle.bolt_report.specs.declared.bucket_figures.UnreadPage.{UnreadPage}
 use Rattle.bolt_report.proofs.DepthSums.{greatest_append}
 use Rattle.bolt_report.proofs.ListWrites.{flat_map-take_more, take_more}
@@ -24,10 +24,10 @@ children_next cur new old p opened xs i e pushed same found before =
 
 -- the buckets of one element more were found
 pub roots_next : (cur new old : List ℕ) (xs : List LeafElement) (i : ℕ) (e : LeafElement)
-    → new ≡ cur ++ root_of e → slice_get xs i ≡ Some e → cur ≡ old ++ flat_map root_of (take i xs) → new ≡ old ++ flat_map root_of (take (i + 1) xs)
+    → new ≡ cur ++ root_page_of e → slice_get xs i ≡ Some e → cur ≡ old ++ flat_map root_page_of (take i xs) → new ≡ old ++ flat_map root_page_of (take (i + 1) xs)
 roots_next cur new old xs i e pushed found before =
-    let more = ap (λ k. flat_map root_of (take k xs)) (add-one i) ∙ flat_map-take_more root_of xs i e found in
-    pushed ∙ ap (λ l. l ++ root_of e) before ∙ append_assoc old (flat_map root_of (take i xs)) (root_of e) ∙ ap (λ l. old ++ l) (sym more)
+    let more = ap (λ k. flat_map root_page_of (take k xs)) (add-one i) ∙ flat_map-take_more root_page_of xs i e found in
+    pushed ∙ ap (λ l. l ++ root_page_of e) before ∙ append_assoc old (flat_map root_page_of (take i xs)) (root_page_of e) ∙ ap (λ l. old ++ l) (sym more)
 
 pub branch_kids : (depth : ℕ) (xs : List BranchElement) → map (unread_page depth) (kid_pages false (map branch_entry xs)) ≡ map (λ (x : BranchElement). unread_page depth x.child) xs
 branch_kids depth [] = refl
@@ -41,9 +41,9 @@ inline_next old new here xs i e is most found before =
     let more = ap (λ k. greatest depth (take k xs)) (add-one i) ∙ ap (greatest depth) (take_more xs i e found) ∙ greatest_append depth (take i xs) (e ∷ []) in
     omega (arith, is, most, before, more)
 
-pub leaf_kids : (xs : List LeafElement) → kid_pages true (map leaf_entry xs) ≡ flat_map root_of xs
+pub leaf_kids : (xs : List LeafElement) → kid_pages true (map leaf_entry xs) ≡ flat_map root_page_of xs
 leaf_kids [] = refl
-leaf_kids (x ∷ xs) = ap (λ (l : List ℕ). root_of x ++ l) (leaf_kids xs)
+leaf_kids (x ∷ xs) = ap (λ (l : List ℕ). root_page_of x ++ l) (leaf_kids xs)
 
 module _ (file : List ℕ) (meta : Meta) (n : ℕ) (view : PageView) (at : page_at file meta n ≡ Some view) where
   pub no_meta : (k : ℕ) → Enough (node_at file meta) k n → view.kind ≡ kind.Meta → ⊥

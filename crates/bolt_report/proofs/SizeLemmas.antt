@@ -6,7 +6,7 @@ use Rattle.std.proofs.Props.{props}
 use Rattle.std.proofs.lemmas.Grind.{flat_map-append}
 use Rattle.std.specs.List.{AllByRecursion, Contains}
 use Rattle.std.specs.Prelude.{⊤, IsErr, IsErrAnd}
-use Rattle.bolt_format.proofs.SinkLemmas.{AppendsBeginning-first, AppendsBeginning-second}
+use Rattle.bolt_format.proofs.SinkLemmas.{AppendsPrefix-first, AppendsPrefix-second}
 use Rattle.bolt_format.specs.Elements.{LeafElement}
 use Rattle.bolt_format.specs.declared.meta.Meta.{Meta}
 use Rattle.bolt_check.specs.CheckedFiles.{bytes_of, meta_of}
@@ -156,7 +156,7 @@ module _ {S : Type 0} (taken : S → Option (List ℕ)) (failed : S → ℕ) (ol
   reports_more a b = record {
     all = Appends-trans (taken old) (taken mid) (taken new) first second a.all b.all;
     sound = b.sound ∙ a.sound;
-    beginning = AppendsBeginning-second (taken old) (taken mid) (taken new) first second a.all b.beginning;
+    prefix = AppendsPrefix-second (taken old) (taken mid) (taken new) first second a.all b.prefix;
     failure = λ e. absurd (no_fault tt Sink e);
   }
 
@@ -165,6 +165,6 @@ module _ {S : Type 0} (taken : S → Option (List ℕ)) (failed : S → ℕ) (ol
   reports_cut rest fault a b = record {
     all = tt;
     sound = tt;
-    beginning = AppendsBeginning-second (taken old) (taken mid) (taken new) first (second ++ rest) a.all (AppendsBeginning-first (taken mid) (taken new) second rest b.beginning);
+    prefix = AppendsPrefix-second (taken old) (taken mid) (taken new) first (second ++ rest) a.all (AppendsPrefix-first (taken mid) (taken new) second rest b.prefix);
     failure = b.failure;
   }

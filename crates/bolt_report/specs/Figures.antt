@@ -59,16 +59,16 @@ add_stats a b = record {
 }
 
 -- the bytes that elements use, with their page's header
-abbrev pub branch_bytes : List BranchElement → ℕ
-branch_bytes elements = 16 + sum_by (λ (e : BranchElement). 16 + length e.key) elements
+abbrev pub used_by_branches : List BranchElement → ℕ
+used_by_branches elements = 16 + sum_by (λ (e : BranchElement). 16 + length e.key) elements
 
-abbrev pub leaf_bytes : List LeafElement → ℕ
-leaf_bytes elements = 16 + sum_by (λ (e : LeafElement). 16 + length e.key + length e.value) elements
+abbrev pub used_by_leaves : List LeafElement → ℕ
+used_by_leaves elements = 16 + sum_by (λ (e : LeafElement). 16 + length e.key + length e.value) elements
 
 abbrev pub inline_figure : Figure → List LeafElement → ℕ
 inline_figure buckets elements = 1
 inline_figure inline_buckets elements = 1
-inline_figure inline_used elements = leaf_bytes elements
+inline_figure inline_used elements = used_by_leaves elements
 inline_figure keys elements = length elements
 inline_figure branch_pages elements = 0
 inline_figure branch_overflow elements = 0
@@ -109,7 +109,7 @@ branch_figure keys page_size view = 0
 branch_figure branch_pages page_size view = 1
 branch_figure branch_overflow page_size view = view.overflow
 branch_figure branch_allocated page_size view = allocated page_size view
-branch_figure branch_used page_size view = branch_bytes view.branches
+branch_figure branch_used page_size view = used_by_branches view.branches
 branch_figure leaf_pages page_size view = 0
 branch_figure leaf_overflow page_size view = 0
 branch_figure leaf_allocated page_size view = 0
@@ -127,7 +127,7 @@ leaf_figure branch_used page_size view = 0
 leaf_figure leaf_pages page_size view = 1
 leaf_figure leaf_overflow page_size view = view.overflow
 leaf_figure leaf_allocated page_size view = allocated page_size view
-leaf_figure leaf_used page_size view = leaf_bytes view.leaves
+leaf_figure leaf_used page_size view = used_by_leaves view.leaves
 
 -- the figures of a page, with the inline buckets in it
 abbrev pub kind_figure : Kind → Figure → ℕ → PageView → ℕ

@@ -27,13 +27,13 @@ abbrev pub json_text : Json → List ℕ
 json_text value = print (json_tokens value)
 
 -- as it is if it is printable, otherwise in hexadecimal; in hexadecimal; as it is; as it is if it is a text, otherwise in hexadecimal; as JSON
-abbrev pub shown_as : form.Form → List ℕ → List ℕ
-shown_as form.TheVariants.Printable bytes = if is_printable bytes then bytes else encode_lower bytes
-shown_as form.TheVariants.Hex bytes = encode_lower bytes
-shown_as form.TheVariants.Bytes bytes = bytes
-shown_as form.TheVariants.Text bytes = if is_text bytes then bytes else encode_lower bytes
-shown_as form.TheVariants.Json bytes = json_text (item_json bytes)
+abbrev pub item_text : form.Form → List ℕ → List ℕ
+item_text form.TheVariants.Printable bytes = if is_printable bytes then bytes else encode_lower bytes
+item_text form.TheVariants.Hex bytes = encode_lower bytes
+item_text form.TheVariants.Bytes bytes = bytes
+item_text form.TheVariants.Text bytes = if is_text bytes then bytes else encode_lower bytes
+item_text form.TheVariants.Json bytes = json_text (item_json bytes)
 
 -- an item in a form is a line
 abbrev pub value_text : form.Form → List ℕ → List ℕ
-value_text form bytes = line (shown_as form bytes)
+value_text form bytes = line (item_text form bytes)

@@ -12,13 +12,13 @@ abbrev pub begins : Key → LeafElement → Bool
 begins prefix e = starts_with (λ a b. a == b) e.key prefix
 
 -- the entries whose keys begin with these bytes
-abbrev pub beginning : Key → List LeafElement → List LeafElement
-beginning prefix entries = filter (begins prefix) entries
+abbrev pub with_prefix : Key → List LeafElement → List LeafElement
+with_prefix prefix entries = filter (begins prefix) entries
 
 -- What is opened for them: what a seek of these bytes opens, and then the pages between each of them and the entry after it, or the
 -- bucket's end.
-abbrev pub OpensBeginning : BucketView → Key → (old new : ℕ) → Type 0
-OpensBeginning b prefix old new =
+abbrev pub OpensPrefix : BucketView → Key → (old new : ℕ) → Type 0
+OpensPrefix b prefix old new =
     (entries : List LeafElement) (seek : ℕ) (gap : ℕ → ℕ) → AreSorted b entries → IsSeekCount b.file b.meta b.start entries prefix seek
     → ((i : ℕ) → IsGap b.file b.meta b.start entries i (gap i))
-    → new ≡ counted old (seek + sum_to (λ i. gap (suc (least_from prefix entries + i))) (length (beginning prefix entries)))
+    → new ≡ counted old (seek + sum_to (λ i. gap (suc (least_from prefix entries + i))) (length (with_prefix prefix entries)))

@@ -39,8 +39,8 @@ abbrev pub one : ℕ → ℕ
 one n = 1
 
 -- the root page of the bucket that an element of a leaf is, unless it is inline
-abbrev pub root_of : LeafElement → List ℕ
-root_of e = if e.is_bucket then (if head_root e.value == 0 then [] else head_root e.value ∷ []) else []
+abbrev pub root_page_of : LeafElement → List ℕ
+root_page_of e = if e.is_bucket then (if head_root e.value == 0 then [] else head_root e.value ∷ []) else []
 
 -- the children of a branch, and the root pages of the buckets of a leaf
 abbrev pub pages_in_bucket : Bool → List Entry → List ℕ

@@ -1,7 +1,7 @@
 -- What a call that prints leaves on its sink: docs/PROMISES.md, "What is printed".
 use Rattle.std.specs.Prelude.{◌≡◌, ◌<◌, ℕ, List, Option, Result, Err, OnOk}
 use Rattle.std.specs.Io.KnownBytes.{Appends}
-use Rattle.bolt_format.specs.Sinks.{AppendsBeginning}
+use Rattle.bolt_format.specs.Sinks.{AppendsPrefix}
 use Rattle.bolt_report.specs.declared.fault.ReportFault.{ReportFault}
 use Rattle.bolt_report.specs.declared.fault.ReportFault.TheVariants.{Sink}
 
@@ -10,5 +10,5 @@ use Rattle.bolt_report.specs.declared.fault.ReportFault.TheVariants.{Sink}
 pub record Reports {S A : Type 0} (taken : S → Option (List ℕ)) (failed : S → ℕ) (old new : S) (text : List ℕ) (result : Result A ReportFault) : Type 0 where
   pub all : OnOk result (Appends (taken old) (taken new) text)
   pub sound : OnOk result (failed new ≡ failed old)
-  pub beginning : AppendsBeginning (taken old) (taken new) text
+  pub prefix : AppendsPrefix (taken old) (taken new) text
   pub failure : result ≡ Err Sink → 0 < failed new

@@ -11,7 +11,7 @@ ghost use Rattle.bolt_check.specs.Subtrees.{Enough, Has};
 ghost use Rattle.bolt_tree.specs.Buckets.{bucket_checked, bucket_start};
 ghost use Rattle.bolt_report.specs.Deepest.{deepest_of, depth_of, greatest, height_of, inline_depth, inner_inline, leaf_depth};
 ghost use Rattle.bolt_report.specs.Figures.{Figure, bucket_figure, capped, figure};
-ghost use Rattle.bolt_report.specs.Readings.{AreGood, inner_pages, inner_roots, numbers_of, one, unread_bucket, unread_page, own_figure, root_of, roots_of, total_of};
+ghost use Rattle.bolt_report.specs.Readings.{AreGood, inner_pages, inner_roots, numbers_of, one, unread_bucket, unread_page, own_figure, root_page_of, roots_of, total_of};
 ghost use Rattle.bolt_report.specs.StatsOf.{IsStatsOf};
 ghost use Rattle.bolt_report.specs.declared.bucket_figures.UnreadBucket.{UnreadBucket};
 
@@ -187,7 +187,7 @@ fn add_children(page: &Page<'_>, depth: u64, pages: &mut Vec<UnreadPage>) -> Res
 /// there are none.
 fn find_buckets(page: &Page<'_>, roots: &mut Vec<u64>) -> Result<u64, AllocError>
     requires { (shown page.now).kind ≡ Kind.Leaf }
-    ensures roots { OnOk result (roots.new.items ≡ roots.old.items ++ flat_map root_of (shown page.now).leaves) }
+    ensures roots { OnOk result (roots.new.items ≡ roots.old.items ++ flat_map root_page_of (shown page.now).leaves) }
     ensures depth { IfOk result (λ depth. depth ≡ greatest (λ e. inline_depth (leaf_entry e)) (shown page.now).leaves) }
 {
     let mut deepest = 0;
@@ -214,7 +214,7 @@ fn inline_depth(leaf: &Leaf<'_>) -> u64
 /// Adds the root page of an element's bucket, if it has one.
 fn push_root(leaf: &Leaf<'_>, roots: &mut Vec<u64>) -> Result<(), AllocError>
     requires { IsTrue leaf.now.is_bucket → IsBucketValue leaf.now.value.now }
-    ensures { OnOk result (roots.new.items ≡ roots.old.items ++ root_of (leaf_view leaf.now)) }
+    ensures { OnOk result (roots.new.items ≡ roots.old.items ++ root_page_of (leaf_view leaf.now)) }
 {
     if leaf.is_bucket {
         let root = head(leaf.value).root;

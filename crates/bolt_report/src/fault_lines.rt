@@ -19,7 +19,7 @@ pub fn meta_fault_text<S: Sink>(fault: MetaFault, sink: &mut S) -> Result<(), Re
     ensures written { Reports S.taken S.failed sink.old sink.new (meta_fault_text fault) result }
     ensures fault { IfErr result (λ fault. fault ≡ ReportFault.Sink) }
 {
-    put(meta_fault_words(fault), sink)?;
+    put(meta_fault_line(fault), sink)?;
     Ok(())
 }
 
@@ -32,7 +32,7 @@ pub fn page_fault_text<S: Sink>(fault: &PageFault, sink: &mut S) -> Result<(), R
     ensures written { Reports S.taken S.failed sink.old sink.new (page_fault_text fault.now) result }
     ensures fault { IfErr result (λ fault. fault ≡ ReportFault.Sink) }
 {
-    put(page_fault_sentence(fault).as_slice(), sink)?;
+    put(page_fault_line(fault).as_slice(), sink)?;
     Ok(())
 }
 
@@ -95,7 +95,7 @@ pub(crate) fn count_line(count: u64) -> Text
     text
 }
 
-fn meta_fault_words(fault: MetaFault) -> &'static [u8]
+fn meta_fault_line(fault: MetaFault) -> &'static [u8]
     ensures { result.now ≡ meta_fault_text fault }
 {
     match fault {
@@ -107,7 +107,7 @@ fn meta_fault_words(fault: MetaFault) -> &'static [u8]
     }
 }
 
-fn page_fault_sentence(fault: &PageFault) -> Text
+fn page_fault_line(fault: &PageFault) -> Text
     ensures { result.items ≡ page_fault_text fault.now }
 {
     let mut text = Text::new();

@@ -2,7 +2,7 @@
 ghost use Rattle.std.specs.Prelude.{◌≡◌, ◌⊎◌, IfErr, if◌then◌else◌};
 ghost use Rattle.hex.specs.Hex.{encode_lower};
 ghost use Rattle.bolt_format.specs.Writes.{Writes};
-ghost use Rattle.bolt_report.specs.Forms.{is_printable, is_text, shown_as, value_text};
+ghost use Rattle.bolt_report.specs.Forms.{is_printable, is_text, item_text, value_text};
 ghost use Rattle.bolt_report.specs.Reports.{Reports};
 
 use crate::fault::ReportFault;
@@ -50,7 +50,7 @@ impl ItemWriter {
     /// Writes a key or a value.
     pub(crate) fn put<S: Sink>(&mut self, bytes: &[u8], sink: &mut S) -> Result<(), ReportFault>
         ensures form { self.new.form ≡ self.old.form }
-        ensures written { Reports S.taken S.failed sink.old sink.new (shown_as self.old.form bytes.now) result }
+        ensures written { Reports S.taken S.failed sink.old sink.new (item_text self.old.form bytes.now) result }
         ensures fault { IfErr result (λ fault. (fault ≡ ReportFault.Sink) ⊎ ((fault ≡ ReportFault.NoMemory) × (self.old.form ≡ Form.Json))) }
         ensures memory { IfErr result (λ fault. fault ≡ ReportFault.NoMemory → S.failed sink.new ≡ S.failed sink.old) }
     {

@@ -1,7 +1,7 @@
 //! The keys of a bucket that begin with given bytes, as a text.
 ghost use Rattle.std.specs.Prelude.{◌≡◌, ◌⊎◌, IfErr, OnOk};
 ghost use Rattle.bolt_report.specs.KeyLines.{keys_text};
-ghost use Rattle.bolt_report.specs.KeyPrefixes.{OpensBeginning, beginning};
+ghost use Rattle.bolt_report.specs.KeyPrefixes.{OpensPrefix, with_prefix};
 ghost use Rattle.bolt_report.specs.Reports.{Reports};
 ghost use Rattle.bolt_tree.specs.Cursors.{cursor_bucket, cursor_checked, cursor_opened, cursor_start};
 ghost use Rattle.bolt_tree.specs.EntriesLeft.{ForEntries};
@@ -23,15 +23,15 @@ use std::alloc::Global;
 /// `Sink` if the sink failed; `NoMemory` if memory ran out for a JSON text, and the sink had not
 /// failed. The sink has then accepted a prefix of the text. There is no other error, and no other
 /// form needs memory.
-pub fn keys_beginning<S: Sink>(
+pub fn keys_with_prefix<S: Sink>(
     alloc: Global,
     cursor: &mut Cursor<'_>,
     prefix: &[u8],
     form: Form,
     sink: &mut S,
 ) -> Result<(), ReportFault>
-    ensures written { ForEntries (cursor_checked cursor.old) (cursor_start cursor.old) (λ entries. Reports S.taken S.failed sink.old sink.new (keys_text form (beginning prefix.now entries)) result) }
-    ensures opens { OnOk result (OpensBeginning (cursor_bucket cursor.old) prefix.now (cursor_opened cursor.old) (cursor_opened cursor.new)) }
+    ensures written { ForEntries (cursor_checked cursor.old) (cursor_start cursor.old) (λ entries. Reports S.taken S.failed sink.old sink.new (keys_text form (with_prefix prefix.now entries)) result) }
+    ensures opens { OnOk result (OpensPrefix (cursor_bucket cursor.old) prefix.now (cursor_opened cursor.old) (cursor_opened cursor.new)) }
     ensures checked { cursor_checked cursor.new ≡ cursor_checked cursor.old }
     ensures start { cursor_start cursor.new ≡ cursor_start cursor.old }
     ensures fault { IfErr result (λ fault. (fault ≡ ReportFault.Sink) ⊎ ((fault ≡ ReportFault.NoMemory) × (form ≡ Form.Json))) }

@@ -36,7 +36,7 @@ pub use fault_lines::{finding_text, findings_text, meta_fault_text, page_fault_t
 pub use figures::{Stats, add, stats_text};
 pub use form::{Form, ListForm};
 pub use key_lines::{buckets, keys};
-pub use key_prefixes::keys_beginning;
+pub use key_prefixes::keys_with_prefix;
 pub use list_lines::{list, list_recovered};
 pub use loss_lines::{all_lost_text, counted_losses_text, losses_text};
 pub use maps::page_map;

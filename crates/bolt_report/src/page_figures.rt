@@ -4,7 +4,7 @@ ghost use Rattle.bolt_format.specs.Elements.{IsBucketValue};
 ghost use Rattle.bolt_format.specs.ElementPlaces.{leaf_view};
 ghost use Rattle.bolt_format.specs.Shown.{shown};
 ghost use Rattle.bolt_format.specs.ShownInline.{shown_inline};
-ghost use Rattle.bolt_report.specs.Figures.{Figure, allocated, branch_bytes, branch_figure, capped, element_figure, figure, inline_figure, kind_figure, leaf_bytes, leaf_figure};
+ghost use Rattle.bolt_report.specs.Figures.{Figure, allocated, used_by_branches, branch_figure, capped, element_figure, figure, inline_figure, kind_figure, used_by_leaves, leaf_figure};
 
 use crate::figures::{Stats, add};
 use bolt_format::{ELEMENT_LEN, HEADER_LEN, Inline, Kind, Leaf, Page, head, inline};
@@ -26,7 +26,7 @@ fn leaf_size(leaf: &Leaf<'_>) -> u64
 
 /// The bytes used of an inline bucket's page: its header and its elements.
 fn inline_used(page: &Inline<'_>) -> u64
-    ensures { result ≡ capped (leaf_bytes (shown_inline page.now)) }
+    ensures { result ≡ capped (used_by_leaves (shown_inline page.now)) }
 {
     let mut used = PAGE_HEADER;
     for i in 0..page.count() {
@@ -77,7 +77,7 @@ fn allocated(page: &Page<'_>, page_size: u32) -> u64
 #[tactic(auto, using(bolt_format::proofs::ListLemmas::drop_next, std::proofs::lemmas::List::drop_all))]
 fn branch_used(page: &Page<'_>) -> u64
     requires { (shown page.now).kind ≡ Kind.Branch }
-    ensures { result ≡ capped (branch_bytes (shown page.now).branches) }
+    ensures { result ≡ capped (used_by_branches (shown page.now).branches) }
 {
     let mut used = PAGE_HEADER;
     for i in 0..page.count() {
@@ -106,7 +106,7 @@ fn branch_stats(page: &Page<'_>, page_size: u32) -> Stats
 /// The bytes used of a leaf: its header and its elements.
 fn leaf_used(page: &Page<'_>) -> u64
     requires { (shown page.now).kind ≡ Kind.Leaf }
-    ensures { result ≡ capped (leaf_bytes (shown page.now).leaves) }
+    ensures { result ≡ capped (used_by_leaves (shown page.now).leaves) }
 {
     let mut used = PAGE_HEADER;
     for i in 0..page.count() {

@@ -1,6 +1,6 @@
 //! A key or a value in a form.
 ghost use Rattle.std.specs.Prelude.{◌≡◌, ◌⊎◌, IfErr};
-ghost use Rattle.bolt_report.specs.Forms.{shown_as, value_text};
+ghost use Rattle.bolt_report.specs.Forms.{item_text, value_text};
 ghost use Rattle.bolt_report.specs.Reports.{Reports};
 
 use crate::fault::ReportFault;
@@ -37,7 +37,7 @@ pub fn item<S: Sink>(
     form: Form,
     sink: &mut S,
 ) -> Result<(), ReportFault>
-    ensures written { Reports S.taken S.failed sink.old sink.new (shown_as form bytes.now) result }
+    ensures written { Reports S.taken S.failed sink.old sink.new (item_text form bytes.now) result }
     ensures fault { IfErr result (λ fault. (fault ≡ ReportFault.Sink) ⊎ ((fault ≡ ReportFault.NoMemory) × (form ≡ Form.Json))) }
     ensures memory { IfErr result (λ fault. fault ≡ ReportFault.NoMemory → S.failed sink.new ≡ S.failed sink.old) }
 {

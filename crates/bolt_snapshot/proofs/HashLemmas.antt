@@ -5,7 +5,7 @@ use Rattle.std.proofs.Math.Seq.{drop-append_seam}
 use Rattle.std.proofs.Props.{props}
 use Rattle.std.specs.Prelude.{IfErr, IfSome}
 use Rattle.std.specs.Io.KnownBytes.{Appends}
-use Rattle.bolt_format.specs.Sinks.{AppendsProperBeginning}
+use Rattle.bolt_format.specs.Sinks.{AppendsProperPrefix}
 use Rattle.sha2.specs.Sha256.{sha256}
 use Rattle.sha2.proofs.Facts256.{length-sha256}
 use Rattle.bolt_snapshot.specs.Hashes.{AppendsHash, AppendsHashShort, EndsWith, IsSteady}
@@ -53,12 +53,12 @@ hash_not_empty : (text : List ℕ) → sha256 text ≢ []
 hash_not_empty text none = let long : length (sha256 text) ≡ 0 = ap length none in absurd (omega (arith, long, length-sha256 text))
 
 pub AppendsHash-short : (old new : Option (List ℕ)) (hash : Hashing) (digest : List ℕ) (n : ℕ) → hash.count ≡ n → ((m : List ℕ) → HashOf hash m → digest ≡ sha256 m)
-    → ∥ HashesEnd old (Some hash) ∥₁ → (digest ≢ [] → AppendsProperBeginning old new digest) → AppendsHashShort old new n
+    → ∥ HashesEnd old (Some hash) ∥₁ → (digest ≢ [] → AppendsProperPrefix old new digest) → AppendsHashShort old new n
 AppendsHash-short None new hash digest n counted is end taken text long last =
     record { front = []; rest = sha256 text; parts = refl; short = hash_not_empty text; taken = tt }
 AppendsHash-short (Some xs) new hash digest n counted is end taken text long last =
     let same = digest_of_end xs hash digest n counted is end text long last in
-    subst (λ (l : List ℕ). AppendsProperBeginning (Some xs) new l) same (taken (λ none. hash_not_empty text (sym same ∙ none)))
+    subst (λ (l : List ℕ). AppendsProperPrefix (Some xs) new l) same (taken (λ none. hash_not_empty text (sym same ∙ none)))
 
 -- what holds anyhow holds at each fault
 pub any_err : {A E X : Type 0} (result : Result A E) (fault : E) → X → IfErr result (λ e. e ≡ fault → X)

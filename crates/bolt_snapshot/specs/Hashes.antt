@@ -1,7 +1,7 @@
 -- What a sink accepts of a hash.
 use Rattle.std.specs.Prelude.{◌≡◌, ◌+◌, ◌<◌, ◌^◌, ⊤, ℕ, List, ◌++◌, length, Option, None, Some, SomeIff}
 use Rattle.std.specs.Io.KnownBytes.{Appends}
-use Rattle.bolt_format.specs.Sinks.{AppendsProperBeginning}
+use Rattle.bolt_format.specs.Sinks.{AppendsProperPrefix}
 use Rattle.sha2.specs.Sha256.{sha256}
 
 -- The last bytes that a sink accepted are this text, if it shows its bytes.
@@ -15,7 +15,7 @@ AppendsHash old new count = (text : List ℕ) → length text ≡ count → Ends
 
 -- A prefix of it was appended, but not all of it.
 abbrev pub AppendsHashShort : (old new : Option (List ℕ)) → (count : ℕ) → Type 0
-AppendsHashShort old new count = (text : List ℕ) → length text ≡ count → EndsWith old text → AppendsProperBeginning old new (sha256 text)
+AppendsHashShort old new count = (text : List ℕ) → length text ≡ count → EndsWith old text → AppendsProperPrefix old new (sha256 text)
 
 -- The number of hashed bytes grows by `more`. It is lost if it would be 2^64 or more.
 abbrev pub CountsOn : (old new : Option ℕ) → (more : ℕ) → Type 0

@@ -1,7 +1,7 @@
 //! A sink that hashes what it hands on.
 ghost use Rattle.std.specs.Prelude.{◌≡◌, ◌≢◌, ◌<◌, [], IsErr, OnErr, OnOk, None, length};
 ghost use Rattle.std.specs.Io.KnownBytes.{Appends, Keeps};
-ghost use Rattle.bolt_format.specs.Sinks.{AppendsBeginning, AppendsProperBeginning};
+ghost use Rattle.bolt_format.specs.Sinks.{AppendsPrefix, AppendsProperPrefix};
 ghost use Rattle.bolt_snapshot.specs.Hashes.{CountsOn, IsSteady};
 ghost use Rattle.bolt_snapshot.specs.Hashings.{HashesEnd, counted};
 
@@ -59,8 +59,8 @@ impl<S: Sink> Sink for HashedSink<S> {
     fn put(&mut self, bytes: &[u8]) -> Result<(), SinkFault>
         ensures all { OnOk result (Appends (S.taken self.old.inner) (S.taken self.new.inner) bytes.now) }
         ensures sound { OnOk result (S.failed self.new.inner ≡ S.failed self.old.inner) }
-        ensures beginning { AppendsBeginning (S.taken self.old.inner) (S.taken self.new.inner) bytes.now }
-        ensures short { OnErr result (bytes.now ≢ [] → AppendsProperBeginning (S.taken self.old.inner) (S.taken self.new.inner) bytes.now) }
+        ensures prefix { AppendsPrefix (S.taken self.old.inner) (S.taken self.new.inner) bytes.now }
+        ensures short { OnErr result (bytes.now ≢ [] → AppendsProperPrefix (S.taken self.old.inner) (S.taken self.new.inner) bytes.now) }
         ensures failure { OnErr result (0 < S.failed self.new.inner) }
         ensures refuses { 0 < S.failed self.old.inner → IsErr result }
         ensures keeps { 0 < S.failed self.old.inner → Keeps (S.taken self.old.inner) (S.taken self.new.inner) }

@@ -28,7 +28,7 @@ pub back_over : (found : Option Leaf) (whole before after : List LeafElement) (f
 back_over None whole before after frames end e h = (e ∙ h.0, h.1)
 back_over (Some leaf) whole before after frames end e h = (e ∙ h.0, h.1)
 
--- What a step within a leaf finds: where it rests on a leaf, taking an element of that leaf answers it and opens nothing.
+-- What a step within a leaf finds: where it rests on a leaf, taking an element of that leaf returns it and opens nothing.
 leaf_taken : (contents : Contents) (at_end : Bool) (content : Content) (t i : ℕ) (below new : List Frame) → RestsOn content t → IsEntered contents at_end content i below new None → ⊥
 leaf_taken contents at_end (Of_leaf es) t i below new rest h = h
 leaf_taken contents at_end (Of_branch bs) t i below new rest h = rest

@@ -54,7 +54,7 @@ impl<'a> Walk<'a> {
         Ok(Walk { buckets, ahead })
     }
 
-    /// Returns the next item, or `None` if nothing is left, then and ever after.
+    /// Returns the next item, or `None` if nothing is left; so do all later calls.
     ///
     /// # Errors
     ///

@@ -4,7 +4,7 @@ use crate::fault::Fault;
 use crate::words::{bucket_at, bytes_of, push_word};
 use bolt_check::check;
 use bolt_format::MemSink;
-use bolt_report::{Form, keys_beginning};
+use bolt_report::{Form, keys_with_prefix};
 use bolt_tree::{Cursor, Entry};
 use std::alloc::Global;
 
@@ -109,7 +109,7 @@ pub fn run_prefixes(alloc: Global, file: &[u8], words: &[String]) -> Result<Vec<
     for word in prefixes {
         let prefix = bytes_of(alloc, word.as_str())?;
         let before = cursor.opened();
-        keys_beginning(
+        keys_with_prefix(
             alloc,
             &mut cursor,
             prefix.as_slice(),

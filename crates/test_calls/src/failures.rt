@@ -146,8 +146,8 @@ fn is_halted(
     let writer = sink.into_inner();
     let taken = writer.taken.as_slice();
     let is_right = if has_failed {
-        let is_beginning = whole.starts_with(taken) && taken.len() < whole.len();
-        is_reported && is_over && writer.calls == refused && is_beginning
+        let is_prefix = whole.starts_with(taken) && taken.len() < whole.len();
+        is_reported && is_over && writer.calls == refused && is_prefix
     } else {
         taken.starts_with(whole)
     };

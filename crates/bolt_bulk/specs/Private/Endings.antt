@@ -2,7 +2,7 @@
 use Rattle.std.specs.Prelude.{◌≡◌, ◌<◌, ◌≤◌, ℕ, List, [], ◌∷◌, ◌++◌, length, true, Option, Result, IfErr, IfOk, OnErr}
 use Rattle.bolt_check.specs.Keys.{Key}
 use Rattle.bolt_format.specs.ElementLengths.{IsValueLength}
-use Rattle.bolt_format.specs.Sinks.{AppendsProperBeginning}
+use Rattle.bolt_format.specs.Sinks.{AppendsProperPrefix}
 use Rattle.bolt_tree.specs.Entries.{Bucket, Item, Value}
 use Rattle.bolt_tree.specs.Listing.{Member}
 use Rattle.bolt_tree.specs.Paths.{Path}
@@ -24,7 +24,7 @@ pub record Ends {S : Type 0} (wanted : Wanted) (taken : S → Option (List ℕ))
   pub others : List Placed
   pub all : layout_pages wanted.which setup.page_size wanted.tree ≡ put ++ others
   pub puts : Puts taken failed old new (placed_bytes setup.page_size others) result
-  pub short : OnErr result (AppendsProperBeginning (taken old) (taken new) (placed_bytes setup.page_size others))
+  pub short : OnErr result (AppendsProperPrefix (taken old) (taken new) (placed_bytes setup.page_size others))
   pub root : IfOk result (λ ended. ended.root ≡ layout_root wanted.which setup.page_size wanted.tree)
   pub mark : IfOk result (λ ended. ended.high_water ≡ layout_mark wanted.which setup.page_size wanted.tree)
   pub within : IfOk result (λ ended. ended.high_water ≤ setup.limit)

@@ -3,7 +3,7 @@ use Rattle.std.proofs.Common.{◌≡◌, ◌<◌, IfOk, List, OnOk, length, refl
 use Rattle.bolt_check.specs.CheckedFiles.{bytes_of, meta_of}
 use Rattle.bolt_check.specs.declared.checked_file.Checked.{Checked}
 use Rattle.bolt_format.specs.declared.meta.Meta.{Meta}
-use Rattle.bolt_layout.specs.Copies.{IsSoundCopy, RefusesBeginnings, layout_of_listing}
+use Rattle.bolt_layout.specs.Copies.{IsSoundCopy, RefusesPrefixes, layout_of_listing}
 use Rattle.bolt_layout.specs.Layout.{layout_held, layout_root}
 use Rattle.bolt_tree.specs.Listing.{IsListing, Member}
 use Rattle.bolt_tree.specs.Tree.{tree_of}
@@ -32,9 +32,9 @@ returns-clause-held g c = subst
     → done.held ≡ layout_held c.args.layout c.args.page_size (tree_of listing)))
     c.new.ensures.checked c.put_members.ensures.held
 
-pub returns-clause-beginnings : goal.returns-clause-beginnings
-returns-clause-beginnings g c = subst₂
+pub returns-clause-prefixes : goal.returns-clause-prefixes
+returns-clause-prefixes g c = subst₂
     (λ (file : Checked) (meta : Meta). (listing : List Member) → IsListing (bytes_of file) (meta_of file) listing
     → length (layout_of_listing c.args.layout c.args.page_size listing meta.root_sequence) < too_many
-    → ∥ RefusesBeginnings (layout_of_listing c.args.layout c.args.page_size listing meta.root_sequence) (layout_root c.args.layout c.args.page_size (tree_of listing)) ∥₁)
-    c.new.ensures.checked c.meta.ensures c.put_members.ensures.beginnings
+    → ∥ RefusesPrefixes (layout_of_listing c.args.layout c.args.page_size listing meta.root_sequence) (layout_root c.args.layout c.args.page_size (tree_of listing)) ∥₁)
+    c.new.ensures.checked c.meta.ensures c.put_members.ensures.prefixes

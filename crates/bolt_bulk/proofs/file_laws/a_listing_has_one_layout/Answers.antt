@@ -10,5 +10,5 @@ returns-clause-accepted c = accepted c.args.page_size c.args.sequence c.requires
 pub returns-clause-held : goal.returns-clause-held
 returns-clause-held c = holds_few c.args.page_size c.args.sequence c.requires c.held_is_small.ensures
 
-pub returns-clause-beginnings : goal.returns-clause-beginnings
-returns-clause-beginnings c = refused c.args.page_size c.args.sequence c.requires c.beginnings_are_refused.ensures c.fits.ensures
+pub returns-clause-prefixes : goal.returns-clause-prefixes
+returns-clause-prefixes c = refused c.args.page_size c.args.sequence c.requires c.prefixes_are_refused.ensures c.fits.ensures

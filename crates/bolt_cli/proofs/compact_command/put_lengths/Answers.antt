@@ -10,8 +10,8 @@ before source = decimal source ++ codes " -> "
 abbrev rest : ℕ → List ℕ
 rest copy = decimal copy ++ codes " bytes\n"
 
-pub returns-in_err-put_number : goal.returns-in_err-put_number
-returns-in_err-put_number g c = Writes-stop _ _ (before c.args.source) (rest c.args.copy) _ _ c.in_err-put_number.ensures c.from_residual.ensures.0
+pub returns-in_err-put_number_and : goal.returns-in_err-put_number_and
+returns-in_err-put_number_and g c = Writes-stop _ _ (before c.args.source) (rest c.args.copy) _ _ c.in_err-put_number_and.ensures c.from_residual.ensures.0
 
 pub returns : goal.returns
-returns g c = Writes-then _ _ _ (before c.args.source) (rest c.args.copy) _ _ c.in_ok-put_number.ensures c.put_number-2.ensures
+returns g c = Writes-then _ _ _ (before c.args.source) (rest c.args.copy) _ _ c.in_ok-put_number_and.ensures c.put_number_and-2.ensures

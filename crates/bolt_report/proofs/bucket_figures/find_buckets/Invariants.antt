@@ -3,12 +3,12 @@ use Rattle.bolt_format.specs.Elements.{LeafElement}
 use Rattle.bolt_format.specs.Shown.{shown}
 use Rattle.bolt_check.specs.Nodes.{leaf_entry}
 use Rattle.bolt_report.specs.Deepest.{greatest, inline_depth}
-use Rattle.bolt_report.specs.Readings.{root_of}
+use Rattle.bolt_report.specs.Readings.{root_page_of}
 use Rattle.bolt_report.proofs.bucket_figures.find_buckets.Given as goal
 
 -- the buckets of the elements before this one were found
 abbrev pub invariant-loop-i : goal.invariant-loop-i
 invariant-loop-i l = record {
-  roots : l.roots.items ≡ l.initial.roots.items ++ flat_map root_of (take l.i (shown l.page).leaves);
+  roots : l.roots.items ≡ l.initial.roots.items ++ flat_map root_page_of (take l.i (shown l.page).leaves);
   depth : l.deepest ≡ greatest (λ (e : LeafElement). inline_depth (leaf_entry e)) (take l.i (shown l.page).leaves);
 }

@@ -6,7 +6,7 @@ use Rattle.bolt_report.specs.PageLines.{branch_line}
 use Rattle.bolt_format.specs.Writes.{Writes}
 use Rattle.bolt_report.proofs.elements.put_branches.Given as goal
 
--- the lines of the elements before number i were put
+-- the lines of the elements before number i were written
 abbrev pub invariant-loop-i : goal.invariant-loop-i
 invariant-loop-i g l =
     Writes {A = ⊤} {E = SinkFault} g.S.Sink.taken g.S.Sink.failed l.initial.sink l.sink

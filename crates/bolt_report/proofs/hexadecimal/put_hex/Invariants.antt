@@ -5,7 +5,7 @@ use Rattle.bolt_format.specs.declared.sink.SinkFault.{SinkFault}
 use Rattle.bolt_format.specs.Writes.{Writes}
 use Rattle.bolt_report.proofs.hexadecimal.put_hex.Given as goal
 
--- the digits of the bytes before the rest were put
+-- the digits of the bytes before the rest were written
 abbrev pub invariant-loop-rest : goal.invariant-loop-rest
 invariant-loop-rest g l =
     (front : List ℕ) × (l.bytes ≡ front ++ l.rest)

@@ -9,7 +9,7 @@ use Rattle.bolt_report.specs.KeyLines.{key_line}
 use Rattle.bolt_tree.proofs.Leaving.{the_entries}
 use Rattle.bolt_report.proofs.key_lines.put_keys.Given as goal
 
--- of the text of all entries, what was put, and the text of those that are left
+-- of the text of all entries, what was written, and the text of those that are left
 abbrev pub invariant-rest : goal.invariant-rest
 invariant-rest g l = record {
   checked : cursor_checked l.cursor ≡ bucket_checked l.bucket;

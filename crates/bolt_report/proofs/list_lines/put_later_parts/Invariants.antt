@@ -5,7 +5,7 @@ use Rattle.bolt_format.specs.Writes.{Writes}
 use Rattle.bolt_format.specs.declared.sink.SinkFault.{SinkFault}
 use Rattle.bolt_report.proofs.list_lines.put_later_parts.Given as goal
 
--- the parts before this one were put
+-- the parts before this one were written
 abbrev pub invariant-loop-part : goal.invariant-loop-part
 invariant-loop-part g l =
     Writes {A = ⊤} {E = SinkFault} g.S.Sink.taken g.S.Sink.failed l.initial.sink l.sink

@@ -7,7 +7,7 @@ use Rattle.bolt_report.specs.ListForms.{lines_form, listing_lines}
 use Rattle.bolt_report.specs.declared.fault.ReportFault.{ReportFault}
 use Rattle.bolt_report.proofs.list_lines.put_rest.Given as goal
 
--- of the text of what was left, what was put, and the text of what is left
+-- of the text of what was left, what was written, and the text of what is left
 abbrev pub invariant-rest : goal.invariant-rest
 invariant-rest g l = record {
   form : lines_form l.lines ≡ lines_form l.initial.lines;

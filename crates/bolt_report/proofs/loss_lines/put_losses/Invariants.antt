@@ -7,7 +7,7 @@ use Rattle.bolt_recover.specs.declared.loss.Loss.{Loss}
 use Rattle.bolt_report.specs.LossLines.{loss_text}
 use Rattle.bolt_report.proofs.loss_lines.put_losses.Given as goal
 
--- the lines of the losses before this one were put
+-- the lines of the losses before this one were written
 abbrev pub invariant-loop-loss : goal.invariant-loop-loss
 invariant-loop-loss g l =
     Writes {A = ⊤} {E = SinkFault} g.S.Sink.taken g.S.Sink.failed l.initial.sink l.sink

@@ -10,7 +10,7 @@ use Rattle.bolt_report.specs.PageMaps.{line_at}
 use Rattle.bolt_report.specs.PageTables.{ForRoles, pages_in}
 use Rattle.bolt_report.proofs.maps.put_lines.Given as goal
 
--- the lines before this one were put
+-- the lines before this one were written
 abbrev pub invariant-loop-line : goal.invariant-loop-line
 invariant-loop-line g l =
     ForRoles (roles_checked l.table) (λ roles. Writes {A = ⊤} {E = SinkFault} g.S.Sink.taken g.S.Sink.failed l.initial.sink l.sink

@@ -1,12 +1,12 @@
 use Rattle.std.proofs.Common.{◌≡◌, ◌≤◌, ◌+◌, ◌-◌, ◌^◌, drop, length, sum_by}
 use Rattle.bolt_format.specs.Elements.{BranchElement}
 use Rattle.bolt_format.specs.Shown.{shown}
-use Rattle.bolt_report.specs.Figures.{branch_bytes, capped}
+use Rattle.bolt_report.specs.Figures.{used_by_branches, capped}
 use Rattle.bolt_report.proofs.page_figures.branch_used.Given as goal
 
 -- with what the elements from here on use it is the whole
 abbrev pub invariant-loop-i : goal.invariant-loop-i
 invariant-loop-i l = record {
   fits : l.used ≤ 2 ^ 64 - 1;
-  whole : capped (l.used + sum_by (λ (e : BranchElement). 16 + length e.key) (drop l.i (shown l.page).branches)) ≡ capped (branch_bytes (shown l.page).branches);
+  whole : capped (l.used + sum_by (λ (e : BranchElement). 16 + length e.key) (drop l.i (shown l.page).branches)) ≡ capped (used_by_branches (shown l.page).branches);
 }

@@ -1,12 +1,12 @@
 use Rattle.std.proofs.Common.{◌≡◌, ◌≤◌, ◌+◌, ◌-◌, ◌^◌, drop, length, sum_by}
 use Rattle.bolt_format.specs.Elements.{LeafElement}
 use Rattle.bolt_format.specs.ShownInline.{shown_inline}
-use Rattle.bolt_report.specs.Figures.{capped, leaf_bytes}
+use Rattle.bolt_report.specs.Figures.{capped, used_by_leaves}
 use Rattle.bolt_report.proofs.page_figures.inline_used.Given as goal
 
 -- with what the elements from here on use it is the whole
 abbrev pub invariant-loop-i : goal.invariant-loop-i
 invariant-loop-i l = record {
   fits : l.used ≤ 2 ^ 64 - 1;
-  whole : capped (l.used + sum_by (λ (e : LeafElement). 16 + length e.key + length e.value) (drop l.i (shown_inline l.page))) ≡ capped (leaf_bytes (shown_inline l.page));
+  whole : capped (l.used + sum_by (λ (e : LeafElement). 16 + length e.key + length e.value) (drop l.i (shown_inline l.page))) ≡ capped (used_by_leaves (shown_inline l.page));
 }

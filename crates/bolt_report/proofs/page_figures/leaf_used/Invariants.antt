@@ -1,12 +1,12 @@
 use Rattle.std.proofs.Common.{◌≡◌, ◌≤◌, ◌+◌, ◌-◌, ◌^◌, drop, length, sum_by}
 use Rattle.bolt_format.specs.Elements.{LeafElement}
 use Rattle.bolt_format.specs.Shown.{shown}
-use Rattle.bolt_report.specs.Figures.{capped, leaf_bytes}
+use Rattle.bolt_report.specs.Figures.{capped, used_by_leaves}
 use Rattle.bolt_report.proofs.page_figures.leaf_used.Given as goal
 
 -- with what the elements from here on use it is the whole
 abbrev pub invariant-loop-i : goal.invariant-loop-i
 invariant-loop-i l = record {
   fits : l.used ≤ 2 ^ 64 - 1;
-  whole : capped (l.used + sum_by (λ (e : LeafElement). 16 + length e.key + length e.value) (drop l.i (shown l.page).leaves)) ≡ capped (leaf_bytes (shown l.page).leaves);
+  whole : capped (l.used + sum_by (λ (e : LeafElement). 16 + length e.key + length e.value) (drop l.i (shown l.page).leaves)) ≡ capped (used_by_leaves (shown l.page).leaves);
 }

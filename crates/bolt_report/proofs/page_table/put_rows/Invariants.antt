@@ -7,7 +7,7 @@ use Rattle.bolt_check.specs.RoledFiles.{roles_checked}
 use Rattle.bolt_report.specs.PageTables.{ForRoles, page_row, pages_in}
 use Rattle.bolt_report.proofs.page_table.put_rows.Given as goal
 
--- the rows of the pages before this one were put
+-- the rows of the pages before this one were written
 abbrev pub invariant-loop-id : goal.invariant-loop-id
 invariant-loop-id g l =
     ForRoles (roles_checked l.table) (λ roles. Writes {A = ⊤} {E = SinkFault} g.S.Sink.taken g.S.Sink.failed l.initial.sink l.sink

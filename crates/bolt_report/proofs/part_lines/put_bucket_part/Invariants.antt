@@ -11,7 +11,7 @@ use Rattle.bolt_report.specs.declared.fault.ReportFault.{ReportFault}
 use Rattle.bolt_report.proofs.BucketPartTexts.{left_part}
 use Rattle.bolt_report.proofs.part_lines.put_bucket_part.Given as goal
 
--- of the text of the part of what was left, what was put, and the text of the part of what is left;
+-- of the text of the part of what was left, what was written, and the text of the part of what is left;
 -- the bucket was there if it was found or is left
 abbrev pub invariant-part : goal.invariant-part
 invariant-part g l = record {

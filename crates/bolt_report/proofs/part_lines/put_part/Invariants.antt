@@ -9,7 +9,7 @@ use Rattle.bolt_report.specs.ListForms.{lines_form, listing_lines}
 use Rattle.bolt_report.specs.declared.fault.ReportFault.{ReportFault}
 use Rattle.bolt_report.proofs.part_lines.put_part.Given as goal
 
--- of the text of the part of what was left, what was put, and the text of the part of what is left
+-- of the text of the part of what was left, what was written, and the text of the part of what is left
 abbrev pub invariant-part : goal.invariant-part
 invariant-part g l = record {
   form : lines_form l.lines ≡ lines_form l.initial.lines;

@@ -9,7 +9,7 @@ use Rattle.bolt_report.specs.Reports.{Reports}
 use Rattle.bolt_report.specs.SizeLines.{AreSized, Sized, sizes_text}
 use Rattle.bolt_report.proofs.size_lines.sizes.Given as goal
 
--- of the text of all buckets, what was put, and the text of those that are left
+-- of the text of all buckets, what was written, and the text of those that are left
 abbrev pub invariant-rest : goal.invariant-rest
 invariant-rest g l = record {
   checked : cursor_checked l.cursor ≡ bucket_checked l.bucket;

@@ -52,7 +52,7 @@ returns g c = λ wanted put has.
     record {
       others = runs_end_put c.leave_to.new.self.setup.page_size (bucket_runs c.leave_to.new.self.bucket c.leave_to.new.self.next);
       all = end.pages;
-      puts = record { all = c.in_ok-root.ensures.pages.all; sound = c.in_ok-root.ensures.pages.sound; beginning = tt; failure = tt; other = tt };
+      puts = record { all = c.in_ok-root.ensures.pages.all; sound = c.in_ok-root.ensures.pages.sound; prefix = tt; failure = tt; other = tt };
       short = tt;
       root = c.in_ok-root.ensures.root ∙ end.root;
       mark = c.in_ok-root.ensures.next ∙ end.mark;

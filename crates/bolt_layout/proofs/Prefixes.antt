@@ -19,7 +19,7 @@ use Rattle.bolt_check.specs.declared.fault.CheckFault.TheVariants.{Structure}
 use Rattle.bolt_check.specs.Ways.{At_page, root_spot}
 use Rattle.bolt_format.specs.Written.{header_bytes, meta_bytes}
 use Rattle.bolt_layout.specs.Layout.{layout_mark, layout_of, layout_root, placed_bytes}
-use Rattle.bolt_layout.specs.Copies.{IsAsked, RefusesBeginnings}
+use Rattle.bolt_layout.specs.Copies.{IsAsked, RefusesPrefixes}
 use Rattle.bolt_format.specs.ReadBack.{IsHeaderFit}
 use Rattle.bolt_format.proofs.WrittenHeaders.{header_written, length-header_bytes}
 use Rattle.bolt_format.proofs.WrittenMetas.{chosen_of, length-meta_bytes, meta_written}
@@ -87,7 +87,7 @@ no_slot file short Zero meta valid = no_meta file 0 meta short valid
 no_slot file short One meta (inl (other, first, second)) = no_meta file 0 other short first
 no_slot file short One meta (inr (none, lone)) = no_meta file lone.at meta short lone.valid
 
--- Which meta is in force in a layout that is cut short.
+-- Which meta is active in a layout that is cut short.
 not_second : (file : List ℕ) (page_size root sequence mark : ℕ) (other : Meta) → IsMeta file 0 (copy_meta page_size root sequence mark 0) → length file < page_size + 80
     → IsInOne file other → ⊥
 not_second file page_size root sequence mark other first short (inl (before, zeroth, second)) =
@@ -184,9 +184,9 @@ torn_root which page_size tree sequence n size laid less whole =
       )
     ]
 
-pub beginnings_refused : (which : Layout) (page_size : ℕ) (tree : Tree) (sequence : ℕ) → IsAsked page_size tree sequence → length (layout_of which page_size tree sequence) < 2 ^ 63
-    → RefusesBeginnings (layout_of which page_size tree sequence) (layout_root which page_size tree)
-beginnings_refused which page_size tree sequence asked short =
+pub prefixes_refused : (which : Layout) (page_size : ℕ) (tree : Tree) (sequence : ℕ) → IsAsked page_size tree sequence → length (layout_of which page_size tree sequence) < 2 ^ 63
+    → RefusesPrefixes (layout_of which page_size tree sequence) (layout_root which page_size tree)
+prefixes_refused which page_size tree sequence asked short =
     let laid = laid_out which page_size tree sequence asked.size asked.storable asked.sequence_fits short in
     let file : List ℕ = layout_of which page_size tree sequence in
     record {

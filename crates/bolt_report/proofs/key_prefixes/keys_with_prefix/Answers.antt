@@ -8,7 +8,7 @@ use Rattle.bolt_format.proofs.WriteLemmas.{Writes-none}
 use Rattle.bolt_check.specs.Keys.{Key}
 use Rattle.bolt_format.specs.Elements.{LeafElement}
 use Rattle.bolt_report.specs.Forms.{value_text}
-use Rattle.bolt_report.specs.KeyPrefixes.{beginning, begins}
+use Rattle.bolt_report.specs.KeyPrefixes.{with_prefix, begins}
 use Rattle.bolt_report.specs.Reports.{Reports}
 use Rattle.bolt_report.specs.declared.form.Form.{Form}
 use Rattle.bolt_tree.specs.Cursors.{cursor_bucket, cursor_checked, cursor_opened, cursor_place, cursor_start}
@@ -19,7 +19,7 @@ use Rattle.bolt_tree.specs.ShownEntries.{shown_entry}
 use Rattle.bolt_tree.specs.declared.entry.Entry.{Entry}
 use Rattle.bolt_report.proofs.PrefixLemmas.{key_begins}
 use Rattle.bolt_report.proofs.PrefixSteps.{Stage, keeps, all_done, cursor_entries, fault_handed_on, fewer_shown, memory_handed_on, moves_there, nothing_shown, opens_there, line_more, line_stop, lines_end, moved, none_shown, number_of, other_shown, sought, stage_next, stage_sought}
-use Rattle.bolt_report.proofs.key_prefixes.keys_beginning.Goals as goal
+use Rattle.bolt_report.proofs.key_prefixes.keys_with_prefix.Goals as goal
 
 -- what the cursor shows, by what it found
 now_shows : {b : BucketView} {first : ℕ} {prefix : Key} {entries : List LeafElement} {opened : ℕ} {place : Place} {done : List LeafElement} (found shown : Option Entry) → found ≡ shown
@@ -50,7 +50,7 @@ returns-then-not-starts_with-clause-written g c = λ entries are.
     let stage = now_shows c.rest.found (Some c.in-Some.entry) c.in-Some.is shows in
     let differs : key_begins v.key prefix ≡ false = sym c.starts_with.ensures.value ∙ c.if-not-starts_with.true in
     let (n, whole, none) = other_shown _ _ _ _ _ _ done v stage differs in
-    lines_end g.S.Sink.taken g.S.Sink.failed c.args.form c.args.sink.now c.rest.sink done (beginning prefix entries) (beginning prefix (drop n entries)) whole none before
+    lines_end g.S.Sink.taken g.S.Sink.failed c.args.form c.args.sink.now c.rest.sink done (with_prefix prefix entries) (with_prefix prefix (drop n entries)) whole none before
 
 pub returns-then-not-starts_with-clause-opens : goal.returns-then-not-starts_with-clause-opens
 returns-then-not-starts_with-clause-opens g c = λ entries seek gap are is gaps.
@@ -60,7 +60,7 @@ returns-then-not-starts_with-clause-opens g c = λ entries seek gap are is gaps.
     let stage = now_shows c.rest.found (Some c.in-Some.entry) c.in-Some.is shows in
     let differs : key_begins v.key prefix ≡ false = sym c.starts_with.ensures.value ∙ c.if-not-starts_with.true in
     let (n, whole, none) = other_shown _ _ _ _ _ _ done v stage differs in
-    all_done _ _ _ _ _ _ done (Some v) stage (beginning prefix (drop n entries)) whole none seek gap is gaps
+    all_done _ _ _ _ _ _ done (Some v) stage (with_prefix prefix (drop n entries)) whole none seek gap is gaps
 
 pub returns-in_err-put_line-clause-written : goal.returns-in_err-put_line-clause-written
 returns-in_err-put_line-clause-written g c = λ entries are.
@@ -70,11 +70,11 @@ returns-in_err-put_line-clause-written g c = λ entries are.
     let (e, shown, on, rest) = stage.stands in
     let n = stage.n in
     let starts : begins prefix e ≡ true = subst (λ (w : EntryView). key_begins w.key prefix ≡ true) shown (sym c.starts_with.ensures.value ∙ c.if-not-starts_with.false) in
-    let left = ap (beginning prefix) rest ∙ keeps prefix e (drop (suc n) entries) starts in
+    let left = ap (with_prefix prefix) rest ∙ keeps prefix e (drop (suc n) entries) starts in
     let line : Reports {A = ⊤} g.S.Sink.taken g.S.Sink.failed c.rest.sink c.put_line.new.sink (value_text c.args.form e.key) (Err c.in_err-put_line.field-0.0) =
     subst (λ (w : EntryView). Reports {A = ⊤} g.S.Sink.taken g.S.Sink.failed c.rest.sink c.put_line.new.sink (value_text c.args.form w.key) (Err c.in_err-put_line.field-0.0)) shown
     (subst (λ (form : Form). Reports {A = ⊤} g.S.Sink.taken g.S.Sink.failed c.rest.sink c.put_line.new.sink (value_text form c.in-Some.entry.key.now) (Err c.in_err-put_line.field-0.0)) c.rest.invariant.form c.in_err-put_line.ensures.written) in
-    line_stop g.S.Sink.taken g.S.Sink.failed c.args.form c.args.sink.now c.rest.sink c.put_line.new.sink done before (beginning prefix entries) (beginning prefix (drop n entries)) (beginning prefix (drop (suc n) entries))
+    line_stop g.S.Sink.taken g.S.Sink.failed c.args.form c.args.sink.now c.rest.sink c.put_line.new.sink done before (with_prefix prefix entries) (with_prefix prefix (drop n entries)) (with_prefix prefix (drop (suc n) entries))
     e _ _ stage.whole left line c.from_residual.ensures.1
 
 pub returns-in_err-put_line-clause-fault : goal.returns-in_err-put_line-clause-fault
@@ -134,7 +134,7 @@ returns-clause-written g c = λ entries are.
     let (done, shows, before) = c.rest.invariant.put entries are in
     let stage = now_shows c.rest.found None c.in_default.is shows in
     let (n, whole, none) = none_shown _ _ _ _ _ _ done stage in
-    lines_end g.S.Sink.taken g.S.Sink.failed c.args.form c.args.sink.now c.rest.sink done (beginning prefix entries) (beginning prefix (drop n entries)) whole none before
+    lines_end g.S.Sink.taken g.S.Sink.failed c.args.form c.args.sink.now c.rest.sink done (with_prefix prefix entries) (with_prefix prefix (drop n entries)) whole none before
 
 pub returns-clause-opens : goal.returns-clause-opens
 returns-clause-opens g c = λ entries seek gap are is gaps.
@@ -142,4 +142,4 @@ returns-clause-opens g c = λ entries seek gap are is gaps.
     let (done, shows, before) = c.rest.invariant.put entries are in
     let stage = now_shows c.rest.found None c.in_default.is shows in
     let (n, whole, none) = none_shown _ _ _ _ _ _ done stage in
-    all_done _ _ _ _ _ _ done None stage (beginning prefix (drop n entries)) whole none seek gap is gaps
+    all_done _ _ _ _ _ _ done None stage (with_prefix prefix (drop n entries)) whole none seek gap is gaps

@@ -9,9 +9,9 @@ use Rattle.bolt_tree.specs.ShownEntries.{shown_entry}
 use Rattle.bolt_report.specs.KeyLines.{keys_text}
 use Rattle.bolt_report.specs.declared.fault.ReportFault.{ReportFault}
 use Rattle.bolt_report.proofs.PrefixSteps.{Stage, cursor_entries, number_of}
-use Rattle.bolt_report.proofs.key_prefixes.keys_beginning.Given as goal
+use Rattle.bolt_report.proofs.key_prefixes.keys_with_prefix.Given as goal
 
--- of the entries that begin so, the lines of those that were gone over were put, and the cursor stands on the entry after them
+-- of the entries that begin so, the lines of those that were gone over were written, and the cursor stands on the entry after them
 abbrev pub invariant-rest : goal.invariant-rest
 invariant-rest g l = record {
   checked : cursor_checked l.cursor ≡ cursor_checked l.fn.cursor;
