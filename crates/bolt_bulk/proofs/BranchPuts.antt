@@ -37,20 +37,20 @@ pub branch_datum : (xs : List Branch) → data_of key_of xs ≡ branch_data (map
 branch_datum [] = refl
 branch_datum (x ∷ xs) = ap (λ (t : List ℕ). x.key.now ++ t) (branch_datum xs)
 
--- The pieces of the page over a run, in the list and the number that the code has.
-pub branch_run_pieces : (page_size number further : ℕ) (run : BranchRun) (branches : List Branch) → branches ≡ run.elements.items → further ≡ overflow_of page_size run.size → IsSizedRun (run_view run)
-    → header_bytes number kind.Branch (length branches) further
-    ++ (branch_headers 0 (map branch_view branches) ++ (branch_data (map branch_view branches) ++ zeros ((1 + further) * page_size - run.size)))
+-- The pieces of the page over a run, in the list that the code has.
+pub branch_run_pieces : (page_size number : ℕ) (run : BranchRun) (branches : List Branch) → branches ≡ run.elements.items → IsSizedRun (run_view run)
+    → header_bytes number kind.Branch (length branches) (overflow_of page_size run.size)
+    ++ (branch_headers 0 (map branch_view branches) ++ (branch_data (map branch_view branches) ++ zeros ((1 + overflow_of page_size run.size) * page_size - run.size)))
     ≡ placed_bytes page_size (run_page page_size (run_view run) number ∷ [])
 unfolding page_bytes branch_bytes
-branch_run_pieces page_size number further run branches branches_are further_is sized =
+branch_run_pieces page_size number run branches branches_are sized =
     let es : List BranchElement = map branch_view run.elements.items in
     let over : ℕ = overflow_of page_size run.size in
     let n : ℕ = (1 + over) * page_size in
     let count : length run.elements.items ≡ length es = sym (length-map run.elements.items branch_view) in
     let a = length-header_bytes number kind.Branch (length es) over in
     let b = length-branch_headers 0 es in
-    rw (branches_are, further_is)
+    rw branches_are
     (ap (λ (m : ℕ). header_bytes number kind.Branch m over ++ (branch_headers 0 es ++ (branch_data es ++ zeros (n - run.size)))) count
     ∙ (filled_pieces n run.size (header_bytes number kind.Branch (length es) over) (branch_headers 0 es) (branch_data es) (omega arith) ∙ sym (append-nil _)))
 

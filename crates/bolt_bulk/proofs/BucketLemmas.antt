@@ -12,7 +12,7 @@ use Rattle.bolt_layout.specs.Levels.{overflow_of}
 use Rattle.bolt_layout.specs.PageBytes.{page_bytes}
 use Rattle.bolt_bulk.specs.Private.HeldItems.{AreHeld, held_view, held_views}
 use Rattle.bolt_bulk.specs.Private.OpenBuckets.{HasRoomFor, IsLeafRun, bucket_end_next, leaf_closed, leaves_of}
-use Rattle.bolt_bulk.specs.Private.RunViews.{BucketRuns, leaf_key, leaf_page, leaves_have_room, runs_close_put, runs_end_put, runs_next, runs_push, runs_put, runs_room, runs_room_put}
+use Rattle.bolt_bulk.specs.Private.RunViews.{BucketRunsView, leaf_key, leaf_page, leaves_have_room, runs_close_put, runs_end_put, runs_next, runs_push, runs_put, runs_room, runs_room_put}
 use Rattle.bolt_bulk.specs.Private.TakenItems.{runs_taking}
 use Rattle.bolt_bulk.specs.Puts.{Puts}
 use Rattle.bolt_bulk.specs.declared.fault.BulkFault.{BulkFault}
@@ -52,14 +52,14 @@ closed_short inlined items size next closed all same =
     let f = first_short inlined items all in omega arith
 
 -- a leaf that has no room closes, and its element climbs
-pub room_large : (page_size limit : ℕ) (runs : BucketRuns) (key : List ℕ) (size : ℕ) → leaves_have_room page_size runs.leaves size ≡ false
+pub room_large : (page_size limit : ℕ) (runs : BucketRunsView) (key : List ℕ) (size : ℕ) → leaves_have_room page_size runs.leaves size ≡ false
     → limit < runs.next + (1 + overflow_of page_size runs.leaves.size) → limit < (runs_room page_size runs key size).next
 room_large page_size limit runs key size none large =
     let g = next_grows page_size key (leaf_closed runs.leaves runs.next) (runs.next + (1 + overflow_of page_size runs.leaves.size)) runs.uppers in
     let same : (runs_room page_size runs key size).next ≡ runs_next page_size key (leaf_closed runs.leaves runs.next) (runs.next + (1 + overflow_of page_size runs.leaves.size)) runs.uppers = rw none refl in
     omega arith
 
-pub room_made : {S A B : Type 0} {taken : S → Option (List ℕ)} {failed : S → ℕ} (page_size : ℕ) (runs : BucketRuns) (key : List ℕ) (size : ℕ) (old mid new : S) (closed : BranchElement) (after : ℕ) (x : A) (result : Result B BulkFault)
+pub room_made : {S A B : Type 0} {taken : S → Option (List ℕ)} {failed : S → ℕ} (page_size : ℕ) (runs : BucketRunsView) (key : List ℕ) (size : ℕ) (old mid new : S) (closed : BranchElement) (after : ℕ) (x : A) (result : Result B BulkFault)
     → leaves_have_room page_size runs.leaves size ≡ false → closed ≡ leaf_closed runs.leaves runs.next → after ≡ runs.next + (1 + overflow_of page_size runs.leaves.size)
     → Puts taken failed old mid (page_bytes page_size runs.next (leaf_page page_size runs.leaves runs.next).view) (Ok x)
     → Puts taken failed mid new (placed_bytes page_size (runs_put page_size key closed after runs.uppers)) result
@@ -73,18 +73,18 @@ room_made page_size runs key size old mid new closed after x result none same nu
     (puts_then old mid new _ _ x result one two)
 
 -- the end: the leaf closes, and then each run above
-pub end_large : (page_size limit : ℕ) (runs : BucketRuns) → limit < runs.next + (1 + overflow_of page_size runs.leaves.size) → limit < bucket_end_next page_size runs
+pub end_large : (page_size limit : ℕ) (runs : BucketRunsView) → limit < runs.next + (1 + overflow_of page_size runs.leaves.size) → limit < bucket_end_next page_size runs
 end_large page_size limit runs large =
     let g = end_grows page_size (leaf_closed runs.leaves runs.next) (runs.next + (1 + overflow_of page_size runs.leaves.size)) runs.uppers in omega arith
 
-end_text : (page_size : ℕ) (runs : BucketRuns) (closed : BranchElement) (after : ℕ) → closed ≡ leaf_closed runs.leaves runs.next → after ≡ runs.next + (1 + overflow_of page_size runs.leaves.size)
+end_text : (page_size : ℕ) (runs : BucketRunsView) (closed : BranchElement) (after : ℕ) → closed ≡ leaf_closed runs.leaves runs.next → after ≡ runs.next + (1 + overflow_of page_size runs.leaves.size)
     → page_bytes page_size runs.next (leaf_page page_size runs.leaves runs.next).view ++ placed_bytes page_size (runs_close_put page_size closed after runs.uppers) ≡ placed_bytes page_size (runs_end_put page_size runs)
 end_text page_size runs closed after same number =
     let put : runs_close_put page_size closed after runs.uppers ≡ runs_close_put page_size (leaf_closed runs.leaves runs.next) (runs.next + (1 + overflow_of page_size runs.leaves.size)) runs.uppers =
     ap (λ (e : BranchElement). runs_close_put page_size e after runs.uppers) same ∙ ap (λ (n : ℕ). runs_close_put page_size (leaf_closed runs.leaves runs.next) n runs.uppers) number in
     ap (λ (ps : List Placed). page_bytes page_size runs.next (leaf_page page_size runs.leaves runs.next).view ++ placed_bytes page_size ps) put
 
-pub end_made : {S A B : Type 0} {taken : S → Option (List ℕ)} {failed : S → ℕ} (page_size : ℕ) (runs : BucketRuns) (old mid new : S) (closed : BranchElement) (after : ℕ) (x : A) (result : Result B BulkFault)
+pub end_made : {S A B : Type 0} {taken : S → Option (List ℕ)} {failed : S → ℕ} (page_size : ℕ) (runs : BucketRunsView) (old mid new : S) (closed : BranchElement) (after : ℕ) (x : A) (result : Result B BulkFault)
     → closed ≡ leaf_closed runs.leaves runs.next → after ≡ runs.next + (1 + overflow_of page_size runs.leaves.size)
     → Puts taken failed old mid (page_bytes page_size runs.next (leaf_page page_size runs.leaves runs.next).view) (Ok x)
     → Puts taken failed mid new (placed_bytes page_size (runs_close_put page_size closed after runs.uppers)) result
@@ -96,7 +96,7 @@ on_err_same : {A E : Type 0} (old new : Option (List ℕ)) (text same : List ℕ
 on_err_same old new text same (Ok x) e a = tt
 on_err_same old new text same (Err x) e a = proper_same old new text same e a
 
-pub end_short : {S A B : Type 0} {taken : S → Option (List ℕ)} {failed : S → ℕ} (page_size : ℕ) (runs : BucketRuns) (old mid new : S) (closed : BranchElement) (after : ℕ) (x : A) (result : Result B BulkFault)
+pub end_short : {S A B : Type 0} {taken : S → Option (List ℕ)} {failed : S → ℕ} (page_size : ℕ) (runs : BucketRunsView) (old mid new : S) (closed : BranchElement) (after : ℕ) (x : A) (result : Result B BulkFault)
     → closed ≡ leaf_closed runs.leaves runs.next → after ≡ runs.next + (1 + overflow_of page_size runs.leaves.size)
     → Puts taken failed old mid (page_bytes page_size runs.next (leaf_page page_size runs.leaves runs.next).view) (Ok x)
     → OnErr result (AppendsProperPrefix (taken mid) (taken new) (placed_bytes page_size (runs_close_put page_size closed after runs.uppers)))
@@ -104,14 +104,14 @@ pub end_short : {S A B : Type 0} {taken : S → Option (List ℕ)} {failed : S �
 end_short {taken = taken} page_size runs old mid new closed after x result same number one two =
     on_err_same (taken old) (taken new) _ _ result (end_text page_size runs closed after same number) (short_then old mid new _ _ x result one two)
 
-pub end_some : (page_size : ℕ) (runs : BucketRuns) → placed_bytes page_size (runs_end_put page_size runs) ≢ []
+pub end_some : (page_size : ℕ) (runs : BucketRunsView) → placed_bytes page_size (runs_end_put page_size runs) ≢ []
 end_some page_size runs =
     pages_some page_size (leaf_page page_size runs.leaves runs.next) (runs_close_put page_size (leaf_closed runs.leaves runs.next) (runs.next + (1 + overflow_of page_size runs.leaves.size)) runs.uppers)
 
 -- an item was taken
-pub take_runs : (page_size : ℕ) (final made runs : BucketRuns) (e : LeafElement) (size : ℕ) → final ≡ runs_push made e size made.next → made ≡ runs_room page_size runs e.key size
+pub take_runs : (page_size : ℕ) (final made runs : BucketRunsView) (e : LeafElement) (size : ℕ) → final ≡ runs_push made e size made.next → made ≡ runs_room page_size runs e.key size
     → final ≡ runs_taking page_size runs e size
-take_runs page_size final made runs e size p q = p ∙ ap (λ (m : BucketRuns). runs_push m e size m.next) q
+take_runs page_size final made runs e size p q = p ∙ ap (λ (m : BucketRunsView). runs_push m e size m.next) q
 
 pub on_ok : {A E : Type 0} (P Q : Type 0) (r : Result A E) → (P → Q) → OnOk r P → OnOk r Q
 on_ok P Q (Ok x) f h = f h

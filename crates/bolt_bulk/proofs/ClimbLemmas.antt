@@ -4,6 +4,7 @@ use Rattle.std.specs.List.{AllByRecursion}
 use Rattle.std.proofs.lemmas.Bool.{cases_Bool}
 use Rattle.std.proofs.lemmas.List.{length-map, drop_more, drop-set-lt, set_split}
 use Rattle.std.proofs.Math.ListN.{get_or-map}
+use Rattle.std.proofs.lemmas.Option.{none-some, same_Some}
 use Rattle.bolt_format.specs.ElementPlaces.{branch_view}
 use Rattle.bolt_format.specs.Elements.{BranchElement}
 use Rattle.bolt_format.specs.declared.element.Branch.{Branch}
@@ -157,24 +158,18 @@ standing_set [] i run all is = tt
 standing_set (x ∷ runs) zero run all is = (is, all.1)
 standing_set (x ∷ runs) (suc i) run all is = (all.0, standing_set runs i run all.1 is)
 
-none_some : (x : BranchElement) → None ≡ Some x → ⊥
-none_some x e = cc
-
-some_same : (x y : BranchElement) → Some x ≡ Some y → x ≡ y
-some_same x y e = cc
-
 -- which of the two it was
 room_of : (page_size : ℕ) (key : List ℕ) (e : BranchElement) (next : ℕ) (run : RunView) → None ≡ taking_up page_size key e next run → run_stays page_size (run_push run e) (key_size key) ≡ true
 room_of page_size key e next run up = elim (cases_Bool (run_stays page_size (run_push run e) (key_size key))) [
   | inl t ↦ t
-  | inr f ↦ (let no : taking_up page_size key e next run ≡ Some (element_up e next run) = rw f refl in absurd (none_some (element_up e next run) (up ∙ no)))
+  | inr f ↦ (let no : taking_up page_size key e next run ≡ Some (element_up e next run) = rw f refl in absurd (none-some (element_up e next run) (up ∙ no)))
 ]
 
 no_room_of : (page_size : ℕ) (key : List ℕ) (e up : BranchElement) (next : ℕ) (run : RunView) → Some up ≡ taking_up page_size key e next run
     → (run_stays page_size (run_push run e) (key_size key) ≡ false) × (up ≡ element_up e next run)
 no_room_of page_size key e up next run same = elim (cases_Bool (run_stays page_size (run_push run e) (key_size key))) [
-  | inl t ↦ (let no : taking_up page_size key e next run ≡ None = rw t refl in absurd (none_some up (sym (same ∙ no))))
-  | inr f ↦ (let yes_ : taking_up page_size key e next run ≡ Some (element_up e next run) = rw f refl in (f, some_same up (element_up e next run) (same ∙ yes_)))
+  | inl t ↦ (let no : taking_up page_size key e next run ≡ None = rw t refl in absurd (none-some up (sym (same ∙ no))))
+  | inr f ↦ (let yes_ : taking_up page_size key e next run ≡ Some (element_up e next run) = rw f refl in (f, same_Some up (element_up e next run) (same ∙ yes_)))
 ]
 
 pub room_by : (page_size : ℕ) (key : List ℕ) (e : BranchElement) (next : ℕ) (run : RunView) (up : Option Branch) → up ≡ None → option_map branch_view up ≡ taking_up page_size key e next run

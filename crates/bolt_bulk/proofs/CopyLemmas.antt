@@ -21,7 +21,7 @@ use Rattle.bolt_bulk.proofs.WholePuts.{proper_first, proper_second}
 use Rattle.bolt_layout.specs.declared.layout.Layout.{Layout}
 
 pub layout_parts : (which : Layout) (page_size : ℕ) (tree : Tree) (sequence root mark : ℕ) → root ≡ layout_root which page_size tree → mark ≡ layout_mark which page_size tree
-    → layout_of which page_size tree sequence ≡ first_pages (record { page_size = page_size; root = root; sequence = sequence; mark = mark }) ++ placed_bytes page_size (layout_pages which page_size tree)
+    → layout_of which page_size tree sequence ≡ first_pages page_size root sequence mark ++ placed_bytes page_size (layout_pages which page_size tree)
 unfolding layout_of
 layout_parts which page_size tree sequence root mark root_is mark_is =
     let pages : List ℕ = placed_bytes page_size (layout_pages which page_size tree) in
@@ -34,10 +34,10 @@ layout_parts which page_size tree sequence root mark root_is mark_is =
 -- the same, with the pages that a pass writes at this page size
 pub layout_written : (which : Layout) (page_size : ℕ) (tree : Tree) (sequence root mark size : ℕ) (pages : List Placed) → root ≡ layout_root which page_size tree → mark ≡ layout_mark which page_size tree
     → size ≡ page_size → layout_pages which size tree ≡ pages
-    → layout_of which page_size tree sequence ≡ first_pages (record { page_size = page_size; root = root; sequence = sequence; mark = mark }) ++ placed_bytes size pages
+    → layout_of which page_size tree sequence ≡ first_pages page_size root sequence mark ++ placed_bytes size pages
 layout_written which page_size tree sequence root mark size pages root_is mark_is size_is all =
     layout_parts which page_size tree sequence root mark root_is mark_is
-    ∙ ap (λ (bytes : List ℕ). first_pages (record { page_size = page_size; root = root; sequence = sequence; mark = mark }) ++ bytes)
+    ∙ ap (λ (bytes : List ℕ). first_pages page_size root sequence mark ++ bytes)
     (ap (λ (n : ℕ). placed_bytes n (layout_pages which n tree)) (sym size_is) ∙ ap (placed_bytes size) all)
 
 never : {X : Type 0} (bytes : ℕ) → bytes < too_many → too_many ≤ bytes → X

@@ -1,8 +1,8 @@
 -- A run of items that takes one more, and the entries of the inline buckets among them.
-use Rattle.std.proofs.Common.{Global, Vec, subst, ◌≡◌, ◌∙◌, ℕ, ◌+◌, ◌*◌, ◌<◌, ◌≤◌, Bool, false, List, [], ◌∷◌, ◌++◌, drop, length, map, take, refl, sym, ap, arith}
+use Rattle.std.proofs.Common.{Global, Vec, subst, ◌≡◌, ◌∙◌, ℕ, ◌+◌, ◌<◌, ◌≤◌, Bool, false, List, [], ◌∷◌, ◌++◌, drop, length, map, take, refl, sym, ap, arith}
 use Rattle.std.specs.List.{AllByRecursion}
 use Rattle.std.proofs.Math.Seq.{drop-append_seam, take-length}
-use Rattle.std.proofs.lemmas.List.{drop-append-le, length-append, length-drop, length-map, length-take-le, take-append-le}
+use Rattle.std.proofs.lemmas.List.{drop-append-le, length-append, length-drop, length-map, take-append-le}
 use Rattle.bolt_format.specs.ElementPlaces.{leaf_view}
 use Rattle.bolt_format.specs.Elements.{LeafElement}
 use Rattle.bolt_format.specs.declared.element.Leaf.{Leaf}
@@ -160,25 +160,6 @@ added_views inlined entries run first sequence key items more x behind at all sa
     let new : held_view run x ≡ inline_element key sequence (map leaf_view entries) = view ∙ ap (λ (es : List LeafElement). inline_element key sequence es) (entries_at inlined entries run first behind at) in
     ap (λ (xs : List Held). held_views run xs) same
     ∙ (views_push run items x ∙ (ap (λ (es : List LeafElement). es ++ held_view run x ∷ []) old ∙ ap (λ (e : LeafElement). held_views inlined items ++ e ∷ []) new))
-
--- each entry takes 16 bytes of the page at least, and so does each item
-pub value_least : (inlined : List Leaf) (x : Stored) → IsStored inlined x → 16 * inlined_by x ≤ length (stored_value inlined x)
-value_least inlined (stored.Value value) is = omega arith
-value_least inlined (stored.Root page sequence) is = omega arith
-value_least inlined (stored.Inline sequence first count size) is =
-    let entries : List LeafElement = entries_in inlined first count in
-    let l = length-inline_value sequence entries in
-    let d = length-drop first inlined in
-    let t = length-take-le count (drop first inlined) (let h = is.there in omega arith) in
-    let m = length-map (take count (drop first inlined)) leaf_view in omega arith
-
-data_least : (inlined : List Leaf) (items : List Held) → AreHeld inlined items → 16 * inlined_in items ≤ length (leaf_data (held_views inlined items))
-data_least inlined [] all = omega arith
-data_least inlined (x ∷ items) all =
-    let ih = data_least inlined items all.1 in
-    let v = value_least inlined x.stored all.0.1 in
-    let a = length-append x.key.now (stored_value inlined x.stored ++ leaf_data (held_views inlined items)) in
-    let b = length-append (stored_value inlined x.stored) (leaf_data (held_views inlined items)) in omega arith
 
 -- The items of values are these values,
 pub values_view : (entries : List Leaf) → AllByRecursion (λ (entry : Leaf). entry.is_bucket ≡ false) entries → held_views [] (map value_item entries) ≡ map leaf_view entries

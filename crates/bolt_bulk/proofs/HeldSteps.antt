@@ -17,7 +17,7 @@ use Rattle.bolt_bulk.specs.Private.BucketRuns.{AreUppers, AreOpenRuns}
 use Rattle.bolt_bulk.specs.Private.OpenRuns.{climb, close, end_of, Frame, has_room, key_size, Known, making_room, numbers_in, Open, pushed_on, pushing, stays_open, taking, Upper}
 use Rattle.bolt_bulk.specs.Private.Passes.{AreWaiting}
 use Rattle.bolt_bulk.specs.declared.branch_run.BranchRun.{BranchRun}
-use Rattle.bolt_bulk.specs.declared.open_bucket.OpenBucket.{OpenBucket}
+use Rattle.bolt_bulk.specs.declared.bucket_runs.BucketRuns.{BucketRuns}
 use Rattle.bolt_bulk.specs.declared.waiting_bucket.WaitingBucket.{WaitingBucket}
 use Rattle.bolt_layout.proofs.LaidItems.{length-elements}
 
@@ -68,7 +68,7 @@ climbs : (page_size : ℕ) (new : Option ℕ) (key : List ℕ) (q : Laid BranchE
     → (b : Bool) → stays_open page_size (pushed_on upper q) (key_size key) ≡ b → held_over (climb page_size new key q (upper ∷ uppers)) 0 ≡ held_over (upper ∷ uppers) q.held
 climbs page_size new key q upper uppers some above true room = rw room (ap (λ (n : ℕ). held_over uppers n) (joined upper.run q some))
 climbs page_size new key q upper uppers some above false room =
-    let up : Laid BranchElement = levels.page_over levels.branch_view page_size (upper.run ++ q ∷ []) in
+    let up : Laid BranchElement = levels.page_over levels.branch_page_view page_size (upper.run ++ q ∷ []) in
     let same : up.held ≡ held_on upper.run q.held = on_page (upper.run ++ q ∷ []) ∙ joined upper.run q some in
     let m = on_max upper.run q.held in
     rw room (above up (omega arith) ∙ ap (λ (n : ℕ). held_over uppers n) same)
@@ -86,7 +86,7 @@ room_first page_size (item ∷ run) size none = omega arith
 made : (page_size : ℕ) (state : Open) (key : List ℕ) (size : ℕ) (b : Bool) → has_room page_size 1 state.run size ≡ b → held_open (making_room page_size state key size) 0 ≡ held_open state 0
 made page_size state key size true room = rw room refl
 made page_size state key size false room =
-    let q : Laid BranchElement = levels.page_over levels.leaf_view page_size state.run in
+    let q : Laid BranchElement = levels.page_over levels.leaf_page_view page_size state.run in
     let same : q.held ≡ held_on state.run 0 = on_page state.run in
     let some = room_first page_size state.run size room in
     rw room (climbed page_size (bucket_limit state.known.limits (length state.uppers)) key q state.uppers (omega arith) ∙ ap (λ (n : ℕ). held_over state.uppers n) same)
@@ -96,19 +96,19 @@ closed : (page_size : ℕ) (q : Laid BranchElement) (uppers : List Upper) → 1 
 closed page_size q [] some = refl
 closed page_size q (upper ∷ uppers) some =
     let run : List (Laid BranchElement) = upper.run in
-    let up : Laid BranchElement = levels.page_over levels.branch_view page_size (run ++ q ∷ []) in
+    let up : Laid BranchElement = levels.page_over levels.branch_page_view page_size (run ++ q ∷ []) in
     let same : up.held ≡ held_on run q.held = on_page (run ++ q ∷ []) ∙ joined run q some in
     let m = on_max run q.held in
     closed page_size up uppers (omega arith) ∙ ap (λ (n : ℕ). held_over uppers n) same
 
 ended_over : (page_size : ℕ) (run : List (Laid LeafElement)) (uppers : List Upper) → (run ≡ [] → uppers ≡ [])
-    → (close page_size (levels.page_over levels.leaf_view page_size run) uppers).held ≡ held_over uppers (held_on run 0)
+    → (close page_size (levels.page_over levels.leaf_page_view page_size run) uppers).held ≡ held_over uppers (held_on run 0)
 ended_over page_size [] uppers begun =
     let none = begun refl in
-    let P : List Upper → Type 0 = λ us. (close page_size (levels.page_over levels.leaf_view page_size []) us).held ≡ held_over us (held_on {E = LeafElement} [] 0) in
+    let P : List Upper → Type 0 = λ us. (close page_size (levels.page_over levels.leaf_page_view page_size []) us).held ≡ held_over us (held_on {E = LeafElement} [] 0) in
     subst P (sym none) refl
 ended_over page_size (item ∷ run) uppers begun =
-    let q : Laid BranchElement = levels.page_over levels.leaf_view page_size (item ∷ run) in
+    let q : Laid BranchElement = levels.page_over levels.leaf_page_view page_size (item ∷ run) in
     let same : q.held ≡ held_on (item ∷ run) 0 = on_page (item ∷ run) in
     closed page_size q uppers (omega arith) ∙ ap (λ (n : ℕ). held_over uppers n) same
 
@@ -182,7 +182,7 @@ above_length (run ∷ runs) (upper ∷ uppers) b are =
     let one = run_length run upper.run _ are.0.same in
     let s = sum_by-cons (λ (r : BranchRun). length r.elements.items) run runs in omega arith
 
-pub items_length : (bucket : OpenBucket) (next b : ℕ) (state : Open) → AreOpenRuns (bucket_runs bucket next) state b → items_in bucket ≡ length_open state
+pub items_length : (bucket : BucketRuns) (next b : ℕ) (state : Open) → AreOpenRuns (bucket_runs bucket next) state b → items_in bucket ≡ length_open state
 items_length bucket next b state runs =
     let above = above_length bucket.uppers.runs.items state.uppers b runs.above in
     let l = length-map bucket.leaves.items.items (held_view bucket.leaves.inlined.items) in

@@ -7,9 +7,9 @@ use Rattle.bolt_format.specs.Elements.{BranchElement, LeafElement}
 use Rattle.bolt_layout.specs.Cut.{run_size}
 use Rattle.bolt_layout.specs.Laid.{Laid, Placed, elements_of, first_key, numbers_of, size_of}
 use Rattle.bolt_layout.specs.Limits.{is_out, one_less}
-use Rattle.bolt_layout.specs.Levels.{branch_view, overflow_of, page_over, run_overflow, leaf_view}
+use Rattle.bolt_layout.specs.Levels.{branch_page_view, overflow_of, page_over, run_overflow, leaf_page_view}
 use Rattle.bolt_bulk.specs.Private.OpenRuns.{Upper, begun_after, climb, climb_puts, has_room, kept, key_size, numbers_in, own_page, pushed_on, put_in, stays_open, close, close_puts, end_of, end_puts, Known, making_room, nothing_open, Open, pushing, room_puts}
-use Rattle.bolt_bulk.specs.Private.RunViews.{RunView, no_run, one_closed, run_has_room, run_kept, run_key, run_page, run_push, run_stays, runs_climb, runs_put, BucketRuns, leaf_key, leaf_page, leaves_have_room, no_leaves, runs_close_put, runs_end, runs_end_put, runs_next, runs_root, runs_push, runs_room, runs_room_put}
+use Rattle.bolt_bulk.specs.Private.RunViews.{RunView, no_run, one_closed, run_has_room, run_kept, run_key, run_page, run_push, run_stays, runs_climb, runs_put, BucketRunsView, leaf_key, leaf_page, leaves_have_room, no_leaves, runs_close_put, runs_end, runs_end_put, runs_next, runs_root, runs_push, runs_room, runs_room_put}
 use Rattle.bolt_bulk.specs.Private.BranchRuns.{element_up, runs_end_next}
 use Rattle.bolt_bulk.specs.Private.OpenBuckets.{bucket_end_next, leaf_closed}
 use Rattle.bolt_bulk.specs.Private.BucketRuns.{AreUppers, IsKeyed, IsUpper, IsKeyedItem, AreOpenRuns}
@@ -64,10 +64,10 @@ pub key_same : (run : List (Laid BranchElement)) (n : ℕ) → AllByRecursion Is
 key_same [] n keyed = refl
 key_same (x ∷ run) n keyed = keyed.0.1 n
 
-pub placed_same : (page_size : ℕ) (kept_run : RunView) (upper : Upper) (n next : ℕ) → IsUpper kept_run upper n → next ≡ n + numbers_of upper.run → run_page page_size kept_run next ≡ own_page branch_view page_size upper.run n
+pub placed_same : (page_size : ℕ) (kept_run : RunView) (upper : Upper) (n next : ℕ) → IsUpper kept_run upper n → next ≡ n + numbers_of upper.run → run_page page_size kept_run next ≡ own_page branch_page_view page_size upper.run n
 placed_same page_size kept_run upper n next is number =
     let run : List (Laid BranchElement) = upper.run in
-    let f : ℕ → ℕ → List BranchElement → Placed = λ m s es. record { number = m; view = branch_view (overflow_of page_size s) es } in
+    let f : ℕ → ℕ → List BranchElement → Placed = λ m s es. record { number = m; view = branch_page_view (overflow_of page_size s) es } in
     ap (λ (m : ℕ). f m kept_run.size kept_run.elements) number
     ∙ (ap (λ (s : ℕ). f (n + numbers_of run) s kept_run.elements) is.size_is ∙ ap (λ (es : List BranchElement). f (n + numbers_of run) (run_size size_of run) es) is.same)
 
@@ -75,9 +75,9 @@ placed_same page_size kept_run upper n next is number =
 record Over (page_size : ℕ) (kept_run : RunView) (upper : Upper) (m next : ℕ) (e : BranchElement) (q : Laid BranchElement) : Type 0 where
   pub pushed : IsUpper (run_push kept_run e) (pushed_on upper q) m
   pub next_is : next ≡ m + numbers_of (upper.run ++ q ∷ [])
-  pub named : element_up e next kept_run ≡ (page_over branch_view page_size (upper.run ++ q ∷ [])).element m
-  pub own : run_page page_size (run_push kept_run e) next ≡ own_page branch_view page_size (upper.run ++ q ∷ []) m
-  pub after : next + (1 + overflow_of page_size (run_push kept_run e).size) ≡ m + (page_over branch_view page_size (upper.run ++ q ∷ [])).numbers
+  pub named : element_up e next kept_run ≡ (page_over branch_page_view page_size (upper.run ++ q ∷ [])).element m
+  pub own : run_page page_size (run_push kept_run e) next ≡ own_page branch_page_view page_size (upper.run ++ q ∷ []) m
+  pub after : next + (1 + overflow_of page_size (run_push kept_run e).size) ≡ m + (page_over branch_page_view page_size (upper.run ++ q ∷ [])).numbers
 
 over_run : (page_size next b : ℕ) (e : BranchElement) (q : Laid BranchElement) (kept_run : RunView) (upper : Upper) (uppers : List Upper) → IsUpper kept_run upper (b + numbers_in uppers) → IsKeyed q
     → e ≡ q.element (b + numbers_in (upper ∷ uppers)) → next ≡ b + numbers_in (upper ∷ uppers) + q.numbers → Over page_size kept_run upper (b + numbers_in uppers) next e q
@@ -93,7 +93,7 @@ over_run page_size next b e q kept_run upper uppers is keyed same number =
     record {
       pushed = pushed;
       next_is = next_is;
-      named = same_branch (element_up e next kept_run) ((page_over branch_view page_size (run ++ q ∷ [])).element m) (ap run_key pushed.same ∙ key_same (run ++ q ∷ []) m pushed.keyed) next_is;
+      named = same_branch (element_up e next kept_run) ((page_over branch_page_view page_size (run ++ q ∷ [])).element m) (ap run_key pushed.same ∙ key_same (run ++ q ∷ []) m pushed.keyed) next_is;
       own = placed_same page_size (run_push kept_run e) (pushed_on upper q) m next pushed next_is;
       after = omega arith;
     }
@@ -113,7 +113,7 @@ runs_climbed page_size new key e next b q (kept_run ∷ kept_runs) (upper ∷ up
     let m : ℕ = b + numbers_in uppers in
     let over = over_run page_size next b e q kept_run upper uppers are.0 keyed same number in
     let test = stays_same page_size (run_push kept_run e) (pushed_on upper q) m (key_size key) over.pushed in
-    let q2 : Laid BranchElement = page_over branch_view page_size (upper.run ++ q ∷ []) in
+    let q2 : Laid BranchElement = page_over branch_page_view page_size (upper.run ++ q ∷ []) in
     let after : ℕ = next + (1 + overflow_of page_size (run_push kept_run e).size) in
     let ih = runs_climbed page_size new key (element_up e next kept_run) after b q2 kept_runs uppers are.1 (refl, λ n. refl) over.named over.after in
     let next_is = over.next_is in
@@ -130,7 +130,7 @@ runs_climbed page_size new key e next b q (kept_run ∷ kept_runs) (upper ∷ up
           let here : IsUpper (no_run (one_less kept_run.left) (one_closed kept_run.closed)) (begun_after upper) (b + numbers_in (climb page_size new key q2 uppers)) = record { same = refl; size_is = refl; keyed = tt; left_is = left; closed_is = omega arith } in
           rw (f, u) (
             (here, ih.0),
-            ap (λ (p : Placed). p ∷ runs_put page_size key (element_up e next kept_run) after kept_runs) over.own ∙ ap (λ (ps : List Placed). own_page branch_view page_size (upper.run ++ q ∷ []) m ∷ ps) ih.1,
+            ap (λ (p : Placed). p ∷ runs_put page_size key (element_up e next kept_run) after kept_runs) over.own ∙ ap (λ (ps : List Placed). own_page branch_page_view page_size (upper.run ++ q ∷ []) m ∷ ps) ih.1,
             ih.2 ∙ omega arith,
           ))
     ]
@@ -149,32 +149,32 @@ as_many (kept_run ∷ kept_runs) [] b are = absurd are
 as_many (kept_run ∷ kept_runs) (upper ∷ uppers) b are = ap suc (as_many kept_runs uppers b are.1)
 
 -- the page over the leaf under way
-record OverLeaf (page_size : ℕ) (kept_runs : BucketRuns) (run : List (Laid LeafElement)) (m : ℕ) : Type 0 where
-  pub named : leaf_closed kept_runs.leaves kept_runs.next ≡ (page_over leaf_view page_size run).element m
-  pub own : leaf_page page_size kept_runs.leaves kept_runs.next ≡ own_page leaf_view page_size run m
-  pub after : kept_runs.next + (1 + overflow_of page_size kept_runs.leaves.size) ≡ m + (page_over leaf_view page_size run).numbers
+record OverLeaf (page_size : ℕ) (kept_runs : BucketRunsView) (run : List (Laid LeafElement)) (m : ℕ) : Type 0 where
+  pub named : leaf_closed kept_runs.leaves kept_runs.next ≡ (page_over leaf_page_view page_size run).element m
+  pub own : leaf_page page_size kept_runs.leaves kept_runs.next ≡ own_page leaf_page_view page_size run m
+  pub after : kept_runs.next + (1 + overflow_of page_size kept_runs.leaves.size) ≡ m + (page_over leaf_page_view page_size run).numbers
 
-over_leaf : (page_size : ℕ) (kept_runs : BucketRuns) (state : Open) (b : ℕ) → AreOpenRuns kept_runs state b → OverLeaf page_size kept_runs state.run (b + numbers_in state.uppers)
+over_leaf : (page_size : ℕ) (kept_runs : BucketRunsView) (state : Open) (b : ℕ) → AreOpenRuns kept_runs state b → OverLeaf page_size kept_runs state.run (b + numbers_in state.uppers)
 over_leaf page_size kept_runs state b is =
     let m : ℕ = b + numbers_in state.uppers in
     let over : overflow_of page_size kept_runs.leaves.size ≡ run_overflow page_size state.run = ap (overflow_of page_size) is.size_is in
     let n = is.next_is in
-    let f : ℕ → ℕ → List LeafElement → Placed = λ k s es. record { number = k; view = leaf_view (overflow_of page_size s) es } in
+    let f : ℕ → ℕ → List LeafElement → Placed = λ k s es. record { number = k; view = leaf_page_view (overflow_of page_size s) es } in
     record {
-      named = same_branch (leaf_closed kept_runs.leaves kept_runs.next) ((page_over leaf_view page_size state.run).element m) (ap leaf_key is.same ∙ leaf_key_same state.run m is.keyed) is.next_is;
+      named = same_branch (leaf_closed kept_runs.leaves kept_runs.next) ((page_over leaf_page_view page_size state.run).element m) (ap leaf_key is.same ∙ leaf_key_same state.run m is.keyed) is.next_is;
       own = ap (λ (k : ℕ). f k kept_runs.leaves.size kept_runs.leaves.elements) is.next_is
           ∙ (ap (λ (s : ℕ). f (m + numbers_of state.run) s kept_runs.leaves.elements) is.size_is ∙ ap (λ (es : List LeafElement). f (m + numbers_of state.run) (run_size size_of state.run) es) is.same);
       after = omega arith;
     }
 
 -- making room
-pub runs_have_room : (page_size : ℕ) (kept_runs : BucketRuns) (state : Open) (b : ℕ) (key : List ℕ) (size : ℕ) → AreOpenRuns kept_runs state b
+pub runs_have_room : (page_size : ℕ) (kept_runs : BucketRunsView) (state : Open) (b : ℕ) (key : List ℕ) (size : ℕ) → AreOpenRuns kept_runs state b
     → AreOpenRuns (runs_room page_size kept_runs key size) (making_room page_size state key size) b × (runs_room_put page_size kept_runs key size ≡ room_puts page_size state key size b)
 runs_have_room page_size kept_runs state b key size is =
     let m : ℕ = b + numbers_in state.uppers in
     let l : length kept_runs.leaves.elements ≡ length state.run = ap (λ (es : List LeafElement). length es) is.same ∙ length-elements state.run m in
     let test : leaves_have_room page_size kept_runs.leaves size ≡ has_room page_size 1 state.run size = rw (l, is.size_is) refl in
-    let q : Laid BranchElement = page_over leaf_view page_size state.run in
+    let q : Laid BranchElement = page_over leaf_page_view page_size state.run in
     let closed : BranchElement = leaf_closed kept_runs.leaves kept_runs.next in
     let after : ℕ = kept_runs.next + (1 + overflow_of page_size kept_runs.leaves.size) in
     let over = over_leaf page_size kept_runs state b is in
@@ -187,11 +187,11 @@ runs_have_room page_size kept_runs state b key size is =
           (let u : leaves_have_room page_size kept_runs.leaves size ≡ false = test ∙ g in
           let made : AreOpenRuns (record { leaves = no_leaves; uppers = runs_climb page_size new key closed after kept_runs.uppers; limits = kept_runs.limits; next = runs_next page_size key closed after kept_runs.uppers })
           (record { uppers = climb page_size new key q state.uppers; run = []; known = state.known }) b = record { same = refl; size_is = refl; keyed = tt; above = climbed.0; next_is = climbed.2 ∙ omega arith; limits_are = is.limits_are } in
-          rw (g, u, level) (made, ap (λ (p : Placed). p ∷ runs_put page_size key closed after kept_runs.uppers) over.own ∙ ap (λ (ps : List Placed). own_page leaf_view page_size state.run m ∷ ps) climbed.1))
+          rw (g, u, level) (made, ap (λ (p : Placed). p ∷ runs_put page_size key closed after kept_runs.uppers) over.own ∙ ap (λ (ps : List Placed). own_page leaf_page_view page_size state.run m ∷ ps) climbed.1))
     ]
 
 -- an item, once the pages below it were written
-pub runs_pushed : (kept_runs : BucketRuns) (state : Open) (b : ℕ) (item : Laid LeafElement) → AreOpenRuns kept_runs state b → IsKeyedItem item
+pub runs_pushed : (kept_runs : BucketRunsView) (state : Open) (b : ℕ) (item : Laid LeafElement) → AreOpenRuns kept_runs state b → IsKeyedItem item
     → AreOpenRuns (runs_push kept_runs (item.element kept_runs.next) item.size (kept_runs.next + item.numbers)) (pushing state item) b
 runs_pushed kept_runs state b item is keyed =
     let m : ℕ = b + numbers_in state.uppers in
@@ -222,13 +222,13 @@ runs_closed page_size e next b q (kept_run ∷ kept_runs) (upper ∷ uppers) are
     let m : ℕ = b + numbers_in uppers in
     let over = over_run page_size next b e q kept_run upper uppers are.0 keyed same number in
     let after : ℕ = next + (1 + overflow_of page_size (run_push kept_run e).size) in
-    let ih = runs_closed page_size (element_up e next kept_run) after b (page_over branch_view page_size (upper.run ++ q ∷ [])) kept_runs uppers are.1 (refl, λ n. refl) over.named over.after in (
-      ap (λ (p : Placed). p ∷ runs_close_put page_size (element_up e next kept_run) after kept_runs) over.own ∙ ap (λ (ps : List Placed). own_page branch_view page_size (upper.run ++ q ∷ []) m ∷ ps) ih.0,
+    let ih = runs_closed page_size (element_up e next kept_run) after b (page_over branch_page_view page_size (upper.run ++ q ∷ [])) kept_runs uppers are.1 (refl, λ n. refl) over.named over.after in (
+      ap (λ (p : Placed). p ∷ runs_close_put page_size (element_up e next kept_run) after kept_runs) over.own ∙ ap (λ (ps : List Placed). own_page branch_page_view page_size (upper.run ++ q ∷ []) m ∷ ps) ih.0,
       ih.1,
       ih.2,
     )
 
-pub runs_ended : (page_size : ℕ) (kept_runs : BucketRuns) (state : Open) (b : ℕ) → AreOpenRuns kept_runs state b
+pub runs_ended : (page_size : ℕ) (kept_runs : BucketRunsView) (state : Open) (b : ℕ) → AreOpenRuns kept_runs state b
     → (runs_end_put page_size kept_runs ≡ end_puts page_size state b) × (runs_end page_size kept_runs ≡ ((end_of page_size state).element b).child)
     × (bucket_end_next page_size kept_runs ≡ b + (end_of page_size state).numbers)
 runs_ended page_size kept_runs state b is =
@@ -236,5 +236,5 @@ runs_ended page_size kept_runs state b is =
     let over = over_leaf page_size kept_runs state b is in
     let closed : BranchElement = leaf_closed kept_runs.leaves kept_runs.next in
     let after : ℕ = kept_runs.next + (1 + overflow_of page_size kept_runs.leaves.size) in
-    let ends = runs_closed page_size closed after b (page_over leaf_view page_size state.run) kept_runs.uppers state.uppers is.above (refl, λ k. refl) over.named over.after in
-    (ap (λ (p : Placed). p ∷ runs_close_put page_size closed after kept_runs.uppers) over.own ∙ ap (λ (ps : List Placed). own_page leaf_view page_size state.run m ∷ ps) ends.0, ends.1, ends.2)
+    let ends = runs_closed page_size closed after b (page_over leaf_page_view page_size state.run) kept_runs.uppers state.uppers is.above (refl, λ k. refl) over.named over.after in
+    (ap (λ (p : Placed). p ∷ runs_close_put page_size closed after kept_runs.uppers) over.own ∙ ap (λ (ps : List Placed). own_page leaf_page_view page_size state.run m ∷ ps) ends.0, ends.1, ends.2)

@@ -36,21 +36,21 @@ pub leaf_datum : {X : Type 0} (view : X → LeafElement) (xs : List X) → data_
 leaf_datum view [] = refl
 leaf_datum view (x ∷ xs) = ap (λ (t : List ℕ). datum_of view x ++ t) (leaf_datum view xs) ∙ append_assoc (view x).key (view x).value (leaf_data (map view xs))
 
--- The pieces of the page over a run, in the lists and the number that the code has.
-pub leaf_run_pieces : (page_size number further : ℕ) (run : LeafRun) (items : List Held) (inlined : List Leaf) → items ≡ run.items.items → inlined ≡ run.inlined.items → further ≡ overflow_of page_size run.size
+-- The pieces of the page over a run, in the lists that the code has.
+pub leaf_run_pieces : (page_size number : ℕ) (run : LeafRun) (items : List Held) (inlined : List Leaf) → items ≡ run.items.items → inlined ≡ run.inlined.items
     → run.size ≡ page_size_of run.inlined.items run.items.items
-    → header_bytes number kind.Leaf (length items) further
-    ++ (leaf_headers 0 (held_views inlined items) ++ (leaf_data (held_views inlined items) ++ zeros ((1 + further) * page_size - run.size)))
+    → header_bytes number kind.Leaf (length items) (overflow_of page_size run.size)
+    ++ (leaf_headers 0 (held_views inlined items) ++ (leaf_data (held_views inlined items) ++ zeros ((1 + overflow_of page_size run.size) * page_size - run.size)))
     ≡ page_bytes page_size number (leaf_page page_size (leaves_of run) number).view
 unfolding page_bytes leaf_bytes
-leaf_run_pieces page_size number further run items inlined items_are inlined_are further_is sized =
+leaf_run_pieces page_size number run items inlined items_are inlined_are sized =
     let es : List LeafElement = held_views run.inlined.items run.items.items in
     let over : ℕ = overflow_of page_size run.size in
     let n : ℕ = (1 + over) * page_size in
     let count : length run.items.items ≡ length es = sym (length-map run.items.items (held_view run.inlined.items)) in
     let a = length-header_bytes number kind.Leaf (length es) over in
     let b = length-leaf_headers 0 es in
-    rw (items_are, inlined_are, further_is)
+    rw (items_are, inlined_are)
     (ap (λ (m : ℕ). header_bytes number kind.Leaf m over ++ (leaf_headers 0 es ++ (leaf_data es ++ zeros (n - run.size)))) count
     ∙ filled_pieces n run.size (header_bytes number kind.Leaf (length es) over) (leaf_headers 0 es) (leaf_data es) (omega arith))
 

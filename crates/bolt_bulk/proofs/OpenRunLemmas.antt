@@ -6,7 +6,7 @@ use Rattle.std.proofs.lemmas.List.Sums.{sum_by_push}
 use Rattle.bolt_format.specs.Elements.{BranchElement, LeafElement}
 use Rattle.bolt_layout.specs.Cut.{branch_cut, cut_from, joins, max_items, run_size}
 use Rattle.bolt_layout.specs.Laid.{Laid, Placed, numbers_of, pages_of, size_of}
-use Rattle.bolt_layout.specs.Levels.{branch_view, leaf_view, page_over, root_over}
+use Rattle.bolt_layout.specs.Levels.{branch_page_view, leaf_page_view, page_over, root_over}
 use Rattle.bolt_bulk.specs.Private.RowLimits.{bucket_limit}
 use Rattle.bolt_bulk.specs.Private.OpenRuns.{climb, climb_puts, close, close_puts, end_of, end_puts, has_room, kept, key_size, Known, making_room, next_number, nothing_open, numbers_in, Open, own_page, pages_put, pushed_on, pushing, put_in, room_puts, stays_open, taking, Upper}
 use Rattle.bolt_bulk.specs.Private.Coming.{Comes, IsOpen, IsSized, IsUnder, leaves_coming}
@@ -85,7 +85,7 @@ run_right : (which : Layout) (page_size : ℕ) (limits : ℕ → Option ℕ) (q 
     → Comes which page_size limits [] all (q ∷ p ∷ pages) root
     → Comes which page_size limits (record { run = q ∷ []; left = limits 0; closed = 0 } ∷ []) all (p ∷ pages) root
 run_right which page_size limits q p pages all root (all_is, is) =
-    let M : List (List (Laid BranchElement)) → List (Laid BranchElement) = λ runs. map (page_over branch_view page_size) runs in
+    let M : List (List (Laid BranchElement)) → List (Laid BranchElement) = λ runs. map (page_over branch_page_view page_size) runs in
     let same : cut_left page_size size_of (limits 0) (q ∷ []) (p ∷ pages) ≡ branch_cut which page_size size_of (q ∷ p ∷ pages) = is.right 0 in
     let step : cut_left page_size size_of (limits 0) (q ∷ []) (p ∷ pages) ≡ cut_left page_size size_of (limits 0) ((q ∷ []) ++ p ∷ []) pages = pair_step page_size (limits 0) q p pages in
     let cut : branch_cut which page_size size_of all ≡ cut_left page_size size_of (limits 0) ((q ∷ []) ++ p ∷ []) pages =
@@ -107,7 +107,7 @@ climb_same which page_size limits key q (upper ∷ uppers) p pages all root name
     let size : p.size ≡ key_size key = sized ∙ ap key_size named in
     let above : ℕ → Option ℕ = λ k. limits (suc k) in
     let pushed : Upper = pushed_on upper q in
-    let M : List (List (Laid BranchElement)) → List (Laid BranchElement) = λ runs. map (page_over branch_view page_size) runs in
+    let M : List (List (Laid BranchElement)) → List (Laid BranchElement) = λ runs. map (page_over branch_page_view page_size) runs in
     let whole : List (List (Laid BranchElement)) = branch_cut which page_size size_of all in
     let C : List (List (Laid BranchElement)) → Type 0 = λ runs. Comes which page_size above uppers (M whole) (M runs) root in
     elim (cases_Bool (stays_open page_size pushed (key_size key))) [
@@ -118,8 +118,8 @@ climb_same which page_size limits key q (upper ∷ uppers) p pages all root name
           let step = left_closes page_size pushed p (key_size key) pages size f in
           let split = subst C step is in
           let (more, rest, e) = left_begins page_size (one_less upper.left) (p ∷ []) pages in
-          let q2 : Laid BranchElement = page_over branch_view page_size (upper.run ++ q ∷ []) in
-          let p2 : Laid BranchElement = page_over branch_view page_size (p ∷ more) in
+          let q2 : Laid BranchElement = page_over branch_page_view page_size (upper.run ++ q ∷ []) in
+          let p2 : Laid BranchElement = page_over branch_page_view page_size (p ∷ more) in
           let both = subst (λ (runs : List (List (Laid BranchElement))). Comes which page_size above uppers (M whole) (q2 ∷ M runs) root) e split in
           let l = length-append stands.runs ((upper.run ++ q ∷ []) ∷ []) in
           let n = stands.count in
@@ -140,8 +140,8 @@ pub close_same : (which : Layout) (page_size : ℕ) (limits : ℕ → Option ℕ
     → Comes which page_size limits uppers all (q ∷ []) root → close page_size q uppers ≡ root
 close_same which page_size limits q [] all root is = is.1.top
 close_same which page_size limits q (upper ∷ uppers) all root is =
-    close_same which page_size (λ k. limits (suc k)) (page_over branch_view page_size (upper.run ++ q ∷ [])) uppers
-    (map (page_over branch_view page_size) (branch_cut which page_size size_of all)) root is.1
+    close_same which page_size (λ k. limits (suc k)) (page_over branch_page_view page_size (upper.run ++ q ∷ [])) uppers
+    (map (page_over branch_page_view page_size) (branch_cut which page_size size_of all)) root is.1
 
 -- The pages that were written.
 pub pages-append : {E : Type 0} (xs ys : List (Laid E)) (n : ℕ) → pages_of (xs ++ ys) n ≡ pages_of xs n ++ pages_of ys (n + numbers_of xs)
@@ -164,11 +164,11 @@ pages_push xs run q b =
 
 -- a page over a run is written after the pages below it
 over_put : (page_size b : ℕ) (run : List (Laid BranchElement)) (q : Laid BranchElement) (uppers : List Upper) (more : List Placed)
-    → pages_of (put_in uppers) b ++ ((page_over branch_view page_size (run ++ q ∷ [])).pages (b + numbers_in uppers) ++ more)
-    ≡ pages_of (put_in uppers ++ run) b ++ (q.pages (b + numbers_of (put_in uppers ++ run)) ++ (own_page branch_view page_size (run ++ q ∷ []) (b + numbers_in uppers) ∷ more))
+    → pages_of (put_in uppers) b ++ ((page_over branch_page_view page_size (run ++ q ∷ [])).pages (b + numbers_in uppers) ++ more)
+    ≡ pages_of (put_in uppers ++ run) b ++ (q.pages (b + numbers_of (put_in uppers ++ run)) ++ (own_page branch_page_view page_size (run ++ q ∷ []) (b + numbers_in uppers) ∷ more))
 over_put page_size b run q uppers more =
     let m : ℕ = b + numbers_in uppers in
-    let own : Placed = own_page branch_view page_size (run ++ q ∷ []) m in
+    let own : Placed = own_page branch_page_view page_size (run ++ q ∷ []) m in
     let xs : List Placed = pages_of (put_in uppers) b in
     let ys : List Placed = pages_of (run ++ q ∷ []) m in
     let regroup : xs ++ ((ys ++ own ∷ []) ++ more) ≡ (xs ++ ys) ++ (own ∷ more) =
@@ -184,7 +184,7 @@ climb_put page_size new key q (upper ∷ uppers) b =
     elim (cases_Bool (stays_open page_size (pushed_on upper q) (key_size key))) [
       | inl t ↦ rw t (pages_push (put_in uppers) run q b ∙ ap (λ (ps : List Placed). pages_of (put_in uppers ++ run) b ++ ps) (sym (append-nil (q.pages (b + numbers_of (put_in uppers ++ run))))))
       | inr f ↦
-          let q2 : Laid BranchElement = page_over branch_view page_size (run ++ q ∷ []) in
+          let q2 : Laid BranchElement = page_over branch_page_view page_size (run ++ q ∷ []) in
           let ih = climb_put page_size new key q2 uppers b in
           rw f (ap (λ (xs : List (Laid BranchElement)). pages_of xs b) (append-nil (put_in (climb page_size new key q2 uppers))) ∙ (ih ∙ over_put page_size b run q uppers (climb_puts page_size key q2 uppers b)))
     ]
@@ -194,7 +194,7 @@ pub close_put : (page_size : ℕ) (q : Laid BranchElement) (uppers : List Upper)
 close_put page_size q [] b = sym (append-nil (q.pages b)) ∙ ap (λ (n : ℕ). q.pages n ++ []) (let e : b ≡ b + 0 = omega arith in e)
 close_put page_size q (upper ∷ uppers) b =
     let run : List (Laid BranchElement) = upper.run in
-    let q2 : Laid BranchElement = page_over branch_view page_size (run ++ q ∷ []) in
+    let q2 : Laid BranchElement = page_over branch_page_view page_size (run ++ q ∷ []) in
     close_put page_size q2 uppers b ∙ over_put page_size b run q uppers (close_puts page_size q2 uppers b)
 
 -- One item.
@@ -206,28 +206,28 @@ opens which page_size known [] leaves right = record { comes = (sym leaves, reco
 opens which page_size known (item ∷ items) leaves right = record { comes = (sym leaves, record { top = refl; right = right }) }
 
 leaves_first : (page_size : ℕ) (first : Laid LeafElement) (run items : List (Laid LeafElement))
-    → (p : Laid BranchElement) × (rest : List (Laid BranchElement)) × (map (page_over leaf_view page_size) (cut_from page_size 1 size_of (first ∷ run) items) ≡ p ∷ rest)
+    → (p : Laid BranchElement) × (rest : List (Laid BranchElement)) × (map (page_over leaf_page_view page_size) (cut_from page_size 1 size_of (first ∷ run) items) ≡ p ∷ rest)
     × (p.key ≡ first.key) × IsSized p
-leaves_first page_size first run [] = (page_over leaf_view page_size (first ∷ run), [], refl, refl, refl)
+leaves_first page_size first run [] = (page_over leaf_page_view page_size (first ∷ run), [], refl, refl, refl)
 leaves_first page_size first run (next ∷ items) =
-    let M : List (List (Laid LeafElement)) → List (Laid BranchElement) = λ runs. map (page_over leaf_view page_size) runs in
+    let M : List (List (Laid LeafElement)) → List (Laid BranchElement) = λ runs. map (page_over leaf_page_view page_size) runs in
     elim (cut_step page_size 1 (first ∷ run) next items) [
       | inl more ↦
           let (p, rest, e, k, s) = leaves_first page_size first (run ++ next ∷ []) items in
           (p, rest, ap M more.1 ∙ e, k, s)
-      | inr begun ↦ (page_over leaf_view page_size (first ∷ run), M (cut_from page_size 1 size_of (next ∷ []) items), ap M begun.1, refl, refl)
+      | inr begun ↦ (page_over leaf_page_view page_size (first ∷ run), M (cut_from page_size 1 size_of (next ∷ []) items), ap M begun.1, refl, refl)
     ]
 
 pub takes : (which : Layout) (page_size : ℕ) (state : Open) (item : Laid LeafElement) (items : List (Laid LeafElement)) (root : Laid BranchElement) → IsOpen which page_size state (item ∷ items) root
     → IsOpen which page_size (taking page_size state item) items root
 takes which page_size state item items root is =
     let same = room_joins page_size 1 state.run item item.size refl in
-    let M : List (List (Laid LeafElement)) → List (Laid BranchElement) = λ runs. map (page_over leaf_view page_size) runs in
+    let M : List (List (Laid LeafElement)) → List (Laid BranchElement) = λ runs. map (page_over leaf_page_view page_size) runs in
     let C : List (List (Laid LeafElement)) → Type 0 = λ runs. Comes which page_size (bucket_limit state.known.limits) state.uppers state.known.leaves (M runs) root in
     elim (cases_Bool (has_room page_size 1 state.run item.size)) [
       | inl t ↦ rw t (record { comes = subst C (cut_joined page_size 1 state.run item items (sym same ∙ t)) is.comes })
       | inr f ↦
-          let q : Laid BranchElement = page_over leaf_view page_size state.run in
+          let q : Laid BranchElement = page_over leaf_page_view page_size state.run in
           let (p, rest, e, k, s) = leaves_first page_size item [] items in
           let split = subst C (cut_begun page_size 1 state.run item items (sym same ∙ f)) is.comes in
           let whole = subst (λ (ps : List (Laid BranchElement)). Comes which page_size (bucket_limit state.known.limits) state.uppers state.known.leaves (q ∷ ps) root) e split in
@@ -244,10 +244,10 @@ room_put page_size state key size b = elim (cases_Bool (has_room page_size 1 sta
   | inl t ↦ rw t (sym (append-nil (pages_put state b)))
   | inr f ↦
       let m : ℕ = b + numbers_in state.uppers in
-      let q : Laid BranchElement = page_over leaf_view page_size state.run in
+      let q : Laid BranchElement = page_over leaf_page_view page_size state.run in
       let xs : List Placed = pages_of (put_in state.uppers) b in
       let ys : List Placed = pages_of state.run m in
-      let own : Placed = own_page leaf_view page_size state.run m in
+      let own : Placed = own_page leaf_page_view page_size state.run m in
       let cs : List Placed = climb_puts page_size key q state.uppers b in
       rw f (append-nil (pages_of (put_in (climb page_size (bucket_limit state.known.limits (length state.uppers)) key q state.uppers)) b)
       ∙ (climb_put page_size (bucket_limit state.known.limits (length state.uppers)) key q state.uppers b ∙ (ap (λ (ps : List Placed). xs ++ ps) (append_assoc ys (own ∷ []) cs) ∙ sym (append_assoc xs ys (own ∷ cs)))))
@@ -261,14 +261,14 @@ pushed_put state item b =
 
 -- The end.
 pub ends : (which : Layout) (page_size : ℕ) (state : Open) (root : Laid BranchElement) → IsOpen which page_size state [] root → end_of page_size state ≡ root
-ends which page_size state root is = close_same which page_size (bucket_limit state.known.limits) (page_over leaf_view page_size state.run) state.uppers state.known.leaves root is.comes
+ends which page_size state root is = close_same which page_size (bucket_limit state.known.limits) (page_over leaf_page_view page_size state.run) state.uppers state.known.leaves root is.comes
 
 pub ends_put : (page_size : ℕ) (state : Open) (b : ℕ) → (end_of page_size state).pages b ≡ pages_put state b ++ end_puts page_size state b
 ends_put page_size state b =
     let m : ℕ = b + numbers_in state.uppers in
-    let q : Laid BranchElement = page_over leaf_view page_size state.run in
+    let q : Laid BranchElement = page_over leaf_page_view page_size state.run in
     let xs : List Placed = pages_of (put_in state.uppers) b in
     let ys : List Placed = pages_of state.run m in
-    let own : Placed = own_page leaf_view page_size state.run m in
+    let own : Placed = own_page leaf_page_view page_size state.run m in
     let cs : List Placed = close_puts page_size q state.uppers b in
     close_put page_size q state.uppers b ∙ (ap (λ (ps : List Placed). xs ++ ps) (append_assoc ys (own ∷ []) cs) ∙ sym (append_assoc xs ys (own ∷ cs)))

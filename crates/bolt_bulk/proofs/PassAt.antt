@@ -22,13 +22,13 @@ use Rattle.bolt_bulk.specs.Private.OpenBuckets.{bucket_end_next, bucket_runs}
 use Rattle.bolt_bulk.specs.Private.BucketRuns.{AreOpenRuns}
 use Rattle.bolt_bulk.specs.Private.OpenRuns.{Frame, Known, Open, base_in, end_of, making_room, next_number, pushing, taking}
 use Rattle.bolt_bulk.specs.Private.Passes.{AreComing, AreComingAround, AreNumbered, Notes, Wanted, open_in, limits_by, AreWaiting, HasRoot, IsAt, IsPending, IsPendingSmall, IsSmall, StandsBefore, Steps, level_of, onto}
-use Rattle.bolt_bulk.specs.Private.RunViews.{BucketRuns, runs_end, runs_end_put, runs_push, runs_room, runs_room_put}
+use Rattle.bolt_bulk.specs.Private.RunViews.{BucketRunsView, runs_end, runs_end_put, runs_push, runs_room, runs_room_put}
 use Rattle.bolt_bulk.specs.Private.TakenItems.{inline_element, root_element, runs_taking, value_element}
 use Rattle.bolt_bulk.specs.Puts.{Puts}
 use Rattle.bolt_bulk.specs.declared.page_setup.PageSetup.{PageSetup}
 use Rattle.bolt_bulk.specs.declared.fault.BulkFault.{BulkFault}
 use Rattle.bolt_bulk.specs.declared.fault.BulkFault.TheVariants as fault
-use Rattle.bolt_bulk.specs.declared.open_bucket.OpenBucket.{OpenBucket}
+use Rattle.bolt_bulk.specs.declared.bucket_runs.BucketRuns.{BucketRuns}
 use Rattle.bolt_bulk.specs.declared.pass.Pass.{Pass}
 use Rattle.bolt_bulk.specs.declared.pending_bucket.PendingBucket.{PendingBucket}
 use Rattle.bolt_bulk.specs.declared.waiting_bucket.WaitingBucket.{WaitingBucket}
@@ -191,7 +191,7 @@ shown_values [] all = tt
 shown_values (e ∷ entries) all = (all.0, shown_values entries all.1)
 
 -- what the code counts is what is in the open runs
-counted_items : (frames : List Frame) (state : Open) (waits : List WaitingBucket) (bucket : OpenBucket) (next : ℕ) → AreWaiting (reverse waits) frames → AreOpenRuns (bucket_runs bucket next) state (base_in frames)
+counted_items : (frames : List Frame) (state : Open) (waits : List WaitingBucket) (bucket : BucketRuns) (next : ℕ) → AreWaiting (reverse waits) frames → AreOpenRuns (bucket_runs bucket next) state (base_in frames)
     → items_around waits + items_in bucket ≡ length_frames frames + length_open state
 counted_items frames state waits bucket next are runs =
     let a = around_length (reverse waits) frames are in
@@ -202,11 +202,11 @@ module _ {S : Type 0} (taken : S → Option (List ℕ)) (failed : S → ℕ) (wa
   abbrev P : ℕ
   P = pass.setup.page_size
 
-  abbrev runs_now : BucketRuns
+  abbrev runs_now : BucketRunsView
   runs_now = bucket_runs pass.bucket pass.next
 
   -- ---- the open bucket takes an item with no pages below it
-  item_steps : {A : Type 0} (within : List Level) (left : Tree) (key value : List ℕ) (flag : Bool) (size : ℕ) (rest : Tree) (levels : List Level) (after : Tree) (pending : Option PendingBucket) (old new : S) (bucket : OpenBucket)
+  item_steps : {A : Type 0} (within : List Level) (left : Tree) (key value : List ℕ) (flag : Bool) (size : ℕ) (rest : Tree) (levels : List Level) (after : Tree) (pending : Option PendingBucket) (old new : S) (bucket : BucketRuns)
       (entries : Vec Leaf Global) (next : ℕ) (counted : Pass) (result : Result A BulkFault) (is : IsAt wanted pass within left put) → size ≡ 16 + (length key + length value)
       → IsOn wanted.which P wanted.tree is.frames is.state (leaf_item key value flag ∷ items_of wanted.which P rest) runs_now put → IsComingFor wanted pass is.opened rest is.frames
       → pending ≡ None → (levels ≡ map level_of is.frames) × (rest ≡ after)
@@ -224,7 +224,7 @@ module _ {S : Type 0} (taken : S → Option (List ℕ)) (failed : S → ℕ) (wa
         more = runs_room_put P runs_now key size;
         puts = puts;
         at = on_ok_both result runs counts (λ e k.
-            let here : AreOpenRuns (bucket_runs bucket next) made (base_in is.frames) = subst (λ (r : BucketRuns). AreOpenRuns r made (base_in is.frames)) (sym e) then.runs_are_kept in
+            let here : AreOpenRuns (bucket_runs bucket next) made (base_in is.frames) = subst (λ (r : BucketRunsView). AreOpenRuns r made (base_in is.frames)) (sym e) then.runs_are_kept in
             let count = counted_items is.frames made pass.waiting.items bucket next is.waits here in
             subst (λ (p : Pass). IsAt wanted p levels after (put ++ runs_room_put P runs_now key size)) (sym k.rest) (record {
               frames = is.frames;
@@ -249,7 +249,7 @@ module _ {S : Type 0} (taken : S → Option (List ℕ)) (failed : S → ℕ) (wa
       }
 
   -- a value
-  pub value_steps : {A : Type 0} (levels : List Level) (key value : List ℕ) (after : Tree) (old new : S) (bucket : OpenBucket) (next : ℕ) (counted : Pass) (result : Result A BulkFault)
+  pub value_steps : {A : Type 0} (levels : List Level) (key value : List ℕ) (after : Tree) (old new : S) (bucket : BucketRuns) (next : ℕ) (counted : Pass) (result : Result A BulkFault)
       → IsAt wanted pass levels (with_value key value after) put → pass.pending ≡ None
       → Puts taken failed old new (placed_bytes P (runs_room_put P runs_now key (16 + (length key + length value)))) result
       → OnOk result (bucket_runs bucket next ≡ runs_taking P runs_now (value_element key value) (16 + (length key + length value)))
@@ -261,7 +261,7 @@ module _ {S : Type 0} (taken : S → Option (List ℕ)) (failed : S → ℕ) (wa
       item_steps levels (with_value key value after) key value false (16 + (length key + length value)) after levels after pass.pending old new bucket pass.entries next counted result is refl on right none (same, refl) puts runs large counts
 
   -- the end of a bucket that is inline
-  pub inline_steps : {A : Type 0} (level : Level) (levels : List Level) (p : PendingBucket) (old new : S) (bucket : OpenBucket) (entries : Vec Leaf Global) (next : ℕ) (counted : Pass) (result : Result A BulkFault)
+  pub inline_steps : {A : Type 0} (level : Level) (levels : List Level) (p : PendingBucket) (old new : S) (bucket : BucketRuns) (entries : Vec Leaf Global) (next : ℕ) (counted : Pass) (result : Result A BulkFault)
       → IsAt wanted pass (level ∷ levels) end put → pass.pending ≡ Some p → IsPendingSmall P pass.pending pass.entries.items
       → Puts taken failed old new (placed_bytes P (runs_room_put P runs_now p.key.now (16 + (length p.key.now + (p.size + 16))))) result
       → OnOk result (bucket_runs bucket next ≡ runs_taking P runs_now (inline_element p.key.now p.sequence (map leaf_view pass.entries.items)) (16 + (length p.key.now + (p.size + 16))))
@@ -298,11 +298,11 @@ module _ {S : Type 0} (taken : S → Option (List ℕ)) (failed : S → ℕ) (wa
   abbrev known_now : Tree → Known
   known_now left = record { limits = limits_now; leaves = leaf_pages P (items_of wanted.which P (onto (map leaf_view pass.entries.items) left)) }
 
-  abbrev opened_runs : PendingBucket → ℕ → BucketRuns
+  abbrev opened_runs : PendingBucket → ℕ → BucketRunsView
   opened_runs p next = record { leaves = record { elements = map leaf_view pass.entries.items; size = p.size }; uppers = []; limits = limits_now; next = next }
 
   -- where it is then
-  abbrev room_for : PendingBucket → BucketRuns
+  abbrev room_for : PendingBucket → BucketRunsView
   room_for p = runs_room P runs_now p.key.now (32 + length p.key.now)
 
   abbrev frame_of : PendingBucket → Tree → Tree → Open → Frame
@@ -377,7 +377,7 @@ module _ {S : Type 0} (taken : S → Option (List ℕ)) (failed : S → ℕ) (wa
       })
 
   -- all went well
-  pub open_steps : (levels : List Level) (left : Tree) (p : PendingBucket) (old new : S) (bucket : OpenBucket) (w : WaitingBucket) (around : Vec WaitingBucket Global) (entries : Vec Leaf Global) (next opened held : ℕ) (counted : Pass)
+  pub open_steps : (levels : List Level) (left : Tree) (p : PendingBucket) (old new : S) (bucket : BucketRuns) (w : WaitingBucket) (around : Vec WaitingBucket Global) (entries : Vec Leaf Global) (next opened held : ℕ) (counted : Pass)
       → IsAt wanted pass levels left put → pass.pending ≡ Some p → IsPendingSmall P pass.pending pass.entries.items → HasRoot wanted.which P (onto (map leaf_view pass.entries.items) left)
       → Puts {A = ⊤} taken failed old new (placed_bytes P (runs_room_put P runs_now p.key.now (32 + length p.key.now))) (Ok tt)
       → around.items ≡ pass.waiting.items ++ w ∷ [] → bucket_runs w.bucket next ≡ room_for p → w.key.now ≡ p.key.now → w.sequence ≡ p.sequence → bucket_runs bucket next ≡ opened_runs p next
@@ -390,15 +390,15 @@ module _ {S : Type 0} (taken : S → Option (List ℕ)) (failed : S → ℕ) (wa
       let frame : Frame = frame_of p left then.after is.state in
       let frames : List Frame = frame ∷ is.frames in
       let state : Open = open_values (known_now left) (value_items (map leaf_view pass.entries.items)) in
-      let next_is : next ≡ (room_for p).next = ap (λ (r : BucketRuns). r.next) runs in
+      let next_is : next ≡ (room_for p).next = ap (λ (r : BucketRunsView). r.next) runs in
       let room_is : 32 + length p.key.now ≡ 16 + (length p.key.now + 16) = omega arith in
       let values : List (Laid LeafElement) = value_items (map leaf_view pass.entries.items) in
-      let here : AreOpenRuns (bucket_runs bucket next) state (base_in frames) = subst (λ (r : BucketRuns). AreOpenRuns r state (base_in frames)) (sym values_are)
+      let here : AreOpenRuns (bucket_runs bucket next) state (base_in frames) = subst (λ (r : BucketRunsView). AreOpenRuns r state (base_in frames)) (sym values_are)
       (values_runs (known_now left) (map leaf_view pass.entries.items) p.size (base_in frames) next then.values small.sized (next_is ∙ then.base)) in
       let waits : AreWaiting (reverse around.items) frames = subst (λ (ws : List WaitingBucket). AreWaiting ws frames) (sym (ap reverse items ∙ reverse-append pass.waiting.items (w ∷ []))) (
         subst (λ (n : ℕ). AreOpenRuns (bucket_runs w.bucket n) frame.state (base_in is.frames)) (next_is ∙ then.base)
             (subst (λ (n : ℕ). AreOpenRuns (bucket_runs w.bucket next) (making_room P is.state p.key.now n) (base_in is.frames)) room_is
-            (subst (λ (r : BucketRuns). AreOpenRuns r (making_room P is.state p.key.now (32 + length p.key.now)) (base_in is.frames)) (sym runs) then.outer)),
+            (subst (λ (r : BucketRunsView). AreOpenRuns r (making_room P is.state p.key.now (32 + length p.key.now)) (base_in is.frames)) (sym runs) then.outer)),
         key,
         sequence,
         is.waits,
@@ -434,7 +434,7 @@ module _ {S : Type 0} (taken : S → Option (List ℕ)) (failed : S → ℕ) (wa
       }
 
   -- ---- the open bucket ends, and the one around it goes on
-  pub leave_steps : {A : Type 0} (level : Level) (levels : List Level) (w : WaitingBucket) (old new : S) (bucket : OpenBucket) (around : Vec WaitingBucket Global) (next held : ℕ) (noted : NotedLimits) (counted : Pass) (result : Result A BulkFault)
+  pub leave_steps : {A : Type 0} (level : Level) (levels : List Level) (w : WaitingBucket) (old new : S) (bucket : BucketRuns) (around : Vec WaitingBucket Global) (next held : ℕ) (noted : NotedLimits) (counted : Pass) (result : Result A BulkFault)
       → IsAt wanted pass (level ∷ levels) end put → pass.pending ≡ None → pass.waiting.items ≡ around.items ++ w ∷ []
       → BucketEnds pass.noted noted pass.bucket.uppers
       → Puts taken failed old new (placed_bytes P (runs_end_put P runs_now)) result
@@ -459,14 +459,14 @@ module _ {S : Type 0} (taken : S → Option (List ℕ)) (failed : S → ℕ) (wa
       let then = on_leaves wanted.which P wanted.tree frame frames is.state runs_now (bucket_runs w.bucket base) put on2 outer refl in
       let numbers = on_numbers wanted.which P wanted.tree frames made _ _ _ then in
       let size : 32 + length w.key.now ≡ 16 + (length frame.key + 16) = (let n = ap (λ (k : List ℕ). length k) key in omega arith) in
-      let Run : List ℕ → ℕ → ℕ → BucketRuns = λ k s n. runs_push (bucket_runs w.bucket base) (root_element k (runs_end P runs_now) s) n (bucket_end_next P runs_now) in
+      let Run : List ℕ → ℕ → ℕ → BucketRunsView = λ k s n. runs_push (bucket_runs w.bucket base) (root_element k (runs_end P runs_now) s) n (bucket_end_next P runs_now) in
       let run_is : Run w.key.now w.sequence (32 + length w.key.now) ≡ Run frame.key frame.sequence (16 + (length frame.key + 16)) =
       ap (λ (n : ℕ). Run w.key.now w.sequence n) size ∙ (ap (λ (k : List ℕ). Run k w.sequence (16 + (length frame.key + 16))) key ∙ ap (λ (s : ℕ). Run frame.key s (16 + (length frame.key + 16))) sequence) in
       record {
         more = runs_end_put P runs_now;
         puts = puts;
         at = on_ok_both result runs counts (λ e k.
-            let here : AreOpenRuns (bucket_runs bucket next) made (base_in frames) = subst (λ (r : BucketRuns). AreOpenRuns r made (base_in frames)) (sym (e base ∙ run_is)) then.runs_are_kept in
+            let here : AreOpenRuns (bucket_runs bucket next) made (base_in frames) = subst (λ (r : BucketRunsView). AreOpenRuns r made (base_in frames)) (sym (e base ∙ run_is)) then.runs_are_kept in
             let count = counted_items frames made around.items bucket next others here in
             let so_far : pass.most ≡ capped (held_so_far (frame ∷ frames) is.state) = is.held ∙ ap (λ (fs : List Frame). capped (held_so_far fs is.state)) more_frames in
             subst (λ (q : Pass). IsAt wanted q levels level.after (put ++ runs_end_put P runs_now)) (sym k.rest) (record {

@@ -26,7 +26,7 @@ use Rattle.bolt_layout.specs.declared.layout.Layout.TheVariants.{Balanced, Plain
 use Rattle.bolt_layout.specs.Items.{items_of}
 use Rattle.bolt_bulk.specs.Private.OpenRuns.{Frame, Known, Open, all_put, base_in, end_of, nothing_open}
 use Rattle.bolt_bulk.specs.Private.Passes.{AreComingAround, AreNumbered, FitLimits, HasLeft, IsAt, IsTable, Steps, Wanted, depth_of, level_of, limits_by, limits_with, open_in, pending_depth}
-use Rattle.bolt_bulk.specs.Private.RunViews.{BucketRuns, no_leaves, runs_end, runs_end_put}
+use Rattle.bolt_bulk.specs.Private.RunViews.{BucketRunsView, no_leaves, runs_end, runs_end_put}
 use Rattle.bolt_bulk.specs.Puts.{Puts}
 use Rattle.bolt_bulk.specs.declared.page_setup.PageSetup.{PageSetup}
 use Rattle.bolt_bulk.specs.declared.fault.BulkFault.{BulkFault}
@@ -133,7 +133,7 @@ has_begun wanted pass none nothing runs fresh first asked unnoted fit =
         state = nothing_open known;
         rest = wanted.tree;
         under = pass_begins wanted.which P known wanted.tree refl fit.root;
-        runs = subst (λ (r : BucketRuns). AreOpenRuns r (nothing_open known) first_page) (sym runs) (nothing_runs known first_page);
+        runs = subst (λ (r : BucketRunsView). AreOpenRuns r (nothing_open known) first_page) (sym runs) (nothing_runs known first_page);
         waits = rw none tt;
         put_is = refl;
         held = omega arith;
@@ -174,7 +174,7 @@ pub record HasEnd (wanted : Wanted) (pass : Pass) (put : List Placed) : Type 0 w
   pub noted : (noted : NotedLimits) → BucketEnds pass.noted noted pass.bucket.uppers → wanted.notes ≡ true → wanted.which ≡ Plain
       → layout_mark wanted.which pass.setup.page_size wanted.tree ≤ 18446744073709551615 → FitLimits Balanced wanted.tree pass.setup.page_size (limits_with noted.limits)
 
-root_ended : (page_size : ℕ) (wanted : Wanted) (state : Open) (runs : BucketRuns) (put : List Placed) → IsOn wanted.which page_size wanted.tree [] state [] runs put
+root_ended : (page_size : ℕ) (wanted : Wanted) (state : Open) (runs : BucketRunsView) (put : List Placed) → IsOn wanted.which page_size wanted.tree [] state [] runs put
     → (layout_pages wanted.which page_size wanted.tree ≡ put ++ runs_end_put page_size runs) × (runs_end page_size runs ≡ layout_root wanted.which page_size wanted.tree) × (bucket_end_next page_size runs ≡ layout_mark wanted.which page_size wanted.tree)
     × (held_so_far [] state ≡ layout_held wanted.which page_size wanted.tree)
 root_ended page_size wanted state runs put on =

@@ -19,7 +19,7 @@ use Rattle.bolt_bulk.specs.Private.OpenBuckets.{bucket_end_next}
 use Rattle.bolt_bulk.specs.Private.BucketRuns.{AreOpenRuns}
 use Rattle.bolt_bulk.specs.Private.OpenRuns.{all_put, base_in, end_of, Frame, frames_put, has_room, Known, making_room, nothing_open, Open, pushing, room_puts, taking}
 use Rattle.bolt_bulk.specs.Private.Passes.{HasRoot, StandsBefore, onto}
-use Rattle.bolt_bulk.specs.Private.RunViews.{BucketRuns, runs_end, runs_end_put, runs_push, runs_room, runs_room_put}
+use Rattle.bolt_bulk.specs.Private.RunViews.{BucketRunsView, runs_end, runs_end_put, runs_push, runs_room, runs_room_put}
 use Rattle.bolt_bulk.specs.Private.TakenItems.{entries_size, root_element, runs_taking}
 use Rattle.bolt_bulk.proofs.Frames.{pass_enters, pass_leaves, pass_takes, put_enters, put_leaves, put_takes, waiting}
 use Rattle.bolt_bulk.proofs.Ontos.{IsValue, ends_inline, onto_items, value_items, values_elements, values_keyed, values_numbers, values_pages, values_size}
@@ -29,27 +29,27 @@ use Rattle.bolt_bulk.proofs.PutBefore.{pass_before}
 use Rattle.bolt_layout.specs.declared.layout.Layout.{Layout}
 
 -- Where the pass is, apart from how the code keeps the waiting buckets.
-pub record IsOn (which : Layout) (page_size : ℕ) (tree : Tree) (frames : List Frame) (state : Open) (items : List (Laid LeafElement)) (runs : BucketRuns) (put : List Placed) : Type 0 where
+pub record IsOn (which : Layout) (page_size : ℕ) (tree : Tree) (frames : List Frame) (state : Open) (items : List (Laid LeafElement)) (runs : BucketRunsView) (put : List Placed) : Type 0 where
   pub under : IsPass which page_size frames state items (root_of which page_size tree)
   pub runs_are_kept : AreOpenRuns runs state (base_in frames)
   pub put_is : put ≡ all_put frames state
 
 module _ (which : Layout) (page_size : ℕ) (tree : Tree) where
   -- what was written comes before the root page, and its numbers are below the high-water mark
-  pub on_before : (frames : List Frame) (state : Open) (items : List (Laid LeafElement)) (runs : BucketRuns) (put : List Placed) → IsOn which page_size tree frames state items runs put
+  pub on_before : (frames : List Frame) (state : Open) (items : List (Laid LeafElement)) (runs : BucketRunsView) (put : List Placed) → IsOn which page_size tree frames state items runs put
       → StandsBefore put (layout_pages which page_size tree)
   on_before frames state items runs put on =
       let is = pass_before which page_size frames state items (root_of which page_size tree) on.under in
       record { rest = is.rest; parts = is.parts ∙ ap (λ (ps : List Placed). ps ++ is.rest) (sym on.put_is); some = is.some }
 
-  pub on_numbers : (frames : List Frame) (state : Open) (items : List (Laid LeafElement)) (runs : BucketRuns) (put : List Placed) → IsOn which page_size tree frames state items runs put
+  pub on_numbers : (frames : List Frame) (state : Open) (items : List (Laid LeafElement)) (runs : BucketRunsView) (put : List Placed) → IsOn which page_size tree frames state items runs put
       → runs.next ≤ layout_mark which page_size tree
   on_numbers frames state items runs put on =
       let fewer = (pass_before which page_size frames state items (root_of which page_size tree) on.under).fewer in
       let next = on.runs_are_kept.next_is in omega arith
 
   -- an item without pages below it is taken
-  pub on_takes : (frames : List Frame) (state : Open) (key value : List ℕ) (flag : Bool) (items : List (Laid LeafElement)) (runs : BucketRuns) (put : List Placed)
+  pub on_takes : (frames : List Frame) (state : Open) (key value : List ℕ) (flag : Bool) (items : List (Laid LeafElement)) (runs : BucketRunsView) (put : List Placed)
       → IsOn which page_size tree frames state (leaf_item key value flag ∷ items) runs put
       → IsOn which page_size tree frames (taking page_size state (leaf_item key value flag)) items (runs_taking page_size runs (record { key = key; value = value; is_bucket = flag }) (16 + (length key + length value)))
       (put ++ runs_room_put page_size runs key (16 + (length key + length value)))
@@ -64,7 +64,7 @@ module _ (which : Layout) (page_size : ℕ) (tree : Tree) where
       }
 
   -- a bucket with a root page is entered
-  pub on_enters : (known : Known) (frames : List Frame) (state : Open) (key : List ℕ) (sequence : ℕ) (inner : List (Laid LeafElement)) (after : Tree) (runs : BucketRuns) (put : List Placed)
+  pub on_enters : (known : Known) (frames : List Frame) (state : Open) (key : List ℕ) (sequence : ℕ) (inner : List (Laid LeafElement)) (after : Tree) (runs : BucketRunsView) (put : List Placed)
       → known.leaves ≡ leaves_coming page_size [] inner → HaveRightLimits which page_size (bucket_limit known.limits) (leaves_coming page_size [] inner)
       → IsOn which page_size tree frames state (bucket_item key sequence (root_over which page_size inner) ∷ items_of which page_size after) runs put
       → IsPass which page_size (waiting page_size state key sequence (root_over which page_size inner) after ∷ frames) (nothing_open known) inner (root_of which page_size tree)
@@ -82,7 +82,7 @@ module _ (which : Layout) (page_size : ℕ) (tree : Tree) where
       )
 
   -- it ends, and the bucket around it goes on
-  pub on_leaves : (frame : Frame) (frames : List Frame) (state : Open) (inner outer : BucketRuns) (put : List Placed) → IsOn which page_size tree (frame ∷ frames) state [] inner put
+  pub on_leaves : (frame : Frame) (frames : List Frame) (state : Open) (inner outer : BucketRunsView) (put : List Placed) → IsOn which page_size tree (frame ∷ frames) state [] inner put
       → AreOpenRuns outer frame.state (base_in frames) → outer.next ≡ base_in (frame ∷ frames)
       → IsOn which page_size tree frames (pushing frame.state (held_item frame (end_of page_size state))) (items_of which page_size frame.after)
       (runs_push outer (root_element frame.key (runs_end page_size inner) frame.sequence) (16 + (length frame.key + 16)) (bucket_end_next page_size inner))

@@ -8,7 +8,7 @@ use Rattle.bolt_format.specs.Pages.{PageView}
 use Rattle.bolt_layout.specs.Cut.{branch_cut, cut_from, join_last}
 use Rattle.bolt_layout.specs.Items.{items_of}
 use Rattle.bolt_layout.specs.Laid.{Laid, Placed, numbers_of, pages_of, size_of}
-use Rattle.bolt_layout.specs.Levels.{branch_view, leaf_view, next_level, page_over, top_in}
+use Rattle.bolt_layout.specs.Levels.{branch_page_view, leaf_page_view, next_level, page_over, top_in}
 use Rattle.bolt_layout.specs.Layout.{first_page}
 use Rattle.bolt_bulk.specs.Private.RowLimits.{bucket_limit}
 use Rattle.bolt_bulk.specs.Private.OpenRuns.{Frame, Open, Upper, all_put, base_in, frames_put, next_number, numbers_in, own_page, pages_put, pushing, put_in}
@@ -99,10 +99,10 @@ top_begins which page_size steps page [] b = record { rest = []; parts = sym (ap
 top_begins which page_size zero page (other ∷ level) b = record { rest = []; parts = sym (append-nil (page.pages b)); fewer = omega arith }
 top_begins which page_size (suc steps) page (other ∷ level) b =
     let (more, rest, e) = run_begins which page_size page (other ∷ level) in
-    let up : Laid BranchElement = page_over branch_view page_size (page ∷ more) in
-    let level2 : List (Laid BranchElement) = map (page_over branch_view page_size) rest in
-    let same : next_level which page_size (page ∷ other ∷ level) ≡ up ∷ level2 = ap (λ (runs : List (List (Laid BranchElement))). map (page_over branch_view page_size) runs) e in
-    let one = over_before branch_view page_size (page ∷ []) more b in
+    let up : Laid BranchElement = page_over branch_page_view page_size (page ∷ more) in
+    let level2 : List (Laid BranchElement) = map (page_over branch_page_view page_size) rest in
+    let same : next_level which page_size (page ∷ other ∷ level) ≡ up ∷ level2 = ap (λ (runs : List (List (Laid BranchElement))). map (page_over branch_page_view page_size) runs) e in
+    let one = over_before branch_page_view page_size (page ∷ []) more b in
     let fewer = one.fewer in
     let two = top_begins which page_size steps up level2 b in
     let first : Begins (page.pages b) page.numbers (up.pages b) up.numbers =
@@ -120,14 +120,14 @@ coming_begins which page_size limits [] p pages all root is b =
     let t = subst (λ (r : Laid BranchElement). Begins (p.pages b) p.numbers (r.pages b) r.numbers) is.1.top (top_begins which page_size (length (p ∷ pages)) p pages b) in
     subst (λ (k : ℕ). Begins (p.pages (b + 0)) k (root.pages b) root.numbers) none (subst (λ (n : ℕ). Begins (p.pages n) p.numbers (root.pages b) root.numbers) same t)
 coming_begins which page_size limits (upper ∷ uppers) p pages all root is b =
-    let others : List (Laid BranchElement) = map (page_over branch_view page_size) (branch_cut which page_size size_of all) in
+    let others : List (Laid BranchElement) = map (page_over branch_page_view page_size) (branch_cut which page_size size_of all) in
     let run : List (Laid BranchElement) = upper.run in
     let (more, rest, e) = left_begins page_size upper.left (run ++ p ∷ []) pages in
-    let up : Laid BranchElement = page_over branch_view page_size ((run ++ p ∷ []) ++ more) in
+    let up : Laid BranchElement = page_over branch_page_view page_size ((run ++ p ∷ []) ++ more) in
     let m : ℕ = b + numbers_in uppers in
-    let above = subst (λ (rs : List (List (Laid BranchElement))). Comes which page_size (λ k. limits (suc k)) uppers others (map (page_over branch_view page_size) rs) root) e is.1 in
-    let ih = coming_begins which page_size (λ k. limits (suc k)) uppers up (map (page_over branch_view page_size) rest) others root above b in
-    let one = before_behind (pages_of (put_in uppers) b) (pages_of (run ++ p ∷ []) m) (numbers_in uppers) (numbers_of (run ++ p ∷ [])) (up.pages m) up.numbers (over_before branch_view page_size (run ++ p ∷ []) more m) in
+    let above = subst (λ (rs : List (List (Laid BranchElement))). Comes which page_size (λ k. limits (suc k)) uppers others (map (page_over branch_page_view page_size) rs) root) e is.1 in
+    let ih = coming_begins which page_size (λ k. limits (suc k)) uppers up (map (page_over branch_page_view page_size) rest) others root above b in
+    let one = before_behind (pages_of (put_in uppers) b) (pages_of (run ++ p ∷ []) m) (numbers_in uppers) (numbers_of (run ++ p ∷ [])) (up.pages m) up.numbers (over_before branch_page_view page_size (run ++ p ∷ []) more m) in
     let two = begins_by _ _ _ _ _ _ (only_begins _ _ _ _ one) ih in
     let front : pages_of (put_in uppers) b ++ pages_of (run ++ p ∷ []) m ≡ pages_of (put_in uppers ++ run) b ++ p.pages (b + numbers_of (put_in uppers ++ run)) =
     sym (pages-append (put_in uppers) (run ++ p ∷ []) b) ∙ pages_push (put_in uppers) run p b in
@@ -142,11 +142,11 @@ pub put_before : (which : Layout) (page_size : ℕ) (state : Open) (items : List
     → IsBefore (pages_put state b) (numbers_in state.uppers + numbers_of state.run) (root.pages b) root.numbers
 put_before which page_size state items root b is =
     let (more, rest, e) = cut_begins page_size 1 state.run items in
-    let p : Laid BranchElement = page_over leaf_view page_size (state.run ++ more) in
+    let p : Laid BranchElement = page_over leaf_page_view page_size (state.run ++ more) in
     let m : ℕ = b + numbers_in state.uppers in
-    let comes = subst (λ (rs : List (List (Laid LeafElement))). Comes which page_size (bucket_limit state.known.limits) state.uppers state.known.leaves (map (page_over leaf_view page_size) rs) root) e is.comes in
-    let one = coming_begins which page_size (bucket_limit state.known.limits) state.uppers p (map (page_over leaf_view page_size) rest) state.known.leaves root comes b in
-    let two = before_behind (pages_of (put_in state.uppers) b) (pages_of state.run m) (numbers_in state.uppers) (numbers_of state.run) (p.pages m) p.numbers (over_before leaf_view page_size state.run more m) in
+    let comes = subst (λ (rs : List (List (Laid LeafElement))). Comes which page_size (bucket_limit state.known.limits) state.uppers state.known.leaves (map (page_over leaf_page_view page_size) rs) root) e is.comes in
+    let one = coming_begins which page_size (bucket_limit state.known.limits) state.uppers p (map (page_over leaf_page_view page_size) rest) state.known.leaves root comes b in
+    let two = before_behind (pages_of (put_in state.uppers) b) (pages_of state.run m) (numbers_in state.uppers) (numbers_of state.run) (p.pages m) p.numbers (over_before leaf_page_view page_size state.run more m) in
     before_by _ _ _ _ _ _ two one
 
 stack_before : (which : Layout) (page_size : ℕ) (frames : List Frame) (root whole : Laid BranchElement) (front : List Placed) (few : ℕ) → IsStack which page_size frames root whole → IsBefore front few (root.pages (base_in frames)) root.numbers

@@ -3,7 +3,7 @@ use Rattle.std.proofs.Common.{◌∙◌, ℕ, suc, Option, List, [], ◌∷◌, 
 use Rattle.std.proofs.lemmas.List.{length-append}
 use Rattle.bolt_format.specs.Elements.{BranchElement}
 use Rattle.bolt_layout.specs.Laid.{Laid}
-use Rattle.bolt_layout.specs.Levels.{branch_view, leaf_view, page_over}
+use Rattle.bolt_layout.specs.Levels.{branch_page_view, leaf_page_view, page_over}
 use Rattle.bolt_layout.specs.Limits.{AreRowEnds, last_length}
 use Rattle.bolt_layout.specs.declared.layout.Layout.TheVariants.{Plain}
 use Rattle.bolt_bulk.specs.Private.RowLimits.{bucket_limit}
@@ -20,7 +20,7 @@ uppers_end page_size limits (upper ∷ uppers) q all root (stands, is) =
     let closed = stands.count in
     let items = ap (λ (runs : List (List (Laid BranchElement))). last_length runs) stands.cut ∙ last_append stands.runs last in
     let long = length-append upper.run (q ∷ []) in
-    (stands.some, omega arith, omega arith, uppers_end page_size (λ k. limits (suc k)) uppers (page_over branch_view page_size last) _ root is)
+    (stands.some, omega arith, omega arith, uppers_end page_size (λ k. limits (suc k)) uppers (page_over branch_page_view page_size last) _ root is)
 
 pub bucket_rows_end : (page_size : ℕ) (state : Open) (root : Laid BranchElement) → IsOpen Plain page_size state [] root → AreRowEnds page_size state.known.leaves (map upper_end state.uppers)
-bucket_rows_end page_size state root is = uppers_end page_size (bucket_limit state.known.limits) state.uppers (page_over leaf_view page_size state.run) state.known.leaves root is.comes
+bucket_rows_end page_size state root is = uppers_end page_size (bucket_limit state.known.limits) state.uppers (page_over leaf_page_view page_size state.run) state.known.leaves root is.comes

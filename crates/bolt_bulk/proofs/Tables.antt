@@ -7,7 +7,7 @@ use Rattle.bolt_format.specs.Elements.{BranchElement}
 use Rattle.bolt_tree.specs.Tree.{Tree}
 use Rattle.bolt_layout.specs.Cut.{branch_cut}
 use Rattle.bolt_layout.specs.Laid.{Laid, size_of}
-use Rattle.bolt_layout.specs.Levels.{branch_view, leaf_view, page_over}
+use Rattle.bolt_layout.specs.Levels.{branch_page_view, leaf_page_view, page_over}
 use Rattle.bolt_layout.specs.Layout.{layout_mark}
 use Rattle.bolt_layout.specs.Limits.{limit_at, limits_from_ends}
 use Rattle.bolt_layout.specs.Openings.{limits_for, opened_in, row_ends_of}
@@ -83,14 +83,14 @@ run_ends page_size limits [] [] q all root b are comes few = refl
 run_ends page_size limits [] (upper ∷ uppers) q all root b are comes few = absurd are
 run_ends page_size limits (run ∷ runs) [] q all root b are comes few = absurd are
 run_ends page_size limits (run ∷ runs) (upper ∷ uppers) q all root b (row, are) (stands, comes) few =
-    let next : List (Laid BranchElement) = map (page_over branch_view page_size) (branch_cut Plain page_size size_of all) in
+    let next : List (Laid BranchElement) = map (page_over branch_page_view page_size) (branch_cut Plain page_size size_of all) in
     let fewer = shorter Plain page_size all stands.some in
-    let count = length-map (branch_cut Plain page_size size_of all) (page_over branch_view page_size) in
+    let count = length-map (branch_cut Plain page_size size_of all) (page_over branch_page_view page_size) in
     let parts = ap (λ (rs : List (List (Laid BranchElement))). length rs) stands.cut ∙ length-append stands.runs _ in
     let closed = stands.count in
     let closed_is : run.closed ≡ upper.closed = (let c = row.closed_is in omega arith) in
     let items : length run.elements.items ≡ length upper.run = run_length run upper.run _ row.same in
-    let rest = run_ends page_size (λ k. limits (suc k)) runs uppers (page_over branch_view page_size (upper.run ++ q ∷ [])) next root b are comes (omega arith) in
+    let rest = run_ends page_size (λ k. limits (suc k)) runs uppers (page_over branch_page_view page_size (upper.run ++ q ∷ [])) next root b are comes (omega arith) in
     ap (λ (n : ℕ). (suc n, suc (length run.elements.items)) ∷ map run_end runs) closed_is
     ∙ (ap (λ (n : ℕ). (suc upper.closed, suc n) ∷ map run_end runs) items
     ∙ ap (λ (rows : List (ℕ × ℕ)). upper_end upper ∷ rows) rest)
@@ -168,7 +168,7 @@ noted_leaves wanted page_size old new opened b (n ∷ numbers) state others uppe
             let plain : IsOpen Plain page_size state [] root = subst (λ (w : Layout). IsOpen w page_size state [] root) which runs_open in
             let leaves : length state.known.leaves ≤ 18446744073709551615 = (let l = is.notes.few in omega arith) in
             let runs_are : map run_end uppers.runs.items ≡ map upper_end state.uppers =
-            run_ends page_size (bucket_limit state.known.limits) uppers.runs.items state.uppers (page_over leaf_view page_size state.run) state.known.leaves root b rows plain.comes leaves in
+            run_ends page_size (bucket_limit state.known.limits) uppers.runs.items state.uppers (page_over leaf_page_view page_size state.run) state.known.leaves root b rows plain.comes leaves in
             let runs_are_kept : map upper_end state.uppers ≡ row_ends_of page_size state.known.leaves = row_ends_are_one page_size state.known.leaves (map upper_end state.uppers) (bucket_rows_end page_size state root plain) in
             let all : limits_from_ends false (map run_end uppers.runs.items) ≡ limits_from_ends false (row_ends_of page_size state.known.leaves) = ap (λ (rs : List (ℕ × ℕ)). limits_from_ends false rs) (runs_are ∙ runs_are_kept) in
             let fresh : (level : ℕ) → limit_in old.limits uppers.limits.bucket level ≡ None = λ level. ap (λ (m : ℕ). limit_in old.limits m level) number ∙ table.still_open.0 level in

@@ -3,6 +3,7 @@ pub mod BranchRuns
 pub mod Coming
 pub mod Endings
 pub mod FirstPages
+pub mod FormatLimits
 pub mod Gathering
 pub mod HeldCounts
 pub mod HeldItems

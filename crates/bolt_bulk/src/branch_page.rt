@@ -3,24 +3,25 @@ ghost use Rattle.std.specs.Prelude.{◌+◌, ◌*◌, ◌<◌, [], ◌∷◌, le
 ghost use Rattle.bolt_format.specs.ElementPlaces.{branch_view};
 ghost use Rattle.bolt_layout.specs.Layout.{placed_bytes};
 ghost use Rattle.bolt_layout.specs.PageBytes.{branch_data, branch_headers};
+ghost use Rattle.bolt_bulk.specs.Private.FormatLimits.{length_end};
 ghost use Rattle.bolt_bulk.specs.Private.BranchRuns.{IsSizedRun, run_view};
 ghost use Rattle.bolt_bulk.specs.Private.RunViews.{run_page};
 ghost use Rattle.bolt_bulk.specs.Puts.{PutsWhole};
 
 use crate::branch_run::BranchRun;
 use crate::headers::Headers;
-use crate::page_setup::{PageSetup, overflow};
+use crate::page_header::put_page_header;
+use crate::page_setup::PageSetup;
 use crate::pieces::{put, put_zeros};
-use bolt_format::{Branch, Kind, Sink, SinkFault, page_header};
+use bolt_format::{Branch, Kind, Sink, SinkFault};
 
 /// Writes the headers of elements. All keys are packed after the last header.
 fn put_headers<S: Sink>(branches: &[Branch<'_>], sink: &mut S) -> Result<(), SinkFault>
-    requires { 16 * length branches.now + length (branch_data (map branch_view branches.now)) < 4294967296 }
+    requires { 16 * length branches.now + length (branch_data (map branch_view branches.now)) < length_end }
     ensures { PutsWhole S.taken S.failed sink.old sink.new (branch_headers 0 (map branch_view branches.now)) result }
 {
     let mut headers = Headers::new(branches.len());
-    for i in 0..branches.len() {
-        let branch = &branches[i];
+    for branch in branches {
         headers.put_branch(branch.key.len(), branch.child, sink)?;
     }
     headers.put_rest(sink)
@@ -30,8 +31,8 @@ fn put_headers<S: Sink>(branches: &[Branch<'_>], sink: &mut S) -> Result<(), Sin
 fn put_keys<S: Sink>(branches: &[Branch<'_>], sink: &mut S) -> Result<(), SinkFault>
     ensures { PutsWhole S.taken S.failed sink.old sink.new (branch_data (map branch_view branches.now)) result }
 {
-    for i in 0..branches.len() {
-        put(branches[i].key, sink)?;
+    for branch in branches {
+        put(branch.key, sink)?;
     }
     Ok(())
 }
@@ -44,15 +45,13 @@ pub(crate) fn put_branch_page<S: Sink>(
     sink: &mut S,
 ) -> Result<(), SinkFault>
     requires sized { IsSizedRun (run_view run.now) }
-    requires small { run.now.size < 4294967296 }
+    requires small { run.now.size < length_end }
     requires few { length run.now.elements.items < 65536 }
     ensures { PutsWhole S.taken S.failed sink.old sink.new (placed_bytes setup.now.page_size (run_page setup.now.page_size (run_view run.now) number ∷ [])) result }
 {
     let branches = run.elements.as_slice();
-    let further = overflow(setup.page_size, run.size);
-    let header = page_header(number, Kind::Branch, branches.len() as u16, further as u32);
-    put(&header, sink)?;
+    let zeros = put_page_header(setup, number, Kind::Branch, branches.len(), run.size, sink)?;
     put_headers(branches, sink)?;
     put_keys(branches, sink)?;
-    put_zeros((1 + further) * setup.page_size - run.size, sink)
+    put_zeros(zeros, sink)
 }

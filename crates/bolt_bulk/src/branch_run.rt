@@ -4,6 +4,7 @@ ghost use Rattle.bolt_format.specs.ElementPlaces.{branch_view};
 ghost use Rattle.bolt_format.specs.Sinks.{AppendsProperPrefix};
 ghost use Rattle.bolt_layout.specs.Layout.{placed_bytes};
 ghost use Rattle.bolt_layout.specs.Levels.{overflow_of};
+ghost use Rattle.bolt_bulk.specs.Private.FormatLimits.{longest_key};
 ghost use Rattle.bolt_bulk.specs.Private.BranchRuns.{IsPushed, IsStanding, element_up, own_element, run_view, run_taking, taking_next, taking_puts, taking_up};
 ghost use Rattle.bolt_bulk.specs.Private.OpenRuns.{key_size};
 ghost use Rattle.bolt_layout.specs.Limits.{one_less};
@@ -92,8 +93,8 @@ impl<'a> BranchRun<'a> {
         sink: &mut S,
     ) -> Result<Option<Branch<'a>>, BulkFault>
         requires standing { IsStanding (run_view self.old) }
-        requires key { length key.now ≤ 1073741824 }
-        requires closed { length closed.key.now ≤ 1073741824 }
+        requires key { length key.now ≤ longest_key }
+        requires closed { length closed.key.now ≤ longest_key }
         requires next { next.old ≤ setup.now.limit }
         ensures pages { Puts S.taken S.failed sink.old sink.new (placed_bytes setup.now.page_size (taking_puts setup.now.page_size key.now (branch_view closed.entry) next.old (run_view self.old))) result }
         ensures run { OnOk result (run_view self.new ≡ run_taking setup.now.page_size key.now (branch_view closed.entry) (run_view self.old)) }
@@ -121,7 +122,7 @@ impl<'a> BranchRun<'a> {
         sink: &mut S,
     ) -> Result<Branch<'a>, BulkFault>
         requires standing { IsStanding (run_view self.old) }
-        requires closed { length closed.key.now ≤ 1073741824 }
+        requires closed { length closed.key.now ≤ longest_key }
         requires next { next.old ≤ setup.now.limit }
         ensures pages { Puts S.taken S.failed sink.old sink.new (placed_bytes setup.now.page_size (run_page setup.now.page_size (run_push (run_view self.old) (branch_view closed.entry)) next.old ∷ [])) result }
         ensures short { OnErr result (AppendsProperPrefix (S.taken sink.old) (S.taken sink.new) (placed_bytes setup.now.page_size (run_page setup.now.page_size (run_push (run_view self.old) (branch_view closed.entry)) next.old ∷ []))) }

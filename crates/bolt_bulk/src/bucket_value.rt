@@ -3,6 +3,7 @@ ghost use Rattle.std.specs.Prelude.{◌+◌, ◌*◌, ◌<◌, ◌++◌, length,
 ghost use Rattle.bolt_format.specs.ElementPlaces.{leaf_view};
 ghost use Rattle.bolt_layout.specs.PageBytes.{inline_value, leaf_data, leaf_headers};
 ghost use Rattle.bolt_bulk.specs.Puts.{PutsWhole};
+ghost use Rattle.bolt_bulk.specs.Private.FormatLimits.{length_end};
 
 use crate::headers::Headers;
 use crate::pieces::put;
@@ -10,12 +11,11 @@ use bolt_format::{Kind, Leaf, Sink, SinkFault, bucket_head, page_header};
 
 /// Writes the headers of entries. All their data is packed after the last header.
 fn put_headers<S: Sink>(entries: &[Leaf<'_>], sink: &mut S) -> Result<(), SinkFault>
-    requires { 16 * length entries.now + length (leaf_data (map leaf_view entries.now)) < 4294967296 }
+    requires { 16 * length entries.now + length (leaf_data (map leaf_view entries.now)) < length_end }
     ensures { PutsWhole S.taken S.failed sink.old sink.new (leaf_headers 0 (map leaf_view entries.now)) result }
 {
     let mut headers = Headers::new(entries.len());
-    for i in 0..entries.len() {
-        let entry = &entries[i];
+    for entry in entries {
         headers.put_leaf(entry.is_bucket, entry.key.len(), entry.value.len(), sink)?;
     }
     headers.put_rest(sink)
@@ -33,8 +33,8 @@ fn put_entry<S: Sink>(entry: &Leaf<'_>, sink: &mut S) -> Result<(), SinkFault>
 fn put_data<S: Sink>(entries: &[Leaf<'_>], sink: &mut S) -> Result<(), SinkFault>
     ensures { PutsWhole S.taken S.failed sink.old sink.new (leaf_data (map leaf_view entries.now)) result }
 {
-    for i in 0..entries.len() {
-        put_entry(&entries[i], sink)?;
+    for entry in entries {
+        put_entry(entry, sink)?;
     }
     Ok(())
 }
@@ -46,7 +46,7 @@ pub(crate) fn put_inline_value<S: Sink>(
     sink: &mut S,
 ) -> Result<(), SinkFault>
     requires count { length entries.now < 65535 }
-    requires size { 16 * length entries.now + length (leaf_data (map leaf_view entries.now)) < 4294967296 }
+    requires size { 16 * length entries.now + length (leaf_data (map leaf_view entries.now)) < length_end }
     ensures { PutsWhole S.taken S.failed sink.old sink.new (inline_value sequence (map leaf_view entries.now)) result }
 {
     put(&bucket_head(0, sequence), sink)?;

@@ -13,8 +13,9 @@ ghost use Rattle.bolt_layout.specs.declared.layout.Layout.TheVariants.{Plain};
 
 use crate::fault::{BulkFault, PlanFault};
 use crate::file_laws::{file_is_of_one_tree, recovered_is_of_one_tree};
-use crate::members_copy::{Shape, plan_members, put_members};
+use crate::members_copy::{plan_members, put_members};
 use crate::outcome::{Done, Plan};
+use crate::shape::Shape;
 use bolt_check::Checked;
 use bolt_format::Sink;
 use bolt_layout::Layout;
@@ -49,7 +50,11 @@ pub fn plan_as(
 }
 
 /// Returns where a copy in the plain layout will have its root page and its high-water mark:
-/// `plan_as` for that layout, with its errors.
+/// `plan_as` for that layout.
+///
+/// # Errors
+///
+/// Those of `plan_as`.
 pub fn plan(alloc: Global, checked: Checked<'_>, page_size: u64) -> Result<Plan, PlanFault>
     requires { IsPageSize page_size }
     ensures { ForListing checked.entry (λ listing. Plans Plain page_size (meta_of checked.entry).root_sequence listing result) }
@@ -90,8 +95,11 @@ pub fn compact_as<S: Sink>(
     put_members(alloc, &mut Walk::new(alloc, checked), &shape, sink)
 }
 
-/// Writes the compact copy of a file in the plain layout: `compact_as` for that layout, with its
-/// errors.
+/// Writes the compact copy of a file in the plain layout: `compact_as` for that layout.
+///
+/// # Errors
+///
+/// Those of `compact_as`.
 pub fn compact<S: Sink>(
     alloc: Global,
     checked: Checked<'_>,
@@ -108,9 +116,13 @@ pub fn compact<S: Sink>(
 }
 
 /// Writes the compact copy of what is recovered of a damaged file: the one layout of the recovered
-/// listing (docs/RECOVERY.md), written as `compact_as` writes that of a sound file, with its errors.
-/// The recovery must not have returned anything yet. Each earlier pass over the file is a recovery
-/// of its own, and the last is the one that is passed, so after `Ok` it has reported all losses.
+/// listing (docs/RECOVERY.md), written as `compact_as` writes that of a sound file. The recovery
+/// must not have returned anything yet. Each earlier pass over the file is a recovery of its own,
+/// and the last is the one that is passed, so after `Ok` it has reported all losses.
+///
+/// # Errors
+///
+/// Those of `compact_as`.
 pub fn compact_recovered<S: Sink>(
     alloc: Global,
     recovery: &mut Recovery<'_>,

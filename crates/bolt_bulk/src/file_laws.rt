@@ -22,6 +22,9 @@ use bolt_recover::laws::{
     each_file_has_a_recovered_listing, recovered_listing_is_of_a_tree, recovered_members_are_held,
 };
 
+// The range of a type is known of a value that the body reads. So the next two functions read
+// their parameter and do nothing else.
+
 /// A slice of bytes has none above 255.
 fn are_bytes(bytes: &[u8])
     ensures { IsBytes bytes.now }

@@ -1,40 +1,28 @@
 //! The pages that precede those of the buckets, as they are written.
 ghost use Rattle.std.specs.Prelude.{◌≡◌, ◌≤◌, length};
-ghost use Rattle.bolt_layout.specs.PageBytes.{filled, meta_of};
+ghost use Rattle.bolt_layout.specs.PageBytes.{filled, copy_meta};
 ghost use Rattle.bolt_bulk.specs.Private.FirstPages.{first_pages};
 ghost use Rattle.bolt_bulk.specs.Puts.{PutsWhole};
 
+use crate::outcome::Plan;
 use crate::pieces::{put, put_zeros};
+use crate::shape::Shape;
 use bolt_format::{Kind, Meta, Sink, SinkFault, meta_page, page_header};
 
 /// The page number of the freelist.
 const FREELIST: u64 = 2;
 
-/// What both metas say.
-#[derive(Clone, Copy)]
-pub(crate) struct Facts {
-    pub page_size: u32,
-    /// The page number of the root bucket's root page.
-    pub root: u64,
-    /// The root bucket's sequence.
-    pub sequence: u64,
-    /// The high-water mark.
-    pub mark: u64,
-}
-
-impl Facts {
-    /// The meta with this transaction id.
-    fn meta(&self, txid: u64) -> Meta
-        ensures { result ≡ meta_of self.now.page_size self.now.root self.now.sequence self.now.mark txid }
-    {
-        Meta {
-            page_size: self.page_size,
-            root: self.root,
-            root_sequence: self.sequence,
-            freelist: FREELIST,
-            high_water: self.mark,
-            txid,
-        }
+/// The meta of a copy with this transaction id.
+fn meta(shape: &Shape, plan: &Plan, txid: u64) -> Meta
+    ensures { result ≡ copy_meta shape.now.page_size plan.now.root shape.now.sequence plan.now.high_water txid }
+{
+    Meta {
+        page_size: shape.page_size as u32,
+        root: plan.root,
+        root_sequence: shape.sequence,
+        freelist: FREELIST,
+        high_water: plan.high_water,
+        txid,
     }
 }
 
@@ -48,13 +36,16 @@ fn put_filled<S: Sink>(bytes: &[u8], page_size: usize, sink: &mut S) -> Result<(
 }
 
 /// Writes both metas, and a freelist without ids.
-pub(crate) fn put_first_pages<S: Sink>(facts: &Facts, sink: &mut S) -> Result<(), SinkFault>
-    requires { 1024 ≤ facts.now.page_size }
-    ensures { PutsWhole S.taken S.failed sink.old sink.new (first_pages facts.now) result }
+pub(crate) fn put_first_pages<S: Sink>(
+    shape: &Shape,
+    plan: &Plan,
+    sink: &mut S,
+) -> Result<(), SinkFault>
+    ensures { PutsWhole S.taken S.failed sink.old sink.new (first_pages shape.now.page_size plan.now.root shape.now.sequence plan.now.high_water) result }
 {
-    let page_size = facts.page_size as usize;
-    put_filled(&meta_page(0, &facts.meta(0)), page_size, sink)?;
-    put_filled(&meta_page(1, &facts.meta(1)), page_size, sink)?;
+    let page_size = shape.page_size as usize;
+    put_filled(&meta_page(0, &meta(shape, plan, 0)), page_size, sink)?;
+    put_filled(&meta_page(1, &meta(shape, plan, 1)), page_size, sink)?;
     let freelist = page_header(FREELIST, Kind::Freelist, 0, 0);
     put_filled(&freelist, page_size, sink)
 }

@@ -1,6 +1,7 @@
 //! The headers of a page's elements, which are gathered and then written five at a time.
 ghost use Rattle.std.specs.Prelude.{◌≡◌, ◌+◌, ◌*◌, ◌<◌, ◌≤◌, [], OnOk, length};
 ghost use Rattle.bolt_format.specs.Written.{branch_header, leaf_header};
+ghost use Rattle.bolt_bulk.specs.Private.FormatLimits.{length_end};
 ghost use Rattle.bolt_bulk.specs.Private.Gathering.{Adds, Gathers};
 ghost use Rattle.bolt_bulk.specs.Puts.{PutsWhole};
 
@@ -39,7 +40,7 @@ pub(crate) struct Headers {
 impl Headers {
     /// No headers yet, of this many elements.
     pub fn new(count: usize) -> Headers
-        requires { 16 * count < 4294967296 }
+        requires { 16 * count < length_end }
         ensures empty { result.buffer.items ≡ [] }
         ensures pos { result.pos ≡ 16 * count }
     {
@@ -58,7 +59,7 @@ impl Headers {
         sink: &mut S,
     ) -> Result<(), SinkFault>
         requires low { 16 ≤ self.old.pos }
-        requires small { self.old.pos + key < 4294967296 }
+        requires small { self.old.pos + key < length_end }
         ensures adds { Adds S.taken S.failed sink.old sink.new self.old.buffer.items (branch_header self.old.pos key child) self.new.buffer.items result }
         ensures pos { OnOk result (self.new.pos + 16 ≡ self.old.pos + key) }
     {
@@ -79,7 +80,7 @@ impl Headers {
         sink: &mut S,
     ) -> Result<(), SinkFault>
         requires low { 16 ≤ self.old.pos }
-        requires small { self.old.pos + (key + value) < 4294967296 }
+        requires small { self.old.pos + (key + value) < length_end }
         ensures adds { Adds S.taken S.failed sink.old sink.new self.old.buffer.items (leaf_header is_bucket self.old.pos key value) self.new.buffer.items result }
         ensures pos { OnOk result (self.new.pos + 16 ≡ self.old.pos + (key + value)) }
     {

@@ -1,6 +1,7 @@
 //! A leaf page, as it is written.
 ghost use Rattle.std.specs.Prelude.{◌+◌, ◌*◌, ◌<◌, ◌++◌, length};
 ghost use Rattle.bolt_layout.specs.PageBytes.{leaf_data, leaf_headers, page_bytes};
+ghost use Rattle.bolt_bulk.specs.Private.FormatLimits.{length_end};
 ghost use Rattle.bolt_bulk.specs.Private.HeldItems.{AreHeld, IsHeld, held_views, stored_value};
 ghost use Rattle.bolt_bulk.specs.Private.OpenBuckets.{IsLeafRun, leaves_of};
 ghost use Rattle.bolt_bulk.specs.Private.RunViews.{leaf_page};
@@ -9,9 +10,10 @@ ghost use Rattle.bolt_bulk.specs.Puts.{PutsWhole};
 use crate::headers::Headers;
 use crate::held::Held;
 use crate::leaf_run::LeafRun;
-use crate::page_setup::{PageSetup, overflow};
+use crate::page_header::put_page_header;
+use crate::page_setup::PageSetup;
 use crate::pieces::{put, put_zeros};
-use bolt_format::{Kind, Leaf, Sink, SinkFault, page_header};
+use bolt_format::{Kind, Leaf, Sink, SinkFault};
 
 /// Writes the headers of items. All their data is packed after the last header.
 fn put_headers<S: Sink>(
@@ -20,12 +22,11 @@ fn put_headers<S: Sink>(
     sink: &mut S,
 ) -> Result<(), SinkFault>
     requires held { AreHeld inlined.now items.now }
-    requires size { 16 * length items.now + length (leaf_data (held_views inlined.now items.now)) < 4294967296 }
+    requires size { 16 * length items.now + length (leaf_data (held_views inlined.now items.now)) < length_end }
     ensures { PutsWhole S.taken S.failed sink.old sink.new (leaf_headers 0 (held_views inlined.now items.now)) result }
 {
     let mut headers = Headers::new(items.len());
-    for i in 0..items.len() {
-        let held = &items[i];
+    for held in items {
         let value = held.stored.len();
         headers.put_leaf(held.stored.is_bucket(), held.key.len(), value, sink)?;
     }
@@ -50,8 +51,8 @@ fn put_data<S: Sink>(
     requires { AreHeld inlined.now items.now }
     ensures { PutsWhole S.taken S.failed sink.old sink.new (leaf_data (held_views inlined.now items.now)) result }
 {
-    for i in 0..items.len() {
-        put_item(&items[i], inlined, sink)?;
+    for held in items {
+        put_item(held, inlined, sink)?;
     }
     Ok(())
 }
@@ -68,10 +69,8 @@ pub(crate) fn put_leaf_page<S: Sink>(
 {
     let items = run.items.as_slice();
     let inlined = run.inlined.as_slice();
-    let further = overflow(setup.page_size, run.size);
-    let header = page_header(number, Kind::Leaf, items.len() as u16, further as u32);
-    put(&header, sink)?;
+    let zeros = put_page_header(setup, number, Kind::Leaf, items.len(), run.size, sink)?;
     put_headers(items, inlined, sink)?;
     put_data(items, inlined, sink)?;
-    put_zeros((1 + further) * setup.page_size - run.size, sink)
+    put_zeros(zeros, sink)
 }

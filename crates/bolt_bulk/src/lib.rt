@@ -9,6 +9,7 @@
 mod all_pages;
 mod branch_page;
 mod branch_run;
+mod bucket_runs;
 mod bucket_value;
 mod copy;
 mod fault;
@@ -22,12 +23,13 @@ mod limits;
 mod members_copy;
 mod no_sink;
 mod noted_limits;
-mod open_bucket;
 mod outcome;
+mod page_header;
 mod page_setup;
 mod pass;
 mod pending_bucket;
 mod pieces;
+mod shape;
 mod upper_runs;
 mod waiting_bucket;
 

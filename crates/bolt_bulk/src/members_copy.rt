@@ -15,25 +15,16 @@ ghost use Rattle.bolt_bulk.specs.declared.fault.PlanFault.TheVariants as planned
 use crate::all_pages::put_pages;
 use crate::fault::{BulkFault, PlanFault};
 use crate::file_laws::a_listing_has_one_layout;
-use crate::first_pages::{Facts, put_first_pages};
+use crate::first_pages::put_first_pages;
 use crate::limits::Limits;
 use crate::no_sink::NoSink;
 use crate::outcome::{Done, Plan};
 use crate::page_setup::PageSetup;
+use crate::shape::Shape;
 use bolt_format::Sink;
 use bolt_layout::Layout;
 use bolt_recover::Members;
 use std::alloc::Global;
-
-/// What a copy looks like, apart from its members.
-#[derive(Clone, Copy)]
-pub(crate) struct Shape {
-    pub layout: Layout,
-    pub page_size: u64,
-    /// The sequence of the root bucket.
-    pub sequence: u64,
-    pub ghost accepted: { IsPageSize page_size },
-}
 
 /// The most bytes that a copy may have.
 const MAX_LEN: u64 = 0x7FFF_FFFF_FFFF_FFFF;
@@ -165,13 +156,7 @@ pub(crate) fn put_members<'a, M: Members<'a> + Drop, S: Sink>(
     a_listing_has_one_layout(shape.page_size, shape.sequence);
     let limits = limits_of(alloc, members, shape)?;
     let plan = plan_within(alloc, members, &limits, shape)?;
-    let facts = Facts {
-        page_size: shape.page_size as u32,
-        root: plan.root,
-        sequence: shape.sequence,
-        mark: plan.high_water,
-    };
-    put_first_pages(&facts, sink)?;
+    put_first_pages(shape, &plan, sink)?;
     let setup = setup_of(alloc, shape.page_size);
     let ended = put_pages(setup, &limits, false, members, sink)?;
     Ok(Done {

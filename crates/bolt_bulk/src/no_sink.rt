@@ -1,5 +1,5 @@
 //! A sink that keeps nothing.
-ghost use Rattle.std.specs.Prelude.{◌≡◌, None};
+ghost use Rattle.std.specs.Prelude.{None};
 
 use bolt_format::{Sink, SinkFault};
 

@@ -2,10 +2,10 @@
 //! as soon as the page is known.
 ghost use Rattle.std.specs.Prelude.{[], ◌≡◌, ◌+◌, ◌/◌, ◌<◌, ◌≤◌, ◌∷◌, Some, None, IfErr, List, OnOk, length, map};
 
+use crate::bucket_runs::BucketRuns;
 use crate::fault::BulkFault;
 use crate::limits::{BucketLimits, Limits};
 use crate::noted_limits::NotedLimits;
-use crate::open_bucket::OpenBucket;
 use crate::page_setup::{MAX_ITEMS, PageSetup};
 use crate::pending_bucket::PendingBucket;
 use crate::waiting_bucket::WaitingBucket;
@@ -33,7 +33,7 @@ pub(crate) struct Pass<'a> {
     pub limits: &'a Limits,
     /// The buckets around the one that is open, the innermost last.
     pub waiting: Vec<WaitingBucket<'a>>,
-    pub bucket: OpenBucket<'a>,
+    pub bucket: BucketRuns<'a>,
     /// The bucket within the open one that may be inline, and its entries so far.
     pub pending: Option<PendingBucket<'a>>,
     pub entries: Vec<Leaf<'a>>,
@@ -53,8 +53,10 @@ pub(crate) struct Pass<'a> {
 impl<'a> Pass<'a> {
     ghost use Rattle.bolt_tree.specs.Tree.{Tree, end, listing_of, with_bucket, with_value};
     ghost use Rattle.bolt_layout.specs.Laid.{Placed};
+    ghost use Rattle.bolt_bulk.specs.Private.FormatLimits.{longest_key};
     ghost use Rattle.bolt_bulk.specs.Private.HeldCounts.{Counts, capped, items_by};
     ghost use Rattle.bolt_bulk.specs.Private.Levels.{Level};
+    ghost use Rattle.bolt_format.specs.ElementLengths.{IsValueLength};
     ghost use Rattle.bolt_format.specs.ElementPlaces.{leaf_view};
     ghost use Rattle.bolt_bulk.specs.Private.Passes.{FitLimits, HasLeft, HasRoot, IsAt, IsNoDeeper, IsReady, Steps, Wanted, depth_of, limits_with, onto};
     ghost use Rattle.bolt_bulk.specs.Private.Endings.{Ends, IsFitMember};
@@ -75,7 +77,7 @@ impl<'a> Pass<'a> {
             setup,
             limits,
             waiting: Vec::new(alloc),
-            bucket: OpenBucket::new(
+            bucket: BucketRuns::new(
                 alloc,
                 BucketLimits {
                     all: limits,
@@ -130,8 +132,8 @@ impl<'a> Pass<'a> {
         sink: &mut S,
     ) -> Result<(), BulkFault>
         requires ready { IsReady self.old }
-        requires key { length key.now ≤ 1073741824 }
-        requires value { length value.now < 2147483647 }
+        requires key { length key.now ≤ longest_key }
+        requires value { IsValueLength (length value.now) }
         ensures setup { OnOk result (self.new.setup ≡ self.old.setup) }
         ensures ready { OnOk result (IsReady self.new) }
         ensures depth { OnOk result (depth_of self.new ≡ depth_of self.old) }
@@ -145,7 +147,7 @@ impl<'a> Pass<'a> {
         if size <= self.setup.page_size / 4 && self.entries.len() < MAX_ITEMS {
             return self.keep_value(pending, key, value, size);
         }
-        self.open_pending(pending, sink)?;
+        self.open_pending(sink)?;
         self.put_value(key, value, sink)
     }
 
@@ -159,10 +161,10 @@ impl<'a> Pass<'a> {
     ) -> Result<(), BulkFault>
         requires ready { IsReady self.old }
         requires pending { self.old.pending ≡ Some pending }
-        requires key { length key.now ≤ 1073741824 }
+        requires key { length key.now ≤ longest_key }
         requires size { size ≡ pending.size + (16 + (length key.now + length value.now)) }
         requires small { size ≤ self.old.setup.page_size / 4 }
-        requires few { length self.old.entries.items < 65534 }
+        requires few { length self.old.entries.items < MAX_ITEMS }
         ensures setup { OnOk result (self.new.setup ≡ self.old.setup) }
         ensures ready { OnOk result (IsReady self.new) }
         ensures depth { OnOk result (depth_of self.new ≡ depth_of self.old) }
@@ -190,8 +192,8 @@ impl<'a> Pass<'a> {
     ) -> Result<(), BulkFault>
         requires ready { IsReady self.old }
         requires pending { self.old.pending ≡ None }
-        requires key { length key.now ≤ 1073741824 }
-        requires value { length value.now < 2147483647 }
+        requires key { length key.now ≤ longest_key }
+        requires value { IsValueLength (length value.now) }
         ensures setup { OnOk result (self.new.setup ≡ self.old.setup) }
         ensures ready { OnOk result (IsReady self.new) }
         ensures depth { OnOk result (depth_of self.new ≡ depth_of self.old) }
@@ -212,18 +214,14 @@ impl<'a> Pass<'a> {
         sink: &mut S,
     ) -> Result<(), BulkFault>
         requires ready { IsReady self.old }
-        requires key { length key.now ≤ 1073741824 }
+        requires key { length key.now ≤ longest_key }
         ensures setup { OnOk result (self.new.setup ≡ self.old.setup) }
         ensures ready { OnOk result (IsReady self.new) }
         ensures depth { OnOk result (depth_of self.new ≡ depth_of self.old + 1) }
         ensures steps { (wanted : Wanted) (inside after : Tree) (levels : List Level) (put : List Placed) → IsAt wanted self.old levels (with_bucket key.now sequence inside after) put
             → Steps wanted S.taken S.failed sink.old sink.new self.old.setup put (IsAt wanted self.new (record { key = key.now; after = after } ∷ levels) inside) result }
     {
-        let Some(pending) = self.pending else {
-            self.begin(key, sequence);
-            return Ok(());
-        };
-        self.open_pending(pending, sink)?;
+        self.open_pending(sink)?;
         self.begin(key, sequence);
         Ok(())
     }
@@ -232,7 +230,7 @@ impl<'a> Pass<'a> {
     fn begin(&mut self, key: &'a [u8], sequence: u64)
         requires ready { IsReady self.old }
         requires pending { self.old.pending ≡ None }
-        requires key { length key.now ≤ 1073741824 }
+        requires key { length key.now ≤ longest_key }
         ensures setup { self.new.setup ≡ self.old.setup }
         ensures ready { IsReady self.new }
         ensures depth { depth_of self.new ≡ depth_of self.old + 1 }
@@ -246,15 +244,10 @@ impl<'a> Pass<'a> {
         });
     }
 
-    /// Opens the pending bucket with its entries so far, as it turns out to have a root page. The
-    /// bucket around it waits.
-    fn open_pending<S: Sink>(
-        &mut self,
-        pending: PendingBucket<'a>,
-        sink: &mut S,
-    ) -> Result<(), BulkFault>
-        requires ready { IsReady self.old }
-        requires pending { self.old.pending ≡ Some pending }
+    /// Opens the pending bucket, if there is one, with its entries so far, as it turns out to have
+    /// a root page. The bucket around it waits.
+    fn open_pending<S: Sink>(&mut self, sink: &mut S) -> Result<(), BulkFault>
+        requires { IsReady self.old }
         ensures setup { OnOk result (self.new.setup ≡ self.old.setup) }
         ensures ready { OnOk result (IsReady self.new) }
         ensures depth { OnOk result (depth_of self.new ≡ depth_of self.old) }
@@ -263,11 +256,14 @@ impl<'a> Pass<'a> {
             → HasRoot wanted.which self.old.setup.page_size (onto (map leaf_view self.old.entries.items) left)
             → Steps wanted S.taken S.failed sink.old sink.new self.old.setup put (IsAt wanted self.new levels left) result }
     {
+        let Some(pending) = self.pending else {
+            return Ok(());
+        };
         let limits = BucketLimits {
             all: self.limits,
             bucket: self.opened,
         };
-        let inner = OpenBucket::of_values(
+        let inner = BucketRuns::of_values(
             self.setup.alloc,
             self.entries.as_slice(),
             pending.size,
@@ -347,7 +343,7 @@ impl<'a> Pass<'a> {
         let around = waiting.around;
         let inner = mem::replace(
             &mut self.bucket,
-            OpenBucket::new(self.setup.alloc, waiting.bucket.uppers.limits),
+            BucketRuns::new(self.setup.alloc, waiting.bucket.uppers.limits),
         );
         let outer = waiting.end_inner(&self.setup, inner, &mut self.next, sink)?;
         self.bucket = outer;

@@ -4,6 +4,7 @@ ghost use Rattle.std.specs.List.{AllByRecursion};
 ghost use Rattle.bolt_format.specs.ElementPlaces.{branch_view};
 ghost use Rattle.bolt_format.specs.Sinks.{AppendsProperPrefix};
 ghost use Rattle.bolt_layout.specs.Layout.{placed_bytes};
+ghost use Rattle.bolt_bulk.specs.Private.FormatLimits.{longest_key};
 ghost use Rattle.bolt_bulk.specs.Private.BranchRuns.{IsStanding, runs_above, runs_end_next};
 ghost use Rattle.bolt_bulk.specs.Private.RowLimits.{bucket_limit};
 ghost use Rattle.bolt_bulk.specs.Private.RunViews.{runs_climb, runs_close_put, runs_next, runs_put, runs_root};
@@ -49,8 +50,8 @@ impl<'a> UpperRuns<'a> {
         sink: &mut S,
     ) -> Result<(), BulkFault>
         requires standing { AllByRecursion IsStanding (runs_above self.old.runs.items) }
-        requires key { length key.now ≤ 1073741824 }
-        requires closed { length closed.key.now ≤ 1073741824 }
+        requires key { length key.now ≤ longest_key }
+        requires closed { length closed.key.now ≤ longest_key }
         requires next { next.old ≤ setup.now.limit }
         ensures pages { Puts S.taken S.failed sink.old sink.new (placed_bytes setup.now.page_size (runs_put setup.now.page_size key.now (branch_view closed.entry) next.old (runs_above self.old.runs.items))) result }
         ensures runs { OnOk result (runs_above self.new.runs.items ≡ runs_climb setup.now.page_size (bucket_limit self.old.limits (length (runs_above self.old.runs.items))) key.now (branch_view closed.entry) next.old (runs_above self.old.runs.items)) }
@@ -82,7 +83,7 @@ impl<'a> UpperRuns<'a> {
         sink: &mut S,
     ) -> Result<u64, BulkFault>
         requires standing { AllByRecursion IsStanding (runs_above self.old.runs.items) }
-        requires closed { length closed.key.now ≤ 1073741824 }
+        requires closed { length closed.key.now ≤ longest_key }
         requires next { next.old ≤ setup.now.limit }
         ensures pages { Puts S.taken S.failed sink.old sink.new (placed_bytes setup.now.page_size (runs_close_put setup.now.page_size (branch_view closed.entry) next.old (runs_above self.old.runs.items))) result }
         ensures short { OnErr result (AppendsProperPrefix (S.taken sink.old) (S.taken sink.new) (placed_bytes setup.now.page_size (runs_close_put setup.now.page_size (branch_view closed.entry) next.old (runs_above self.old.runs.items)))) }

@@ -9,9 +9,9 @@ ghost use Rattle.bolt_bulk.specs.Private.WaitingBuckets.{IsWaiting};
 ghost use Rattle.bolt_bulk.specs.Puts.{Puts};
 ghost use Rattle.bolt_bulk.specs.declared.fault.BulkFault.TheVariants as fault;
 
+use crate::bucket_runs::BucketRuns;
 use crate::fault::BulkFault;
 use crate::held::{Held, Stored};
-use crate::open_bucket::OpenBucket;
 use crate::page_setup::PageSetup;
 use bolt_format::{ELEMENT_LEN, HEAD_LEN, Sink};
 
@@ -21,7 +21,7 @@ pub(crate) const ROOT_ITEM_LEN: usize = ELEMENT_LEN + HEAD_LEN;
 /// A bucket that waits for a bucket within it, which has this key and sequence.
 #[derive(Drop)]
 pub(crate) struct WaitingBucket<'a> {
-    pub bucket: OpenBucket<'a>,
+    pub bucket: BucketRuns<'a>,
     pub key: &'a [u8],
     pub sequence: u64,
     /// How many items the buckets around it hold. Saturates at 2^64 - 1.
@@ -34,10 +34,10 @@ impl<'a> WaitingBucket<'a> {
     pub(crate) fn end_inner<S: Sink>(
         self,
         setup: &PageSetup,
-        bucket: OpenBucket<'a>,
+        bucket: BucketRuns<'a>,
         next: &mut u64,
         sink: &mut S,
-    ) -> Result<OpenBucket<'a>, BulkFault>
+    ) -> Result<BucketRuns<'a>, BulkFault>
         requires open { IsOpenBucket bucket }
         requires waits { IsWaiting setup.now.page_size self }
         requires next { next.old ≤ setup.now.limit }

@@ -19,7 +19,7 @@ use Rattle.bolt_layout.proofs.OverRows.{IsOver, IsRun, Pieces}
 use Rattle.bolt_layout.proofs.Parts.{AreParts}
 use Rattle.bolt_layout.proofs.PageRows.{HasRoom, IsPageFit, branch_room, overflow_room, overflow_small}
 use Rattle.bolt_layout.specs.Laid.{Laid, Placed, elements_of, numbers_of, pages_of, size_of}
-use Rattle.bolt_layout.specs.Levels.{branch_view, page_over, run_overflow}
+use Rattle.bolt_layout.specs.Levels.{branch_page_view, page_over, run_overflow}
 use Rattle.bolt_layout.proofs.LaidPages.{AreNodes, HasPages, limit, own_page, page_has}
 use Rattle.bolt_layout.proofs.LaidItems.{IsItem, length-elements}
 use Rattle.bolt_layout.proofs.LeafPages.{IsPage, above_after, above_none, leaf_page, page_part}
@@ -56,7 +56,7 @@ pieces_fit page_size height (kid ∷ kids) leaves h all n room =
     )
 
 branch_own_room : (page_size height : ℕ) (run : List (Laid BranchElement)) (leaves : List (Laid LeafElement)) → 0 < page_size → Pieces (IsPage page_size height) run leaves
-    → (n : ℕ) → HasRoom page_size (own_page branch_view page_size run n)
+    → (n : ℕ) → HasRoom page_size (own_page branch_page_view page_size run n)
 branch_own_room page_size height run leaves sized pieces n =
     let size = pieces_size page_size height run leaves pieces n in
     let room = overflow_room page_size (run_size size_of run) sized (omega arith) in
@@ -64,7 +64,7 @@ branch_own_room page_size height run leaves sized pieces n =
 
 pub branch_own : (page_size height : ℕ) (run : List (Laid BranchElement)) (leaves : List (Laid LeafElement)) → 0 < page_size → Pieces (IsPage page_size height) run leaves
     → AllByRecursion (IsItem page_size) leaves → IsRun run → (n : ℕ) → 1 ≤ n → n + numbers_of run < limit
-    → IsPageFit page_size (own_page branch_view page_size run n)
+    → IsPageFit page_size (own_page branch_page_view page_size run n)
 branch_own page_size height run leaves sized pieces all fits n some h =
     let size = pieces_size page_size height run leaves pieces n in
     let long = length-elements run n in
@@ -147,9 +147,9 @@ branch_content node s leaf some keys = let z : (length node.entries == 0) ≡ fa
 
 pub branch_page : (page_size height : ℕ) (kid : Laid BranchElement) (kids : List (Laid BranchElement)) (leaves : List (Laid LeafElement)) → 0 < page_size
     → Pieces (IsPage page_size height) (kid ∷ kids) leaves → AllByRecursion (IsItem page_size) leaves → Rise leaves → IsRun (kid ∷ kids)
-    → IsPage page_size (suc height) (page_over branch_view page_size (kid ∷ kids)) leaves
+    → IsPage page_size (suc height) (page_over branch_page_view page_size (kid ∷ kids)) leaves
 branch_page page_size height kid kids leaves sized pieces all rise fits = record {
-  pages = page_has page_size branch_view (kid ∷ kids) (pieces_have page_size height (kid ∷ kids) leaves pieces) (λ further es. refl) (branch_own_room page_size height (kid ∷ kids) leaves sized pieces)
+  pages = page_has page_size branch_page_view (kid ∷ kids) (pieces_have page_size height (kid ∷ kids) leaves pieces) (λ further es. refl) (branch_own_room page_size height (kid ∷ kids) leaves sized pieces)
       (branch_own page_size height (kid ∷ kids) leaves sized pieces all fits);
   some = omega arith;
   size = refl;
@@ -158,7 +158,7 @@ branch_page page_size height kid kids leaves sized pieces all rise fits = record
       let same : y ≡ x = cc in page.first y front refl ∙ ap (λ (i : Laid LeafElement). i.key) same;
   key = λ n. refl;
   child = λ n. (omega arith, omega arith);
-  last = λ n. (pages_of (kid ∷ kids) n, record { number = n + numbers_of (kid ∷ kids); view = branch_view (run_overflow page_size (kid ∷ kids)) (elements_of (kid ∷ kids) n) }, refl, refl);
+  last = λ n. (pages_of (kid ∷ kids) n, record { number = n + numbers_of (kid ∷ kids); view = branch_page_view (run_overflow page_size (kid ∷ kids)) (elements_of (kid ∷ kids) n) }, refl, refl);
   part = λ nodes n s same some h shown depth within.
       let both = all_split (λ (p : Placed). nodes p.number ≡ node_of p.view.kind p.view) (pages_of (kid ∷ kids) n) _ shown in
       let node : Node = record { is_leaf = false; overflow = run_overflow page_size (kid ∷ kids); entries = map branch_entry (elements_of (kid ∷ kids) n) } in

@@ -7,7 +7,7 @@ use Rattle.bolt_format.specs.Elements.{BranchElement, LeafElement}
 use Rattle.bolt_format.specs.Pages.{PageView}
 use Rattle.bolt_layout.specs.Cut.{branch_cut, cut_from, cut_of, join_last, joins}
 use Rattle.bolt_layout.specs.Laid.{Laid, size_of}
-use Rattle.bolt_layout.specs.Levels.{branch_view, leaf_view, next_level, page_over}
+use Rattle.bolt_layout.specs.Levels.{branch_page_view, leaf_page_view, next_level, page_over}
 use Rattle.bolt_layout.specs.Limits.{last_length}
 use Rattle.bolt_layout.specs.Openings.{leaf_pages}
 use Rattle.bolt_layout.specs.declared.layout.Layout.{Layout}
@@ -103,11 +103,11 @@ over_faces view page_size (run ∷ runs) =
 
 pub leaf_faces : (page_size : ℕ) (items : List (Laid LeafElement)) → map face (leaf_pages page_size items) ≡ map top_face (cut_from page_size 1 face_size [] (map face items))
 leaf_faces page_size items =
-    over_faces leaf_view page_size (cut_from page_size 1 size_of [] items)
+    over_faces leaf_page_view page_size (cut_from page_size 1 size_of [] items)
     ∙ ap (λ (rs : List (List Face)). map top_face rs) (map_from face page_size 1 face_size [] items)
 
 pub next_faces : (which : Layout) (page_size : ℕ) (pages : List (Laid BranchElement))
     → map face (next_level which page_size pages) ≡ map top_face (branch_cut which page_size face_size (map face pages))
 next_faces which page_size pages =
-    over_faces branch_view page_size (branch_cut which page_size size_of pages)
+    over_faces branch_page_view page_size (branch_cut which page_size size_of pages)
     ∙ ap (λ (rs : List (List Face)). map top_face rs) (map_branches face which page_size face_size pages)

@@ -17,7 +17,7 @@ use Rattle.bolt_layout.specs.Held.{longest, most_held}
 use Rattle.bolt_layout.specs.Items.{bucket_item, is_inline, items_of, leaf_item, root_of, stored_bucket}
 use Rattle.bolt_layout.specs.Laid.{Laid, held_in, numbers_of, size_of}
 use Rattle.bolt_layout.specs.Layout.{layout_held, layout_mark, layout_of}
-use Rattle.bolt_layout.specs.Levels.{branch_view, leaf_level, leaf_view, next_level, page_over, root_over, run_overflow, top_in}
+use Rattle.bolt_layout.specs.Levels.{branch_page_view, leaf_level, leaf_page_view, next_level, page_over, root_over, run_overflow, top_in}
 use Rattle.bolt_layout.specs.Storable.{IsStorable}
 use Rattle.bolt_layout.proofs.Cutting.{branches_divide, branches_halve, cut_divides}
 use Rattle.bolt_layout.proofs.ListLemmas.{all_split}
@@ -104,9 +104,9 @@ top_held which page_size (suc steps) (suc k) most (page ∷ other ∷ level) low
     let runs : List (List (Laid BranchElement)) = branch_cut which page_size size_of pages in
     let divided : IsDivided page_size 3 1 size_of pages runs = branches_divide which page_size size_of pages in
     let half : 2 * length runs ≤ suc (length pages) = branches_halve which page_size size_of pages in
-    let up = level_held branch_view page_size 3 1 most runs pages (omega arith) (omega arith) divided.whole divided.each all in
+    let up = level_held branch_page_view page_size 3 1 most runs pages (omega arith) (omega arith) divided.whole divided.each all in
     let any = runs_some runs pages divided.whole (omega arith) in
-    let same = length-map runs (page_over branch_view page_size) in
+    let same = length-map runs (page_over branch_page_view page_size) in
     let double : 2 ^ suc k ≡ 2 * 2 ^ k = pow-suc 2 k ∙ omega arith in
     let ih = top_held which page_size steps k (most + page_size / 16) (next_level which page_size pages) low up (omega arith) (omega arith) (omega arith) in
     let more = suc-mul k (page_size / 16) in
@@ -121,9 +121,9 @@ top_numbers which page_size (suc steps) (page ∷ other ∷ level) fuel =
     let runs : List (List (Laid BranchElement)) = branch_cut which page_size size_of pages in
     let divided : IsDivided page_size 3 1 size_of pages runs = branches_divide which page_size size_of pages in
     let half : 2 * length runs ≤ suc (length pages) = branches_halve which page_size size_of pages in
-    let same = length-map runs (page_over branch_view page_size) in
+    let same = length-map runs (page_over branch_page_view page_size) in
     let ih = top_numbers which page_size steps (next_level which page_size pages) (omega arith) in
-    let numbers = runs_numbers branch_view page_size runs in
+    let numbers = runs_numbers branch_page_view page_size runs in
     let all = ap (λ (r : List (Laid BranchElement)). numbers_of r) divided.whole in omega arith
 
 -- ---- a bucket
@@ -139,7 +139,7 @@ items_numbers : (which : Layout) (page_size : ℕ) (items : List (Laid LeafEleme
 items_numbers which page_size items =
     let runs : List (List (Laid LeafElement)) = cut_of page_size 1 size_of items in
     let divided : IsDivided page_size 1 0 size_of items runs = cut_divides page_size 1 1 0 size_of items (omega arith) (omega arith) (omega arith) in
-    let numbers = runs_numbers leaf_view page_size runs in
+    let numbers = runs_numbers leaf_page_view page_size runs in
     let all = ap (λ (r : List (Laid LeafElement)). numbers_of r) divided.whole in
     let level = level_numbers which page_size items in omega arith
 
@@ -147,15 +147,15 @@ items_numbers which page_size items =
 root_held : (which : Layout) (page_size most : ℕ) (items : List (Laid LeafElement)) → 64 ≤ page_size → AllByRecursion (IsHeldBelow page_size most) items → (root_over which page_size items).numbers ≤ 2 ^ 63
     → IsHeldBelow page_size (most + 4 * page_size) (root_over which page_size items)
 unfolding root_over
-root_held which page_size most [] low all room = weaker page_size (most + page_size / 16) _ (root_over which page_size []) (omega arith) (over_held leaf_view page_size most [] (omega arith) tt)
+root_held which page_size most [] low all room = weaker page_size (most + page_size / 16) _ (root_over which page_size []) (omega arith) (over_held leaf_page_view page_size most [] (omega arith) tt)
 root_held which page_size most (item ∷ items) low all room =
     let runs : List (List (Laid LeafElement)) = cut_of page_size 1 size_of (item ∷ items) in
     let level : List (Laid BranchElement) = leaf_level page_size (item ∷ items) in
     let divided : IsDivided page_size 1 0 size_of (item ∷ items) runs = cut_divides page_size 1 1 0 size_of (item ∷ items) (omega arith) (omega arith) (omega arith) in
-    let leaves = level_held leaf_view page_size 1 0 most runs (item ∷ items) (omega arith) (omega arith) divided.whole divided.each all in
+    let leaves = level_held leaf_page_view page_size 1 0 most runs (item ∷ items) (omega arith) (omega arith) divided.whole divided.each all in
     let any = runs_some runs (item ∷ items) divided.whole (omega arith) in
-    let same = length-map runs (page_over leaf_view page_size) in
-    let count = pages_count leaf_view page_size runs in
+    let same = length-map runs (page_over leaf_page_view page_size) in
+    let count = pages_count leaf_page_view page_size runs in
     let numbers = level_numbers which page_size (item ∷ items) in
     let top = top_held which page_size (length level) 63 (most + page_size / 16) level low leaves (omega arith) (omega arith) (omega arith) in
     weaker page_size _ _ (root_over which page_size (item ∷ items)) (omega arith) top

@@ -12,7 +12,7 @@ use Rattle.bolt_check.proofs.TreePages.{branch_step, leads_child, leaf_ends, nod
 use Rattle.bolt_tree.specs.Entries.{IsEntry, Root_page}
 use Rattle.bolt_tree.proofs.Lists.{contains_none}
 use Rattle.bolt_layout.specs.Laid.{Laid, Placed, elements_of, numbers_of, pages_of}
-use Rattle.bolt_layout.specs.Levels.{branch_view, leaf_view, page_over, run_overflow}
+use Rattle.bolt_layout.specs.Levels.{branch_page_view, leaf_page_view, page_over, run_overflow}
 use Rattle.bolt_layout.proofs.LaidPages.{limit}
 use Rattle.bolt_layout.proofs.ListLemmas.{all_split}
 use Rattle.bolt_layout.proofs.OverRows.{IsOver, Pieces}
@@ -58,35 +58,35 @@ module _ (file : List ℕ) (meta : Meta) where
       let both = all_split (λ (p : Placed). page_at file meta p.number ≡ Some p.view) (item.pages n) (pages_of items (n + item.numbers)) shown in
       ((n, some, omega arith, refl, both.0), items_are items (n + item.numbers) (omega arith) (omega arith) both.1)
 
-  leaf_entry : (number further : ℕ) (es : List LeafElement) → page_at file meta number ≡ Some (leaf_view further es) → (e : LeafElement)
+  leaf_entry : (number further : ℕ) (es : List LeafElement) → page_at file meta number ≡ Some (leaf_page_view further es) → (e : LeafElement)
       → IsEntry file meta (Root_page number) e → Contains es e
   leaf_entry number further es shown e ([], m, leading, (view, seen, is, has)) =
       let at : number ≡ m = same_number number m leading in
-      let same : leaf_view further es ≡ view = same_view (leaf_view further es) view (sym shown ∙ (ap (page_at file meta) at ∙ seen)) in
+      let same : leaf_page_view further es ≡ view = same_view (leaf_page_view further es) view (sym shown ∙ (ap (page_at file meta) at ∙ seen)) in
       subst (λ (v : PageView). Contains v.leaves e) (sym same) has
   leaf_entry number further es shown e (i ∷ address, m, leading, shows) =
-      absurd (leaf_ends (node_at file meta) number i m (leaf_view further es) address (node_is file meta number (leaf_view further es) kind.Leaf shown refl) leading)
+      absurd (leaf_ends (node_at file meta) number i m (leaf_page_view further es) address (node_is file meta number (leaf_page_view further es) kind.Leaf shown refl) leading)
 
   -- A branch.
   abbrev IsBelowKid : List BranchElement → LeafElement → Type 0
   IsBelowKid elements e = (i : ℕ) × (kid : BranchElement) × (slice_get elements i ≡ Some kid) × IsEntry file meta (Root_page kid.child) e
 
-  branch_below : (number further : ℕ) (elements : List BranchElement) → page_at file meta number ≡ Some (branch_view further elements) → (e : LeafElement)
+  branch_below : (number further : ℕ) (elements : List BranchElement) → page_at file meta number ≡ Some (branch_page_view further elements) → (e : LeafElement)
       → IsEntry file meta (Root_page number) e → IsBelowKid elements e
   branch_below number further elements shown e ([], m, leading, (view, seen, is, has)) =
       let at : number ≡ m = same_number number m leading in
-      let same : branch_view further elements ≡ view = same_view (branch_view further elements) view (sym shown ∙ (ap (page_at file meta) at ∙ seen)) in
+      let same : branch_page_view further elements ≡ view = same_view (branch_page_view further elements) view (sym shown ∙ (ap (page_at file meta) at ∙ seen)) in
       absurd (no_leaf view.kind (ap (λ (v : PageView). v.kind) same) is)
   branch_below number further elements shown e (i ∷ address, m, leading, shows) =
-      let view : PageView = branch_view further elements in
+      let view : PageView = branch_page_view further elements in
       let node = node_is file meta number view kind.Branch shown refl in
       let (kid, at) = branch_step (node_at file meta) number i m view address node leading in
       (i, kid, at, (address, m, sym (leads_child file meta number i view kid address node at) ∙ leading, shows))
 
-  branch_above : (number further : ℕ) (elements : List BranchElement) → page_at file meta number ≡ Some (branch_view further elements) → (e : LeafElement)
+  branch_above : (number further : ℕ) (elements : List BranchElement) → page_at file meta number ≡ Some (branch_page_view further elements) → (e : LeafElement)
       → IsBelowKid elements e → IsEntry file meta (Root_page number) e
   branch_above number further elements shown e (i, kid, at, (address, m, leading, shows)) =
-      let view : PageView = branch_view further elements in
+      let view : PageView = branch_page_view further elements in
       let node = node_is file meta number view kind.Branch shown refl in
       (i ∷ address, m, leads_child file meta number i view kid address node at ∙ leading, shows)
 
@@ -144,25 +144,25 @@ module _ (file : List ℕ) (meta : Meta) where
       let rest = kids_hold page_size height ih kids back more (n + kid.numbers) (omega arith) (omega arith) both.1 in
       subst (KidsHold (elements_of (kid ∷ kids) n)) (sym e) (more_kids (kid.element n) (elements_of kids (n + kid.numbers)) (x ∷ front) back one rest)
 
-  leaf_holds : (page_size : ℕ) (leaves : List (Laid LeafElement)) → HoldsPage (page_over leaf_view page_size leaves) leaves
+  leaf_holds : (page_size : ℕ) (leaves : List (Laid LeafElement)) → HoldsPage (page_over leaf_page_view page_size leaves) leaves
   leaf_holds page_size leaves n some room shown =
       let both = all_split (λ (p : Placed). page_at file meta p.number ≡ Some p.view) (pages_of leaves n) _ shown in
       let further : ℕ = run_overflow page_size leaves in
-      let here : page_at file meta (n + numbers_of leaves) ≡ Some (leaf_view further (elements_of leaves n)) = both.1.0 in
+      let here : page_at file meta (n + numbers_of leaves) ≡ Some (leaf_page_view further (elements_of leaves n)) = both.1.0 in
       record {
         es = elements_of leaves n;
         are = items_are leaves n some (omega arith) both.0;
         each = leaf_entry (n + numbers_of leaves) further (elements_of leaves n) here;
-        all = λ e has. ([], n + numbers_of leaves, refl, (leaf_view further (elements_of leaves n), here, refl, has));
+        all = λ e has. ([], n + numbers_of leaves, refl, (leaf_page_view further (elements_of leaves n), here, refl, has));
       }
 
   branch_holds : (page_size height : ℕ) → ((page : Laid BranchElement) (leaves : List (Laid LeafElement)) → IsOver page_size height page leaves → HoldsPage page leaves)
       → (kids : List (Laid BranchElement)) (leaves : List (Laid LeafElement)) → Pieces (IsOver page_size height) kids leaves
-      → HoldsPage (page_over branch_view page_size kids) leaves
+      → HoldsPage (page_over branch_page_view page_size kids) leaves
   branch_holds page_size height ih kids leaves pieces n some room shown =
       let both = all_split (λ (p : Placed). page_at file meta p.number ≡ Some p.view) (pages_of kids n) _ shown in
       let further : ℕ = run_overflow page_size kids in
-      let here : page_at file meta (n + numbers_of kids) ≡ Some (branch_view further (elements_of kids n)) = both.1.0 in
+      let here : page_at file meta (n + numbers_of kids) ≡ Some (branch_page_view further (elements_of kids n)) = both.1.0 in
       let held = kids_hold page_size height ih kids leaves pieces n some (omega arith) both.0 in
       record {
         es = held.es;

@@ -13,7 +13,7 @@ use Rattle.bolt_layout.proofs.OverRows.{IsRun}
 use Rattle.bolt_layout.proofs.Parts.{IsPartOrNone}
 use Rattle.bolt_layout.proofs.PageRows.{HasRoom, IsPageFit, leaf_room, overflow_room, overflow_small}
 use Rattle.bolt_layout.specs.Laid.{Laid, elements_of, numbers_of, size_of}
-use Rattle.bolt_layout.specs.Levels.{leaf_view, run_overflow}
+use Rattle.bolt_layout.specs.Levels.{leaf_page_view, run_overflow}
 use Rattle.bolt_layout.proofs.LaidPages.{AreNodes, HasPages, limit, own_page}
 
 -- What holds of a leaf item.
@@ -49,14 +49,14 @@ items_size page_size (item ∷ items) all n =
     let d = length-append e.key (e.value ++ leaf_data (elements_of items (n + item.numbers))) in
     let d2 = length-append e.value (leaf_data (elements_of items (n + item.numbers))) in omega arith
 
-pub leaf_own_room : (page_size : ℕ) (run : List (Laid LeafElement)) → 0 < page_size → AllByRecursion (IsItem page_size) run → (n : ℕ) → HasRoom page_size (own_page leaf_view page_size run n)
+pub leaf_own_room : (page_size : ℕ) (run : List (Laid LeafElement)) → 0 < page_size → AllByRecursion (IsItem page_size) run → (n : ℕ) → HasRoom page_size (own_page leaf_page_view page_size run n)
 leaf_own_room page_size run sized all n =
     let size = items_size page_size run all n in
     let room = overflow_room page_size (run_size size_of run) sized (omega arith) in
     leaf_room page_size (n + numbers_of run) (run_overflow page_size run) (elements_of run n) (omega arith)
 
 pub leaf_own : (page_size : ℕ) (run : List (Laid LeafElement)) → 0 < page_size → AllByRecursion (IsItem page_size) run → IsRun run → (n : ℕ) → 1 ≤ n → n + numbers_of run < limit
-    → IsPageFit page_size (own_page leaf_view page_size run n)
+    → IsPageFit page_size (own_page leaf_page_view page_size run n)
 leaf_own page_size run sized all fits n some h =
     let size = items_size page_size run all n in
     let long = length-elements run n in

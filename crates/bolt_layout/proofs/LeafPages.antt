@@ -13,7 +13,7 @@ use Rattle.bolt_layout.proofs.ListLemmas.{all_split, all_weaker}
 use Rattle.bolt_layout.proofs.OverRows.{IsRun}
 use Rattle.bolt_layout.proofs.Parts.{AreParts, IsPart, part_page, spot_in}
 use Rattle.bolt_layout.specs.Laid.{Laid, Placed, elements_of, first_key, numbers_of, pages_of}
-use Rattle.bolt_layout.specs.Levels.{leaf_view, page_over, run_overflow}
+use Rattle.bolt_layout.specs.Levels.{leaf_page_view, page_over, run_overflow}
 use Rattle.bolt_layout.proofs.LaidPages.{AreNodes, HasPages, limit, page_has}
 use Rattle.bolt_layout.proofs.LaidItems.{IsItem, leaf_own, leaf_own_room}
 
@@ -87,16 +87,16 @@ pub items_have : (page_size : ℕ) (items : List (Laid LeafElement)) → AllByRe
 items_have page_size items = all_weaker (IsItem page_size) (HasPages page_size) (λ item i. i.pages) items
 
 pub leaf_page : (page_size : ℕ) (leaves : List (Laid LeafElement)) → 0 < page_size → AllByRecursion (IsItem page_size) leaves → Rise leaves → IsRun leaves
-    → IsPage page_size 0 (page_over leaf_view page_size leaves) leaves
+    → IsPage page_size 0 (page_over leaf_page_view page_size leaves) leaves
 leaf_page page_size leaves sized all rise fits = record {
-  pages = page_has page_size leaf_view leaves (items_have page_size leaves all) (λ further es. refl) (leaf_own_room page_size leaves sized all)
+  pages = page_has page_size leaf_page_view leaves (items_have page_size leaves all) (λ further es. refl) (leaf_own_room page_size leaves sized all)
       (leaf_own page_size leaves sized all fits);
   some = omega arith;
   size = refl;
   first = λ x rest e. ap (λ (r : List (Laid LeafElement)). first_key r) e;
   key = λ n. refl;
   child = λ n. (omega arith, omega arith);
-  last = λ n. (pages_of leaves n, record { number = n + numbers_of leaves; view = leaf_view (run_overflow page_size leaves) (elements_of leaves n) }, refl, refl);
+  last = λ n. (pages_of leaves n, record { number = n + numbers_of leaves; view = leaf_page_view (run_overflow page_size leaves) (elements_of leaves n) }, refl, refl);
   part = λ nodes n s same some h shown depth within.
       let both = all_split (λ (p : Placed). nodes p.number ≡ node_of p.view.kind p.view) (pages_of leaves n) _ shown in
       let node : Node = record { is_leaf = true; overflow = run_overflow page_size leaves; entries = map leaf_entry (elements_of leaves n) } in

@@ -7,7 +7,7 @@ use Rattle.bolt_tree.specs.Tree.{Tree, end, with_bucket, with_value}
 use Rattle.bolt_layout.specs.Cut.{cut_of}
 use Rattle.bolt_layout.specs.Items.{is_inline, items_of, root_of, stored_bucket}
 use Rattle.bolt_layout.specs.Laid.{Laid, numbers_of, size_of}
-use Rattle.bolt_layout.specs.Levels.{leaf_view, page_over, root_over}
+use Rattle.bolt_layout.specs.Levels.{leaf_page_view, page_over, root_over}
 use Rattle.bolt_layout.specs.Openings.{leaf_pages, opened_by, opened_in}
 use Rattle.bolt_layout.specs.declared.layout.Layout.{Layout}
 use Rattle.bolt_layout.specs.declared.layout.Layout.TheVariants.{Plain, Balanced}
@@ -57,7 +57,7 @@ items_leaves which page_size (item ∷ items) =
     let all : List (Laid LeafElement) = item ∷ items in
     let numbers = leaves_numbers page_size all in
     let count = own_count page_size (cut_of page_size 1 size_of all) in
-    let same = length-map (cut_of page_size 1 size_of all) (page_over leaf_view page_size) in
+    let same = length-map (cut_of page_size 1 size_of all) (page_over leaf_page_view page_size) in
     let level = level_numbers which page_size all in omega arith
 
 pub leaves_few : (which : Layout) (page_size : ℕ) (inside : Tree)

@@ -12,7 +12,7 @@ use Rattle.bolt_layout.specs.Divisions.{FitsBut, IsDivided, IsPageRun}
 use Rattle.bolt_layout.proofs.Cutting.{branches_divide, branches_halve, cut_divides}
 use Rattle.bolt_layout.proofs.ListLemmas.{all_split}
 use Rattle.bolt_layout.specs.Laid.{Laid, numbers_of, size_of}
-use Rattle.bolt_layout.specs.Levels.{branch_view, leaf_level, leaf_view, next_level, page_over, root_over, top_in}
+use Rattle.bolt_layout.specs.Levels.{branch_page_view, leaf_level, leaf_page_view, next_level, page_over, root_over, top_in}
 use Rattle.bolt_layout.specs.declared.layout.Layout.{Layout}
 
 abbrev pub Over : Type 1
@@ -30,8 +30,8 @@ pub record IsRun {E : Type 0} (run : List (Laid E)) : Type 0 where
   pub small : run_size size_of run < 0x100000000
 
 abbrev pub IsOver : (page_size height : ℕ) → Over
-IsOver page_size zero page leaves = (page ≡ page_over leaf_view page_size leaves) × IsRun leaves
-IsOver page_size (suc height) page leaves = (first : Laid BranchElement) × (kids : List (Laid BranchElement)) × (page ≡ page_over branch_view page_size (first ∷ kids))
+IsOver page_size zero page leaves = (page ≡ page_over leaf_page_view page_size leaves) × IsRun leaves
+IsOver page_size (suc height) page leaves = (first : Laid BranchElement) × (kids : List (Laid BranchElement)) × (page ≡ page_over branch_page_view page_size (first ∷ kids))
     × IsRun (first ∷ kids) × Pieces (IsOver page_size height) (first ∷ kids) leaves
 
 -- Pieces of a list, and the first of them.
@@ -112,7 +112,7 @@ run_of page_size wide spare bound run one small room is sizes =
 -- The leaf pages over a row of items that is divided.
 pub leaves_over : (page_size : ℕ) (runs : List (List (Laid LeafElement))) (leaves : List (Laid LeafElement)) → page_size < 0x80000000
     → flat_map (λ run. run) runs ≡ leaves → AllByRecursion (IsPageRun page_size 1 0 size_of) runs → AllByRecursion (IsAtMost 0xFFFFFFEF) leaves
-    → Pieces (IsOver page_size 0) (map (page_over leaf_view page_size) runs) leaves
+    → Pieces (IsOver page_size 0) (map (page_over leaf_page_view page_size) runs) leaves
 leaves_over page_size [] leaves small whole each sizes = sym whole
 leaves_over page_size ([] ∷ runs) leaves small whole each sizes = absurd (let is : IsPageRun page_size 1 0 size_of [] = each.0 in let some = is.some in omega arith)
 leaves_over page_size ((first ∷ front) ∷ runs) leaves small whole each sizes =
@@ -128,7 +128,7 @@ pieces_first over page pages leaves h = let (first, front, back, e, o, more) = h
 -- a branch page over pages
 branch_over : (page_size height : ℕ) (first : Laid BranchElement) (run : List (Laid BranchElement)) (leaves : List (Laid LeafElement)) (x : Laid LeafElement) (rest : List (Laid LeafElement))
     → IsRun (first ∷ run) → Pieces (IsOver page_size height) (first ∷ run) leaves → leaves ≡ x ∷ rest
-    → IsOver page_size (suc height) (page_over branch_view page_size (first ∷ run)) (x ∷ rest)
+    → IsOver page_size (suc height) (page_over branch_page_view page_size (first ∷ run)) (x ∷ rest)
 branch_over page_size height first run leaves x rest fits pieces e =
     (first, run, refl, fits, subst (Pieces (IsOver page_size height) (first ∷ run)) e pieces)
 
@@ -136,7 +136,7 @@ branch_over page_size height first run leaves x rest fits pieces e =
 pub branches_over : (page_size height : ℕ) (runs : List (List (Laid BranchElement))) (kids : List (Laid BranchElement)) (leaves : List (Laid LeafElement))
     → page_size < 0x80000000 → flat_map (λ run. run) runs ≡ kids → AllByRecursion (IsPageRun page_size 3 1 size_of) runs
     → AllByRecursion (IsAtMost 0x40000010) kids → Pieces (IsOver page_size height) kids leaves
-    → Pieces (IsOver page_size (suc height)) (map (page_over branch_view page_size) runs) leaves
+    → Pieces (IsOver page_size (suc height)) (map (page_over branch_page_view page_size) runs) leaves
 branches_over page_size height [] kids leaves small whole each sizes pieces = subst (λ (r : List (Laid BranchElement)). Pieces (IsOver page_size height) r leaves) (sym whole) pieces
 branches_over page_size height ([] ∷ runs) kids leaves small whole each sizes pieces =
     absurd (let is : IsPageRun page_size 3 1 size_of [] = each.0 in let some = is.some in omega arith)
@@ -208,9 +208,9 @@ top_fits which page_size (suc steps) height (page ∷ other ∷ level) leaves sm
     let half : 2 * length runs ≤ suc (length pages) = branches_halve which page_size size_of pages in
     let up = branches_over page_size height runs pages leaves small divided.whole divided.each (pieces_small page_size height pages leaves pieces keys) pieces in
     let any = runs_some runs pages divided.whole (omega arith) in
-    let same = length-map runs (page_over branch_view page_size) in
+    let same = length-map runs (page_over branch_page_view page_size) in
     let ih = top_fits which page_size steps (suc height) (next_level which page_size pages) leaves small keys up (omega arith) (omega arith) in
-    let numbers = runs_numbers branch_view page_size runs in
+    let numbers = runs_numbers branch_page_view page_size runs in
     let all = ap (λ (r : List (Laid BranchElement)). numbers_of r) divided.whole in
     let more = ih.more in
     record { levels = ih.levels; few = fewer (length level) (length runs) height ih.levels half (λ k most. ih.few k (omega arith)); over = ih.over; more = omega arith }
@@ -228,8 +228,8 @@ root_is_over which page_size (item ∷ items) small keys sizes =
     let divided : IsDivided page_size 1 0 size_of all runs = cut_divides page_size 1 1 0 size_of all (omega arith) (omega arith) (omega arith) in
     let pieces = leaves_over page_size runs all small divided.whole divided.each sizes in
     let any = runs_some runs all divided.whole (omega arith) in
-    let same = length-map runs (page_over leaf_view page_size) in
-    let count = pages_count leaf_view page_size runs in
+    let same = length-map runs (page_over leaf_page_view page_size) in
+    let count = pages_count leaf_page_view page_size runs in
     let top = top_fits which page_size (length level) 0 level all small keys pieces (omega arith) (omega arith) in
     let more = top.more in
     (top.levels, λ room. top.few 63 (omega arith), top.over)

@@ -1,5 +1,5 @@
 -- Pages in a row: each begins where the span of the one before it ends. In the file each shows what was written.
-use Rattle.std.proofs.Common.{◌≡◌, ◌∙◌, ◌⊎◌, ℕ, ◌+◌, ◌-◌, ◌*◌, ◌^◌, ◌/◌, ◌<◌, ◌≤◌, List, [], ◌∷◌, ◌++◌, length, drop, replicate, sym, ap, subst, inl, inr, arith, append_assoc}
+use Rattle.std.proofs.Common.{◌≡◌, ◌∙◌, ◌⊎◌, ℕ, ◌+◌, ◌-◌, ◌*◌, ◌^◌, ◌/◌, ◌<◌, ◌≤◌, List, [], ◌∷◌, ◌++◌, length, drop, replicate, refl, sym, ap, subst, inl, inr, arith, append_assoc}
 use Rattle.std.specs.List.{AllByRecursion}
 use Rattle.std.proofs.Math.Nat.{add-mul, div-add-mod', div-le_self, mod-lt}
 use Rattle.bolt_format.specs.Elements.{BranchElement, LeafElement, value_fault}
@@ -17,7 +17,7 @@ use Rattle.bolt_format.proofs.WrittenHeaders.{length-header_bytes}
 use Rattle.bolt_layout.proofs.SpanLemmas.{IsShown, branch_shown, leaf_shown, length-branch_bytes, length-filled, length-leaf_bytes}
 use Rattle.std.proofs.lemmas.List.{length-append}
 use Rattle.bolt_layout.specs.Laid.{Placed}
-use Rattle.bolt_layout.specs.Levels.{branch_view, leaf_view, overflow_of}
+use Rattle.bolt_layout.specs.Levels.{branch_page_view, leaf_page_view, overflow_of}
 
 -- Room on a page: the least overflow.
 pub overflow_room : (page_size size : ℕ) → 0 < page_size → 0 < size → size ≤ (1 + overflow_of page_size size) * page_size
@@ -36,7 +36,7 @@ overflow_small page_size size = let d = div-le_self (size - 1) page_size in omeg
 pub record IsLeafPage (page_size : ℕ) (view : PageView) : Type 0 where
   pub es : List LeafElement
   pub further : ℕ
-  pub is : view ≡ leaf_view further es
+  pub is : view ≡ leaf_page_view further es
   pub few : length es < 256 ^ 2
   pub room : 16 + (16 * length es + length (leaf_data es)) ≤ (1 + further) * page_size
   pub small : 16 * length es + length (leaf_data es) < 0x100000000
@@ -46,7 +46,7 @@ pub record IsLeafPage (page_size : ℕ) (view : PageView) : Type 0 where
 pub record IsBranchPage (page_size : ℕ) (view : PageView) : Type 0 where
   pub es : List BranchElement
   pub further : ℕ
-  pub is : view ≡ branch_view further es
+  pub is : view ≡ branch_page_view further es
   pub few : length es < 256 ^ 2
   pub room : 16 + (16 * length es + length (branch_data es)) ≤ (1 + further) * page_size
   pub small : 16 * length es + length (branch_data es) < 0x100000000
@@ -61,14 +61,14 @@ abbrev pub HasRoom : ℕ → Placed → Type 0
 HasRoom page_size page = length (content_bytes page.view.kind page.number page.view) ≤ (1 + page.view.overflow) * page_size
 
 pub leaf_room : (page_size number further : ℕ) (es : List LeafElement) → 16 + (16 * length es + length (leaf_data es)) ≤ (1 + further) * page_size
-    → HasRoom page_size (record { number = number; view = leaf_view further es })
+    → HasRoom page_size (record { number = number; view = leaf_page_view further es })
 leaf_room page_size number further es room =
     let a = length-header_bytes number kind.Leaf (length es) further in
     let b = length-leaf_bytes es in
     let c = length-append (header_bytes number kind.Leaf (length es) further) (leaf_bytes es) in omega arith
 
 pub branch_room : (page_size number further : ℕ) (es : List BranchElement) → 16 + (16 * length es + length (branch_data es)) ≤ (1 + further) * page_size
-    → HasRoom page_size (record { number = number; view = branch_view further es })
+    → HasRoom page_size (record { number = number; view = branch_page_view further es })
 branch_room page_size number further es room =
     let a = length-header_bytes number kind.Branch (length es) further in
     let b = length-branch_bytes es in
@@ -173,32 +173,17 @@ pub record IsHeaded (bytes : List ℕ) (page : Placed) : Type 0 where
   pub few : n < 256 ^ 2
   pub narrow : page.view.overflow < 256 ^ 4
 
-leaf_headed : (page_size number further : ℕ) (es : List LeafElement) (rest : List ℕ) → length es < 256 ^ 2 → further < 256 ^ 4
-    → IsHeaded (page_bytes page_size number (leaf_view further es) ++ rest) (record { number = number; view = leaf_view further es })
+view_headed : (page_size number : ℕ) (view : PageView) (own rest : List ℕ) → content_bytes view.kind number view ≡ header_bytes number view.kind view.count view.overflow ++ own → view.count < 256 ^ 2 → view.overflow < 256 ^ 4
+    → IsHeaded (page_bytes page_size number view ++ rest) (record { number = number; view = view })
 unfolding page_bytes
-leaf_headed page_size number further es rest few narrow =
-    let content : List ℕ = header_bytes number kind.Leaf (length es) further ++ leaf_bytes es in
-    let zeros : List ℕ = replicate ((1 + further) * page_size - length content) 0 in
+view_headed page_size number view own rest same few narrow =
+    let content : List ℕ = content_bytes view.kind number view in
+    let zeros : List ℕ = replicate ((1 + view.overflow) * page_size - length content) 0 in
     record {
-      is = kind.Leaf;
-      n = length es;
-      behind = leaf_bytes es ++ (zeros ++ rest);
-      begins = append_assoc content zeros rest ∙ append_assoc (header_bytes number kind.Leaf (length es) further) (leaf_bytes es) (zeros ++ rest);
-      few = few;
-      narrow = narrow;
-    }
-
-branch_headed : (page_size number further : ℕ) (es : List BranchElement) (rest : List ℕ) → length es < 256 ^ 2 → further < 256 ^ 4
-    → IsHeaded (page_bytes page_size number (branch_view further es) ++ rest) (record { number = number; view = branch_view further es })
-unfolding page_bytes
-branch_headed page_size number further es rest few narrow =
-    let content : List ℕ = header_bytes number kind.Branch (length es) further ++ branch_bytes es in
-    let zeros : List ℕ = replicate ((1 + further) * page_size - length content) 0 in
-    record {
-      is = kind.Branch;
-      n = length es;
-      behind = branch_bytes es ++ (zeros ++ rest);
-      begins = append_assoc content zeros rest ∙ append_assoc (header_bytes number kind.Branch (length es) further) (branch_bytes es) (zeros ++ rest);
+      is = view.kind;
+      n = view.count;
+      behind = own ++ (zeros ++ rest);
+      begins = append_assoc content zeros rest ∙ ap (λ (t : List ℕ). t ++ (zeros ++ rest)) same ∙ append_assoc (header_bytes number view.kind view.count view.overflow) own (zeros ++ rest);
       few = few;
       narrow = narrow;
     }
@@ -206,7 +191,7 @@ branch_headed page_size number further es rest few narrow =
 pub page_headed : (page_size : ℕ) (page : Placed) (rest : List ℕ) → IsPageFit page_size page → IsHeaded (page_bytes page_size page.number page.view ++ rest) page
 page_headed page_size page rest (inl leaf) =
     let P : PageView → Type 0 = λ view. IsHeaded (page_bytes page_size page.number view ++ rest) (record { number = page.number; view = view }) in
-    subst P (sym leaf.is) (leaf_headed page_size page.number leaf.further leaf.es rest leaf.few leaf.narrow)
+    subst P (sym leaf.is) (view_headed page_size page.number (leaf_page_view leaf.further leaf.es) (leaf_bytes leaf.es) rest refl leaf.few leaf.narrow)
 page_headed page_size page rest (inr branch) =
     let P : PageView → Type 0 = λ view. IsHeaded (page_bytes page_size page.number view ++ rest) (record { number = page.number; view = view }) in
-    subst P (sym branch.is) (branch_headed page_size page.number branch.further branch.es rest branch.few branch.narrow)
+    subst P (sym branch.is) (view_headed page_size page.number (branch_page_view branch.further branch.es) (branch_bytes branch.es) rest refl branch.few branch.narrow)

@@ -10,7 +10,7 @@ use Rattle.bolt_format.specs.Pages.{PageView}
 use Rattle.bolt_layout.specs.Cut.{cut_of}
 use Rattle.bolt_layout.specs.Divisions.{IsDivided, IsPageRun}
 use Rattle.bolt_layout.specs.Laid.{Laid, numbers_of, size_of}
-use Rattle.bolt_layout.specs.Levels.{branch_view, leaf_level, leaf_view, next_level, page_over, root_over, top_in}
+use Rattle.bolt_layout.specs.Levels.{branch_page_view, leaf_level, leaf_page_view, next_level, page_over, root_over, top_in}
 use Rattle.bolt_layout.specs.declared.layout.Layout.TheVariants.{Plain}
 use Rattle.bolt_layout.proofs.Cutting.{branches_divide, branches_halve, cut_divides}
 use Rattle.bolt_layout.proofs.LastItem.{HasItem}
@@ -73,15 +73,15 @@ next_is page_size most more pages low rooms light count some =
     let divided : IsDivided page_size 3 1 size_of pages runs = branches_divide Plain page_size size_of pages in
     let half : 2 * length runs ≤ suc (length pages) = branches_halve Plain page_size size_of pages in
     let any = runs_some runs pages divided.whole (omega arith) in
-    let same = length-map runs (page_over branch_view page_size) in
+    let same = length-map runs (page_over branch_page_view page_size) in
     let have = runs_have page_size 3 1 size_of runs divided.each in
     let rooms2 = subst (AllByRecursion HasKeyRoom) (sym divided.whole) rooms in
     let light2 = subst (AllByRecursion (IsLight page_size most)) (sym divided.whole) light in
     let numbers = ap (λ (ps : List (Laid BranchElement)). numbers_of ps) divided.whole in
     let weigh = ap (λ (ps : List (Laid BranchElement)). weights page_size ps) divided.whole in
-    let are = level_numbers_are branch_view page_size runs in
+    let are = level_numbers_are branch_page_view page_size runs in
     let own = own_weight page_size runs low in
-    let less = level_weights branch_view page_size runs low have rooms2 in
+    let less = level_weights branch_page_view page_size runs low have rooms2 in
     record {
       own = own_numbers page_size runs;
       fewer = length runs - 1;
@@ -90,8 +90,8 @@ next_is page_size most more pages low rooms light count some =
       half = omega arith;
       small = omega arith;
       less = omega arith;
-      rooms = rooms_kept branch_view page_size runs;
-      light = level_light branch_view page_size most runs low have rooms2 light2;
+      rooms = rooms_kept branch_page_view page_size runs;
+      light = level_light branch_page_view page_size most runs low have rooms2 light2;
     }
 
 -- So the top of a level takes no more than the level and that.
@@ -120,7 +120,7 @@ top_most page_size most (suc steps) (suc times) n more (page ∷ other ∷ level
 
 -- Leaves weigh no more than keys of 2^30 bytes do at the least page size.
 leaves_light : (page_size : ℕ) (runs : List (List (Laid LeafElement))) → 1024 ≤ page_size → AllByRecursion HasItem runs → AllByRecursion HasShortKey (flat_map (λ run. run) runs)
-    → AllByRecursion (IsLight page_size 1048577) (map (page_over leaf_view page_size) runs)
+    → AllByRecursion (IsLight page_size 1048577) (map (page_over leaf_page_view page_size) runs)
 leaves_light page_size [] low some short = tt
 leaves_light page_size ([] ∷ runs) low some short = absurd (let none = some.0 in omega arith)
 leaves_light page_size ((first ∷ run) ∷ runs) low some short =
@@ -135,7 +135,7 @@ leaves_numbers page_size items =
     let runs = cut_of page_size 1 size_of items in
     let divided : IsDivided page_size 1 0 size_of items runs = cut_divides page_size 1 1 0 size_of items (omega arith) (omega arith) (omega arith) in
     let whole = ap (λ (is : List (Laid LeafElement)). numbers_of is) divided.whole in
-    let are = level_numbers_are leaf_view page_size runs in omega arith
+    let are = level_numbers_are leaf_page_view page_size runs in omega arith
 
 -- and the root page of the bucket not many more.
 pub plain_most : (page_size : ℕ) (items : List (Laid LeafElement)) → 1024 ≤ page_size → AllByRecursion HasKeyRoom items → AllByRecursion HasShortKey items → 1 ≤ length items
@@ -149,10 +149,10 @@ plain_most page_size items low rooms short some =
     let rooms2 = subst (AllByRecursion HasKeyRoom) (sym divided.whole) rooms in
     let short2 = subst (AllByRecursion HasShortKey) (sym divided.whole) short in
     let any = runs_some runs items divided.whole some in
-    let same = length-map runs (page_over leaf_view page_size) in
+    let same = length-map runs (page_over leaf_page_view page_size) in
     let light = leaves_light page_size runs low have short2 in
     let enough : doubled 21 1 ≡ 2097152 = refl in
-    let top = top_most page_size 1048577 (length level) 21 1 (length level - 1) level (omega arith) (rooms_kept leaf_view page_size runs) light (omega arith) (omega arith) in
+    let top = top_most page_size 1048577 (length level) 21 1 (length level - 1) level (omega arith) (rooms_kept leaf_page_view page_size runs) light (omega arith) (omega arith) in
     let numbers = leaves_numbers page_size items in
-    let heavy = own_weights leaf_view page_size runs (omega arith) have rooms2 in
+    let heavy = own_weights leaf_page_view page_size runs (omega arith) have rooms2 in
     let count = weights_count page_size level in omega arith

@@ -23,7 +23,7 @@ use Rattle.bolt_layout.specs.Copies.{IsAsked, RefusesPrefixes}
 use Rattle.bolt_format.specs.ReadBack.{IsHeaderFit}
 use Rattle.bolt_format.proofs.WrittenHeaders.{header_written, length-header_bytes}
 use Rattle.bolt_format.proofs.WrittenMetas.{chosen_of, length-meta_bytes, meta_written}
-use Rattle.bolt_layout.specs.PageBytes.{meta_of}
+use Rattle.bolt_layout.specs.PageBytes.{copy_meta}
 use Rattle.bolt_format.proofs.PageSizes.{size_bounds}
 use Rattle.bolt_layout.proofs.PageRows.{IsInARow, IsPageFit, last_written, page_headed, row_last}
 use Rattle.bolt_layout.proofs.Soundness.{IsLaidOut, laid_out}
@@ -88,16 +88,16 @@ no_slot file short One meta (inl (other, first, second)) = no_meta file 0 other 
 no_slot file short One meta (inr (none, lone)) = no_meta file lone.at meta short lone.valid
 
 -- Which meta is active in a layout that is cut short.
-not_second : (file : List ℕ) (page_size root sequence mark : ℕ) (other : Meta) → IsMeta file 0 (meta_of page_size root sequence mark 0) → length file < page_size + 80
+not_second : (file : List ℕ) (page_size root sequence mark : ℕ) (other : Meta) → IsMeta file 0 (copy_meta page_size root sequence mark 0) → length file < page_size + 80
     → IsInOne file other → ⊥
 not_second file page_size root sequence mark other first short (inl (before, zeroth, second)) =
-    let same : before ≡ meta_of page_size root sequence mark 0 = zeroth.fields ∙ sym first.fields in
+    let same : before ≡ copy_meta page_size root sequence mark 0 = zeroth.fields ∙ sym first.fields in
     let at : before.page_size ≡ page_size = ap (λ (m : Meta). m.page_size) same in
     let w = second.whole in omega arith
-not_second file page_size root sequence mark other first short (inr (none, lone)) = none (meta_of page_size root sequence mark 0) first
+not_second file page_size root sequence mark other first short (inr (none, lone)) = none (copy_meta page_size root sequence mark 0) first
 
-only_first : (file : List ℕ) (page_size root sequence mark : ℕ) → IsMeta file 0 (meta_of page_size root sequence mark 0) → length file < page_size + 80
-    → IsChosen file Zero (meta_of page_size root sequence mark 0)
+only_first : (file : List ℕ) (page_size root sequence mark : ℕ) → IsMeta file 0 (copy_meta page_size root sequence mark 0) → length file < page_size + 80
+    → IsChosen file Zero (copy_meta page_size root sequence mark 0)
 only_first file page_size root sequence mark first short = record {
   valid = first;
   newest = λ other valid. absurd (not_second file page_size root sequence mark other first short valid);
@@ -105,14 +105,14 @@ only_first file page_size root sequence mark first short = record {
 
 -- the root page of a layout that is cut short
 root_cut : (which : Layout) (page_size : ℕ) (tree : Tree) (sequence n txid : ℕ) → IsPageSize page_size → IsLaidOut which page_size tree sequence → n < length (layout_of which page_size tree sequence)
-    → node_at (take n (layout_of which page_size tree sequence)) (meta_of page_size (layout_root which page_size tree) sequence (layout_mark which page_size tree) txid) (layout_root which page_size tree) ≡ Err CUT
+    → node_at (take n (layout_of which page_size tree sequence)) (copy_meta page_size (layout_root which page_size tree) sequence (layout_mark which page_size tree) txid) (layout_root which page_size tree) ≡ Err CUT
 root_cut which page_size tree sequence n txid size laid less =
     let bounds = size_bounds page_size size in
     let file : List ℕ = layout_of which page_size tree sequence in
     let torn : List ℕ = take n file in
     let root : ℕ = layout_root which page_size tree in
     let mark : ℕ = layout_mark which page_size tree in
-    let meta : Meta = meta_of page_size root sequence mark txid in
+    let meta : Meta = copy_meta page_size root sequence mark txid in
     let long = laid.long in
     let room = laid.room in
     let cut : length torn ≡ n = length-take n file ∙ omega arith in
@@ -139,25 +139,25 @@ root_cut which page_size tree sequence n txid size laid less =
     ])
 
 first_there : (which : Layout) (page_size : ℕ) (tree : Tree) (sequence n : ℕ) → IsLaidOut which page_size tree sequence → n < length (layout_of which page_size tree sequence) → 80 ≤ n
-    → IsMeta (take n (layout_of which page_size tree sequence)) 0 (meta_of page_size (layout_root which page_size tree) sequence (layout_mark which page_size tree) 0)
+    → IsMeta (take n (layout_of which page_size tree sequence)) 0 (copy_meta page_size (layout_root which page_size tree) sequence (layout_mark which page_size tree) 0)
 first_there which page_size tree sequence n laid less whole =
     let file : List ℕ = layout_of which page_size tree sequence in
     let root : ℕ = layout_root which page_size tree in
     let mark : ℕ = layout_mark which page_size tree in
-    let l = length-meta_bytes 0 (meta_of page_size root sequence mark 0) in
+    let l = length-meta_bytes 0 (copy_meta page_size root sequence mark 0) in
     let fit = laid.fits in
-    meta_written (take n file) _ 0 0 (meta_of page_size root sequence mark 0) (cut_front file (meta_bytes 0 (meta_of page_size root sequence mark 0)) laid.file.behind_first 0 n laid.file.first_bytes (omega arith))
+    meta_written (take n file) _ 0 0 (copy_meta page_size root sequence mark 0) (cut_front file (meta_bytes 0 (copy_meta page_size root sequence mark 0)) laid.file.behind_first 0 n laid.file.first_bytes (omega arith))
     (record { size = fit.size; root = fit.root; sequence = fit.sequence; freelist = fit.freelist; mark = fit.mark; txid = omega arith }) (inl refl) (omega arith)
 
 second_there : (which : Layout) (page_size : ℕ) (tree : Tree) (sequence n : ℕ) → IsLaidOut which page_size tree sequence → n < length (layout_of which page_size tree sequence) → page_size + 80 ≤ n
-    → IsMeta (take n (layout_of which page_size tree sequence)) page_size (meta_of page_size (layout_root which page_size tree) sequence (layout_mark which page_size tree) 1)
+    → IsMeta (take n (layout_of which page_size tree sequence)) page_size (copy_meta page_size (layout_root which page_size tree) sequence (layout_mark which page_size tree) 1)
 second_there which page_size tree sequence n laid less whole =
     let file : List ℕ = layout_of which page_size tree sequence in
     let root : ℕ = layout_root which page_size tree in
     let mark : ℕ = layout_mark which page_size tree in
-    let l = length-meta_bytes 1 (meta_of page_size root sequence mark 1) in
+    let l = length-meta_bytes 1 (copy_meta page_size root sequence mark 1) in
     let cut : length (take n file) ≡ n = length-take n file ∙ omega arith in
-    meta_written (take n file) _ page_size 1 (meta_of page_size root sequence mark 1) (cut_front file (meta_bytes 1 (meta_of page_size root sequence mark 1)) laid.file.behind_second page_size n laid.file.second_bytes (omega arith))
+    meta_written (take n file) _ page_size 1 (copy_meta page_size root sequence mark 1) (cut_front file (meta_bytes 1 (copy_meta page_size root sequence mark 1)) laid.file.behind_second page_size n laid.file.second_bytes (omega arith))
     laid.fits (inr refl) (omega arith)
 
 torn_root : (which : Layout) (page_size : ℕ) (tree : Tree) (sequence n : ℕ) → IsPageSize page_size → IsLaidOut which page_size tree sequence → n < length (layout_of which page_size tree sequence) → 80 ≤ n
@@ -172,15 +172,15 @@ torn_root which page_size tree sequence n size laid less whole =
     elim (cases_lt n (page_size + 80)) [
       | inl short ↦ (
         Zero,
-        meta_of page_size root sequence mark 0,
+        copy_meta page_size root sequence mark 0,
         only_first torn page_size root sequence mark first (omega arith),
-        cut_first torn (meta_of page_size root sequence mark 0) (root_cut which page_size tree sequence n 0 size laid less),
+        cut_first torn (copy_meta page_size root sequence mark 0) (root_cut which page_size tree sequence n 0 size laid less),
       )
       | inr enough ↦ (
         One,
-        meta_of page_size root sequence mark 1,
-        chosen_of torn page_size (meta_of page_size root sequence mark 0) (meta_of page_size root sequence mark 1) first (second_there which page_size tree sequence n laid less enough) refl (omega arith),
-        cut_first torn (meta_of page_size root sequence mark 1) (root_cut which page_size tree sequence n 1 size laid less),
+        copy_meta page_size root sequence mark 1,
+        chosen_of torn page_size (copy_meta page_size root sequence mark 0) (copy_meta page_size root sequence mark 1) first (second_there which page_size tree sequence n laid less enough) refl (omega arith),
+        cut_first torn (copy_meta page_size root sequence mark 1) (root_cut which page_size tree sequence n 1 size laid less),
       )
     ]
 

@@ -14,7 +14,7 @@ use Rattle.bolt_check.specs.Accounts.{IsInUse, ListsFree, times_in}
 use Rattle.bolt_check.specs.Nodes.{node_at, node_of, node_seen}
 use Rattle.bolt_check.specs.Sound.{HasRightAccounts, HasSoundTrees, IsUsed, PassesTests}
 use Rattle.bolt_check.specs.Ways.{At_page, root_spot}
-use Rattle.bolt_layout.specs.PageBytes.{freelist_page, meta_page, meta_of}
+use Rattle.bolt_layout.specs.PageBytes.{freelist_page, meta_page, copy_meta}
 use Rattle.bolt_format.specs.Written.{header_bytes, meta_bytes}
 use Rattle.bolt_layout.specs.Layout.{file_bytes, layout_mark, layout_meta, layout_of, layout_pages, layout_root, placed_bytes}
 use Rattle.bolt_format.proofs.NumberLemmas.{part_next}
@@ -40,14 +40,14 @@ use Rattle.bolt_layout.specs.declared.layout.Layout.{Layout}
 length-meta_page : (page_size root sequence mark txid : ℕ) → 80 ≤ page_size → length (meta_page page_size root sequence mark txid) ≡ page_size
 unfolding meta_page
 length-meta_page page_size root sequence mark txid room =
-    let a = length-meta_bytes txid (meta_of page_size root sequence mark txid) in
-    length-filled page_size (meta_bytes txid (meta_of page_size root sequence mark txid)) (omega arith)
+    let a = length-meta_bytes txid (copy_meta page_size root sequence mark txid) in
+    length-filled page_size (meta_bytes txid (copy_meta page_size root sequence mark txid)) (omega arith)
 
 -- a meta page begins with its record
-meta_begins : (page_size root sequence mark txid : ℕ) (rest : List ℕ) → (behind : List ℕ) × (meta_page page_size root sequence mark txid ++ rest ≡ meta_bytes txid (meta_of page_size root sequence mark txid) ++ behind)
+meta_begins : (page_size root sequence mark txid : ℕ) (rest : List ℕ) → (behind : List ℕ) × (meta_page page_size root sequence mark txid ++ rest ≡ meta_bytes txid (copy_meta page_size root sequence mark txid) ++ behind)
 unfolding meta_page
 meta_begins page_size root sequence mark txid rest =
-    let bytes : List ℕ = meta_bytes txid (meta_of page_size root sequence mark txid) in
+    let bytes : List ℕ = meta_bytes txid (copy_meta page_size root sequence mark txid) in
     (replicate (page_size - length bytes) 0 ++ rest, append_assoc bytes (replicate (page_size - length bytes) 0) rest)
 
 length-freelist_page : (page_size number : ℕ) → 16 ≤ page_size → length (freelist_page page_size number) ≡ page_size
@@ -57,14 +57,29 @@ length-freelist_page page_size number room = let a = length-header_bytes number 
 -- Where the pieces stand in a file.
 pub record IsFile (page_size root sequence mark : ℕ) (pages : List Placed) (file : List ℕ) : Type 0 where
   pub behind_first : List ℕ
-  pub first_bytes : drop 0 file ≡ meta_bytes 0 (meta_of page_size root sequence mark 0) ++ behind_first
+  pub first_bytes : drop 0 file ≡ meta_bytes 0 (copy_meta page_size root sequence mark 0) ++ behind_first
   pub behind_second : List ℕ
-  pub second_bytes : drop page_size file ≡ meta_bytes 1 (meta_of page_size root sequence mark 1) ++ behind_second
-  pub first : IsMeta file 0 (meta_of page_size root sequence mark 0)
-  pub second : IsMeta file page_size (meta_of page_size root sequence mark 1)
+  pub second_bytes : drop page_size file ≡ meta_bytes 1 (copy_meta page_size root sequence mark 1) ++ behind_second
+  pub first : IsMeta file 0 (copy_meta page_size root sequence mark 0)
+  pub second : IsMeta file page_size (copy_meta page_size root sequence mark 1)
   pub free : drop (2 * page_size) file ≡ freelist_page page_size 2 ++ placed_bytes page_size pages
   pub placed : drop (3 * page_size) file ≡ placed_bytes page_size pages ++ []
   pub long : length file ≡ 3 * page_size + length (placed_bytes page_size pages)
+
+length-file_bytes : (page_size root sequence mark : ℕ) (pages : List Placed) → IsPageSize page_size
+    → length (file_bytes page_size root sequence mark pages) ≡ 3 * page_size + length (placed_bytes page_size pages)
+length-file_bytes page_size root sequence mark pages size =
+    let bounds = size_bounds page_size size in
+    let m0 : List ℕ = meta_page page_size root sequence mark 0 in
+    let m1 : List ℕ = meta_page page_size root sequence mark 1 in
+    let fl : List ℕ = freelist_page page_size 2 in
+    let rest : List ℕ = placed_bytes page_size pages in
+    let l0 = length-meta_page page_size root sequence mark 0 (omega arith) in
+    let l1 = length-meta_page page_size root sequence mark 1 (omega arith) in
+    let l2 = length-freelist_page page_size 2 (omega arith) in
+    let a = length-append m0 (m1 ++ (fl ++ rest)) in
+    let b = length-append m1 (fl ++ rest) in
+    let c = length-append fl rest in omega arith
 
 pub pieces_stand : (page_size root sequence mark : ℕ) (pages : List Placed) → IsPageSize page_size → root < 256 ^ 8 → sequence < 256 ^ 8 → mark < 256 ^ 8
     → IsFile page_size root sequence mark pages (file_bytes page_size root sequence mark pages)
@@ -78,13 +93,11 @@ pieces_stand page_size root sequence mark pages size r s m =
     let l0 = length-meta_page page_size root sequence mark 0 (omega arith) in
     let l1 = length-meta_page page_size root sequence mark 1 (omega arith) in
     let l2 = length-freelist_page page_size 2 (omega arith) in
-    let a = length-append m0 (m1 ++ (fl ++ rest)) in
-    let b = length-append m1 (fl ++ rest) in
-    let c = length-append fl rest in
     let d0 : drop 0 file ≡ m0 ++ (m1 ++ (fl ++ rest)) = refl in
     let d1 : drop page_size file ≡ m1 ++ (fl ++ rest) = part_next file m0 (m1 ++ (fl ++ rest)) 0 page_size d0 (omega arith) in
     let d2 : drop (2 * page_size) file ≡ fl ++ rest = part_next file m1 (fl ++ rest) page_size (2 * page_size) d1 (omega arith) in
     let d3 : drop (3 * page_size) file ≡ rest = part_next file fl rest (2 * page_size) (3 * page_size) d2 (omega arith) in
+    let all = length-file_bytes page_size root sequence mark pages size in
     let (b0, e0) = meta_begins page_size root sequence mark 0 (m1 ++ (fl ++ rest)) in
     let (b1, e1) = meta_begins page_size root sequence mark 1 (fl ++ rest) in
     record {
@@ -92,11 +105,11 @@ pieces_stand page_size root sequence mark pages size r s m =
       first_bytes = d0 ∙ e0;
       behind_second = b1;
       second_bytes = d1 ∙ e1;
-      first = meta_written file b0 0 0 (meta_of page_size root sequence mark 0) (d0 ∙ e0) (record { size = size; root = r; sequence = s; freelist = omega arith; mark = m; txid = omega arith }) (inl refl) (omega arith);
-      second = meta_written file b1 page_size 1 (meta_of page_size root sequence mark 1) (d1 ∙ e1) (record { size = size; root = r; sequence = s; freelist = omega arith; mark = m; txid = omega arith }) (inr refl) (omega arith);
+      first = meta_written file b0 0 0 (copy_meta page_size root sequence mark 0) (d0 ∙ e0) (record { size = size; root = r; sequence = s; freelist = omega arith; mark = m; txid = omega arith }) (inl refl) (omega arith);
+      second = meta_written file b1 page_size 1 (copy_meta page_size root sequence mark 1) (d1 ∙ e1) (record { size = size; root = r; sequence = s; freelist = omega arith; mark = m; txid = omega arith }) (inr refl) (omega arith);
       free = d2;
       placed = d3 ∙ sym (append-nil rest);
-      long = omega arith;
+      long = all;
     }
 
 -- what shows a page is a node
@@ -112,10 +125,10 @@ nodes_shown file meta (page ∷ pages) h = (node_shown file meta page.number pag
 some_same : {X : Type 0} (a b : X) → ◌≡◌ {A = Option X} (Some a) (Some b) → a ≡ b
 some_same a b e = cc
 
-accounts_of : (file : List ℕ) (page_size root sequence mark txid : ℕ) → IsEmptyFreelist file (meta_of page_size root sequence mark txid) 2
-    → IsPart (node_at file (meta_of page_size root sequence mark txid)) (At_page (root_spot root)) 3 mark → HasRightAccounts file (meta_of page_size root sequence mark txid)
+accounts_of : (file : List ℕ) (page_size root sequence mark txid : ℕ) → IsEmptyFreelist file (copy_meta page_size root sequence mark txid) 2
+    → IsPart (node_at file (copy_meta page_size root sequence mark txid)) (At_page (root_spot root)) 3 mark → HasRightAccounts file (copy_meta page_size root sequence mark txid)
 accounts_of file page_size root sequence mark txid free part =
-    let meta : Meta = meta_of page_size root sequence mark txid in
+    let meta : Meta = copy_meta page_size root sequence mark txid in
     let good : freelist_fault_of file meta ≡ None = free.good in
     let alone : page_overflow file meta 2 ≡ 0 = free.alone in
     let listed : free_ids_of file meta ≡ Some [] = ap (λ (ids : List ℕ). Some ids) free.empty in
@@ -145,7 +158,7 @@ PassingIsSound = (file : List ℕ) (meta : Meta) → PassesTests file meta → H
 -- what is known of the file before anything is read
 pub record IsLaidOut (which : Layout) (page_size : ℕ) (tree : Tree) (sequence : ℕ) : Type 0 where
   pub room : layout_mark which page_size tree ≤ limit
-  pub fits : IsMetaFit (meta_of page_size (layout_root which page_size tree) sequence (layout_mark which page_size tree) 1)
+  pub fits : IsMetaFit (copy_meta page_size (layout_root which page_size tree) sequence (layout_mark which page_size tree) 1)
   pub above : 3 ≤ layout_root which page_size tree
   pub below : layout_root which page_size tree < layout_mark which page_size tree
   pub row : IsInARow 3 (layout_pages which page_size tree) (layout_mark which page_size tree)
@@ -168,19 +181,9 @@ layout_length which page_size tree sequence size storable =
     let rise = tree_rise which page_size tree storable.rising in
     let (height, low, page) = root_page which page_size items (omega arith) (omega arith) all rise in
     let pages : List Placed = layout_pages which page_size tree in
-    let root : ℕ = layout_root which page_size tree in
     let mark : ℕ = layout_mark which page_size tree in
     let exact = length-placed page_size 3 mark pages (page.pages.row 3) (page.pages.room 3) in
-    let m0 : List ℕ = meta_page page_size root sequence mark 0 in
-    let m1 : List ℕ = meta_page page_size root sequence mark 1 in
-    let fl : List ℕ = freelist_page page_size 2 in
-    let rest : List ℕ = placed_bytes page_size pages in
-    let l0 = length-meta_page page_size root sequence mark 0 (omega arith) in
-    let l1 = length-meta_page page_size root sequence mark 1 (omega arith) in
-    let l2 = length-freelist_page page_size 2 (omega arith) in
-    let a = length-append m0 (m1 ++ (fl ++ rest)) in
-    let b = length-append m1 (fl ++ rest) in
-    let c = length-append fl rest in omega arith
+    let long = length-file_bytes page_size (layout_root which page_size tree) sequence mark pages size in omega arith
 
 pub laid_out : (which : Layout) (page_size : ℕ) (tree : Tree) (sequence : ℕ) → IsPageSize page_size → IsStorable tree → sequence < 2 ^ 64
     → length (layout_of which page_size tree sequence) < 2 ^ 63 → IsLaidOut which page_size tree sequence
@@ -243,7 +246,7 @@ layout_sound law which page_size tree sequence size laid =
     let part = laid.page.part (node_at file meta) 3 (root_spot root) refl (omega arith) (omega arith) nodes (let deep = laid.low in omega arith) (within_none items) in
     let free = freelist_shown file meta 2 (placed_bytes page_size pages) stand.free (record { number = omega arith; further = omega arith; below = omega arith; within = omega arith }) (omega arith) in
     record {
-      chosen = chosen_of file page_size (meta_of page_size root sequence mark 0) (meta_of page_size root sequence mark 1) stand.first stand.second refl (omega arith);
+      chosen = chosen_of file page_size (copy_meta page_size root sequence mark 0) (copy_meta page_size root sequence mark 1) stand.first stand.second refl (omega arith);
       trees = law file meta (part_clean (node_at file meta) root 3 mark part (omega arith));
       accounts = accounts_of file page_size root sequence mark 1 free part;
       room = room;

@@ -19,7 +19,7 @@ use Rattle.bolt_layout.proofs.LeafLemmas.{IsLeafFit, leaves_written, length-leaf
 use Rattle.bolt_layout.proofs.BranchLemmas.{IsBranchFit, branches_written, length-branch_headers}
 use Rattle.bolt_format.specs.ReadBack.{IsHeaderFit}
 use Rattle.bolt_format.proofs.WrittenHeaders.{header_written, length-header_bytes}
-use Rattle.bolt_layout.specs.Levels.{branch_view, leaf_view}
+use Rattle.bolt_layout.specs.Levels.{branch_page_view, leaf_page_view}
 
 pub length-filled : (n : ℕ) (bytes : List ℕ) → length bytes ≤ n → length (filled n bytes) ≡ n
 length-filled n bytes h = let l = length-replicate {A = ℕ} (n - length bytes) 0 in length-append bytes (replicate (n - length bytes) 0) ∙ omega (arith, l)
@@ -122,10 +122,10 @@ branch_view_of more es branches = record { kind = kind.Branch; count = length es
 
 -- a leaf page
 pub leaf_shown : (file : List ℕ) (meta : Meta) (id more : ℕ) (es : List LeafElement) (rest : List ℕ)
-    → drop (id * meta.page_size) file ≡ page_bytes meta.page_size id (leaf_view more es) ++ rest
+    → drop (id * meta.page_size) file ≡ page_bytes meta.page_size id (leaf_page_view more es) ++ rest
     → IsPlaceFit file meta id more → length es < 256 ^ 2
     → 16 + (16 * length es + length (leaf_data es)) ≤ (1 + more) * meta.page_size → 16 * length es + length (leaf_data es) < 0x100000000
-    → AllByRecursion (IsLeafFit value_fault) es → IsShown file meta id (leaf_view more es)
+    → AllByRecursion (IsLeafFit value_fault) es → IsShown file meta id (leaf_page_view more es)
 unfolding page_bytes
 leaf_shown file meta id more es rest h place few room small fits =
     let l = length-leaf_bytes es in
@@ -133,14 +133,14 @@ leaf_shown file meta id more es rest h place few room small fits =
     let span = span_written file meta id kind.Leaf (length es) more (leaf_bytes es) rest h (omega arith) fit place.below place.within in
     let spanned = span.long in
     let written = leaves_written value_fault (span_bytes file meta id) es _ span.behind (omega arith) fits small in
-    shown_with file meta id (length es) more kind.Leaf (leaf_bytes es) _ (leaf_view more es) span written.1 (ap (leaf_view_of more es) written.0)
+    shown_with file meta id (length es) more kind.Leaf (leaf_bytes es) _ (leaf_page_view more es) span written.1 (ap (leaf_view_of more es) written.0)
 
 -- a branch page
 pub branch_shown : (file : List ℕ) (meta : Meta) (id more : ℕ) (es : List BranchElement) (rest : List ℕ)
-    → drop (id * meta.page_size) file ≡ page_bytes meta.page_size id (branch_view more es) ++ rest
+    → drop (id * meta.page_size) file ≡ page_bytes meta.page_size id (branch_page_view more es) ++ rest
     → IsPlaceFit file meta id more → length es < 256 ^ 2
     → 16 + (16 * length es + length (branch_data es)) ≤ (1 + more) * meta.page_size → 16 * length es + length (branch_data es) < 0x100000000
-    → AllByRecursion IsBranchFit es → IsShown file meta id (branch_view more es)
+    → AllByRecursion IsBranchFit es → IsShown file meta id (branch_page_view more es)
 unfolding page_bytes
 branch_shown file meta id more es rest h place few room small fits =
     let l = length-branch_bytes es in
@@ -148,7 +148,7 @@ branch_shown file meta id more es rest h place few room small fits =
     let span = span_written file meta id kind.Branch (length es) more (branch_bytes es) rest h (omega arith) fit place.below place.within in
     let spanned = span.long in
     let written = branches_written (span_bytes file meta id) es _ span.behind (omega arith) fits small in
-    shown_with file meta id (length es) more kind.Branch (branch_bytes es) _ (branch_view more es) span written.1 (ap (branch_view_of more es) written.0)
+    shown_with file meta id (length es) more kind.Branch (branch_bytes es) _ (branch_page_view more es) span written.1 (ap (branch_view_of more es) written.0)
 
 -- the freelist without ids
 pub record IsEmptyFreelist (file : List ℕ) (meta : Meta) (id : ℕ) : Type 0 where

@@ -5,7 +5,7 @@ use Rattle.std.proofs.lemmas.List.{length-map}
 use Rattle.bolt_format.specs.Elements.{BranchElement}
 use Rattle.bolt_layout.specs.Cut.{branch_cut}
 use Rattle.bolt_layout.specs.Laid.{Laid, size_of}
-use Rattle.bolt_layout.specs.Levels.{IsOverflow, TopIsAbove, branch_view, next_level, overflow_of, page_over, top_in}
+use Rattle.bolt_layout.specs.Levels.{IsOverflow, TopIsAbove, branch_page_view, next_level, overflow_of, page_over, top_in}
 use Rattle.bolt_layout.proofs.Cutting.{branches_halve}
 use Rattle.bolt_layout.proofs.PageRows.{overflow_room}
 use Rattle.bolt_layout.specs.declared.layout.Layout.{Layout}
@@ -14,7 +14,7 @@ use Rattle.bolt_layout.specs.declared.layout.Layout.{Layout}
 pub shorter : (which : Layout) (page_size : ℕ) (level : List (Laid BranchElement)) → 2 ≤ length level → suc (length (next_level which page_size level)) ≤ length level
 shorter which page_size level h =
     let half = branches_halve which page_size size_of level in
-    let same = length-map (branch_cut which page_size size_of level) (page_over branch_view page_size) in omega arith
+    let same = length-map (branch_cut which page_size size_of level) (page_over branch_page_view page_size) in omega arith
 
 -- any number of steps is enough that is not below the number of pages, less one
 top_steps : (which : Layout) (page_size s t : ℕ) (level : List (Laid BranchElement)) → length level ≤ suc s → length level ≤ suc t → top_in which s page_size level ≡ top_in which t page_size level

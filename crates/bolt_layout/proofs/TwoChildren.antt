@@ -10,7 +10,7 @@ use Rattle.bolt_layout.specs.Cut.{branch_cut, cut_of, join_last}
 use Rattle.bolt_layout.specs.Items.{is_inline, items_of, root_of, stored_bucket}
 use Rattle.bolt_layout.specs.Laid.{Laid, elements_of, pages_of, size_of}
 use Rattle.bolt_layout.specs.Layout.{HasTwoIfBranch, first_page, layout_pages}
-use Rattle.bolt_layout.specs.Levels.{branch_view, leaf_level, leaf_view, next_level, page_over, root_over, top_in}
+use Rattle.bolt_layout.specs.Levels.{branch_page_view, leaf_level, leaf_page_view, next_level, page_over, root_over, top_in}
 use Rattle.bolt_layout.specs.declared.layout.Layout.TheVariants.{Balanced}
 use Rattle.bolt_layout.proofs.Cutting.{branches_divide, cut_divides}
 use Rattle.bolt_layout.proofs.ListLemmas.{all_append, all_split}
@@ -56,21 +56,21 @@ row_twos (item ∷ items) all number =
 no_branch : kind.Leaf ≡ kind.Branch → ⊥
 no_branch e = cc
 
-leaf_twos : (page_size : ℕ) (run : List (Laid LeafElement)) → AllByRecursion HasTwos run → HasTwos (page_over leaf_view page_size run)
+leaf_twos : (page_size : ℕ) (run : List (Laid LeafElement)) → AllByRecursion HasTwos run → HasTwos (page_over leaf_page_view page_size run)
 leaf_twos page_size run all number = all_append HasTwoIfBranch (pages_of run number) _ (row_twos run all number) (λ branch. absurd (no_branch branch), tt)
 
 count_elements : (run : List (Laid BranchElement)) (number : ℕ) → length (elements_of run number) ≡ length run
 count_elements [] number = refl
 count_elements (item ∷ run) number = ap suc (count_elements run (number + item.numbers))
 
-branch_twos : (page_size : ℕ) (run : List (Laid BranchElement)) → HasItems run → AllByRecursion HasTwos run → HasTwos (page_over branch_view page_size run)
+branch_twos : (page_size : ℕ) (run : List (Laid BranchElement)) → HasItems run → AllByRecursion HasTwos run → HasTwos (page_over branch_page_view page_size run)
 branch_twos page_size run two all number =
     let count = count_elements run number in
     all_append HasTwoIfBranch (pages_of run number) _ (row_twos run all number) (λ branch. omega arith, tt)
 
 -- Leaves,
 leaves_twos : (page_size : ℕ) (runs : List (List (Laid LeafElement))) → AllByRecursion HasTwos (flat_map (λ run. run) runs)
-    → AllByRecursion HasTwos (map (page_over leaf_view page_size) runs)
+    → AllByRecursion HasTwos (map (page_over leaf_page_view page_size) runs)
 leaves_twos page_size [] all = tt
 leaves_twos page_size (run ∷ runs) all =
     let both = all_split HasTwos run (flat_map (λ r. r) runs) all in
@@ -78,7 +78,7 @@ leaves_twos page_size (run ∷ runs) all =
 
 -- the branches over a level,
 level_twos : (page_size : ℕ) (runs : List (List (Laid BranchElement))) → AllByRecursion HasItems runs → AllByRecursion HasTwos (flat_map (λ run. run) runs)
-    → AllByRecursion HasTwos (map (page_over branch_view page_size) runs)
+    → AllByRecursion HasTwos (map (page_over branch_page_view page_size) runs)
 level_twos page_size [] two all = tt
 level_twos page_size (run ∷ runs) two all =
     let both = all_split HasTwos run (flat_map (λ r. r) runs) all in

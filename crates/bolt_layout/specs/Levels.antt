@@ -19,11 +19,11 @@ pub record IsOverflow (page_size size further : ℕ) : Type 0 where
 abbrev pub run_overflow : {E : Type 0} → (page_size : ℕ) → List (Laid E) → ℕ
 run_overflow page_size run = overflow_of page_size (run_size size_of run)
 
-abbrev pub leaf_view : (overflow : ℕ) → List LeafElement → PageView
-leaf_view overflow elements = record { kind = kind.Leaf; count = length elements; overflow = overflow; branches = []; leaves = elements }
+abbrev pub leaf_page_view : (overflow : ℕ) → List LeafElement → PageView
+leaf_page_view overflow elements = record { kind = kind.Leaf; count = length elements; overflow = overflow; branches = []; leaves = elements }
 
-abbrev pub branch_view : (overflow : ℕ) → List BranchElement → PageView
-branch_view overflow elements = record { kind = kind.Branch; count = length elements; overflow = overflow; branches = elements; leaves = [] }
+abbrev pub branch_page_view : (overflow : ℕ) → List BranchElement → PageView
+branch_page_view overflow elements = record { kind = kind.Branch; count = length elements; overflow = overflow; branches = elements; leaves = [] }
 
 -- A page over a run of items: the pages below it from left to right, and then the page itself. The page above has its first key and its
 -- number.
@@ -39,16 +39,16 @@ page_over view page_size run = record {
 
 -- the leaf pages over the items of a bucket
 abbrev pub leaf_level : (page_size : ℕ) → List (Laid LeafElement) → List (Laid BranchElement)
-leaf_level page_size items = map (page_over leaf_view page_size) (cut_of page_size 1 size_of items)
+leaf_level page_size items = map (page_over leaf_page_view page_size) (cut_of page_size 1 size_of items)
 
 -- the branch pages over the pages of a level
 abbrev pub next_level : (which : Layout) (page_size : ℕ) → List (Laid BranchElement) → List (Laid BranchElement)
-next_level which page_size level = map (page_over branch_view page_size) (branch_cut which page_size size_of level)
+next_level which page_size level = map (page_over branch_page_view page_size) (branch_cut which page_size size_of level)
 
 -- The top page over a level: the page of a level that has no other, and otherwise that of the next level. Over no page it is an empty leaf.
 -- It is found in as many steps as the level has pages, since each level has fewer than the one below.
 abbrev pub top_in : (which : Layout) (steps page_size : ℕ) → List (Laid BranchElement) → Laid BranchElement
-top_in which steps page_size [] = page_over leaf_view page_size []
+top_in which steps page_size [] = page_over leaf_page_view page_size []
 top_in which steps page_size (page ∷ []) = page
 top_in which zero page_size (page ∷ other ∷ level) = page
 top_in which (suc steps) page_size (page ∷ other ∷ level) = top_in which steps page_size (next_level which page_size (page ∷ other ∷ level))

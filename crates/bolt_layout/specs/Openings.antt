@@ -6,14 +6,14 @@ use Rattle.bolt_tree.specs.Tree.{Tree, end, with_bucket, with_value}
 use Rattle.bolt_layout.specs.Cut.{cut_from, cut_of}
 use Rattle.bolt_layout.specs.Items.{is_inline, items_of}
 use Rattle.bolt_layout.specs.Laid.{Laid, size_of}
-use Rattle.bolt_layout.specs.Levels.{leaf_view, next_level, page_over}
+use Rattle.bolt_layout.specs.Levels.{leaf_page_view, next_level, page_over}
 use Rattle.bolt_layout.specs.Limits.{HaveRightLimits, last_length, limit_at, limits_from_ends}
 use Rattle.bolt_layout.specs.declared.layout.Layout.{Layout}
 use Rattle.bolt_layout.specs.declared.layout.Layout.TheVariants.{Plain}
 
 -- all leaf pages of a bucket with these items: one empty page where it has none
 abbrev pub leaf_pages : (page_size : ℕ) → List (Laid LeafElement) → List (Laid BranchElement)
-leaf_pages page_size items = map (page_over leaf_view page_size) (cut_from page_size 1 size_of [] items)
+leaf_pages page_size items = map (page_over leaf_page_view page_size) (cut_from page_size 1 size_of [] items)
 
 -- How many buckets of a tree a pass opens: those with a root page, each with those inside it.
 abbrev pub opened_in : Layout → (page_size : ℕ) → Tree → ℕ

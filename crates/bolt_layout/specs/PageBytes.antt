@@ -57,12 +57,12 @@ unfoldable pub page_bytes : (page_size number : ℕ) → PageView → List ℕ
 page_bytes page_size number view = filled ((1 + view.overflow) * page_size) (content_bytes view.kind number view)
 
 -- the meta of a copy, whose freelist is page 2
-abbrev pub meta_of : (page_size root sequence mark txid : ℕ) → Meta
-meta_of page_size root sequence mark txid = record { page_size = page_size; root = root; root_sequence = sequence; freelist = 2; high_water = mark; txid = txid }
+abbrev pub copy_meta : (page_size root sequence mark txid : ℕ) → Meta
+copy_meta page_size root sequence mark txid = record { page_size = page_size; root = root; root_sequence = sequence; freelist = 2; high_water = mark; txid = txid }
 
 -- its page, whose number is its txid
 unfoldable pub meta_page : (page_size root sequence mark txid : ℕ) → List ℕ
-meta_page page_size root sequence mark txid = filled page_size (meta_bytes txid (meta_of page_size root sequence mark txid))
+meta_page page_size root sequence mark txid = filled page_size (meta_bytes txid (copy_meta page_size root sequence mark txid))
 
 -- a freelist without ids
 unfoldable pub freelist_page : (page_size number : ℕ) → List ℕ

@@ -3,7 +3,7 @@ use Rattle.std.proofs.Common.{◌≡◌, ◌∙◌, inl, inr, ℕ, suc, Bool, tr
 use Rattle.std.specs.List.{Contains}
 use Rattle.std.specs.Option.{option_map}
 use Rattle.std.proofs.lemmas.Bool.{cases_Bool}
-use Rattle.std.proofs.lemmas.Option.{slice_get-map}
+use Rattle.std.proofs.lemmas.Option.{slice_get-map, same_Some}
 use Rattle.bolt_format.specs.Elements.{LeafElement, head_root, inline_elements}
 use Rattle.bolt_format.specs.Headers.{count_field, flags_field, kind_of}
 use Rattle.bolt_format.specs.Pages.{PageView, from_page, page_at, page_fault, page_overflow, shown_as, span_bytes}
@@ -21,7 +21,7 @@ use Rattle.bolt_recover.specs.Places.{Place, follow_places, leaves_of, next_plac
 use Rattle.bolt_recover.specs.Recovered.{IsRecoveredMember}
 use Rattle.bolt_recover.specs.Surveys.{Visit}
 use Rattle.bolt_recover.proofs.PlaceKeys.{HasForm, IsTidy, IsTidyAt, page_form, tidy_root, tidy_step}
-use Rattle.bolt_recover.proofs.ElementLists.{contains_at}
+use Rattle.bolt_tree.proofs.EntryOrder.{contains_at}
 
 -- a page with leaf elements is a leaf that shows them
 by_kind : (fault : Option ℕ) (k : Option Kind) (count overflow : ℕ) (bytes : List ℕ) (e : LeafElement) → Contains (leaves_of (shown_as fault k count overflow bytes)) e
@@ -41,9 +41,6 @@ shows_entry file meta n e has =
 leads_further : (nodes : Nodes) (here : Option ℕ) (address : List ℕ) (i : ℕ) → leads nodes here (address ++ i ∷ []) ≡ child_at nodes (leads nodes here address) i
 leads_further nodes here [] i = refl
 leads_further nodes here (j ∷ address) i = leads_further nodes (child_at nodes here j) address i
-
-some_place : (p q : Place) → Some p ≡ Some q → p ≡ q
-some_place p q e = cc
 
 module _ (file : List ℕ) (meta : Meta) where
   abbrev nodes : Nodes
@@ -71,11 +68,11 @@ module _ (file : List ℕ) (meta : Meta) where
   inside_at path e host true r at bucket is names t there =
       let spot : r ≡ Some (At_inline host (leaf_entry e).inner) = is ∙ (rw (bucket, at) refl) in
       let start : start_of e.value ≡ Inline_page (inline_elements e.value) = rw at refl in
-      subst IsNamed (some_place _ t (sym (ap (place_on file meta path (Some e)) spot) ∙ there)) (Inline_page (inline_elements e.value), subst (λ (s : Start). Names (IsEntry file meta) (Root_page meta.root) (path ++ e.key ∷ []) s) start names, refl)
+      subst IsNamed (same_Some _ t (sym (ap (place_on file meta path (Some e)) spot) ∙ there)) (Inline_page (inline_elements e.value), subst (λ (s : Start). Names (IsEntry file meta) (Root_page meta.root) (path ++ e.key ∷ []) s) start names, refl)
   inside_at path e host false r at bucket is names t there =
       let spot : r ≡ Some (At_page (root_spot (head_root e.value))) = is ∙ (rw (bucket, at) refl) in
       let start : start_of e.value ≡ Root_page (head_root e.value) = rw at refl in
-      subst IsNamed (some_place _ t (sym (ap (place_on file meta path (Some e)) spot) ∙ there)) (Root_page (head_root e.value), subst (λ (s : Start). Names (IsEntry file meta) (Root_page meta.root) (path ++ e.key ∷ []) s) start names, ([], refl))
+      subst IsNamed (same_Some _ t (sym (ap (place_on file meta path (Some e)) spot) ∙ there)) (Root_page (head_root e.value), subst (λ (s : Start). Names (IsEntry file meta) (Root_page meta.root) (path ++ e.key ∷ []) s) start names, ([], refl))
 
   -- from a leaf
   leaf_step : (path : Path) (s : PageSpot) (o : Option LeafElement) (next : Option Entry) (t : Place) → ((e : LeafElement) → o ≡ Some e → e.is_bucket ≡ true → Names (IsEntry file meta) (Root_page meta.root) (path ++ e.key ∷ []) (start_of e.value))
@@ -99,7 +96,7 @@ module _ (file : List ℕ) (meta : Meta) where
   branch_step path s None next t r address i lead child names is = absurd (cc)
   branch_step path s (Some x) next t r address i lead child names is =
       let further : leads nodes (Some r) (address ++ i ∷ []) ≡ Some x.child = leads_further nodes (Some r) address i ∙ ap (λ (o : Option ℕ). child_at nodes o i) lead ∙ child in
-      subst IsNamed (some_place _ t is) (Root_page r, names, (address ++ i ∷ [], further))
+      subst IsNamed (same_Some _ t is) (Root_page r, names, (address ++ i ∷ [], further))
 
   page_step : (path : Path) (elements : List LeafElement) (s : PageSpot) (r : ℕ) (address : List ℕ) (i : ℕ) (t : Place) (node : Node) → HasForm node elements → nodes s.number ≡ Ok node
       → leads nodes (Some r) address ≡ Some s.number → elements ≡ leaves_of (page_at file meta s.number) → Names (IsEntry file meta) (Root_page meta.root) path (Root_page r)
@@ -147,7 +144,7 @@ module _ (file : List ℕ) (meta : Meta) where
 
   pub well_at : (way : List ℕ) (p : Place) → place_at file meta way ≡ Some p → IsWell p
   well_at way p is =
-      well_follow (Some (root_place file meta)) way p (λ q here. subst IsWell (some_place (root_place file meta) q here) ((Root_page meta.root, refl, ([], refl)), tidy_root file meta)) is
+      well_follow (Some (root_place file meta)) way p (λ q here. subst IsWell (same_Some (root_place file meta) q here) ((Root_page meta.root, refl, ([], refl)), tidy_root file meta)) is
 
   -- each recovered member is held
   pub held : (survey : List Visit) (path : Path) (item : Item) → IsRecoveredMember file meta survey path item → Holds (IsEntry file meta) (Root_page meta.root) path item

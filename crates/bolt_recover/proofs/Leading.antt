@@ -20,7 +20,7 @@ use Rattle.bolt_check.proofs.NodeLemmas.{length-leaf}
 use Rattle.bolt_tree.specs.Paths.{Path}
 use Rattle.bolt_recover.specs.Places.{place_on, step_place}
 use Rattle.bolt_recover.specs.Private.Frames.{content_place, step_path, spot_place}
-use Rattle.bolt_recover.specs.declared.open_page.Content.TheVariants.{Page}
+use Rattle.bolt_recover.specs.declared.content.Content.TheVariants.{Page}
 
 -- only an element of a leaf leads to an inline bucket
 from_leaf : (is_leaf : Bool) (s : PageSpot) (e next : Option Entry) (host : ℕ) (keys : List Key) → Some (At_inline host keys) ≡ step_entry is_leaf s e next → is_leaf ≡ true

@@ -2,7 +2,7 @@
 use Rattle.std.proofs.Common.{◌≡◌, ◌∙◌, ℕ, suc, ◌<◌, ◌≤◌, Bool, List, [], ◌∷◌, ◌++◌, length, map, Option, Some, None, Result, Ok, Err, slice_get, refl, sym, ap, subst, arith}
 use Rattle.std.specs.Option.{option_map}
 use Rattle.std.proofs.lemmas.List.{length-map}
-use Rattle.std.proofs.lemmas.Option.{slice_get_within}
+use Rattle.std.proofs.lemmas.Option.{slice_get_within, same_Some}
 use Rattle.bolt_format.specs.Elements.{LeafElement}
 use Rattle.bolt_format.specs.Headers.{count_field, flags_field, kind_of}
 use Rattle.bolt_format.specs.Pages.{from_page, page_at, page_fault, page_overflow, shown_as, span_bytes}
@@ -58,13 +58,10 @@ place_further file meta way i p is = follow_next file meta (Some (root_place fil
 abbrev HasElements : List ℕ → Meta → Place → Type 0
 HasElements file meta p = (value : List ℕ) × (p.elements ≡ elements_at file meta p.spot value)
 
-some_place : (p q : Place) → Some p ≡ Some q → p ≡ q
-some_place p q e = cc
-
 elements_on : (file : List ℕ) (meta : Meta) (path : Path) (e : Option LeafElement) (s : Option Spot) (p : Place) → place_on file meta path e s ≡ Some p → HasElements file meta p
 elements_on file meta path e None p is = absurd (cc)
-elements_on file meta path None (Some s) p is = subst (HasElements file meta) (some_place _ p is) ([], refl)
-elements_on file meta path (Some e) (Some s) p is = subst (HasElements file meta) (some_place _ p is) (e.value, refl)
+elements_on file meta path None (Some s) p is = subst (HasElements file meta) (same_Some _ p is) ([], refl)
+elements_on file meta path (Some e) (Some s) p is = subst (HasElements file meta) (same_Some _ p is) (e.value, refl)
 
 elements_next : (file : List ℕ) (meta : Meta) (here : Option Place) (i : ℕ) (p : Place) → next_place file meta here i ≡ Some p → HasElements file meta p
 elements_next file meta None i p is = absurd (cc)
@@ -77,7 +74,7 @@ elements_follow file meta here (i ∷ way) p has is = elements_follow file meta 
 
 pub elements_is : (file : List ℕ) (meta : Meta) (way : List ℕ) (p : Place) → place_at file meta way ≡ Some p → HasElements file meta p
 elements_is file meta way p is =
-    elements_follow file meta (Some (root_place file meta)) way p (λ q here. subst (HasElements file meta) (some_place (root_place file meta) q here) ([], refl)) is
+    elements_follow file meta (Some (root_place file meta)) way p (λ q here. subst (HasElements file meta) (same_Some (root_place file meta) q here) ([], refl)) is
 
 -- a page that is a node shows no more leaf elements than it has entries
 by_kind : (fault : Option ℕ) (k : Option Kind) (count overflow : ℕ) (bytes : List ℕ) (other : Option ℕ) (node : Node)

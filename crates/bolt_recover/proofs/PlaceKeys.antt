@@ -1,7 +1,9 @@
 -- The keys of a place that is kept: they rise between its bounds, its elements have them, and each child has its bounds from them.
 use Rattle.std.proofs.Common.{◌≡◌, ◌∙◌, ◌⊎◌, inl, inr, ℕ, suc, Bool, true, false, List, [], ◌∷◌, ◌++◌, map, Option, Some, None, Result, Ok, slice_get, if◌then◌else◌, ◌==◌, refl, sym, ap, subst}
 use Rattle.std.specs.Option.{option_map}
-use Rattle.std.proofs.lemmas.Option.{slice_get-map}
+use Rattle.std.proofs.lemmas.Option.{slice_get-map, same_Some}
+use Rattle.bolt_check.proofs.WayFacts.{key_at}
+use Rattle.bolt_check.proofs.Shaping.{finding_none}
 use Rattle.bolt_format.specs.Elements.{LeafElement, head_root, inline_elements}
 use Rattle.bolt_format.specs.Headers.{count_field, flags_field, kind_of}
 use Rattle.bolt_format.specs.Pages.{PageView, from_page, page_at, page_fault, page_overflow, shown_as, span_bytes}
@@ -33,12 +35,9 @@ IsTidy file meta p = IsTidyAt file meta p.elements p.spot
 abbrev HoldsKeys : Option LeafElement → List Key → Type 0
 HoldsKeys o keys = (e : LeafElement) × (o ≡ Some e) × (keys ≡ keys_in (inline_elements e.value))
 
-some_spot : (a b : Spot) → Some a ≡ Some b → a ≡ b
-some_spot a b e = cc
-
 inline_of : (is_bucket here : Bool) (host number : ℕ) (inner keys : List Key) (h : ℕ) (s : PageSpot) → (if is_bucket then Some (if here then At_inline host inner else At_page s) else None) ≡ Some (At_inline h keys) → keys ≡ inner
 inline_of false here host number inner keys h s e = absurd (cc)
-inline_of true true host number inner keys h s e = let same : At_inline host inner ≡ At_inline h keys = some_spot _ _ e in cc
+inline_of true true host number inner keys h s e = let same : At_inline host inner ≡ At_inline h keys = same_Some _ _ e in cc
 inline_of true false host number inner keys h s e = absurd (cc)
 
 by_element : (s : PageSpot) (o : Option LeafElement) (next : Option Entry) (host : ℕ) (keys : List Key) → step_entry true s (option_map leaf_entry o) next ≡ Some (At_inline host keys) → HoldsKeys o keys
@@ -72,20 +71,14 @@ holds_keys : (file : List ℕ) (meta : Meta) (elements : List LeafElement) (s : 
 holds_keys file meta elements (At_page s) i host keys tidy e = subst (λ (xs : List LeafElement). HoldsKeys (slice_get xs i) keys) (sym tidy) (at_page file meta s i host keys e)
 holds_keys file meta elements (At_inline host2 keys2) i host keys tidy e = absurd (cc)
 
-some_place : (p q : Place) → Some p ≡ Some q → p ≡ q
-some_place p q e = cc
-
 tidy_on : (file : List ℕ) (meta : Meta) (path : Path) (o : Option LeafElement) (r : Option Spot) (t : Place) → ((host : ℕ) (keys : List Key) → r ≡ Some (At_inline host keys) → HoldsKeys o keys)
     → place_on file meta path o r ≡ Some t → IsTidy file meta t
 tidy_on file meta path o None t holds is = absurd (cc)
-tidy_on file meta path None (Some (At_page s)) t holds is = subst (IsTidy file meta) (some_place _ t is) refl
-tidy_on file meta path (Some e) (Some (At_page s)) t holds is = subst (IsTidy file meta) (some_place _ t is) refl
+tidy_on file meta path None (Some (At_page s)) t holds is = subst (IsTidy file meta) (same_Some _ t is) refl
+tidy_on file meta path (Some e) (Some (At_page s)) t holds is = subst (IsTidy file meta) (same_Some _ t is) refl
 tidy_on file meta path None (Some (At_inline host keys)) t holds is = absurd (let (e, none, same) = holds host keys refl in let f : None ≡ Some e = none in cc)
 tidy_on file meta path (Some e) (Some (At_inline host keys)) t holds is =
-    subst (IsTidy file meta) (some_place _ t is) (let (x, some, same) = holds host keys refl in let one : e ≡ x = some_element e x some in same ∙ ap (λ (y : LeafElement). keys_in (inline_elements y.value)) (sym one))
-  where
-    some_element : (a b : LeafElement) → Some a ≡ Some b → a ≡ b
-    some_element a b h = cc
+    subst (IsTidy file meta) (same_Some _ t is) (let (x, some, same) = holds host keys refl in let one : e ≡ x = same_Some e x some in same ∙ ap (λ (y : LeafElement). keys_in (inline_elements y.value)) (sym one))
 
 -- tidy places lead to tidy places
 pub tidy_step : (file : List ℕ) (meta : Meta) (p t : Place) (i : ℕ) → IsTidy file meta p → step_place file meta p i ≡ Some t → IsTidy file meta t
@@ -141,19 +134,12 @@ pub record Keyed (file : List ℕ) (meta : Meta) (p : Place) (keys : List Key) :
   pub own : (i : ℕ) (e : LeafElement) → slice_get p.elements i ≡ Some e → slice_get keys i ≡ Some e.key
   pub kids : (i : ℕ) (t : Place) → step_place file meta p i ≡ Some t → IsInside p t i ⊎ IsChild p t i keys
 
-no_finding : (o : Option ℕ) (page : ℕ) → finding_of o page ≡ None → o ≡ None
-no_finding None page e = refl
-no_finding (Some x) page e = absurd (cc)
-
 no_late : (b : Bool) (x : Finding) (o : Option ℕ) (page : ℕ) → (if b then Some x else finding_of o page) ≡ None → o ≡ None
 no_late true x o page e = absurd (cc)
-no_late false x o page e = no_finding o page e
+no_late false x o page e = finding_none o page e
 
 key_of_element : (elements : List LeafElement) (i : ℕ) (e : LeafElement) → slice_get elements i ≡ Some e → slice_get (keys_in elements) i ≡ Some e.key
 key_of_element elements i e at = slice_get-map (λ (x : LeafElement). x.key) elements i ∙ ap (option_map (λ (x : LeafElement). x.key)) at
-
-key_of_entry : (entries : List Entry) (i : ℕ) (e : Entry) → slice_get entries i ≡ Some e → slice_get (keys_of entries) i ≡ Some e.key
-key_of_entry entries i e at = slice_get-map (λ (x : Entry). x.key) entries i ∙ ap (option_map (λ (x : Entry). x.key)) at
 
 -- in a leaf
 inside_of : (file : List ℕ) (meta : Meta) (spot : Spot) (path : Path) (elements : List LeafElement) (s : PageSpot) (i : ℕ) (o : Option LeafElement) (next : Option Entry) (t : Place)
@@ -163,7 +149,7 @@ inside_of file meta spot path elements s i (Some e) next t at is = (e, at, path_
   where
     path_on : (r : Option Spot) → place_on file meta path (Some e) r ≡ Some t → t.path ≡ path ++ e.key ∷ []
     path_on None h = absurd (cc)
-    path_on (Some spot) h = ap (λ (p : Place). p.path) (sym (some_place _ t h))
+    path_on (Some spot) h = ap (λ (p : Place). p.path) (sym (same_Some _ t h))
 
 -- in a branch
 upper_next : (next : Option Entry) (upper : Option Key) (k : Key) → option_map (λ (e : Entry). e.key) next ≡ Some k → upper_from next upper ≡ Some k
@@ -180,12 +166,12 @@ child_of : (file : List ℕ) (meta : Meta) (path : Path) (elements : List LeafEl
 child_of file meta path elements s entries i None t none at is = absurd (cc)
 child_of file meta path elements s entries i (Some x) t none at is =
     let next = slice_get-map (λ (e : Entry). e.key) entries (suc i) in
-    let same = some_place _ t is in
+    let same = same_Some _ t is in
     record {
       path = ap (λ (p : Place). p.path) (sym same);
       none = ap (λ (xs : List LeafElement). slice_get xs i) none;
       key = x.key;
-      at = key_of_entry entries i x at;
+      at = key_at entries i x at;
       lower = ap (λ (p : Place). lower_of p.spot) (sym same);
       next = λ k e. ap (λ (p : Place). upper_of p.spot) (sym same) ∙ upper_next (slice_get entries (suc i)) s.upper k (sym next ∙ e);
       last = λ e. ap (λ (p : Place). upper_of p.spot) (sym same) ∙ upper_same (slice_get entries (suc i)) s.upper (sym next ∙ e);
@@ -208,13 +194,13 @@ by_form file meta path elements s node i t (inr (branch, none)) page is =
 
 own_form : (elements : List LeafElement) (node : Node) (i : ℕ) (e : LeafElement) → HasForm node elements → slice_get elements i ≡ Some e → slice_get (keys_of node.entries) i ≡ Some e.key
 own_form elements node i e (inl (leaf, entries)) at =
-    key_of_entry node.entries i (leaf_entry e) (ap (λ (es : List Entry). slice_get es i) entries ∙ slice_get-map leaf_entry elements i ∙ ap (option_map leaf_entry) at)
+    key_at node.entries i (leaf_entry e) (ap (λ (es : List Entry). slice_get es i) entries ∙ slice_get-map leaf_entry elements i ∙ ap (option_map leaf_entry) at)
 own_form elements node i e (inr (branch, none)) at = absurd (let gone : slice_get elements i ≡ None = ap (λ (xs : List LeafElement). slice_get xs i) none in let f : None ≡ Some e = sym gone ∙ at in cc)
 
 keyed_at : (file : List ℕ) (meta : Meta) (before : ℕ → Type 0) (spot : Spot) (path : Path) (elements : List LeafElement) → IsTidyAt file meta elements spot → Passes (node_at file meta) before spot
     → (keys : List Key) × Keyed file meta (record { spot = spot; path = path; elements = elements }) keys
 keyed_at file meta before (At_inline host keys) path elements tidy passes =
-    let none = no_finding (keys_order_fault None None None keys) host passes in (
+    let none = finding_none (keys_order_fault None None None keys) host passes in (
       keys,
       record {
         rise = key_rise None None None keys none;

@@ -35,10 +35,10 @@ use Rattle.bolt_recover.specs.Private.Runs.{Runs, RunsAll, Task, Visited, losses
 use Rattle.bolt_recover.specs.Recovered.{IsRecovered}
 use Rattle.bolt_recover.specs.Recoveries.{AreFirst}
 use Rattle.bolt_recover.specs.Refusals.{IsSlotUnrecoverable, IsUnrecoverable}
-use Rattle.bolt_recover.specs.declared.open_page.Content.{Content}
-use Rattle.bolt_recover.specs.declared.open_page.Content.TheVariants.{Bucket, Page}
-use Rattle.bolt_recover.specs.declared.open_page.OpenPage.{OpenPage}
-use Rattle.bolt_recover.specs.declared.steps.Ahead.{Ahead}
+use Rattle.bolt_recover.specs.declared.content.Content.{Content}
+use Rattle.bolt_recover.specs.declared.content.Content.TheVariants.{Bucket, Page}
+use Rattle.bolt_recover.specs.declared.content.OpenPage.{OpenPage}
+use Rattle.bolt_recover.specs.declared.steps.NextVisit.{NextVisit}
 use Rattle.bolt_recover.proofs.OneRecovered.{one_recovered}
 use Rattle.bolt_recover.proofs.RunExists.{run_exists}
 use Rattle.bolt_recover.proofs.RunForgets.{blind_visit, forgotten, same_losses}
@@ -201,7 +201,7 @@ module _ (old new : State) (meta : Meta) (on : IsOn old meta) where
 
   -- after the end
   over_new : Ends old new → is_over new ≡ true
-  over_new h = ap (λ (o : Option Ahead). over_by o new.pages) h.ended.ahead ∙ ap (over_by None) h.ended.pages
+  over_new h = ap (λ (o : Option NextVisit). over_by o new.pages) h.ended.ahead ∙ ap (over_by None) h.ended.pages
 
   pub on_ended : Ends old new → IsOn new meta
   on_ended h = record {
@@ -221,7 +221,7 @@ module _ (old new : State) (meta : Meta) (on : IsOn old meta) where
   reported_all : (s : State) (members : List Member) (losses : List LossView) → s.ahead ≡ None → s.pages ≡ [] → ComesTo s members losses → (members ≡ []) × (s.losses ≡ losses)
   reported_all s members losses ahead pages comes =
       let run = subst (λ (ts : List (Task NoWay)). Runs s.file s.meta stay s.claimed ts comes.visits members)
-      (ap (λ (o : Option Ahead). ahead_tasks s.file s.meta s.path o (open_tasks s.file s.meta s.path s.pages [])) ahead ∙ ap (λ (ps : List OpenPage). open_tasks s.file s.meta s.path ps []) pages) comes.run in
+      (ap (λ (o : Option NextVisit). ahead_tasks s.file s.meta s.path o (open_tasks s.file s.meta s.path s.pages [])) ahead ∙ ap (λ (ps : List OpenPage). open_tasks s.file s.meta s.path ps []) pages) comes.run in
       let over = ends s.file s.meta stay s.claimed comes.visits members run in
       (over.1, sym (comes.all ∙ ap (λ (vs : List (Visited NoWay)). s.losses ++ losses_in vs) over.0 ∙ append-nil s.losses))
 
@@ -231,7 +231,7 @@ module _ (old new : State) (meta : Meta) (on : IsOn old meta) where
       (reported_all new [] losses h.ended.ahead h.ended.pages (h.none (left_by old members) losses (on.comes members losses all.recovered reported)).1).1
 
   -- after memory ran out
-  over_parts : (o : Option Ahead) (pages : List OpenPage) → over_by o pages ≡ true → (o ≡ None) × (pages ≡ [])
+  over_parts : (o : Option NextVisit) (pages : List OpenPage) → over_by o pages ≡ true → (o ≡ None) × (pages ≡ [])
   over_parts None [] e = (refl, refl)
   over_parts None (page ∷ pages) e = absurd (cc)
   over_parts (Some ahead) pages e = absurd (cc)

@@ -1,6 +1,6 @@
 -- Each file has a run: the tests are decided at each place, and each page that is kept takes a number away from those that aren't claimed.
 use Rattle.std.proofs.Common.{◌≡◌, ◌≢◌, ◌∙◌, ◌⊎◌, inl, inr, ℕ, zero, suc, ◌+◌, ◌<◌, ◌≤◌, Bool, true, false, ◌||◌, List, [], ◌∷◌, ◌++◌, length, nat_lt, Option, Some, None, Result, Ok, Err, if◌then◌else◌, slice_get, refl, sym, ap, subst, arith}
-use Rattle.std.proofs.lemmas.Bool.{cases_Bool, cases_order}
+use Rattle.std.proofs.lemmas.Bool.{cases_Bool, cases_order, or_parts}
 use Rattle.std.proofs.lemmas.Bool.Decides.{nat_tests}
 use Rattle.bolt_format.specs.Elements.{LeafElement}
 use Rattle.bolt_format.specs.declared.meta.Meta.{Meta}
@@ -85,10 +85,6 @@ no_claims : (claimed : ℕ → Bool) (n : ℕ) (b : Bool) → claimed n ≡ b �
 no_claims claimed n true e = rw e refl
 no_claims claimed n false e = rw e refl
 
-or_false : (a b : Bool) → (a || b) ≡ false → (a ≡ false) × (b ≡ false)
-or_false true b e = absurd (cc)
-or_false false b e = (refl, e)
-
 module _ (file : List ℕ) (meta : Meta) {W : Type 0} (further : W → ℕ → W) where
   abbrev HasRun : (ℕ → Bool) → List (Task W) → Type 0
   HasRun claimed tasks = (visits : List (Visited W)) × (members : List Member) × Runs file meta further claimed tasks visits members
@@ -134,7 +130,7 @@ module _ (file : List ℕ) (meta : Meta) {W : Type 0} (further : W → ℕ → W
   covers_less : (claimed : ℕ → Bool) (left : List ℕ) (s : PageSpot) (node : Node) (has : Has s.number left) → node_at file meta s.number ≡ Ok node → Covers claimed left
       → Covers (claimed_with (node_at file meta) claimed (At_page s)) (without s.number left has)
   covers_less claimed left s node has page covers n below free =
-      let both = or_false (claimed n) (in_span (node_at file meta s.number) s.number n) free in
+      let both = or_parts (claimed n) (in_span (node_at file meta s.number) s.number n) free in
       let other : n ≢ s.number = λ same. unmarked (in_span (node_at file meta s.number) s.number n) both.1
       (ap (in_span (node_at file meta s.number) s.number) same ∙ ap (λ (r : Result Node ℕ). in_span r s.number s.number) page ∙ own_span s.number node.overflow node) in
       still s.number n left has other (covers n below both.0)

@@ -4,7 +4,7 @@ use Rattle.std.specs.List.{Contains}
 use Rattle.std.specs.Ordering.{is_lt}
 use Rattle.std.specs.declared.cmp.Ordering.TheVariants.{Less}
 use Rattle.std.proofs.lemmas.Bool.{cases_order}
-use Rattle.std.proofs.lemmas.Option.{slice_get_within}
+use Rattle.std.proofs.lemmas.Option.{slice_get_within, same_Some}
 use Rattle.bolt_format.specs.Elements.{LeafElement}
 use Rattle.bolt_format.specs.declared.meta.Meta.{Meta}
 use Rattle.bolt_check.specs.Keys.{Key, is_below, is_from, key_cmp, key_lt}
@@ -37,12 +37,6 @@ record InEntry (p : Place) (keys : List Key) (i : ℕ) (a : Path) : Type 0 where
   before : (j : ℕ) (q : Key) → i < j → slice_get keys j ≡ Some q → key_lt key q ≡ true
   from_lower : is_from (lower_of p.spot) key ≡ true
   below_upper : is_below (upper_of p.spot) key ≡ true
-
-one_key : (a b : Key) → Some a ≡ Some b → a ≡ b
-one_key a b e = cc
-
-one_element : (a b : LeafElement) → Some a ≡ Some b → a ≡ b
-one_element a b e = cc
 
 module _ (file : List ℕ) (meta : Meta) (p : Place) (keys : List Key) (known : Keyed file meta p keys) where
   -- an element, and what it leads to in a leaf
@@ -109,7 +103,7 @@ module _ (file : List ℕ) (meta : Meta) (p : Place) (keys : List Key) (known : 
             at = child.at;
             from_own = from_own;
             before = λ j q lt there. elim (cases_order j (suc i)) [
-              | inl same ↦ subst (λ (z : Key). key_lt key z ≡ true) (one_key k q (sym next ∙ ap (slice_get keys) (sym same) ∙ there)) less
+              | inl same ↦ subst (λ (z : Key). key_lt key z ≡ true) (same_Some k q (sym next ∙ ap (slice_get keys) (sym same) ∙ there)) less
               | inr (inl under) ↦ absurd (omega arith)
               | inr (inr above) ↦ lt_trans key k q less (known.rise (suc i) j k q above next there)
             ];
@@ -180,7 +174,7 @@ module _ (file : List ℕ) (meta : Meta) {W : Type 0} (further : W → ℕ → W
     before_inside i e t b get next (key, rest, named, low, high) =
         elim (known.kids i t next) [
           | inl (x, at, path) ↦
-              let same = one_element x e (sym at ∙ get) in
+              let same = same_Some x e (sym at ∙ get) in
               let long : b ≡ (p.path ++ e.key ∷ []) ++ key ∷ rest = named ∙ ap (λ (q : Path). q ++ key ∷ rest) (path ∙ ap (λ (y : LeafElement). p.path ++ y.key ∷ []) same) in
               rw long (before_longer (p.path ++ e.key ∷ []) key rest)
           | inr child ↦ absurd (let f : None ≡ Some e = sym child.none ∙ get in cc)

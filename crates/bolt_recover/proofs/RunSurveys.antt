@@ -2,6 +2,7 @@
 use Rattle.std.proofs.Common.{◌≡◌, ◌∙◌, ◌⊎◌, ◌↔◌, ◌≤◌, ◌<◌, inl, inr, ℕ, zero, suc, ◌+◌, Bool, true, false, ◌||◌, ◌&&◌, List, [], ◌∷◌, ◌++◌, length, nat_le, Option, Some, None, Result, Ok, Err, slice_get, refl, sym, ap, subst, arith, append_assoc}
 use Rattle.std.specs.List.{Contains}
 use Rattle.std.proofs.lemmas.Bool.Decides.{nat_tests}
+use Rattle.std.proofs.lemmas.Bool.{or_cases}
 use Rattle.bolt_format.specs.Elements.{LeafElement}
 use Rattle.bolt_format.specs.declared.meta.Meta.{Meta}
 use Rattle.bolt_check.specs.Findings.{IsMetaPage, Passes, Tests}
@@ -20,7 +21,8 @@ use Rattle.bolt_recover.specs.Private.Runs.{Runs, RunsAll, Task, To_give, To_vis
 use Rattle.bolt_recover.specs.Private.Runs.Runs.{done, give, keep, lose}
 use Rattle.bolt_recover.specs.Recovered.{IsRecoveredMember}
 use Rattle.bolt_recover.specs.Surveys.{Gives, Has, IsClaimedIn, IsOpen, IsSurvey, Visit, kept}
-use Rattle.bolt_recover.proofs.ElementLists.{contains_at, slice_of}
+use Rattle.bolt_tree.proofs.EntryOrder.{contains_at}
+use Rattle.bolt_recover.proofs.ElementLists.{slice_of}
 use Rattle.bolt_recover.proofs.PlaceFacts.{elements_is, leads_within, place_further, place_is, size_enough, spot_is, step_spot}
 use Rattle.bolt_recover.proofs.RunOrder.{InTasks, Way, further, in_back, in_front, rises_run, visits_of}
 use Rattle.bolt_recover.proofs.SurveyIsOne.{Suffix, earlier, next_suffix, ways}
@@ -43,9 +45,6 @@ gives_back path e (To_give q x ∷ a) b h = inr (gives_back path e a b h)
 gives_back path e (To_visit v p ∷ a) b h = gives_back path e a b h
 
 -- the claims of a spot are its span
-or_true : (a b : Bool) → (a || b) ≡ true → (a ≡ true) ⊎ (b ≡ true)
-or_true true b e = inl refl
-or_true false b e = inr e
 
 or_either : (a b : Bool) → (a ≡ true) ⊎ (b ≡ true) → (a || b) ≡ true
 or_either true b h = refl
@@ -205,7 +204,7 @@ module _ (file : List ℕ) (meta : Meta) (survey : List Visit) where
   claims_kept : (InFront : Visit → Type 0) (w : Way) (p : Place) (claimed : ℕ → Bool) → place_at file meta w ≡ Some p → AreClaims InFront claimed
       → AreClaims (λ v. InFront v ⊎ (v ≡ kept w)) (claimed_with nodes claimed p.spot)
   claims_kept InFront w p claimed at claims n = (
-    λ is. elim (or_true (claimed n) (claims_of nodes p.spot n) is) [
+    λ is. elim (or_cases (claimed n) (claims_of nodes p.spot n) is) [
       | inl before ↦ elim ((claims n).0 before) [ inl meta_page ↦ inl meta_page | inr (v, (front, span)) ↦ inr (v, (inl front, span)) ]
       | inr here ↦ inr (w, (inr refl, subst (λ (o : Option Spot). SpanHas nodes o n) (sym (spot_is file meta w p at)) (claims_in nodes p.spot n here)))
     ],

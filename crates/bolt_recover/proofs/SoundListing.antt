@@ -3,7 +3,7 @@ use Rattle.std.proofs.Common.{◌≡◌, ◌∙◌, ◌⊎◌, inl, inr, ℕ, su
 use Rattle.std.specs.List.{Contains}
 use Rattle.std.specs.Option.{option_map}
 use Rattle.std.proofs.lemmas.List.{append-nil}
-use Rattle.std.proofs.lemmas.Option.{slice_get-map}
+use Rattle.std.proofs.lemmas.Option.{slice_get-map, same_Some}
 use Rattle.bolt_format.specs.Elements.{LeafElement, head_root, inline_elements}
 use Rattle.bolt_format.specs.Pages.{page_at}
 use Rattle.bolt_format.specs.declared.meta.Meta.{Meta}
@@ -109,14 +109,11 @@ module _ (file : List ℕ) (meta : Meta) where
   abbrev HasPage : Path → ℕ → Type 0
   HasPage path n = (way : List ℕ) × (p : Place) × (s : PageSpot) × (place_at file meta way ≡ Some p) × (p.spot ≡ At_page s) × (s.number ≡ n) × (p.path ≡ path)
 
-  one_number : (a b : ℕ) → Some a ≡ Some b → a ≡ b
-  one_number a b e = cc
-
   tidy_page : (way : List ℕ) (p : Place) (s : PageSpot) → place_at file meta way ≡ Some p → p.spot ≡ At_page s → IsTidyAt file meta p.elements (At_page s)
   tidy_page way p s at is = subst (λ (t : Spot). IsTidyAt file meta p.elements t) is (well_at file meta way p at).1
 
   down : (address way : List ℕ) (p : Place) (s : PageSpot) (n : ℕ) → place_at file meta way ≡ Some p → p.spot ≡ At_page s → leads nodes (Some s.number) address ≡ Some n → HasPage p.path n
-  down [] way p s n at is lead = (way, p, s, at, is, one_number s.number n lead, refl)
+  down [] way p s n at is lead = (way, p, s, at, is, same_Some s.number n lead, refl)
   down (i ∷ address) way p s n at is lead = by (child_in (nodes s.number) i) refl (λ w q t there stands onward. down address w q t n there stands onward)
     where
       by : (o : Option ℕ) → child_in (nodes s.number) i ≡ o

@@ -14,6 +14,7 @@ use Rattle.bolt_check.specs.ShownSpots.{page_spot, spot_at}
 use Rattle.bolt_check.specs.Ways.{At_page, root_spot}
 use Rattle.bolt_check.specs.declared.spot.PageSpot.{PageSpot}
 use Rattle.std.proofs.lemmas.Bool.Decides.{nat_tests}
+use Rattle.bolt_tree.proofs.Filters.{same_bool}
 use Rattle.bolt_check.specs.declared.finding.Finding.{Finding}
 use Rattle.bolt_check.specs.declared.spot.Spot.{Spot}
 use Rattle.bolt_check.specs.declared.spot.Spot.TheVariants as spots
@@ -23,10 +24,10 @@ use Rattle.bolt_recover.specs.Losses.{LossView, loss_of}
 use Rattle.bolt_recover.specs.Places.{Place, leaves_of, step_place}
 use Rattle.bolt_recover.specs.Private.Frames.{AreOpen, ComesTo, Ends, GivesHead, GoesOn, HasOpen, IsContent, IsGoodContent, IsGoodPage, IsShallow, NoWay, State, StaysOn, ahead_level, ahead_tasks, ahead_weight, claims_nodes, content_elements, content_place, content_size, content_spot, is_over, lost_state, open_tasks, over_by, page_tasks, page_weight, state_tasks, stay, spot_place}
 use Rattle.bolt_recover.specs.Private.Runs.{Runs, RunsAll, Task, To_visit, Visited, claimed_with, entry_tasks, gives_at, losses_in, meta_pages, place_size, place_tasks, tasks_from, visits_at}
-use Rattle.bolt_recover.specs.declared.open_page.Content.{Content}
-use Rattle.bolt_recover.specs.declared.open_page.Content.TheVariants.{Bucket, Page}
-use Rattle.bolt_recover.specs.declared.open_page.OpenPage.{OpenPage}
-use Rattle.bolt_recover.specs.declared.steps.Ahead.{Ahead}
+use Rattle.bolt_recover.specs.declared.content.Content.{Content}
+use Rattle.bolt_recover.specs.declared.content.Content.TheVariants.{Bucket, Page}
+use Rattle.bolt_recover.specs.declared.content.OpenPage.{OpenPage}
+use Rattle.bolt_recover.specs.declared.steps.NextVisit.{NextVisit}
 use Rattle.bolt_recover.proofs.RunSteps.{gives, keeps, loses}
 
 -- the innermost page is the last one
@@ -87,20 +88,20 @@ same_claims : (file : List ℕ) (meta : Meta) (a b : ℕ → Bool) (tasks : List
 same_claims file meta a b tasks visits members same run = subst (λ (f : ℕ → Bool). Runs file meta stay f tasks visits members) (sym (λ i n. same n i)) run
 
 -- while something is ahead or open, it isn't over
-not_ahead : (s : State) (ahead : Ahead) → s.ahead ≡ Some ahead → is_over s ≡ true → ⊥
-not_ahead s ahead is over = let f : false ≡ true = ap (λ (o : Option Ahead). over_by o s.pages) (sym is) ∙ over in cc
+not_ahead : (s : State) (ahead : NextVisit) → s.ahead ≡ Some ahead → is_over s ≡ true → ⊥
+not_ahead s ahead is over = let f : false ≡ true = ap (λ (o : Option NextVisit). over_by o s.pages) (sym is) ∙ over in cc
 
-more_open : (o : Option Ahead) (front : List OpenPage) (top : OpenPage) → over_by o (front ++ top ∷ []) ≡ false
+more_open : (o : Option NextVisit) (front : List OpenPage) (top : OpenPage) → over_by o (front ++ top ∷ []) ≡ false
 more_open None [] top = refl
 more_open None (page ∷ front) top = refl
 more_open (Some ahead) front top = refl
 
 not_open : (s : State) (front : List OpenPage) (top : OpenPage) → s.ahead ≡ None → s.pages ≡ front ++ top ∷ [] → is_over s ≡ true → ⊥
 not_open s front top is pages over =
-    let f : false ≡ true = sym (more_open None front top) ∙ ap (over_by None) (sym pages) ∙ ap (λ (o : Option Ahead). over_by o s.pages) (sym is) ∙ over in cc
+    let f : false ≡ true = sym (more_open None front top) ∙ ap (over_by None) (sym pages) ∙ ap (λ (o : Option NextVisit). over_by o s.pages) (sym is) ∙ over in cc
 
 -- what was ahead is open
-pub entered_page : (s : State) (ahead : Ahead) (content : Content) (count : ℕ) (claimed : ℕ → Bool) → HasOpen s → s.ahead ≡ Some ahead
+pub entered_page : (s : State) (ahead : NextVisit) (content : Content) (count : ℕ) (claimed : ℕ → Bool) → HasOpen s → s.ahead ≡ Some ahead
     → Passes (node_at s.file s.meta) (λ n. s.claimed n ≡ true) (spot_at ahead.spot) → IsContent s.file s.meta ahead.spot content
     → ((n : ℕ) → claimed n ≡ claimed_with (node_at s.file s.meta) s.claimed (spot_at ahead.spot) n) → count ≡ content_size content → count < 65536
     → GoesOn s (record s { claimed = claimed; ahead = None; pages = s.pages ++ record { content = content; level = ahead.level; count = count; next = 0 } ∷ [] })
@@ -121,7 +122,7 @@ entered_page s ahead content count claimed has is passes content_is claims long 
       path = refl;
       over = λ over. absurd (not_ahead s ahead is over);
       same = λ members losses comes.
-          let first = subst (λ (o : Option Ahead). Runs s.file s.meta stay s.claimed (ahead_tasks s.file s.meta s.path o (open_tasks s.file s.meta s.path s.pages [])) comes.visits members) is comes.run in
+          let first = subst (λ (o : Option NextVisit). Runs s.file s.meta stay s.claimed (ahead_tasks s.file s.meta s.path o (open_tasks s.file s.meta s.path s.pages [])) comes.visits members) is comes.run in
           let next = keeps s.file s.meta stay s.claimed tt (spot_place s.file s.meta (take ahead.level s.path) ahead.spot) (open_tasks s.file s.meta s.path s.pages []) comes.visits members passes first in
           record {
             visits = next.0;
@@ -134,7 +135,7 @@ entered_page s ahead content count claimed has is passes content_is claims long 
     }
 
 -- what was ahead is lost
-pub entered_lost : (s : State) (ahead : Ahead) (x : Finding) (claimed : ℕ → Bool) → HasOpen s → s.ahead ≡ Some ahead
+pub entered_lost : (s : State) (ahead : NextVisit) (x : Finding) (claimed : ℕ → Bool) → HasOpen s → s.ahead ≡ Some ahead
     → Tests (node_at s.file s.meta) (λ n. s.claimed n ≡ true) (spot_at ahead.spot) x → ((n : ℕ) → claimed n ≡ s.claimed n)
     → GoesOn s (lost_state (record s { claimed = claimed }) ahead x)
 entered_lost s ahead x claimed has is tests claims =
@@ -146,7 +147,7 @@ entered_lost s ahead x claimed has is tests claims =
       path = refl;
       over = λ over. absurd (not_ahead s ahead is over);
       same = λ members losses comes.
-          let first = subst (λ (o : Option Ahead). Runs s.file s.meta stay s.claimed (ahead_tasks s.file s.meta s.path o (open_tasks s.file s.meta s.path s.pages [])) comes.visits members) is comes.run in
+          let first = subst (λ (o : Option NextVisit). Runs s.file s.meta stay s.claimed (ahead_tasks s.file s.meta s.path o (open_tasks s.file s.meta s.path s.pages [])) comes.visits members) is comes.run in
           let next = loses s.file s.meta stay s.claimed tt place x (open_tasks s.file s.meta s.path s.pages []) comes.visits members tests first in
           record {
             visits = next.0;
@@ -169,7 +170,7 @@ stayed s claimed has claims = record {
 run_open : (s : State) (visits : List (Visited NoWay)) (members : List Member) → s.ahead ≡ None → Runs s.file s.meta stay s.claimed (state_tasks s) visits members
     → Runs s.file s.meta stay s.claimed (open_tasks s.file s.meta s.path s.pages []) visits members
 run_open s visits members is run =
-    subst (λ (o : Option Ahead). Runs s.file s.meta stay s.claimed (ahead_tasks s.file s.meta s.path o (open_tasks s.file s.meta s.path s.pages [])) visits members) is run
+    subst (λ (o : Option NextVisit). Runs s.file s.meta stay s.claimed (ahead_tasks s.file s.meta s.path o (open_tasks s.file s.meta s.path s.pages [])) visits members) is run
 
 run_top : (s : State) (front : List OpenPage) (top : OpenPage) (visits : List (Visited NoWay)) (members : List Member) → s.ahead ≡ None → s.pages ≡ front ++ top ∷ []
     → Runs s.file s.meta stay s.claimed (state_tasks s) visits members
@@ -247,7 +248,7 @@ module _ (s : State) (front : List OpenPage) (top : OpenPage) (has : HasOpen s) 
       ∙ sym (open_last s.file s.meta path front moved [])
 
   -- where the element leads is ahead
-  abbrev ahead_of : ℕ → Option Spot → Option Ahead
+  abbrev ahead_of : ℕ → Option Spot → Option NextVisit
   ahead_of level r = option_map (λ (spot : Spot). record { spot = spot; level = level }) r
 
   visits_ahead : (path : Path) (level : ℕ) (r : Option Spot) (rest : List (Task NoWay)) → visits_at s.file s.meta stay tt (option_map (spot_place s.file s.meta (take level path)) r) ++ rest
@@ -331,7 +332,7 @@ module _ (s : State) (front : List OpenPage) (top : OpenPage) (has : HasOpen s) 
       }
 
 -- a state with these parts
-pub as_state : (P : State → Type 0) (t : State) (file : List ℕ) (meta : Meta) (ahead : Option Ahead) (pages : List OpenPage) (path : Path) (losses : List LossView)
+pub as_state : (P : State → Type 0) (t : State) (file : List ℕ) (meta : Meta) (ahead : Option NextVisit) (pages : List OpenPage) (path : Path) (losses : List LossView)
     → t.file ≡ file → t.meta ≡ meta → t.ahead ≡ ahead → t.pages ≡ pages → t.path ≡ path → t.losses ≡ losses → P t
     → P (record { file = file; meta = meta; claimed = t.claimed; ahead = ahead; pages = pages; path = path; losses = losses })
 as_state P t file meta ahead pages path losses f m a g p l h =
@@ -352,13 +353,8 @@ started file meta root spot number visits members run = record {
 }
 
 -- the meta pages alone are claimed
-pub same_test : (a b : Bool) → (a ≡ true → b ≡ true) → (b ≡ true → a ≡ true) → a ≡ b
-same_test true b to from = sym (to refl)
-same_test false true to from = from refl
-same_test false false to from = refl
-
 pub of_metas : (claimed : ℕ → Bool) → ((n : ℕ) → (claimed n ≡ true) ↔ IsMetaPage n) → (n : ℕ) → claimed n ≡ meta_pages n
-of_metas claimed metas n = same_test (claimed n) (meta_pages n) (λ h. let is = (metas n).0 h in grind (arith, nat_tests)) (λ h. (metas n).1 (grind (arith, nat_tests)))
+of_metas claimed metas n = same_bool (claimed n) (meta_pages n) (λ h. let is = (metas n).0 h in grind (arith, nat_tests)) (λ h. (metas n).1 (grind (arith, nat_tests)))
 
 pub root_refused : (claims : Claims) (file : List ℕ) (meta : Meta) (x : Finding) → claims_file claims ≡ file → claims_meta claims ≡ meta
     → ((n : ℕ) → (is_claimed claims n ≡ true) ↔ IsMetaPage n) → Tests (claims_nodes claims) (λ n. is_claimed claims n ≡ true) (At_page (root_spot meta.root)) x
@@ -386,7 +382,7 @@ pub begins : (file f : List ℕ) (meta m : Meta) (before claimed : ℕ → Bool)
     → ComesTo (record { file = f; meta = m; claimed = claimed; ahead = None; pages = record { content = content; level = 0; count = count; next = 0 } ∷ []; path = []; losses = [] }) members (losses_in visits)
 begins file f meta m before claimed root content count e h metas spot number passes is claims long fits visits members run =
     let s : State = record (start_state f m root) { claimed = before } in
-    let ahead : Ahead = record { spot = spots.Page root; level = 0 } in
+    let ahead : NextVisit = record { spot = spots.Page root; level = 0 } in
     let here : ComesTo s members (losses_in visits) =
     subst (λ (t : State). ComesTo t members (losses_in visits))
     (λ i. record { file = sym e i; meta = sym h i; claimed = λ n. sym (metas n) i; ahead = Some ahead; pages = []; path = []; losses = [] }) (started file meta root spot number visits members run) in

@@ -2,10 +2,10 @@
 //! kept, which reports each loss on its way, and the laws that hold of it.
 #![tactic(auto)]
 
+mod content;
 pub mod laws;
 mod loss;
 mod members;
-mod open_page;
 mod recovery;
 mod steps;
 

@@ -1,9 +1,8 @@
 //! A walk over everything that is kept of a damaged file.
 ghost use Rattle.std.specs.Option.{IfNone, option_map};
-ghost use Rattle.std.specs.Prelude.{◌≡◌, ◌↔◌, ◌<◌, List, [], IfErr, IfOk, IfSome, OnErr, OnOk, map};
+ghost use Rattle.std.specs.Prelude.{◌≡◌, ◌<◌, [], IfErr, IfOk, IfSome, OnErr, OnOk, map};
 ghost use Rattle.bolt_check.specs.Claims.{claims_file};
 ghost use Rattle.bolt_format.specs.Metas.{IsChosen, IsInSlot};
-ghost use Rattle.bolt_tree.specs.Listing.{Member};
 ghost use Rattle.bolt_tree.specs.Paths.{path_of};
 ghost use Rattle.bolt_tree.specs.ShownEntries.{item_view};
 ghost use Rattle.bolt_tree.specs.Walks.{GivesNext};

@@ -1,9 +1,7 @@
 //! The steps of a recovering walk: one loop over the open pages of the current way.
-ghost use Rattle.std.specs.Prelude.{◌≡◌, ◌≤◌, ◌<◌, ℕ, List, [], false, None, IfOk, IfErr, IfSome, IsTrue, OnErr, OnOk, MatchResult, length};
+ghost use Rattle.std.specs.Prelude.{◌≡◌, ◌≤◌, ◌<◌, List, [], false, None, IfOk, IfErr, IfSome, IsTrue, OnErr, OnOk, length};
 ghost use Rattle.std.specs.Option.{option_map};
-ghost use Rattle.bolt_check.specs.Claims.{claims_file, claims_meta, is_claimed};
-ghost use Rattle.bolt_check.specs.ShownSpots.{spot_at};
-ghost use Rattle.bolt_format.specs.ElementPlaces.{leaf_view};
+ghost use Rattle.bolt_check.specs.Claims.{claims_file, claims_meta};
 ghost use Rattle.bolt_format.specs.Elements.{IsBucketValue};
 ghost use Rattle.bolt_tree.specs.Listing.{Member};
 ghost use Rattle.bolt_tree.specs.Paths.{path_of};
@@ -11,27 +9,27 @@ ghost use Rattle.bolt_recover.specs.Private.Frames.{Advances, ComesTo, GoesOn, H
 ghost use Rattle.bolt_recover.specs.Refusals.{KeepsRoot};
 ghost use Rattle.bolt_recover.specs.Private.Runs.{RunsAll, Visited, losses_in};
 
+use crate::content::{Content, OpenPage};
 use crate::loss::Loss;
-use crate::open_page::{Content, OpenPage};
 use bolt_check::{CheckFault, Claims, Finding, NoMemory, PageSpot, Spot};
 use bolt_format::{Leaf, Meta};
 use std::alloc::Global;
 
 /// What is to be visited next.
 #[derive(Clone, Copy)]
-pub(crate) struct Ahead<'a> {
+pub(crate) struct NextVisit<'a> {
     pub spot: Spot<'a>,
     /// The number of parts of its bucket's path.
     pub level: usize,
 }
 
-impl<'a> Ahead<'a> {
+impl<'a> NextVisit<'a> {
     /// What an element leads to, if anything.
-    fn of(spot: Option<Spot<'a>>, level: usize) -> Option<Ahead<'a>>
+    fn of(spot: Option<Spot<'a>>, level: usize) -> Option<NextVisit<'a>>
         ensures { result ≡ option_map (λ spot. record { spot = spot; level = level }) spot.entry }
     {
         match spot {
-            Some(spot) => Some(Ahead { spot, level }),
+            Some(spot) => Some(NextVisit { spot, level }),
             None => None,
         }
     }
@@ -54,7 +52,7 @@ pub(crate) enum Taken<'a> {
 pub(crate) struct Steps<'a> {
     pub alloc: Global,
     pub claims: Claims<'a>,
-    pub ahead: Option<Ahead<'a>>,
+    pub ahead: Option<NextVisit<'a>>,
     pub open: Vec<OpenPage<'a>>,
     /// The path of the last element that was returned.
     pub path: Vec<&'a [u8]>,
@@ -108,7 +106,7 @@ impl<'a> Steps<'a> {
     }
 
     /// Records the loss of what was ahead, with this finding.
-    fn lose(&mut self, finding: Finding, ahead: &Ahead<'a>) -> Result<(), NoMemory>
+    fn lose(&mut self, finding: Finding, ahead: &NextVisit<'a>) -> Result<(), NoMemory>
         requires { ahead.now.level ≤ length self.old.path.items }
         ensures claims { self.new.claims ≡ self.old.claims }
         ensures open { self.new.open.items ≡ self.old.open.items }
@@ -150,7 +148,7 @@ impl<'a> Steps<'a> {
     }
 
     /// Goes to the next element of the innermost open page, or closes the page if it has no more.
-    fn take(&mut self) -> Result<Taken<'a>, NoMemory>
+    fn step(&mut self) -> Result<Taken<'a>, NoMemory>
         requires placed { HasOpen (state_of self.old) }
         requires ahead { self.old.ahead ≡ None }
         ensures taken { IfOk result (Takes (state_of self.old) (state_of self.new)) }
@@ -172,12 +170,12 @@ impl<'a> Steps<'a> {
         });
         let spot = top.content.spot(top.next);
         let Some(leaf) = top.content.leaf(top.next) else {
-            self.ahead = Ahead::of(spot, top.level);
+            self.ahead = NextVisit::of(spot, top.level);
             return Ok(Taken::Nothing);
         };
         self.path.truncate(top.level);
         self.path.push_reserved(leaf.key);
-        self.ahead = Ahead::of(spot, top.level + 1);
+        self.ahead = NextVisit::of(spot, top.level + 1);
         Ok(Taken::Leaf(leaf))
     }
 
@@ -191,7 +189,7 @@ impl<'a> Steps<'a> {
     {
         loop {
             self.enter()?;
-            match self.take()? {
+            match self.step()? {
                 Taken::Leaf(leaf) => return Ok(Some(leaf)),
                 Taken::Nothing => {}
                 Taken::End => return Ok(None),

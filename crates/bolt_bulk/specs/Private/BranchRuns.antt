@@ -6,6 +6,7 @@ use Rattle.bolt_layout.specs.Laid.{Placed}
 use Rattle.bolt_layout.specs.Limits.{is_out, one_less}
 use Rattle.bolt_layout.specs.Levels.{overflow_of}
 use Rattle.bolt_layout.specs.PageBytes.{branch_data}
+use Rattle.bolt_bulk.specs.Private.FormatLimits.{longest_key}
 use Rattle.bolt_bulk.specs.Private.OpenRuns.{key_size}
 use Rattle.bolt_bulk.specs.Private.RunViews.{RunView, no_run, one_closed, run_kept, run_key, run_page, run_push, run_stays}
 use Rattle.bolt_bulk.specs.declared.branch_run.BranchRun.{BranchRun}
@@ -30,7 +31,7 @@ pub record IsStanding (run : RunView) : Type 0 where
   pub sized : IsSizedRun run
   pub small : run.size ≤ 2147483696
   pub few : length run.elements < 65535
-  pub named : length (run_key run.elements) ≤ 1073741824
+  pub named : length (run_key run.elements) ≤ longest_key
   pub slack : is_out run.left ≡ true → HasSlack run
 
 -- A run that has taken one more element than it may stand with still fits a page.

@@ -6,7 +6,7 @@ use Rattle.bolt_layout.specs.Cut.{run_size}
 use Rattle.bolt_layout.specs.Laid.{Laid, elements_of, size_of}
 use Rattle.bolt_bulk.specs.Private.HeldCounts.{capped}
 use Rattle.bolt_bulk.specs.Private.OpenRuns.{Open, Upper, key_size, next_number, numbers_in}
-use Rattle.bolt_bulk.specs.Private.RunViews.{RunView, BucketRuns}
+use Rattle.bolt_bulk.specs.Private.RunViews.{RunView, BucketRunsView}
 
 abbrev pub IsKeyed : Laid BranchElement → Type 0
 IsKeyed page = (page.size ≡ key_size page.key) × ((n : ℕ) → (page.element n).key ≡ page.key)
@@ -28,7 +28,7 @@ AreUppers (run ∷ runs) (upper ∷ uppers) b = IsUpper run upper (b + numbers_i
 abbrev pub IsKeyedItem : Laid LeafElement → Type 0
 IsKeyedItem item = (n : ℕ) → (item.element n).key ≡ item.key
 
-pub record AreOpenRuns (runs : BucketRuns) (state : Open) (b : ℕ) : Type 0 where
+pub record AreOpenRuns (runs : BucketRunsView) (state : Open) (b : ℕ) : Type 0 where
   pub same : runs.leaves.elements ≡ elements_of state.run (b + numbers_in state.uppers)
   pub size_is : runs.leaves.size ≡ run_size size_of state.run
   pub keyed : AllByRecursion IsKeyedItem state.run

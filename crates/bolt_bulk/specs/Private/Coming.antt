@@ -4,7 +4,7 @@ use Rattle.bolt_format.specs.Elements.{BranchElement, LeafElement}
 use Rattle.bolt_layout.specs.Cut.{branch_cut, cut_from}
 use Rattle.bolt_layout.specs.Items.{bucket_item, items_of}
 use Rattle.bolt_layout.specs.Laid.{Laid, size_of}
-use Rattle.bolt_layout.specs.Levels.{branch_view, leaf_view, page_over, top_of}
+use Rattle.bolt_layout.specs.Levels.{branch_page_view, leaf_page_view, page_over, top_of}
 use Rattle.bolt_layout.specs.Limits.{HaveRightLimits, cut_left}
 use Rattle.bolt_layout.specs.declared.layout.Layout.{Layout}
 use Rattle.bolt_bulk.specs.Private.OpenRuns.{Frame, Open, Upper, key_size, pushing}
@@ -27,12 +27,12 @@ abbrev pub Comes : Layout → ℕ → (ℕ → Option ℕ) → List Upper → Li
 Comes which page_size limits [] all pages root = (pages ≡ all) × IsUnder which page_size limits pages root
 Comes which page_size limits (upper ∷ uppers) all [] root = ⊥
 Comes which page_size limits (upper ∷ uppers) all (page ∷ pages) root = Stands which page_size upper all page pages
-    × Comes which page_size (λ k. limits (suc k)) uppers (map (page_over branch_view page_size) (branch_cut which page_size size_of all))
-    (map (page_over branch_view page_size) (cut_left page_size size_of upper.left (upper.run ++ page ∷ []) pages)) root
+    × Comes which page_size (λ k. limits (suc k)) uppers (map (page_over branch_page_view page_size) (branch_cut which page_size size_of all))
+    (map (page_over branch_page_view page_size) (cut_left page_size size_of upper.left (upper.run ++ page ∷ []) pages)) root
 
 -- the leaves of an open bucket, with the items that are still to come
 abbrev pub leaves_coming : ℕ → List (Laid LeafElement) → List (Laid LeafElement) → List (Laid BranchElement)
-leaves_coming page_size run items = map (page_over leaf_view page_size) (cut_from page_size 1 size_of run items)
+leaves_coming page_size run items = map (page_over leaf_page_view page_size) (cut_from page_size 1 size_of run items)
 
 -- an open bucket becomes this root page
 pub record IsOpen (which : Layout) (page_size : ℕ) (state : Open) (items : List (Laid LeafElement)) (root : Laid BranchElement) : Type 0 where

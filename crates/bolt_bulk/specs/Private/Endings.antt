@@ -8,6 +8,7 @@ use Rattle.bolt_tree.specs.Listing.{Member}
 use Rattle.bolt_tree.specs.Paths.{Path}
 use Rattle.bolt_layout.specs.Laid.{Placed}
 use Rattle.bolt_layout.specs.Layout.{layout_held, layout_mark, layout_pages, layout_root, placed_bytes}
+use Rattle.bolt_bulk.specs.Private.FormatLimits.{longest_key}
 use Rattle.bolt_bulk.specs.Private.HeldCounts.{capped}
 use Rattle.bolt_bulk.specs.Private.Passes.{FitLimits, Wanted, limits_with}
 use Rattle.bolt_layout.specs.declared.layout.Layout.TheVariants.{Balanced, Plain}
@@ -43,4 +44,4 @@ IsFitItem (Value value) = IsValueLength (length value)
 IsFitItem (Bucket sequence) = Unit {0}
 
 abbrev pub IsFitMember : Member → Type 0
-IsFitMember member = (1 ≤ length member.0) × (length (last_part member.0) ≤ 1073741824) × IsFitItem member.1
+IsFitMember member = (1 ≤ length member.0) × (length (last_part member.0) ≤ longest_key) × IsFitItem member.1

@@ -2,14 +2,14 @@
 -- of a pass are the runs of each waiting bucket, and of the open one.
 use Rattle.std.specs.Prelude.{◌≡◌, ℕ, ◌+◌, List, [], ◌∷◌, length, max, min, sum_by}
 use Rattle.bolt_bulk.specs.declared.branch_run.BranchRun.{BranchRun}
-use Rattle.bolt_bulk.specs.declared.open_bucket.OpenBucket.{OpenBucket}
+use Rattle.bolt_bulk.specs.declared.bucket_runs.BucketRuns.{BucketRuns}
 use Rattle.bolt_bulk.specs.declared.pass.Pass.{Pass}
 use Rattle.bolt_bulk.specs.declared.waiting_bucket.WaitingBucket.{WaitingBucket}
 
 abbrev pub items_above : List BranchRun → ℕ
 items_above uppers = sum_by (λ run. length run.elements.items) uppers
 
-abbrev pub items_in : OpenBucket → ℕ
+abbrev pub items_in : BucketRuns → ℕ
 items_in bucket = length bucket.leaves.items.items + items_above bucket.uppers.runs.items
 
 abbrev pub items_around : List WaitingBucket → ℕ

@@ -9,6 +9,7 @@ use Rattle.bolt_format.specs.Written.{head_bytes}
 use Rattle.bolt_bulk.specs.declared.held.Held.{Held}
 use Rattle.bolt_bulk.specs.declared.held.Stored.{Stored}
 use Rattle.bolt_bulk.specs.declared.held.Stored.TheVariants as stored
+use Rattle.bolt_bulk.specs.Private.FormatLimits.{length_end, longest_key}
 
 -- the entries of the inline buckets of a run are in one list
 abbrev pub entries_in : List Leaf → (first count : ℕ) → List LeafElement
@@ -39,7 +40,7 @@ pub record IsInlined (inlined : List Leaf) (first count size : ℕ) : Type 0 whe
   pub there : first + count ≤ length inlined
   pub few : count < 65535
   pub sized : size ≡ 32 + (16 * count + length (leaf_data (entries_in inlined first count)))
-  pub small : size < 4294967296
+  pub small : size < length_end
 
 abbrev pub IsStored : List Leaf → Stored → Type 0
 IsStored inlined (stored.Value value) = Unit {0}
@@ -48,7 +49,7 @@ IsStored inlined (stored.Inline sequence first count size) = IsInlined inlined f
 
 -- an item of an open leaf has a key that the format allows
 abbrev pub IsHeld : List Leaf → Held → Type 0
-IsHeld inlined held = (length held.key.now ≤ 1073741824) × IsStored inlined held.stored
+IsHeld inlined held = (length held.key.now ≤ longest_key) × IsStored inlined held.stored
 
 abbrev pub AreHeld : List Leaf → List Held → Type 0
 AreHeld inlined items = AllByRecursion (IsHeld inlined) items

@@ -3,11 +3,12 @@ use Rattle.std.specs.Prelude.{◌≡◌, ◌<◌, ℕ, ◌+◌, length}
 use Rattle.std.specs.List.{AllByRecursion}
 use Rattle.bolt_format.specs.Elements.{BranchElement}
 use Rattle.bolt_layout.specs.Levels.{overflow_of}
+use Rattle.bolt_bulk.specs.Private.FormatLimits.{length_end}
 use Rattle.bolt_bulk.specs.Private.BranchRuns.{IsStanding, runs_above, runs_end_next}
 use Rattle.bolt_bulk.specs.Private.HeldItems.{AreHeld, held_views, inlined_in, page_size_of}
-use Rattle.bolt_bulk.specs.Private.RunViews.{LeafRunView, BucketRuns, leaf_key}
+use Rattle.bolt_bulk.specs.Private.RunViews.{LeafRunView, BucketRunsView, leaf_key}
 use Rattle.bolt_bulk.specs.declared.leaf_run.LeafRun.{LeafRun}
-use Rattle.bolt_bulk.specs.declared.open_bucket.OpenBucket.{OpenBucket}
+use Rattle.bolt_bulk.specs.declared.bucket_runs.BucketRuns.{BucketRuns}
 
 -- the view of a run of items
 abbrev pub leaves_of : LeafRun → LeafRunView
@@ -17,20 +18,20 @@ leaves_of run = record { elements = held_views run.inlined.items run.items.items
 pub record IsLeafRun (run : LeafRun) : Type 0 where
   pub held : AreHeld run.inlined.items run.items.items
   pub sized : run.size ≡ page_size_of run.inlined.items run.items.items
-  pub small : run.size < 4294967296
+  pub small : run.size < length_end
   pub few : length run.items.items < 65535
   pub inlined : length run.inlined.items ≡ inlined_in run.items.items
 
 -- an item of this size can be added
 pub record HasRoomFor (run : LeafRun) (size : ℕ) : Type 0 where
-  pub small : run.size + size < 4294967296
+  pub small : run.size + size < length_end
   pub few : length run.items.items < 65534
 
 -- what is open of a bucket, with the number of the next page
-abbrev pub bucket_runs : OpenBucket → ℕ → BucketRuns
+abbrev pub bucket_runs : BucketRuns → ℕ → BucketRunsView
 bucket_runs bucket next = record { leaves = leaves_of bucket.leaves; uppers = runs_above bucket.uppers.runs.items; limits = bucket.uppers.limits; next = next }
 
-pub record IsOpenBucket (bucket : OpenBucket) : Type 0 where
+pub record IsOpenBucket (bucket : BucketRuns) : Type 0 where
   pub leaves : IsLeafRun bucket.leaves
   pub uppers : AllByRecursion IsStanding (runs_above bucket.uppers.runs.items)
 
@@ -39,5 +40,5 @@ abbrev pub leaf_closed : LeafRunView → ℕ → BranchElement
 leaf_closed run next = record { key = leaf_key run.elements; child = next }
 
 -- the number after the bucket's root page
-abbrev pub bucket_end_next : ℕ → BucketRuns → ℕ
+abbrev pub bucket_end_next : ℕ → BucketRunsView → ℕ
 bucket_end_next page_size runs = runs_end_next page_size (leaf_closed runs.leaves runs.next) (runs.next + (1 + overflow_of page_size runs.leaves.size)) runs.uppers

@@ -9,7 +9,7 @@ use Rattle.bolt_tree.specs.Tree.{Tree}
 use Rattle.bolt_layout.specs.Cut.{max_items, run_size}
 use Rattle.bolt_layout.specs.Laid.{Laid, Placed, elements_of, numbers_of, pages_of, size_of}
 use Rattle.bolt_layout.specs.Limits.{is_out, one_less}
-use Rattle.bolt_layout.specs.Levels.{branch_view, leaf_view, page_over, run_overflow}
+use Rattle.bolt_layout.specs.Levels.{branch_page_view, leaf_page_view, page_over, run_overflow}
 use Rattle.bolt_bulk.specs.Private.RowLimits.{bucket_limit}
 use Rattle.bolt_bulk.specs.declared.limits.BucketLimits.{BucketLimits}
 
@@ -60,7 +60,7 @@ abbrev pub climb : ℕ → (new : Option ℕ) → List ℕ → Laid BranchElemen
 climb page_size new key q [] = record { run = q ∷ []; left = new; closed = 0 } ∷ []
 climb page_size new key q (upper ∷ uppers) =
     let stays = kept page_size (pushed_on upper q) (key_size key) ∷ uppers in
-    let closes = begun_after upper ∷ climb page_size new key (page_over branch_view page_size (upper.run ++ q ∷ [])) uppers in
+    let closes = begun_after upper ∷ climb page_size new key (page_over branch_page_view page_size (upper.run ++ q ∷ [])) uppers in
     if stays_open page_size (pushed_on upper q) (key_size key) then stays else closes
 
 -- the page over a run itself, apart from those below it
@@ -71,19 +71,19 @@ own_page view page_size run number = record { number = number + numbers_of run; 
 abbrev pub climb_puts : ℕ → List ℕ → Laid BranchElement → List Upper → ℕ → List Placed
 climb_puts page_size key q [] number = []
 climb_puts page_size key q (upper ∷ uppers) number =
-    let closed = own_page branch_view page_size (upper.run ++ q ∷ []) (number + numbers_in uppers) in
-    let more = closed ∷ climb_puts page_size key (page_over branch_view page_size (upper.run ++ q ∷ [])) uppers number in
+    let closed = own_page branch_page_view page_size (upper.run ++ q ∷ []) (number + numbers_in uppers) in
+    let more = closed ∷ climb_puts page_size key (page_over branch_page_view page_size (upper.run ++ q ∷ [])) uppers number in
     if stays_open page_size (pushed_on upper q) (key_size key) then [] else more
 
 -- at the end each run closes in turn, up to the root page
 abbrev pub close : ℕ → Laid BranchElement → List Upper → Laid BranchElement
 close page_size q [] = q
-close page_size q (upper ∷ uppers) = close page_size (page_over branch_view page_size (upper.run ++ q ∷ [])) uppers
+close page_size q (upper ∷ uppers) = close page_size (page_over branch_page_view page_size (upper.run ++ q ∷ [])) uppers
 
 abbrev pub close_puts : ℕ → Laid BranchElement → List Upper → ℕ → List Placed
 close_puts page_size q [] number = []
 close_puts page_size q (upper ∷ uppers) number =
-    own_page branch_view page_size (upper.run ++ q ∷ []) (number + numbers_in uppers) ∷ close_puts page_size (page_over branch_view page_size (upper.run ++ q ∷ [])) uppers number
+    own_page branch_page_view page_size (upper.run ++ q ∷ []) (number + numbers_in uppers) ∷ close_puts page_size (page_over branch_page_view page_size (upper.run ++ q ∷ [])) uppers number
 
 -- What a bucket is known by before its pages are written: the limits of its rows, with its number, and all its leaf pages.
 pub record Known : Type 0 where
@@ -109,12 +109,12 @@ next_number state number = number + numbers_in state.uppers + numbers_of state.r
 -- Room for the next item, by its key and size: it is there, or the run closes before any page of the item is written.
 abbrev pub making_room : ℕ → Open → List ℕ → ℕ → Open
 making_room page_size state key size =
-    let closed : Open = record { uppers = climb page_size (bucket_limit state.known.limits (length state.uppers)) key (page_over leaf_view page_size state.run) state.uppers; run = []; known = state.known } in
+    let closed : Open = record { uppers = climb page_size (bucket_limit state.known.limits (length state.uppers)) key (page_over leaf_page_view page_size state.run) state.uppers; run = []; known = state.known } in
     if has_room page_size 1 state.run size then state else closed
 
 abbrev pub room_puts : ℕ → Open → List ℕ → ℕ → ℕ → List Placed
 room_puts page_size state key size number =
-    let closed = own_page leaf_view page_size state.run (number + numbers_in state.uppers) ∷ climb_puts page_size key (page_over leaf_view page_size state.run) state.uppers number in
+    let closed = own_page leaf_page_view page_size state.run (number + numbers_in state.uppers) ∷ climb_puts page_size key (page_over leaf_page_view page_size state.run) state.uppers number in
     if has_room page_size 1 state.run size then [] else closed
 
 abbrev pub pushing : Open → Laid LeafElement → Open
@@ -125,11 +125,11 @@ taking page_size state item = pushing (making_room page_size state item.key item
 
 -- the end of the bucket
 abbrev pub end_of : ℕ → Open → Laid BranchElement
-end_of page_size state = close page_size (page_over leaf_view page_size state.run) state.uppers
+end_of page_size state = close page_size (page_over leaf_page_view page_size state.run) state.uppers
 
 abbrev pub end_puts : ℕ → Open → ℕ → List Placed
 end_puts page_size state number =
-    own_page leaf_view page_size state.run (number + numbers_in state.uppers) ∷ close_puts page_size (page_over leaf_view page_size state.run) state.uppers number
+    own_page leaf_page_view page_size state.run (number + numbers_in state.uppers) ∷ close_puts page_size (page_over leaf_page_view page_size state.run) state.uppers number
 
 -- A bucket that waits for one within it, of this key and sequence; what comes after that one; and its state, which has room for it.
 pub record Frame : Type 0 where

@@ -13,6 +13,7 @@ use Rattle.bolt_layout.specs.Limits.{HaveRightLimits, limit_at, limits_from_ends
 use Rattle.bolt_layout.specs.Openings.{AreRight, leaf_pages, limits_for, opened_by, opened_in, row_ends_of}
 use Rattle.bolt_layout.specs.declared.layout.Layout.TheVariants.{Plain}
 use Rattle.bolt_bulk.specs.declared.limits.Limits.{Limits}
+use Rattle.bolt_bulk.specs.Private.FormatLimits.{longest_key}
 use Rattle.bolt_bulk.specs.Private.Coming.{IsPass}
 use Rattle.bolt_bulk.specs.Private.RowLimits.{limit_in}
 use Rattle.bolt_bulk.specs.Private.HeldCounts.{AreCounted, capped, items_around}
@@ -148,11 +149,11 @@ pub record IsAt (wanted : Wanted) (pass : Pass) (levels : List Level) (left : Tr
 
 -- What is known of it without the tree. A bucket that may be inline has values alone, which take at most a quarter of a page.
 pub record IsSmall (page_size : ℕ) (pending : PendingBucket) (entries : List Leaf) : Type 0 where
-  pub key : length pending.key.now ≤ 1073741824
+  pub key : length pending.key.now ≤ longest_key
   pub sized : pending.size ≡ entries_size (map leaf_view entries)
   pub small : pending.size ≤ page_size / 4
   pub few : length entries ≤ 65534
-  pub keys : AllByRecursion (λ (entry : Leaf). length entry.key.now ≤ 1073741824) entries
+  pub keys : AllByRecursion (λ (entry : Leaf). length entry.key.now ≤ longest_key) entries
   pub values : AllByRecursion (λ (entry : Leaf). entry.is_bucket ≡ false) entries
 
 abbrev pub IsPendingSmall : (page_size : ℕ) → Option PendingBucket → List Leaf → Type 0

@@ -5,7 +5,7 @@ use Rattle.bolt_format.specs.Elements.{BranchElement, LeafElement}
 use Rattle.bolt_layout.specs.Cut.{max_items}
 use Rattle.bolt_layout.specs.Laid.{Placed}
 use Rattle.bolt_layout.specs.Limits.{is_out, one_less}
-use Rattle.bolt_layout.specs.Levels.{branch_view, leaf_view, overflow_of}
+use Rattle.bolt_layout.specs.Levels.{branch_page_view, leaf_page_view, overflow_of}
 use Rattle.bolt_bulk.specs.Private.OpenRuns.{key_size}
 use Rattle.bolt_bulk.specs.Private.RowLimits.{bucket_limit}
 use Rattle.bolt_bulk.specs.declared.limits.BucketLimits.{BucketLimits}
@@ -42,7 +42,7 @@ run_key (e ∷ elements) = e.key
 
 -- the page over a run, with the next number
 abbrev pub run_page : ℕ → RunView → ℕ → Placed
-run_page page_size run next = record { number = next; view = branch_view (overflow_of page_size run.size) run.elements }
+run_page page_size run next = record { number = next; view = branch_page_view (overflow_of page_size run.size) run.elements }
 
 -- The page of this element has closed, with `next` the number after it; a page with this first key comes next.
 abbrev pub runs_climb : ℕ → (new : Option ℕ) → List ℕ → BranchElement → ℕ → List RunView → List RunView
@@ -74,7 +74,7 @@ pub record LeafRunView : Type 0 where
 abbrev pub no_leaves : LeafRunView
 no_leaves = record { elements = []; size = 16 }
 
-pub record BucketRuns : Type 0 where
+pub record BucketRunsView : Type 0 where
   pub leaves : LeafRunView
   pub uppers : List RunView
   pub limits : BucketLimits
@@ -88,14 +88,14 @@ leaf_key [] = []
 leaf_key (e ∷ elements) = e.key
 
 abbrev pub leaf_page : ℕ → LeafRunView → ℕ → Placed
-leaf_page page_size run next = record { number = next; view = leaf_view (overflow_of page_size run.size) run.elements }
+leaf_page page_size run next = record { number = next; view = leaf_page_view (overflow_of page_size run.size) run.elements }
 
 -- room for an item of this key and size
-abbrev pub runs_room : ℕ → BucketRuns → List ℕ → ℕ → BucketRuns
+abbrev pub runs_room : ℕ → BucketRunsView → List ℕ → ℕ → BucketRunsView
 runs_room page_size runs key size =
     let closed : BranchElement = record { key = leaf_key runs.leaves.elements; child = runs.next } in
     let after = runs.next + (1 + overflow_of page_size runs.leaves.size) in
-    let made : BucketRuns = record {
+    let made : BucketRunsView = record {
       leaves = no_leaves;
       uppers = runs_climb page_size (bucket_limit runs.limits (length runs.uppers)) key closed after runs.uppers;
       limits = runs.limits;
@@ -103,7 +103,7 @@ runs_room page_size runs key size =
     } in
     if leaves_have_room page_size runs.leaves size then runs else made
 
-abbrev pub runs_room_put : ℕ → BucketRuns → List ℕ → ℕ → List Placed
+abbrev pub runs_room_put : ℕ → BucketRunsView → List ℕ → ℕ → List Placed
 runs_room_put page_size runs key size =
     let closed : BranchElement = record { key = leaf_key runs.leaves.elements; child = runs.next } in
     let after = runs.next + (1 + overflow_of page_size runs.leaves.size) in
@@ -111,7 +111,7 @@ runs_room_put page_size runs key size =
     if leaves_have_room page_size runs.leaves size then [] else put
 
 -- an item below which the pages up to `next` were written
-abbrev pub runs_push : BucketRuns → LeafElement → ℕ → ℕ → BucketRuns
+abbrev pub runs_push : BucketRunsView → LeafElement → ℕ → ℕ → BucketRunsView
 runs_push runs e size next = record { leaves = record { elements = runs.leaves.elements ++ e ∷ []; size = runs.leaves.size + size }; uppers = runs.uppers; limits = runs.limits; next = next }
 
 -- At the end each run closes in turn: the pages that this writes, and the number of the root page.
@@ -125,10 +125,10 @@ runs_root page_size e next [] = e.child
 runs_root page_size e next (run ∷ runs) =
     runs_root page_size (record { key = run_key (run_push run e).elements; child = next }) (next + (1 + overflow_of page_size (run_push run e).size)) runs
 
-abbrev pub runs_end_put : ℕ → BucketRuns → List Placed
+abbrev pub runs_end_put : ℕ → BucketRunsView → List Placed
 runs_end_put page_size runs = leaf_page page_size runs.leaves runs.next
     ∷ runs_close_put page_size (record { key = leaf_key runs.leaves.elements; child = runs.next }) (runs.next + (1 + overflow_of page_size runs.leaves.size)) runs.uppers
 
-abbrev pub runs_end : ℕ → BucketRuns → ℕ
+abbrev pub runs_end : ℕ → BucketRunsView → ℕ
 runs_end page_size runs =
     runs_root page_size (record { key = leaf_key runs.leaves.elements; child = runs.next }) (runs.next + (1 + overflow_of page_size runs.leaves.size)) runs.uppers

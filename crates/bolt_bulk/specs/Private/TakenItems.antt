@@ -3,7 +3,7 @@ use Rattle.std.specs.Prelude.{ℕ, ◌+◌, ◌*◌, true, false, List, length}
 use Rattle.bolt_format.specs.Elements.{LeafElement}
 use Rattle.bolt_layout.specs.PageBytes.{inline_value, leaf_data}
 use Rattle.bolt_format.specs.Written.{head_bytes}
-use Rattle.bolt_bulk.specs.Private.RunViews.{BucketRuns, runs_push, runs_room}
+use Rattle.bolt_bulk.specs.Private.RunViews.{BucketRunsView, runs_push, runs_room}
 
 abbrev pub value_element : (key value : List ℕ) → LeafElement
 value_element key value = record { key = key; value = value; is_bucket = false }
@@ -22,5 +22,5 @@ abbrev pub inline_size : List LeafElement → ℕ
 inline_size entries = 32 + (16 * length entries + length (leaf_data entries))
 
 -- room is made for an item of this size, and it is added
-abbrev pub runs_taking : (page_size : ℕ) → BucketRuns → LeafElement → (size : ℕ) → BucketRuns
+abbrev pub runs_taking : (page_size : ℕ) → BucketRunsView → LeafElement → (size : ℕ) → BucketRunsView
 runs_taking page_size runs e size = runs_push (runs_room page_size runs e.key size) e size (runs_room page_size runs e.key size).next

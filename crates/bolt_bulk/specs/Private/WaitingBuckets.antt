@@ -1,5 +1,6 @@
 -- The buckets that wait while one within them is open, as the code keeps them.
 use Rattle.std.specs.Prelude.{◌≡◌, ◌≤◌, ◌+◌, ℕ, true, length}
+use Rattle.bolt_bulk.specs.Private.FormatLimits.{longest_key}
 use Rattle.bolt_bulk.specs.Private.OpenBuckets.{IsOpenBucket, leaves_of}
 use Rattle.bolt_bulk.specs.Private.RunViews.{leaves_have_room}
 use Rattle.bolt_bulk.specs.declared.waiting_bucket.WaitingBucket.{WaitingBucket}
@@ -7,5 +8,5 @@ use Rattle.bolt_bulk.specs.declared.waiting_bucket.WaitingBucket.{WaitingBucket}
 -- it has room for the bucket that it waits for
 pub record IsWaiting (page_size : ℕ) (waiting : WaitingBucket) : Type 0 where
   pub bucket : IsOpenBucket waiting.bucket
-  pub key : length waiting.key.now ≤ 1073741824
+  pub key : length waiting.key.now ≤ longest_key
   pub room : leaves_have_room page_size (leaves_of waiting.bucket.leaves) (32 + length waiting.key.now) ≡ true

@@ -28,10 +28,10 @@ use Rattle.bolt_recover.specs.Recovered.{IsRecovered}
 use Rattle.bolt_recover.specs.Refusals.{LosesRoot}
 use Rattle.bolt_tree.specs.Private.RestAfter.{rest_after}
 use Rattle.bolt_recover.specs.ShownLosses.{loss_view}
-use Rattle.bolt_recover.specs.declared.open_page.Content.{Content}
-use Rattle.bolt_recover.specs.declared.open_page.Content.TheVariants.{Bucket, Page}
-use Rattle.bolt_recover.specs.declared.open_page.OpenPage.{OpenPage}
-use Rattle.bolt_recover.specs.declared.steps.Ahead.{Ahead}
+use Rattle.bolt_recover.specs.declared.content.Content.{Content}
+use Rattle.bolt_recover.specs.declared.content.Content.TheVariants.{Bucket, Page}
+use Rattle.bolt_recover.specs.declared.content.OpenPage.{OpenPage}
+use Rattle.bolt_recover.specs.declared.steps.NextVisit.{NextVisit}
 use Rattle.bolt_recover.specs.declared.steps.Steps.{Steps}
 use Rattle.bolt_recover.specs.declared.steps.Taken.{Taken}
 use Rattle.bolt_recover.specs.declared.steps.Taken.TheVariants.{End, Leaf, Nothing}
@@ -95,7 +95,7 @@ pub record State : Type 0 where
   pub file : List ℕ
   pub meta : Meta
   pub claimed : ℕ → Bool
-  pub ahead : Option Ahead
+  pub ahead : Option NextVisit
   pub pages : List OpenPage
   pub path : Path
   pub losses : List LossView
@@ -112,7 +112,7 @@ state_of steps = record {
 }
 
 -- what was ahead is lost, with this finding
-abbrev pub lost_state : State → Ahead → Finding → State
+abbrev pub lost_state : State → NextVisit → Finding → State
 lost_state s ahead x = record s { ahead = None; losses = s.losses ++ loss_of (spot_place s.file s.meta (take ahead.level s.path) ahead.spot) x ∷ [] }
 
 pub record IsGoodPage (file : List ℕ) (meta : Meta) (page : OpenPage) : Type 0 where
@@ -126,7 +126,7 @@ abbrev pub AreOpen : List ℕ → Meta → (low : ℕ) → List OpenPage → (hi
 AreOpen file meta low [] high = low ≤ high
 AreOpen file meta low (page ∷ pages) high = (low ≤ page.level) × IsGoodPage file meta page × AreOpen file meta page.level pages high
 
-abbrev pub ahead_level : Option Ahead → ℕ → ℕ
+abbrev pub ahead_level : Option NextVisit → ℕ → ℕ
 ahead_level None high = high
 ahead_level (Some ahead) high = ahead.level
 
@@ -142,7 +142,7 @@ abbrev pub open_tasks : List ℕ → Meta → Path → List OpenPage → List (T
 open_tasks file meta path [] rest = rest
 open_tasks file meta path (page ∷ pages) rest = open_tasks file meta path pages (page_tasks file meta path page ++ rest)
 
-abbrev pub ahead_tasks : List ℕ → Meta → Path → Option Ahead → List (Task NoWay) → List (Task NoWay)
+abbrev pub ahead_tasks : List ℕ → Meta → Path → Option NextVisit → List (Task NoWay) → List (Task NoWay)
 ahead_tasks file meta path None rest = rest
 ahead_tasks file meta path (Some ahead) rest = To_visit tt (spot_place file meta (take ahead.level path) ahead.spot) ∷ rest
 
@@ -156,7 +156,7 @@ pub record ComesTo (s : State) (members : List Member) (losses : List LossView) 
   pub all : losses ≡ s.losses ++ losses_in visits
 
 -- nothing is left to be done
-abbrev pub over_by : Option Ahead → List OpenPage → Bool
+abbrev pub over_by : Option NextVisit → List OpenPage → Bool
 over_by None [] = true
 over_by None (page ∷ pages) = false
 over_by (Some ahead) pages = false
@@ -239,7 +239,7 @@ abbrev pub spot_weight : CodeSpot → ℕ
 spot_weight (spots.Page s) = 1
 spot_weight (spots.Bucket s) = 65537
 
-abbrev pub ahead_weight : Option Ahead → ℕ
+abbrev pub ahead_weight : Option NextVisit → ℕ
 ahead_weight None = 0
 ahead_weight (Some ahead) = spot_weight ahead.spot
 

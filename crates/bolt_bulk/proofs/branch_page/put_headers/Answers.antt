@@ -5,26 +5,26 @@ use Rattle.bolt_bulk.proofs.ElementPuts.{heads_all, heads_more, heads_none, head
 use Rattle.bolt_bulk.proofs.WholePuts.{whole_same}
 use Rattle.bolt_bulk.proofs.branch_page.put_headers.Goals as goal
 
-pub loop-i-init : goal.loop-i-init
-loop-i-init g c = heads_none c.args.sink.now c.new-headers.result.buffer.items c.args.branches.now c.new-headers.result.pos c.new-headers.ensures.empty c.new-headers.ensures.pos
+pub loop-branch-init : goal.loop-branch-init
+loop-branch-init g c = heads_none c.args.sink.now c.new-headers.result.buffer.items c.args.branches.now c.new-headers.result.pos c.new-headers.ensures.empty c.new-headers.ensures.pos
 
 pub put_branch-requires-clause-low : goal.put_branch-requires-clause-low
-put_branch-requires-clause-low g c = (next_branch _ _ _ c.args.branches.now c.loop-i.i c.loop-i.headers.pos c.loop-i-test.true c.loop-i.invariant c.requires).low
+put_branch-requires-clause-low g c = (next_branch _ _ _ c.args.branches.now c.loop-branch.branch-index c.loop-branch.headers.pos c.loop-branch-test.true c.loop-branch.invariant c.requires).low
 
 pub put_branch-requires-clause-small : goal.put_branch-requires-clause-small
-put_branch-requires-clause-small g c = (next_branch _ _ _ c.args.branches.now c.loop-i.i c.loop-i.headers.pos c.loop-i-test.true c.loop-i.invariant c.requires).fits
+put_branch-requires-clause-small g c = (next_branch _ _ _ c.args.branches.now c.loop-branch.branch-index c.loop-branch.headers.pos c.loop-branch-test.true c.loop-branch.invariant c.requires).fits
 
-pub loop-i-preserved : goal.loop-i-preserved
-loop-i-preserved g c =
-    heads_more _ _ _ _ _ _ c.args.branches.now c.loop-i.i c.loop-i.headers.pos _ no_branch (get_or c.args.branches.now c.loop-i.i no_branch) _ c.loop-i-test.true refl
-    c.in_ok-put_branch.ensures.pos refl c.loop-i.invariant c.in_ok-put_branch.ensures.adds
+pub loop-branch-preserved : goal.loop-branch-preserved
+loop-branch-preserved g c =
+    heads_more _ _ _ _ _ _ c.args.branches.now c.loop-branch.branch-index c.loop-branch.headers.pos _ no_branch (get_or c.args.branches.now c.loop-branch.branch-index no_branch) _ c.loop-branch-test.true refl
+    c.in_ok-put_branch.ensures.pos refl c.loop-branch.invariant c.in_ok-put_branch.ensures.adds
 
 pub returns-in_err-put_branch : goal.returns-in_err-put_branch
 returns-in_err-put_branch g c =
     whole_same _ _ _ _ _ (branch_heads c.args.branches.now 0)
-    (heads_stop _ _ _ _ _ _ c.args.branches.now c.loop-i.i c.loop-i.headers.pos _ _ c.loop-i.invariant c.in_err-put_branch.ensures.adds c.from_residual.ensures.0)
+    (heads_stop _ _ _ _ _ _ c.args.branches.now c.loop-branch.branch-index c.loop-branch.headers.pos _ _ c.loop-branch.invariant c.in_err-put_branch.ensures.adds c.from_residual.ensures.0)
 
 pub returns : goal.returns
 returns g c =
     whole_same _ _ _ _ _ (branch_heads c.args.branches.now 0)
-    (heads_all _ _ _ _ c.args.branches.now c.loop-i.i c.loop-i.headers.pos _ (omega arith) c.loop-i.invariant c.put_rest.ensures)
+    (heads_all _ _ _ _ c.args.branches.now c.loop-branch.branch-index c.loop-branch.headers.pos _ (omega arith) c.loop-branch.invariant c.put_rest.ensures)

@@ -3,5 +3,5 @@ use Rattle.bolt_bulk.proofs.BranchPuts.{head_of, key_of}
 use Rattle.bolt_bulk.proofs.ElementPuts.{HeadsPut}
 use Rattle.bolt_bulk.proofs.branch_page.put_headers.Given as goal
 
-abbrev pub invariant-loop-i : goal.invariant-loop-i
-invariant-loop-i g l = HeadsPut head_of key_of g.S.Sink.taken g.S.Sink.failed l.initial.sink l.sink l.headers.buffer.items l.branches l.i l.headers.pos
+abbrev pub invariant-loop-branch : goal.invariant-loop-branch
+invariant-loop-branch g l = HeadsPut head_of key_of g.S.Sink.taken g.S.Sink.failed l.initial.sink l.sink l.headers.buffer.items l.branches l.branch-index l.headers.pos

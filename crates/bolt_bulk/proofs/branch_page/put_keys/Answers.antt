@@ -6,19 +6,19 @@ use Rattle.bolt_bulk.proofs.PutParts.{front_more, front_none, front_stop, front_
 use Rattle.bolt_bulk.proofs.WholePuts.{whole_same}
 use Rattle.bolt_bulk.proofs.branch_page.put_keys.Goals as goal
 
-pub loop-i-init : goal.loop-i-init
-loop-i-init g c = front_none c.args.sink.now (data_of key_of c.args.branches.now)
+pub loop-branch-init : goal.loop-branch-init
+loop-branch-init g c = front_none c.args.sink.now (data_of key_of c.args.branches.now)
 
-pub loop-i-preserved : goal.loop-i-preserved
-loop-i-preserved g c =
-    front_more _ _ _ _ _ _ _ _ (datum_left key_of c.args.branches.now c.loop-i.i no_branch (get_or c.args.branches.now c.loop-i.i no_branch) c.loop-i-test.true refl) c.loop-i.invariant c.in_ok-put.ensures
+pub loop-branch-preserved : goal.loop-branch-preserved
+loop-branch-preserved g c =
+    front_more _ _ _ _ _ _ _ _ (datum_left key_of c.args.branches.now c.loop-branch.branch-index no_branch (get_or c.args.branches.now c.loop-branch.branch-index no_branch) c.loop-branch-test.true refl) c.loop-branch.invariant c.in_ok-put.ensures
 
 pub returns-in_err-put : goal.returns-in_err-put
 returns-in_err-put g c =
     whole_same _ _ _ _ _ (branch_datum c.args.branches.now)
-    (front_stop _ _ _ _ _ _ _ _ _ (datum_left key_of c.args.branches.now c.loop-i.i no_branch (get_or c.args.branches.now c.loop-i.i no_branch) c.loop-i-test.true refl) c.loop-i.invariant
+    (front_stop _ _ _ _ _ _ _ _ _ (datum_left key_of c.args.branches.now c.loop-branch.branch-index no_branch (get_or c.args.branches.now c.loop-branch.branch-index no_branch) c.loop-branch-test.true refl) c.loop-branch.invariant
     c.in_err-put.ensures c.from_residual.ensures.0)
 
 pub returns : goal.returns
 returns g c =
-    whole_same _ _ _ _ _ (branch_datum c.args.branches.now) (front_whole _ _ _ _ (datum_none key_of c.args.branches.now c.loop-i.i (omega arith)) c.loop-i.invariant)
+    whole_same _ _ _ _ _ (branch_datum c.args.branches.now) (front_whole _ _ _ _ (datum_none key_of c.args.branches.now c.loop-branch.branch-index (omega arith)) c.loop-branch.invariant)

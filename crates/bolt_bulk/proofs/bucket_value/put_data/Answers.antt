@@ -8,21 +8,21 @@ use Rattle.bolt_bulk.proofs.PutParts.{front_more, front_none, front_stop, front_
 use Rattle.bolt_bulk.proofs.WholePuts.{whole_same}
 use Rattle.bolt_bulk.proofs.bucket_value.put_data.Goals as goal
 
-pub loop-i-init : goal.loop-i-init
-loop-i-init g c = front_none c.args.sink.now (data_of (datum_of leaf_view) c.args.entries.now)
+pub loop-entry-init : goal.loop-entry-init
+loop-entry-init g c = front_none c.args.sink.now (data_of (datum_of leaf_view) c.args.entries.now)
 
-pub loop-i-preserved : goal.loop-i-preserved
-loop-i-preserved g c =
-    let left = datum_left (datum_of leaf_view) c.args.entries.now c.loop-i.i no_entry (get_or c.args.entries.now c.loop-i.i no_entry) c.loop-i-test.true refl in
-    front_more _ _ _ _ _ _ _ _ left c.loop-i.invariant c.in_ok-put_entry.ensures
+pub loop-entry-preserved : goal.loop-entry-preserved
+loop-entry-preserved g c =
+    let left = datum_left (datum_of leaf_view) c.args.entries.now c.loop-entry.entry-index no_entry (get_or c.args.entries.now c.loop-entry.entry-index no_entry) c.loop-entry-test.true refl in
+    front_more _ _ _ _ _ _ _ _ left c.loop-entry.invariant c.in_ok-put_entry.ensures
 
 pub returns-in_err-put_entry : goal.returns-in_err-put_entry
 returns-in_err-put_entry g c =
-    let left = datum_left (datum_of leaf_view) c.args.entries.now c.loop-i.i no_entry (get_or c.args.entries.now c.loop-i.i no_entry) c.loop-i-test.true refl in
+    let left = datum_left (datum_of leaf_view) c.args.entries.now c.loop-entry.entry-index no_entry (get_or c.args.entries.now c.loop-entry.entry-index no_entry) c.loop-entry-test.true refl in
     whole_same _ _ _ _ _ (leaf_datum leaf_view c.args.entries.now)
-    (front_stop _ _ _ _ _ _ _ _ _ left c.loop-i.invariant c.in_err-put_entry.ensures c.from_residual.ensures.0)
+    (front_stop _ _ _ _ _ _ _ _ _ left c.loop-entry.invariant c.in_err-put_entry.ensures c.from_residual.ensures.0)
 
 pub returns : goal.returns
 returns g c =
     whole_same _ _ _ _ _ (leaf_datum leaf_view c.args.entries.now)
-    (front_whole _ _ _ _ (datum_none (datum_of leaf_view) c.args.entries.now c.loop-i.i (omega arith)) c.loop-i.invariant)
+    (front_whole _ _ _ _ (datum_none (datum_of leaf_view) c.args.entries.now c.loop-entry.entry-index (omega arith)) c.loop-entry.invariant)

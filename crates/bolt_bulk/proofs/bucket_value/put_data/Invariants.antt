@@ -6,6 +6,6 @@ use Rattle.bolt_bulk.proofs.LeafPuts.{datum_of}
 use Rattle.bolt_bulk.proofs.PutParts.{PutFront}
 use Rattle.bolt_bulk.proofs.bucket_value.put_data.Given as goal
 
-abbrev pub invariant-loop-i : goal.invariant-loop-i
-invariant-loop-i g l =
-    PutFront g.S.Sink.taken g.S.Sink.failed l.initial.sink l.sink (data_of (datum_of leaf_view) l.entries) (data_of (datum_of leaf_view) (drop l.i l.entries))
+abbrev pub invariant-loop-entry : goal.invariant-loop-entry
+invariant-loop-entry g l =
+    PutFront g.S.Sink.taken g.S.Sink.failed l.initial.sink l.sink (data_of (datum_of leaf_view) l.entries) (data_of (datum_of leaf_view) (drop l.entry-index l.entries))

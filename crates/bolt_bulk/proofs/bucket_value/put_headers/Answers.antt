@@ -9,28 +9,28 @@ use Rattle.bolt_bulk.proofs.LeafPuts.{leaf_heads, next_leaf}
 use Rattle.bolt_bulk.proofs.WholePuts.{whole_same}
 use Rattle.bolt_bulk.proofs.bucket_value.put_headers.Goals as goal
 
-pub loop-i-init : goal.loop-i-init
-loop-i-init g c = heads_none c.args.sink.now c.new-headers.result.buffer.items c.args.entries.now c.new-headers.result.pos c.new-headers.ensures.empty c.new-headers.ensures.pos
+pub loop-entry-init : goal.loop-entry-init
+loop-entry-init g c = heads_none c.args.sink.now c.new-headers.result.buffer.items c.args.entries.now c.new-headers.result.pos c.new-headers.ensures.empty c.new-headers.ensures.pos
 
 pub put_leaf-requires-clause-low : goal.put_leaf-requires-clause-low
-put_leaf-requires-clause-low g c = (next_leaf leaf_view _ _ _ c.args.entries.now c.loop-i.i c.loop-i.headers.pos no_entry c.loop-i-test.true c.loop-i.invariant c.requires).low
+put_leaf-requires-clause-low g c = (next_leaf leaf_view _ _ _ c.args.entries.now c.loop-entry.entry-index c.loop-entry.headers.pos no_entry c.loop-entry-test.true c.loop-entry.invariant c.requires).low
 
 pub put_leaf-requires-clause-small : goal.put_leaf-requires-clause-small
-put_leaf-requires-clause-small g c = (next_leaf leaf_view _ _ _ c.args.entries.now c.loop-i.i c.loop-i.headers.pos no_entry c.loop-i-test.true c.loop-i.invariant c.requires).fits
+put_leaf-requires-clause-small g c = (next_leaf leaf_view _ _ _ c.args.entries.now c.loop-entry.entry-index c.loop-entry.headers.pos no_entry c.loop-entry-test.true c.loop-entry.invariant c.requires).fits
 
-pub loop-i-preserved : goal.loop-i-preserved
-loop-i-preserved g c =
-    let x : Leaf = get_or c.args.entries.now c.loop-i.i no_entry in
+pub loop-entry-preserved : goal.loop-entry-preserved
+loop-entry-preserved g c =
+    let x : Leaf = get_or c.args.entries.now c.loop-entry.entry-index no_entry in
     let d = length-append x.key.now x.value.now in
     let step = c.in_ok-put_leaf.ensures.pos in
-    heads_more _ _ _ _ _ _ c.args.entries.now c.loop-i.i c.loop-i.headers.pos _ no_entry x _ c.loop-i-test.true refl (omega arith) refl c.loop-i.invariant c.in_ok-put_leaf.ensures.adds
+    heads_more _ _ _ _ _ _ c.args.entries.now c.loop-entry.entry-index c.loop-entry.headers.pos _ no_entry x _ c.loop-entry-test.true refl (omega arith) refl c.loop-entry.invariant c.in_ok-put_leaf.ensures.adds
 
 pub returns-in_err-put_leaf : goal.returns-in_err-put_leaf
 returns-in_err-put_leaf g c =
     whole_same _ _ _ _ _ (leaf_heads leaf_view c.args.entries.now 0)
-    (heads_stop _ _ _ _ _ _ c.args.entries.now c.loop-i.i c.loop-i.headers.pos _ _ c.loop-i.invariant c.in_err-put_leaf.ensures.adds c.from_residual.ensures.0)
+    (heads_stop _ _ _ _ _ _ c.args.entries.now c.loop-entry.entry-index c.loop-entry.headers.pos _ _ c.loop-entry.invariant c.in_err-put_leaf.ensures.adds c.from_residual.ensures.0)
 
 pub returns : goal.returns
 returns g c =
     whole_same _ _ _ _ _ (leaf_heads leaf_view c.args.entries.now 0)
-    (heads_all _ _ _ _ c.args.entries.now c.loop-i.i c.loop-i.headers.pos _ (omega arith) c.loop-i.invariant c.put_rest.ensures)
+    (heads_all _ _ _ _ c.args.entries.now c.loop-entry.entry-index c.loop-entry.headers.pos _ (omega arith) c.loop-entry.invariant c.put_rest.ensures)

@@ -8,21 +8,21 @@ use Rattle.bolt_bulk.proofs.PutParts.{front_more, front_none, front_stop, front_
 use Rattle.bolt_bulk.proofs.WholePuts.{whole_same}
 use Rattle.bolt_bulk.proofs.leaf_page.put_data.Goals as goal
 
-pub loop-i-init : goal.loop-i-init
-loop-i-init g c = front_none c.args.sink.now (data_of (datum_of (held_view c.args.inlined.now)) c.args.items.now)
+pub loop-held-init : goal.loop-held-init
+loop-held-init g c = front_none c.args.sink.now (data_of (datum_of (held_view c.args.inlined.now)) c.args.items.now)
 
-pub loop-i-preserved : goal.loop-i-preserved
-loop-i-preserved g c =
-    let left = datum_left (datum_of (held_view c.args.inlined.now)) c.args.items.now c.loop-i.i no_held (get_or c.args.items.now c.loop-i.i no_held) c.loop-i-test.true refl in
-    front_more _ _ _ _ _ _ _ _ left c.loop-i.invariant c.in_ok-put_item.ensures
+pub loop-held-preserved : goal.loop-held-preserved
+loop-held-preserved g c =
+    let left = datum_left (datum_of (held_view c.args.inlined.now)) c.args.items.now c.loop-held.held-index no_held (get_or c.args.items.now c.loop-held.held-index no_held) c.loop-held-test.true refl in
+    front_more _ _ _ _ _ _ _ _ left c.loop-held.invariant c.in_ok-put_item.ensures
 
 pub returns-in_err-put_item : goal.returns-in_err-put_item
 returns-in_err-put_item g c =
-    let left = datum_left (datum_of (held_view c.args.inlined.now)) c.args.items.now c.loop-i.i no_held (get_or c.args.items.now c.loop-i.i no_held) c.loop-i-test.true refl in
+    let left = datum_left (datum_of (held_view c.args.inlined.now)) c.args.items.now c.loop-held.held-index no_held (get_or c.args.items.now c.loop-held.held-index no_held) c.loop-held-test.true refl in
     whole_same _ _ _ _ _ (leaf_datum (held_view c.args.inlined.now) c.args.items.now)
-    (front_stop _ _ _ _ _ _ _ _ _ left c.loop-i.invariant c.in_err-put_item.ensures c.from_residual.ensures.0)
+    (front_stop _ _ _ _ _ _ _ _ _ left c.loop-held.invariant c.in_err-put_item.ensures c.from_residual.ensures.0)
 
 pub returns : goal.returns
 returns g c =
     whole_same _ _ _ _ _ (leaf_datum (held_view c.args.inlined.now) c.args.items.now)
-    (front_whole _ _ _ _ (datum_none (datum_of (held_view c.args.inlined.now)) c.args.items.now c.loop-i.i (omega arith)) c.loop-i.invariant)
+    (front_whole _ _ _ _ (datum_none (datum_of (held_view c.args.inlined.now)) c.args.items.now c.loop-held.held-index (omega arith)) c.loop-held.invariant)

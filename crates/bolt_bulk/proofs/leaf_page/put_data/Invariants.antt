@@ -6,6 +6,6 @@ use Rattle.bolt_bulk.proofs.LeafPuts.{datum_of}
 use Rattle.bolt_bulk.proofs.PutParts.{PutFront}
 use Rattle.bolt_bulk.proofs.leaf_page.put_data.Given as goal
 
-abbrev pub invariant-loop-i : goal.invariant-loop-i
-invariant-loop-i g l =
-    PutFront g.S.Sink.taken g.S.Sink.failed l.initial.sink l.sink (data_of (datum_of (held_view l.inlined)) l.items) (data_of (datum_of (held_view l.inlined)) (drop l.i l.items))
+abbrev pub invariant-loop-held : goal.invariant-loop-held
+invariant-loop-held g l =
+    PutFront g.S.Sink.taken g.S.Sink.failed l.initial.sink l.sink (data_of (datum_of (held_view l.inlined)) l.items) (data_of (datum_of (held_view l.inlined)) (drop l.held-index l.items))

@@ -10,35 +10,35 @@ use Rattle.bolt_bulk.proofs.LeafPuts.{leaf_heads, next_leaf}
 use Rattle.bolt_bulk.proofs.WholePuts.{whole_same}
 use Rattle.bolt_bulk.proofs.leaf_page.put_headers.Goals as goal
 
-pub loop-i-init : goal.loop-i-init
-loop-i-init g c = heads_none c.args.sink.now c.new-headers.result.buffer.items c.args.items.now c.new-headers.result.pos c.new-headers.ensures.empty c.new-headers.ensures.pos
+pub loop-held-init : goal.loop-held-init
+loop-held-init g c = heads_none c.args.sink.now c.new-headers.result.buffer.items c.args.items.now c.new-headers.result.pos c.new-headers.ensures.empty c.new-headers.ensures.pos
 
 pub put_leaf-requires-clause-low : goal.put_leaf-requires-clause-low
-put_leaf-requires-clause-low g c = (next_leaf (held_view c.args.inlined.now) _ _ _ c.args.items.now c.loop-i.i c.loop-i.headers.pos no_held c.loop-i-test.true c.loop-i.invariant c.requires.size).low
+put_leaf-requires-clause-low g c = (next_leaf (held_view c.args.inlined.now) _ _ _ c.args.items.now c.loop-held.held-index c.loop-held.headers.pos no_held c.loop-held-test.true c.loop-held.invariant c.requires.size).low
 
 pub put_leaf-requires-clause-small : goal.put_leaf-requires-clause-small
 put_leaf-requires-clause-small g c =
-    let next = next_leaf (held_view c.args.inlined.now) _ _ _ c.args.items.now c.loop-i.i c.loop-i.headers.pos no_held c.loop-i-test.true c.loop-i.invariant c.requires.size in
-    let is = held_at c.args.inlined.now c.args.items.now c.loop-i.i c.loop-i-test.true c.requires.held in
+    let next = next_leaf (held_view c.args.inlined.now) _ _ _ c.args.items.now c.loop-held.held-index c.loop-held.headers.pos no_held c.loop-held-test.true c.loop-held.invariant c.requires.size in
+    let is = held_at c.args.inlined.now c.args.items.now c.loop-held.held-index c.loop-held-test.true c.requires.held in
     let value = c.len-value.ensures c.args.inlined.now is.1 in
     let fits = next.fits in omega arith
 
-pub loop-i-preserved : goal.loop-i-preserved
-loop-i-preserved g c =
-    let x : Held = get_or c.args.items.now c.loop-i.i no_held in
-    let is = held_at c.args.inlined.now c.args.items.now c.loop-i.i c.loop-i-test.true c.requires.held in
+pub loop-held-preserved : goal.loop-held-preserved
+loop-held-preserved g c =
+    let x : Held = get_or c.args.items.now c.loop-held.held-index no_held in
+    let is = held_at c.args.inlined.now c.args.items.now c.loop-held.held-index c.loop-held-test.true c.requires.held in
     let value = c.len-value.ensures c.args.inlined.now is.1 in
     let d = length-append x.key.now (stored_value c.args.inlined.now x.stored) in
     let step = c.in_ok-put_leaf.ensures.pos in
-    let text = ap (λ (b : Bool). leaf_header b c.loop-i.headers.pos (length x.key.now) c.len-value.result) c.is_bucket.ensures ∙ ap (leaf_header _ c.loop-i.headers.pos (length x.key.now)) value in
-    heads_more _ _ _ _ _ _ c.args.items.now c.loop-i.i c.loop-i.headers.pos _ no_held x _ c.loop-i-test.true refl (omega arith) text c.loop-i.invariant c.in_ok-put_leaf.ensures.adds
+    let text = ap (λ (b : Bool). leaf_header b c.loop-held.headers.pos (length x.key.now) c.len-value.result) c.is_bucket.ensures ∙ ap (leaf_header _ c.loop-held.headers.pos (length x.key.now)) value in
+    heads_more _ _ _ _ _ _ c.args.items.now c.loop-held.held-index c.loop-held.headers.pos _ no_held x _ c.loop-held-test.true refl (omega arith) text c.loop-held.invariant c.in_ok-put_leaf.ensures.adds
 
 pub returns-in_err-put_leaf : goal.returns-in_err-put_leaf
 returns-in_err-put_leaf g c =
     whole_same _ _ _ _ _ (leaf_heads (held_view c.args.inlined.now) c.args.items.now 0)
-    (heads_stop _ _ _ _ _ _ c.args.items.now c.loop-i.i c.loop-i.headers.pos _ _ c.loop-i.invariant c.in_err-put_leaf.ensures.adds c.from_residual.ensures.0)
+    (heads_stop _ _ _ _ _ _ c.args.items.now c.loop-held.held-index c.loop-held.headers.pos _ _ c.loop-held.invariant c.in_err-put_leaf.ensures.adds c.from_residual.ensures.0)
 
 pub returns : goal.returns
 returns g c =
     whole_same _ _ _ _ _ (leaf_heads (held_view c.args.inlined.now) c.args.items.now 0)
-    (heads_all _ _ _ _ c.args.items.now c.loop-i.i c.loop-i.headers.pos _ (omega arith) c.loop-i.invariant c.put_rest.ensures)
+    (heads_all _ _ _ _ c.args.items.now c.loop-held.held-index c.loop-held.headers.pos _ (omega arith) c.loop-held.invariant c.put_rest.ensures)

@@ -1,8 +1,9 @@
 -- The plan, the first pages, and the pages of all buckets, which are the layout.
-use Rattle.std.proofs.Common.{Err, rules, subst, ◌≡◌, ◌∙◌, ◌*◌, ℕ, refl, sym, ap, arith}
+use Rattle.std.proofs.Common.{Err, List, rules, subst, ◌≡◌, ◌∙◌, ◌*◌, ℕ, refl, sym, ap, arith}
 use Rattle.std.proofs.Math.Logic.{∥∥₁_elim}
 use Rattle.std.proofs.Props.{props}
 use Rattle.std.proofs.lemmas.Result.{err_from_is_err_and}
+use Rattle.bolt_tree.specs.Listing.{Member}
 use Rattle.bolt_tree.specs.Tree.{tree_of}
 use Rattle.bolt_layout.specs.Layout.{layout_held, layout_mark}
 use Rattle.bolt_bulk.proofs.CopyLemmas.{copied, layout_parts, layout_written, stops_first, stops_later, stops_unplanned}
@@ -11,6 +12,12 @@ use Rattle.bolt_bulk.specs.Private.Stops.{stopped_by}
 use Rattle.bolt_bulk.proofs.FileLayouts.{some_bytes, too_large, within_limit}
 use Rattle.bolt_format.proofs.PageSizes.{size_bounds}
 use Rattle.bolt_bulk.proofs.members_copy.put_members.Goals as goal
+use Rattle.bolt_bulk.proofs.members_copy.put_members.Goals.{After-setup_of-setup}
+
+-- the limits are those of the layout, also at the setup's page size
+fit : (g : _) (c : After-setup_of-setup g) (listing : List Member) → g.M.Members.lists c.args.members.now listing
+    → FitLimits c.args.shape.now.layout (tree_of listing) c.setup_of-setup.result.page_size (limits_with c.in_ok-limits.limits)
+fit g c listing lists = subst (λ (n : ℕ). FitLimits c.args.shape.now.layout (tree_of listing) n (limits_with c.in_ok-limits.limits)) (sym c.setup_of-setup.ensures.page_size) (c.in_ok-limits.ensures.fit listing lists)
 
 pub returns-in_err-limits-clause-copied : goal.returns-in_err-limits-clause-copied
 returns-in_err-limits-clause-copied g c = λ listing lists.
@@ -36,13 +43,13 @@ pub overflow_mul-result : goal.overflow_mul-result
 overflow_mul-result g c = ∥∥₁_elim c.requires.some (Prim.hlevel props) (λ is.
     let listing = is.0 in
     let lists = is.1 in
-    let ends = c.in_ok-ended.ensures.pages c.args.shape.now.layout listing lists (subst (λ (n : ℕ). FitLimits c.args.shape.now.layout (tree_of listing) n (limits_with c.in_ok-limits.limits)) (sym c.setup_of-setup.ensures.page_size) (c.in_ok-limits.ensures.fit listing lists)) in
+    let ends = c.in_ok-ended.ensures.pages c.args.shape.now.layout listing lists (fit g (goal.at.overflow_mul-result g c).After-setup_of-setup listing lists) in
     let few = within_limit c.args.shape.now.page_size c.setup_of-setup.result.limit c.in_ok-ended.ended.high_water (c.in_ok-ended.ended.high_water * c.args.shape.now.page_size) c.setup_of-setup.ensures.limit ends.within refl in omega arith)
 
 pub returns-in_err-ended-clause-copied : goal.returns-in_err-ended-clause-copied
 returns-in_err-ended-clause-copied g c = λ listing lists.
     let planned = c.in_ok-plan.ensures listing lists in
-    let ends = c.in_err-ended.ensures.pages c.args.shape.now.layout listing lists (subst (λ (n : ℕ). FitLimits c.args.shape.now.layout (tree_of listing) n (limits_with c.in_ok-limits.limits)) (sym c.setup_of-setup.ensures.page_size) (c.in_ok-limits.ensures.fit listing lists)) in
+    let ends = c.in_err-ended.ensures.pages c.args.shape.now.layout listing lists (fit g (goal.at.returns-in_err-ended-clause-copied g c).After-setup_of-setup listing lists) in
     let whole = layout_written c.args.shape.now.layout c.args.shape.now.page_size (tree_of listing) c.args.shape.now.sequence c.in_ok-plan.plan.root c.in_ok-plan.plan.high_water c.setup_of-setup.result.page_size ends.others
     planned.root planned.high_water c.setup_of-setup.ensures.page_size ends.all in
     let low = (size_bounds c.args.shape.now.page_size c.args.shape.now.accepted).0 in
@@ -55,7 +62,7 @@ returns-in_err-ended-clause-copied g c = λ listing lists.
 pub returns-clause-copied : goal.returns-clause-copied
 returns-clause-copied g c = λ listing lists.
     let planned = c.in_ok-plan.ensures listing lists in
-    let ends = c.in_ok-ended.ensures.pages c.args.shape.now.layout listing lists (subst (λ (n : ℕ). FitLimits c.args.shape.now.layout (tree_of listing) n (limits_with c.in_ok-limits.limits)) (sym c.setup_of-setup.ensures.page_size) (c.in_ok-limits.ensures.fit listing lists)) in
+    let ends = c.in_ok-ended.ensures.pages c.args.shape.now.layout listing lists (fit g (goal.at.returns-clause-copied g c).After-setup_of-setup listing lists) in
     let whole = layout_written c.args.shape.now.layout c.args.shape.now.page_size (tree_of listing) c.args.shape.now.sequence c.in_ok-plan.plan.root c.in_ok-plan.plan.high_water c.setup_of-setup.result.page_size ends.others
     planned.root planned.high_water c.setup_of-setup.ensures.page_size ends.all in
     let mark : c.in_ok-ended.ended.high_water ≡ layout_mark c.args.shape.now.layout c.args.shape.now.page_size (tree_of listing) = ends.mark ∙ ap (λ (n : ℕ). layout_mark c.args.shape.now.layout n (tree_of listing)) c.setup_of-setup.ensures.page_size in
@@ -64,7 +71,7 @@ returns-clause-copied g c = λ listing lists.
 
 pub returns-clause-held : goal.returns-clause-held
 returns-clause-held g c = λ listing lists.
-    let ends = c.in_ok-ended.ensures.pages c.args.shape.now.layout listing lists (subst (λ (n : ℕ). FitLimits c.args.shape.now.layout (tree_of listing) n (limits_with c.in_ok-limits.limits)) (sym c.setup_of-setup.ensures.page_size) (c.in_ok-limits.ensures.fit listing lists)) in
+    let ends = c.in_ok-ended.ensures.pages c.args.shape.now.layout listing lists (fit g (goal.at.returns-clause-held g c).After-setup_of-setup listing lists) in
     let planned = c.in_ok-plan.ensures listing lists in
     let small = c.a_listing_has_one_layout.ensures.held c.args.shape.now.layout listing (c.requires.one listing lists) planned.fits in
     let fits = planned.fits in

@@ -1,17 +1,21 @@
 -- The bucket is opened with its entries so far, and the one around it waits with room for it.
-use Rattle.std.proofs.Common.{rules, ◌≡◌, ◌++◌, ◌∷◌, [], List, Err, subst, sym}
+use Rattle.std.proofs.Common.{rules, ◌≡◌, ◌++◌, ◌∷◌, [], List, Ok, Err, subst, sym}
 use Rattle.std.specs.List.{AllByRecursion}
 use Rattle.std.specs.Prelude.{⊤}
 use Rattle.std.proofs.lemmas.Result.{err_from_is_err_and}
 use Rattle.bolt_bulk.specs.Private.OpenBuckets.{IsOpenBucket}
+use Rattle.bolt_bulk.specs.Private.Passes.{IsAt}
 use Rattle.bolt_bulk.specs.declared.fault.BulkFault.TheVariants as fault
 use Rattle.bolt_bulk.specs.Private.WaitingBuckets.{IsWaiting}
-use Rattle.bolt_bulk.specs.declared.open_bucket.OpenBucket.{OpenBucket}
+use Rattle.bolt_bulk.specs.declared.bucket_runs.BucketRuns.{BucketRuns}
 use Rattle.bolt_bulk.specs.declared.waiting_bucket.WaitingBucket.{WaitingBucket}
 use Rattle.bolt_bulk.proofs.HeldPasses.{more_around, waits_more}
 use Rattle.bolt_layout.proofs.ListLemmas.{all_append}
 use Rattle.bolt_bulk.proofs.PassAt.{open_steps, open_stops, puts_failed, puts_well, steps_none}
 use Rattle.bolt_bulk.proofs.pass.Pass.open_pending.Goals as goal
+
+pub returns-in_default-clause-steps : goal.returns-in_default-clause-steps
+returns-in_default-clause-steps g c = λ wanted left levels put is rooted. steps_none wanted c.args.self.now levels left put c.args.sink.now (IsAt wanted c.args.self.now levels left) (Ok tt) is tt is
 
 pub returns-in_err-inner-clause-steps : goal.returns-in_err-inner-clause-steps
 returns-in_err-inner-clause-steps g c = λ wanted left levels put is rooted.
@@ -19,30 +23,30 @@ returns-in_err-inner-clause-steps g c = λ wanted left levels put is rooted.
 
 pub returns-in_err-waiting-clause-steps : goal.returns-in_err-waiting-clause-steps
 returns-in_err-waiting-clause-steps g c = λ wanted left levels put is rooted.
-    open_stops g.S.Sink.taken g.S.Sink.failed wanted c.args.self.now put levels left c.args.pending c.args.sink.now c.enter.new.sink _ _ c.from_residual-in_err-waiting.result c.from_residual-in_err-waiting.ensures.1 is c.requires.pending c.requires.ready.pending rooted
+    open_stops g.S.Sink.taken g.S.Sink.failed wanted c.args.self.now put levels left c.in-Some.pending c.args.sink.now c.enter.new.sink _ _ c.from_residual-in_err-waiting.result c.from_residual-in_err-waiting.ensures.1 is c.in-Some.is c.requires.pending rooted
     (rw c.replace-outer.ensures.value at c.in_err-waiting.ensures.pages) (rw c.replace-outer.ensures.value at c.in_err-waiting.ensures.large)
 
 pub returns-in_err-push-clause-steps : goal.returns-in_err-push-clause-steps
 returns-in_err-push-clause-steps g c = λ wanted left levels put is rooted.
-    open_stops g.S.Sink.taken g.S.Sink.failed wanted c.args.self.now put levels left c.args.pending c.args.sink.now c.enter.new.sink _ fault.Memory c.from_residual-in_err-push.result c.from_residual-in_err-push.ensures.1 is c.requires.pending c.requires.ready.pending rooted
+    open_stops g.S.Sink.taken g.S.Sink.failed wanted c.args.self.now put levels left c.in-Some.pending c.args.sink.now c.enter.new.sink _ fault.Memory c.from_residual-in_err-push.result c.from_residual-in_err-push.ensures.1 is c.in-Some.is c.requires.pending rooted
     (puts_failed {B = ⊤} _ _ _ c.in_ok-waiting.waiting (rw c.replace-outer.ensures.value at c.in_ok-waiting.ensures.pages)) (λ e. absurd cc)
 
 pub returns-clause-steps : goal.returns-clause-steps
 returns-clause-steps g c = λ wanted left levels put is rooted.
     let items : c.push.new.self.items ≡ c.args.self.now.waiting.items ++ c.in_ok-waiting.waiting ∷ [] = search rules in
     let values = rw (c.as_slice.ensures.value, sym c.replace-outer.ensures.after) at (c.in_ok-inner.ensures.runs c.enter.new.next) in
-    open_steps g.S.Sink.taken g.S.Sink.failed wanted c.args.self.now put levels left c.args.pending c.args.sink.now c.enter.new.sink c.replace-outer.new.dest c.in_ok-waiting.waiting c.push.new.self c.clear.new.self
-    c.enter.new.next _ _ c.count.new.self is c.requires.pending c.requires.ready.pending rooted (puts_well _ _ _ c.in_ok-waiting.waiting (rw c.replace-outer.ensures.value at c.in_ok-waiting.ensures.pages))
+    open_steps g.S.Sink.taken g.S.Sink.failed wanted c.args.self.now put levels left c.in-Some.pending c.args.sink.now c.enter.new.sink c.replace-outer.new.dest c.in_ok-waiting.waiting c.push.new.self c.clear.new.self
+    c.enter.new.next _ _ c.count.new.self is c.in-Some.is c.requires.pending rooted (puts_well _ _ _ c.in_ok-waiting.waiting (rw c.replace-outer.ensures.value at c.in_ok-waiting.ensures.pages))
     items (rw c.replace-outer.ensures.value at c.in_ok-waiting.ensures.runs) c.in_ok-waiting.ensures.key c.in_ok-waiting.ensures.sequence values c.saturating_add-self.ensures c.count.ensures.counts
 
 pub count-requires : goal.count-requires
 count-requires g c =
     let waiting : List WaitingBucket = c.args.self.now.waiting.items in
     let w : WaitingBucket = c.in_ok-waiting.waiting in
-    let ready = c.requires.ready in
+    let ready = c.requires in
     let items : c.push.new.self.items ≡ waiting ++ w ∷ [] = search rules in
     record {
-      bucket = subst (λ (bucket : OpenBucket). IsOpenBucket bucket) (sym c.replace-outer.ensures.after) c.in_ok-inner.ensures.open;
+      bucket = subst (λ (bucket : BucketRuns). IsOpenBucket bucket) (sym c.replace-outer.ensures.after) c.in_ok-inner.ensures.open;
       next = c.in_ok-waiting.ensures.within;
       waiting = subst (λ (ws : List WaitingBucket). AllByRecursion (IsWaiting c.args.self.now.setup.page_size) ws) (sym items)
           (all_append (IsWaiting c.args.self.now.setup.page_size) waiting (w ∷ []) ready.waiting (c.in_ok-waiting.ensures.waits, tt));

@@ -11,11 +11,6 @@ use Rattle.bolt_bulk.proofs.Ontos.{bucket_has_root}
 use Rattle.bolt_bulk.proofs.PassAt.{steps_none, steps_stop, steps_then}
 use Rattle.bolt_bulk.proofs.pass.Pass.take_bucket.Goals as goal
 
-pub returns-in_default-clause-steps : goal.returns-in_default-clause-steps
-returns-in_default-clause-steps g c = λ wanted inside after levels put is.
-    let own : Level = record { key = c.args.key.now; after = after } in
-    steps_none wanted c.args.self.now levels (with_bucket c.args.key.now c.args.sequence inside after) put c.args.sink.now (IsAt wanted c.begin.new.self (own ∷ levels) inside) _ is tt (c.begin.ensures.at wanted inside after levels put is)
-
 pub returns-in_err-open_pending-clause-steps : goal.returns-in_err-open_pending-clause-steps
 returns-in_err-open_pending-clause-steps g c = λ wanted inside after levels put is.
     let left : Tree = with_bucket c.args.key.now c.args.sequence inside after in
@@ -29,7 +24,7 @@ returns-clause-steps g c = λ wanted inside after levels put is.
     let own : Level = record { key = c.args.key.now; after = after } in
     let rooted = bucket_has_root wanted.which c.args.self.now.setup.page_size (map leaf_view c.args.self.now.entries.items) c.args.key.now c.args.sequence inside after in
     let done : Result ⊤ BulkFault = Ok tt in
-    let At : List Placed → Type 0 = IsAt wanted c.begin-2.new.self (own ∷ levels) inside in
+    let At : List Placed → Type 0 = IsAt wanted c.begin.new.self (own ∷ levels) inside in
     steps_then wanted g.S.Sink.taken g.S.Sink.failed c.args.self.now.setup c.args.sink.now c.open_pending.new.sink c.open_pending.new.sink put (IsAt wanted c.open_pending.new.self levels left) At tt done c.in_ok-open_pending.ensures.setup
     (c.in_ok-open_pending.ensures.steps wanted left levels put is rooted)
-    (λ all mid. steps_none wanted c.open_pending.new.self levels left all c.open_pending.new.sink At done mid tt (c.begin-2.ensures.at wanted inside after levels all mid))
+    (λ all mid. steps_none wanted c.open_pending.new.self levels left all c.open_pending.new.sink At done mid tt (c.begin.ensures.at wanted inside after levels all mid))

@@ -1,12 +1,23 @@
 -- The value goes to the bucket that may be inline, or that one is opened first, as it has no room.
-use Rattle.std.proofs.Common.{List, inl, inr, arith}
+use Rattle.std.proofs.Common.{List, inl, inr, map, arith}
+use Rattle.bolt_format.specs.ElementPlaces.{leaf_view}
 use Rattle.bolt_tree.specs.Tree.{Tree, with_value}
 use Rattle.bolt_layout.specs.Laid.{Placed}
-use Rattle.bolt_bulk.specs.Private.Passes.{IsAt}
+use Rattle.bolt_bulk.specs.Private.Passes.{HasRoot, IsAt, Wanted, onto}
 use Rattle.bolt_bulk.proofs.PassAt.{steps_none, steps_stop, steps_then}
 use Rattle.bolt_bulk.proofs.PassReady.{full_rooted, small_of}
 use Rattle.bolt_bulk.proofs.pass.Pass.take_value.Goals as goal
-use Rattle.bolt_bulk.proofs.pass.Pass.take_value.Goals.{else-size-self-via-then-size-self+else-len-lt-MAX_ITEMS, else-size-self-via-else-size-self}
+use Rattle.bolt_bulk.proofs.pass.Pass.take_value.Goals.{After-open_pending, else-size-self-via-then-size-self+else-len-lt-MAX_ITEMS, else-size-self-via-else-size-self}
+
+-- a bucket that has no room for the value has a root page
+rooted : (g : _) (c : After-open_pending g) (wanted : Wanted) (after : Tree)
+    → HasRoot wanted.which c.args.self.now.setup.page_size (onto (map leaf_view c.args.self.now.entries.items) (with_value c.args.key.now c.args.value.now after))
+rooted g c wanted after =
+    let small = small_of c.args.self.now.setup.page_size c.args.self.now.pending c.in-Some.pending c.args.self.now.entries.items c.in-Some.is c.requires.ready.pending in
+    full_rooted wanted.which c.args.self.now.setup.page_size c.in-Some.pending c.args.self.now.entries.items c.args.key.now c.args.value.now after small (elim c.else-size-self.branch [
+      | else-size-self-via-then-size-self+else-len-lt-MAX_ITEMS w ↦ inr (omega arith)
+      | else-size-self-via-else-size-self w ↦ inl (omega arith)
+    ])
 
 pub returns-then-len-lt-MAX_ITEMS-clause-steps : goal.returns-then-len-lt-MAX_ITEMS-clause-steps
 returns-then-len-lt-MAX_ITEMS-clause-steps g c = λ wanted after levels put is.
@@ -16,23 +27,13 @@ returns-then-len-lt-MAX_ITEMS-clause-steps g c = λ wanted after levels put is.
 pub returns-in_err-open_pending-clause-steps : goal.returns-in_err-open_pending-clause-steps
 returns-in_err-open_pending-clause-steps g c = λ wanted after levels put is.
     let left : Tree = with_value c.args.key.now c.args.value.now after in
-    let small = small_of c.args.self.now.setup.page_size c.args.self.now.pending c.in-Some.pending c.args.self.now.entries.items c.in-Some.is c.requires.ready.pending in
-    let rooted = full_rooted wanted.which c.args.self.now.setup.page_size c.in-Some.pending c.args.self.now.entries.items c.args.key.now c.args.value.now after small (elim c.else-size-self.branch [
-      | else-size-self-via-then-size-self+else-len-lt-MAX_ITEMS w ↦ inr (omega arith)
-      | else-size-self-via-else-size-self w ↦ inl (omega arith)
-    ]) in
     steps_stop wanted g.S.Sink.taken g.S.Sink.failed c.args.self.now.setup c.args.sink.now c.open_pending.new.sink put (IsAt wanted c.open_pending.new.self levels left) (IsAt wanted c.open_pending.new.self levels after) _ c.from_residual.result c.from_residual.ensures.1
-    (c.in_err-open_pending.ensures.steps wanted left levels put is rooted)
+    (c.in_err-open_pending.ensures.steps wanted left levels put is (rooted g (goal.at.returns-in_err-open_pending-clause-steps g c).After-open_pending wanted after))
 
 pub returns-clause-steps : goal.returns-clause-steps
 returns-clause-steps g c = λ wanted after levels put is.
     let left : Tree = with_value c.args.key.now c.args.value.now after in
-    let small = small_of c.args.self.now.setup.page_size c.args.self.now.pending c.in-Some.pending c.args.self.now.entries.items c.in-Some.is c.requires.ready.pending in
-    let rooted = full_rooted wanted.which c.args.self.now.setup.page_size c.in-Some.pending c.args.self.now.entries.items c.args.key.now c.args.value.now after small (elim c.else-size-self.branch [
-      | else-size-self-via-then-size-self+else-len-lt-MAX_ITEMS w ↦ inr (omega arith)
-      | else-size-self-via-else-size-self w ↦ inl (omega arith)
-    ]) in
     let At : List Placed → Type 0 = IsAt wanted c.put_value-2.new.self levels after in
     steps_then wanted g.S.Sink.taken g.S.Sink.failed c.args.self.now.setup c.args.sink.now c.open_pending.new.sink c.put_value-2.new.sink put (IsAt wanted c.open_pending.new.self levels left) At tt c.put_value-2.result c.in_ok-open_pending.ensures.setup
-    (c.in_ok-open_pending.ensures.steps wanted left levels put is rooted)
+    (c.in_ok-open_pending.ensures.steps wanted left levels put is (rooted g (goal.at.returns-clause-steps g c).After-open_pending wanted after))
     (λ all mid. c.put_value-2.ensures.steps wanted after levels all mid)

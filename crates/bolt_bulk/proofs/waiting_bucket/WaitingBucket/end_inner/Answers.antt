@@ -1,7 +1,7 @@
 -- Memory for the item is there before anything is written, and what is open of the outer bucket stays until then.
 use Rattle.std.proofs.Common.{rules, Err, ◌≡◌, ◌∙◌, ◌+◌, ap, arith, ℕ, length}
 use Rattle.bolt_bulk.specs.Private.OpenBuckets.{bucket_runs}
-use Rattle.bolt_bulk.specs.Private.RunViews.{BucketRuns, leaves_have_room, runs_end, runs_push}
+use Rattle.bolt_bulk.specs.Private.RunViews.{BucketRunsView, leaves_have_room, runs_end, runs_push}
 use Rattle.bolt_bulk.specs.Private.TakenItems.{root_element}
 use Rattle.bolt_bulk.specs.declared.fault.BulkFault.TheVariants as fault
 use Rattle.bolt_bulk.proofs.BucketLemmas.{end_some, room_fits}
@@ -24,12 +24,12 @@ pub push_reserved-requires-clause-room : goal.push_reserved-requires-clause-room
 push_reserved-requires-clause-room g c =
     let size : ℕ = 32 + length c.args.self.key.now in
     let k = c.requires.waits.key in
-    let same = ap (λ (runs : BucketRuns). leaves_have_room c.args.setup.now.page_size runs.leaves size) (c.reserve.ensures.runs 0) in
+    let same = ap (λ (runs : BucketRunsView). leaves_have_room c.args.setup.now.page_size runs.leaves size) (c.reserve.ensures.runs 0) in
     room_fits c.args.setup.now.page_size size c.reserve.new.self.leaves c.args.setup.now.high c.in_ok-reserve.ensures.open.leaves (omega arith) (same ∙ c.requires.waits.room)
 
 pub returns-clause-runs : goal.returns-clause-runs
 returns-clause-runs g c = λ before.
-    let f : BucketRuns → ℕ → ℕ → BucketRuns = λ runs root next. runs_push runs (root_element c.args.self.key.now root c.args.self.sequence) (32 + length c.args.self.key.now) next in
+    let f : BucketRunsView → ℕ → ℕ → BucketRunsView = λ runs root next. runs_push runs (root_element c.args.self.key.now root c.args.self.sequence) (32 + length c.args.self.key.now) next in
     c.push_reserved.ensures.runs before c.close_runs.new.next
-    ∙ (ap (λ (runs : BucketRuns). f runs c.in_ok-root.root c.close_runs.new.next) (c.reserve.ensures.runs before)
+    ∙ (ap (λ (runs : BucketRunsView). f runs c.in_ok-root.root c.close_runs.new.next) (c.reserve.ensures.runs before)
     ∙ (ap (λ (n : ℕ). f (bucket_runs c.args.self.bucket before) n c.close_runs.new.next) c.in_ok-root.ensures.root ∙ ap (λ (n : ℕ). f (bucket_runs c.args.self.bucket before) (runs_end c.args.setup.now.page_size (bucket_runs c.args.bucket c.args.next.now)) n) c.in_ok-root.ensures.next))

@@ -7,14 +7,14 @@ pub returns-in-Leaf-clause-given : goal.returns-in-Leaf-clause-given
 returns-in-Leaf-clause-given c =
     let old = state_of c.args.self.now in
     let here = state_of c.enter.new.self in
-    gives_from old here (state_of c.take.new.self) (leaf_view c.in-Leaf.leaf)
+    gives_from old here (state_of c.step.new.self) (leaf_view c.in-Leaf.leaf)
     (goes_from old (state_of c.loop-self.self) here c.loop-self.invariant.on c.in_ok-enter.ensures.on) (rw c.in-Leaf.is at c.in_ok-leaf.ensures.taken)
 
 pub returns-in-End-clause-given : goal.returns-in-End-clause-given
 returns-in-End-clause-given c =
     let old = state_of c.args.self.now in
     let here = state_of c.enter.new.self in
-    ends_from old here (state_of c.take.new.self)
+    ends_from old here (state_of c.step.new.self)
     (goes_from old (state_of c.loop-self.self) here c.loop-self.invariant.on c.in_ok-enter.ensures.on) (rw c.in-End.is at c.in_ok-leaf.ensures.taken)
 
 pub returns-in_err-leaf-clause-same : goal.returns-in_err-leaf-clause-same
@@ -22,4 +22,4 @@ returns-in_err-leaf-clause-same c =
     let old = state_of c.args.self.now in
     let here = state_of c.enter.new.self in
     when_err c.from_residual-in_err-leaf.result
-    (goes_from old here (state_of c.take.new.self) (goes_from old (state_of c.loop-self.self) here c.loop-self.invariant.on c.in_ok-enter.ensures.on) c.in_err-leaf.ensures.same)
+    (goes_from old here (state_of c.step.new.self) (goes_from old (state_of c.loop-self.self) here c.loop-self.invariant.on c.in_ok-enter.ensures.on) c.in_err-leaf.ensures.same)

@@ -1,7 +1,7 @@
 use Rattle.std.proofs.Common.{arith, ◌∙◌, [], ◌∷◌, ◌++◌, List, None, ap, refl, sym, subst}
 use Rattle.bolt_check.specs.Claims.{claims_file, claims_meta, is_claimed}
 use Rattle.bolt_recover.specs.Private.Frames.{GoesOn, State, lost_state, state_of}
-use Rattle.bolt_recover.specs.declared.open_page.OpenPage.{OpenPage}
+use Rattle.bolt_recover.specs.declared.content.OpenPage.{OpenPage}
 use Rattle.bolt_recover.proofs.StepLemmas.{as_state, either, entered_lost, entered_page, stayed}
 use Rattle.bolt_recover.proofs.steps.Steps.enter.Goals as goal
 

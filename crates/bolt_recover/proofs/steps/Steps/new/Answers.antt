@@ -7,7 +7,7 @@ use Rattle.bolt_tree.specs.Paths.{path_of}
 use Rattle.bolt_recover.specs.Private.Frames.{ComesTo, IsRefusedRoot, State}
 use Rattle.bolt_recover.specs.Private.Runs.{losses_in}
 use Rattle.bolt_recover.specs.ShownLosses.{loss_view}
-use Rattle.bolt_recover.specs.declared.open_page.OpenPage.{OpenPage}
+use Rattle.bolt_recover.specs.declared.content.OpenPage.{OpenPage}
 use Rattle.bolt_recover.proofs.StepLemmas.{as_state, begins, of_metas, root_kept, root_refused}
 use Rattle.bolt_recover.proofs.steps.Steps.new.Goals as goal
 

@@ -1,0 +1,318 @@
+//! The open runs of a bucket: the run of items of its leaf under way, and the runs of pages above.
+ghost use Rattle.std.specs.Prelude.{◌≡◌, ◌+◌, ◌<◌, ◌≤◌, true, false, ℕ, [], IfErr, IfOk, OnErr, OnOk, length, map, vec_capacity, vec_len};
+ghost use Rattle.std.specs.List.{AllByRecursion};
+ghost use Rattle.bolt_format.specs.ElementLengths.{IsValueLength};
+ghost use Rattle.bolt_format.specs.ElementPlaces.{leaf_view};
+ghost use Rattle.bolt_format.specs.Sinks.{AppendsProperPrefix};
+ghost use Rattle.bolt_format.specs.declared.element.Leaf.{Leaf};
+ghost use Rattle.bolt_layout.specs.Layout.{placed_bytes};
+ghost use Rattle.bolt_bulk.specs.Private.FormatLimits.{length_end, longest_key};
+ghost use Rattle.bolt_bulk.specs.Private.HeldCounts.{capped, items_in};
+ghost use Rattle.bolt_bulk.specs.Private.HeldItems.{IsHeld, held_view, inlined_by, stored_value, value_item};
+ghost use Rattle.bolt_bulk.specs.Private.OpenBuckets.{HasRoomFor, IsOpenBucket, bucket_end_next, leaves_of, bucket_runs};
+ghost use Rattle.bolt_bulk.specs.Private.RunViews.{leaves_have_room, no_leaves, runs_end, runs_end_put, runs_push, runs_room, runs_room_put};
+ghost use Rattle.bolt_bulk.specs.Private.TakenItems.{entries_size, inline_element, inline_size, runs_taking, value_element};
+ghost use Rattle.bolt_bulk.specs.Private.WaitingBuckets.{IsWaiting};
+ghost use Rattle.bolt_bulk.specs.Puts.{Puts};
+ghost use Rattle.bolt_bulk.specs.declared.fault.BulkFault.TheVariants as fault;
+
+use crate::fault::BulkFault;
+use crate::held::{Held, Stored};
+use crate::leaf_run::LeafRun;
+use crate::limits::BucketLimits;
+use crate::page_setup::PageSetup;
+use crate::pending_bucket::PendingBucket;
+use crate::upper_runs::UpperRuns;
+use crate::waiting_bucket::{ROOT_ITEM_LEN, WaitingBucket};
+use bolt_format::{ELEMENT_LEN, HEAD_LEN, HEADER_LEN, Leaf, Sink};
+use std::alloc::Global;
+
+/// The open runs of a bucket.
+#[derive(Drop)]
+pub(crate) struct BucketRuns<'a> {
+    pub leaves: LeafRun<'a>,
+    pub uppers: UpperRuns<'a>,
+}
+
+/// The items of entries that are values.
+fn value_items<'a>(alloc: Global, entries: &[Leaf<'a>]) -> Result<Vec<Held<'a>>, BulkFault>
+    ensures items { IfOk result (λ items. items.items ≡ map value_item entries.now) }
+    ensures fault { IfErr result (λ e. e ≡ fault.Memory) }
+{
+    let mut items = Vec::new(alloc);
+    for entry in entries {
+        let held = Held {
+            key: entry.key,
+            stored: Stored::Value(entry.value),
+        };
+        items.push(held)?;
+    }
+    Ok(items)
+}
+
+impl<'a> BucketRuns<'a> {
+    /// A bucket that has no item yet.
+    pub(crate) fn new(alloc: Global, limits: BucketLimits<'a>) -> BucketRuns<'a>
+        ensures open { IsOpenBucket result }
+        ensures runs { (next : ℕ) → bucket_runs result next ≡ record { leaves = no_leaves; uppers = []; limits = limits.entry; next = next } }
+    {
+        BucketRuns {
+            leaves: LeafRun {
+                items: Vec::new(alloc),
+                inlined: Vec::new(alloc),
+                size: HEADER_LEN,
+            },
+            uppers: UpperRuns::new(alloc, limits),
+        }
+    }
+
+    /// A bucket that has these values so far, in its first run. The page over them has `size`
+    /// bytes.
+    pub(crate) fn of_values(
+        alloc: Global,
+        entries: &[Leaf<'a>],
+        size: usize,
+        limits: BucketLimits<'a>,
+    ) -> Result<BucketRuns<'a>, BulkFault>
+        requires size { size ≡ entries_size (map leaf_view entries.now) }
+        requires small { size < length_end }
+        requires few { length entries.now < 65535 }
+        requires keys { AllByRecursion (λ (entry : Leaf). length entry.key.now ≤ longest_key) entries.now }
+        requires values { AllByRecursion (λ (entry : Leaf). entry.is_bucket ≡ false) entries.now }
+        ensures open { IfOk result (λ bucket. IsOpenBucket bucket) }
+        ensures runs { IfOk result (λ bucket. (next : ℕ) → bucket_runs bucket next ≡ record { leaves = record { elements = map leaf_view entries.now; size = size }; uppers = []; limits = limits.entry; next = next }) }
+        ensures fault { IfErr result (λ e. e ≡ fault.Memory) }
+    {
+        let items = value_items(alloc, entries)?;
+        let leaves = LeafRun {
+            items,
+            inlined: Vec::new(alloc),
+            size,
+        };
+        Ok(BucketRuns {
+            leaves,
+            uppers: UpperRuns::new(alloc, limits),
+        })
+    }
+
+    /// Makes room for the next item, which has this key and size. If there is none, the leaf
+    /// closes, before any page of the item is written.
+    #[inline(always)]
+    fn make_room<S: Sink>(
+        &mut self,
+        setup: &PageSetup,
+        key: &[u8],
+        size: usize,
+        next: &mut u64,
+        sink: &mut S,
+    ) -> Result<(), BulkFault>
+        requires open { IsOpenBucket self.old }
+        requires key { length key.now ≤ longest_key }
+        requires size { size < length_end }
+        requires next { next.old ≤ setup.now.limit }
+        ensures pages { Puts S.taken S.failed sink.old sink.new (placed_bytes setup.now.page_size (runs_room_put setup.now.page_size (bucket_runs self.old next.old) key.now size)) result }
+        ensures runs { OnOk result (bucket_runs self.new next.new ≡ runs_room setup.now.page_size (bucket_runs self.old next.old) key.now size) }
+        ensures open { OnOk result (IsOpenBucket self.new) }
+        ensures room { OnOk result (leaves_have_room setup.now.page_size (leaves_of self.new.leaves) size ≡ true) }
+        ensures within { OnOk result (next.new ≤ setup.now.limit) }
+        ensures large { IfErr result (λ e. e ≡ fault.TooLarge → setup.now.limit < (runs_room setup.now.page_size (bucket_runs self.old next.old) key.now size).next) }
+    {
+        if self.leaves.has_room(setup.page_size, size) {
+            return Ok(());
+        }
+        let closed = self.leaves.close(setup, next, sink)?;
+        self.uppers.climb(setup, key, closed, next, sink)
+    }
+
+    /// Reserves memory for one more item. The open runs stay the same.
+    pub(crate) fn reserve(&mut self) -> Result<(), BulkFault>
+        requires open { IsOpenBucket self.old }
+        ensures runs { (next : ℕ) → bucket_runs self.new next ≡ bucket_runs self.old next }
+        ensures open { OnOk result (IsOpenBucket self.new) }
+        ensures memory { OnOk result (vec_len self.new.leaves.items < vec_capacity self.new.leaves.items) }
+        ensures fault { IfErr result (λ e. e ≡ fault.Memory) }
+    {
+        self.leaves.items.reserve(1)?;
+        Ok(())
+    }
+
+    /// Adds an item of this size, for which there is room and memory. It isn't an inline bucket.
+    pub(crate) fn push_reserved(&mut self, held: Held<'a>, size: usize)
+        requires open { IsOpenBucket self.old }
+        requires held { IsHeld self.old.leaves.inlined.items held }
+        requires apart { inlined_by held.stored ≡ 0 }
+        requires size { size ≡ 16 + (length held.key.now + length (stored_value self.old.leaves.inlined.items held.stored)) }
+        requires room { HasRoomFor self.old.leaves size }
+        requires memory { vec_len self.old.leaves.items < vec_capacity self.old.leaves.items }
+        ensures runs { (before next : ℕ) → bucket_runs self.new next ≡ runs_push (bucket_runs self.old before) (held_view self.old.leaves.inlined.items held.entry) size next }
+        ensures open { IsOpenBucket self.new }
+    {
+        self.leaves.items.push_reserved(held);
+        self.leaves.size += size;
+    }
+
+    /// Adds an item of this size, for which there is room. It isn't an inline bucket.
+    fn push_item(&mut self, held: Held<'a>, size: usize) -> Result<(), BulkFault>
+        requires open { IsOpenBucket self.old }
+        requires held { IsHeld self.old.leaves.inlined.items held }
+        requires apart { inlined_by held.stored ≡ 0 }
+        requires size { size ≡ 16 + (length held.key.now + length (stored_value self.old.leaves.inlined.items held.stored)) }
+        requires room { HasRoomFor self.old.leaves size }
+        ensures runs { OnOk result ((before next : ℕ) → bucket_runs self.new next ≡ runs_push (bucket_runs self.old before) (held_view self.old.leaves.inlined.items held.entry) size next) }
+        ensures open { OnOk result (IsOpenBucket self.new) }
+        ensures fault { IfErr result (λ e. e ≡ fault.Memory) }
+    {
+        self.leaves.items.push(held)?;
+        self.leaves.size += size;
+        Ok(())
+    }
+
+    /// Adds an inline bucket with these entries, for which there is room. Its value has `size`
+    /// bytes.
+    fn push_inline(
+        &mut self,
+        key: &'a [u8],
+        sequence: u64,
+        entries: &[Leaf<'a>],
+        size: usize,
+    ) -> Result<(), BulkFault>
+        requires open { IsOpenBucket self.old }
+        requires key { length key.now ≤ longest_key }
+        requires few { length entries.now < 65535 }
+        requires size { size ≡ inline_size (map leaf_view entries.now) }
+        requires small { size < length_end }
+        requires room { HasRoomFor self.old.leaves (16 + (length key.now + size)) }
+        ensures runs { OnOk result ((before next : ℕ) → bucket_runs self.new next ≡ runs_push (bucket_runs self.old before) (inline_element key.now sequence (map leaf_view entries.now)) (16 + (length key.now + size)) next) }
+        ensures open { OnOk result (IsOpenBucket self.new) }
+        ensures fault { IfErr result (λ e. e ≡ fault.Memory) }
+    {
+        let first = self.leaves.inlined.len();
+        self.leaves.inlined.extend_from_slice(entries)?;
+        let stored = Stored::Inline {
+            sequence,
+            first,
+            count: entries.len(),
+            size,
+        };
+        self.leaves.items.push(Held { key, stored })?;
+        self.leaves.size += ELEMENT_LEN + (key.len() + size);
+        Ok(())
+    }
+
+    /// Adds a value, after it made room for it.
+    #[inline(always)]
+    pub(crate) fn add_value<S: Sink>(
+        &mut self,
+        setup: &PageSetup,
+        key: &'a [u8],
+        value: &'a [u8],
+        next: &mut u64,
+        sink: &mut S,
+    ) -> Result<(), BulkFault>
+        requires open { IsOpenBucket self.old }
+        requires key { length key.now ≤ longest_key }
+        requires value { IsValueLength (length value.now) }
+        requires next { next.old ≤ setup.now.limit }
+        ensures pages { Puts S.taken S.failed sink.old sink.new (placed_bytes setup.now.page_size (runs_room_put setup.now.page_size (bucket_runs self.old next.old) key.now (16 + (length key.now + length value.now)))) result }
+        ensures runs { OnOk result (bucket_runs self.new next.new ≡ runs_taking setup.now.page_size (bucket_runs self.old next.old) (value_element key.now value.now) (16 + (length key.now + length value.now))) }
+        ensures open { OnOk result (IsOpenBucket self.new) }
+        ensures within { OnOk result (next.new ≤ setup.now.limit) }
+        ensures large { IfErr result (λ e. e ≡ fault.TooLarge → setup.now.limit < (runs_room setup.now.page_size (bucket_runs self.old next.old) key.now (16 + (length key.now + length value.now))).next) }
+    {
+        let size = ELEMENT_LEN + (key.len() + value.len());
+        let stored = Stored::Value(value);
+        self.make_room(setup, key, size, next, sink)?;
+        self.push_item(Held { key, stored }, size)
+    }
+
+    /// Adds a bucket that is inline, with these entries, after it made room for it.
+    pub(crate) fn add_inline<S: Sink>(
+        &mut self,
+        setup: &PageSetup,
+        pending: PendingBucket<'a>,
+        entries: &[Leaf<'a>],
+        next: &mut u64,
+        sink: &mut S,
+    ) -> Result<(), BulkFault>
+        requires open { IsOpenBucket self.old }
+        requires key { length pending.key.now ≤ longest_key }
+        requires few { length entries.now < 65535 }
+        requires size { pending.size + 16 ≡ inline_size (map leaf_view entries.now) }
+        requires small { pending.size < 2147483632 }
+        requires next { next.old ≤ setup.now.limit }
+        ensures pages { Puts S.taken S.failed sink.old sink.new (placed_bytes setup.now.page_size (runs_room_put setup.now.page_size (bucket_runs self.old next.old) pending.entry.key.now (16 + (length pending.entry.key.now + (pending.entry.size + 16))))) result }
+        ensures runs { OnOk result (bucket_runs self.new next.new ≡ runs_taking setup.now.page_size (bucket_runs self.old next.old) (inline_element pending.entry.key.now pending.entry.sequence (map leaf_view entries.now)) (16 + (length pending.entry.key.now + (pending.entry.size + 16)))) }
+        ensures open { OnOk result (IsOpenBucket self.new) }
+        ensures within { OnOk result (next.new ≤ setup.now.limit) }
+        ensures large { IfErr result (λ e. e ≡ fault.TooLarge → setup.now.limit < (runs_room setup.now.page_size (bucket_runs self.old next.old) pending.entry.key.now (16 + (length pending.entry.key.now + (pending.entry.size + 16)))).next) }
+    {
+        let key = pending.key;
+        let size = pending.size + HEAD_LEN;
+        self.make_room(setup, key, ELEMENT_LEN + (key.len() + size), next, sink)?;
+        self.push_inline(key, pending.sequence, entries, size)
+    }
+
+    /// Makes room for a bucket with a root page, and waits for it. The buckets around this one hold
+    /// `around` items.
+    pub(crate) fn enter<S: Sink>(
+        self,
+        setup: &PageSetup,
+        pending: PendingBucket<'a>,
+        around: u64,
+        next: &mut u64,
+        sink: &mut S,
+    ) -> Result<WaitingBucket<'a>, BulkFault>
+        requires open { IsOpenBucket self }
+        requires key { length pending.key.now ≤ longest_key }
+        requires next { next.old ≤ setup.now.limit }
+        ensures pages { Puts S.taken S.failed sink.old sink.new (placed_bytes setup.now.page_size (runs_room_put setup.now.page_size (bucket_runs self.entry next.old) pending.entry.key.now (32 + length pending.entry.key.now))) result }
+        ensures runs { IfOk result (λ waiting. bucket_runs waiting.bucket next.new ≡ runs_room setup.now.page_size (bucket_runs self.entry next.old) pending.entry.key.now (32 + length pending.entry.key.now)) }
+        ensures waits { IfOk result (λ waiting. IsWaiting setup.now.page_size waiting) }
+        ensures key { IfOk result (λ waiting. waiting.key.now ≡ pending.entry.key.now) }
+        ensures sequence { IfOk result (λ waiting. waiting.sequence ≡ pending.entry.sequence) }
+        ensures around { IfOk result (λ waiting. waiting.around ≡ around) }
+        ensures within { OnOk result (next.new ≤ setup.now.limit) }
+        ensures large { IfErr result (λ e. e ≡ fault.TooLarge → setup.now.limit < (runs_room setup.now.page_size (bucket_runs self.entry next.old) pending.entry.key.now (32 + length pending.entry.key.now)).next) }
+    {
+        let mut bucket = self;
+        let key = pending.key;
+        bucket.make_room(setup, key, ROOT_ITEM_LEN + key.len(), next, sink)?;
+        Ok(WaitingBucket {
+            bucket,
+            key,
+            sequence: pending.sequence,
+            around,
+        })
+    }
+
+    /// Closes all runs, up to the root page, and returns the number of that page.
+    pub(crate) fn close_runs<S: Sink>(
+        &mut self,
+        setup: &PageSetup,
+        next: &mut u64,
+        sink: &mut S,
+    ) -> Result<u64, BulkFault>
+        requires open { IsOpenBucket self.old }
+        requires next { next.old ≤ setup.now.limit }
+        ensures pages { Puts S.taken S.failed sink.old sink.new (placed_bytes setup.now.page_size (runs_end_put setup.now.page_size (bucket_runs self.old next.old))) result }
+        ensures short { OnErr result (AppendsProperPrefix (S.taken sink.old) (S.taken sink.new) (placed_bytes setup.now.page_size (runs_end_put setup.now.page_size (bucket_runs self.old next.old)))) }
+        ensures root { IfOk result (λ root. root ≡ runs_end setup.now.page_size (bucket_runs self.old next.old)) }
+        ensures next { OnOk result (next.new ≡ bucket_end_next setup.now.page_size (bucket_runs self.old next.old)) }
+        ensures within { OnOk result (next.new ≤ setup.now.limit) }
+        ensures large { IfErr result (λ e. e ≡ fault.TooLarge → setup.now.limit < bucket_end_next setup.now.page_size (bucket_runs self.old next.old)) }
+    {
+        let closed = self.leaves.close(setup, next, sink)?;
+        self.uppers.close_all(setup, closed, next, sink)
+    }
+
+    /// How many items its runs hold. Saturates at 2^64 - 1.
+    pub(crate) fn held(&self) -> u64
+        ensures { result ≡ capped (items_in self.now) }
+    {
+        let mut held = self.leaves.items.len() as u64;
+        for run in &self.uppers.runs {
+            held = held.saturating_add(run.elements.len() as u64);
+        }
+        held
+    }
+}

@@ -1,0 +1,32 @@
+//! The header of a branch or leaf page, as it is written.
+ghost use Rattle.std.specs.Prelude.{◌≡◌, ◌+◌, ◌-◌, ◌*◌, ◌<◌, IfOk};
+ghost use Rattle.bolt_format.specs.Written.{header_bytes};
+ghost use Rattle.bolt_layout.specs.Levels.{overflow_of};
+ghost use Rattle.bolt_bulk.specs.Puts.{PutsWhole};
+ghost use Rattle.bolt_bulk.specs.Private.FormatLimits.{length_end};
+
+use crate::page_setup::{PageSetup, overflow};
+use crate::pieces::put;
+use bolt_format::{Kind, Sink, SinkFault, page_header};
+
+/// Writes the header of a page with `count` elements, which take `size` bytes with the header.
+/// Returns how many zeros fill the page after them.
+pub(crate) fn put_page_header<S: Sink>(
+    setup: &PageSetup,
+    number: u64,
+    kind: Kind,
+    count: usize,
+    size: usize,
+    sink: &mut S,
+) -> Result<usize, SinkFault>
+    requires some { 0 < size }
+    requires small { size < length_end }
+    requires few { count < 65536 }
+    ensures header { PutsWhole S.taken S.failed sink.old sink.new (header_bytes number kind count (overflow_of setup.now.page_size size)) result }
+    ensures zeros { IfOk result (λ zeros. zeros ≡ (1 + overflow_of setup.now.page_size size) * setup.now.page_size - size) }
+{
+    let further = overflow(setup.page_size, size);
+    let header = page_header(number, kind, count as u16, further as u32);
+    put(&header, sink)?;
+    Ok((1 + further) * setup.page_size - size)
+}

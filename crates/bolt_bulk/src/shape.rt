@@ -1,0 +1,14 @@
+//! What a copy looks like.
+ghost use Rattle.bolt_format.specs.Metas.{IsPageSize};
+
+use bolt_layout::Layout;
+
+/// What a copy looks like, apart from its members.
+#[derive(Clone, Copy)]
+pub(crate) struct Shape {
+    pub layout: Layout,
+    pub page_size: u64,
+    /// The sequence of the root bucket.
+    pub sequence: u64,
+    pub ghost accepted: { IsPageSize page_size },
+}

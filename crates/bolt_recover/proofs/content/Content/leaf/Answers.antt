@@ -1,0 +1,11 @@
+use Rattle.std.proofs.Common.{◌∙◌, arith, ap, refl}
+use Rattle.bolt_check.specs.TreeKinds.{tree_kind}
+use Rattle.bolt_check.proofs.NodeLemmas.{length-leaf}
+use Rattle.bolt_recover.proofs.NoLeaves.{no_leaves}
+use Rattle.bolt_recover.proofs.content.Content.leaf.Goals as goal
+
+pub leaf-requires-clause-below : goal.leaf-requires-clause-below
+leaf-requires-clause-below c = let r = rw c.in-Page.is at c.requires in omega (arith, length-leaf c.in-Page.page c.if-page.true, r)
+
+pub returns-in-Page-2-clause-element : goal.returns-in-Page-2-clause-element
+returns-in-Page-2-clause-element c = let none = no_leaves c.in-Page.page.page (c.in-Page.page.kind ∙ ap tree_kind c.if-page.false) in rw (c.in-Page.is, none) refl

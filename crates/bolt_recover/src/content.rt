@@ -1,0 +1,94 @@
+//! A kept page, and how many of its elements are done.
+ghost use Rattle.std.specs.Prelude.{◌≡◌, ◌≤◌, ◌<◌, ◌+◌, ℕ, List, true, IfErr, IfOk, IfSome, OnErr, OnOk, IsTrue, slice_get};
+ghost use Rattle.std.specs.Option.{option_map};
+ghost use Rattle.bolt_format.specs.Elements.{IsBucketValue};
+ghost use Rattle.bolt_format.specs.ElementPlaces.{leaf_view};
+ghost use Rattle.bolt_format.specs.declared.meta.Meta.{Meta};
+ghost use Rattle.bolt_check.specs.Claims.{claims_file, claims_meta, is_claimed, pages_left};
+ghost use Rattle.bolt_check.specs.Findings.{Passes, Tests};
+ghost use Rattle.bolt_check.specs.ShownSpots.{spot_at};
+ghost use Rattle.bolt_tree.specs.Paths.{Path};
+ghost use Rattle.bolt_recover.specs.Places.{step_place};
+ghost use Rattle.bolt_recover.specs.Private.Frames.{IsContent, IsGoodContent, IsShallow, claims_nodes, content_elements, content_place, content_size, pages_in, step_path, spot_place};
+ghost use Rattle.bolt_recover.specs.Private.Runs.{claimed_with};
+
+use bolt_check::{BucketSpot, Claims, Finding, PageSpot, Spot, TreePage};
+use bolt_format::Leaf;
+
+/// A page that passed its tests, or the page of an inline bucket, with the spot that led to it.
+#[derive(Clone, Copy)]
+pub(crate) enum Content<'a> {
+    Page(TreePage<'a>, PageSpot<'a>),
+    Bucket(BucketSpot<'a>),
+}
+
+/// An open page on the current way.
+#[derive(Clone, Copy)]
+pub(crate) struct OpenPage<'a> {
+    pub content: Content<'a>,
+    /// The number of parts of its bucket's path.
+    pub level: usize,
+    /// The number of its elements.
+    pub count: u16,
+    /// The next element.
+    pub next: u16,
+}
+
+impl<'a> Content<'a> {
+    /// Tests what a way leads to. If the tests find nothing, the page is claimed.
+    pub fn visit(claims: &mut Claims<'a>, spot: Spot<'a>) -> Result<Content<'a>, Finding>
+        ensures file { claims_file claims.new ≡ claims_file claims.old }
+        ensures meta { claims_meta claims.new ≡ claims_meta claims.old }
+        ensures found { IfErr result (Tests (claims_nodes claims.old) (λ n. is_claimed claims.old n ≡ true) (spot_at spot.entry)) }
+        ensures same { OnErr result ((n : ℕ) → is_claimed claims.new n ≡ is_claimed claims.old n) }
+        ensures left { OnErr result (pages_left claims.new ≡ pages_left claims.old) }
+        ensures passes { OnOk result (Passes (claims_nodes claims.old) (λ n. is_claimed claims.old n ≡ true) (spot_at spot.entry)) }
+        ensures content { IfOk result (IsContent (claims_file claims.old) (claims_meta claims.old) spot.entry) }
+        ensures claims { OnOk result ((n : ℕ) → is_claimed claims.new n ≡ claimed_with (claims_nodes claims.old) (is_claimed claims.old) (spot_at spot.entry) n) }
+        ensures fewer { IfOk result (λ content. pages_left claims.new + pages_in content ≤ pages_left claims.old) }
+    {
+        match spot {
+            Spot::Page(spot) => Ok(Content::Page(claims.visit(&spot)?, spot)),
+            Spot::Bucket(spot) => {
+                spot.test()?;
+                Ok(Content::Bucket(spot))
+            }
+        }
+    }
+
+    /// The number of its elements.
+    pub fn count(&self) -> u16
+        ensures { result ≡ content_size self.now }
+    {
+        match self {
+            Content::Page(page, _) => page.count(),
+            Content::Bucket(spot) => spot.page.count(),
+        }
+    }
+
+    /// Element `i`, unless the page is a branch.
+    pub fn leaf(&self, i: u16) -> Option<Leaf<'a>>
+        requires { i < content_size self.now }
+        ensures element { option_map leaf_view result ≡ slice_get (content_elements self.now) i }
+        ensures bucket { IfSome result (λ leaf. IsTrue leaf.is_bucket → IsBucketValue leaf.value.now) }
+    {
+        match self {
+            Content::Page(page, _) if page.is_leaf => Some(page.page.leaf(i)),
+            Content::Page(_, _) => None,
+            Content::Bucket(spot) => Some(spot.page.leaf(i)),
+        }
+    }
+
+    /// What element `i` leads to, if anything.
+    pub fn spot(&self, i: u16) -> Option<Spot<'a>>
+        requires shallow { IsShallow self.now }
+        requires below { i < content_size self.now }
+        ensures { (file : List ℕ) (meta : Meta) (path : Path) → IsGoodContent file meta self.now
+            → step_place file meta (content_place path self.now) i ≡ option_map (spot_place file meta (step_path path (slice_get (content_elements self.now) i))) result }
+    {
+        match self {
+            Content::Page(page, spot) => page.spot(i, spot),
+            Content::Bucket(_) => None,
+        }
+    }
+}
