@@ -14,7 +14,7 @@ use Rattle.bolt_check.specs.ShownSpots.{page_spot, spot_at}
 use Rattle.bolt_check.specs.Ways.{At_page, root_spot}
 use Rattle.bolt_check.specs.declared.spot.PageSpot.{PageSpot}
 use Rattle.std.proofs.lemmas.Bool.Decides.{nat_tests}
-use Rattle.bolt_tree.proofs.Filters.{same_bool}
+use Rattle.std.proofs.lemmas.Bool.{both_ways}
 use Rattle.bolt_check.specs.declared.finding.Finding.{Finding}
 use Rattle.bolt_check.specs.declared.spot.Spot.{Spot}
 use Rattle.bolt_check.specs.declared.spot.Spot.TheVariants as spots
@@ -354,7 +354,7 @@ started file meta root spot number visits members run = record {
 
 -- the meta pages alone are claimed
 pub of_metas : (claimed : ℕ → Bool) → ((n : ℕ) → (claimed n ≡ true) ↔ IsMetaPage n) → (n : ℕ) → claimed n ≡ meta_pages n
-of_metas claimed metas n = same_bool (claimed n) (meta_pages n) (λ h. let is = (metas n).0 h in grind (arith, nat_tests)) (λ h. (metas n).1 (grind (arith, nat_tests)))
+of_metas claimed metas n = both_ways (claimed n) (meta_pages n) (λ h. let is = (metas n).0 h in grind (arith, nat_tests)) (λ h. (metas n).1 (grind (arith, nat_tests)))
 
 pub root_refused : (claims : Claims) (file : List ℕ) (meta : Meta) (x : Finding) → claims_file claims ≡ file → claims_meta claims ≡ meta
     → ((n : ℕ) → (is_claimed claims n ≡ true) ↔ IsMetaPage n) → Tests (claims_nodes claims) (λ n. is_claimed claims n ≡ true) (At_page (root_spot meta.root)) x
