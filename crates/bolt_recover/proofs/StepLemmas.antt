@@ -14,7 +14,7 @@ use Rattle.bolt_check.specs.ShownSpots.{page_spot, spot_at}
 use Rattle.bolt_check.specs.Ways.{At_page, root_spot}
 use Rattle.bolt_check.specs.declared.spot.PageSpot.{PageSpot}
 use Rattle.std.proofs.lemmas.Bool.Decides.{nat_tests}
-use Rattle.std.proofs.lemmas.Bool.{both_ways}
+use Rattle.std.specs.Cmp.{both_ways}
 use Rattle.bolt_check.specs.declared.finding.Finding.{Finding}
 use Rattle.bolt_check.specs.declared.spot.Spot.{Spot}
 use Rattle.bolt_check.specs.declared.spot.Spot.TheVariants as spots
