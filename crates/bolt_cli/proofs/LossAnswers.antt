@@ -7,7 +7,7 @@ use Rattle.bolt_recover.specs.Recoveries.{ForLosses}
 use Rattle.bolt_recover.specs.ShownLosses.{loss_view}
 use Rattle.bolt_recover.specs.declared.loss.Loss.{Loss}
 use Rattle.bolt_recover.proofs.Existing.{has_losses}
-use Rattle.bolt_snapshot.specs.declared.fault.SnapshotFault.{SnapshotFault}
+use Rattle.bolt_snapshot.specs.declared.hash_check.SnapshotFault.{SnapshotFault}
 use Rattle.bolt_cli.specs.Answers.{Answer, AnswersLosses, IsFoundAnswer, IsLossesAnswer, losses_found}
 
 module _ (hash : Option SnapshotFault) (file : List ℕ) (slot : Option Slot) (meta : Meta) where

@@ -37,7 +37,7 @@ use Rattle.bolt_report.specs.declared.form.Form.{Form}
 use Rattle.bolt_report.specs.declared.form.Form.TheVariants.{Json}
 use Rattle.bolt_report.specs.declared.form.ListForm.{ListForm}
 use Rattle.bolt_snapshot.specs.SnapshotFaults.{fault_lines}
-use Rattle.bolt_snapshot.specs.declared.fault.SnapshotFault.{SnapshotFault}
+use Rattle.bolt_snapshot.specs.declared.hash_check.SnapshotFault.{SnapshotFault}
 use Rattle.bolt_tree.specs.Entries.{AreEntries, IsEntry, Item, Root_page, Start, Value, start_of}
 use Rattle.bolt_tree.specs.Listing.{IsListing, Member, rest_from}
 use Rattle.bolt_tree.specs.ListingParts.{bucket_part, has_bucket}

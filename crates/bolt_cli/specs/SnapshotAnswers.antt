@@ -4,7 +4,7 @@ use Rattle.sha2.specs.Sha256.{sha256}
 use Rattle.std.specs.Io.KnownBytes.{Appends, Keeps}
 use Rattle.bolt_snapshot.specs.Hashes.{EndsWith}
 use Rattle.bolt_snapshot.specs.SnapshotFaults.{hash_fault}
-use Rattle.bolt_snapshot.specs.declared.fault.SnapshotFault.{SnapshotFault}
+use Rattle.bolt_snapshot.specs.declared.hash_check.SnapshotFault.{SnapshotFault}
 
 -- what is wrong with the hash, if a snapshot is asked for
 abbrev pub hash_found : (snapshot : Bool) → List ℕ → Option SnapshotFault

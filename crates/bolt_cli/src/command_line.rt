@@ -6,7 +6,7 @@ ghost use Rattle.clap.specs.Words.{new_app, rule_of};
 ghost use Rattle.bolt_cli.specs.CommandLine.{IsCommand, bare_program, command_of, operand_rule, option_rule, program, program_of};
 ghost use Rattle.bolt_cli.specs.Syntaxes.{choice_view, operand_view, syntax_view};
 
-use crate::syntax::{Choice, Flag, Operand, SYNTAXES, Syntax, VERSION};
+use crate::commands::{Choice, Flag, Operand, SYNTAXES, Syntax, VERSION};
 use clap::{Arg, ArgAction, Command};
 use std::alloc::{AllocError, Global};
 

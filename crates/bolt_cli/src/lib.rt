@@ -4,6 +4,7 @@
 mod buckets_command;
 mod check_command;
 mod command_line;
+mod commands;
 mod compact_command;
 mod copy_kind;
 mod decimals;
@@ -25,8 +26,6 @@ mod path_words;
 mod refusal;
 mod runs;
 mod stats_command;
-mod status;
-mod syntax;
 mod words;
 
 pub use copy_kind::CopyKind;
@@ -34,6 +33,5 @@ pub use failure::Failure;
 pub use job::Job;
 pub use page_size::PageSize;
 pub use refusal::Refusal;
-pub use runs::run;
-pub use status::Status;
+pub use runs::{Status, run};
 pub use words::read_words;

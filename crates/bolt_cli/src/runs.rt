@@ -1,4 +1,4 @@
-//! Runs a job.
+//! Runs a job, and says how the run ended.
 ghost use Rattle.std.specs.Prelude.{◌≡◌, Result};
 ghost use Rattle.bolt_cli.specs.Answers.{DoesJob, Ending, Accepts, error_text, status_of};
 
@@ -14,10 +14,16 @@ use crate::list_command::{WantedList, print_list};
 use crate::page_command::print_page;
 use crate::pages_command::print_pages;
 use crate::stats_command::print_stats;
-use crate::status::Status;
 use bolt_format::Sink;
 use bolt_snapshot::SnapshotSink;
 use std::alloc::Global;
+
+/// How a run ended.
+#[derive(Clone, Copy, Debug, PartialEq, Eq)]
+pub struct Status {
+    /// 0 if the job is done; 1 if there was a fault, or if `check` found something.
+    pub code: u8,
+}
 
 /// Does a job on the bytes of its file, and returns its status (docs/COMMANDS.md, "What a run
 /// writes"). It writes the text to `out`, the line of a failure to `err`, and a copy to `target`;

@@ -26,7 +26,7 @@ mod part_lines;
 mod puts;
 mod size_lines;
 mod statistics;
-mod table_text;
+mod table_rows;
 mod text;
 mod values;
 

@@ -10,7 +10,7 @@ ghost use Rattle.bolt_report.specs.Reports.{Reports};
 use crate::fault::ReportFault;
 use crate::page_table::{free_past, pages_begun};
 use crate::puts::put;
-use crate::table_text::{past_text, push_number_column};
+use crate::table_rows::{past_text, push_number_column};
 use crate::text::{Text, push_bytes};
 use bolt_check::{Checked, Role, Roles, roles};
 use bolt_format::{Sink, SinkFault};

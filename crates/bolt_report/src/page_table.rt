@@ -11,7 +11,7 @@ ghost use Rattle.bolt_report.specs.Reports.{Reports};
 
 use crate::fault::ReportFault;
 use crate::puts::put;
-use crate::table_text::{free_row, head_text, items_row, past_text};
+use crate::table_rows::{free_row, head_text, items_row, past_text};
 use crate::text::Text;
 use bolt_check::{Checked, Role, Roles, roles};
 use bolt_format::{Sink, SinkFault, free_ids, known};

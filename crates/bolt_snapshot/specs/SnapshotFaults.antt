@@ -2,8 +2,8 @@
 use Rattle.std.specs.Prelude.{◌≡◌, ◌==◌, ◌-◌, ◌%◌, ℕ, List, [], ◌++◌, Bool, true, false, codes, drop, length, take, Option, None, Some}
 use Rattle.std.specs.Str.{bytes_eq}
 use Rattle.sha2.specs.Sha256.{sha256}
-use Rattle.bolt_snapshot.specs.declared.fault.SnapshotFault.{SnapshotFault}
-use Rattle.bolt_snapshot.specs.declared.fault.SnapshotFault.TheVariants.{HashMissing, HashDiffers}
+use Rattle.bolt_snapshot.specs.declared.hash_check.SnapshotFault.{SnapshotFault}
+use Rattle.bolt_snapshot.specs.declared.hash_check.SnapshotFault.TheVariants.{HashMissing, HashDiffers}
 
 -- a file of whole blocks of 512 bytes, and the hash of it
 pub record IsSnapshot (file : List ℕ) : Type 0 where

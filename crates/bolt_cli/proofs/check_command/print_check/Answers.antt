@@ -1,6 +1,6 @@
 -- What is wrong with the hash is what is said of it.
 use Rattle.std.proofs.Common.{Bool, Option, subst₂, sym}
-use Rattle.bolt_snapshot.specs.declared.fault.SnapshotFault.{SnapshotFault}
+use Rattle.bolt_snapshot.specs.declared.hash_check.SnapshotFault.{SnapshotFault}
 use Rattle.bolt_cli.specs.Answers.{IsCheckAnswerAfter}
 use Rattle.bolt_cli.proofs.check_command.print_check.Goals as goal
 

@@ -3,8 +3,8 @@ use Rattle.std.proofs.lemmas.List.{take_all}
 use Rattle.clap.specs.Words.{Rule}
 use Rattle.bolt_cli.specs.CommandLine.{IsCommand, command_with, operand_rule, option_rule}
 use Rattle.bolt_cli.specs.Syntaxes.{choice_view, operand_view}
-use Rattle.bolt_cli.specs.declared.syntax.Choice.{Choice}
-use Rattle.bolt_cli.specs.declared.syntax.Operand.{Operand}
+use Rattle.bolt_cli.specs.declared.commands.Choice.{Choice}
+use Rattle.bolt_cli.specs.declared.commands.Operand.{Operand}
 use Rattle.bolt_cli.proofs.CommandLineLemmas.{argument_added, made_more, made_twice}
 use Rattle.bolt_cli.proofs.command_line.command.Goals as goal
 

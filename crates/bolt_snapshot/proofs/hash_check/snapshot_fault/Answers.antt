@@ -1,6 +1,6 @@
 use Rattle.std.proofs.Common.{rules}
 use Rattle.bolt_snapshot.proofs.SnapshotLemmas.{no_fault_iff}
-use Rattle.bolt_snapshot.proofs.fault.snapshot_fault.Goals as goal
+use Rattle.bolt_snapshot.proofs.hash_check.snapshot_fault.Goals as goal
 
 pub returns-then-length-ne-HASH_LEN-clause-snapshot : goal.returns-then-length-ne-HASH_LEN-clause-snapshot
 returns-then-length-ne-HASH_LEN-clause-snapshot c = no_fault_iff c.args.file.now _ (search rules)

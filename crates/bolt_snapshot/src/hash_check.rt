@@ -1,4 +1,4 @@
-//! Why a file is no snapshot.
+//! The check of a snapshot's hash, and why a file is no snapshot.
 ghost use Rattle.std.specs.Prelude.{◌≡◌, ◌↔◌, None};
 ghost use Rattle.bolt_snapshot.specs.SnapshotFaults.{IsSnapshot, fault_line, hash_fault};
 
