@@ -84,7 +84,7 @@ pub fn bucket_cursor(alloc: Global, file: &[u8], words: &[String]) -> Result<Vec
             }
             let head = head(bucket.value);
             buckets_begin_on_ways();
-            if head.is_inline() {
+            if head.root == 0 {
                 let cursor = Cursor::new(pager, At::Inline(inline(bucket.value)));
                 return first_of(alloc, cursor, key.as_slice());
             }
