@@ -8,7 +8,7 @@ SOUND = $(wildcard examples/*.buckets)
 LISTED = $(filter-out $(LEAKED).list,$(wildcard examples/*.list))
 LEAKED = examples/leaked
 
-.PHONY: build fmt demo cases examples manual failures bbolt fuzz fuzz-wrong wrong-bodies test bench memory install dist deb clean
+.PHONY: build fmt demo set-up cases examples manual failures bbolt fuzz fuzz-wrong wrong-bodies test bench memory install dist deb clean
 
 # Proves the libraries and the program, and builds it.
 build:
@@ -80,6 +80,7 @@ manual: $(PROGRAM)
 
 LISTED_LONG = out/listed_long.db
 DAMAGED = out/damaged.db
+MANY_LOST = out/many_lost.db
 
 REFUSE = out/refuse.so
 SWEEP = python3 -B tools/refuse/sweep.py $(PROGRAM) $(REFUSE)
@@ -100,7 +101,7 @@ RECOVERIES = "list --recover" "compact -o OUT --recover" "compact -o OUT --recov
 # may read a copy. Then each write of each command fails in turn (a write has at most seven bytes), but
 # only each 10th of a copy, and each 200th of what is recovered. So do each read of FILE and the sync of
 # OUT.
-failures: $(PROGRAM) $(REFUSE) $(LISTED_LONG) $(DAMAGED)
+failures: $(PROGRAM) $(REFUSE) $(LISTED_LONG) $(DAMAGED) $(MANY_LOST)
 	sh tools/streams/try_failures.sh $(PROGRAM) examples/app.db $(LEAKED).db $(LISTED_LONG) $(PRINTING)
 	$(SWEEP) write 1 examples/app.db $(EACH_COMMAND)
 	$(SWEEP) write 1 $(LEAKED).db check list
@@ -110,6 +111,8 @@ failures: $(PROGRAM) $(REFUSE) $(LISTED_LONG) $(DAMAGED)
 	$(SWEEP) read 1 examples/app.db info list "compact -o OUT"
 	$(SWEEP) sync 1 examples/app.db "compact -o OUT" "compact -o OUT --etcd-snapshot"
 	$(SWEEP) sync 1 $(DAMAGED) "compact -o OUT --recover"
+	$(SWEEP) sync 1 $(MANY_LOST) "compact -o OUT --recover" "compact -o OUT --recover --etcd-snapshot"
+	rm -f $(COPY) && test $$($(PROGRAM) compact --recover -o $(COPY) $(MANY_LOST) | grep -c "; lost: ") -eq 1500
 
 $(REFUSE): tools/refuse/refuse.c
 	mkdir -p $(@D)
@@ -124,6 +127,12 @@ $(DAMAGED): examples/etcd.db
 	mkdir -p $(@D)
 	cp $< $@
 	dd if=/dev/zero of=$@ bs=4096 seek=9 count=1 conv=notrunc status=none
+
+# 8 MB, of which 1,500 leaves are overwritten with zeros: their losses take more than 64 KiB of output.
+$(MANY_LOST): tools/bench/make_large.py tools/bench/zero_leaves.py
+	mkdir -p $(@D)
+	$(MAKER) tools/bench/make_large.py $@.sound 30000
+	$(MAKER) tools/bench/zero_leaves.py $@.sound $@ 1500
 
 FUZZ = $(MAKER) tools/fuzz
 SECONDS ?= 60
@@ -147,15 +156,20 @@ fuzz-wrong: $(PROGRAM)
 wrong-bodies:
 	RT_JOBS=$(JOBS) python3 -B tools/wrong_bodies/try_bodies.py --all $(CRATES)
 
-# How many crates the gate proves side by side: a processor each, and up to 6.5 GB. rt would otherwise
-# split one crate over several processors, which ends sooner and takes a third more processor time.
-JOBS ?= 2
+# How many crates the gate proves side by side: what the machine has room for, with a processor and 6.5 GB each. rt
+# would otherwise split one crate over several processors, which ends sooner and takes a third more processor time.
+JOBS ?= $(shell awk -v most=$$(nproc) '/MemTotal/ { room = int($$2 / 6500000); \
+	if (room > most) room = most; print (room < 1 ? 1 : room) }' /proc/meminfo)
+
+# Installs what the gate needs beyond the toolchain, where it can, and says what it leaves out.
+set-up:
+	tools/set_up.sh
 
 # The merge gate: whether each wrong body can be applied; every proof from nothing, and the programs,
 # which this builds; some wrong bodies, each against its function's own proof; and then, of the programs,
 # the test cases, real databases, the manual, failures, refused memory, random files that are the same
 # each time, and a few rounds beside bbolt, where that can be built.
-test:
+test: set-up
 	python3 -B tools/wrong_bodies/try_bodies.py --read
 	RT_JOBS=$(JOBS) rt ci
 	RT_JOBS=$(JOBS) python3 -B tools/wrong_bodies/try_bodies.py
@@ -163,6 +177,7 @@ test:
 	$(FUZZ)/fuzz.py $(PROGRAM) --seed 1 --files 36
 	tools/bbolt/try.sh $(PROGRAM) 3
 
+BBOLT = out/bbolt
 LARGE = out/large.db
 WIDE = out/wide.db
 LONG = out/long.db
@@ -174,8 +189,8 @@ LOST_LEAVES = out/lost_leaves.db
 # entries, 200,000 buckets in the root bucket, and 256 MB with values of 100 KB. Then times compact
 # copies of the first and the last of these, of 256 MB that are mostly free pages, and of 50,000 buckets
 # one within another; and what is recovered of the first, also with a thousand lost leaves. All have
-# pages of 4,096 bytes, as bbolt makes them on most machines. If `make bbolt` has run, bbolt copies the
-# same files.
+# pages of 4,096 bytes, as bbolt makes them on most machines. If Go and bbolt's source are there, bbolt's
+# library does the same on the first two.
 bench: $(PROGRAM) $(LARGE) $(WIDE) $(LONG) $(SPARSE) $(VERY_DEEP) $(LOST_LEAVES)
 	python3 -B tools/bench/time_commands.py $(PROGRAM) $(LARGE) info check buckets pages stats list \
 		"keys bucket-0" "get bucket-0 entry-000000000000100000"
@@ -183,6 +198,9 @@ bench: $(PROGRAM) $(LARGE) $(WIDE) $(LONG) $(SPARSE) $(VERY_DEEP) $(LOST_LEAVES)
 	python3 -B tools/bench/time_commands.py $(PROGRAM) $(LONG) info check buckets pages stats list
 	python3 -B tools/bench/time_copies.py $(PROGRAM) $(LARGE) $(LONG) $(SPARSE) $(VERY_DEEP)
 	python3 -B tools/bench/time_recovery.py $(PROGRAM) $(LARGE) $(LOST_LEAVES) 1000
+	tools/bbolt/build.sh
+	if test -x $(BBOLT); then python3 -B tools/bench/compare_bbolt.py $(PROGRAM) $(BBOLT) $(LARGE) bucket-0 \
+		entry-000000000000100000; python3 -B tools/bench/compare_bbolt.py $(PROGRAM) $(BBOLT) $(WIDE); fi
 
 $(LARGE): tools/bench/make_large.py
 	mkdir -p $(@D)

@@ -1,6 +1,6 @@
 """Compares the program's output with that of bbolt's own library.
 
-    compare.py PROGRAM BBOLT FOLDER [--rounds N] FILE ..
+    compare.py PROGRAM BBOLT FOLDER [--rounds N] [--guide DOCUMENT] FILE ..
 
 BBOLT is the program built from main.go beside this file. The files compared are each FILE and some
 that bbolt makes in FOLDER. Of each: bbolt accepts it where the program does, and both list the same
@@ -8,11 +8,13 @@ and count the same pages; of its compact copies in both layouts, too. Then bbolt
 transactions, N rounds of them, on the files that it made and on a copy of each for bbolt, and both
 programs accept the file after each round. Last, bbolt has to stop with a panic on a copy that has a
 branch of one child, and never on the copy of the same file for bbolt: without the first, nothing
-would show that these transactions can find such a branch.
+would show that these transactions can find such a branch. It has to do the same when it deletes every
+key. From each copy that the commands of DOCUMENT made, bbolt deletes every key: each was made for it.
 """
 
 import argparse
 import os
+import re
 import shutil
 import subprocess
 import sys
@@ -84,6 +86,12 @@ class Programs:
         """Random transactions by bbolt: its status."""
         return ended(self.bbolt, "change", str(seed), STEPS, file)[0]
 
+    def empty(self, file, folder):
+        """Bbolt deletes every key of a copy of the file, from the front and from the end: the greater status."""
+        emptied = os.path.join(folder, "emptied.db")
+        statuses = [ended(self.bbolt, "empty", order, shutil.copy(file, emptied))[0] for order in ("first", "last")]
+        return max(statuses)
+
 
 def compare_file(programs, file, folder):
     """Compares a file and its copies."""
@@ -120,9 +128,23 @@ def compare_panics(programs, file, folder):
     want(programs.lone_children(copy) > 0, file, "the copy has no branch of one child")
     count = panics(programs, copy, folder, RUNS)
     want(count > 0, "bbolt writes into branches of one child without a panic")
+    want(programs.empty(copy, folder) == PANIC, "bbolt deletes every key of a plain copy without a panic")
     copy = programs.copy_for_bbolt(file, copy)
     want(panics(programs, copy, folder, RUNS) == 0, file, "bbolt panics on the copy for bbolt")
+    want(programs.empty(copy, folder) == 0, file, "bbolt can't delete every key of the copy for bbolt")
     return count
+
+
+def empty_copies(programs, guide, folder):
+    """How many copies the commands of a document made. Bbolt deletes every key of each."""
+    with open(guide, encoding="utf-8") as document:
+        made = re.findall(r"(?m)^ {4}\$ luntsegi (compact .*?-o (out/\S+).*)", document.read())
+    made = [(command, copy) for command, copy in made if os.path.exists(copy)]
+    for command, copy in made:
+        want("--for-bbolt" in command or "--etcd-snapshot" in command, command, "makes no copy for bbolt")
+        want(programs.empty(copy, folder) == 0, copy, "bbolt can't delete every key")
+    want(made, guide, "makes no copy")
+    return len(made)
 
 
 def main():
@@ -133,6 +155,7 @@ def main():
     parser.add_argument("folder")
     parser.add_argument("files", nargs="*")
     parser.add_argument("--rounds", type=int, default=30)
+    parser.add_argument("--guide")
     words = parser.parse_args()
     programs = Programs(words.program, words.bbolt)
     os.makedirs(words.folder, exist_ok=True)
@@ -147,9 +170,11 @@ def main():
     for file in made:
         change_file(programs, programs.copy_for_bbolt(file, file + ".copy"), words.rounds)
         change_file(programs, file, words.rounds)
+    emptied = empty_copies(programs, words.guide, words.folder) if words.guide else 0
     print(f"{len(words.files) + len(made)} files compared with bbolt; {len(made)} and their copies for "
           f"bbolt after each of {words.rounds} rounds of {STEPS} transactions; {count} of {RUNS} runs on a "
-          "branch of one child panic, and none on the copy for bbolt")
+          f"branch of one child panic, and none on the copy for bbolt; every key deleted from {emptied} copies "
+          "of the guide")
 
 
 if __name__ == "__main__":

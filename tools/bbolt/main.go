@@ -2,15 +2,23 @@
 // files, prints what they hold in the same lines as luntsegi, checks them, and writes into them at
 // random.
 //
-//	bbolt make KIND FILE        makes a file: wide, nested, inline, long or churn
-//	bbolt check FILE            bbolt's own check: OK, or a line for each error and status 1
-//	bbolt list FILE             the lines of luntsegi list
-//	bbolt stats FILE            the lines of luntsegi stats that bbolt counts in the same way
-//	bbolt compact FILE OUT      bbolt's own compact
-//	bbolt change SEED N FILE    N random transactions; status 3 if bbolt panics
+//	bbolt make KIND FILE          makes a file: wide, nested, inline, long or churn
+//	bbolt check FILE              bbolt's own check: OK, or a line for each error and status 1
+//	bbolt info FILE               the page size, as bbolt's own command prints it
+//	bbolt buckets FILE            the names of the buckets in the root bucket
+//	bbolt keys FILE BUCKET        the keys of a bucket
+//	bbolt get FILE BUCKET KEY     a value
+//	bbolt pages FILE              a line for each page, as bbolt's own command prints it
+//	bbolt list FILE               the lines of luntsegi list
+//	bbolt stats FILE              the lines of luntsegi stats that bbolt counts in the same way
+//	bbolt compact FILE OUT BYTES  bbolt's own compact, with so many bytes in a transaction
+//	bbolt change SEED N FILE      N random transactions; status 3 if bbolt panics
+//	bbolt empty ORDER FILE        deletes every key and every bucket, a transaction each, and always the first or the
+//	                              last one that is left; status 3 if bbolt panics
 package main
 
 import (
+	"bufio"
 	"bytes"
 	"encoding/hex"
 	"fmt"
@@ -43,10 +51,24 @@ func run(words []string) error {
 		return withView(rest[0], list)
 	case words[0] == "stats" && len(rest) == 1:
 		return withView(rest[0], stats)
-	case words[0] == "compact" && len(rest) == 2:
-		return compact(rest[0], rest[1])
+	case words[0] == "info" && len(rest) == 1:
+		return info(rest[0])
+	case words[0] == "buckets" && len(rest) == 1:
+		return withView(rest[0], printBuckets)
+	case words[0] == "keys" && len(rest) == 2:
+		return withView(rest[0], func(tx *bolt.Tx) error { return printKeys(tx, rest[1]) })
+	case words[0] == "get" && len(rest) == 3:
+		return withView(rest[0], func(tx *bolt.Tx) error { return printValue(tx, rest[1], rest[2]) })
+	case words[0] == "pages" && len(rest) == 1:
+		return pages(rest[0])
+	case words[0] == "compact" && len(rest) == 3:
+		return compact(rest[0], rest[1], rest[2])
 	case words[0] == "change" && len(rest) == 3:
 		return changeAll(rest[0], rest[1], rest[2])
+	case words[0] == "empty" && len(rest) == 2 && rest[0] == "first":
+		return writeAll(rest[1], func(db *bolt.DB) error { return empty(db, (*bolt.Cursor).First) })
+	case words[0] == "empty" && len(rest) == 2 && rest[0] == "last":
+		return writeAll(rest[1], func(db *bolt.DB) error { return empty(db, (*bolt.Cursor).Last) })
 	}
 	return fmt.Errorf("unknown words")
 }
@@ -81,27 +103,39 @@ func check(tx *bolt.Tx) error {
 
 // list prints each path with its value or the sequence of its bucket, a bucket before everything in it.
 func list(tx *bolt.Tx) error {
-	out := bytes.Buffer{}
-	var below func(path string, bucket *bolt.Bucket) error
-	entry := func(path string, bucket *bolt.Bucket, key, value []byte) error {
-		path += hex.EncodeToString(key)
-		if value != nil {
-			fmt.Fprintf(&out, "%s = %x\n", path, value)
-			return nil
-		}
-		inner := bucket.Bucket(key)
-		fmt.Fprintf(&out, "%s bucket %d\n", path, inner.Sequence())
-		return below(path+"/", inner)
+	out := bufio.NewWriterSize(os.Stdout, 1<<16)
+	defer out.Flush()
+	digits := hex.NewEncoder(out)
+	var below func(path []byte, bucket *bolt.Bucket) error
+	bucketLine := func(path []byte, bucket *bolt.Bucket) error {
+		out.Write(path)
+		out.WriteString(" bucket ")
+		out.WriteString(strconv.FormatUint(bucket.Sequence(), 10))
+		out.WriteByte('\n')
+		return below(append(path, '/'), bucket)
 	}
-	below = func(path string, bucket *bolt.Bucket) error {
-		return bucket.ForEach(func(key, value []byte) error { return entry(path, bucket, key, value) })
+	below = func(path []byte, bucket *bolt.Bucket) error {
+		return bucket.ForEach(func(key, value []byte) error {
+			if value == nil {
+				return bucketLine(appendHex(path, key), bucket.Bucket(key))
+			}
+			out.Write(path)
+			digits.Write(key)
+			out.WriteString(" = ")
+			digits.Write(value)
+			return out.WriteByte('\n')
+		})
 	}
-	err := tx.ForEach(func(name []byte, bucket *bolt.Bucket) error {
-		fmt.Fprintf(&out, "%x bucket %d\n", name, bucket.Sequence())
-		return below(hex.EncodeToString(name)+"/", bucket)
+	return tx.ForEach(func(name []byte, bucket *bolt.Bucket) error {
+		return bucketLine(appendHex(nil, name), bucket)
 	})
-	os.Stdout.Write(out.Bytes())
-	return err
+}
+
+func appendHex(path, key []byte) []byte {
+	whole := make([]byte, len(path)+hex.EncodedLen(len(key)), len(path)+hex.EncodedLen(len(key))+1)
+	copy(whole, path)
+	hex.Encode(whole[len(path):], key)
+	return whole
 }
 
 // stats adds up bbolt's figures of the buckets of the root bucket.
@@ -116,7 +150,68 @@ func stats(tx *bolt.Tx) error {
 	return err
 }
 
-func compact(name, out string) error {
+func info(name string) error {
+	db, err := open(name, true)
+	if err != nil {
+		return err
+	}
+	defer db.Close()
+	fmt.Println("Page Size:", db.Info().PageSize)
+	return nil
+}
+
+func printBuckets(tx *bolt.Tx) error {
+	out := bufio.NewWriter(os.Stdout)
+	defer out.Flush()
+	return tx.ForEach(func(name []byte, _ *bolt.Bucket) error {
+		_, err := fmt.Fprintln(out, string(name))
+		return err
+	})
+}
+
+func printKeys(tx *bolt.Tx, bucket string) error {
+	out := bufio.NewWriter(os.Stdout)
+	defer out.Flush()
+	return tx.Bucket([]byte(bucket)).ForEach(func(key, _ []byte) error {
+		_, err := fmt.Fprintln(out, string(key))
+		return err
+	})
+}
+
+func printValue(tx *bolt.Tx, bucket, key string) error {
+	_, err := fmt.Println(string(tx.Bucket([]byte(bucket)).Get([]byte(key))))
+	return err
+}
+
+// pages opens the file to write, since only then bbolt reads the freelist at once.
+func pages(name string) error {
+	db, err := open(name, false)
+	if err != nil {
+		return err
+	}
+	defer db.Close()
+	out := bufio.NewWriter(os.Stdout)
+	defer out.Flush()
+	return db.View(func(tx *bolt.Tx) error {
+		for id := 0; ; {
+			page, err := tx.Page(id)
+			if err != nil || page == nil {
+				return err
+			}
+			fmt.Fprintf(out, "%-8d %-10s %-6d %-6d\n", page.ID, page.Type, page.Count, page.OverflowCount)
+			id++
+			if page.Type != "free" {
+				id += page.OverflowCount
+			}
+		}
+	})
+}
+
+func compact(name, out, bytes string) error {
+	most, err := strconv.ParseInt(bytes, 10, 64)
+	if err != nil {
+		return err
+	}
 	from, err := open(name, true)
 	if err != nil {
 		return err
@@ -127,7 +222,7 @@ func compact(name, out string) error {
 		return err
 	}
 	defer to.Close()
-	return bolt.Compact(to, from, 0)
+	return bolt.Compact(to, from, most)
 }
 
 // ---- files
@@ -224,6 +319,11 @@ func changeAll(seed, count, name string) error {
 	if err != nil {
 		return err
 	}
+	return writeAll(name, func(db *bolt.DB) error { return change(db, rand.New(rand.NewSource(from)), steps) })
+}
+
+// writeAll writes into a file. If bbolt panics, the status is 3.
+func writeAll(name string, write func(*bolt.DB) error) error {
 	defer func() {
 		if fault := recover(); fault != nil {
 			fmt.Println("panic:", fault)
@@ -235,7 +335,33 @@ func changeAll(seed, count, name string) error {
 		return err
 	}
 	defer db.Close()
-	return change(db, rand.New(rand.NewSource(from)), steps)
+	return write(db)
+}
+
+// empty deletes one key of a bucket after another, until none is left, and then the bucket.
+func empty(db *bolt.DB, next move) error {
+	for {
+		left := 0
+		err := db.Update(func(tx *bolt.Tx) error {
+			names := buckets(tx)
+			left = len(names)
+			if left == 0 {
+				return nil
+			}
+			bucket := tx.Bucket(names[0])
+			key, value := next(bucket.Cursor())
+			switch {
+			case key == nil:
+				return tx.DeleteBucket(names[0])
+			case value == nil:
+				return bucket.DeleteBucket(key)
+			}
+			return bucket.Delete(key)
+		})
+		if err != nil || left == 0 {
+			return err
+		}
+	}
 }
 
 // change makes a number of random transactions.

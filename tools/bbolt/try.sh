@@ -3,8 +3,10 @@
 #
 #     try.sh PROGRAM ROUNDS
 #
-# Without Go or bbolt's source it says so and compares nothing.
+# Without Go or bbolt's source it says so and compares nothing. The guide's commands are run first: bbolt
+# goes on writing into the copies that they make.
 set -eu
 tools/bbolt/build.sh
 [ -x out/bbolt ] || exit 0
-python3 -B tools/bbolt/compare.py "$1" out/bbolt out/bbolt_files examples/*.db --rounds "$2"
+python3 -B tools/usage/run_examples.py "$1" docs/GUIDE.md
+python3 -B tools/bbolt/compare.py "$1" out/bbolt out/bbolt_files examples/*.db --rounds "$2" --guide docs/GUIDE.md

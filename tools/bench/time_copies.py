@@ -7,8 +7,7 @@ Each copy is made into the folder of its file, and timed beside `check` of the f
 for bbolt and beside a plain copy of as many bytes with a sync, in turn; the figures are medians of
 five. The status is 1 where a copy fails, is not sound or takes longer than `check` and 1.5 times the
 plain copy, where the copy for bbolt takes longer than 1.2 times the other, or where a copy takes more
-memory than the file, a byte for each page of it, and 32 MiB. If `make bbolt` has built
-a program of bbolt's library, its `check` and `compact` are timed too.
+memory than the file, a byte for each page of it, and 32 MiB.
 """
 
 import os
@@ -19,7 +18,6 @@ from statistics import median
 
 from time_commands import PAGE_SIZE
 
-BBOLT = "out/bbolt"
 ROUNDS = 5
 ROOM = 32 * 2**20
 
@@ -69,22 +67,11 @@ def time_copy(program, file):
     return copied <= allowed and balanced <= 1.2 * copied and memory <= most
 
 
-def time_bbolt(file):
-    """Prints the same figures of bbolt."""
-    copy = file + ".copy"
-    checked = median(seconds([BBOLT, "check", file])[0] for _ in range(ROUNDS))
-    copied = median(seconds([BBOLT, "compact", file, fresh(copy)])[0] for _ in range(ROUNDS))
-    print(f"  by bbolt: {copied:.2f} s (check {checked:.2f}), {os.path.getsize(copy)} bytes")
-    os.remove(copy)
-
-
 def main():
     program, *files = sys.argv[1:]
     good = True
     for file in files:
         good = time_copy(program, file) and good
-        if os.path.exists(BBOLT):
-            time_bbolt(file)
     sys.exit(0 if good else 1)
 
 

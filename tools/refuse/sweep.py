@@ -91,7 +91,7 @@ class Command:
         # If a fault follows the whole text, a call may be refused between the two.
         is_part = full[1].startswith(out) and (out != full[1] or full[2] != b"")
         is_begun = out == b"" or (may_begin and is_part)
-        is_taken = copy is None or (full[3].startswith(copy) and (self.call != "memory" or copy != full[3]))
+        is_taken = copy is None or full[3].startswith(copy)
         return self.lines.get(err) if status == 1 and is_begun and is_taken else None
 
 

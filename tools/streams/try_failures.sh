@@ -78,6 +78,25 @@ want_cut_snapshot() {
 	rm "$copy"
 }
 
+# If FILE has a name of 250 bytes, one line is reported, too.
+long_name() {
+	named=$folder/$(printf %0250d 0)
+	cp "$sound" "$named"
+	out=/dev/full
+	for command in "$@" "compact -o $copy"; do
+		on_file run "$named" "$command"
+		want_fault "write failed"
+	done
+	rm "$named" "$copy"
+	for command in "$@" "compact -o $copy"; do
+		on_file run "$named" "$command"
+		want_fault "cannot read $named"
+	done
+	out=$folder/out
+	run compact -o "$named/copy" "$sound"
+	want_fault "cannot make $named/copy"
+}
+
 # Standard output that can't be written is reported by each command.
 full_output() {
 	out=/dev/full
@@ -276,6 +295,7 @@ unread_file() {
 }
 
 full_output "$@"
+long_name "$@"
 closed_output
 leaving_reader
 left_reader "$@"

@@ -2,16 +2,13 @@
 //! the words and the bytes. Here are the words, the files and the streams of the process.
 #![tactic(auto)]
 
-ghost use Rattle.std.specs.Prelude.{refl};
-ghost use Rattle.bolt_snapshot.specs.Hashes.{IsSteady};
-
 use bolt_cli::{Job, Refusal, read_words, run};
-use bolt_format::{Sink, WriteSink};
+use bolt_format::{MemSink, Sink, WriteSink};
 use bolt_snapshot::HashedSink;
 use std::cell::Cell;
 use std::env;
 use std::fs::{File, OpenOptions};
-use std::io::{self, BufWriter, Read, Stderr, Stdout, Write};
+use std::io::{self, BufWriter, Read, Stdout, Write};
 use std::os::unix::fs::{MetadataExt, OpenOptionsExt};
 use std::process::ExitCode;
 
@@ -21,8 +18,6 @@ const REFUSED: u8 = 2;
 const FAILED: u8 = 1;
 /// The number of bytes of output that are gathered before they are written.
 const GATHERED: usize = 1 << 16;
-/// The number of bytes that are gathered of the line of a failure.
-const LINE: usize = 1 << 8;
 /// The number of bytes of a copy that are gathered before they are written.
 const COPIED: usize = 1 << 20;
 /// The bits of a file's mode that say who may read, write and execute it.
@@ -60,7 +55,7 @@ fn report_refusal(rt: &HostRuntime, refusal: Refusal) -> u8 {
         }
         Refusal::Help(text) | Refusal::Version(text) => match print!(rt; "{text}") {
             Ok(()) => 0,
-            Err(error) => report_unwritten(rt, &error),
+            Err(error) => report_unwritten(rt, is_unread(&error)),
         },
     }
 }
@@ -71,13 +66,18 @@ fn report(rt: &HostRuntime, text: &str, code: u8) -> u8 {
     code
 }
 
-/// Prints why standard output can't be written, and returns the status. If its reader has left,
+/// Prints that standard output can't be written, and returns the status. If its reader has left,
 /// nothing is printed: the reader wanted no more.
-fn report_unwritten(rt: &HostRuntime, error: &io::Error) -> u8 {
-    if error.kind() == io::ErrorKind::BrokenPipe {
+fn report_unwritten(rt: &HostRuntime, reader_left: bool) -> u8 {
+    if reader_left {
         return FAILED;
     }
     report(rt, "write failed", FAILED)
+}
+
+/// Whether a write failed since the reader of the stream has left.
+fn is_unread(error: &io::Error) -> bool {
+    error.kind() == io::ErrorKind::BrokenPipe
 }
 
 /// The bytes of FILE that were read.
@@ -96,8 +96,8 @@ fn run_job(rt: &HostRuntime, job: &Job) -> u8 {
         return FAILED;
     };
     match job.target() {
-        Some(name) => run_copy(rt, job, &source, name),
-        None => run_over(rt, job, source.bytes.as_slice(), io::sink()),
+        Some(name) => create_copy(rt, job, &source, name),
+        None => show(rt, job, source.bytes.as_slice()),
     }
 }
 
@@ -115,53 +115,66 @@ fn read_source(rt: &HostRuntime, job: &Job) -> io::Result<Source> {
 
 /// Creates OUT, which must not exist, with the permission bits of FILE, and does the job over it.
 /// The bits are set on creation, so at no time can anybody open OUT who can't read FILE.
-fn run_copy(rt: &HostRuntime, job: &Job, source: &Source, name: &str) -> u8 {
+fn create_copy(rt: &HostRuntime, job: &Job, source: &Source, name: &str) -> u8 {
     let made = OpenOptions::new()
         .write(true)
         .create_new(true)
         .mode(source.permissions)
         .open(rt, name);
-    let made = match made {
-        Ok(made) => made,
+    match made {
+        Ok(made) => copy(rt, job, source.bytes.as_slice(), made),
         Err(error) if error.kind() == io::ErrorKind::AlreadyExists => {
-            return report(rt, "output exists", FAILED);
+            report(rt, "output exists", FAILED)
         }
         Err(_) => {
             let _ = eprintln!(rt; "error: cannot make {name}");
-            return FAILED;
+            FAILED
         }
+    }
+}
+
+/// Does a job that writes OUT. Its output is held in memory, however long it is, until OUT is on the
+/// disk. If OUT can't be ended, none of it is printed.
+fn copy(rt: &HostRuntime, job: &Job, file: &[u8], made: File) -> u8 {
+    let Ok(gathered) = BufWriter::with_capacity(rt.alloc(), COPIED, made) else {
+        return report(rt, "out of memory", FAILED);
     };
-    match BufWriter::with_capacity(rt.alloc(), COPIED, made) {
-        Ok(target) => run_over(rt, job, source.bytes.as_slice(), target),
-        Err(_) => report(rt, "out of memory", FAILED),
+    let mut out = MemSink::new(rt.alloc());
+    let mut line = MemSink::new(rt.alloc());
+    let mut target = HashedSink::new(WriteSink::new(gathered));
+    let status = run(rt.alloc(), job, file, &mut out, &mut line, &mut target);
+    match end_target(target.into_inner().into_inner()) {
+        Ok(()) if out.failures() > 0 => report(rt, "out of memory", FAILED),
+        Ok(()) => match print_held(rt, out.bytes()) {
+            Ok(()) => end(rt, &line, status.code),
+            Err(error) => report_unwritten(rt, is_unread(&error)),
+        },
+        Err(_) if line.bytes().is_empty() => report(rt, "write failed", FAILED),
+        Err(_) => end(rt, &line, FAILED),
     }
 }
 
-/// What the copy of a job is written to.
-trait Target: Write {
-    /// Ends the writing. `Ok` means that everything that was written is on the disk.
-    fn finish(self) -> io::Result<()>;
-
-    /// It shows its bytes in all states, or in none.
-    ghost steady: { IsSteady Self.Write.contents };
+/// Writes the bytes of OUT that are gathered, and ends it. `Ok` means that everything that was
+/// written is on the disk.
+fn end_target(target: BufWriter<File>) -> io::Result<()> {
+    let file = target.into_inner()?;
+    file.sync_all()
 }
 
-/// The target of a job that writes no copy.
-impl Target for io::Sink {
-    ghost steady = { λ s t none. refl };
-
-    fn finish(self) -> io::Result<()> {
-        Ok(())
-    }
+/// Prints what was held.
+fn print_held(rt: &HostRuntime, text: &[u8]) -> io::Result<()> {
+    let mut stdout = rt.stdout();
+    stdout.write_all(text)?;
+    stdout.flush()
 }
 
-impl Target for BufWriter<File> {
-    ghost steady = { λ s t none. refl };
-
-    fn finish(self) -> io::Result<()> {
-        let file = self.into_inner()?;
-        file.sync_all()
+/// Prints the line of the job's failure, if there is one, and returns the status.
+fn end(rt: &HostRuntime, line: &MemSink, code: u8) -> u8 {
+    if line.failures() > 0 {
+        return report(rt, "out of memory", FAILED);
     }
+    let _ = rt.stderr().write_all(line.bytes());
+    code
 }
 
 /// Standard output. It notes when its reader has left.
@@ -175,7 +188,7 @@ impl Write for Output<'_> {
     fn write(&mut self, bytes: &[u8]) -> io::Result<usize> {
         let written = self.stdout.write(bytes);
         if let Err(error) = &written {
-            if error.kind() == io::ErrorKind::BrokenPipe {
+            if is_unread(error) {
                 self.reader_left.set(true);
             }
         }
@@ -187,10 +200,9 @@ impl Write for Output<'_> {
     }
 }
 
-/// Does the job over the streams of the process and the target, with its output gathered. The
-/// output is written only once the target is finished: if that fails, nothing was said. The line of
-/// a failure comes last.
-fn run_over<T: Target + Drop>(rt: &HostRuntime, job: &Job, file: &[u8], target: T) -> u8 {
+/// Does a job without an OUT. Its output is gathered, and printed as it comes. The line of a failure
+/// comes last.
+fn show(rt: &HostRuntime, job: &Job, file: &[u8]) -> u8 {
     let reader_left = Cell::new(false);
     let output = Output {
         stdout: rt.stdout(),
@@ -199,66 +211,26 @@ fn run_over<T: Target + Drop>(rt: &HostRuntime, job: &Job, file: &[u8], target: 
     let Ok(gathered) = BufWriter::with_capacity(rt.alloc(), GATHERED, output) else {
         return report(rt, "out of memory", FAILED);
     };
-    let Ok(line) = BufWriter::with_capacity(rt.alloc(), LINE, rt.stderr()) else {
-        return report(rt, "out of memory", FAILED);
-    };
     let mut out = WriteSink::new(gathered);
-    let mut err = WriteSink::new(line);
-    let mut target = HashedSink::new(WriteSink::new(target));
-    let status = run(rt.alloc(), job, file, &mut out, &mut err, &mut target);
-    let line = err.into_inner();
-    match target.into_inner().into_inner().finish() {
-        Ok(()) => write_out(rt, out, line, &reader_left, status.code),
-        Err(_) => {
-            // Dropping it would write what is gathered.
-            let _unwritten = out.into_inner().into_parts();
-            report_unfinished(rt, line)
-        }
+    let mut line = MemSink::new(rt.alloc());
+    let mut target = HashedSink::new(WriteSink::new(io::sink()));
+    let status = run(rt.alloc(), job, file, &mut out, &mut line, &mut target);
+    if is_printed(out) {
+        end(rt, &line, status.code)
+    } else {
+        report_unwritten(rt, reader_left.get())
     }
 }
 
-/// Writes what was gathered, and then the line of a failure, and returns the status. If the output
-/// can't be written, that is the failure, and nothing is printed of it if its reader has left.
-fn write_out(
-    rt: &HostRuntime,
-    out: WriteSink<BufWriter<Output<'_>>>,
-    line: BufWriter<Stderr>,
-    reader_left: &Cell<bool>,
-    code: u8,
-) -> u8 {
+/// Prints the rest of what is gathered, unless an earlier write failed. Returns whether all is
+/// printed.
+fn is_printed(out: WriteSink<BufWriter<Output<'_>>>) -> bool {
     let has_failed = out.failures() > 0;
     let mut gathered = out.into_inner();
-    let flushed = gathered.flush();
-    if flushed.is_err() {
+    let is_printed = !has_failed && gathered.flush().is_ok();
+    if !is_printed {
+        // Dropping it would write what is gathered.
         let _unwritten = gathered.into_parts();
     }
-    match flushed {
-        Err(error) if !has_failed => {
-            let _unprinted = line.into_parts();
-            report_unwritten(rt, &error)
-        }
-        _ => {
-            print_line(line, reader_left);
-            code
-        }
-    }
-}
-
-/// Prints the line of a failure, if there is one. If the reader of standard output has left, the
-/// line can only be that of the failed write, and is dropped.
-fn print_line(mut line: BufWriter<Stderr>, reader_left: &Cell<bool>) {
-    if reader_left.get() {
-        let _unprinted = line.into_parts();
-    } else {
-        let _ = line.flush();
-    }
-}
-
-/// Prints that the target can't be finished, unless the job has a failure of its own.
-fn report_unfinished(rt: &HostRuntime, mut line: BufWriter<Stderr>) -> u8 {
-    if line.buffer().is_empty() {
-        return report(rt, "write failed", FAILED);
-    }
-    let _ = line.flush();
-    FAILED
+    is_printed
 }

@@ -1,0 +1,32 @@
+#!/bin/sh
+# Installs what `make test` needs beyond the Rattle toolchain: Debian's packages, if apt-get is there and this runs as
+# root. Then it says, a line each, what is still missing and what is left out for that. Without Python or a C compiler
+# the gate can't run: the status is 1 then.
+set -u
+bbolt=${BBOLT_GOPATH:-/usr/share/gocode}/src/go.etcd.io/bbolt
+
+# The packages that aren't there yet.
+missing() {
+	command -v python3 >/dev/null || echo python3
+	command -v cc >/dev/null || echo gcc libc6-dev
+	command -v mandoc >/dev/null || echo mandoc
+	command -v zsh >/dev/null || echo zsh
+	command -v go >/dev/null || echo golang-go
+	[ -d "$bbolt" ] || echo golang-github-coreos-bbolt-dev
+}
+
+packages=$(missing)
+if [ -n "$packages" ] && [ "$(id -u)" -eq 0 ] && command -v apt-get >/dev/null; then
+	export DEBIAN_FRONTEND=noninteractive
+	{ apt-get update && apt-get install -y --no-install-recommends $packages; } >/dev/null 2>&1
+fi
+status=0
+for package in $(missing); do
+	case $package in
+	python3 | gcc) echo "set-up: $package is missing: the gate can't run" && status=1 ;;
+	mandoc) echo "set-up: mandoc is missing: the manual page is compared with help, but not linted" ;;
+	zsh) echo "set-up: zsh is missing: its completions are not tried" ;;
+	golang-*) echo "set-up: $package is missing: nothing is compared with bbolt" ;;
+	esac
+done
+exit "$status"
