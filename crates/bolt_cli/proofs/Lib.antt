@@ -1,14 +1,9 @@
-pub mod Alike
 pub mod AtPaths
-pub mod BuiltRules
 pub mod CommandLineLemmas
 pub mod CopyAnswers
 pub mod CutTexts
 pub mod Doing
 pub mod EntryAnswers
-pub mod GivenRows
-pub mod LineReading
-pub mod Lines
 pub mod ListAnswers
 pub mod ListedBuckets
 pub mod LossAnswers
@@ -20,12 +15,7 @@ pub mod PathReading
 pub mod ReadFiles
 pub mod RestAnswers
 pub mod RootEntries
-pub mod SettingLemmas
 pub mod ShownTexts
 pub mod SizesAnswers
 pub mod SnapshotCopies
 pub mod StatsAnswers
-pub mod WholeLines
-pub mod WordSteps
-pub mod WrittenLines
-pub mod WrittenPaths

@@ -36,8 +36,8 @@ module _ {O T : Type 0} (out_taken : O → Option (List ℕ)) (out_failed : O �
   pub enough : (j : Job) (out_old out_new : O) (target_old target_new : T) (ending : Ending)
       → DoesJob out_taken out_failed out_old out_new target_taken target_failed target_old target_new (needed_bytes j file) j ending
       ↔ DoesJob out_taken out_failed out_old out_new target_taken target_failed target_old target_new file j ending
-  enough (job.Info name slot) out_old out_new target_old target_new ending = (
-    (λ h. (h.0, answer_there (take METAS_END file) file slot h.0 same h.1, h.2, h.3)),
-    (λ h. (h.0, answer_there file (take METAS_END file) slot h.0 (back (take METAS_END file) file same) h.1, h.2, h.3)),
+  enough (job.Info j) out_old out_new target_old target_new ending = (
+    (λ h. (h.0, answer_there (take METAS_END file) file j.slot h.0 same h.1, h.2, h.3)),
+    (λ h. (h.0, answer_there file (take METAS_END file) j.slot h.0 (back (take METAS_END file) file same) h.1, h.2, h.3)),
   )
   enough _ out_old out_new target_old target_new ending = (λ h. h, λ h. h)

@@ -418,16 +418,16 @@ module _ {O T : Type 0} (out_taken : O → Option (List ℕ)) (out_failed : O �
 
   -- what a job does, and how it ends
   abbrev pub DoesJob : List ℕ → Job → Ending → Type 0
-  DoesJob file (job.Info name slot) = Prints (IsInfoAnswer file slot)
-  DoesJob file (job.Page name id) = Prints (IsOpenAnswer file (λ slot meta. page_answer (page_text_fault file meta id) (page_text file meta id)))
-  DoesJob file (job.Pages name as_map) = Prints (IsCheckedAnswer file (IsPagesAnswer file as_map) IsFileRefusal)
-  DoesJob file (job.Check name slot all snapshot) = Prints (IsCheckAnswer all snapshot file slot)
-  DoesJob file (job.Buckets name slot path form sizes) = Prints (IsReadAnswer file slot (IsBucketsAnswer file (path_in path.items) form sizes))
-  DoesJob file (job.Stats name slot path) = Prints (IsReadAnswer file slot (IsStatsAnswer file (path_in path.items)))
-  DoesJob file (job.Keys name slot path prefix form) = Prints (IsReadAnswer file slot (IsEntriesAnswer file (path_in path.items) form (λ entries. keys_text form (with_prefix prefix.items entries))))
-  DoesJob file (job.Get name slot path form no_newline) = Prints (IsReadAnswer file slot (IsGetAnswer file (path_in path.items) form no_newline))
-  DoesJob file (job.List name slot form path from recover) = Prints (IsListedAnswer recover file slot form (path_in path.items) (path_in from.items))
-  DoesJob file (job.Compact name slot out size which recover) = MakesCopy file slot size (layout_for which) (is_snapshot which) recover
+  DoesJob file (job.Info j) = Prints (IsInfoAnswer file j.slot)
+  DoesJob file (job.Page j) = Prints (IsOpenAnswer file (λ slot meta. page_answer (page_text_fault file meta j.id) (page_text file meta j.id)))
+  DoesJob file (job.Pages j) = Prints (IsCheckedAnswer file (IsPagesAnswer file j.map) IsFileRefusal)
+  DoesJob file (job.Check j) = Prints (IsCheckAnswer j.all j.snapshot file j.slot)
+  DoesJob file (job.Buckets j) = Prints (IsReadAnswer file j.slot (IsBucketsAnswer file (path_in j.path.items) j.form j.sizes))
+  DoesJob file (job.Stats j) = Prints (IsReadAnswer file j.slot (IsStatsAnswer file (path_in j.path.items)))
+  DoesJob file (job.Keys j) = Prints (IsReadAnswer file j.slot (IsEntriesAnswer file (path_in j.path.items) j.form (λ entries. keys_text j.form (with_prefix j.prefix.items entries))))
+  DoesJob file (job.Get j) = Prints (IsReadAnswer file j.slot (IsGetAnswer file (path_in j.path.items) j.form j.no_newline))
+  DoesJob file (job.List j) = Prints (IsListedAnswer j.recover file j.slot j.form (path_in j.path.items) (path_in j.from.items))
+  DoesJob file (job.Compact j) = MakesCopy file j.slot j.page_size (layout_for j.kind) (is_snapshot j.kind) j.recover
 
 -- ---- the end of a run
 

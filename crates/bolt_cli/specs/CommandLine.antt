@@ -12,7 +12,7 @@ use Rattle.bolt_cli.specs.declared.job.Job.{Job}
 use Rattle.bolt_cli.specs.declared.refusal.Refusal.{Refusal}
 use Rattle.bolt_cli.specs.declared.refusal.Refusal.TheVariants.{Memory, Help, Version, Usage, Word}
 use Rattle.bolt_cli.specs.LineWords.{Choice, Flag, Operand, Syntax, Text, both, given_word, long, short}
-use Rattle.bolt_cli.specs.PlainWords.{Asked, Reading, Values, asked, asked_of, refused, syntaxes, unread}
+use Rattle.bolt_cli.specs.PlainWords.{Asked, Values, asked, asked_of, syntaxes}
 
 -- ---- what the command line may hold
 
@@ -132,12 +132,3 @@ HasKindOf fault (Help text) = fault ≡ kind.DisplayHelp
 HasKindOf fault (Version text) = fault ≡ kind.DisplayVersion
 HasKindOf fault (Usage text) = IsUsage fault × (fault ≢ kind.OutOfMemory)
 HasKindOf fault (Word why) = ⊥
-
--- Words that say this are refused so; memory may run out at any words. For which lines `clap` prints help, the version or usage is what it
--- says of the command line that is described to it.
-abbrev pub IsRefusalOf : List Text → Reading → Refusal → Type 0
-IsRefusalOf words line Memory = Unit {0}
-IsRefusalOf words line (Help text) = (line ≡ refused) × IsAmong kind.DisplayHelp (fault_of program words)
-IsRefusalOf words line (Version text) = (line ≡ refused) × IsAmong kind.DisplayVersion (fault_of program words)
-IsRefusalOf words line (Usage text) = (line ≡ refused) × IsAmongUsage (fault_of program words)
-IsRefusalOf words line (Word why) = line ≡ unread why.now

@@ -6,7 +6,7 @@ use Rattle.bolt_cli.specs.declared.job.Job.TheVariants as job
 
 -- the length of the prefix that it needs, if it doesn't need the whole
 abbrev pub needed_length : Job → Option ℕ
-needed_length (job.Info name slot) = Some METAS_END
+needed_length (job.Info j) = Some METAS_END
 needed_length _ = None
 
 abbrev pub first_bytes : Option ℕ → List ℕ → List ℕ

@@ -1,4 +1,4 @@
--- The command line in the words of its user: `line_of` says what words ask for, and knows nothing of `clap`. docs/COMMANDS.md, "Words".
+-- What the words of a command line ask for: docs/COMMANDS.md, "Words".
 use Rattle.std.specs.Prelude.{◌==◌, ◌&&◌, ◌+◌, ◌-◌, ◌*◌, ◌^◌, ◌<◌, ℕ, Bool, true, false, List, [], ◌∷◌, ◌++◌, All, Option, Some, None, Result, Ok, Err, Vec, codes, find, length, map, nat_lt, option_map, string_bytes, if◌then◌else◌}
 use Rattle.std.specs.Fmt.{decimal}
 use Rattle.std.specs.List.{join_with_byte, list_any}
@@ -13,7 +13,7 @@ use Rattle.bolt_report.specs.declared.form.Form.{Form}
 use Rattle.bolt_report.specs.declared.form.Form.TheVariants as form
 use Rattle.bolt_report.specs.declared.form.ListForm.{ListForm}
 use Rattle.bolt_report.specs.declared.form.ListForm.TheVariants as list_form
-use Rattle.bolt_cli.specs.LineWords.{Choice, Known, Operand, Syntax, Text, both, is_complete, known_after, long, short, values_of}
+use Rattle.bolt_cli.specs.LineWords.{Choice, Operand, Syntax, Text, both, long, short}
 use Rattle.bolt_cli.specs.PathWords.{each_part, hex_path_by, part_of, parts_by, prefix_of, result_and_then}
 use Rattle.bolt_cli.specs.CopyKinds.{is_snapshot}
 use Rattle.bolt_cli.specs.declared.copy_kind.CopyKind.{CopyKind}
@@ -138,16 +138,16 @@ abbrev pub size_in : Option PageSize → Option ℕ
 size_in size = option_map (λ (s : PageSize). s.bytes) size
 
 abbrev pub asked_of : Job → Asked
-asked_of (job.Info file slot) = info (string_bytes file) slot
-asked_of (job.Page file id) = page (string_bytes file) id
-asked_of (job.Pages file as_map) = pages (string_bytes file) as_map
-asked_of (job.Check file slot all snapshot) = check (string_bytes file) slot all snapshot
-asked_of (job.Buckets file slot path form sizes) = buckets (string_bytes file) slot (path_in path.items) form sizes
-asked_of (job.Keys file slot path prefix form) = keys (string_bytes file) slot (path_in path.items) prefix.items form
-asked_of (job.Get file slot path form no_newline) = get (string_bytes file) slot (path_in path.items) form no_newline
-asked_of (job.Stats file slot path) = stats (string_bytes file) slot (path_in path.items)
-asked_of (job.List file slot form path from recover) = list (string_bytes file) slot form (path_in path.items) (path_in from.items) recover
-asked_of (job.Compact file slot target size which recover) = compact (string_bytes file) slot (string_bytes target) (size_in size) which recover
+asked_of (job.Info j) = info (string_bytes j.file) j.slot
+asked_of (job.Page j) = page (string_bytes j.file) j.id
+asked_of (job.Pages j) = pages (string_bytes j.file) j.map
+asked_of (job.Check j) = check (string_bytes j.file) j.slot j.all j.snapshot
+asked_of (job.Buckets j) = buckets (string_bytes j.file) j.slot (path_in j.path.items) j.form j.sizes
+asked_of (job.Keys j) = keys (string_bytes j.file) j.slot (path_in j.path.items) j.prefix.items j.form
+asked_of (job.Get j) = get (string_bytes j.file) j.slot (path_in j.path.items) j.form j.no_newline
+asked_of (job.Stats j) = stats (string_bytes j.file) j.slot (path_in j.path.items)
+asked_of (job.List j) = list (string_bytes j.file) j.slot j.form (path_in j.path.items) (path_in j.from.items) j.recover
+asked_of (job.Compact j) = compact (string_bytes j.file) j.slot (string_bytes j.target) (size_in j.page_size) j.kind j.recover
 
 -- the words that a line gives by each name
 abbrev pub Values : Type 0
@@ -312,148 +312,22 @@ asked_among (c ∷ later) name values = if bytes_eq name c.syntax.name then c.as
 abbrev pub asked : Text → Values → Result Asked Text
 asked name values = asked_among commands name values
 
--- ---- lines
-
--- what words say: what they ask for; that one of them can't be read, and why; or nothing, since help is wanted or a word is out of place
-pub data Reading : Type 0 where
-  asks : Asked → Reading
-  unread : Text → Reading
-  refused : Reading
-
-abbrev pub reading_of : Result Asked Text → Reading
-reading_of (Ok wanted) = asks wanted
-reading_of (Err why) = unread why
-
-abbrev pub reading_in : Syntax → Known → Reading
-reading_in s k = if is_complete s k then reading_of (asked s.name (values_of k.given)) else refused
-
-abbrev pub reading_by : Option Syntax → List Text → Reading
-reading_by (Some s) words = reading_in s (known_after s words)
-reading_by None words = refused
-
--- the first word is the program's name, and the second that of a command
-abbrev pub line_of : List Text → Reading
-line_of (program ∷ command ∷ words) = reading_by (find (λ (s : Syntax). bytes_eq s.name command) syntaxes) words
-line_of _ = refused
-
--- ---- words for each job
-
--- an option of a line: one with a value, or without one, that may be given, or one of a letter that is given
-pub data Setting : Type 0 where
-  valued : (name : Text) → (value : Option Text) → Setting
-  alone : (name : Text) → (is_given : Bool) → Setting
-  lettered : (letter : ℕ) → (name value : Text) → Setting
-
--- `--name=value`, `--name` or `-l=value` before the other words
-abbrev pub settings_words : List Setting → List Text → List Text
-settings_words [] words = words
-settings_words (valued name None ∷ later) words = settings_words later words
-settings_words (valued name (Some value) ∷ later) words = (codes "--" ++ (name ++ (61 ∷ value))) ∷ settings_words later words
-settings_words (alone name false ∷ later) words = settings_words later words
-settings_words (alone name true ∷ later) words = (codes "--" ++ name) ∷ settings_words later words
-settings_words (lettered letter name value ∷ later) words = (45 ∷ letter ∷ 61 ∷ value) ∷ settings_words later words
-
-abbrev pub form_word : Form → Text
-form_word form.Printable = codes "printable"
-form_word form.Hex = codes "hex"
-form_word form.Bytes = codes "bytes"
-form_word form.Text = codes "text"
-form_word form.Json = codes "json"
-
-abbrev pub list_form_word : ListForm → Text
-list_form_word list_form.Hex = codes "hex"
-list_form_word list_form.Json = codes "json"
-
-abbrev pub slot_word : Slot → Text
-slot_word Zero = codes "0"
-slot_word One = codes "1"
-
-abbrev pub meta_setting : Option Slot → Setting
-meta_setting slot = valued (codes "meta") (option_map slot_word slot)
-
-abbrev pub form_setting : Form → Setting
-form_setting form = valued (codes "form") (Some (form_word form))
-
--- all parts are in hexadecimal
-abbrev pub parts_setting : Setting
-parts_setting = valued (codes "parts") (Some (codes "hex"))
-
--- in one word, unless it is the empty path
-abbrev pub from_word : Path → Option Text
-from_word [] = None
-from_word (part ∷ path) = Some (join_with_byte 47 (map encode_lower (part ∷ path)))
-
--- an option without a value for each kind of copy but the plain one
-abbrev pub is_for_bbolt : CopyKind → Bool
-is_for_bbolt kind.Plain = false
-is_for_bbolt kind.ForBbolt = true
-is_for_bbolt kind.EtcdSnapshot = false
-
--- The line that asks for a job, whatever its texts are: the name of the command, the options, FILE, and the words after it.
-pub record Line : Type 0 where
-  pub name : Text
-  pub settings : List Setting
-  pub file : Text
-  pub after : List Text
-
-abbrev written : (name : Text) → List Setting → (file : Text) → (after : List Text) → Line
-written name settings file after = record { name = name; settings = settings; file = file; after = after }
-
-abbrev pub line_for : Asked → Line
-line_for (info file slot) = written (codes "info") (meta_setting slot ∷ []) file []
-line_for (page file id) = written (codes "page") [] file (decimal id ∷ [])
-line_for (pages file as_map) = written (codes "pages") (alone (codes "map") as_map ∷ []) file []
-line_for (check file slot all snapshot) = written (codes "check") (meta_setting slot ∷ alone (codes "all") all ∷ alone (codes "etcd-snapshot") snapshot ∷ []) file []
-line_for (buckets file slot path form sizes) =
-    written (codes "buckets") (meta_setting slot ∷ form_setting form ∷ parts_setting ∷ alone (codes "sizes") sizes ∷ []) file (map encode_lower path)
-line_for (keys file slot path prefix form) =
-    written (codes "keys") (meta_setting slot ∷ form_setting form ∷ parts_setting ∷ valued (codes "prefix") (Some (encode_lower prefix)) ∷ []) file (map encode_lower path)
-line_for (get file slot path form no_newline) =
-    written (codes "get") (meta_setting slot ∷ form_setting form ∷ parts_setting ∷ alone (codes "no-newline") no_newline ∷ []) file (map encode_lower path)
-line_for (stats file slot path) = written (codes "stats") (meta_setting slot ∷ parts_setting ∷ []) file (map encode_lower path)
-line_for (list file slot form path from recover) =
-    written (codes "list") (meta_setting slot ∷ valued (codes "form") (Some (list_form_word form)) ∷ parts_setting ∷ valued (codes "from") (from_word from) ∷ alone (codes "recover") recover ∷ []) file
-    (map encode_lower path)
-line_for (compact file slot target size which recover) =
-    written (codes "compact") (lettered 111 (codes "output") target ∷ meta_setting slot ∷ valued (codes "page-size") (option_map decimal size) ∷ alone (codes "for-bbolt") (is_for_bbolt which)
-    ∷ alone (codes "etcd-snapshot") (is_snapshot which) ∷ alone (codes "recover") recover ∷ []) file []
-
-abbrev pub settings : Asked → List Setting
-settings wanted = (line_for wanted).settings
-
--- the words of that line
-abbrev pub words_for : Text → Asked → List Text
-words_for name wanted = let own = line_for wanted in name ∷ own.name ∷ settings_words own.settings (codes "--" ∷ own.file ∷ own.after)
+-- ---- the files of a job
 
 -- the FILE that is asked for
 abbrev pub file_name : Job → Text
-file_name wanted = (line_for (asked_of wanted)).file
+file_name (job.Info j) = string_bytes j.file
+file_name (job.Page j) = string_bytes j.file
+file_name (job.Pages j) = string_bytes j.file
+file_name (job.Check j) = string_bytes j.file
+file_name (job.Buckets j) = string_bytes j.file
+file_name (job.Keys j) = string_bytes j.file
+file_name (job.Get j) = string_bytes j.file
+file_name (job.Stats j) = string_bytes j.file
+file_name (job.List j) = string_bytes j.file
+file_name (job.Compact j) = string_bytes j.file
 
 -- the OUT, if one is asked for
 abbrev pub target_name : Job → Option Text
-target_name (job.Compact file slot target size which recover) = Some (string_bytes target)
+target_name (job.Compact j) = Some (string_bytes j.target)
 target_name _ = None
-
-abbrev pub IsPath : Path → Type 0
-IsPath [] = ⊥
-IsPath (part ∷ path) = All IsBytes (part ∷ path)
-
-abbrev pub IsPart : Key → Type 0
-IsPart part = (0 < length part) × IsBytes part
-
--- a page size that is asked for is accepted
-abbrev pub IsSize : Option ℕ → Type 0
-IsSize None = Unit {0}
-IsSize (Some size) = IsPageSize size
-
--- A job that words can ask for: its numbers and bytes fit their types, the path of `keys` and `get` has a part, one that is written in one
--- word has a byte in each, and a page size is accepted.
-abbrev pub IsInRange : Asked → Type 0
-IsInRange (page file id) = id < 2 ^ 64
-IsInRange (buckets file slot path form sizes) = All IsBytes path
-IsInRange (stats file slot path) = All IsBytes path
-IsInRange (keys file slot path prefix form) = IsPath path × IsBytes prefix
-IsInRange (get file slot path form no_newline) = IsPath path
-IsInRange (list file slot form path from recover) = All IsBytes path × All IsPart from
-IsInRange (compact file slot target size which recover) = IsSize size
-IsInRange _ = Unit {0}

@@ -9,6 +9,7 @@ ghost use Rattle.bolt_cli.specs.Answers.{Answer, Does, IsCheckAnswer, IsFoundAns
 ghost use Rattle.bolt_cli.specs.SnapshotAnswers.{errors_in, hash_found};
 
 use crate::failure::Failure;
+use crate::job::CheckJob;
 use crate::open_read::open_read;
 use crate::open_recovery::open_recovery;
 use bolt_check::{CheckFault, Finding, NoMemory};
@@ -19,32 +20,22 @@ use bolt_snapshot::{SnapshotFault, snapshot_fault};
 use std::alloc::Global;
 use std::slice;
 
-/// The check that is asked for.
-#[derive(Clone, Copy, Debug)]
-pub(crate) struct WantedCheck {
-    /// Whether everything that is lost is to be found.
-    pub all: bool,
-    /// Whether the file is to be a snapshot, with its hash at the end.
-    pub snapshot: bool,
-}
-
 /// Writes `OK` if the file is sound. Otherwise it writes what is wrong with the hash of a snapshot,
 /// and then the findings, or with `all` each loss.
 pub(crate) fn print_check<O: Sink>(
     alloc: Global,
     file: &[u8],
-    slot: Option<Slot>,
-    wanted: WantedCheck,
+    job: &CheckJob,
     out: &mut O,
 ) -> Result<u8, Failure>
-    ensures { (answer : Answer) × IsCheckAnswer wanted.all wanted.snapshot file.now slot answer
+    ensures { (answer : Answer) × IsCheckAnswer job.now.all job.now.snapshot file.now job.now.slot answer
         × Does O.taken O.failed out.old out.new answer result }
 {
-    let hash = hash_found(wanted.snapshot, file);
-    if wanted.all {
-        print_losses(alloc, file, slot, hash, out)
+    let hash = hash_found(job.snapshot, file);
+    if job.all {
+        print_losses(alloc, file, job.slot, hash, out)
     } else {
-        print_findings(alloc, file, slot, hash, out)
+        print_findings(alloc, file, job.slot, hash, out)
     }
 }
 

@@ -7,36 +7,27 @@ ghost use Rattle.bolt_cli.specs.Answers.{Answer, Does, HoldsIn, HoldsNone, IsGet
 ghost use Rattle.bolt_cli.specs.PlainWords.{path_in};
 
 use crate::failure::Failure;
+use crate::job::GetJob;
 use crate::open_bucket::open_bucket;
 use crate::open_read::open_read;
 use bolt_check::Checked;
-use bolt_format::{Sink, Slot};
+use bolt_format::Sink;
 use bolt_report::{Form, ReportFault, item, value};
 use std::alloc::Global;
 
-/// What `get` is to write.
-#[derive(Clone, Copy)]
-pub(crate) struct WantedValue<'a> {
-    /// The path of the value.
-    pub path: &'a [Vec<u8>],
-    pub form: Form,
-    pub no_newline: bool,
-}
-
-/// Writes the value at a path, and a line feed unless none is wanted.
+/// Writes the value at a path, and a line feed unless none is job.
 pub(crate) fn print_value<O: Sink>(
     alloc: Global,
     file: &[u8],
-    slot: Option<Slot>,
-    wanted: &WantedValue<'_>,
+    job: &GetJob,
     out: &mut O,
 ) -> Result<u8, Failure>
-    ensures { (answer : Answer) × IsReadAnswer file.now slot (IsGetAnswer file.now (path_in wanted.now.path.now) wanted.now.form wanted.now.no_newline) answer
+    ensures { (answer : Answer) × IsReadAnswer file.now job.now.slot (IsGetAnswer file.now (path_in job.now.path.items) job.now.form job.now.no_newline) answer
         × Does O.taken O.failed out.old out.new answer result }
 {
-    let checked = open_read(alloc, file, slot)?;
-    let value = find_value(checked, wanted.path)?;
-    put_value(alloc, value, wanted.form, wanted.no_newline, out)?;
+    let checked = open_read(alloc, file, job.slot)?;
+    let value = find_value(checked, job.path.as_slice())?;
+    put_value(alloc, value, job.form, job.no_newline, out)?;
     Ok(0)
 }
 

@@ -3,19 +3,16 @@ ghost use Rattle.std.specs.Prelude.{IfErr, IfOk};
 ghost use Rattle.bolt_cli.specs.Answers.{Answer, Does, HasNoMeta, IsInfoAnswer, IsShownMeta};
 
 use crate::failure::Failure;
+use crate::job::InfoJob;
 use bolt_format::{Meta, MetaFault, Sink, Slot, choose, slot_meta};
 use bolt_report::info;
 
 /// Writes the lines of the meta in a slot or, without one, of the active meta.
-pub(crate) fn print_info<O: Sink>(
-    file: &[u8],
-    slot: Option<Slot>,
-    out: &mut O,
-) -> Result<u8, Failure>
-    ensures { (answer : Answer) × IsInfoAnswer file.now slot answer
+pub(crate) fn print_info<O: Sink>(file: &[u8], job: &InfoJob, out: &mut O) -> Result<u8, Failure>
+    ensures { (answer : Answer) × IsInfoAnswer file.now job.now.slot answer
         × Does O.taken O.failed out.old out.new answer result }
 {
-    let (slot, meta) = find_meta(file, slot)?;
+    let (slot, meta) = find_meta(file, job.slot)?;
     info(slot, &meta, out)?;
     Ok(0)
 }

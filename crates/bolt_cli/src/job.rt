@@ -5,86 +5,121 @@ use crate::page_size::PageSize;
 use bolt_format::{METAS_END, Slot};
 use bolt_report::{Form, ListForm};
 
-/// What the words of a command line ask for (docs/COMMANDS.md). The file is read under the meta in
-/// `slot` or, without one, under the active meta.
+/// What the words of a command line ask for (docs/COMMANDS.md). Each command has a job of its own.
 #[derive(Debug, Drop)]
 pub enum Job {
-    /// Print a meta.
-    Info {
-        file: String,
-        slot: Option<Slot>,
-    },
-    /// Print one page.
-    Page {
-        file: String,
-        id: u64,
-    },
-    /// Print the table of all pages or, with `map`, a map of them.
-    Pages {
-        file: String,
-        map: bool,
-    },
-    /// Check whether the file is sound; with `all`, find everything that is lost of it. With
-    /// `snapshot`, first check that it ends with the SHA-256 of what is before it.
-    Check {
-        file: String,
-        slot: Option<Slot>,
-        all: bool,
-        snapshot: bool,
-    },
-    /// Print the names of the buckets in the bucket at a path, and before each name its sizes with
-    /// `sizes`.
-    Buckets {
-        file: String,
-        slot: Option<Slot>,
-        path: Vec<Vec<u8>>,
-        form: Form,
-        sizes: bool,
-    },
-    /// Print the figures of the bucket at a path and of all in it. At the empty path they are those
-    /// of the root's buckets, added up.
-    Stats {
-        file: String,
-        slot: Option<Slot>,
-        path: Vec<Vec<u8>>,
-    },
-    /// Print the keys of the bucket at a path that begin with `prefix`.
-    Keys {
-        file: String,
-        slot: Option<Slot>,
-        path: Vec<Vec<u8>>,
-        prefix: Vec<u8>,
-        form: Form,
-    },
-    /// Print the value at a path, and a line feed unless `no_newline` is given.
-    Get {
-        file: String,
-        slot: Option<Slot>,
-        path: Vec<Vec<u8>>,
-        form: Form,
-        no_newline: bool,
-    },
-    /// Print the part of the listing at and below a path, without what comes before `from`. Both
-    /// paths are empty if the whole listing is wanted. With `recover` it is the listing of what is
-    /// recovered of a damaged file.
-    List {
-        file: String,
-        slot: Option<Slot>,
-        form: ListForm,
-        path: Vec<Vec<u8>>,
-        from: Vec<Vec<u8>>,
-        recover: bool,
-    },
-    /// Write a compact copy to another file. Without a page size it has that of the file. With
-    /// `recover` it is a copy of what is recovered of a damaged file.
-    Compact {
-        file: String,
-        slot: Option<Slot>,
-        target: String,
-        page_size: Option<PageSize>,
-        kind: CopyKind,
-        recover: bool,
-    },
+    Info(InfoJob),
+    Page(PageJob),
+    Pages(PagesJob),
+    Check(CheckJob),
+    Buckets(BucketsJob),
+    Stats(StatsJob),
+    Keys(KeysJob),
+    Get(GetJob),
+    List(ListJob),
+    Compact(CompactJob),
+}
+
+/// Print the meta in a slot, or the active one.
+#[derive(Debug, Drop)]
+pub struct InfoJob {
+    pub file: String,
+    pub slot: Option<Slot>,
+}
+
+/// Print one page.
+#[derive(Debug, Drop)]
+pub struct PageJob {
+    pub file: String,
+    pub id: u64,
+}
+
+/// Print all pages.
+#[derive(Debug, Drop)]
+pub struct PagesJob {
+    pub file: String,
+    /// Whether to print a map of them, and not their table.
+    pub map: bool,
+}
+
+/// Check whether the file is sound.
+#[derive(Debug, Drop)]
+pub struct CheckJob {
+    pub file: String,
+    /// The slot of the meta that the file is read under. Without one it is the active meta.
+    pub slot: Option<Slot>,
+    /// Whether to find everything that is lost of the file.
+    pub all: bool,
+    /// Whether to check first that the file ends with the SHA-256 of what is before it.
+    pub snapshot: bool,
+}
+
+/// Print the buckets in the bucket at a path.
+#[derive(Debug, Drop)]
+pub struct BucketsJob {
+    pub file: String,
+    pub slot: Option<Slot>,
+    pub form: Form,
+    pub path: Vec<Vec<u8>>,
+    /// Whether to print the sizes of each before its name.
+    pub sizes: bool,
+}
+
+/// Print the figures of the bucket at a path and of all in it. At the empty path they are those of
+/// the root's buckets, added up.
+#[derive(Debug, Drop)]
+pub struct StatsJob {
+    pub file: String,
+    pub slot: Option<Slot>,
+    pub path: Vec<Vec<u8>>,
+}
+
+/// Print the keys of the bucket at a path that begin with a prefix.
+#[derive(Debug, Drop)]
+pub struct KeysJob {
+    pub file: String,
+    pub slot: Option<Slot>,
+    pub form: Form,
+    pub path: Vec<Vec<u8>>,
+    pub prefix: Vec<u8>,
+}
+
+/// Print the value at a path.
+#[derive(Debug, Drop)]
+pub struct GetJob {
+    pub file: String,
+    pub slot: Option<Slot>,
+    pub form: Form,
+    pub path: Vec<Vec<u8>>,
+    /// Whether to print no line feed after it.
+    pub no_newline: bool,
+}
+
+/// Print the part of the listing at and below a path, without what comes before another path. Both
+/// are empty if the whole listing is wanted.
+#[derive(Debug, Drop)]
+pub struct ListJob {
+    pub file: String,
+    pub slot: Option<Slot>,
+    pub form: ListForm,
+    pub path: Vec<Vec<u8>>,
+    pub from: Vec<Vec<u8>>,
+    /// Whether to list what is recovered of a damaged file.
+    pub recover: bool,
+}
+
+/// Write a compact copy to another file.
+#[derive(Debug, Drop)]
+pub struct CompactJob {
+    pub file: String,
+    pub slot: Option<Slot>,
+    /// The name of OUT.
+    pub target: String,
+    /// The page size of the copy. Without one it is that of the file.
+    pub page_size: Option<PageSize>,
+    pub kind: CopyKind,
+    /// Whether to copy what is recovered of a damaged file.
+    pub recover: bool,
 }
 
 impl Job {
@@ -97,16 +132,16 @@ impl Job {
         ensures { result.now ≡ file_name self.now }
     {
         match self {
-            Job::Info { file, .. }
-            | Job::Page { file, .. }
-            | Job::Pages { file, .. }
-            | Job::Check { file, .. }
-            | Job::Buckets { file, .. }
-            | Job::Stats { file, .. }
-            | Job::Keys { file, .. }
-            | Job::Get { file, .. }
-            | Job::List { file, .. }
-            | Job::Compact { file, .. } => file.as_str(),
+            Job::Info(job) => job.file.as_str(),
+            Job::Page(job) => job.file.as_str(),
+            Job::Pages(job) => job.file.as_str(),
+            Job::Check(job) => job.file.as_str(),
+            Job::Buckets(job) => job.file.as_str(),
+            Job::Stats(job) => job.file.as_str(),
+            Job::Keys(job) => job.file.as_str(),
+            Job::Get(job) => job.file.as_str(),
+            Job::List(job) => job.file.as_str(),
+            Job::Compact(job) => job.file.as_str(),
         }
     }
 
@@ -116,7 +151,7 @@ impl Job {
         ensures { result ≡ needed_length self.now }
     {
         match self {
-            Job::Info { .. } => Some(METAS_END),
+            Job::Info(_) => Some(METAS_END),
             _ => None,
         }
     }
@@ -126,7 +161,7 @@ impl Job {
         ensures { option_map (λ name. name.now) result ≡ target_name self.now }
     {
         match self {
-            Job::Compact { target, .. } => Some(target.as_str()),
+            Job::Compact(job) => Some(job.target.as_str()),
             _ => None,
         }
     }

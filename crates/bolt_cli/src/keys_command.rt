@@ -5,36 +5,26 @@ ghost use Rattle.bolt_cli.specs.Answers.{Answer, Does, IsEntriesAnswer, IsReadAn
 ghost use Rattle.bolt_cli.specs.PlainWords.{path_in};
 
 use crate::failure::Failure;
+use crate::job::KeysJob;
 use crate::open_bucket::open_bucket;
 use crate::open_read::open_read;
-use bolt_format::{Sink, Slot};
-use bolt_report::{Form, keys_with_prefix};
+use bolt_format::Sink;
+use bolt_report::keys_with_prefix;
 use std::alloc::Global;
-
-/// What `keys` is to write.
-#[derive(Clone, Copy)]
-pub(crate) struct WantedKeys<'a> {
-    /// The path of the bucket.
-    pub path: &'a [Vec<u8>],
-    /// What the keys begin with.
-    pub prefix: &'a [u8],
-    pub form: Form,
-}
 
 /// Writes the keys of the bucket at a path that begin with a prefix.
 pub(crate) fn print_keys<O: Sink>(
     alloc: Global,
     file: &[u8],
-    slot: Option<Slot>,
-    wanted: &WantedKeys<'_>,
+    job: &KeysJob,
     out: &mut O,
 ) -> Result<u8, Failure>
-    ensures { (answer : Answer) × IsReadAnswer file.now slot (IsEntriesAnswer file.now (path_in wanted.now.path.now) wanted.now.form (λ entries. keys_text wanted.now.form (with_prefix wanted.now.prefix.now entries))) answer
+    ensures { (answer : Answer) × IsReadAnswer file.now job.now.slot (IsEntriesAnswer file.now (path_in job.now.path.items) job.now.form (λ entries. keys_text job.now.form (with_prefix job.now.prefix.items entries))) answer
         × Does O.taken O.failed out.old out.new answer result }
 {
-    let checked = open_read(alloc, file, slot)?;
-    let bucket = open_bucket(checked, wanted.path)?;
+    let checked = open_read(alloc, file, job.slot)?;
+    let bucket = open_bucket(checked, job.path.as_slice())?;
     let mut cursor = bucket.cursor();
-    keys_with_prefix(alloc, &mut cursor, wanted.prefix, wanted.form, out)?;
+    keys_with_prefix(alloc, &mut cursor, job.prefix.as_slice(), job.form, out)?;
     Ok(0)
 }

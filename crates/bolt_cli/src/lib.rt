@@ -30,7 +30,10 @@ mod words;
 
 pub use copy_kind::CopyKind;
 pub use failure::Failure;
-pub use job::Job;
+pub use job::{
+    BucketsJob, CheckJob, CompactJob, GetJob, InfoJob, Job, KeysJob, ListJob, PageJob, PagesJob,
+    StatsJob,
+};
 pub use page_size::PageSize;
 pub use refusal::Refusal;
 pub use runs::{Status, run};

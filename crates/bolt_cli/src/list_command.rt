@@ -13,74 +13,60 @@ ghost use Rattle.bolt_cli.specs.Answers.{Answer, Does, IsFileRefusal, IsListAnsw
 ghost use Rattle.bolt_cli.specs.PlainWords.{path_in};
 
 use crate::failure::Failure;
+use crate::job::ListJob;
 use crate::open_bucket::open_bucket;
 use crate::open_read::open_read;
 use crate::open_recovery::open_recovery;
 use bolt_check::Checked;
-use bolt_format::{Sink, Slot};
+use bolt_format::Sink;
 use bolt_recover::{Loss, Recovery};
-use bolt_report::{ListForm, ReportFault, list_part, list_recovered_part};
+use bolt_report::{ReportFault, list_part, list_recovered_part};
 use std::alloc::Global;
-
-/// What `list` is to write.
-#[derive(Clone, Copy)]
-pub(crate) struct WantedList<'a> {
-    pub form: ListForm,
-    /// The path of the bucket whose part of the listing is written.
-    pub path: &'a [Vec<u8>],
-    /// The path to begin at.
-    pub from: &'a [Vec<u8>],
-    /// Whether to list what is recovered of a damaged file.
-    pub recover: bool,
-}
 
 /// Writes a part of the listing: that of a sound file, or of what is recovered of a damaged one.
 pub(crate) fn print_list<O: Sink>(
     alloc: Global,
     file: &[u8],
-    slot: Option<Slot>,
-    wanted: &WantedList<'_>,
+    job: &ListJob,
     out: &mut O,
 ) -> Result<u8, Failure>
-    ensures { (answer : Answer) × IsListedAnswer wanted.now.recover file.now slot wanted.now.form (path_in wanted.now.path.now) (path_in wanted.now.from.now) answer
+    ensures { (answer : Answer) × IsListedAnswer job.now.recover file.now job.now.slot job.now.form (path_in job.now.path.items) (path_in job.now.from.items) answer
         × Does O.taken O.failed out.old out.new answer result }
 {
-    if wanted.recover {
-        print_recovered(alloc, file, slot, wanted, out)
+    if job.recover {
+        print_recovered(alloc, file, job, out)
     } else {
-        print_sound(alloc, file, slot, wanted, out)
+        print_sound(alloc, file, job, out)
     }
 }
 
 fn print_sound<O: Sink>(
     alloc: Global,
     file: &[u8],
-    slot: Option<Slot>,
-    wanted: &WantedList<'_>,
+    job: &ListJob,
     out: &mut O,
 ) -> Result<u8, Failure>
-    ensures { (answer : Answer) × IsReadAnswer file.now slot (IsListAnswer file.now wanted.now.form (path_in wanted.now.path.now) (path_in wanted.now.from.now)) answer
+    ensures { (answer : Answer) × IsReadAnswer file.now job.now.slot (IsListAnswer file.now job.now.form (path_in job.now.path.items) (path_in job.now.from.items)) answer
         × Does O.taken O.failed out.old out.new answer result }
 {
-    let checked = open_read(alloc, file, slot)?;
+    let checked = open_read(alloc, file, job.slot)?;
     // Only for the error if there is no such bucket.
-    open_bucket(checked, wanted.path)?;
-    put_sound_part(alloc, checked, wanted, out)?;
+    open_bucket(checked, job.path.as_slice())?;
+    put_sound_part(alloc, checked, job, out)?;
     Ok(0)
 }
 
 fn print_recovered<O: Sink>(
     alloc: Global,
     file: &[u8],
-    slot: Option<Slot>,
-    wanted: &WantedList<'_>,
+    job: &ListJob,
     out: &mut O,
 ) -> Result<u8, Failure>
-    ensures { (answer : Answer) × IsRecoveredAnswer file.now slot (IsRecoveredList file.now wanted.now.form (path_in wanted.now.path.now) (path_in wanted.now.from.now)) IsFileRefusal answer
+    ensures { (answer : Answer) × IsRecoveredAnswer file.now job.now.slot (IsRecoveredList file.now job.now.form (path_in job.now.path.items) (path_in job.now.from.items)) IsFileRefusal answer
         × Does O.taken O.failed out.old out.new answer result }
 {
-    let mut recovery = open_recovery(alloc, file, slot)?;
-    if !put_recovered_part(alloc, &mut recovery, wanted, out)? {
+    let mut recovery = open_recovery(alloc, file, job.slot)?;
+    if !put_recovered_part(alloc, &mut recovery, job, out)? {
         return Err(Failure::NoBucket);
     }
     ending_of(recovery.losses())
@@ -90,21 +76,21 @@ fn print_recovered<O: Sink>(
 fn put_sound_part<O: Sink>(
     alloc: Global,
     checked: Checked<'_>,
-    wanted: &WantedList<'_>,
+    job: &ListJob,
     out: &mut O,
 ) -> Result<(), ReportFault>
-    ensures written { ForListing checked.entry (λ listing. Reports O.taken O.failed out.old out.new (listing_lines wanted.now.form (rest_from (path_in wanted.now.from.now) (part_below (path_in wanted.now.path.now) listing))) result) }
+    ensures written { ForListing checked.entry (λ listing. Reports O.taken O.failed out.old out.new (listing_lines job.now.form (rest_from (path_in job.now.from.items) (part_below (path_in job.now.path.items) listing))) result) }
     ensures fault { IfErr result (λ fault. (fault ≡ ReportFault.Sink) ⊎ (fault ≡ ReportFault.NoMemory)) }
     ensures memory { IfErr result (λ fault. fault ≡ ReportFault.NoMemory → O.failed out.new ≡ O.failed out.old) }
 {
-    let path = slices(alloc, wanted.path)?;
-    let from = slices(alloc, wanted.from)?;
+    let path = slices(alloc, job.path.as_slice())?;
+    let from = slices(alloc, job.from.as_slice())?;
     list_part(
         alloc,
         checked,
         path.as_slice(),
         from.as_slice(),
-        wanted.form,
+        job.form,
         out,
     )
 }
@@ -113,23 +99,23 @@ fn put_sound_part<O: Sink>(
 fn put_recovered_part<O: Sink>(
     alloc: Global,
     recovery: &mut Recovery<'_>,
-    wanted: &WantedList<'_>,
+    job: &ListJob,
     out: &mut O,
 ) -> Result<bool, ReportFault>
-    ensures written { ForRecovered (recovery_file recovery.old) (recovery_meta recovery.old) (λ listing. Reports O.taken O.failed out.old out.new (part_text wanted.now.form (path_in wanted.now.path.now) (path_in wanted.now.from.now) (recovery_left recovery.old listing)) result) }
-    ensures found { IfOk result (λ found. ForRecovered (recovery_file recovery.old) (recovery_meta recovery.old) (λ listing. found ≡ has_bucket (path_in wanted.now.path.now) (recovery_left recovery.old listing))) }
+    ensures written { ForRecovered (recovery_file recovery.old) (recovery_meta recovery.old) (λ listing. Reports O.taken O.failed out.old out.new (part_text job.now.form (path_in job.now.path.items) (path_in job.now.from.items) (recovery_left recovery.old listing)) result) }
+    ensures found { IfOk result (λ found. ForRecovered (recovery_file recovery.old) (recovery_meta recovery.old) (λ listing. found ≡ has_bucket (path_in job.now.path.items) (recovery_left recovery.old listing))) }
     ensures all { OnOk result (ForLosses (recovery_file recovery.old) (recovery_meta recovery.old) (λ losses. recovery_losses recovery.new ≡ losses)) }
     ensures fault { IfErr result (λ fault. (fault ≡ ReportFault.Sink) ⊎ (fault ≡ ReportFault.NoMemory)) }
     ensures memory { IfErr result (λ fault. fault ≡ ReportFault.NoMemory → O.failed out.new ≡ O.failed out.old) }
 {
-    let path = slices(alloc, wanted.path)?;
-    let from = slices(alloc, wanted.from)?;
+    let path = slices(alloc, job.path.as_slice())?;
+    let from = slices(alloc, job.from.as_slice())?;
     list_recovered_part(
         alloc,
         recovery,
         path.as_slice(),
         from.as_slice(),
-        wanted.form,
+        job.form,
         out,
     )
 }

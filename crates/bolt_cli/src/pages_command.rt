@@ -6,6 +6,7 @@ ghost use Rattle.bolt_report.specs.Reports.{Reports};
 ghost use Rattle.bolt_cli.specs.Answers.{Answer, Does, IsCheckedAnswer, IsFileRefusal, IsPagesAnswer, pages_shown};
 
 use crate::failure::Failure;
+use crate::job::PagesJob;
 use bolt_check::{Checked, check};
 use bolt_format::Sink;
 use bolt_report::{ReportFault, page_map, pages};
@@ -15,14 +16,14 @@ use std::alloc::Global;
 pub(crate) fn print_pages<O: Sink>(
     alloc: Global,
     file: &[u8],
-    map: bool,
+    job: &PagesJob,
     out: &mut O,
 ) -> Result<u8, Failure>
-    ensures { (answer : Answer) × IsCheckedAnswer file.now (IsPagesAnswer file.now map) IsFileRefusal answer
+    ensures { (answer : Answer) × IsCheckedAnswer file.now (IsPagesAnswer file.now job.now.map) IsFileRefusal answer
         × Does O.taken O.failed out.old out.new answer result }
 {
     let checked = check(alloc, file)?;
-    put_pages(alloc, checked, map, out)?;
+    put_pages(alloc, checked, job.map, out)?;
     Ok(0)
 }
 

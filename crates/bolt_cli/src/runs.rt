@@ -2,15 +2,15 @@
 ghost use Rattle.std.specs.Prelude.{◌≡◌, Result};
 ghost use Rattle.bolt_cli.specs.Answers.{DoesJob, Ending, Accepts, error_text, status_of};
 
-use crate::buckets_command::{WantedBuckets, print_buckets};
-use crate::check_command::{WantedCheck, print_check};
+use crate::buckets_command::print_buckets;
+use crate::check_command::print_check;
 use crate::compact_command::{WantedCopy, write_copy};
 use crate::failure::{Failure, put_failure};
-use crate::get_command::{WantedValue, print_value};
+use crate::get_command::print_value;
 use crate::info_command::print_info;
 use crate::job::Job;
-use crate::keys_command::{WantedKeys, print_keys};
-use crate::list_command::{WantedList, print_list};
+use crate::keys_command::print_keys;
+use crate::list_command::print_list;
 use crate::page_command::print_page;
 use crate::pages_command::print_pages;
 use crate::stats_command::print_stats;
@@ -66,94 +66,23 @@ fn do_job<O: Sink, T: SnapshotSink>(
     ensures { DoesJob O.taken O.failed out.old out.new T.taken T.failed target.old target.new file.now job.now result }
 {
     match job {
-        Job::Info { slot, .. } => print_info(file, *slot, out),
-        Job::Page { id, .. } => print_page(file, *id, out),
-        Job::Pages { map, .. } => print_pages(alloc, file, *map, out),
-        Job::Stats { slot, path, .. } => print_stats(alloc, file, *slot, path.as_slice(), out),
-        Job::Check {
-            slot,
-            all,
-            snapshot,
-            ..
-        } => {
-            let wanted = WantedCheck {
-                all: *all,
-                snapshot: *snapshot,
-            };
-            print_check(alloc, file, *slot, wanted, out)
-        }
-        Job::Buckets {
-            slot,
-            path,
-            form,
-            sizes,
-            ..
-        } => {
-            let wanted = WantedBuckets {
-                path: path.as_slice(),
-                form: *form,
-                sizes: *sizes,
-            };
-            print_buckets(alloc, file, *slot, &wanted, out)
-        }
-        Job::Keys {
-            slot,
-            path,
-            prefix,
-            form,
-            ..
-        } => {
-            let wanted = WantedKeys {
-                path: path.as_slice(),
-                prefix: prefix.as_slice(),
-                form: *form,
-            };
-            print_keys(alloc, file, *slot, &wanted, out)
-        }
-        Job::Get {
-            slot,
-            path,
-            form,
-            no_newline,
-            ..
-        } => {
-            let wanted = WantedValue {
-                path: path.as_slice(),
-                form: *form,
-                no_newline: *no_newline,
-            };
-            print_value(alloc, file, *slot, &wanted, out)
-        }
-        Job::List {
-            slot,
-            form,
-            path,
-            from,
-            recover,
-            ..
-        } => {
-            let wanted = WantedList {
-                form: *form,
-                path: path.as_slice(),
-                from: from.as_slice(),
-                recover: *recover,
-            };
-            print_list(alloc, file, *slot, &wanted, out)
-        }
-        Job::Compact {
-            slot,
-            page_size,
-            kind,
-            recover,
-            ..
-        } => {
+        Job::Info(job) => print_info(file, job, out),
+        Job::Page(job) => print_page(file, job, out),
+        Job::Pages(job) => print_pages(alloc, file, job, out),
+        Job::Check(job) => print_check(alloc, file, job, out),
+        Job::Buckets(job) => print_buckets(alloc, file, job, out),
+        Job::Stats(job) => print_stats(alloc, file, job, out),
+        Job::Keys(job) => print_keys(alloc, file, job, out),
+        Job::Get(job) => print_value(alloc, file, job, out),
+        Job::List(job) => print_list(alloc, file, job, out),
+        Job::Compact(job) => {
             let wanted = WantedCopy {
-                page_size: *page_size,
-                layout: kind.layout(),
-                snapshot: kind.is_snapshot(),
-                recover: *recover,
+                page_size: job.page_size,
+                layout: job.kind.layout(),
+                snapshot: job.kind.is_snapshot(),
+                recover: job.recover,
             };
-            write_copy(alloc, file, *slot, &wanted, out, target)
+            write_copy(alloc, file, job.slot, &wanted, out, target)
         }
     }
 }

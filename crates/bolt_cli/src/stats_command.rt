@@ -12,10 +12,11 @@ ghost use Rattle.bolt_cli.specs.PlainWords.{path_in};
 ghost use Rattle.bolt_cli.specs.declared.failure.Failure.TheVariants.{Memory, NoBucket};
 
 use crate::failure::Failure;
+use crate::job::StatsJob;
 use crate::open_bucket::open_bucket;
 use crate::open_read::open_read;
 use bolt_check::{Checked, NoMemory};
-use bolt_format::{Sink, Slot};
+use bolt_format::Sink;
 use bolt_report::{Stats, add, stats, stats_text};
 use bolt_tree::Bucket;
 use std::alloc::Global;
@@ -25,15 +26,14 @@ use std::alloc::Global;
 pub(crate) fn print_stats<O: Sink>(
     alloc: Global,
     file: &[u8],
-    slot: Option<Slot>,
-    path: &[Vec<u8>],
+    job: &StatsJob,
     out: &mut O,
 ) -> Result<u8, Failure>
-    ensures { (answer : Answer) × IsReadAnswer file.now slot (IsStatsAnswer file.now (path_in path.now)) answer
+    ensures { (answer : Answer) × IsReadAnswer file.now job.now.slot (IsStatsAnswer file.now (path_in job.now.path.items)) answer
         × Does O.taken O.failed out.old out.new answer result }
 {
-    let checked = open_read(alloc, file, slot)?;
-    let stats = find_stats(alloc, checked, path)?;
+    let checked = open_read(alloc, file, job.slot)?;
+    let stats = find_stats(alloc, checked, job.path.as_slice())?;
     stats_text(&stats, out)?;
     Ok(0)
 }

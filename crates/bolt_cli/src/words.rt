@@ -1,14 +1,15 @@
 //! Reads the words of a command line.
 ghost use Rattle.std.specs.Prelude.{◌≡◌, Err, IfErr, IfOk, MatchOption, MatchResult, None, Ok, Some, codes, map, option_map, string_bytes};
 ghost use Rattle.clap.specs.Words.{fault_of, found_of, kind_of, rows_of, subcommand_rows_of};
-ghost use Rattle.bolt_cli.specs.CommandLine.{Asks, Gives, HasKindOf, IsRefusalOf, IsRefusedBy, asked_by, asked_by_subcommand, program, values_in};
-ghost use Rattle.bolt_cli.specs.LineWords.{Text};
-ghost use Rattle.bolt_cli.specs.PlainWords.{Asked, IsInRange, asked, asked_of, asks, asks_buckets, asks_check, asks_compact, asks_get, asks_info, asks_keys, asks_list, asks_page, asks_pages, asks_stats, first_of, form_by, form_of, copy_kind_by, line_of, list_form_by, number_of, page_id, page_size_by, page_size_of, path_by, path_in, prefix_by, size_in, slot_by, text_by, words_for};
-ghost use Rattle.bolt_cli.specs.declared.refusal.Refusal.TheVariants.{Memory};
+ghost use Rattle.bolt_cli.specs.CommandLine.{Asks, Gives, HasKindOf, IsRefusedBy, asked_by, asked_by_subcommand, program, values_in};
+ghost use Rattle.bolt_cli.specs.PlainWords.{asked, asked_of, asks_buckets, asks_check, asks_compact, asks_get, asks_info, asks_keys, asks_list, asks_page, asks_pages, asks_stats, first_of, form_by, form_of, copy_kind_by, list_form_by, number_of, page_id, page_size_by, page_size_of, path_by, path_in, prefix_by, size_in, slot_by, text_by};
 
 use crate::command_line;
 use crate::copy_kind::CopyKind;
-use crate::job::Job;
+use crate::job::{
+    BucketsJob, CheckJob, CompactJob, GetJob, InfoJob, Job, KeysJob, ListJob, PageJob, PagesJob,
+    StatsJob,
+};
 use crate::page_size::PageSize;
 use crate::path_words::{read_from, read_parts, read_path, read_prefix};
 use crate::refusal::Refusal;
@@ -30,17 +31,6 @@ use std::alloc::{AllocError, Global};
 ///   `bad form`, `bad parts`, `bad hex`, `bad meta` or `bad page size`.
 /// - `Memory` if memory runs out.
 pub fn read_words(alloc: Global, words: Vec<String>) -> Result<Job, Refusal>
-    ensures answer { let texts = map string_bytes words.items in let line = line_of texts in
-        MatchResult result (λ job. line ≡ asks (asked_of job)) (IsRefusalOf texts line) }
-    ensures written { (name : Text) (wanted : Asked) → IsInRange wanted
-        → map string_bytes words.items ≡ words_for name wanted
-        → MatchResult result (λ job. asked_of job ≡ wanted) (λ refusal. refusal ≡ Memory) }
-{
-    read(alloc, words)
-}
-
-/// Reads them by the command line as `clap` knows it.
-fn read(alloc: Global, words: Vec<String>) -> Result<Job, Refusal>
     ensures job { IfOk result (Asks (map string_bytes words.items)) }
     ensures refusal { let texts = map string_bytes words.items in
         IfErr result (IsRefusedBy (fault_of program texts) (asked_by texts)) }
@@ -93,104 +83,104 @@ fn read_command(alloc: Global, name: &str, matches: &ArgMatches<'_>) -> Result<J
 fn read_info(alloc: Global, matches: &ArgMatches<'_>) -> Result<Job, Refusal>
     ensures { Gives asked_of (asks_info (values_in (rows_of (found_of matches.now)))) result }
 {
-    Ok(Job::Info {
+    Ok(Job::Info(InfoJob {
         file: read_text(alloc, matches, "FILE")?,
         slot: read_slot(choice(matches, "meta"))?,
-    })
+    }))
 }
 
 fn read_page(alloc: Global, matches: &ArgMatches<'_>) -> Result<Job, Refusal>
     ensures { Gives asked_of (asks_page (values_in (rows_of (found_of matches.now)))) result }
 {
-    Ok(Job::Page {
+    Ok(Job::Page(PageJob {
         file: read_text(alloc, matches, "FILE")?,
         id: read_page_id(value(matches, "ID")?)?,
-    })
+    }))
 }
 
 fn read_pages(alloc: Global, matches: &ArgMatches<'_>) -> Result<Job, Refusal>
     ensures { Gives asked_of (asks_pages (values_in (rows_of (found_of matches.now)))) result }
 {
-    Ok(Job::Pages {
+    Ok(Job::Pages(PagesJob {
         file: read_text(alloc, matches, "FILE")?,
         map: choice(matches, "map").is_some(),
-    })
+    }))
 }
 
 fn read_check(alloc: Global, matches: &ArgMatches<'_>) -> Result<Job, Refusal>
     ensures { Gives asked_of (asks_check (values_in (rows_of (found_of matches.now)))) result }
 {
-    Ok(Job::Check {
+    Ok(Job::Check(CheckJob {
         file: read_text(alloc, matches, "FILE")?,
         slot: read_slot(choice(matches, "meta"))?,
         all: choice(matches, "all").is_some(),
         snapshot: choice(matches, "etcd-snapshot").is_some(),
-    })
+    }))
 }
 
 fn read_buckets(alloc: Global, matches: &ArgMatches<'_>) -> Result<Job, Refusal>
     ensures { Gives asked_of (asks_buckets (values_in (rows_of (found_of matches.now)))) result }
 {
-    Ok(Job::Buckets {
+    Ok(Job::Buckets(BucketsJob {
         file: read_text(alloc, matches, "FILE")?,
         slot: read_slot(choice(matches, "meta"))?,
         form: read_form(choice(matches, "form"))?,
         path: read_parts_of(alloc, matches)?,
         sizes: choice(matches, "sizes").is_some(),
-    })
+    }))
 }
 
 fn read_keys(alloc: Global, matches: &ArgMatches<'_>) -> Result<Job, Refusal>
     ensures { Gives asked_of (asks_keys (values_in (rows_of (found_of matches.now)))) result }
 {
-    Ok(Job::Keys {
+    Ok(Job::Keys(KeysJob {
         file: read_text(alloc, matches, "FILE")?,
         slot: read_slot(choice(matches, "meta"))?,
         form: read_form(choice(matches, "form"))?,
         path: read_parts_of(alloc, matches)?,
         prefix: read_prefix_of(alloc, matches)?,
-    })
+    }))
 }
 
 fn read_get(alloc: Global, matches: &ArgMatches<'_>) -> Result<Job, Refusal>
     ensures { Gives asked_of (asks_get (values_in (rows_of (found_of matches.now)))) result }
 {
-    Ok(Job::Get {
+    Ok(Job::Get(GetJob {
         file: read_text(alloc, matches, "FILE")?,
         slot: read_slot(choice(matches, "meta"))?,
         form: read_form(choice(matches, "form"))?,
         path: read_parts_of(alloc, matches)?,
         no_newline: choice(matches, "no-newline").is_some(),
-    })
+    }))
 }
 
 fn read_list(alloc: Global, matches: &ArgMatches<'_>) -> Result<Job, Refusal>
     ensures { Gives asked_of (asks_list (values_in (rows_of (found_of matches.now)))) result }
 {
-    Ok(Job::List {
+    Ok(Job::List(ListJob {
         file: read_text(alloc, matches, "FILE")?,
         slot: read_slot(choice(matches, "meta"))?,
         form: read_list_form(choice(matches, "form"))?,
         path: read_parts_of(alloc, matches)?,
         from: read_from(alloc, choice(matches, "from"))?,
         recover: choice(matches, "recover").is_some(),
-    })
+    }))
 }
 
 fn read_stats(alloc: Global, matches: &ArgMatches<'_>) -> Result<Job, Refusal>
     ensures { Gives asked_of (asks_stats (values_in (rows_of (found_of matches.now)))) result }
 {
-    Ok(Job::Stats {
+    Ok(Job::Stats(StatsJob {
         file: read_text(alloc, matches, "FILE")?,
         slot: read_slot(choice(matches, "meta"))?,
         path: read_parts_of(alloc, matches)?,
-    })
+    }))
 }
 
 fn read_compact(alloc: Global, matches: &ArgMatches<'_>) -> Result<Job, Refusal>
     ensures { Gives asked_of (asks_compact (values_in (rows_of (found_of matches.now)))) result }
 {
-    Ok(Job::Compact {
+    Ok(Job::Compact(CompactJob {
         file: read_text(alloc, matches, "FILE")?,
         slot: read_slot(choice(matches, "meta"))?,
         target: read_text(alloc, matches, "output")?,
@@ -200,7 +190,7 @@ fn read_compact(alloc: Global, matches: &ArgMatches<'_>) -> Result<Job, Refusal>
             choice(matches, "etcd-snapshot"),
         ),
         recover: choice(matches, "recover").is_some(),
-    })
+    }))
 }
 
 /// The path that the words of PART stand for.

@@ -4,7 +4,7 @@ use Rattle.bolt_snapshot.specs.declared.hash_check.SnapshotFault.{SnapshotFault}
 use Rattle.bolt_cli.specs.Answers.{IsCheckAnswerAfter}
 use Rattle.bolt_cli.proofs.check_command.print_check.Goals as goal
 
-pub returns-then-wanted : goal.returns-then-wanted
-returns-then-wanted g c =
+pub returns-then-job : goal.returns-then-job
+returns-then-job g c =
     let (answer, is, does) = c.print_losses.ensures in
-    (answer, subst₂ (λ (all : Bool) (hash : Option SnapshotFault). IsCheckAnswerAfter all hash c.args.file.now c.args.slot answer) (sym c.if-wanted.true) c.hash_found-hash.ensures is, does)
+    (answer, subst₂ (λ (all : Bool) (hash : Option SnapshotFault). IsCheckAnswerAfter all hash c.args.file.now c.args.job.now.slot answer) (sym c.if-job.true) c.hash_found-hash.ensures is, does)

@@ -13,7 +13,7 @@ returns-in_err-put_pages g c =
     let checked = c.in_ok-checked.checked in
     let (slot, chosen) = c.in_ok-checked.ensures.meta in
     let sound = c.in_ok-checked.ensures.sound in
-    let (answer, said, does) = pages_put c.args.file.now c.args.map checked c.in_ok-checked.ensures.bytes sound.trees (sound.right refl)
+    let (answer, said, does) = pages_put c.args.file.now c.args.job.now.map checked c.in_ok-checked.ensures.bytes sound.trees (sound.right refl)
     c.args.out.now c.put_pages.new.out _ _ c.in_err-put_pages.ensures.written c.in_err-put_pages.ensures.fault c.in_err-put_pages.ensures.memory c.from_residual-in_err-put_pages.ensures.1 in
     (answer, inl (slot, meta_of checked, chosen, sound, said), does)
 
@@ -22,6 +22,6 @@ returns g c =
     let checked = c.in_ok-checked.checked in
     let (slot, chosen) = c.in_ok-checked.ensures.meta in
     let sound = c.in_ok-checked.ensures.sound in
-    let (answer, said, does) = pages_put c.args.file.now c.args.map checked c.in_ok-checked.ensures.bytes sound.trees (sound.right refl)
+    let (answer, said, does) = pages_put c.args.file.now c.args.job.now.map checked c.in_ok-checked.ensures.bytes sound.trees (sound.right refl)
     c.args.out.now c.put_pages.new.out _ _ c.in_ok-put_pages.ensures.written tt tt refl in
     (answer, inl (slot, meta_of checked, chosen, sound, said), does)
