@@ -13,8 +13,8 @@
 | `nested COUNT` | this many buckets `b`, each in the preceding one, in pages of 1,024 bytes |
 
 An ELEMENT of a leaf is `KEY=VALUE`; a bucket `KEY:BYTES` with these bytes as its value, `KEY>PAGE/SEQUENCE` with a
-root page, or `KEY@N`, the inline bucket number N. `0..9=v` is one for each number, in five digits. Before an
-element of a page, `~7` leaves a gap of seven zeros in the data.
+root page, or `KEY@N`, the inline bucket number N. `0..9=v` is one for each number, in five digits, and `#0..9=v` in
+two bytes. Before an element of a page, `~7` leaves a gap of seven zeros in the data.
 
 Nothing here decides a layout: pages are placed exactly as the lines say.
 """
@@ -163,11 +163,12 @@ class Draft:
 
     def elements(self, gap, word):
         """The elements of a word: one, or one for each number of a range."""
-        numbers = re.fullmatch(r"(\d+)\.\.(\d+)=(.*)", word)
+        numbers = re.fullmatch(r"(#?)(\d+)\.\.(\d+)=(.*)", word)
         if numbers is None:
             return [(gap, *self.element(word))]
-        value = bytes_of(numbers[3])
-        return [(gap, b"%05d" % n, value, form.VALUE_FLAGS) for n in range(int(numbers[1]), int(numbers[2]) + 1)]
+        value = bytes_of(numbers[4])
+        keys = range(int(numbers[2]), int(numbers[3]) + 1)
+        return [(gap, n.to_bytes(2, "big") if numbers[1] else b"%05d" % n, value, form.VALUE_FLAGS) for n in keys]
 
     def element(self, word):
         """The key of an element, what it stores, and its flags."""

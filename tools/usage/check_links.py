@@ -8,7 +8,9 @@ In each document (.md, and the manual page) these must hold:
 - a relative link leads to a file, and its anchor to a heading of that file;
 - a file that is named with its folder (docs/.., crates/.., tools/.., examples/.., completions/..)
   exists, and so does a module that is named as specs/.., proofs/.. or src/.. of some crate;
-- a section that is quoted after a document's name, as in docs/SOUND.md, "Ways", is a heading there.
+- a section that is quoted after a document's name, as in docs/SOUND.md, "Ways", is a heading there;
+- a name in code type that only a program has, as `HasShape`, `free_ids` or `Page::leaf`, is in some source, and a word
+  of a table's column `clauses` is in the sources of the crate that the heading above names.
 
 In other files, sources, each document that is named exists and has the sections that are quoted.
 
@@ -20,12 +22,17 @@ import glob
 import os
 import re
 import sys
+from functools import cache
 
 LINK = re.compile(r"\[[^\]]*\]\(([^)\s]+)\)")
 NAMED = re.compile(r"(?<![\w/.(-])((?:docs|crates|tools|examples|completions)/[\w./*-]*[\w*])")
 MODULE = re.compile(r"(?<![\w/])((?:specs|proofs)/[A-Z][\w/]*|src/\w+\.rt)")
 DOCUMENT = re.compile(r"docs/\w+\.(?:md|1)\b")
 QUOTED = re.compile(r"(docs/\w+\.md)\)?,? \(?\"([^\"]+)\"(?: and \"([^\"]+)\")?")
+CODE = re.compile(r"`([^`\n]+)`")
+PROGRAM_NAME = re.compile(r"(?:\w+::)?(?:[A-Z][a-z]+(?:[A-Z][a-z]*)+|[a-z]+(?:_[a-z]+)+)(?:::\w+)?|[A-Z]\w+::\w+")
+HEADING_WITH_CRATES = re.compile(r"#+ .*\((`\w+`(?:, `\w+`)*)\)")
+SOURCES = ("crates/*/src/*.rt", "crates/*/specs/**/*.antt", "crates/*/proofs/**/*.antt", "tests/*.py", "tools/*/*.*")
 # The mark of a comment that goes on in the next line.
 MARK = re.compile(r"\n[ \t]*(?:///|//!|//|--|#)?[ \t]*")
 
@@ -55,6 +62,41 @@ def is_link_right(document, link):
     if not os.path.exists(file):
         return False
     return not place or place in map(anchor, headings(file))
+
+
+@cache
+def words_of(pattern):
+    """All words of the files of a pattern."""
+    return {word for name in glob.glob(pattern, recursive=True) for word in re.findall(r"\w+", text_of(name))}
+
+
+def is_in_sources(name):
+    """Whether each word of a name is in some source, or it is the name of a file of test cases or of a bucket of etcd."""
+    if os.path.exists(f"tests/cases/{name}.cases") or name == "members_removed":
+        return True
+    return all(any(word in words_of(pattern) for pattern in SOURCES) for word in re.findall(r"\w+", name))
+
+
+def names(prose):
+    """The names of programs in code type, each with whether a source has it."""
+    for name in CODE.findall(prose):
+        if PROGRAM_NAME.fullmatch(name):
+            yield f"`{name}`", is_in_sources(name)
+
+
+def clauses(prose):
+    """The words in the columns of clauses, each with whether it is in the crates of the heading."""
+    crates, in_table = [], False
+    for line in prose.split("\n"):
+        heading = HEADING_WITH_CRATES.match(line)
+        if line.startswith("#"):
+            crates = re.findall(r"\w+", heading[1]) if heading else []
+        cells = line.split(" | ")
+        in_table = line.startswith("|") and (in_table or cells[-1] == "clauses |")
+        named = re.findall(r"`(bolt_\w+)`", line)
+        for word in re.findall(r"`(\w+)`", cells[-1]) if in_table and crates else ():
+            patterns = [f"crates/{crate}/{kind}" for crate in crates + named for kind in ("src/*.rt", "specs/**/*.antt")]
+            yield f"`{word}`", any(word in words_of(pattern) for pattern in patterns)
 
 
 def is_module(name):
@@ -91,6 +133,8 @@ def references(document):
     for name in MODULE.findall(prose):
         yield name, is_module(name)
     yield from sections(prose)
+    yield from names(prose)
+    yield from clauses(prose)
 
 
 def check(name):
