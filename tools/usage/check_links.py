@@ -32,7 +32,7 @@ QUOTED = re.compile(r"(docs/\w+\.md)\)?,? \(?\"([^\"]+)\"(?: and \"([^\"]+)\")?"
 CODE = re.compile(r"`([^`\n]+)`")
 PROGRAM_NAME = re.compile(r"(?:\w+::)?(?:[A-Z][a-z]+(?:[A-Z][a-z]*)+|[a-z]+(?:_[a-z]+)+)(?:::\w+)?|[A-Z]\w+::\w+")
 HEADING_WITH_CRATES = re.compile(r"#+ .*\((`\w+`(?:, `\w+`)*)\)")
-SOURCES = ("crates/*/src/*.rt", "crates/*/specs/**/*.antt", "crates/*/proofs/**/*.antt", "tests/*.py", "tools/*/*.*")
+SOURCES = ("crates/*/src/*.rt", "crates/*/specs/**/*.antt", "crates/*/proofs/**/*.antt", "tests/*.py", "tools/*/*.py", "tools/*/*.c")
 # The mark of a comment that goes on in the next line.
 MARK = re.compile(r"\n[ \t]*(?:///|//!|//|--|#)?[ \t]*")
 
