@@ -7,9 +7,9 @@ use Rattle.bolt_format.specs.declared.meta.Meta.{Meta}
 use Rattle.bolt_format.specs.declared.meta.TheConstants.{NO_FREELIST}
 use Rattle.bolt_check.specs.Accounts.{IsInFreelist}
 use Rattle.bolt_check.specs.Private.Listings.{ClaimsFreelist, IsUnlisted}
-use Rattle.bolt_check.specs.Private.Tables.{HasRoom, IsClaimed, IsUnclaimed, is_used, use_at, times_of}
+use Rattle.bolt_check.specs.Private.Tables.{HasRoom, IsClaimed, IsUnclaimed, first_use, is_used, use_at, times_of}
 use Rattle.bolt_check.specs.declared.table.PageUse.{PageUse}
-use Rattle.bolt_check.specs.declared.table.PageUse.TheVariants.{Unused, Used}
+use Rattle.bolt_check.specs.declared.table.PageUse.TheVariants.{Used}
 use Rattle.bolt_check.proofs.FreelistLemmas.{freelist_within}
 
 -- what holds of Used and of the pages so far holds of one page more
@@ -18,7 +18,7 @@ pub more_of : (P : PageUse → Type 0) → P Used → (t : List PageUse) (from n
 more_of P is t from n h before k a b =
     elim (cases_lt k n) [
       | inl lt ↦ let ne : k ≢ n = omega arith in rw get_or-set_other (before k a lt)
-      | inr ge ↦ let e : k ≡ n = omega arith in rw (e, get_or-set_same t n Used Unused h) is
+      | inr ge ↦ let e : k ≡ n = omega arith in rw (e, get_or-set_same t n Used (first_use n) h) is
     ]
 
 -- a span whose first page is used as the others are

@@ -6,7 +6,8 @@ use Rattle.bolt_check.specs.Nodes.{Nodes, Node, Entry}
 use Rattle.bolt_check.specs.Ways.{Spot, At_page, At_inline, Before, SpanHas, step, step_entry, follow}
 use Rattle.bolt_check.specs.Keys.{Key}
 use Rattle.bolt_check.specs.Findings.{Tests, Passes, IsClaimedBefore, IsCovered, IsClean, IsFirst}
-use Rattle.bolt_check.specs.Private.Pending.{forest, places, somes, kids}
+use Rattle.bolt_check.specs.Private.Pending.{forest, somes, kids}
+use Rattle.bolt_check.specs.EntrySpots.{places}
 use Rattle.bolt_check.proofs.Judging.{tests_same, passes_fewer}
 use Rattle.bolt_check.proofs.Visiting.{Visits, covered_to_old, covered_to_new, clean_back, first_back, found_here}
 

@@ -25,6 +25,7 @@ pub mod SettledLemmas
 pub mod Shaping
 pub mod Single
 pub mod SoundLemmas
+mod TableEnds
 pub mod TableLemmas
 pub mod TourExists
 pub mod TourLemmas

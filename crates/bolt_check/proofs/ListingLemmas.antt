@@ -1,7 +1,6 @@
 -- A listing, page by page.
 use Rattle.std.proofs.Common.{◌≡◌, ◌∙◌, ℕ, suc, ◌+◌, ◌<◌, ◌≤◌, max, inl, inr, List, [], ◌∷◌, ◌++◌, length, get_or, refl, sym, ap, subst, arith, append-nil, add-one, nat_lt, ◌==◌}
 use Rattle.std.proofs.lemmas.Bool.{and_from, and_parts, both_ways, cases_Bool, cases_lt, cond-false, cond-true, eq-eqb, eqb-true, false≢true, lt-ltb, ltb-true}
-use Rattle.std.proofs.lemmas.List.{get_or_past}
 use Rattle.std.proofs.lemmas.List.Elements.{All-contains}
 use Rattle.bolt_check.specs.Accounts.{times_in}
 use Rattle.bolt_check.specs.Findings.{finding}
@@ -14,18 +13,15 @@ use Rattle.bolt_check.specs.declared.listing.Listing.{Listing}
 use Rattle.bolt_check.specs.declared.table.PageUse.{PageUse}
 use Rattle.bolt_check.specs.declared.table.PageUse.TheVariants.{Unused, Branch, Leaf, Used, Free, FreeTwice, UsedFree, UsedFreeTwice}
 use Rattle.bolt_check.proofs.CountLemmas.{place_of, times_none, times_once, times_some, times_twice}
+use Rattle.bolt_check.proofs.TableEnds.{past_metas, past_unlisted}
 use Rattle.bolt_check.proofs.PageLemmas.{twice, reached, lost, range, not_lost_listed, on_own_page, reports_page, reports_range, reports_twice, reports_well}
 use Rattle.bolt_check.proofs.AccountFindingLemmas.{Reports, reported_append, reports_none, reports_run}
 
 module _ (listing : Listing) (settled : IsSettled listing) where
-  table_end : 2 ≤ length listing.table.now
-  table_end = elim (cases_lt 1 (length listing.table.now)) [
-    | inl more ↦ omega arith
-    | inr less ↦ let claimed = settled.metas 1 (omega arith) in let none = get_or_past listing.table.now 1 Unused less in absurd (false≢true (sym (ap is_used none) ∙ claimed))
-  ]
-
   unused_past : (n : ℕ) → length listing.table.now ≤ n → is_in_use listing n → ⊥
-  unused_past n h claimed = false≢true (sym (ap is_used (get_or_past listing.table.now n Unused h)) ∙ claimed)
+  unused_past n h claimed =
+      let none = let wide = settled.wide in past_metas listing.table.now n (omega (arith, wide, h)) h in
+      false≢true (sym (ap is_used none) ∙ claimed)
 
   pub times_table : (n : ℕ) → n < length listing.table.now → listed_times listing n ≡ times_of (use_at listing.table.now n)
   unfolding listed_times
@@ -34,7 +30,7 @@ module _ (listing : Listing) (settled : IsSettled listing) where
 
   pub times_past : (n : ℕ) → length listing.table.now ≤ n → listed_times listing n ≡ times_in listing.past.now n
   unfolding listed_times
-  times_past n h = let none = ap times_of (get_or_past listing.table.now n Unused h) in omega (arith, none)
+  times_past n h = let none = past_unlisted listing.table.now n h in omega (arith, none)
 
   -- page n of the table, which is lost
   lost_here : (n : ℕ) → n < length listing.table.now → use_at listing.table.now n ≡ Unused → IsLost listing.mark (is_in_use listing) (listed_times listing) n
@@ -99,7 +95,7 @@ module _ (listing : Listing) (settled : IsSettled listing) where
     left = λ n low high none. elim (cases_lt n (length listing.table.now)) [
       | inl inside ↦ reported.run.lost n low inside
       | inr past ↦ record {
-        free = record { above_metas = let two = table_end in omega (arith, two); below = high; unused = unused_past n past };
+        free = record { above_metas = let wide = settled.wide in omega (arith, wide); below = high; unused = unused_past n past };
         unlisted = times_past n past ∙ times_none listing.past.now n (λ k. none k (omega arith));
       }
     ];
@@ -112,7 +108,7 @@ module _ (listing : Listing) (settled : IsSettled listing) where
     id_past = settled.past i 0 h
 
     id_in_range : IsInRange listing.mark (get_or listing.past.now i 0)
-    id_in_range = (let two = table_end in let past = id_past in omega (arith, two, past), below)
+    id_in_range = (let two = settled.wide in let past = id_past in omega (arith, two, past), below)
 
     id_first : (k : ℕ) → k < i → get_or listing.past.now k 0 < get_or listing.past.now i 0
     id_first k before = let up = settled.sorted k i 0 (omega arith) h in let done = reported.done k before (omega (arith, up)) in omega (arith, done)
@@ -188,7 +184,7 @@ module _ (listing : Listing) (settled : IsSettled listing) where
 
   pub beyond_start : (findings : List Finding) → AreFindingsBelow listing.mark (is_in_use listing) (listed_times listing) listing.mark findings → IsBeyondTo listing 0 0 findings
   beyond_start findings reported =
-      let end = settled.below in let two = table_end in let same : listing.mark ≡ max listing.mark 1 = omega (arith, end, two) in
+      let end = settled.below in let two = settled.wide in let same : listing.mark ≡ max listing.mark 1 = omega (arith, end, two) in
       record {
         reported = subst (λ (next : ℕ). AreFindingsBelow listing.mark (is_in_use listing) (listed_times listing) next findings) same reported;
         done = λ k h. absurd (omega arith);

@@ -6,8 +6,10 @@ use Rattle.bolt_format.specs.declared.kind.Kind.{Kind}
 use Rattle.bolt_format.specs.declared.kind.Kind.TheVariants as kind
 use Rattle.bolt_format.specs.declared.meta.Meta.{Meta}
 use Rattle.bolt_check.specs.Nodes.{Node, node_at, node_of, node_seen}
-use Rattle.bolt_check.specs.Findings.{IsClaimedBefore, IsClean, IsMetaPage, PagePasses}
+use Rattle.bolt_check.specs.Findings.{IsClean, IsMetaPage}
+use Rattle.bolt_check.specs.Private.Tables.{HasRoom}
 use Rattle.bolt_check.specs.Ways.{At_page, reached, root_spot}
+use Rattle.bolt_check.specs.declared.table.PageUse.{PageUse}
 use Rattle.bolt_format.proofs.PageFacts.{span_passes, span_within}
 
 abbrev node_overflow : Result Node ℕ → ℕ
@@ -55,15 +57,12 @@ node_within file meta id node e =
 pub node_below : (file : List ℕ) (meta : Meta) (id : ℕ) (node : Node) → node_at file meta id ≡ Ok node → id < meta.high_water
 node_below file meta id node e = let within = (node_within file meta id node e).0 in omega (arith, within)
 
-root_passes : (file : List ℕ) (meta : Meta) → PagePasses (node_at file meta) (IsClaimedBefore (node_at file meta) (reached (node_at file meta) meta.root) IsMetaPage []) (root_spot meta.root)
-    → 2 < meta.high_water
-root_passes file meta root =
-    let below = node_below file meta meta.root root.node root.page in
+-- where the search finds nothing, the table has the metas
+pub table_wide : (file : List ℕ) (meta : Meta) (table : List PageUse) → IsClean (node_at file meta) (reached (node_at file meta) meta.root) IsMetaPage → HasRoom file meta table → 2 ≤ length table
+table_wide file meta table clean room =
+    let root = clean.passes [] (At_page (root_spot meta.root)) refl in
+    let within = node_within file meta meta.root root.node root.page in
     elim (cases_lt meta.root 2) [
       | inl low ↦ absurd (root.free meta.root (omega arith, omega arith) (inl low))
-      | inr high ↦ omega (arith, below, high)
+      | inr high ↦ (let fits = room (meta.root + root.node.overflow) within.1 within.0 in omega (arith, fits, high))
     ]
-
--- where the search finds nothing, the mark is above the metas
-pub mark_above : (file : List ℕ) (meta : Meta) → IsClean (node_at file meta) (reached (node_at file meta) meta.root) IsMetaPage → 2 < meta.high_water
-mark_above file meta clean = root_passes file meta (clean.passes [] (At_page (root_spot meta.root)) refl)

@@ -106,16 +106,19 @@ module _ (file : List ℕ) (meta : Meta) (table : List PageUse) (are : AreUses f
   from_use n UsedFree high below other e = absurd (neither n UsedFree no_free (λ h. cc) refl e)
   from_use n UsedFreeTwice high below other e = absurd (neither n UsedFreeTwice no_twice (λ h. cc) refl e)
 
-  pub right_role : (n : ℕ) → n < meta.high_water → meta.high_water ≤ NO_FREELIST → HasRole file meta n (role_by meta n (use_at table n))
-  right_role n below mark =
+  role_of : (n : ℕ) (u : PageUse) → n < meta.high_water → meta.high_water ≤ NO_FREELIST → use_at table n ≡ u → HasRole file meta n (role_by meta n u)
+  role_of n u below mark e =
       elim (cases_lt n 2) [
         | inl low ↦ rw (lt-ltb n 2 low) low
         | inr high ↦ elim (cases_eq n meta.freelist) [
           | inl same ↦ rw (le-ltb n 2 high, eq-eqb n meta.freelist same)
               (record { written = λ e. omega (arith, e); good = are.good; from = omega arith; last = omega arith }, same)
-          | inr other ↦ rw (le-ltb n 2 high, ne_eqb n meta.freelist other) (from_use n (use_at table n) high below other refl)
+          | inr other ↦ rw (le-ltb n 2 high, ne_eqb n meta.freelist other) (from_use n u high below other e)
         ]
       ]
+
+  pub right_role : (n : ℕ) → n < meta.high_water → meta.high_water ≤ NO_FREELIST → HasRole file meta n (role_by meta n (use_at table n))
+  right_role n below mark = role_of n (use_at table n) below mark refl
 
 size_positive : (n : ℕ) → IsPageSize n → 0 < n
 size_positive zero h = absurd (cc)

@@ -38,8 +38,8 @@ times_filter p n passes (x ∷ xs) = filter_step p n x xs (p x) passes refl (tim
 module _ (old : List PageUse) (ids past items : List ℕ) (listing : Listing) (long : length listing.table.now ≡ length old)
     (used : (n : ℕ) → is_used (use_at listing.table.now n) ≡ is_used (use_at old n))
     (are : past ≡ filter (λ id. nat_le (length old) id) ids) (moved : IsPermutation past items) (is : listing.past.now ≡ items) where
-  pub settled : IsSorted nat_cmp items → ((n : ℕ) → n < 2 → IsClaimed old n) → length old ≤ listing.mark → IsSettled listing
-  settled sorted metas below = record {
+  pub settled : IsSorted nat_cmp items → ((n : ℕ) → n < 2 → IsClaimed old n) → 2 ≤ length old → length old ≤ listing.mark → IsSettled listing
+  settled sorted metas wide below = record {
     sorted = subst IsNonDecreasing (sym is) (IsNonDecreasingBy-from_sort (λ (x : ℕ). x) items sorted);
     past = subst (All (λ (id : ℕ). length listing.table.now ≤ id)) (sym is) (All-permutation (λ (id : ℕ). length listing.table.now ≤ id) past items moved
         (subst (All (λ (id : ℕ). length listing.table.now ≤ id)) (sym are)
@@ -47,6 +47,7 @@ module _ (old : List PageUse) (ids past items : List ℕ) (listing : Listing) (l
         (λ id e. let le = leb-true (length old) id e in omega (arith, long, le)) (filter (λ id. nat_le (length old) id) ids)
         (filter_passes (λ id. nat_le (length old) id) ids))));
     metas = λ n h. used n ∙ metas n h;
+    wide = omega (arith, long, wide);
     below = omega (arith, long, below);
   }
 

@@ -1,9 +1,9 @@
--- Claiming lowers the count of what is unclaimed.
-use Rattle.std.proofs.Common.{◌≡◌, ◌≢◌, ℕ, ◌<◌, ◌≤◌, List, length, set, arith, cond, not, true, inl, inr, ap, get_or-set_other}
-use Rattle.std.proofs.lemmas.List.{set_past}
+-- Claiming lowers the count of what is unclaimed, and listing claims nothing.
+use Rattle.std.proofs.Common.{◌≡◌, ◌≢◌, ◌∙◌, ℕ, ◌<◌, ◌≤◌, List, length, set, arith, cond, not, true, inl, inr, ap, get_or, get_or-set_other, get_or-set_same, sym}
+use Rattle.std.proofs.lemmas.List.{get_or_default, set_past}
 use Rattle.std.proofs.lemmas.List.Sums.{sum_by-set}
-use Rattle.std.proofs.lemmas.Bool.{cases_lt}
-use Rattle.bolt_check.specs.Private.Tables.{IsUnclaimed, is_used, unclaimed, use_at}
+use Rattle.std.proofs.lemmas.Bool.{cases_eq, cases_lt}
+use Rattle.bolt_check.specs.Private.Tables.{IsUnclaimed, first_use, is_used, unclaimed, use_at}
 use Rattle.bolt_check.specs.declared.table.PageUse.{PageUse}
 use Rattle.bolt_check.specs.declared.table.PageUse.TheVariants.{Unused, Used}
 
@@ -12,7 +12,7 @@ weight page_use = cond (not (is_used page_use)) 1 0
 
 pub unclaimed_fewer : (t : List PageUse) (i : ℕ) (u : PageUse) → is_used u ≡ true → i < length t → IsUnclaimed t i → unclaimed (set t i u) < unclaimed t
 unclaimed_fewer t i u used h e =
-    let k = sum_by-set weight t i u Unused h in
+    let k = sum_by-set weight t i u (first_use i) h in
     let zero : weight u ≡ 0 = ap (λ b. cond (not b) 1 0) used in
     let one : weight (use_at t i) ≡ 1 = ap (λ b. cond (not b) 1 0) e in
     omega (arith, k, one, zero)
@@ -20,9 +20,17 @@ unclaimed_fewer t i u used h e =
 pub unclaimed_set : (t : List PageUse) (i : ℕ) → unclaimed (set t i Used) ≤ unclaimed t
 unclaimed_set t i =
     elim (cases_lt i (length t)) [
-      | inl h ↦ let k = sum_by-set weight t i Used Unused h in omega (arith, k)
+      | inl h ↦ let k = sum_by-set weight t i Used (first_use i) h in omega (arith, k)
       | inr h ↦ rw (set_past t i Used h) (omega arith)
     ]
 
 pub other_kept : (t : List PageUse) (n k : ℕ) (u : PageUse) → k ≢ n → use_at t k ≡ u → use_at (set t n Used) k ≡ u
 other_kept t n k u ne h = rw get_or-set_other h
+
+pub used_kept : (t : List PageUse) (i : ℕ) (u : PageUse) → i < length t → is_used u ≡ is_used (get_or t i Unused) → (n : ℕ) → is_used (use_at (set t i u) n) ≡ is_used (use_at t n)
+used_kept t i u inside same n =
+    elim (cases_eq n i) [
+      | inl here ↦ ap (λ k. is_used (use_at (set t i u) k)) here ∙ ap is_used (get_or-set_same t i u (first_use i) inside) ∙ same
+          ∙ ap is_used (get_or_default t i Unused (first_use i) inside) ∙ ap (λ k. is_used (use_at t k)) (sym here)
+      | inr other ↦ ap is_used (get_or-set_other t i n u (first_use n) other)
+    ]

@@ -4,7 +4,8 @@ use Rattle.std.proofs.lemmas.Bool.{cases_eq}
 use Rattle.bolt_format.specs.declared.meta.Meta.{Meta}
 use Rattle.bolt_check.specs.Keys.{Key}
 use Rattle.bolt_check.specs.Nodes.{Node, Nodes, node_at}
-use Rattle.bolt_check.specs.Private.Pending.{forest, places, somes}
+use Rattle.bolt_check.specs.Private.Pending.{forest, somes}
+use Rattle.bolt_check.specs.EntrySpots.{places}
 use Rattle.bolt_check.specs.Sound.{HasSoundTrees}
 use Rattle.bolt_check.specs.Subtrees.{Has}
 use Rattle.bolt_check.specs.Tours.{IsTour}

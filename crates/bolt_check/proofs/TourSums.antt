@@ -6,7 +6,8 @@ use Rattle.bolt_format.specs.Pages.{page_at}
 use Rattle.bolt_format.specs.declared.meta.Meta.{Meta}
 use Rattle.bolt_check.specs.Keys.{Key}
 use Rattle.bolt_check.specs.Nodes.{Entry, Node, Nodes, node_at}
-use Rattle.bolt_check.specs.Private.Pending.{forest, places, somes}
+use Rattle.bolt_check.specs.Private.Pending.{forest, somes}
+use Rattle.bolt_check.specs.EntrySpots.{places}
 use Rattle.bolt_check.specs.Sound.{HasSoundTrees}
 use Rattle.bolt_check.specs.Subtrees.{Enough, Has, kid_pages, kids_at, root_page, weight}
 use Rattle.bolt_check.specs.Tours.{IsTour}

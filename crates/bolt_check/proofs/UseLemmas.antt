@@ -3,7 +3,8 @@ use Rattle.std.proofs.Common.{◌≡◌, ◌∙◌, ℕ, zero, suc, ◌+◌, ◌
 use Rattle.std.proofs.lemmas.Bool.{cases_lt, cases_eq}
 use Rattle.bolt_check.specs.Keys.{Key}
 use Rattle.bolt_check.specs.Nodes.{Node, Nodes}
-use Rattle.bolt_check.specs.Private.Pending.{Claims, forest, kids, places, spots_of}
+use Rattle.bolt_check.specs.Private.Pending.{Claims, forest, kids, spots_of}
+use Rattle.bolt_check.specs.EntrySpots.{places}
 use Rattle.bolt_check.specs.Private.Tables.{IsClaimed, use_at}
 use Rattle.bolt_check.specs.Private.Uses.{HasUse, IsMetaUse, IsNoted, Notes, UseAt, UseOf, use_of}
 use Rattle.bolt_check.specs.Ways.{At_inline, At_page, PageSpot, Reach, Spot, follow, reached, root_spot}

@@ -1,5 +1,5 @@
 -- What the claimed pages show.
-use Rattle.std.specs.Prelude.{ℕ, Bool, List}
+use Rattle.std.specs.Prelude.{ℕ, Bool, List, length}
 use Rattle.bolt_format.specs.declared.meta.Meta.{Meta}
 use Rattle.bolt_check.specs.Private.Tables.{is_used, unclaimed, use_at}
 use Rattle.bolt_check.specs.declared.claims.Claims.{Claims}
@@ -14,6 +14,14 @@ claims_meta claims = claims.meta
 -- whether page n is claimed
 unfoldable pub is_claimed : Claims → ℕ → Bool
 is_claimed claims n = is_used (use_at claims.table.items n)
+
+-- how many places the table has
+unfoldable pub claims_length : Claims → ℕ
+claims_length claims = length claims.table.items
+
+-- how many pages were visited
+unfoldable pub claims_visited : Claims → ℕ
+claims_visited claims = claims.visited
 
 -- how many pages of the table are not claimed
 unfoldable pub pages_left : Claims → ℕ

@@ -2,6 +2,8 @@ pub mod AccountFindings
 pub mod Accounts
 pub mod CheckedFiles
 pub mod Claims
+pub mod Counts
+pub mod EntrySpots
 pub mod Findings
 pub mod Keys
 pub mod Nodes
@@ -14,6 +16,7 @@ pub mod ShownNodes
 pub mod ShownSpots
 pub mod Sound
 pub mod Subtrees
+pub mod TableLengths
 pub mod Tours
 pub mod TreeKinds
 pub mod Ways

@@ -25,6 +25,7 @@ pub(crate) fn test_accounts(
 ) -> Result<Vec<Finding>, AllocError>
     requires unlisted { IsUnlisted table.old }
     requires metas { (n : ℕ) → n < 2 → IsClaimed table.old n }
+    requires wide { 2 ≤ length table.old }
     requires below { length table.old ≤ meta.now.high_water }
     requires room { HasRoom file.now meta.now table.old }
     ensures right { IfOk result (λ reported. reported.items ≡ [] → HasAccounts file.now meta.now (IsClaimed table.old)) }
@@ -79,6 +80,7 @@ fn test_ids(
 ) -> Result<Vec<Finding>, AllocError>
     requires unlisted { IsUnlisted table.old }
     requires metas { (n : ℕ) → n < 2 → IsClaimed table.old n }
+    requires wide { 2 ≤ length table.old }
     requires below { length table.old ≤ mark }
     ensures { IfOk result (λ reported. AreAllFindings mark (IsClaimed table.old) (times_in (shown_ids ids.entry)) reported.items) }
 {

@@ -1,19 +1,21 @@
 //! The claimed pages of a file, and the tests of one more page.
-ghost use Rattle.std.specs.Prelude.{◌≡◌, ◌↔◌, ◌⊎◌, ◌<◌, ◌≤◌, ℕ, true, IfErr, IfOk, Ok, OnErr, OnOk, Some};
+ghost use Rattle.std.specs.Prelude.{◌≡◌, ◌↔◌, ◌⊎◌, ◌<◌, ◌≤◌, ◌^◌, ℕ, true, IfErr, IfOk, Ok, OnErr, OnOk, Some};
+ghost use Rattle.bolt_format.specs.Bytes.{IsBytes};
 ghost use Rattle.bolt_format.specs.Pages.{page_at};
 ghost use Rattle.bolt_format.specs.Shown.{shown};
+ghost use Rattle.bolt_check.specs.Counts.{counted};
 ghost use Rattle.bolt_check.specs.Findings.{IsMetaPage, PagePasses, PageTests};
 ghost use Rattle.bolt_check.specs.Nodes.{node_at};
 ghost use Rattle.bolt_check.specs.Private.Tables.{HasRoom};
 ghost use Rattle.bolt_check.specs.ShownNodes.{shown_node};
 ghost use Rattle.bolt_check.specs.ShownSpots.{page_spot};
+ghost use Rattle.bolt_check.specs.TableLengths.{table_length};
 ghost use Rattle.bolt_check.specs.Ways.{At_page, SpanAt};
 
 use crate::finding::Finding;
 use crate::no_memory::NoMemory;
-use crate::search::new_table;
 use crate::spot::PageSpot;
-use crate::table::PageUse;
+use crate::table::{PageUse, new_table};
 use crate::tree_page::TreePage;
 use crate::visit::visit;
 use bolt_format::Meta;
@@ -22,19 +24,24 @@ use std::alloc::Global;
 /// The claimed pages of a file: the two meta pages, and the spans of the visited pages that passed
 /// their tests (docs/SOUND.md, "Structure"). The table needs a byte for each whole page that lies
 /// in the file and below the high-water mark.
+///
+/// The visits are counted.
 #[derive(Drop)]
 pub struct Claims<'a> {
     file: &'a [u8],
     meta: Meta,
     table: Vec<PageUse>,
+    visited: u64,
     ghost room: { HasRoom file.now meta table.items },
+    ghost bytes: { IsBytes file.now },
+    ghost fits: { visited < 2 ^ 64 },
 }
 
-#[tactic(auto, unfolding(crate::specs::Claims::claims_file, crate::specs::Claims::claims_meta, crate::specs::Claims::is_claimed, crate::specs::Claims::pages_left))]
+#[tactic(auto, unfolding(crate::specs::Claims::claims_file, crate::specs::Claims::claims_length, crate::specs::Claims::claims_meta, crate::specs::Claims::claims_visited, crate::specs::Claims::is_claimed, crate::specs::Claims::pages_left))]
 impl<'a> Claims<'a> {
-    ghost use Rattle.bolt_check.specs.Claims.{claims_file, claims_meta, is_claimed, pages_left};
+    ghost use Rattle.bolt_check.specs.Claims.{claims_file, claims_length, claims_meta, claims_visited, is_claimed, pages_left};
 
-    /// A table in which only the meta pages are claimed.
+    /// A table in which only the meta pages are claimed. No page was visited.
     ///
     /// # Errors
     ///
@@ -44,9 +51,39 @@ impl<'a> Claims<'a> {
         ensures file { IfOk result (λ claims. claims_file claims ≡ file.now) }
         ensures meta { IfOk result (λ claims. claims_meta claims ≡ meta) }
         ensures metas { IfOk result (λ claims. (n : ℕ) → (is_claimed claims n ≡ true) ↔ IsMetaPage n) }
+        ensures length { IfOk result (λ claims. claims_length claims ≡ table_length file.now meta) }
+        ensures visited { IfOk result (λ claims. claims_visited claims ≡ 0) }
     {
         let table = new_table(alloc, file, &meta)?;
-        Ok(Claims { file, meta, table })
+        Ok(Claims {
+            file,
+            meta,
+            table,
+            visited: 0,
+        })
+    }
+
+    /// Another table of the same file, in which only the meta pages are claimed. It counts on from
+    /// the visits so far.
+    ///
+    /// # Errors
+    ///
+    /// `NoMemory` if there is no memory for the table.
+    pub fn again(&self, alloc: Global) -> Result<Claims<'a>, NoMemory>
+        requires { 0 < (claims_meta self.now).page_size }
+        ensures file { IfOk result (λ claims. claims_file claims ≡ claims_file self.now) }
+        ensures meta { IfOk result (λ claims. claims_meta claims ≡ claims_meta self.now) }
+        ensures metas { IfOk result (λ claims. (n : ℕ) → (is_claimed claims n ≡ true) ↔ IsMetaPage n) }
+        ensures length { IfOk result (λ claims. claims_length claims ≡ table_length (claims_file self.now) (claims_meta self.now)) }
+        ensures visited { IfOk result (λ claims. claims_visited claims ≡ claims_visited self.now) }
+    {
+        let table = new_table(alloc, self.file, &self.meta)?;
+        Ok(Claims {
+            file: self.file,
+            meta: self.meta,
+            table,
+            visited: self.visited,
+        })
     }
 
     /// The file whose pages they are.
@@ -56,7 +93,21 @@ impl<'a> Claims<'a> {
         self.file
     }
 
-    /// Tests a page that a way leads to, and claims its span.
+    /// The meta that the file is read under.
+    pub fn meta(&self) -> Meta
+        ensures { result ≡ claims_meta self.now }
+    {
+        self.meta
+    }
+
+    /// The number of visits so far. Saturates at 2^64 - 1.
+    pub fn visited(&self) -> u64
+        ensures { result ≡ claims_visited self.now }
+    {
+        self.visited
+    }
+
+    /// Tests a page that a way leads to, and claims its span. This is a visit.
     ///
     /// # Errors
     ///
@@ -64,6 +115,8 @@ impl<'a> Claims<'a> {
     pub fn visit(&mut self, spot: &PageSpot<'_>) -> Result<TreePage<'a>, Finding>
         ensures file { claims_file self.new ≡ claims_file self.old }
         ensures meta { claims_meta self.new ≡ claims_meta self.old }
+        ensures length { claims_length self.new ≡ claims_length self.old }
+        ensures visited { claims_visited self.new ≡ counted (claims_visited self.old) 1 }
         ensures found { IfErr result (PageTests (node_at (claims_file self.old) (claims_meta self.old)) (λ n. is_claimed self.old n ≡ true) (page_spot spot.now)) }
         ensures same { OnErr result ((n : ℕ) → is_claimed self.new n ≡ is_claimed self.old n) }
         ensures left { OnErr result (pages_left self.new ≡ pages_left self.old) }
@@ -74,6 +127,7 @@ impl<'a> Claims<'a> {
         ensures fewer { OnOk result (pages_left self.new < pages_left self.old) }
         ensures shallow { OnOk result (spot.now.depth ≤ 64) }
     {
+        self.visited = self.visited.saturating_add(1);
         visit(self.file, &self.meta, spot, &mut self.table)
     }
 }

@@ -49,15 +49,17 @@ impl<'a> Roles<'a> {
     }
 }
 
-/// The table's entry of a page; past its end, no use.
+/// The table's entry of a page; past its end, what the page is used for from the start.
 fn page_use(table: &[PageUse], id: u64) -> PageUse
     ensures { result ≡ use_at table.now id }
 {
     if id < table.len() as u64 {
-        table[id as usize]
-    } else {
-        PageUse::Unused
+        return table[id as usize];
     }
+    if id < 2 {
+        return PageUse::Used;
+    }
+    PageUse::Unused
 }
 
 /// The role of a page with this use.

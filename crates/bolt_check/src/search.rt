@@ -7,7 +7,8 @@ ghost use Rattle.bolt_check.specs.Private.Pending.{forest, kids, spots_of};
 ghost use Rattle.bolt_check.specs.ShownSpots.{page_spot, spot_at};
 ghost use Rattle.bolt_check.specs.Private.SearchFaults.{IsSearchFault};
 ghost use Rattle.bolt_check.specs.ShownNodes.{shown_node};
-ghost use Rattle.bolt_check.specs.Private.Tables.{HasRoom, IsClaimed, table_length, unclaimed};
+ghost use Rattle.bolt_check.specs.Private.Tables.{HasRoom, IsClaimed, unclaimed};
+ghost use Rattle.bolt_check.specs.TableLengths.{table_length};
 ghost use Rattle.bolt_check.specs.Private.Uses.{HasUse, IsMetaUse, IsNoted};
 ghost use Rattle.bolt_check.specs.Ways.{At_page, reached, root_spot};
 ghost use Rattle.bolt_check.specs.declared.table.PageUse.{PageUse};
@@ -15,7 +16,7 @@ ghost use Rattle.bolt_check.specs.declared.finding.Finding.{Finding};
 
 use crate::fault::CheckFault;
 use crate::spot::{PageSpot, Spot};
-use crate::table::PageUse;
+use crate::table::{PageUse, new_table};
 use crate::tree_page::TreePage;
 use crate::visit::visit;
 use bolt_format::Meta;
@@ -40,23 +41,6 @@ fn push_kids<'a>(
         }
     }
     Ok(())
-}
-
-/// A table in which the two meta pages are claimed. It has an entry for each whole page that lies
-/// in the file and below the high-water mark, and for the two meta pages in any case.
-pub(crate) fn new_table(alloc: Global, file: &[u8], meta: &Meta) -> Result<Vec<PageUse>, AllocError>
-    requires { 0 < meta.now.page_size }
-    ensures metas { IfOk result (λ table. (n : ℕ) → IsClaimed table.items n ↔ IsMetaPage n) }
-    ensures uses { IfOk result (λ table. (n : ℕ) (u : PageUse) → IsNoted table.items n u → IsMetaUse n u) }
-    ensures room { IfOk result (λ table. HasRoom file.now meta.now table.items) }
-    ensures unlisted { IfOk result (λ table. IsUnlisted table.items) }
-    ensures length { IfOk result (λ table. length table.items ≡ table_length file.now meta.now) }
-{
-    let pages = (file.len() / meta.page_size as usize) as u64;
-    let mut table = vec![in alloc; PageUse::Unused; pages.min(meta.high_water).max(2) as usize]?;
-    table[0] = PageUse::Used;
-    table[1] = PageUse::Used;
-    Ok(table)
 }
 
 /// The pending spots at the start: the root page alone.

@@ -1,7 +1,14 @@
 //! The table of pages: one byte for each whole page that lies in the file and below the high-water
-//! mark, and at least two bytes.
-ghost use Rattle.std.specs.Prelude.{◌≡◌, ℕ, true, ◌<◌, ◌≤◌, ◌+◌, length, IfSome, MatchOption};
-ghost use Rattle.bolt_check.specs.Private.Tables.{IsClaimed, IsUnclaimed, is_used, times_of, unclaimed, use_at};
+//! mark. The meta pages are claimed, whether the table has them or not.
+ghost use Rattle.std.specs.Prelude.{◌≡◌, ℕ, true, ◌<◌, ◌≤◌, ◌+◌, ◌*◌, ◌↔◌, length, IfOk, IfSome, MatchOption};
+ghost use Rattle.bolt_check.specs.Findings.{IsMetaPage};
+ghost use Rattle.bolt_check.specs.Private.Listings.{IsUnlisted};
+ghost use Rattle.bolt_check.specs.Private.Tables.{HasRoom, IsClaimed, IsUnclaimed, first_use, is_used, times_of, unclaimed, use_at};
+ghost use Rattle.bolt_check.specs.TableLengths.{table_length};
+ghost use Rattle.bolt_check.specs.Private.Uses.{IsMetaUse, IsNoted};
+
+use bolt_format::Meta;
+use std::alloc::{AllocError, Global};
 
 /// What a page is used for, and whether it is listed as free.
 #[derive(Clone, Copy, Debug, PartialEq, Eq)]
@@ -23,6 +30,25 @@ pub(crate) enum PageUse {
     UsedFree,
     /// Used, and listed as free more than once.
     UsedFreeTwice,
+}
+
+/// The table at the start, in which the meta pages alone are claimed. It has an entry for each whole
+/// page that lies in the file and below the high-water mark.
+pub(crate) fn new_table(alloc: Global, file: &[u8], meta: &Meta) -> Result<Vec<PageUse>, AllocError>
+    requires { 0 < meta.now.page_size }
+    ensures metas { IfOk result (λ table. (n : ℕ) → IsClaimed table.items n ↔ IsMetaPage n) }
+    ensures uses { IfOk result (λ table. (n : ℕ) (u : PageUse) → IsNoted table.items n u → IsMetaUse n u) }
+    ensures room { IfOk result (λ table. HasRoom file.now meta.now table.items) }
+    ensures unlisted { IfOk result (λ table. IsUnlisted table.items) }
+    ensures length { IfOk result (λ table. length table.items ≡ table_length file.now meta.now) }
+    ensures begin { IfOk result (λ table. (n : ℕ) → n < length table.items → n * meta.now.page_size < length file.now) }
+{
+    let pages = (file.len() / meta.page_size as usize) as u64;
+    let mut table = vec![in alloc; PageUse::Unused; pages.min(meta.high_water) as usize]?;
+    for n in 0..table.len().min(2) {
+        table[n] = PageUse::Used;
+    }
+    Ok(table)
 }
 
 /// The lowest claimed page of a span.

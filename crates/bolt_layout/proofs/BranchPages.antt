@@ -9,7 +9,7 @@ use Rattle.bolt_check.specs.Keys.{Key, is_above, is_below, is_from, keys_order_f
 use Rattle.bolt_check.specs.Nodes.{Entry, Node, Nodes, branch_entry, node_of}
 use Rattle.bolt_check.specs.Ways.{PageSpot, child_spot, upper_from}
 use Rattle.bolt_check.specs.Findings.{node_finding, keys_of}
-use Rattle.bolt_check.specs.Private.Pending.{places}
+use Rattle.bolt_check.specs.EntrySpots.{places}
 use Rattle.bolt_layout.specs.Cut.{run_size}
 use Rattle.bolt_layout.specs.PageBytes.{branch_data}
 use Rattle.bolt_layout.proofs.BranchLemmas.{IsBranchFit}

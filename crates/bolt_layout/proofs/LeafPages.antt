@@ -7,7 +7,7 @@ use Rattle.bolt_check.specs.Keys.{Key, is_above, is_below, is_from, keys_order_f
 use Rattle.bolt_check.specs.Nodes.{Entry, Node, Nodes, leaf_entry, node_of}
 use Rattle.bolt_check.specs.Ways.{At_page, PageSpot, step, step_entry}
 use Rattle.bolt_check.specs.Findings.{node_finding, early_finding, keys_of, finding_of}
-use Rattle.bolt_check.specs.Private.Pending.{places}
+use Rattle.bolt_check.specs.EntrySpots.{places}
 use Rattle.bolt_layout.proofs.KeyLaws.{IsAbove, IsBelowItem, IsWithin, Rise, key_step}
 use Rattle.bolt_layout.proofs.ListLemmas.{all_split, all_weaker}
 use Rattle.bolt_layout.proofs.OverRows.{IsRun}

@@ -3,6 +3,7 @@ pub mod Existing
 mod FirstLoss
 mod HeldMembers
 mod Leading
+pub mod LeftMembers
 mod NoLeaves
 mod OneRecovered
 mod PlaceFacts

@@ -24,7 +24,7 @@ use Rattle.bolt_tree.specs.Entries.{item_of}
 use Rattle.bolt_tree.specs.Listing.{Member, member_cmp}
 use Rattle.bolt_tree.specs.Order.{Rises}
 use Rattle.bolt_tree.specs.Paths.{Path, path_cmp}
-use Rattle.bolt_tree.specs.Private.RestAfter.{rest_after}
+use Rattle.bolt_tree.specs.RestAfter.{rest_after}
 use Rattle.bolt_tree.proofs.Filters.{filter_all, filter_same, lt_of, not_lt_of}
 use Rattle.bolt_tree.proofs.Lists.{contains_head, contains_tail}
 use Rattle.bolt_tree.proofs.PathOrder.{flip_less, less_lt, path_total}

@@ -14,11 +14,7 @@ use Rattle.bolt_tree.specs.Order.{Rises}
 use Rattle.bolt_tree.specs.Paths.{Path, path_cmp}
 use Rattle.bolt_tree.proofs.Filters.{not_true}
 use Rattle.bolt_tree.proofs.Lists.{contains_head, contains_tail}
-use Rattle.bolt_tree.proofs.PartLemmas.{begins_after, filter_rises}
-use Rattle.bolt_tree.specs.Private.RestAfter.{rest_after}
-use Rattle.bolt_recover.specs.Private.Frames.{is_over, state_of}
-use Rattle.bolt_recover.specs.Recoveries.{recovery_left}
-use Rattle.bolt_recover.specs.declared.recovery.Recovery.{Recovery}
+use Rattle.bolt_tree.proofs.PartLemmas.{begins_after}
 use Rattle.bolt_report.specs.ListForms.{list_line, listing_lines}
 use Rattle.bolt_report.specs.declared.form.ListForm.{ListForm}
 
@@ -105,12 +101,3 @@ module _ (below : Path) where
       with_wanted form e both =
           ap (listing_lines form) (ap (rest_from from) (left_by_next true e) ∙ with_by (begins_with below m.0) (is_lt (path_cmp m.0 from)) refl refl both)
           ∙ ap (λ (members : List Member). list_line form m ++ listing_lines form (rest_from from members)) (sym (left_now true e))
-
--- what is left to a recovery rises
-left_if : (path : Path) (listing : List Member) (over : Bool) → Rises member_cmp listing → Rises member_cmp (if over then [] else rest_after path listing)
-left_if path listing true rises = tt
-left_if path listing false rises = filter_rises member_cmp (λ (m : Member). is_lt (path_cmp path m.0)) listing rises
-
-pub left_rises : (recovery : Recovery) (listing : List Member) → Rises member_cmp listing → Rises member_cmp (recovery_left recovery listing)
-unfolding recovery_left
-left_rises recovery listing rises = left_if (state_of recovery.steps).path listing (is_over (state_of recovery.steps)) rises

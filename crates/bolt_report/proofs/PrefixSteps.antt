@@ -22,7 +22,7 @@ use Rattle.bolt_tree.specs.Entries.{AreEntries, EntryView, Start, entry_cmp, ent
 use Rattle.bolt_tree.specs.EntriesLeft.{entries_left}
 use Rattle.bolt_tree.specs.Openings.{IsGap, IsSeekCount, sum_to}
 use Rattle.bolt_tree.specs.Order.{Rises}
-use Rattle.bolt_tree.specs.Pagers.{counted}
+use Rattle.bolt_check.specs.Counts.{counted}
 use Rattle.bolt_tree.specs.Places.{On, Past, Place, ShowsMove, least_from, next_move, nothing_at, onto, place_in, seek_move}
 use Rattle.bolt_tree.specs.ShownEntries.{shown_entry}
 use Rattle.bolt_tree.specs.declared.cursor.Cursor.{Cursor}

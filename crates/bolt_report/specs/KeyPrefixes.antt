@@ -5,7 +5,7 @@ use Rattle.bolt_format.specs.Elements.{LeafElement}
 use Rattle.bolt_check.specs.Keys.{Key}
 use Rattle.bolt_tree.specs.BucketViews.{AreSorted, BucketView}
 use Rattle.bolt_tree.specs.Openings.{IsGap, IsSeekCount, sum_to}
-use Rattle.bolt_tree.specs.Pagers.{counted}
+use Rattle.bolt_check.specs.Counts.{counted}
 use Rattle.bolt_tree.specs.Places.{least_from}
 
 abbrev pub begins : Key → LeafElement → Bool

@@ -14,7 +14,7 @@ use Rattle.bolt_tree.specs.Paths.{HasEntries, Names, Path, path_of}
 use Rattle.bolt_tree.specs.Places.{Moves, next_move}
 use Rattle.bolt_tree.specs.Private.Kept.{CursorView}
 use Rattle.bolt_tree.specs.Private.OpenBuckets.{AreOpen}
-use Rattle.bolt_tree.specs.Private.RestAfter.{rest_after, beyond, is_beyond}
+use Rattle.bolt_tree.specs.RestAfter.{rest_after, beyond, is_beyond}
 use Rattle.bolt_tree.proofs.Filters.{filter_none}
 use Rattle.bolt_tree.proofs.OpenSteps.{Top, path_popped, next_ended, next_entry, next_given, next_open, open_pop}
 

@@ -18,7 +18,7 @@ use Rattle.bolt_tree.specs.Places.{least_from, seek_move}
 use Rattle.bolt_tree.specs.Private.CursorViews.{Opens, fresh_view}
 use Rattle.bolt_tree.specs.Private.Kept.{CursorView}
 use Rattle.bolt_tree.specs.Private.OpenBuckets.{AreOpen, IsInside, is_end}
-use Rattle.bolt_tree.specs.Private.RestAfter.{beyond}
+use Rattle.bolt_tree.specs.RestAfter.{beyond}
 use Rattle.bolt_tree.specs.declared.bucket.Bucket.{Bucket}
 use Rattle.bolt_tree.proofs.CursorMoves.{by_key}
 use Rattle.bolt_tree.proofs.Entering.{Fresh_at, MovesBy, comes_by, leads_by, leads_in, leads_inside, made, opens_by, placed_in}

@@ -17,7 +17,7 @@ use Rattle.bolt_tree.specs.Paths.{HasEntries, Names, Path}
 use Rattle.bolt_tree.specs.Places.{Moves, place_in}
 use Rattle.bolt_tree.specs.Private.Kept.{CursorView}
 use Rattle.bolt_tree.specs.Private.OpenBuckets.{AreOpen, IsInside, StandsOn}
-use Rattle.bolt_tree.specs.Private.RestAfter.{rest_after, beyond}
+use Rattle.bolt_tree.specs.RestAfter.{rest_after, beyond}
 use Rattle.bolt_tree.specs.declared.bucket.Bucket.{Bucket}
 use Rattle.bolt_tree.proofs.CursorMoves.{ComesTo, FirstMove, by_first}
 use Rattle.bolt_tree.proofs.EntryOrder.{contains_at}

@@ -11,7 +11,7 @@ use Rattle.bolt_check.specs.Keys.{Key, key_cmp}
 use Rattle.bolt_tree.specs.Entries.{AreEntries, Item, Start, item_of}
 use Rattle.bolt_tree.specs.Listing.{Lists, Member, rest_from}
 use Rattle.bolt_tree.specs.Paths.{HasEntries, Holds, Names, Path, path_cmp}
-use Rattle.bolt_tree.specs.Private.RestAfter.{is_beyond, rest_after, beyond}
+use Rattle.bolt_tree.specs.RestAfter.{is_beyond, rest_after, beyond}
 use Rattle.bolt_tree.proofs.EntryOrder.{contains_at, first_least, last_greatest, next_least, next_less}
 use Rattle.bolt_tree.proofs.Filters.{filter_first, filter_same, lt_of}
 use Rattle.bolt_tree.proofs.Lists.{contains_none, irreflexive}

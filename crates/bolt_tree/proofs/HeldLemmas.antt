@@ -14,7 +14,7 @@ use Rattle.bolt_tree.specs.CursorBounds.{OpensByNext, OpensGap}
 use Rattle.bolt_tree.specs.Private.Entered.{opened_to}
 use Rattle.bolt_tree.specs.Entries.{EntryView, IsEntry, Start, entry_view}
 use Rattle.bolt_tree.specs.Private.Held.{IsHeld, place_by, place_on}
-use Rattle.bolt_tree.specs.Pagers.{counted}
+use Rattle.bolt_check.specs.Counts.{counted}
 use Rattle.bolt_tree.specs.Places.{Move, Moves, Place, ShowsMove, first_move, last_move, least_from, next_move, place_in, prev_move, seek_move}
 use Rattle.bolt_tree.specs.Private.Stacks.{Frame, HasStack, IsAtRest, RestsOn, ahead_of, preceding_of, right_of}
 use Rattle.bolt_tree.specs.Private.Trails.{HasBucket, HasTrail, trail_bucket, trail_frames, Finds, FindsBack}

@@ -12,7 +12,7 @@ use Rattle.bolt_tree.specs.Paths.{HasEntries, Names, Path, path_of}
 use Rattle.bolt_tree.specs.Places.{Moves, next_move}
 use Rattle.bolt_tree.specs.Private.Kept.{CursorView}
 use Rattle.bolt_tree.specs.Private.OpenBuckets.{AreOpen, StandsOn}
-use Rattle.bolt_tree.specs.Private.RestAfter.{rest_after, beyond}
+use Rattle.bolt_tree.specs.RestAfter.{rest_after, beyond}
 use Rattle.bolt_tree.proofs.CursorMoves.{ComesTo, comes_next}
 use Rattle.bolt_tree.proofs.EntryOrder.{contains_at}
 use Rattle.bolt_tree.proofs.Giving.{give_after_last, give_next}

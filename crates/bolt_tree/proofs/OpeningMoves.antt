@@ -14,7 +14,7 @@ use Rattle.bolt_tree.specs.Private.Contents.{Content, Of_branch, Of_leaf}
 use Rattle.bolt_tree.specs.CursorBounds.{OpensGap}
 use Rattle.bolt_tree.specs.Private.Entered.{opened_to}
 use Rattle.bolt_tree.specs.Openings.{IsPagesUpTo}
-use Rattle.bolt_tree.specs.Pagers.{counted}
+use Rattle.bolt_check.specs.Counts.{counted}
 use Rattle.bolt_tree.specs.Private.Stacks.{Frame, HasStack, IsAtRest, RestsOn, address_on, ahead_of, index_of, left_of, right_of}
 use Rattle.bolt_tree.specs.Private.Tours.{Visit, elements_of, tour}
 use Rattle.bolt_tree.proofs.CountLemmas.{all_is, upto_is}

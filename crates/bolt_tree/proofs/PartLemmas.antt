@@ -14,7 +14,7 @@ use Rattle.bolt_tree.specs.Listing.{Member, member_cmp, rest_from}
 use Rattle.bolt_tree.specs.ListingParts.{begins_with, later_path, part_below}
 use Rattle.bolt_tree.specs.Order.{Rises}
 use Rattle.bolt_tree.specs.Paths.{Path, path_cmp}
-use Rattle.bolt_tree.specs.Private.RestAfter.{is_beyond}
+use Rattle.bolt_tree.specs.RestAfter.{is_beyond}
 use Rattle.bolt_tree.proofs.Filters.{filter_all, filter_first, filter_none}
 use Rattle.bolt_tree.proofs.Single.{member_total}
 use Rattle.bolt_tree.proofs.Lists.{contains_cases, contains_head, contains_none, contains_tail, irreflexive}

@@ -10,7 +10,7 @@ use Rattle.bolt_tree.specs.Listing.{Lists, Member, rest_from}
 use Rattle.bolt_tree.specs.Paths.{HasEntries, Path, path_of}
 use Rattle.bolt_tree.specs.Private.Kept.{CursorView}
 use Rattle.bolt_tree.specs.Private.OpenBuckets.{AreOpen, is_end}
-use Rattle.bolt_tree.specs.Private.RestAfter.{rest_after}
+use Rattle.bolt_tree.specs.RestAfter.{rest_after}
 use Rattle.bolt_tree.proofs.Seeking.{behind_all, rest_all}
 
 pub parts_whole : (path : List (Bor (List ℕ))) (i : ℕ) (d : Bor (List ℕ)) → i < length path

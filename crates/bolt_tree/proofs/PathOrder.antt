@@ -9,7 +9,7 @@ use Rattle.std.specs.declared.cmp.Ordering.TheVariants.{Less, Equal, Greater}
 use Rattle.std.proofs.lemmas.Cmp.{lists_total, nat_list_cmp_total, ranked, tied_itself}
 use Rattle.bolt_check.specs.Keys.{Key, key_cmp}
 use Rattle.bolt_tree.specs.Paths.{Path, path_cmp}
-use Rattle.bolt_tree.specs.Private.RestAfter.{by_first, is_beyond}
+use Rattle.bolt_tree.specs.RestAfter.{by_first, is_beyond}
 
 pub key_total : IsTotalOrder key_cmp
 key_total = nat_list_cmp_total

@@ -12,7 +12,7 @@ use Rattle.bolt_tree.specs.Entries.{AreEntries, Item, Start}
 use Rattle.bolt_tree.specs.Listing.{Lists, Member, rest_from}
 use Rattle.bolt_tree.specs.Paths.{HasEntries, Holds, Names, Path, path_cmp}
 use Rattle.bolt_tree.specs.Places.{least_from}
-use Rattle.bolt_tree.specs.Private.RestAfter.{is_beyond, rest_after, beyond}
+use Rattle.bolt_tree.specs.RestAfter.{is_beyond, rest_after, beyond}
 use Rattle.bolt_tree.proofs.EntryOrder.{seek_least, seek_none}
 use Rattle.bolt_tree.proofs.Filters.{filter_all, filter_same}
 use Rattle.bolt_tree.proofs.Giving.{not_before, not_before_beyond, after_end}

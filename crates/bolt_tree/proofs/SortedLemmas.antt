@@ -122,6 +122,9 @@ module _ (file : List ℕ) (meta : Meta) (trees : HasSoundTrees file meta) where
     );
   }
 
+  pub entries_exist : (start : Start) → IsStart file meta start → (entries : List LeafElement) × AreEntries (IsEntry file meta) start entries
+  entries_exist start is = (elements_of (pages_at file meta start), sorted start is)
+
 below_strict : (a b : LeafElement) → IsBelowElement a b → IsBelowElement b a → ⊥
 below_strict a b h k = lt_strict a.key b.key h k
 

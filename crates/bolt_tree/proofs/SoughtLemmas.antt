@@ -14,7 +14,7 @@ use Rattle.bolt_tree.specs.Private.Contents.{Content, Contents, Of_branch, Of_le
 use Rattle.bolt_tree.specs.CursorBounds.{OpensSeek, SeeksInBounds}
 use Rattle.bolt_tree.specs.Private.Entered.{opened_to}
 use Rattle.bolt_tree.specs.Openings.{HasCount, IsNear, IsSeekPage}
-use Rattle.bolt_tree.specs.Pagers.{counted}
+use Rattle.bolt_check.specs.Counts.{counted}
 use Rattle.bolt_tree.specs.Places.{least_from}
 use Rattle.bolt_tree.specs.Private.Seeks.{IsNearTop, IsSought, top_address}
 use Rattle.bolt_tree.specs.Private.Stacks.{Frame, HasStack, IsLeafContent, IsLeafTop, StandsOn, address_on, ahead_of, left_of, right_of}

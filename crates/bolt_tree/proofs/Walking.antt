@@ -12,7 +12,7 @@ use Rattle.bolt_tree.specs.Paths.{HasEntries, Names, Path, path_of}
 use Rattle.bolt_tree.specs.Private.Kept.{CursorView}
 use Rattle.bolt_tree.specs.Private.OpenCursors.{cursors_of}
 use Rattle.bolt_tree.specs.Private.OpenBuckets.{AreOpen, IsAhead, IsInPlace, IsInside, open_path}
-use Rattle.bolt_tree.specs.Private.RestAfter.{rest_after}
+use Rattle.bolt_tree.specs.RestAfter.{rest_after}
 use Rattle.bolt_tree.specs.declared.open_buckets.WalkStep.{WalkStep}
 use Rattle.bolt_tree.specs.declared.open_buckets.WalkStep.TheVariants.{Begin, Enter, Give, Leave}
 use Rattle.bolt_tree.specs.declared.open_buckets.OpenBuckets.{OpenBuckets}

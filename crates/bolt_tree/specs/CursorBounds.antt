@@ -4,7 +4,7 @@ use Rattle.bolt_format.specs.Elements.{LeafElement}
 use Rattle.bolt_check.specs.Keys.{Key}
 use Rattle.bolt_tree.specs.BucketViews.{AreSorted, BucketView}
 use Rattle.bolt_tree.specs.Openings.{IsGap, IsNear, IsSeekCount}
-use Rattle.bolt_tree.specs.Pagers.{counted}
+use Rattle.bolt_check.specs.Counts.{counted}
 use Rattle.bolt_tree.specs.Places.{Fresh, On, Past, Place}
 
 -- it opens the pages after that of the preceding entry, up to that of entry i or to the bucket's end

@@ -14,6 +14,7 @@ pub mod Pagers
 pub mod Paths
 pub mod Places
 pub mod Private
+pub mod RestAfter
 pub mod ShownEntries
 pub mod Starts
 pub mod Tree

@@ -9,7 +9,6 @@ pub mod Kept
 pub mod OpenBuckets
 pub mod OpenCursors
 pub mod PageKeys
-pub mod RestAfter
 pub mod Seeks
 pub mod ShownPages
 pub mod Stacks

@@ -5,7 +5,7 @@ ghost use Rattle.std.specs.Prelude.{◌≡◌, ◌∷◌, [], IfSome, IfOk, Matc
 ghost use Rattle.bolt_format.specs.ElementPlaces.{leaf_view};
 ghost use Rattle.bolt_tree.specs.Entries.{item_of};
 ghost use Rattle.bolt_tree.specs.Listing.{rest_from};
-ghost use Rattle.bolt_tree.specs.Private.RestAfter.{rest_after, beyond};
+ghost use Rattle.bolt_tree.specs.RestAfter.{rest_after, beyond};
 ghost use Rattle.bolt_tree.specs.FileListings.{ForListing};
 ghost use Rattle.bolt_tree.specs.Paths.{path_of};
 ghost use Rattle.bolt_tree.specs.Private.OpenCursors.{cursors_of};

@@ -19,7 +19,8 @@ pub struct Pager<'a> {
 
 #[tactic(auto, unfolding(crate::specs::Pagers::pager_checked, crate::specs::Pagers::pager_opened))]
 impl<'a> Pager<'a> {
-    ghost use Rattle.bolt_tree.specs.Pagers.{counted, pager_checked, pager_opened};
+    ghost use Rattle.bolt_check.specs.Counts.{counted};
+    ghost use Rattle.bolt_tree.specs.Pagers.{pager_checked, pager_opened};
 
     /// A pager that has opened no page.
     pub fn new(checked: Checked<'a>) -> Pager<'a>

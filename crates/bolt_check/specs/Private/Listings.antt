@@ -23,11 +23,12 @@ listed_times listing n = times_of (use_at listing.table.now n) + times_in listin
 abbrev pub is_in_use : Listing → ℕ → Type 0
 is_in_use listing n = IsClaimed listing.table.now n
 
--- the ids past the table are sorted, and the table has the meta pages and ends below the mark
+-- the ids past the table are sorted, the table has the meta pages, which are claimed, and it doesn't go past the mark
 pub record IsSettled (listing : Listing) : Type 0 where
   pub sorted : IsNonDecreasing listing.past.now
   pub past : All (λ id. length listing.table.now ≤ id) listing.past.now
   pub metas : (n : ℕ) → n < 2 → IsClaimed listing.table.now n
+  pub wide : 2 ≤ length listing.table.now
   pub below : length listing.table.now ≤ listing.mark
 
 -- the run of lost pages from one page up to but not including another

@@ -1,7 +1,8 @@
 -- The spots that are still to be visited, as ways: the first number of a way picks the spot.
-use Rattle.std.specs.Prelude.{ℕ, ◌⊎◌, Bool, List, [], ◌∷◌, map, reverse, Option, Some, None, slice_get}
-use Rattle.bolt_check.specs.Nodes.{Entry, Node, Nodes}
-use Rattle.bolt_check.specs.Ways.{PageSpot, Reach, SpanHas, Spot, follow, spot_of, upper_from}
+use Rattle.std.specs.Prelude.{ℕ, ◌⊎◌, List, [], ◌∷◌, map, reverse, Option, Some, None, slice_get}
+use Rattle.bolt_check.specs.EntrySpots.{places}
+use Rattle.bolt_check.specs.Nodes.{Node, Nodes}
+use Rattle.bolt_check.specs.Ways.{PageSpot, Reach, SpanHas, Spot, follow}
 use Rattle.bolt_check.specs.ShownSpots.{spot_at}
 use Rattle.bolt_check.specs.Private.Tables.{IsClaimed}
 use Rattle.bolt_check.specs.declared.table.PageUse.{PageUse}
@@ -15,11 +16,6 @@ spots_of spots = map spot_at (reverse spots)
 abbrev pub forest : Nodes → List Spot → Reach
 forest nodes spots [] = None
 forest nodes spots (k ∷ way) = follow nodes (slice_get spots k) way
-
--- where each entry leads
-abbrev pub places : Bool → PageSpot → List Entry → List (Option Spot)
-places is_leaf s [] = []
-places is_leaf s (e ∷ entries) = spot_of is_leaf s (upper_from (slice_get entries 0) s.upper) e ∷ places is_leaf s entries
 
 abbrev pub somes : List (Option Spot) → List Spot
 somes [] = []

@@ -1,12 +1,16 @@
 -- The table of pages.
-use Rattle.std.specs.Prelude.{◌≡◌, ◌<◌, ◌≤◌, ◌+◌, ◌*◌, ◌/◌, ℕ, Bool, true, false, not, List, count_by, length, max, min, slice_index_or}
+use Rattle.std.specs.Prelude.{◌≡◌, ◌<◌, ◌≤◌, ◌+◌, ◌*◌, ℕ, Bool, true, false, not, List, count_by, if◌then◌else◌, length, nat_lt, slice_index_or}
 use Rattle.bolt_format.specs.declared.meta.Meta.{Meta}
 use Rattle.bolt_check.specs.declared.table.PageUse.{PageUse}
 use Rattle.bolt_check.specs.declared.table.PageUse.TheVariants.{Unused, Branch, Leaf, Used, Free, FreeTwice, UsedFree, UsedFreeTwice}
 
--- what the table says of page n; past its end, no use
+-- what page n is used for from the start: the meta pages are used, and no other page is
+abbrev pub first_use : ℕ → PageUse
+first_use n = if nat_lt n 2 then Used else Unused
+
+-- what the table says of page n; past its end, what it is used for from the start
 abbrev pub use_at : List PageUse → ℕ → PageUse
-use_at table n = slice_index_or table n Unused
+use_at table n = slice_index_or table n (first_use n)
 
 abbrev pub is_used : PageUse → Bool
 is_used Unused = false
@@ -39,10 +43,6 @@ IsUnclaimed table n = is_used (use_at table n) ≡ false
 -- how many are not claimed
 abbrev pub unclaimed : List PageUse → ℕ
 unclaimed table = count_by (λ page_use. not (is_used page_use)) table
-
--- how long the table is: the whole pages that lie in the file and below the mark, and at least the two meta pages
-abbrev pub table_length : List ℕ → Meta → ℕ
-table_length file meta = max 2 (min (length file / meta.page_size) meta.high_water)
 
 -- the table has a place for each page that lies in the file and below the mark
 abbrev pub HasRoom : List ℕ → Meta → List PageUse → Type 0

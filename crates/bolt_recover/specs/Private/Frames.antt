@@ -26,7 +26,7 @@ use Rattle.bolt_recover.specs.Places.{Place, leaves_of}
 use Rattle.bolt_recover.specs.Private.Runs.{Runs, Task, To_visit, Visited, losses_in, tasks_from}
 use Rattle.bolt_recover.specs.Recovered.{IsRecovered}
 use Rattle.bolt_recover.specs.Refusals.{LosesRoot}
-use Rattle.bolt_tree.specs.Private.RestAfter.{rest_after}
+use Rattle.bolt_tree.specs.RestAfter.{rest_after}
 use Rattle.bolt_recover.specs.ShownLosses.{loss_view}
 use Rattle.bolt_recover.specs.declared.content.Content.{Content}
 use Rattle.bolt_recover.specs.declared.content.Content.TheVariants.{Bucket, Page}

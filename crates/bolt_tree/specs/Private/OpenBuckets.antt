@@ -13,7 +13,7 @@ use Rattle.bolt_tree.specs.Entries.{AreEntries, Start, start_of}
 use Rattle.bolt_tree.specs.Listing.{Member, rest_from}
 use Rattle.bolt_tree.specs.Paths.{HasEntries, Names, Path, path_of}
 use Rattle.bolt_tree.specs.Places.{On}
-use Rattle.bolt_tree.specs.Private.RestAfter.{rest_after, beyond}
+use Rattle.bolt_tree.specs.RestAfter.{rest_after, beyond}
 use Rattle.bolt_tree.specs.Private.Kept.{CursorView}
 use Rattle.bolt_tree.specs.Private.OpenCursors.{cursors_of}
 use Rattle.bolt_tree.specs.declared.bucket.Bucket.{Bucket}

@@ -7,7 +7,7 @@ pub report_listing-requires : goal.report_listing-requires
 report_listing-requires c =
     let long : length c.list_ids.new.table ≡ length c.args.table.now = omega arith in
     settled c.args.table.now (shown_ids c.args.ids) c.in_ok-past.past.items c.sort_unstable.new.self.items _ long c.in_ok-past.ensures.used c.in_ok-past.ensures.past
-    c.sort_unstable.ensures.permutation c.deref.ensures.value c.sort_unstable.ensures.sorted c.requires.metas c.requires.below
+    c.sort_unstable.ensures.permutation c.deref.ensures.value c.sort_unstable.ensures.sorted c.requires.metas c.requires.wide c.requires.below
 
 pub returns : goal.returns
 returns c =
@@ -15,5 +15,5 @@ returns c =
     listing_reported c.args.table.now (shown_ids c.args.ids) c.in_ok-past.past.items c.sort_unstable.new.self.items _ long c.in_ok-past.ensures.used c.in_ok-past.ensures.past
     c.sort_unstable.ensures.permutation c.deref.ensures.value
     (settled c.args.table.now (shown_ids c.args.ids) c.in_ok-past.past.items c.sort_unstable.new.self.items _ long c.in_ok-past.ensures.used c.in_ok-past.ensures.past
-    c.sort_unstable.ensures.permutation c.deref.ensures.value c.sort_unstable.ensures.sorted c.requires.metas c.requires.below)
+    c.sort_unstable.ensures.permutation c.deref.ensures.value c.sort_unstable.ensures.sorted c.requires.metas c.requires.wide c.requires.below)
     c.in_ok-past.ensures.times c.report_listing.result c.report_listing.ensures

@@ -1,16 +1,20 @@
-use Rattle.std.proofs.Common.{◌∙◌, add-one, refl, sym}
+use Rattle.std.proofs.Common.{◌∙◌, add-one, get_or, sym}
 use Rattle.std.proofs.lemmas.Bool.{false≢true}
-use Rattle.bolt_check.specs.Private.Tables.{use_at}
+use Rattle.std.proofs.lemmas.List.{get_or_default}
+use Rattle.bolt_check.specs.Private.Tables.{first_use}
+use Rattle.bolt_check.specs.declared.table.PageUse.TheVariants.{Unused}
 use Rattle.bolt_check.proofs.ListingLemmas.{table_lost, table_reported}
 use Rattle.bolt_check.proofs.listing_findings.report_entry.Goals as goal
 
 pub returns-then-is_unused-clause-reported : goal.returns-then-is_unused-clause-reported
 returns-then-is_unused-clause-reported c =
-    let unused = c.is_unused.ensures.0 c.if-is_unused.true in
+    let here = get_or_default c.args.listing.now.table.now c.args.n (first_use c.args.n) Unused c.requires.inside in
+    let unused = here ∙ c.is_unused.ensures.0 c.if-is_unused.true in
     rw (add-one c.args.n) (table_lost c.args.listing.now c.requires.settled c.args.n c.args.from c.args.findings.now.items c.requires.inside unused c.requires.reported)
 
 pub returns-clause-reported : goal.returns-clause-reported
 returns-clause-reported c =
+    let here = get_or_default c.args.listing.now.table.now c.args.n (first_use c.args.n) Unused c.requires.inside in
     rw (add-one c.args.n, c.in_ok-report_page.ensures, c.in_ok-report_run.ensures)
-    (table_reported c.args.listing.now c.requires.settled c.args.n c.args.from c.args.findings.now.items (use_at c.args.listing.now.table.now c.args.n)
-    c.requires.inside c.requires.order refl (λ e. false≢true (sym c.if-is_unused.false ∙ c.is_unused.ensures.1 e)) c.requires.reported)
+    (table_reported c.args.listing.now c.requires.settled c.args.n c.args.from c.args.findings.now.items (get_or c.args.listing.now.table.now c.args.n Unused)
+    c.requires.inside c.requires.order here (λ e. false≢true (sym c.if-is_unused.false ∙ c.is_unused.ensures.1 e)) c.requires.reported)

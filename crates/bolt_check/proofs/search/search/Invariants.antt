@@ -4,7 +4,8 @@ use Rattle.bolt_check.specs.Findings.{IsClean, IsCovered, IsFirst, IsMetaPage}
 use Rattle.bolt_check.specs.Private.Listings.{IsUnlisted}
 use Rattle.bolt_check.specs.Nodes.{node_at}
 use Rattle.bolt_check.specs.Private.Pending.{forest, spots_of}
-use Rattle.bolt_check.specs.Private.Tables.{HasRoom, IsClaimed, table_length, unclaimed}
+use Rattle.bolt_check.specs.Private.Tables.{HasRoom, IsClaimed, unclaimed}
+use Rattle.bolt_check.specs.TableLengths.{table_length}
 use Rattle.bolt_check.specs.Private.Uses.{HasUse, IsMetaUse, IsNoted}
 use Rattle.bolt_check.specs.Ways.{reached}
 use Rattle.bolt_check.specs.declared.table.PageUse.{PageUse}

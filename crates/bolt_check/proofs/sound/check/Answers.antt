@@ -2,7 +2,7 @@ use Rattle.std.proofs.Common.{◌≡◌, ◌≢◌, ◌∙◌, sym, [], length, 
 use Rattle.std.proofs.lemmas.Grind.{common_steps, merely}
 use Rattle.bolt_check.specs.CheckedFiles.{bytes_of, has_accounts, meta_of}
 use Rattle.bolt_check.specs.Nodes.{node_at}
-use Rattle.bolt_check.proofs.MarkLemmas.{mark_above}
+use Rattle.bolt_check.proofs.MarkLemmas.{table_wide}
 use Rattle.bolt_check.proofs.Shaping.{shape_of}
 use Rattle.bolt_check.proofs.SoundLemmas.{no_items, some_items, sound_of, findings_of_file, wrong_of}
 use Rattle.bolt_check.proofs.sound.check.Goals as goal
@@ -10,7 +10,13 @@ use Rattle.bolt_check.proofs.sound.check.Goals as goal
 pub test_accounts-requires-clause-below : goal.test_accounts-requires-clause-below
 test_accounts-requires-clause-below c =
     let same : length c.deref_mut.result.now ≡ length c.in_ok-table.table.items = ap length c.deref_mut.ensures.value in
-    omega (arith, same, c.in_ok-table.ensures.length, mark_above c.args.file.now c.in_ok-meta.meta c.in_ok-table.ensures.clean)
+    omega (arith, same, c.in_ok-table.ensures.length)
+
+pub test_accounts-requires-clause-wide : goal.test_accounts-requires-clause-wide
+test_accounts-requires-clause-wide c =
+    let same : length c.deref_mut.result.now ≡ length c.in_ok-table.table.items = ap length c.deref_mut.ensures.value in
+    let wide = table_wide c.args.file.now c.in_ok-meta.meta c.in_ok-table.table.items c.in_ok-table.ensures.clean c.in_ok-table.ensures.room in
+    omega (arith, same, wide)
 
 pub invariant_of-result : goal.invariant_of-result
 invariant_of-result c =

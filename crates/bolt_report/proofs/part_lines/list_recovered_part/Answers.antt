@@ -7,7 +7,7 @@ use Rattle.bolt_tree.specs.Paths.{path_of}
 use Rattle.bolt_report.specs.ListForms.{listing_lines}
 use Rattle.bolt_report.specs.declared.form.ListForm.{ListForm}
 use Rattle.bolt_report.specs.Reports.{Reports}
-use Rattle.bolt_report.proofs.BucketPartTexts.{left_rises}
+use Rattle.bolt_recover.proofs.LeftMembers.{left_rises}
 use Rattle.bolt_report.proofs.part_lines.list_recovered_part.Goals as goal
 
 pub returns-clause-written : goal.returns-clause-written

@@ -7,7 +7,7 @@ use Rattle.bolt_tree.specs.FileListings.{root_start}
 use Rattle.bolt_tree.specs.Listing.{Member}
 use Rattle.bolt_tree.specs.Paths.{Path, path_of}
 use Rattle.bolt_tree.specs.Private.OpenBuckets.{IsNamed, left_by, open_path}
-use Rattle.bolt_tree.specs.Private.RestAfter.{rest_after, beyond}
+use Rattle.bolt_tree.specs.RestAfter.{rest_after, beyond}
 use Rattle.bolt_tree.proofs.Climbing.{listed_in}
 use Rattle.bolt_tree.proofs.Entering.{itself, lies_in, named_by, root_inside}
 use Rattle.bolt_tree.proofs.open_buckets.OpenBuckets.advance.Goals as goal

@@ -12,7 +12,7 @@ use Rattle.bolt_tree.proofs.Climbing.{listed_in}
 use Rattle.bolt_tree.proofs.Coming.{beyond_there, from_none, inside_there, leads_there, placed_there, rest_there, same_there}
 use Rattle.bolt_tree.proofs.Entering.{lies_in, made, named_by, placed_in}
 use Rattle.bolt_tree.proofs.OpenSteps.{path_put}
-use Rattle.bolt_tree.specs.Private.RestAfter.{beyond}
+use Rattle.bolt_tree.specs.RestAfter.{beyond}
 use Rattle.bolt_tree.specs.Paths.{Path}
 use Rattle.bolt_tree.proofs.open_buckets.OpenBuckets.seek_part.Goals as goal
 use Rattle.bolt_tree.proofs.open_buckets.OpenBuckets.seek_part.Goals.{then-is_lt-via-then-is_lt, then-is_lt-via-else-is_lt+then-is_last}

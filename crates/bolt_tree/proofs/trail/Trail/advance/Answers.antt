@@ -2,7 +2,8 @@
 use Rattle.std.proofs.Common.{◌≡◌, ◌∙◌, ◌<◌, ◌+◌, ◌-◌, ◌*◌, ℕ, false, length, sym, ap, arith, refl}
 use Rattle.bolt_format.specs.ElementPlaces.{leaf_view}
 use Rattle.bolt_tree.specs.Private.BucketPages.{contents_in}
-use Rattle.bolt_tree.specs.Pagers.{counted, pager_opened}
+use Rattle.bolt_check.specs.Counts.{counted}
+use Rattle.bolt_tree.specs.Pagers.{pager_opened}
 use Rattle.bolt_tree.specs.Private.ShownPages.{opened_content}
 use Rattle.bolt_tree.specs.Private.Trails.{ahead, frame_of, frames_of, right, trail_bucket, trail_frames}
 use Rattle.bolt_tree.proofs.PagerLemmas.{counted_more, counted_zero}

@@ -3,7 +3,8 @@ use Rattle.bolt_format.specs.Shown.{shown}
 use Rattle.bolt_tree.specs.BucketViews.{BucketView}
 use Rattle.bolt_tree.specs.Private.BucketPages.{contents_in, elements_in}
 use Rattle.bolt_tree.specs.Private.Contents.{Of_branch}
-use Rattle.bolt_tree.specs.Pagers.{counted, pager_opened}
+use Rattle.bolt_check.specs.Counts.{counted}
+use Rattle.bolt_tree.specs.Pagers.{pager_opened}
 use Rattle.bolt_tree.specs.Private.Seeks.{IsNearTop, IsOnWayDown, IsSought}
 use Rattle.bolt_tree.specs.Private.ShownPages.{opened_content}
 use Rattle.bolt_tree.specs.Private.Stacks.{Frame, HasStack, ahead_of}

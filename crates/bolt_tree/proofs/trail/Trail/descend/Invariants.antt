@@ -1,6 +1,7 @@
 use Rattle.std.proofs.Common.{◌≡◌, ◌∷◌, ◌≤◌, ◌-◌, ◌*◌, length}
 use Rattle.bolt_tree.specs.Private.BucketPages.{contents_in}
-use Rattle.bolt_tree.specs.Pagers.{counted, pager_opened}
+use Rattle.bolt_check.specs.Counts.{counted}
+use Rattle.bolt_tree.specs.Pagers.{pager_opened}
 use Rattle.bolt_tree.specs.Private.Seeks.{IsBetween, IsOnWayDown}
 use Rattle.bolt_tree.specs.Private.ShownPages.{opened_content}
 use Rattle.bolt_tree.specs.Private.Stacks.{HasStack}

@@ -1,6 +1,7 @@
 use Rattle.std.proofs.Common.{◌≡◌, [], ◌∙◌, ◌+◌, ◌-◌, suc, ℕ, length, sym, ap, arith}
 use Rattle.bolt_tree.specs.Private.BucketPages.{elements_in, pages_in}
-use Rattle.bolt_tree.specs.Pagers.{counted, pager_opened}
+use Rattle.bolt_check.specs.Counts.{counted}
+use Rattle.bolt_tree.specs.Pagers.{pager_opened}
 use Rattle.bolt_tree.specs.Private.Trails.{ahead, right, trail_bucket, trail_frames}
 use Rattle.bolt_tree.proofs.MoveLemmas.{found_over}
 use Rattle.bolt_tree.proofs.PagerLemmas.{counted_more}

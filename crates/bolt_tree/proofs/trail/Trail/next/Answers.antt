@@ -1,5 +1,6 @@
 use Rattle.std.proofs.Common.{◌≡◌, ◌∙◌, ◌-◌, length, sym, ap, arith}
-use Rattle.bolt_tree.specs.Pagers.{counted, pager_opened}
+use Rattle.bolt_check.specs.Counts.{counted}
+use Rattle.bolt_tree.specs.Pagers.{pager_opened}
 use Rattle.bolt_tree.specs.Private.BucketPages.{contents_in}
 use Rattle.bolt_tree.specs.Private.Trails.{right, trail_bucket, trail_frames}
 use Rattle.bolt_tree.proofs.MoveLemmas.{alone}

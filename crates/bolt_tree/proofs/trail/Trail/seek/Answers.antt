@@ -2,7 +2,8 @@
 use Rattle.std.proofs.Common.{◌≡◌, [], ◌∙◌, ◌+◌, ◌-◌, ℕ, length, drop, sym, ap, arith, subst}
 use Rattle.bolt_tree.specs.BucketViews.{BucketView}
 use Rattle.bolt_tree.specs.Private.BucketPages.{contents_in, elements_in}
-use Rattle.bolt_tree.specs.Pagers.{counted, pager_opened}
+use Rattle.bolt_check.specs.Counts.{counted}
+use Rattle.bolt_tree.specs.Pagers.{pager_opened}
 use Rattle.bolt_tree.specs.Places.{least_from}
 use Rattle.bolt_tree.specs.Private.Seeks.{IsNearTop, IsSought}
 use Rattle.bolt_tree.specs.Private.Stacks.{HasStack, ahead_of, right_of}

@@ -5,7 +5,7 @@ use Rattle.bolt_tree.specs.ShownEntries.{item_view}
 use Rattle.bolt_tree.specs.Listing.{Member}
 use Rattle.bolt_tree.specs.Paths.{Path}
 use Rattle.bolt_tree.specs.Private.OpenBuckets.{reported_path, open_path}
-use Rattle.bolt_tree.specs.Private.RestAfter.{rest_after}
+use Rattle.bolt_tree.specs.RestAfter.{rest_after}
 use Rattle.bolt_tree.specs.Walks.{left_of, walk_checked, walk_path}
 use Rattle.bolt_tree.proofs.Climbing.{listed_in, none_beyond}
 use Rattle.bolt_tree.proofs.Walking.{ahead_in, ahead_prop}
