@@ -3,10 +3,13 @@ pub mod AtPaths
 pub mod BuiltRules
 pub mod CommandLineLemmas
 pub mod CopyAnswers
+pub mod CopyChecks
 pub mod CutTexts
 pub mod Doing
 pub mod EntryAnswers
 pub mod GivenRows
+pub mod GoodCopies
+pub mod HashLemmas
 pub mod LineReading
 pub mod Lines
 pub mod ListAnswers

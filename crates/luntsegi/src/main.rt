@@ -2,12 +2,8 @@
 //! the words and the bytes. Here are the words, the files and the streams of the process.
 #![tactic(auto)]
 
-ghost use Rattle.std.specs.Prelude.{refl};
-ghost use Rattle.bolt_snapshot.specs.Hashes.{IsSteady};
-
 use bolt_cli::{Job, Refusal, read_words, run};
 use bolt_format::{Sink, WriteSink};
-use bolt_snapshot::HashedSink;
 use std::cell::Cell;
 use std::env;
 use std::fs::{File, OpenOptions};
@@ -141,23 +137,16 @@ fn run_copy(rt: &HostRuntime, job: &Job, source: &Source, name: &str) -> u8 {
 trait Target: Write {
     /// Ends the writing. `Ok` means that everything that was written is on the disk.
     fn finish(self) -> io::Result<()>;
-
-    /// It shows its bytes in all states, or in none.
-    ghost steady: { IsSteady Self.Write.contents };
 }
 
 /// The target of a job that writes no copy.
 impl Target for io::Sink {
-    ghost steady = { λ s t none. refl };
-
     fn finish(self) -> io::Result<()> {
         Ok(())
     }
 }
 
 impl Target for BufWriter<File> {
-    ghost steady = { λ s t none. refl };
-
     fn finish(self) -> io::Result<()> {
         let file = self.into_inner()?;
         file.sync_all()
@@ -204,10 +193,10 @@ fn run_over<T: Target + Drop>(rt: &HostRuntime, job: &Job, file: &[u8], target: 
     };
     let mut out = WriteSink::new(gathered);
     let mut err = WriteSink::new(line);
-    let mut target = HashedSink::new(WriteSink::new(target));
+    let mut target = WriteSink::new(target);
     let status = run(rt.alloc(), job, file, &mut out, &mut err, &mut target);
     let line = err.into_inner();
-    match target.into_inner().into_inner().finish() {
+    match target.into_inner().finish() {
         Ok(()) => write_out(rt, out, line, &reader_left, status.code),
         Err(_) => {
             // Dropping it would write what is gathered.
