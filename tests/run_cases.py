@@ -79,7 +79,6 @@ WAYS = {
     "depths": (path,),
     "again": (path,),
     "puts": (str, str, piece),
-    "hashes": (str, str, piece),
 }
 
 

@@ -22,6 +22,10 @@ pub Writes-reported : {S A : Type 0} {taken : S → Option (List ℕ)} {failed :
 Writes-reported {taken} {failed} old new text (Ok x) a only = record { all = a.all; sound = a.sound; prefix = a.prefix; failure = tt }
 Writes-reported {taken} {failed} old new text (Err e) a only = record { all = tt; sound = tt; prefix = a.prefix; failure = a.failure (ap Err only) }
 
+-- if only the sink failed, the job ends with that
+pub only_write : (e : ReportFault) (ending : Ending) → e ≡ report.Sink → IsErrAnd ending (λ reason. reason ≡ reported e) → IsErrAnd ending (λ reason. reason ≡ failure.Write)
+only_write e ending only reason = subst (λ (fault : ReportFault). IsErrAnd ending (λ why. why ≡ reported fault)) only reason
+
 -- the text was written, and the job ends as its answer says
 pub Does-whole : {S A : Type 0} {taken : S → Option (List ℕ)} {failed : S → ℕ} (old new : S) (answer : Answer) (x : A)
     → Reports taken failed old new answer.out (Ok x) → Does taken failed old new answer answer.ending

@@ -1,9 +1,12 @@
 pub mod AtPaths
 pub mod CommandLineLemmas
 pub mod CopyAnswers
+pub mod CopyChecks
 pub mod CutTexts
 pub mod Doing
 pub mod EntryAnswers
+pub mod GoodCopies
+pub mod HashLemmas
 pub mod ListAnswers
 pub mod ListedBuckets
 pub mod LossAnswers

@@ -36,7 +36,6 @@ use Rattle.bolt_report.specs.declared.statistics.Stats.{Stats}
 use Rattle.bolt_report.specs.declared.form.Form.{Form}
 use Rattle.bolt_report.specs.declared.form.Form.TheVariants.{Json}
 use Rattle.bolt_report.specs.declared.form.ListForm.{ListForm}
-use Rattle.bolt_snapshot.specs.SnapshotFaults.{fault_lines}
 use Rattle.bolt_snapshot.specs.declared.hash_check.SnapshotFault.{SnapshotFault}
 use Rattle.bolt_tree.specs.Entries.{AreEntries, IsEntry, Item, Root_page, Start, Value, start_of}
 use Rattle.bolt_tree.specs.Listing.{IsListing, Member, rest_from}
@@ -44,7 +43,8 @@ use Rattle.bolt_tree.specs.ListingParts.{bucket_part, has_bucket}
 use Rattle.bolt_tree.specs.Paths.{Holds, Names, Path}
 use Rattle.bolt_cli.specs.CopyKinds.{is_snapshot, layout_for}
 use Rattle.bolt_cli.specs.Failures.{IsFailureOf, failure_line}
-use Rattle.bolt_cli.specs.SnapshotAnswers.{copy_of, errors_in, hash_found}
+use Rattle.bolt_cli.specs.GoodCopies.{IsGoodCopy}
+use Rattle.bolt_cli.specs.SnapshotAnswers.{copy_of, errors_in, fault_lines, hash_found}
 use Rattle.bolt_cli.specs.declared.failure.Failure.{Failure}
 use Rattle.bolt_cli.specs.declared.failure.Failure.TheVariants as failure
 use Rattle.bolt_cli.specs.declared.job.Job.{Job}
@@ -369,10 +369,6 @@ lost_status (loss ∷ losses) = 1
 abbrev pub copy_report : List LossView → (source copy : ℕ) → Answer
 copy_report losses source copy = record { out = losses_text losses ++ lengths_line source copy; ending = Ok (lost_status losses) }
 
--- `check` accepts a file that holds these bytes, and its listing is this one
-abbrev pub AcceptsListing : List ℕ → List Member → Type 0
-AcceptsListing file listing = (slot : Slot) × (meta : Meta) × IsChosen file slot meta × IsSound file meta true × IsListing file meta listing
-
 -- ---- all commands
 
 -- standard output and the target, each from its state `old` to `new`
@@ -383,22 +379,22 @@ module _ {O T : Type 0} (out_taken : O → Option (List ℕ)) (out_failed : O �
   Prints IsWanted ending = (answer : Answer) × IsWanted answer × Does out_taken out_failed out_old out_new answer ending × (target_new ≡ target_old)
 
   -- The target accepted the whole copy without a failure, which is the layout and, in a snapshot, its hash. The layout has fewer than 2^63
-  -- bytes, is sound and has this listing. Then standard output is to accept the text of the answer. Or the target stopped short, standard
-  -- output isn't touched, and the job ends with the failure.
-  abbrev pub WritesCopy : (listing : List Member) → (layout copy : List ℕ) → Answer → Ending → Type 0
-  WritesCopy listing layout copy answer ending =
-      ((length layout < too_many) × ∥ AcceptsListing layout listing ∥₁
+  -- bytes, and what the target accepted is a good copy of this listing. Then standard output is to accept the text of the answer to its
+  -- length. Or the target stopped short, standard output isn't touched, and the job ends with the failure.
+  abbrev pub WritesCopy : (snapshot : Bool) → (listing : List Member) → (layout : List ℕ) → (ℕ → Answer) → Ending → Type 0
+  WritesCopy snapshot listing layout answer ending =
+      let copy = copy_of snapshot layout in
+      ((length layout < too_many) × IsGoodCopy snapshot layout listing
       × Appends (target_taken target_old) (target_taken target_new) copy × (target_failed target_new ≡ target_failed target_old)
-      × Does out_taken out_failed out_old out_new answer ending)
+      × Does out_taken out_failed out_old out_new (answer (length copy)) ending)
       ⊎ ((failure : Failure) × StopsShort target_taken target_failed target_old target_new layout copy failure × (out_new ≡ out_old) × (ending ≡ Err failure))
 
-  -- The target accepts the layout that is asked for of the file's listing, at the copy's page size, which is sound and has the same
-  -- listing, and for a snapshot then its hash; or the file is refused, and neither is touched.
+  -- The target accepts the layout that is asked for of the file's listing, at the copy's page size, and for a snapshot then its hash: a good
+  -- copy of that listing. Or the file is refused, and neither is touched.
   abbrev pub Compacts : List ℕ → Option Slot → Option PageSize → Layout → (snapshot : Bool) → Ending → Type 0
   Compacts file slot size which snapshot ending =
       ((meta : Meta) × (listing : List Member) × IsReadUnder file slot meta × IsListing file meta listing
-      × (let layout = layout_of_listing which (copy_page_size size meta) listing meta.root_sequence in
-      let copy = copy_of snapshot layout in WritesCopy listing layout copy (done (lengths_line (length file) (length copy))) ending))
+      × WritesCopy snapshot listing (layout_of_listing which (copy_page_size size meta) listing meta.root_sequence) (λ copy. done (lengths_line (length file) copy)) ending)
       ⊎ ((fault : CheckFault) × (failure : Failure) × IsRefusedUnder file slot fault × IsFailureOf fault failure
       × (out_new ≡ out_old) × (target_new ≡ target_old) × (ending ≡ Err failure))
 
@@ -406,8 +402,7 @@ module _ {O T : Type 0} (out_taken : O → Option (List ℕ)) (out_failed : O �
   abbrev pub Recovers : List ℕ → Option Slot → Option PageSize → Layout → (snapshot : Bool) → Ending → Type 0
   Recovers file slot size which snapshot ending =
       ((meta : Meta) × (listing : List Member) × (losses : List LossView) × IsRecoveredUnder file slot meta × IsRecovered file meta listing × AreLosses file meta losses
-      × (let layout = layout_of_listing which (copy_page_size size meta) listing meta.root_sequence in
-      let copy = copy_of snapshot layout in WritesCopy listing layout copy (copy_report losses (length file) (length copy)) ending))
+      × WritesCopy snapshot listing (layout_of_listing which (copy_page_size size meta) listing meta.root_sequence) (λ copy. copy_report losses (length file) copy) ending)
       ⊎ ((fault : CheckFault) × (failure : Failure) × IsUnrecoverableUnder file slot fault × IsFailureOf fault failure
       × (out_new ≡ out_old) × (target_new ≡ target_old) × (ending ≡ Err failure))
 

@@ -8,8 +8,6 @@ use Rattle.bolt_check.specs.declared.finding.Finding.{Finding}
 use Rattle.bolt_report.specs.FaultWords.{finding_text, meta_fault_text, page_fault_text}
 use Rattle.bolt_report.specs.declared.fault.ReportFault.{ReportFault}
 use Rattle.bolt_report.specs.declared.fault.ReportFault.TheVariants as report
-use Rattle.bolt_snapshot.specs.declared.hash_fault.HashFault.{HashFault}
-use Rattle.bolt_snapshot.specs.declared.hash_fault.HashFault.TheVariants as hash
 use Rattle.bolt_cli.specs.declared.failure.Failure.{Failure}
 use Rattle.bolt_cli.specs.declared.failure.Failure.TheVariants.{Metas, File, Page, NoBucket, NoKey, Memory, TooLarge, Write, Lost}
 
@@ -39,11 +37,6 @@ abbrev pub copied : BulkFault → Failure
 copied bulk.Memory = Memory
 copied bulk.TooLarge = TooLarge
 copied bulk.Sink = Write
-
--- the failure if the hash of a snapshot wasn't written whole
-abbrev pub hash_failed : HashFault → Failure
-hash_failed hash.Sink = Write
-hash_failed hash.NotHashed = Memory
 
 -- of the findings the first is reported
 abbrev pub IsOfFirst : List Finding → Failure → Type 0

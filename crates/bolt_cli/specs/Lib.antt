@@ -1,7 +1,10 @@
 pub mod Answers
 pub mod CommandLine
+pub mod CopyEnds
 pub mod CopyKinds
 pub mod Failures
+pub mod GoodCopies
+pub mod Hashes
 pub mod LineWords
 pub mod Needs
 pub mod PathWords

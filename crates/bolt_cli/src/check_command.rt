@@ -1,21 +1,22 @@
 //! The command `check`.
-ghost use Rattle.std.specs.Prelude.{◌≡◌, ◌≤◌, IfOk, OnOk, map};
+ghost use Rattle.std.specs.Prelude.{◌≡◌, ◌≤◌, IfErr, IfOk, OnOk, map};
 ghost use Rattle.bolt_check.specs.declared.fault.CheckFault.TheVariants as check;
 ghost use Rattle.bolt_format.specs.Writes.{Writes};
 ghost use Rattle.bolt_recover.specs.Recoveries.{ForLosses, recovery_file, recovery_losses, recovery_meta};
 ghost use Rattle.bolt_recover.specs.ShownLosses.{loss_view};
-ghost use Rattle.bolt_snapshot.specs.SnapshotFaults.{fault_lines};
 ghost use Rattle.bolt_cli.specs.Answers.{Answer, Does, IsCheckAnswer, IsFoundAnswer, IsLossesAnswer, IsRecoveredAnswer, all_refusal, check_refusal, found, losses_found, none_found};
-ghost use Rattle.bolt_cli.specs.SnapshotAnswers.{errors_in, hash_found};
+ghost use Rattle.bolt_cli.specs.SnapshotAnswers.{errors_in, fault_lines, hash_found};
 
 use crate::failure::Failure;
 use crate::job::CheckJob;
 use crate::open_read::open_read;
 use crate::open_recovery::open_recovery;
 use bolt_check::{CheckFault, Finding, NoMemory};
-use bolt_format::{MetaFault, Sink, SinkFault, Slot};
+use bolt_format::{MetaFault, Sink, Slot};
 use bolt_recover::{Loss, Recovery};
-use bolt_report::{all_lost_text, counted_losses_text, findings_text};
+use bolt_report::{
+    ReportFault, all_lost_text, counted_losses_text, findings_text, snapshot_fault_text,
+};
 use bolt_snapshot::{SnapshotFault, snapshot_fault};
 use std::alloc::Global;
 use std::slice;
@@ -178,14 +179,15 @@ fn put_losses<O: Sink>(
 
 /// Writes the line of what is wrong with the hash of a snapshot, and returns how many errors that
 /// is.
-fn put_hash_fault<O: Sink>(hash: Option<SnapshotFault>, out: &mut O) -> Result<u64, SinkFault>
+fn put_hash_fault<O: Sink>(hash: Option<SnapshotFault>, out: &mut O) -> Result<u64, ReportFault>
     ensures line { Writes O.taken O.failed out.old out.new (fault_lines hash) result }
+    ensures fault { IfErr result (λ fault. fault ≡ ReportFault.Sink) }
     ensures errors { IfOk result (λ errors. errors ≡ errors_in hash) }
     ensures few { IfOk result (λ errors. errors ≤ 1) }
 {
     let Some(fault) = hash else {
         return Ok(0);
     };
-    out.put(fault.line())?;
+    snapshot_fault_text(fault, out)?;
     Ok(1)
 }

@@ -2,7 +2,7 @@
 ghost use Rattle.std.specs.Prelude.{◌≡◌, ◌++◌, codes, decimal};
 ghost use Rattle.bolt_format.specs.Writes.{Writes};
 ghost use Rattle.bolt_report.specs.FaultWords.{finding_text};
-ghost use Rattle.bolt_cli.specs.Failures.{HasFinding, IsFailureOf, copied, failure_line, failure_text, hash_failed, reported};
+ghost use Rattle.bolt_cli.specs.Failures.{HasFinding, IsFailureOf, copied, failure_line, failure_text, reported};
 ghost use Rattle.bolt_cli.specs.declared.failure.Failure.TheVariants as failure;
 
 use crate::decimals::put_number_and;
@@ -10,7 +10,6 @@ use bolt_bulk::BulkFault;
 use bolt_check::{CheckFault, Finding, NoMemory};
 use bolt_format::{MetaFault, PageFault, Sink, SinkFault};
 use bolt_report::{ReportFault, finding_text, meta_fault_text, page_fault_text};
-use bolt_snapshot::HashFault;
 use std::alloc::AllocFailed;
 
 /// Why a job isn't done (docs/COMMANDS.md, "What a run writes").
@@ -105,19 +104,6 @@ impl From<BulkFault> for Failure {
             BulkFault::Memory => Failure::Memory,
             BulkFault::TooLarge => Failure::TooLarge,
             BulkFault::Sink => Failure::Write,
-        }
-    }
-}
-
-impl From<HashFault> for Failure {
-    ghost from_gives = { λ fault result. result ≡ hash_failed fault };
-
-    /// A sink that hashed other bytes than those of the copy has none of its hash: that doesn't
-    /// happen, and is reported as lack of memory.
-    fn from(fault: HashFault) -> Failure {
-        match fault {
-            HashFault::Sink => Failure::Write,
-            HashFault::NotHashed => Failure::Memory,
         }
     }
 }

@@ -15,7 +15,6 @@ use crate::page_command::print_page;
 use crate::pages_command::print_pages;
 use crate::stats_command::print_stats;
 use bolt_format::Sink;
-use bolt_snapshot::SnapshotSink;
 use std::alloc::Global;
 
 /// How a run ended.
@@ -28,7 +27,7 @@ pub struct Status {
 /// Does a job on the bytes of its file, and returns its status (docs/COMMANDS.md, "What a run
 /// writes"). It writes the text to `out`, the line of a failure to `err`, and a copy to `target`;
 /// other jobs don't touch `target`.
-pub fn run<O: Sink, E: Sink, T: SnapshotSink>(
+pub fn run<O: Sink, E: Sink, T: Sink>(
     alloc: Global,
     job: &Job,
     file: &[u8],
@@ -56,7 +55,7 @@ fn report<E: Sink>(failure: &Failure, err: &mut E) -> Status
 }
 
 /// Does a job, and returns its status.
-fn do_job<O: Sink, T: SnapshotSink>(
+fn do_job<O: Sink, T: Sink>(
     alloc: Global,
     job: &Job,
     file: &[u8],

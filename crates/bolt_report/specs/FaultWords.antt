@@ -7,6 +7,8 @@ use Rattle.bolt_check.specs.declared.finding.TheConstants.Finding.{TWICE, ORDER,
 use Rattle.bolt_format.specs.declared.meta.MetaFault.{MetaFault}
 use Rattle.bolt_report.specs.Lines.{line}
 use Rattle.bolt_format.specs.declared.meta.MetaFault.TheVariants.{Cut, Magic, Version, Sum, PageSize}
+use Rattle.bolt_snapshot.specs.declared.hash_check.SnapshotFault.{SnapshotFault}
+use Rattle.bolt_snapshot.specs.declared.hash_check.SnapshotFault.TheVariants.{HashMissing, HashDiffers}
 
 -- why a file without a valid meta is refused
 abbrev pub meta_fault_text : MetaFault → List ℕ
@@ -15,6 +17,11 @@ meta_fault_text Magic = line (codes "invalid database")
 meta_fault_text Version = line (codes "version mismatch")
 meta_fault_text Sum = line (codes "checksum error")
 meta_fault_text PageSize = line (codes "page size refused")
+
+-- why a file is no snapshot
+abbrev pub snapshot_fault_text : SnapshotFault → List ℕ
+snapshot_fault_text HashMissing = line (codes "snapshot hash missing")
+snapshot_fault_text HashDiffers = line (codes "snapshot hash differs")
 
 -- A number of a fault, and its words.
 pub record FaultWords : Type 0 where

@@ -1,7 +1,7 @@
 //! The lines of faults and findings.
 ghost use Rattle.std.specs.Prelude.{◌≡◌, ◌≤◌, ◌+◌, ◌++◌, IfErr, flat_map, length};
 ghost use Rattle.bolt_format.specs.Writes.{Writes};
-ghost use Rattle.bolt_report.specs.FaultWords.{count_line, finding_sentence, finding_text, finding_words, findings_text, meta_fault_text, page_fault_text, page_fault_words, pages_words};
+ghost use Rattle.bolt_report.specs.FaultWords.{count_line, finding_sentence, finding_text, finding_words, findings_text, meta_fault_text, page_fault_text, page_fault_words, pages_words, snapshot_fault_text};
 ghost use Rattle.bolt_report.specs.Reports.{Reports};
 
 use crate::fault::ReportFault;
@@ -9,6 +9,7 @@ use crate::puts::put;
 use crate::text::{TEXT_LEN, Text, push_bytes, push_number};
 use bolt_check::Finding;
 use bolt_format::{MetaFault, PageFault, Sink, SinkFault};
+use bolt_snapshot::SnapshotFault;
 
 /// Writes the line of a meta fault.
 ///
@@ -20,6 +21,19 @@ pub fn meta_fault_text<S: Sink>(fault: MetaFault, sink: &mut S) -> Result<(), Re
     ensures fault { IfErr result (λ fault. fault ≡ ReportFault.Sink) }
 {
     put(meta_fault_line(fault), sink)?;
+    Ok(())
+}
+
+/// Writes the line of a snapshot's fault.
+///
+/// # Errors
+///
+/// `Sink` if the sink failed; it has then accepted a prefix of the text. There is no other error.
+pub fn snapshot_fault_text<S: Sink>(fault: SnapshotFault, sink: &mut S) -> Result<(), ReportFault>
+    ensures written { Reports S.taken S.failed sink.old sink.new (snapshot_fault_text fault) result }
+    ensures fault { IfErr result (λ fault. fault ≡ ReportFault.Sink) }
+{
+    put(snapshot_fault_line(fault), sink)?;
     Ok(())
 }
 
@@ -104,6 +118,15 @@ fn meta_fault_line(fault: MetaFault) -> &'static [u8]
         MetaFault::Version => b"version mismatch\n",
         MetaFault::Sum => b"checksum error\n",
         MetaFault::PageSize => b"page size refused\n",
+    }
+}
+
+fn snapshot_fault_line(fault: SnapshotFault) -> &'static [u8]
+    ensures { result.now ≡ snapshot_fault_text fault }
+{
+    match fault {
+        SnapshotFault::HashMissing => b"snapshot hash missing\n",
+        SnapshotFault::HashDiffers => b"snapshot hash differs\n",
     }
 }
 

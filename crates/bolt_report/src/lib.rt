@@ -32,7 +32,9 @@ mod values;
 
 pub use bucket_stats::stats;
 pub use fault::ReportFault;
-pub use fault_lines::{finding_text, findings_text, meta_fault_text, page_fault_text};
+pub use fault_lines::{
+    finding_text, findings_text, meta_fault_text, page_fault_text, snapshot_fault_text,
+};
 pub use form::{Form, ListForm};
 pub use key_lines::{buckets, keys};
 pub use key_prefixes::keys_with_prefix;

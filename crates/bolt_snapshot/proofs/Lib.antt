@@ -1,2 +1,5 @@
-mod HashLemmas
-mod SnapshotLemmas
+pub mod SnapshotLemmas
+mod TrailingAccounts
+mod TrailingBytes
+mod TrailingMetas
+mod TrailingTrees

@@ -1,3 +1,2 @@
-pub mod Hashes
-pub mod Hashings
+pub mod Marks
 pub mod SnapshotFaults

@@ -1,14 +1,18 @@
 -- etcd's snapshots: docs/COMMANDS.md, "Snapshots".
-use Rattle.std.specs.Prelude.{◌≡◌, ◌==◌, ◌-◌, ◌%◌, ℕ, List, [], ◌++◌, Bool, true, false, codes, drop, length, take, Option, None, Some}
+use Rattle.std.specs.Prelude.{◌≡◌, ◌==◌, ◌-◌, ◌%◌, ℕ, List, ◌++◌, Bool, true, false, drop, length, take, Option, None, Some}
 use Rattle.std.specs.Str.{bytes_eq}
 use Rattle.sha2.specs.Sha256.{sha256}
 use Rattle.bolt_snapshot.specs.declared.hash_check.SnapshotFault.{SnapshotFault}
 use Rattle.bolt_snapshot.specs.declared.hash_check.SnapshotFault.TheVariants.{HashMissing, HashDiffers}
 
+-- a file, and its hash after it
+abbrev pub snapshot_of : List ℕ → List ℕ
+snapshot_of body = body ++ sha256 body
+
 -- a file of whole blocks of 512 bytes, and the hash of it
 pub record IsSnapshot (file : List ℕ) : Type 0 where
   pub body : List ℕ
-  pub parts : file ≡ body ++ sha256 body
+  pub parts : file ≡ snapshot_of body
   pub blocks : length body % 512 ≡ 0
 
 -- the bytes before the hash, and the hash itself
@@ -27,12 +31,3 @@ fault_by true true = None
 -- hash of all bytes before them.
 abbrev pub hash_fault : List ℕ → Option SnapshotFault
 hash_fault file = fault_by (length file % 512 == 32) (bytes_eq (sha256 (body_of file)) (hash_of file))
-
--- the line of a fault, and nothing if there is none
-abbrev pub fault_line : SnapshotFault → List ℕ
-fault_line HashMissing = codes "snapshot hash missing\n"
-fault_line HashDiffers = codes "snapshot hash differs\n"
-
-abbrev pub fault_lines : Option SnapshotFault → List ℕ
-fault_lines None = []
-fault_lines (Some fault) = fault_line fault

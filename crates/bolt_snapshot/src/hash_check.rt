@@ -1,6 +1,6 @@
 //! The check of a snapshot's hash, and why a file is no snapshot.
 ghost use Rattle.std.specs.Prelude.{◌≡◌, ◌↔◌, None};
-ghost use Rattle.bolt_snapshot.specs.SnapshotFaults.{IsSnapshot, fault_line, hash_fault};
+ghost use Rattle.bolt_snapshot.specs.SnapshotFaults.{IsSnapshot, hash_fault};
 
 use sha2::{Digest, Sha256};
 
@@ -16,18 +16,6 @@ pub enum SnapshotFault {
     HashMissing,
     /// The last 32 bytes aren't the SHA-256 of all bytes before them.
     HashDiffers,
-}
-
-impl SnapshotFault {
-    /// The line that reports the fault, with its line feed.
-    pub fn line(&self) -> &'static [u8]
-        ensures { result.now ≡ fault_line self.now }
-    {
-        match self {
-            SnapshotFault::HashMissing => b"snapshot hash missing\n",
-            SnapshotFault::HashDiffers => b"snapshot hash differs\n",
-        }
-    }
 }
 
 /// Returns what is wrong with the hash at the end of a snapshot, or `None` if it is right. Nothing

@@ -4,7 +4,6 @@
 
 use bolt_cli::{Job, Refusal, read_words, run};
 use bolt_format::{MemSink, Sink, WriteSink};
-use bolt_snapshot::HashedSink;
 use std::cell::Cell;
 use std::env;
 use std::fs::{File, OpenOptions};
@@ -141,9 +140,9 @@ fn copy(rt: &HostRuntime, job: &Job, file: &[u8], made: File) -> u8 {
     };
     let mut out = MemSink::new(rt.alloc());
     let mut line = MemSink::new(rt.alloc());
-    let mut target = HashedSink::new(WriteSink::new(gathered));
+    let mut target = WriteSink::new(gathered);
     let status = run(rt.alloc(), job, file, &mut out, &mut line, &mut target);
-    match end_target(target.into_inner().into_inner()) {
+    match end_target(target.into_inner()) {
         Ok(()) if out.failures() > 0 => report(rt, "out of memory", FAILED),
         Ok(()) => match print_held(rt, out.bytes()) {
             Ok(()) => end(rt, &line, status.code),
@@ -213,7 +212,7 @@ fn show(rt: &HostRuntime, job: &Job, file: &[u8]) -> u8 {
     };
     let mut out = WriteSink::new(gathered);
     let mut line = MemSink::new(rt.alloc());
-    let mut target = HashedSink::new(WriteSink::new(io::sink()));
+    let mut target = WriteSink::new(io::sink());
     let status = run(rt.alloc(), job, file, &mut out, &mut line, &mut target);
     if is_printed(out) {
         end(rt, &line, status.code)

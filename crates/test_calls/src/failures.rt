@@ -5,7 +5,6 @@ use crate::halting::{Halting, Refusal};
 use crate::runs::{Ran, job_of, status_of};
 use bolt_cli::Job;
 use bolt_format::{MemSink, Sink, WriteSink};
-use bolt_snapshot::HashedSink;
 use std::alloc::Global;
 use std::io::ErrorKind;
 
@@ -77,7 +76,7 @@ impl Whole<'_> {
     fn halt_output(&self, refused: usize, refusal: Refusal) -> Result<bool, Fault> {
         let mut out = WriteSink::new(Halting::new(self.alloc, refused, refusal));
         let mut err = MemSink::new(self.alloc);
-        let mut target = HashedSink::new(MemSink::new(self.alloc));
+        let mut target = MemSink::new(self.alloc);
         let code = status_of(
             self.alloc,
             self.job,
@@ -113,8 +112,7 @@ impl Whole<'_> {
     /// The copy goes to a writer that refuses this call; the first is 1. Whether it made the call.
     fn halt_copy(&self, refused: usize, refusal: Refusal) -> Result<bool, Fault> {
         let [mut out, mut err] = [MemSink::new(self.alloc), MemSink::new(self.alloc)];
-        let halting = WriteSink::new(Halting::new(self.alloc, refused, refusal));
-        let mut target = HashedSink::new(halting);
+        let mut target = WriteSink::new(Halting::new(self.alloc, refused, refusal));
         let code = status_of(
             self.alloc,
             self.job,
@@ -124,12 +122,7 @@ impl Whole<'_> {
             &mut target,
         );
         let is_reported = code == 1 && out.bytes().is_empty() && err.bytes() == WRITE_FAILED;
-        is_halted(
-            target.into_inner(),
-            refused,
-            self.ran.target.bytes(),
-            is_reported,
-        )
+        is_halted(target, refused, self.ran.target.bytes(), is_reported)
     }
 }
 

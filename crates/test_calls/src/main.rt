@@ -17,7 +17,7 @@
 //! | `checked`, `checked SLOT` | the transaction, the length, and whether the accounts were tested |
 //! | `pager`, `root`, `bucket KEY` | keys that are found over a pager, and what it opened |
 //! | `checksums WORD ..`, `faults` | the checksum of each word, and the numbers of faults |
-//! | `puts SINK NUMBER PIECE ..`, `hashes ROOM LENGTH PIECE ..` | what sinks accept |
+//! | `puts SINK NUMBER PIECE ..` | what sinks accept |
 //! | `again`, `again PATH`, `between PATH KEY` | what comes after a refused request for memory |
 //! | `names COMMAND ..` | the names of a command's FILE and OUT |
 //! | `cuts FIRST LAST COMMAND ..` | what a command prints of each prefix with a length in a range |
@@ -136,7 +136,6 @@ fn other_result_of(
 ) -> Result<Vec<u8>, Fault> {
     match verb {
         "puts" => sinks::puts(alloc, file, words),
-        "hashes" => sinks::hashes(alloc, words),
         "again" => refusals::members_again(alloc, file, words),
         "between" => refusals::calls_between(alloc, file, words),
         "names" => runs::names_of(alloc, words),

@@ -3,7 +3,6 @@
 use crate::fault::Fault;
 use bolt_cli::{Job, read_words, run};
 use bolt_format::{MemSink, Sink};
-use bolt_snapshot::{HashedSink, SnapshotSink};
 use std::alloc::Global;
 
 /// The job that these words ask for.
@@ -26,7 +25,7 @@ pub fn names_of(alloc: Global, words: &[String]) -> Result<Vec<u8>, Fault> {
 
 /// The status of a run over these sinks. Other proofs don't read the contract of `run`, which is most
 /// of what they would take.
-pub fn status_of<O: Sink, E: Sink, T: SnapshotSink>(
+pub fn status_of<O: Sink, E: Sink, T: Sink>(
     alloc: Global,
     job: &Job,
     file: &[u8],
@@ -59,13 +58,12 @@ impl Ran {
 
     /// A run over these sinks for standard output, standard error and the copy.
     pub fn over(alloc: Global, job: &Job, file: &[u8], sinks: [MemSink; 3]) -> Ran {
-        let [mut out, mut err, target] = sinks;
-        let mut target = HashedSink::new(target);
+        let [mut out, mut err, mut target] = sinks;
         let code = status_of(alloc, job, file, &mut out, &mut err, &mut target);
         Ran {
             out,
             err,
-            target: target.into_inner(),
+            target,
             code,
         }
     }

@@ -4,7 +4,6 @@ use crate::fault::Fault;
 use crate::halting::{Halting, Refusal};
 use crate::words::{bytes_of, number, push_word};
 use bolt_format::{MemSink, Sink, WriteSink};
-use bolt_snapshot::{HashFault, HashedSink, SnapshotSink};
 use std::alloc::Global;
 use std::io::{Cursor, ErrorKind};
 
@@ -98,36 +97,5 @@ fn shown(
     }
     let is_file = !file.is_empty() && bytes == file;
     push_word(&mut line, if is_file { b"." } else { bytes })?;
-    Ok(line)
-}
-
-/// Writes pieces to a sink that hashes them, with room for as many bytes as the first word says, and
-/// then the hash of the last bytes, as many as the second word says. The piece `start` starts the hash.
-/// What came of the pieces and of the hash, and all bytes.
-pub fn hashes(alloc: Global, words: &[String]) -> Result<Vec<u8>, Fault> {
-    let [room, length, pieces @ ..] = words else {
-        return Err(Fault::Unread);
-    };
-    let room = number(room.as_str())? as usize;
-    let mut sink = HashedSink::new(MemSink::with_fuse(alloc, room));
-    let mut line = Vec::new(alloc);
-    for word in pieces {
-        if word.as_str() == "start" {
-            sink.start_hash();
-            continue;
-        }
-        let piece = bytes_of(alloc, word.as_str())?;
-        let result = sink.put(piece.as_slice());
-        let came = if result.is_ok() { "ok" } else { "failed" };
-        push_word(&mut line, came.as_bytes())?;
-    }
-    let came = match sink.put_hash(number(length.as_str())?) {
-        Ok(()) => "hashed",
-        Err(HashFault::Sink) => "failed",
-        Err(HashFault::NotHashed) => "not-hashed",
-    };
-    push_word(&mut line, came.as_bytes())?;
-    let taken = hex::encode(alloc, sink.inner().bytes())?;
-    push_word(&mut line, taken.as_bytes())?;
     Ok(line)
 }

@@ -4,16 +4,15 @@ use Rattle.bolt_recover.specs.ShownLosses.{loss_view}
 use Rattle.bolt_report.specs.LossLines.{counted_losses_text}
 use Rattle.bolt_report.specs.Reports.{Reports}
 use Rattle.bolt_report.specs.declared.fault.ReportFault.{ReportFault}
-use Rattle.bolt_snapshot.specs.SnapshotFaults.{fault_lines}
-use Rattle.bolt_cli.specs.SnapshotAnswers.{errors_in}
-use Rattle.bolt_cli.proofs.Doing.{Does-first_unwritten, Does-second_unwritten}
+use Rattle.bolt_cli.specs.SnapshotAnswers.{errors_in, fault_lines}
+use Rattle.bolt_cli.proofs.Doing.{Does-first_unwritten, Does-second_unwritten, only_write}
 use Rattle.bolt_cli.proofs.check_command.put_losses.Goals as goal
 
 pub returns-in_err-earlier : goal.returns-in_err-earlier
 returns-in_err-earlier g c =
     let losses = map loss_view c.args.losses.now in
     Does-first_unwritten g.O.Sink.taken g.O.Sink.failed c.args.out.now c.put_hash_fault.new.out (fault_lines c.args.hash) (counted_losses_text (errors_in c.args.hash) losses) (Ok 1) _ _
-    c.in_err-earlier.ensures.line c.from_residual.ensures.1
+    c.in_err-earlier.ensures.line (only_write c.in_err-earlier.field-0.0 c.from_residual.result c.in_err-earlier.ensures.fault c.from_residual.ensures.1)
 
 pub returns-in_err-counted_losses_text : goal.returns-in_err-counted_losses_text
 returns-in_err-counted_losses_text g c =

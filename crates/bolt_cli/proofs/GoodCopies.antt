@@ -1,0 +1,124 @@
+-- A copy of a listing that is that of one tree, and its hash: what holds of both.
+use Rattle.std.proofs.Common.{◌≡◌, ◌∙◌, ◌+◌, ◌*◌, ◌-◌, ◌^◌, ◌%◌, ◌≤◌, ◌<◌, ◌==◌, ℕ, zero, suc, List, [], ◌∷◌, ◌++◌, map, Bool, true, false, IsTrue, Some, arith, ap, inl, inr, length, length-append, subst, sym, take}
+use Rattle.std.specs.List.{AllByRecursion, list_any, range_with_len}
+use Rattle.std.proofs.Math.Nat.{mul-mod_left, mul_assoc}
+use Rattle.std.proofs.lemmas.Bool.{cases_lt, eqb-true, or_cases}
+use Rattle.std.proofs.lemmas.List.{take-append-le}
+use Rattle.sha2.specs.Sha256.{sha256}
+use Rattle.sha2.proofs.Facts256.{length-sha256}
+use Rattle.bolt_bulk.specs.Compacting.{too_many}
+use Rattle.bolt_check.specs.Findings.{finding}
+use Rattle.bolt_check.specs.Sound.{IsSound}
+use Rattle.bolt_check.specs.declared.fault.CheckFault.TheVariants as check
+use Rattle.bolt_format.specs.Metas.{IsChosen, IsPageSize, page_size_count, page_sizes}
+use Rattle.bolt_format.specs.declared.fault.TheConstants.PageFault.{CUT}
+use Rattle.bolt_format.specs.declared.meta.Meta.{Meta}
+use Rattle.bolt_format.specs.declared.meta.MetaFault.TheVariants.{Cut}
+use Rattle.bolt_format.specs.declared.meta.Slot.{Slot}
+use Rattle.bolt_format.specs.declared.meta.Slot.TheVariants.{One}
+use Rattle.bolt_layout.specs.Copies.{IsAsked, IsOfOneTree, IsSoundCopy, RefusesPrefixes, layout_of_listing}
+use Rattle.bolt_layout.specs.Layout.{layout_mark, layout_meta, layout_of, layout_root}
+use Rattle.bolt_layout.specs.Storable.{IsStorable}
+use Rattle.bolt_layout.specs.declared.layout.Layout.{Layout}
+use Rattle.bolt_snapshot.specs.Marks.{HasAllPages}
+use Rattle.bolt_snapshot.specs.SnapshotFaults.{IsSnapshot, hash_fault, snapshot_of}
+use Rattle.bolt_snapshot.specs.declared.hash_check.SnapshotFault.TheVariants.{HashMissing}
+use Rattle.bolt_tree.specs.Listing.{IsListing, Member}
+use Rattle.bolt_tree.specs.Tree.{Tree, tree_of}
+use Rattle.bolt_cli.specs.GoodCopies.{AcceptsListing, HasGoodCopies, IsGoodCopy, RefusesFile}
+use Rattle.bolt_cli.specs.SnapshotAnswers.{copy_of, hash_found}
+
+-- ---- an accepted page size has whole blocks of 512 bytes
+
+abbrev HasBlocks : ℕ → Type 0
+HasBlocks size = (blocks : ℕ) × (size ≡ blocks * 512)
+
+sizes_have : (k n : ℕ) → AllByRecursion HasBlocks (map (λ k. 1024 * 2 ^ k) (range_with_len k n))
+sizes_have k zero = tt
+sizes_have k (suc n) = ((2 * 2 ^ k, omega arith), sizes_have (k + 1) n)
+
+one_has : (sizes : List ℕ) (n : ℕ) → AllByRecursion HasBlocks sizes → IsTrue (list_any (λ size. size == n) sizes) → HasBlocks n
+one_has [] n all h = absurd (cc)
+one_has (x ∷ sizes) n all h = elim (or_cases (x == n) (list_any (λ size. size == n) sizes) h) [
+  | inl same ↦ (all.0.0, sym (eqb-true x n same) ∙ all.0.1)
+  | inr rest ↦ one_has sizes n all.1 rest
+]
+
+blocks_of : (mark size long : ℕ) → IsPageSize size → long ≡ mark * size → long % 512 ≡ 0
+blocks_of mark size long accepted is =
+    let (blocks, same) = one_has page_sizes size (sizes_have 0 page_size_count) accepted in
+    ap (λ n. n % 512) (is ∙ ap (λ n. mark * n) same ∙ sym (mul_assoc mark blocks 512)) ∙ mul-mod_left (mark * blocks) 512
+
+-- ---- the laws that this stands on
+
+pub record Laws : Type 0 where
+  pub sound : (which : Layout) (listing : List Member) (page_size sequence : ℕ) → IsOfOneTree listing → IsPageSize page_size → sequence < 2 ^ 64
+      → length (layout_of_listing which page_size listing sequence) < 2 ^ 63 → IsSoundCopy which page_size (tree_of listing) sequence listing
+  pub long : (which : Layout) (page_size : ℕ) (tree : Tree) (sequence : ℕ) → IsPageSize page_size → IsStorable tree
+      → length (layout_of which page_size tree sequence) ≡ layout_mark which page_size tree * page_size
+  pub prefixes : (which : Layout) (page_size : ℕ) (tree : Tree) (sequence : ℕ) → IsAsked page_size tree sequence
+      → length (layout_of which page_size tree sequence) < 2 ^ 63 → RefusesPrefixes (layout_of which page_size tree sequence) (layout_root which page_size tree)
+  pub chosen_more : (file more : List ℕ) (slot : Slot) (meta : Meta) (accounts : Bool) → HasAllPages file meta → IsSound file meta accounts → IsChosen file slot meta
+      → IsChosen (file ++ more) slot meta
+  pub sound_more : (file more : List ℕ) (meta : Meta) (accounts : Bool) → HasAllPages file meta → IsSound file meta accounts → IsSound (file ++ more) meta accounts
+  pub listing_more : (file more : List ℕ) (meta : Meta) (listing : List Member) → HasAllPages file meta → IsListing file meta listing → IsListing (file ++ more) meta listing
+  pub snapshot : (file : List ℕ) → length file % 512 ≡ 0 → IsSnapshot (snapshot_of file)
+  pub cut : (file : List ℕ) (n : ℕ) → length file % 512 ≡ 0 → n < 32 → hash_fault (take (length file + n) (snapshot_of file)) ≡ Some HashMissing
+
+module _ (laws : Laws) (listing : List Member) (sequence : ℕ) (one : IsOfOneTree listing) (fits : sequence < 2 ^ 64) (which : Layout) (page_size : ℕ) (size : IsPageSize page_size)
+    (few : length (layout_of_listing which page_size listing sequence) < too_many) where
+  abbrev layout : List ℕ
+  layout = layout_of_listing which page_size listing sequence
+
+  abbrev own_meta : Meta
+  own_meta = layout_meta which page_size (tree_of listing) sequence 1
+
+  long : length layout ≡ layout_mark which page_size (tree_of listing) * page_size
+  long = laws.long which page_size (tree_of listing) sequence size one.storable
+
+  blocks : length layout % 512 ≡ 0
+  blocks = blocks_of (layout_mark which page_size (tree_of listing)) page_size (length layout) size long
+
+  all_pages : HasAllPages layout own_meta
+  all_pages = record { size = size; long = omega (arith, long) }
+
+  copy_sound : IsSoundCopy which page_size (tree_of listing) sequence listing
+  copy_sound = laws.sound which listing page_size sequence one size fits few
+
+  accepts : (snapshot : Bool) → AcceptsListing (copy_of snapshot layout) listing
+  accepts false = (One, own_meta, copy_sound.chosen, copy_sound.sound, copy_sound.lists)
+  accepts true = (
+    One,
+    own_meta,
+    laws.chosen_more layout (sha256 layout) One own_meta true all_pages copy_sound.sound copy_sound.chosen,
+    laws.sound_more layout (sha256 layout) own_meta true all_pages copy_sound.sound,
+    laws.listing_more layout (sha256 layout) own_meta listing all_pages copy_sound.lists,
+  )
+
+  has_hash : (snapshot : Bool) → IsTrue snapshot → IsSnapshot (copy_of snapshot layout)
+  has_hash false asked = absurd (cc)
+  has_hash true asked = laws.snapshot layout blocks
+
+  refuses : (n : ℕ) → n < length layout → RefusesFile (take n layout)
+  refuses n less =
+      let cuts = laws.prefixes which page_size (tree_of listing) sequence (record { size = size; storable = one.storable; sequence_fits = fits }) few in
+      elim (cases_lt n 80) [
+        | inl early ↦ (check.Open Cut, λ same. cc, cuts.before_metas n less early)
+        | inr late ↦ (check.Structure (finding CUT (layout_root which page_size (tree_of listing))), λ same. cc, cuts.at_root n less late)
+      ]
+
+  cut_layout : (snapshot : Bool) (n : ℕ) → n < length layout → RefusesFile (take n (copy_of snapshot layout))
+  cut_layout false n less = refuses n less
+  cut_layout true n less = subst RefusesFile (sym (take-append-le n layout (sha256 layout) (omega (arith, less)))) (refuses n less)
+
+  cut_hash : (snapshot : Bool) (n : ℕ) → length layout ≤ n → n < length (copy_of snapshot layout) → hash_found snapshot (take n (copy_of snapshot layout)) ≡ Some HashMissing
+  cut_hash false n from less = absurd (omega (arith, from, less))
+  cut_hash true n from less =
+      let part : n - length layout < 32 = omega (arith, from, less, length-append layout (sha256 layout), length-sha256 layout) in
+      subst (λ k. hash_fault (take k (snapshot_of layout)) ≡ Some HashMissing) (omega (arith, from)) (laws.cut layout (n - length layout) blocks part)
+
+  good : (snapshot : Bool) → IsGoodCopy snapshot layout listing
+  good snapshot = record { accepted = accepts snapshot; hash = has_hash snapshot; cut_layout = cut_layout snapshot; cut_hash = cut_hash snapshot }
+
+pub good_copies : Laws → (listing : List Member) (sequence : ℕ) → IsOfOneTree listing → sequence < 2 ^ 64 → HasGoodCopies listing sequence
+good_copies laws listing sequence one fits which snapshot page_size size few = good laws listing sequence one fits which page_size size few snapshot

@@ -1,0 +1,88 @@
+-- The hash of what a target has accepted.
+use Rattle.std.proofs.Common.{◌≡◌, ◌≢◌, ◌<◌, ◌≤◌, ◌∙◌, ℕ, List, [], ◌++◌, Option, None, Some, Result, Ok, Err, ap, append_assoc, arith, drop, inl, inr, length, refl, subst, sym}
+use Rattle.std.proofs.KnownBytes.{Appends-kept, Appends-trans}
+use Rattle.std.proofs.Math.Seq.{drop-append_seam}
+use Rattle.std.proofs.lemmas.Bool.{cases_lt}
+use Rattle.std.proofs.Math.Logic.{∥∥₁_elim, ∥∥₁_map}
+use Rattle.std.proofs.Props.{props}
+use Rattle.std.specs.Prelude.{OnErr, OnOk}
+use Rattle.std.specs.Io.KnownBytes.{Appends, Keeps}
+use Rattle.bolt_format.specs.Sinks.{AppendsProperPrefix}
+use Rattle.sha2.specs.Hashers.{Holds256}
+use Rattle.sha2.specs.Sha256.{sha256}
+use Rattle.sha2.proofs.Facts256.{length-sha256}
+use Rattle.sha2.specs.declared.Sha256.{Sha256}
+use Rattle.bolt_cli.specs.Hashes.{HashesSince}
+
+-- a hash goes on with what the target accepts
+since_more : (start old new : Option (List ℕ)) (hash next : Sha256) (bytes : List ℕ) → ((m : List ℕ) → Holds256 hash m → Holds256 next (m ++ bytes))
+    → Appends old new bytes → HashesSince start old hash → HashesSince start new next
+since_more None old new hash next bytes goes taken since = tt
+since_more (Some xs) None new hash next bytes goes taken since = absurd since
+since_more (Some xs) (Some ys) None hash next bytes goes taken since = absurd taken
+since_more (Some xs) (Some ys) (Some zs) hash next bytes goes taken (m, holds, is) = (m ++ bytes, goes m holds, taken ∙ ap (λ l. l ++ bytes) is ∙ append_assoc xs m bytes)
+
+-- whatever the result of a put is, the hash is right as long as the target hasn't failed
+pub since_put : {A E : Type 0} (result : Result A E) (start old new : Option (List ℕ)) (failed_old failed_new : ℕ) (hash next : Sha256) (bytes : List ℕ)
+    → ((m : List ℕ) → Holds256 hash m → Holds256 next (m ++ bytes))
+    → OnOk result (Appends old new bytes) → OnOk result (failed_new ≡ failed_old) → OnErr result (0 < failed_new)
+    → (failed_old ≡ 0 → ∥ HashesSince start old hash ∥₁) → failed_new ≡ 0 → ∥ HashesSince start new next ∥₁
+since_put (Ok a) start old new failed_old failed_new hash next bytes goes taken sound failure since none =
+    ∥∥₁_map (since (sym sound ∙ none)) (since_more start old new hash next bytes goes taken)
+since_put (Err e) start old new failed_old failed_new hash next bytes goes taken sound failure since none = absurd (omega (arith, failure, none))
+
+pub hash_not_empty : (text : List ℕ) → sha256 text ≢ []
+hash_not_empty text none = let long : length (sha256 text) ≡ 0 = ap length none in absurd (omega (arith, long, length-sha256 text))
+
+-- what the target accepted is the layout, so the digest is that of the layout
+digest_of : (xs ys layout : List ℕ) (hash : Sha256) (digest : List ℕ) → ((m : List ℕ) → Holds256 hash m → digest ≡ sha256 m) → ys ≡ xs ++ layout
+    → ∥ HashesSince (Some xs) (Some ys) hash ∥₁ → digest ≡ sha256 layout
+digest_of xs ys layout hash digest ends taken since = ∥∥₁_elim since (Prim.hlevel props) (λ known.
+    let same : known.0 ≡ layout = sym (drop-append_seam xs known.0) ∙ ap (drop (length xs)) (sym known.2 ∙ taken) ∙ drop-append_seam xs layout in
+    ends known.0 known.1 ∙ ap sha256 same)
+
+whole_pair : (old mid new : Option (List ℕ)) (layout : List ℕ) (hash : Sha256) (digest : List ℕ) → ((m : List ℕ) → Holds256 hash m → digest ≡ sha256 m)
+    → Appends old mid layout → ∥ HashesSince old mid hash ∥₁ → Appends mid new digest → Appends old new (layout ++ sha256 layout)
+whole_pair None mid new layout hash digest ends taken since put = tt
+whole_pair (Some xs) None new layout hash digest ends taken since put = absurd taken
+whole_pair (Some xs) (Some ys) new layout hash digest ends taken since put =
+    let same = digest_of xs ys layout hash digest ends taken since in
+    Appends-trans (Some xs) (Some ys) new layout (sha256 layout) taken (subst (λ (l : List ℕ). Appends (Some ys) new l) same put)
+
+-- the first text whole, and then a proper prefix of the second
+proper_second : (old mid new : Option (List ℕ)) (first second : List ℕ) → Appends old mid first → AppendsProperPrefix mid new second
+    → AppendsProperPrefix old new (first ++ second)
+proper_second old mid new first second taken short = record {
+  front = first ++ short.front;
+  rest = short.rest;
+  parts = ap (λ (text : List ℕ). first ++ text) short.parts ∙ sym (append_assoc first short.front short.rest);
+  short = short.short;
+  taken = Appends-trans old mid new first short.front taken short.taken;
+}
+
+short_pair : (old mid new : Option (List ℕ)) (layout : List ℕ) (hash : Sha256) (digest : List ℕ) → ((m : List ℕ) → Holds256 hash m → digest ≡ sha256 m)
+    → Appends old mid layout → ∥ HashesSince old mid hash ∥₁ → (digest ≢ [] → AppendsProperPrefix mid new digest) → AppendsProperPrefix old new (layout ++ sha256 layout)
+short_pair None mid new layout hash digest ends taken since put = record { front = layout; rest = sha256 layout; parts = refl; short = hash_not_empty layout; taken = tt }
+short_pair (Some xs) None new layout hash digest ends taken since put = absurd taken
+short_pair (Some xs) (Some ys) new layout hash digest ends taken since put =
+    let same = digest_of xs ys layout hash digest ends taken since in
+    let short = put (λ none. hash_not_empty layout (sym same ∙ none)) in
+    proper_second (Some xs) (Some ys) new layout (sha256 layout) taken (subst (λ (l : List ℕ). AppendsProperPrefix (Some ys) new l) same short)
+
+zero_of : (n : ℕ) → n ≤ 0 → n ≡ 0
+zero_of n le = omega (arith, le)
+
+-- what a target holds once the hash was put, whether it had failed before or not
+module _ (old mid new : Option (List ℕ)) (failed : ℕ) (layout : List ℕ) (hash : Sha256) (digest : List ℕ)
+    (ends : (m : List ℕ) → Holds256 hash m → digest ≡ sha256 m) (taken : Appends old mid layout) (since : failed ≡ 0 → ∥ HashesSince old mid hash ∥₁) where
+  pub whole_with_hash : Appends mid new digest → (0 < failed → ⊥) → Appends old new (layout ++ sha256 layout)
+  whole_with_hash put sound = elim (cases_lt 0 failed) [
+    | inl some ↦ absurd (sound some)
+    | inr none ↦ whole_pair old mid new layout hash digest ends taken (since (zero_of failed none)) put
+  ]
+
+  pub short_with_hash : (digest ≢ [] → AppendsProperPrefix mid new digest) → (0 < failed → Keeps mid new) → AppendsProperPrefix old new (layout ++ sha256 layout)
+  short_with_hash put keeps = elim (cases_lt 0 failed) [
+    | inl some ↦ record { front = layout; rest = sha256 layout; parts = refl; short = hash_not_empty layout; taken = Appends-kept old mid new layout taken (keeps some) }
+    | inr none ↦ short_pair old mid new layout hash digest ends taken (since (zero_of failed none)) put
+  ]

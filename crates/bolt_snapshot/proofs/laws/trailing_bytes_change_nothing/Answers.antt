@@ -1,0 +1,14 @@
+-- Each page is as it was, and so is all that is said of pages.
+use Rattle.bolt_snapshot.proofs.TrailingAccounts.{sound_more}
+use Rattle.bolt_snapshot.proofs.TrailingMetas.{chosen_more}
+use Rattle.bolt_snapshot.proofs.TrailingTrees.{listing_more}
+use Rattle.bolt_snapshot.proofs.laws.trailing_bytes_change_nothing.Goals as goal
+
+pub returns-clause-chosen : goal.returns-clause-chosen
+returns-clause-chosen c = λ file more slot meta accounts all sound chosen. chosen_more file more slot meta all sound.trees chosen
+
+pub returns-clause-sound : goal.returns-clause-sound
+returns-clause-sound c = λ file more meta accounts all sound. sound_more file more meta all accounts sound
+
+pub returns-clause-listing : goal.returns-clause-listing
+returns-clause-listing c = λ file more meta listing all. listing_more file more meta listing all
