@@ -103,6 +103,7 @@ RECOVERIES = "list --recover" "compact -o OUT --recover" "compact -o OUT --recov
 # OUT.
 failures: $(PROGRAM) $(REFUSE) $(LISTED_LONG) $(DAMAGED) $(MANY_LOST)
 	sh tools/streams/try_failures.sh $(PROGRAM) examples/app.db $(LEAKED).db $(LISTED_LONG) $(PRINTING)
+	sh tools/streams/try_changes.sh $(PROGRAM) $(REFUSE) examples/app.db
 	$(SWEEP) write 1 examples/app.db $(EACH_COMMAND)
 	$(SWEEP) write 1 $(LEAKED).db check list
 	$(SWEEP) write 10 examples/app.db "compact -o OUT" "compact -o OUT --etcd-snapshot"

@@ -4,14 +4,20 @@
    REFUSED_CALL says of which kind (memory, read, write or sync) and REFUSED_NUMBER which one of
    these, from 1. REFUSED_MARK names a file that is made when it is refused: so whoever set these
    knows whether it was called at all. Where a write was refused the device is full: all later ones
-   to the same file are refused too. With REFUSED_MOST a write moves so many bytes at most. */
+   to the same file are refused too. With REFUSED_MOST a write moves so many bytes at most.
+
+   With REFUSED_CALL touch or append nothing is refused: each of the first REFUSED_NUMBER times that
+   the process has read a regular file to its end, the file's time of change becomes a nanosecond later,
+   or a byte is appended to it. */
 
 #define _GNU_SOURCE
 #include <dlfcn.h>
 #include <errno.h>
 #include <fcntl.h>
+#include <stdio.h>
 #include <stdlib.h>
 #include <string.h>
+#include <sys/stat.h>
 #include <sys/types.h>
 #include <unistd.h>
 
@@ -71,9 +77,51 @@ void *realloc(void *block, size_t size)
 	return is_refused("memory", ENOMEM) ? NULL : __libc_realloc(block, size);
 }
 
+static void touch(int file, const struct stat *status)
+{
+	struct timespec times[2] = {status->st_atim, status->st_mtim};
+
+	times[1].tv_nsec += times[1].tv_nsec < 999999999 ? 1 : -1;
+	futimens(file, times);
+}
+
+static void append(int file)
+{
+	char name[64];
+	int again;
+
+	snprintf(name, sizeof name, "/proc/self/fd/%d", file);
+	again = open(name, O_WRONLY | O_APPEND);
+	next_write(again, "", 1);
+	close(again);
+}
+
+/* Changes a regular file that was read to its end, if that is asked for. */
+static void change(int file)
+{
+	int is_append = strcmp(refused_call, "append") == 0;
+	struct stat status;
+
+	if (!is_append && strcmp(refused_call, "touch") != 0)
+		return;
+	if (fstat(file, &status) != 0 || !S_ISREG(status.st_mode) || ++made > refused_number)
+		return;
+	if (is_append)
+		append(file);
+	else
+		touch(file, &status);
+}
+
 ssize_t read(int file, void *to, size_t count)
 {
-	return is_refused("read", EIO) ? -1 : next_read(file, to, count);
+	ssize_t moved;
+
+	if (is_refused("read", EIO))
+		return -1;
+	moved = next_read(file, to, count);
+	if (moved == 0 && count > 0)
+		change(file);
+	return moved;
 }
 
 ssize_t write(int file, const void *from, size_t count)

@@ -6,7 +6,7 @@ use bolt_cli::{Job, Refusal, read_words, run};
 use bolt_format::{MemSink, Sink, WriteSink};
 use std::cell::Cell;
 use std::env;
-use std::fs::{File, OpenOptions};
+use std::fs::{File, Metadata, OpenOptions};
 use std::io::{self, BufWriter, Read, Stdout, Write};
 use std::os::unix::fs::{MetadataExt, OpenOptionsExt};
 use std::process::ExitCode;
@@ -19,6 +19,8 @@ const FAILED: u8 = 1;
 const GATHERED: usize = 1 << 16;
 /// The number of bytes of a copy that are gathered before they are written.
 const COPIED: usize = 1 << 20;
+/// How often FILE is read if it is changed each time.
+const READINGS: u32 = 3;
 /// The bits of a file's mode that say who may read, write and execute it.
 const PERMISSIONS: u32 = 0o777;
 
@@ -87,29 +89,82 @@ struct Source {
     permissions: u32,
 }
 
-/// Reads FILE, creates the job's OUT if it has one, and does the job.
-fn run_job(rt: &HostRuntime, job: &Job) -> u8 {
-    let Ok(source) = read_source(rt, job) else {
-        let name = job.file();
-        let _ = eprintln!(rt; "error: cannot read {name}");
-        return FAILED;
-    };
-    match job.target() {
-        Some(name) => create_copy(rt, job, &source, name),
-        None => show(rt, job, source.bytes.as_slice()),
+/// Why the bytes of FILE aren't known.
+enum Unread {
+    /// FILE couldn't be read.
+    Failed,
+    /// FILE was changed each time that it was read.
+    Changed,
+}
+
+impl From<io::Error> for Unread {
+    fn from(_error: io::Error) -> Unread {
+        Unread::Failed
     }
 }
 
-/// Reads FILE, or only its first bytes if the job needs no more.
-fn read_source(rt: &HostRuntime, job: &Job) -> io::Result<Source> {
+/// Reads FILE, creates the job's OUT if it has one, and does the job.
+fn run_job(rt: &HostRuntime, job: &Job) -> u8 {
+    match read_source(rt, job) {
+        Ok(source) => match job.target() {
+            Some(name) => create_copy(rt, job, &source, name),
+            None => show(rt, job, source.bytes.as_slice()),
+        },
+        Err(Unread::Changed) => report(rt, "file changed while it was read", FAILED),
+        Err(Unread::Failed) => {
+            let name = job.file();
+            let _ = eprintln!(rt; "error: cannot read {name}");
+            FAILED
+        }
+    }
+}
+
+/// Reads FILE, again if it is changed meanwhile, so that what is judged is one state of it.
+fn read_source(rt: &HostRuntime, job: &Job) -> Result<Source, Unread> {
+    for _ in 0..READINGS {
+        if let Some(source) = read_once(rt, job)? {
+            return Ok(source);
+        }
+    }
+    Err(Unread::Changed)
+}
+
+/// Reads FILE from its start, or only its first bytes if the job needs no more. Returns `None` if
+/// FILE was changed while it was read. That is asked of regular files that are read whole.
+fn read_once(rt: &HostRuntime, job: &Job) -> io::Result<Option<Source>> {
     let mut file = File::open(rt, job.file())?;
-    let permissions = file.metadata()?.mode() & PERMISSIONS;
+    let before = file.metadata()?;
     let mut bytes = Vec::new(rt.alloc());
-    match job.needed_length() {
-        Some(length) => file.take(length).read_to_end(&mut bytes)?,
-        None => file.read_to_end(&mut bytes)?,
-    };
-    Ok(Source { bytes, permissions })
+    if let Some(length) = job.needed_length() {
+        file.take(length).read_to_end(&mut bytes)?;
+    } else {
+        file.read_to_end(&mut bytes)?;
+        if before.is_file() && Stamp::of(&before) != Stamp::of(&file.metadata()?) {
+            return Ok(None);
+        }
+    }
+    let permissions = before.mode() & PERMISSIONS;
+    Ok(Some(Source { bytes, permissions }))
+}
+
+/// What the file system changes whenever a file is written.
+#[derive(Clone, Copy, PartialEq, Eq)]
+struct Stamp {
+    /// In bytes.
+    length: u64,
+    /// The time of the last change.
+    seconds: i64,
+    nanoseconds: i64,
+}
+
+impl Stamp {
+    fn of(metadata: &Metadata) -> Stamp {
+        Stamp {
+            length: metadata.len(),
+            seconds: metadata.mtime(),
+            nanoseconds: metadata.mtime_nsec(),
+        }
+    }
 }
 
 /// Creates OUT, which must not exist, with the permission bits of FILE, and does the job over it.
