@@ -7,14 +7,14 @@ use Rattle.hex.proofs.HexLemmas.{decode_of-encode_lower}
 use Rattle.hex.specs.Hex.{IsBytes, encode_lower}
 use Rattle.json.proofs.Printed.Decimals.{IsNumber-decimal}
 use Rattle.json.proofs.Printed.Trees.{document-print}
-use Rattle.json.specs.Json.{Json, document, member, no_members, object, string}
+use Rattle.json.specs.Json.{Items, Json, array, document, member, no_members, object, string}
 use Rattle.json.specs.Tree.{HasNumbers, ItemsHaveNumbers, MembersHaveNumbers, depth, items_depth, members_depth}
 use Rattle.bolt_tree.specs.Entries.{Bucket, Item, Value}
 use Rattle.bolt_tree.specs.Listing.{Member}
 use Rattle.bolt_tree.specs.Paths.{Path}
 use Rattle.bolt_report.specs.Forms.{json_text}
 use Rattle.bolt_report.specs.JsonLines.{end_json, member_json, parts_json}
-use Rattle.bolt_report.specs.JsonReadings.{ArePartsBytes, IsItemOfBytes, IsMemberOfBytes, end_of, first_value, item_of, member_of, parts_of}
+use Rattle.bolt_report.specs.JsonReadings.{ArePartsBytes, IsItemOfBytes, IsMemberOfBytes, end_of, item_of, member_of, parts_of}
 
 -- an item, if it is UTF-8 and if it isn't
 shown : Bool → List ℕ → Json
@@ -24,11 +24,6 @@ shown_reads : (b : Bool) (bytes : List ℕ) → IsBytes bytes → item_of (shown
 unfolding shown
 shown_reads true bytes h = refl
 shown_reads false bytes h = ap result_ok (decode_of-encode_lower bytes h)
-
-shown_ends : (b : Bool) (bytes : List ℕ) → IsBytes bytes → end_of (shown b bytes) ≡ Some (Value bytes)
-unfolding shown
-shown_ends true bytes h = refl
-shown_ends false bytes h = ap (λ d. option_map Value (result_ok d)) (decode_of-encode_lower bytes h)
 
 shown_numbers : (b : Bool) (bytes : List ℕ) → HasNumbers (shown b bytes)
 unfolding shown
@@ -59,10 +54,10 @@ parts_depth [] = omega arith
 parts_depth (part ∷ path) = omega (arith, shown_depth (is_utf8 part) part, parts_depth path)
 
 -- a value or a sequence
-end_reads : (last : Item) → IsItemOfBytes last → option_and_then end_of (first_value (end_json last)) ≡ Some last
+end_reads : (path : Items) (last : Item) → IsItemOfBytes last → end_of (member (codes "path") (array path) (end_json last)) ≡ Some last
 unfolding shown
-end_reads (Value value) h = shown_ends (is_utf8 value) value h
-end_reads (Bucket sequence) h = ap (λ n. Some (Bucket n)) (decimal_is_IsNumeral sequence h).1
+end_reads path (Value value) h = ap (option_map Value) (shown_reads (is_utf8 value) value h)
+end_reads path (Bucket sequence) h = ap (λ n. Some (Bucket n)) (decimal_is_IsNumeral sequence h).1
 
 end_numbers : (last : Item) → IsItemOfBytes last → MembersHaveNumbers (end_json last)
 unfolding shown
@@ -80,5 +75,5 @@ line_document m h = document-print (member_json m) (parts_numbers m.0, end_numbe
 pub line_member : (m : Member) → IsMemberOfBytes m → option_and_then member_of (document (json_text (member_json m))) ≡ Some m
 line_member m h =
     ap (option_and_then member_of) (line_document m h)
-    ∙ ap (option_and_then (λ (path : Path). option_map (λ (last : Item). (path, last)) (option_and_then end_of (first_value (end_json m.1))))) (parts_read m.0 h.0)
-    ∙ ap (option_map (λ (last : Item). (m.0, last))) (end_reads m.1 h.1)
+    ∙ ap (option_and_then (λ (path : Path). option_map (λ (last : Item). (path, last)) (end_of (member (codes "path") (array (parts_json m.0)) (end_json m.1))))) (parts_read m.0 h.0)
+    ∙ ap (option_map (λ (last : Item). (m.0, last))) (end_reads (parts_json m.0) m.1 h.1)

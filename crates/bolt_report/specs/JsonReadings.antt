@@ -1,6 +1,7 @@
 -- What a reader of a JSON line finds in it: docs/COMMANDS.md, "What is printed".
-use Rattle.std.specs.Prelude.{ℕ, ◌<◌, ◌^◌, List, [], ◌∷◌, Option, Some, None, ⊤, option_and_then, option_map}
+use Rattle.std.specs.Prelude.{ℕ, ◌<◌, ◌^◌, List, [], ◌∷◌, Option, Some, None, ⊤, codes, option_and_then, option_map, if◌then◌else◌}
 use Rattle.std.specs.Result.{result_ok}
+use Rattle.std.specs.Str.{bytes_eq}
 use Rattle.std.specs.Str.Parse.{digits_value}
 use Rattle.hex.specs.Hex.{IsBytes, decode_of}
 use Rattle.json.specs.Json.{Items, Json, Members, array, boolean, item, member, no_items, no_members, null, number, object, string}
@@ -16,22 +17,23 @@ string_of (string s) = Some s
 string_of (array js) = None
 string_of (object ms) = None
 
-abbrev pub first_value : Members → Option Json
-first_value no_members = None
-first_value (member k j ms) = Some j
+-- the member of an object that has a name
+abbrev pub named : List ℕ → Members → Option Json
+named name no_members = None
+named name (member k j ms) = if bytes_eq k name then Some j else named name ms
 
 -- the bytes of hexadecimal digits
 abbrev pub bytes_of_digits : List ℕ → Option (List ℕ)
 bytes_of_digits digits = result_ok (decode_of digits)
 
--- a key or a value: a string, or an object with hexadecimal digits
+-- a key or a value: a string, or an object whose `hex` has hexadecimal digits
 abbrev pub item_of : Json → Option (List ℕ)
 item_of null = None
 item_of (boolean b) = None
 item_of (number s) = None
 item_of (string s) = Some s
 item_of (array js) = None
-item_of (object ms) = option_and_then bytes_of_digits (option_and_then string_of (first_value ms))
+item_of (object ms) = option_and_then bytes_of_digits (option_and_then string_of (named (codes "hex") ms))
 
 abbrev pub parts_of : Items → Option Path
 parts_of no_items = Some []
@@ -45,18 +47,25 @@ path_of_json (string s) = None
 path_of_json (array js) = parts_of js
 path_of_json (object ms) = None
 
--- a number is the sequence of a bucket
-abbrev pub end_of : Json → Option Item
-end_of null = None
-end_of (boolean b) = None
-end_of (number s) = Some (Bucket (digits_value 10 s))
-end_of (string s) = Some (Value s)
-end_of (array js) = None
-end_of (object ms) = option_map Value (item_of (object ms))
+abbrev pub number_of : Json → Option ℕ
+number_of null = None
+number_of (boolean b) = None
+number_of (number s) = Some (digits_value 10 s)
+number_of (string s) = None
+number_of (array js) = None
+number_of (object ms) = None
 
+-- `value` is a value; without one, `bucket` is the sequence of a bucket
+abbrev pub end_by : (value bucket : Option Json) → Option Item
+end_by (Some value) bucket = option_map Value (item_of value)
+end_by None bucket = option_map Bucket (option_and_then number_of bucket)
+
+abbrev pub end_of : Members → Option Item
+end_of ms = end_by (named (codes "value") ms) (named (codes "bucket") ms)
+
+-- `path` is the path
 abbrev pub member_of_members : Members → Option Member
-member_of_members no_members = None
-member_of_members (member k j ms) = option_and_then (λ path. option_map (λ last. (path, last)) (option_and_then end_of (first_value ms))) (path_of_json j)
+member_of_members ms = option_and_then (λ path. option_map (λ last. (path, last)) (end_of ms)) (option_and_then path_of_json (named (codes "path") ms))
 
 abbrev pub member_of : Json → Option Member
 member_of null = None

@@ -38,7 +38,8 @@ pub fn sizes_exist()
 {}
 
 /// A JSON line without its line feed is a JSON document: an object with the path, and the value or
-/// the sequence. A reader of it finds the member again, whatever its bytes are.
+/// the sequence. A reader that looks up its members by their names finds all of it again, whatever its
+/// bytes are.
 pub fn json_lines_read_back()
     ensures document { (m : Member) → IsMemberOfBytes m → document (json_text (member_json m)) ≡ Some (member_json m) }
     ensures member { (m : Member) → IsMemberOfBytes m → option_and_then member_of (document (json_text (member_json m))) ≡ Some m }
