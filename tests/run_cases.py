@@ -76,6 +76,8 @@ WAYS = {
     "bucket": (key,),
     "checksums": (key,),
     "walk": (path,),
+    "listed": (path,),
+    "keys": (path,),
     "depths": (path,),
     "again": (path,),
     "puts": (str, str, piece),

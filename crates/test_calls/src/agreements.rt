@@ -4,7 +4,9 @@ use crate::fault::Fault;
 use crate::runs::Ran;
 use crate::sweeps::toggle;
 use bolt_check::check_slot;
-use bolt_cli::{CopyKind, Job};
+use bolt_cli::{
+    BucketsJob, CheckJob, CompactJob, CopyKind, Job, ListJob, PageJob, PagesJob, StatsJob,
+};
 use bolt_format::choose;
 use bolt_report::{Form, ListForm};
 use std::alloc::{AllocError, Global};
@@ -15,34 +17,34 @@ fn unnamed(alloc: Global) -> String {
 }
 
 fn check_job(alloc: Global, all: bool) -> Job {
-    Job::Check {
+    Job::Check(CheckJob {
         file: unnamed(alloc),
         slot: None,
         all,
         snapshot: false,
-    }
+    })
 }
 
 fn list_job(alloc: Global, form: ListForm, recover: bool) -> Job {
-    Job::List {
+    Job::List(ListJob {
         file: unnamed(alloc),
         slot: None,
         form,
         path: Vec::new(alloc),
         from: Vec::new(alloc),
         recover,
-    }
+    })
 }
 
 fn copy_job(alloc: Global, kind: CopyKind, recover: bool) -> Job {
-    Job::Compact {
+    Job::Compact(CompactJob {
         file: unnamed(alloc),
         slot: None,
         target: unnamed(alloc),
         page_size: None,
         kind,
         recover,
-    }
+    })
 }
 
 /// Commands as jobs.
@@ -64,10 +66,10 @@ impl Jobs {
     fn new(alloc: Global) -> Result<Jobs, AllocError> {
         let mut pages = Vec::new(alloc);
         for id in 0..5 {
-            pages.push(Job::Page {
+            pages.push(Job::Page(PageJob {
                 file: unnamed(alloc),
                 id,
-            })?;
+            }))?;
         }
         Ok(Jobs {
             check: check_job(alloc, false),
@@ -85,24 +87,24 @@ impl Jobs {
 /// The commands that read a sound file and print it, but for `list`.
 fn readers(alloc: Global) -> Result<Vec<Job>, AllocError> {
     let mut jobs = Vec::new(alloc);
-    jobs.push(Job::Pages {
+    jobs.push(Job::Pages(PagesJob {
         file: unnamed(alloc),
         map: false,
-    })?;
+    }))?;
     for sizes in [false, true] {
-        jobs.push(Job::Buckets {
+        jobs.push(Job::Buckets(BucketsJob {
             file: unnamed(alloc),
             slot: None,
             path: Vec::new(alloc),
             form: Form::Printable,
             sizes,
-        })?;
+        }))?;
     }
-    jobs.push(Job::Stats {
+    jobs.push(Job::Stats(StatsJob {
         file: unnamed(alloc),
         slot: None,
         path: Vec::new(alloc),
-    })?;
+    }))?;
     jobs.push(list_job(alloc, ListForm::Json, false))?;
     Ok(jobs)
 }

@@ -9,6 +9,7 @@
 //! | `begins PATH PREFIX ..` | how many pages are opened for the keys that begin with each prefix, and these |
 //! | `under PATH KEY ..` | what is under the keys |
 //! | `walk`, `walk PATH` | the line of each member of a walk |
+//! | `listed PATH`, `keys PATH` | what `list` writes from a path, and `keys` of a bucket |
 //! | `depths`, `depths PATH` | the numbers of items and keys of a walk |
 //! | `recovered`, `recovered SLOT` | the line of each member that is recovered, and of each loss |
 //! | `plan LAYOUT SIZE` | the root page and the high-water mark of a copy |
@@ -35,6 +36,7 @@ mod cursors;
 mod failures;
 mod fault;
 mod halting;
+mod listings;
 mod numbers;
 mod pagers;
 mod recoveries;
@@ -115,6 +117,8 @@ fn result_of(alloc: Global, verb: &str, file: &[u8], words: &[String]) -> Result
         "begins" => cursors::run_prefixes(alloc, file, words),
         "under" => walks::look_ups(alloc, file, words),
         "walk" => walks::members(alloc, file, words),
+        "listed" => listings::listed(alloc, file, words),
+        "keys" => listings::keys_in(alloc, file, words),
         "depths" => walks::depths(alloc, file, words),
         "recovered" => recoveries::recovered(alloc, file, words),
         "plan" => copies::planned(alloc, file, words),
