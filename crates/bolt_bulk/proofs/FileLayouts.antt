@@ -9,6 +9,7 @@ use Rattle.bolt_tree.specs.Listing.{Member}
 use Rattle.bolt_tree.specs.Tree.{Tree, listing_of, tree_of}
 use Rattle.bolt_bulk.specs.Compacting.{too_many}
 use Rattle.bolt_layout.specs.Copies.{IsAsked, IsOfOneTree, IsSoundCopy, RefusesPrefixes, layout_of_listing}
+use Rattle.bolt_layout.specs.Held.{most_held}
 use Rattle.bolt_layout.specs.Layout.{layout_held, layout_mark, layout_of, layout_root}
 use Rattle.bolt_bulk.specs.Private.Endings.{IsFitMember}
 use Rattle.bolt_layout.specs.Storable.{IsStorable}
@@ -22,6 +23,10 @@ use Rattle.bolt_layout.proofs.NotMuchLarger.{plain_not_much_larger}
 abbrev pub LayoutsHoldFew : Type 0
 LayoutsHoldFew = (which : Layout) (page_size : ℕ) (tree : Tree) (sequence : ℕ) → IsPageSize page_size → IsStorable tree → length (layout_of which page_size tree sequence) < 2 ^ 63
     → layout_held which page_size tree ≤ length (layout_of which page_size tree sequence)
+
+abbrev pub LayoutsHoldWithin : Type 0
+LayoutsHoldWithin = (which : Layout) (page_size : ℕ) (tree : Tree) (sequence : ℕ) → IsPageSize page_size → IsStorable tree → length (layout_of which page_size tree sequence) < 2 ^ 63
+    → layout_held which page_size tree ≤ most_held page_size (listing_of tree)
 
 abbrev pub LayoutsHaveLength : Type 0
 LayoutsHaveLength = (which : Layout) (page_size : ℕ) (tree : Tree) (sequence : ℕ) → IsPageSize page_size → IsStorable tree
@@ -48,6 +53,11 @@ module _ (page_size sequence : ℕ) (size : IsPageSize page_size) where
   pub holds_few : LayoutsHoldFew → (which : Layout) (listing : List Member) → ∥ IsOfOneTree listing ∥₁ → length (layout_of_listing which page_size listing sequence) < too_many
       → layout_held which page_size (tree_of listing) ≤ length (layout_of_listing which page_size listing sequence)
   holds_few few which listing one short = ∥∥₁_elim one (Prim.hlevel props) (λ is. few which page_size (tree_of listing) sequence size is.storable short)
+
+  pub holds_within : LayoutsHoldWithin → (which : Layout) (listing : List Member) → ∥ IsOfOneTree listing ∥₁ → length (layout_of_listing which page_size listing sequence) < too_many
+      → layout_held which page_size (tree_of listing) ≤ most_held page_size listing
+  holds_within within which listing one short = ∥∥₁_elim one (Prim.hlevel props) (λ is.
+      subst (λ (ms : List Member). layout_held which page_size (tree_of listing) ≤ most_held page_size ms) is.lists (within which page_size (tree_of listing) sequence size is.storable short))
 
   pub refused : PrefixesAreRefused → sequence < 2 ^ 64 → (which : Layout) (listing : List Member) → ∥ IsOfOneTree listing ∥₁ → length (layout_of_listing which page_size listing sequence) < too_many
       → ∥ RefusesPrefixes (layout_of_listing which page_size listing sequence) (layout_root which page_size (tree_of listing)) ∥₁

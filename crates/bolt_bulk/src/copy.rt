@@ -1,5 +1,5 @@
 //! The compact copy of a sound file, or of what a damaged one still holds.
-ghost use Rattle.std.specs.Prelude.{◌≡◌, ◌<◌, IfOk, OnOk, length};
+ghost use Rattle.std.specs.Prelude.{◌≡◌, ◌<◌, ◌≤◌, IfOk, OnOk, length};
 ghost use Rattle.bolt_check.specs.CheckedFiles.{meta_of};
 ghost use Rattle.bolt_format.specs.Metas.{IsPageSize};
 ghost use Rattle.bolt_recover.specs.Recovered.{ForRecovered};
@@ -8,6 +8,7 @@ ghost use Rattle.bolt_tree.specs.FileListings.{ForListing};
 ghost use Rattle.bolt_tree.specs.Tree.{tree_of};
 ghost use Rattle.bolt_bulk.specs.Compacting.{Copies, Plans, layout_for, layout_recovered, too_many};
 ghost use Rattle.bolt_layout.specs.Copies.{IsSoundCopy, RefusesPrefixes};
+ghost use Rattle.bolt_layout.specs.Held.{most_held};
 ghost use Rattle.bolt_layout.specs.Layout.{layout_held, layout_root};
 ghost use Rattle.bolt_layout.specs.declared.layout.Layout.TheVariants.{Plain};
 
@@ -84,6 +85,7 @@ pub fn compact_as<S: Sink>(
     ensures copied { ForListing checked.entry (λ listing. Copies S.taken S.failed sink.old sink.new (layout_for layout checked.entry page_size listing) result) }
     ensures accepted { OnOk result (ForListing checked.entry (λ listing. ∥ IsSoundCopy layout page_size (tree_of listing) (meta_of checked.entry).root_sequence listing ∥₁)) }
     ensures held { IfOk result (λ done. ForListing checked.entry (λ listing. done.held ≡ layout_held layout page_size (tree_of listing))) }
+    ensures bounded { IfOk result (λ done. ForListing checked.entry (λ listing. done.held ≤ most_held page_size listing)) }
     ensures prefixes { ForListing checked.entry (λ listing. length (layout_for layout checked.entry page_size listing) < too_many → ∥ RefusesPrefixes (layout_for layout checked.entry page_size listing) (layout_root layout page_size (tree_of listing)) ∥₁) }
 {
     file_is_of_one_tree(&checked);
@@ -110,6 +112,7 @@ pub fn compact<S: Sink>(
     ensures copied { ForListing checked.entry (λ listing. Copies S.taken S.failed sink.old sink.new (layout_for Plain checked.entry page_size listing) result) }
     ensures accepted { OnOk result (ForListing checked.entry (λ listing. ∥ IsSoundCopy Plain page_size (tree_of listing) (meta_of checked.entry).root_sequence listing ∥₁)) }
     ensures held { IfOk result (λ done. ForListing checked.entry (λ listing. done.held ≡ layout_held Plain page_size (tree_of listing))) }
+    ensures bounded { IfOk result (λ done. ForListing checked.entry (λ listing. done.held ≤ most_held page_size listing)) }
     ensures prefixes { ForListing checked.entry (λ listing. length (layout_for Plain checked.entry page_size listing) < too_many → ∥ RefusesPrefixes (layout_for Plain checked.entry page_size listing) (layout_root Plain page_size (tree_of listing)) ∥₁) }
 {
     compact_as(alloc, checked, Layout::Plain, page_size, sink)
@@ -135,6 +138,7 @@ pub fn compact_recovered<S: Sink>(
     ensures copied { ForRecovered (recovery_file recovery.old) (recovery_meta recovery.old) (λ listing. Copies S.taken S.failed sink.old sink.new (layout_recovered layout recovery.old page_size listing) result) }
     ensures accepted { OnOk result (ForRecovered (recovery_file recovery.old) (recovery_meta recovery.old) (λ listing. ∥ IsSoundCopy layout page_size (tree_of listing) (recovery_meta recovery.old).root_sequence listing ∥₁)) }
     ensures held { IfOk result (λ done. ForRecovered (recovery_file recovery.old) (recovery_meta recovery.old) (λ listing. done.held ≡ layout_held layout page_size (tree_of listing))) }
+    ensures bounded { IfOk result (λ done. ForRecovered (recovery_file recovery.old) (recovery_meta recovery.old) (λ listing. done.held ≤ most_held page_size listing)) }
     ensures losses { OnOk result (ForLosses (recovery_file recovery.old) (recovery_meta recovery.old) (λ losses. recovery_losses recovery.new ≡ losses)) }
     ensures prefixes { ForRecovered (recovery_file recovery.old) (recovery_meta recovery.old) (λ listing. length (layout_recovered layout recovery.old page_size listing) < too_many
         → ∥ RefusesPrefixes (layout_recovered layout recovery.old page_size listing) (layout_root layout page_size (tree_of listing)) ∥₁) }

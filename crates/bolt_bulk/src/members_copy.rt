@@ -5,6 +5,7 @@ ghost use Rattle.bolt_tree.specs.Listing.{Member};
 ghost use Rattle.bolt_tree.specs.Tree.{tree_of};
 ghost use Rattle.bolt_bulk.specs.Compacting.{Copies, Plans, too_many};
 ghost use Rattle.bolt_layout.specs.Copies.{IsSoundCopy, RefusesPrefixes, layout_of_listing};
+ghost use Rattle.bolt_layout.specs.Held.{most_held};
 ghost use Rattle.bolt_layout.specs.Layout.{layout_held, layout_root};
 ghost use Rattle.bolt_layout.specs.declared.layout.Layout.{Layout};
 ghost use Rattle.bolt_layout.specs.declared.layout.Layout.TheVariants.{Balanced};
@@ -149,6 +150,7 @@ pub(crate) fn put_members<'a, M: Members<'a> + Drop, S: Sink>(
     ensures copied { (listing : List Member) → M.lists members.old listing → Copies S.taken S.failed sink.old sink.new (layout_of_listing shape.now.layout shape.now.page_size listing shape.now.sequence) result }
     ensures accepted { OnOk result ((listing : List Member) → M.lists members.old listing → ∥ IsSoundCopy shape.now.layout shape.now.page_size (tree_of listing) shape.now.sequence listing ∥₁) }
     ensures held { IfOk result (λ done. (listing : List Member) → M.lists members.old listing → done.held ≡ layout_held shape.now.layout shape.now.page_size (tree_of listing)) }
+    ensures bounded { IfOk result (λ done. (listing : List Member) → M.lists members.old listing → done.held ≤ most_held shape.now.page_size listing) }
     ensures end { OnOk result (M.ends_as members.old members.new) }
     ensures prefixes { (listing : List Member) → M.lists members.old listing → length (layout_of_listing shape.now.layout shape.now.page_size listing shape.now.sequence) < too_many
         → ∥ RefusesPrefixes (layout_of_listing shape.now.layout shape.now.page_size listing shape.now.sequence) (layout_root shape.now.layout shape.now.page_size (tree_of listing)) ∥₁ }

@@ -1,13 +1,17 @@
 -- Claiming page after page.
-use Rattle.std.proofs.Common.{◌≡◌, ◌≢◌, ◌∙◌, ℕ, ◌+◌, ◌<◌, ◌≤◌, ◌⊎◌, List, None, length, set, inl, inr, sym, ap, arith, get_or-set_same, get_or-set_other}
+use Rattle.std.proofs.Common.{◌≡◌, ◌≢◌, ◌∙◌, ℕ, ◌+◌, ◌<◌, ◌≤◌, ◌^◌, ◌⊎◌, List, None, length, set, inl, inr, sym, ap, arith, get_or-set_same, get_or-set_other}
 use Rattle.std.proofs.lemmas.Bool.{cases_eq, cases_lt, false≢true}
+use Rattle.bolt_format.specs.Bytes.{IsBytes}
 use Rattle.bolt_format.specs.Freelists.{freelist_fault_of}
 use Rattle.bolt_format.specs.Pages.{page_overflow}
 use Rattle.bolt_format.specs.declared.meta.Meta.{Meta}
 use Rattle.bolt_format.specs.declared.meta.TheConstants.{NO_FREELIST}
 use Rattle.bolt_check.specs.Accounts.{IsInFreelist}
 use Rattle.bolt_check.specs.Private.Listings.{ClaimsFreelist, IsUnlisted}
+use Rattle.bolt_check.specs.Claims.{claims_file, claims_visited}
+use Rattle.bolt_check.specs.Counts.{counted}
 use Rattle.bolt_check.specs.Private.Tables.{HasRoom, IsClaimed, IsUnclaimed, first_use, is_used, use_at, times_of}
+use Rattle.bolt_check.specs.declared.claims.Claims.{Claims}
 use Rattle.bolt_check.specs.declared.table.PageUse.{PageUse}
 use Rattle.bolt_check.specs.declared.table.PageUse.TheVariants.{Used}
 use Rattle.bolt_check.proofs.FreelistLemmas.{freelist_within}
@@ -107,3 +111,16 @@ span_within file meta table overflow same written good pages =
     let in_file = freelist_within file meta written good in
     let inside = pages (meta.freelist + page_overflow file meta meta.freelist) in_file.1 in_file.0 in
     omega (arith, inside, same)
+
+-- the count of visits is a number of 64 bits
+pub visited_fits : (claims : Claims) → claims_visited claims < 2 ^ 64
+unfolding claims_visited
+visited_fits claims = claims.fits
+
+pub counted_none : (claims : Claims) → claims_visited claims ≡ counted (claims_visited claims) 0
+counted_none claims = let fits = visited_fits claims in omega (arith, fits)
+
+-- the file is bytes
+pub claims_bytes : (claims : Claims) → IsBytes (claims_file claims)
+unfolding claims_file
+claims_bytes claims = claims.bytes

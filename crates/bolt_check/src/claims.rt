@@ -25,7 +25,8 @@ use std::alloc::Global;
 /// their tests (docs/SOUND.md, "Structure"). The table needs a byte for each whole page that lies
 /// in the file and below the high-water mark.
 ///
-/// The visits are counted.
+/// The visits are counted. No call returns the file. So code that has nothing else of the file
+/// can't visit a page uncounted, and a table that it makes counts on.
 #[derive(Drop)]
 pub struct Claims<'a> {
     file: &'a [u8],
@@ -84,13 +85,6 @@ impl<'a> Claims<'a> {
             table,
             visited: self.visited,
         })
-    }
-
-    /// The file whose pages they are.
-    pub fn file(&self) -> &'a [u8]
-        ensures { result.now ≡ claims_file self.now }
-    {
-        self.file
     }
 
     /// The meta that the file is read under.

@@ -4,7 +4,9 @@ mod FirstLoss
 mod HeldMembers
 mod Leading
 pub mod LeftMembers
+mod LostWays
 mod NoLeaves
+mod NothingLost
 mod OneRecovered
 mod PlaceFacts
 mod PlaceKeys

@@ -1,5 +1,5 @@
 -- A recovery between its calls: what of the recovered listing is left, and which losses are still to be reported.
-use Rattle.std.proofs.Common.{◌≡◌, ◌∙◌, ◌≤◌, inl, inr, ℕ, Bool, true, false, List, [], ◌∷◌, ◌++◌, length, map, take, Option, Some, None, Result, Ok, Err, IfErr, IfOk, OnErr, cond, filter, if◌then◌else◌, refl, sym, ap, subst, subst₂, arith}
+use Rattle.std.proofs.Common.{◌≡◌, ◌∙◌, ◌≤◌, ◌<◌, ◌^◌, inl, inr, ℕ, Bool, true, false, List, [], ◌∷◌, ◌++◌, length, map, take, Option, Some, None, Result, Ok, Err, IfErr, IfOk, OnErr, cond, filter, if◌then◌else◌, refl, sym, ap, subst, subst₂, arith}
 use Rattle.std.proofs.Props.{props}
 use Rattle.std.specs.Cmp.{IsTotalOrder}
 use Rattle.std.specs.List.{Contains}
@@ -13,6 +13,7 @@ use Rattle.bolt_format.specs.ElementPlaces.{leaf_view}
 use Rattle.bolt_format.specs.Elements.{LeafElement}
 use Rattle.bolt_format.specs.declared.element.Leaf.{Leaf}
 use Rattle.bolt_format.specs.declared.meta.Meta.{Meta}
+use Rattle.bolt_check.specs.Counts.{counted}
 use Rattle.bolt_check.specs.Keys.{Key}
 use Rattle.bolt_check.specs.Nodes.{node_at}
 use Rattle.bolt_check.specs.Ways.{reached}
@@ -30,8 +31,9 @@ use Rattle.bolt_tree.proofs.Lists.{contains_head, contains_tail}
 use Rattle.bolt_tree.proofs.PathOrder.{flip_less, less_lt, path_total}
 use Rattle.bolt_tree.proofs.Single.{member_total}
 use Rattle.bolt_recover.specs.Losses.{AreLosses, LossView, losses_of}
-use Rattle.bolt_recover.specs.Private.Frames.{Advances, AreOpen, ComesTo, Ends, GivesHead, GoesOn, HasOpen, IsGoodContent, IsGoodPage, IsOn, IsRefusedRoot, NoWay, State, StaysOn, ahead_tasks, is_over, left_by, open_tasks, over_by, stay}
-use Rattle.bolt_recover.specs.Private.Runs.{Runs, RunsAll, Task, Visited, losses_in}
+use Rattle.bolt_recover.specs.PageWays.{ArePageWays, page_ways}
+use Rattle.bolt_recover.specs.Private.Frames.{Advances, AreOpen, ComesTo, Ends, GivesHead, GoesOn, HasOpen, IsGoodContent, IsGoodPage, IsOn, IsOutcome, IsRefusedRoot, NoWay, Outcome, State, StaysOn, ahead_tasks, is_over, left_by, open_tasks, outcome_of, over_by, stay}
+use Rattle.bolt_recover.specs.Private.Runs.{Runs, RunsAll, Task, Visited, losses_in, pages_visited}
 use Rattle.bolt_recover.specs.Recovered.{IsRecovered}
 use Rattle.bolt_recover.specs.Recoveries.{AreFirst}
 use Rattle.bolt_recover.specs.Refusals.{IsSlotUnrecoverable, IsUnrecoverable}
@@ -41,11 +43,11 @@ use Rattle.bolt_recover.specs.declared.content.OpenPage.{OpenPage}
 use Rattle.bolt_recover.specs.declared.steps.NextVisit.{NextVisit}
 use Rattle.bolt_recover.proofs.OneRecovered.{one_recovered}
 use Rattle.bolt_recover.proofs.RunExists.{run_exists}
-use Rattle.bolt_recover.proofs.RunForgets.{blind_visit, forgotten, same_losses}
+use Rattle.bolt_recover.proofs.RunForgets.{blind_visit, forgotten, same_losses, same_pages}
 use Rattle.bolt_recover.proofs.RunOrder.{further, visits_of}
 use Rattle.bolt_recover.proofs.RunRecovers.{recovers}
 use Rattle.bolt_recover.proofs.RunSteps.{ends}
-use Rattle.bolt_recover.proofs.RunSurveys.{all_losses, surveyed}
+use Rattle.bolt_recover.proofs.RunSurveys.{all_losses, all_pages, surveyed}
 use Rattle.bolt_recover.proofs.SurveyIsOne.{one_survey}
 
 -- that pages are open in good order is known or not, and no more
@@ -63,25 +65,31 @@ open_prop file meta low (page ∷ pages) high = hlevel (props, good_prop file me
 pub has_open_prop : (s : State) (x y : HasOpen s) → x ≡ y
 has_open_prop s = hlevel (props, open_prop)
 
--- the recovered listing and the losses of a file, and the run that comes to them
-record IsAll (file : List ℕ) (meta : Meta) (listing : List Member) (losses : List LossView) : Type 0 where
+-- the recovered listing of a file and the outcome, and the run that comes to them
+record IsAll (file : List ℕ) (meta : Meta) (begun : ℕ) (listing : List Member) (outcome : Outcome) : Type 0 where
   recovered : IsRecovered file meta listing
-  reported : AreLosses file meta losses
+  whole : IsOutcome file meta begun outcome
   visits : List (Visited NoWay)
   run : RunsAll file meta stay tt visits listing
-  all : losses ≡ losses_in visits
+  all : outcome ≡ outcome_of begun visits
 
-all_of : (file : List ℕ) (meta : Meta) → (listing : List Member) × (losses : List LossView) × IsAll file meta listing losses
-all_of file meta =
-    let (visits, members, run) = run_exists file meta further [] in (
+all_of : (file : List ℕ) (meta : Meta) (begun : ℕ) → (listing : List Member) × (outcome : Outcome) × IsAll file meta begun listing outcome
+all_of file meta begun =
+    let (visits, members, run) = run_exists file meta further [] in
+    let survey = surveyed file meta visits members run in (
       members,
-      losses_in visits,
+      record { losses = losses_in visits; visited = counted begun (pages_visited visits) },
       record {
         recovered = recovers file meta visits members run;
-        reported = (visits_of visits, surveyed file meta visits members run, all_losses file meta visits members run);
+        whole = record {
+          losses = (visits_of visits, survey, all_losses file meta visits members run);
+          ways = pages_visited visits;
+          counts = (visits_of visits, survey, all_pages file meta visits members run);
+          visited = refl;
+        };
         visits = map blind_visit visits;
         run = forgotten file meta visits members run;
-        all = sym (same_losses visits);
+        all = λ i. record { losses = sym (same_losses visits) i; visited = counted begun (sym (same_pages visits) i) };
       },
     )
 
@@ -89,11 +97,21 @@ one_losses : (file : List ℕ) (meta : Meta) (a b : List LossView) → AreLosses
 one_losses file meta a b (s, is_s, of_s) (t, is_t, of_t) =
     of_s ∙ ap (losses_of file meta) (one_survey (node_at file meta) (reached (node_at file meta) meta.root) s t is_s is_t) ∙ sym of_t
 
--- each recovered listing and losses come of a run
-all_from : (file : List ℕ) (meta : Meta) (listing : List Member) (losses : List LossView) → IsRecovered file meta listing → AreLosses file meta losses → IsAll file meta listing losses
-all_from file meta listing losses recovered reported =
-    let (members, views, all) = all_of file meta in
-    subst₂ (IsAll file meta) (one_recovered file meta members listing all.recovered recovered) (one_losses file meta views losses all.reported reported) all
+pub one_number : (file : List ℕ) (meta : Meta) (a b : ℕ) → ArePageWays file meta a → ArePageWays file meta b → a ≡ b
+one_number file meta a b (s, is_s, of_s) (t, is_t, of_t) =
+    of_s ∙ ap (page_ways (reached (node_at file meta) meta.root)) (one_survey (node_at file meta) (reached (node_at file meta) meta.root) s t is_s is_t) ∙ sym of_t
+
+one_outcome : (file : List ℕ) (meta : Meta) (begun : ℕ) (a b : Outcome) → IsOutcome file meta begun a → IsOutcome file meta begun b → a ≡ b
+one_outcome file meta begun a b h k =
+    let losses = one_losses file meta a.losses b.losses h.losses k.losses in
+    let visited = h.visited ∙ ap (counted begun) (one_number file meta h.ways k.ways h.counts k.counts) ∙ sym k.visited in
+    λ i. record { losses = losses i; visited = visited i }
+
+-- each recovered listing and outcome come of a run
+all_from : (file : List ℕ) (meta : Meta) (begun : ℕ) (listing : List Member) (outcome : Outcome) → IsRecovered file meta listing → IsOutcome file meta begun outcome → IsAll file meta begun listing outcome
+all_from file meta begun listing outcome recovered whole =
+    let (members, other, all) = all_of file meta begun in
+    subst₂ (IsAll file meta begun) (one_recovered file meta members listing all.recovered recovered) (one_outcome file meta begun other outcome all.whole whole) all
 
 -- all members come after the empty path
 behind_nothing : (path rest : Path) (key : Key) → is_lt (path_cmp [] (path ++ key ∷ rest)) ≡ true
@@ -117,14 +135,14 @@ pub left_all : (s : State) (file : List ℕ) (meta : Meta) (listing : List Membe
 left_all s file meta listing more path recovered =
     left_more s listing more ∙ ap (λ (p : Path). rest_after p listing) path ∙ behind_start file meta listing recovered
 
-pub begun : (s : State) (file : List ℕ) (meta : Meta) → s.file ≡ file → s.meta ≡ meta → HasOpen s → is_over s ≡ false → s.path ≡ []
-    → ((visits : List (Visited NoWay)) (members : List Member) → RunsAll file meta stay tt visits members → ComesTo s members (losses_in visits)) → IsOn s meta
-begun s file meta of_file of_meta placed more path comes = record {
+pub begun : (s : State) (file : List ℕ) (meta : Meta) (before : ℕ) → s.file ≡ file → s.meta ≡ meta → HasOpen s → is_over s ≡ false → s.path ≡ []
+    → ((visits : List (Visited NoWay)) (members : List Member) → RunsAll file meta stay tt visits members → ComesTo s members (outcome_of before visits)) → IsOn s meta before
+begun s file meta before of_file of_meta placed more path comes = record {
   meta = of_meta;
   placed = placed;
-  comes = λ listing losses recovered reported.
+  comes = λ listing outcome recovered whole.
       let here = subst (λ (f : List ℕ). IsRecovered f meta listing) of_file recovered in
-      let all = all_from file meta listing losses here (subst (λ (f : List ℕ). AreLosses f meta losses) of_file reported) in
+      let all = all_from file meta before listing outcome here (subst (λ (f : List ℕ). IsOutcome f meta before outcome) of_file whole) in
       subst₂ (ComesTo s) (sym (left_all s file meta listing more path here)) (sym all.all) (comes all.visits listing all.run);
 }
 
@@ -173,62 +191,78 @@ left_given s listing m rest rises e =
       | inr more ↦ given_left s.path listing m rest rises (sym (left_more s listing more) ∙ e)
     ]
 
-module _ (old new : State) (meta : Meta) (on : IsOn old meta) where
+module _ (old new : State) (meta : Meta) (before : ℕ) (on : IsOn old meta before) where
   -- after an element was returned
-  given_next : (e : LeafElement) → GivesHead old new e → (listing : List Member) (losses : List LossView) → IsRecovered old.file meta listing → AreLosses old.file meta losses
-      → (left_by old listing ≡ (new.path, item_of e) ∷ left_by new listing) × ComesTo new (left_by new listing) losses
-  given_next e gives listing losses recovered reported =
-      let (rest, was, comes) = gives.head (left_by old listing) losses (on.comes listing losses recovered reported) in
+  given_next : (e : LeafElement) → GivesHead old new e → (listing : List Member) (outcome : Outcome) → IsRecovered old.file meta listing → IsOutcome old.file meta before outcome
+      → (left_by old listing ≡ (new.path, item_of e) ∷ left_by new listing) × ComesTo new (left_by new listing) outcome
+  given_next e gives listing outcome recovered whole =
+      let (rest, was, comes) = gives.head (left_by old listing) outcome (on.comes listing outcome recovered whole) in
       let same : left_by new listing ≡ rest = left_more new listing gives.more ∙ left_given old listing (new.path, item_of e) rest recovered.rises was in
-      (was ∙ ap (λ (ms : List Member). (new.path, item_of e) ∷ ms) (sym same), subst (λ (ms : List Member). ComesTo new ms losses) (sym same) comes)
+      (was ∙ ap (λ (ms : List Member). (new.path, item_of e) ∷ ms) (sym same), subst (λ (ms : List Member). ComesTo new ms outcome) (sym same) comes)
 
   to_old : (listing : List Member) → StaysOn old new → IsRecovered new.file meta listing → IsRecovered old.file meta listing
   to_old listing on recovered = subst (λ (f : List ℕ). IsRecovered f meta listing) on.file recovered
 
-  losses_old : (losses : List LossView) → StaysOn old new → AreLosses new.file meta losses → AreLosses old.file meta losses
-  losses_old losses on reported = subst (λ (f : List ℕ). AreLosses f meta losses) on.file reported
+  whole_old : (outcome : Outcome) → StaysOn old new → IsOutcome new.file meta before outcome → IsOutcome old.file meta before outcome
+  whole_old outcome on whole = subst (λ (f : List ℕ). IsOutcome f meta before outcome) on.file whole
 
-  pub on_given : (e : LeafElement) → GivesHead old new e → IsOn new meta
+  pub on_given : (e : LeafElement) → GivesHead old new e → IsOn new meta before
   on_given e gives = record {
     meta = gives.on.meta ∙ on.meta;
     placed = gives.on.placed;
-    comes = λ listing losses recovered reported. (given_next e gives listing losses (to_old listing gives.on recovered) (losses_old losses gives.on reported)).1;
+    comes = λ listing outcome recovered whole. (given_next e gives listing outcome (to_old listing gives.on recovered) (whole_old outcome gives.on whole)).1;
   }
 
   pub left_next : (e : LeafElement) → GivesHead old new e → (listing : List Member) → IsRecovered old.file meta listing → left_by old listing ≡ (new.path, item_of e) ∷ left_by new listing
   left_next e gives listing recovered =
-      let (members, losses, all) = all_of old.file meta in (given_next e gives listing losses recovered all.reported).0
+      let (members, outcome, all) = all_of old.file meta before in (given_next e gives listing outcome recovered all.whole).0
 
   -- after the end
   over_new : Ends old new → is_over new ≡ true
   over_new h = ap (λ (o : Option NextVisit). over_by o new.pages) h.ended.ahead ∙ ap (over_by None) h.ended.pages
 
-  pub on_ended : Ends old new → IsOn new meta
+  pub on_ended : Ends old new → IsOn new meta before
   on_ended h = record {
     meta = h.on.meta ∙ on.meta;
     placed = h.on.placed;
-    comes = λ listing losses recovered reported.
-        let here = on.comes listing losses (to_old listing h.on recovered) (losses_old losses h.on reported) in
-        subst (λ (ms : List Member). ComesTo new ms losses) (sym (left_over new listing (over_new h))) (h.none (left_by old listing) losses here).1;
+    comes = λ listing outcome recovered whole.
+        let here = on.comes listing outcome (to_old listing h.on recovered) (whole_old outcome h.on whole) in
+        subst (λ (ms : List Member). ComesTo new ms outcome) (sym (left_over new listing (over_new h))) (h.none (left_by old listing) outcome here).1;
   }
 
   pub left_none : Ends old new → (listing : List Member) → IsRecovered old.file meta listing → (left_by old listing ≡ []) × (left_by new listing ≡ []) × (new.path ≡ [])
   left_none h listing recovered =
-      let (members, losses, all) = all_of old.file meta in
-      ((h.none (left_by old listing) losses (on.comes listing losses recovered all.reported)).0, left_over new listing (over_new h), h.ended.path)
+      let (members, outcome, all) = all_of old.file meta before in
+      ((h.none (left_by old listing) outcome (on.comes listing outcome recovered all.whole)).0, left_over new listing (over_new h), h.ended.path)
 
   -- if nothing is left to be done, everything is reported
-  reported_all : (s : State) (members : List Member) (losses : List LossView) → s.ahead ≡ None → s.pages ≡ [] → ComesTo s members losses → (members ≡ []) × (s.losses ≡ losses)
-  reported_all s members losses ahead pages comes =
+  reported_all : (s : State) (members : List Member) (outcome : Outcome) → s.ahead ≡ None → s.pages ≡ [] → ComesTo s members outcome
+      → (members ≡ []) × (s.losses ≡ outcome.losses) × (outcome.visited ≡ counted s.visited 0)
+  reported_all s members outcome ahead pages comes =
       let run = subst (λ (ts : List (Task NoWay)). Runs s.file s.meta stay s.claimed ts comes.visits members)
       (ap (λ (o : Option NextVisit). ahead_tasks s.file s.meta s.path o (open_tasks s.file s.meta s.path s.pages [])) ahead ∙ ap (λ (ps : List OpenPage). open_tasks s.file s.meta s.path ps []) pages) comes.run in
-      let over = ends s.file s.meta stay s.claimed comes.visits members run in
-      (over.1, sym (comes.all ∙ ap (λ (vs : List (Visited NoWay)). s.losses ++ losses_in vs) over.0 ∙ append-nil s.losses))
+      let over = ends s.file s.meta stay s.claimed comes.visits members run in (
+        over.1,
+        sym (comes.all ∙ ap (λ (vs : List (Visited NoWay)). s.losses ++ losses_in vs) over.0 ∙ append-nil s.losses),
+        comes.pages ∙ ap (λ (vs : List (Visited NoWay)). counted s.visited (pages_visited vs)) over.0,
+      )
+
+  ended_with : Ends old new → (outcome : Outcome) → IsOutcome old.file meta before outcome → (new.losses ≡ outcome.losses) × (outcome.visited ≡ counted new.visited 0)
+  ended_with h outcome whole =
+      let (members, other, all) = all_of old.file meta before in
+      let last = reported_all new [] outcome h.ended.ahead h.ended.pages (h.none (left_by old members) outcome (on.comes members outcome all.recovered whole)).1 in
+      (last.1, last.2)
 
   pub reported_ended : Ends old new → (losses : List LossView) → AreLosses old.file meta losses → new.losses ≡ losses
   reported_ended h losses reported =
-      let (members, views, all) = all_of old.file meta in
-      (reported_all new [] losses h.ended.ahead h.ended.pages (h.none (left_by old members) losses (on.comes members losses all.recovered reported)).1).1
+      let (members, other, all) = all_of old.file meta before in
+      (ended_with h (record other { losses = losses }) (record { losses = reported; ways = all.whole.ways; counts = all.whole.counts; visited = all.whole.visited })).0
+
+  -- and each way to a page number was visited once
+  pub visited_ended : Ends old new → (ways : ℕ) → ArePageWays old.file meta ways → counted before ways ≡ counted new.visited 0
+  visited_ended h ways are =
+      let (members, other, all) = all_of old.file meta before in
+      (ended_with h (record other { visited = counted before ways }) (record { losses = all.whole.losses; ways = ways; counts = are; visited = refl })).1
 
   -- after memory ran out
   over_parts : (o : Option NextVisit) (pages : List OpenPage) → over_by o pages ≡ true → (o ≡ None) × (pages ≡ [])
@@ -236,31 +270,31 @@ module _ (old new : State) (meta : Meta) (on : IsOn old meta) where
   over_parts None (page ∷ pages) e = absurd (cc)
   over_parts (Some ahead) pages e = absurd (cc)
 
-  left_still : GoesOn old new → (listing : List Member) (losses : List LossView) → ComesTo new (left_by old listing) losses → left_by new listing ≡ left_by old listing
-  left_still h listing losses comes =
+  left_still : GoesOn old new → (listing : List Member) (outcome : Outcome) → ComesTo new (left_by old listing) outcome → left_by new listing ≡ left_by old listing
+  left_still h listing outcome comes =
       elim (cases_Bool (is_over new)) [
-        | inl over ↦ let (ahead, pages) = over_parts new.ahead new.pages over in left_over new listing over ∙ sym (reported_all new (left_by old listing) losses ahead pages comes).0
+        | inl over ↦ let (ahead, pages) = over_parts new.ahead new.pages over in left_over new listing over ∙ sym (reported_all new (left_by old listing) outcome ahead pages comes).0
         | inr more ↦ elim (cases_Bool (is_over old)) [
           | inl over ↦ absurd (let f : true ≡ false = sym (h.over over) ∙ more in cc)
           | inr going ↦ left_more new listing more ∙ ap (λ (p : Path). rest_after p listing) h.path ∙ sym (left_more old listing going)
         ]
       ]
 
-  pub on_same : GoesOn old new → IsOn new meta
+  pub on_same : GoesOn old new → IsOn new meta before
   on_same h = record {
     meta = h.on.meta ∙ on.meta;
     placed = h.on.placed;
-    comes = λ listing losses recovered reported.
-        let here = h.same (left_by old listing) losses (on.comes listing losses (to_old listing h.on recovered) (losses_old losses h.on reported)) in
-        subst (λ (ms : List Member). ComesTo new ms losses) (sym (left_still h listing losses here)) here;
+    comes = λ listing outcome recovered whole.
+        let here = h.same (left_by old listing) outcome (on.comes listing outcome (to_old listing h.on recovered) (whole_old outcome h.on whole)) in
+        subst (λ (ms : List Member). ComesTo new ms outcome) (sym (left_still h listing outcome here)) here;
   }
 
   pub left_same : GoesOn old new → (listing : List Member) → IsRecovered old.file meta listing → left_by new listing ≡ left_by old listing
   left_same h listing recovered =
-      let (members, losses, all) = all_of old.file meta in left_still h listing losses (h.same (left_by old listing) losses (on.comes listing losses recovered all.reported))
+      let (members, outcome, all) = all_of old.file meta before in left_still h listing outcome (h.same (left_by old listing) outcome (on.comes listing outcome recovered all.whole))
 
   -- whatever comes of a call
-  pub on_advanced : {E : Type 0} (result : Result (Option Leaf) E) → IfOk result (Advances old new) → OnErr result (GoesOn old new) → IsOn new meta
+  pub on_advanced : {E : Type 0} (result : Result (Option Leaf) E) → IfOk result (Advances old new) → OnErr result (GoesOn old new) → IsOn new meta before
   on_advanced (Ok (Some leaf)) given same = on_given (leaf_view leaf) given
   on_advanced (Ok None) given same = on_ended given
   on_advanced (Err e) given same = on_same same
@@ -272,12 +306,21 @@ file_advanced old new (Ok None) given same = given.on.file
 file_advanced old new (Err e) given same = same.on.file
 
 -- the losses reported so far are the first of all losses
-pub reported_first : (s : State) (meta : Meta) → IsOn s meta → (losses : List LossView) → AreLosses s.file meta losses → AreFirst s.losses losses
-reported_first s meta on losses reported =
-    let (members, views, all) = all_of s.file meta in
-    let comes = on.comes members losses all.recovered reported in
+pub reported_first : (s : State) (meta : Meta) (before : ℕ) → IsOn s meta before → (losses : List LossView) → AreLosses s.file meta losses → AreFirst s.losses losses
+reported_first s meta before on losses reported =
+    let (members, other, all) = all_of s.file meta before in
+    let comes = on.comes members (record other { losses = losses }) all.recovered (record { losses = reported; ways = all.whole.ways; counts = all.whole.counts; visited = all.whole.visited }) in
     let short : length s.losses ≤ length s.losses = omega arith in
     sym (ap (take (length s.losses)) comes.all ∙ take-append-le (length s.losses) s.losses (losses_in comes.visits) short ∙ take_all (length s.losses) s.losses short)
+
+-- and no more pages were visited than ways lead to
+pub visited_within : (s : State) (meta : Meta) (before : ℕ) → IsOn s meta before → s.visited < 2 ^ 64 → (ways : ℕ) → ArePageWays s.file meta ways → s.visited ≤ counted before ways
+visited_within s meta before on fits ways are =
+    let (members, other, all) = all_of s.file meta before in
+    let comes = on.comes members (record other { visited = counted before ways }) all.recovered
+    (record { losses = all.whole.losses; ways = ways; counts = are; visited = refl }) in
+    let pages = comes.pages in
+    omega (arith, pages, fits)
 
 pub if_err : {X E : Type 0} {P Q : E → Type 0} (result : Result X E) → ((e : E) → P e → Q e) → IfErr result P → IfErr result Q
 if_err (Ok x) to h = h

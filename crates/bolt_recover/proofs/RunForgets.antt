@@ -1,5 +1,5 @@
 -- A run may forget its ways.
-use Rattle.std.proofs.Common.{◌≡◌, ◌∙◌, ℕ, zero, suc, Bool, List, [], ◌∷◌, ◌++◌, map, Option, Some, None, slice_get, refl, ap, subst}
+use Rattle.std.proofs.Common.{◌≡◌, ◌∙◌, ℕ, zero, suc, ◌+◌, Bool, List, [], ◌∷◌, ◌++◌, map, Option, Some, None, slice_get, refl, ap, subst}
 use Rattle.std.proofs.lemmas.List.{map-append}
 use Rattle.bolt_format.specs.Elements.{LeafElement}
 use Rattle.bolt_format.specs.declared.meta.Meta.{Meta}
@@ -9,7 +9,7 @@ use Rattle.bolt_tree.specs.Paths.{Path}
 use Rattle.bolt_recover.specs.Losses.{LossView}
 use Rattle.bolt_recover.specs.Places.{Place, root_place, step_place}
 use Rattle.bolt_recover.specs.Private.Frames.{NoWay, stay}
-use Rattle.bolt_recover.specs.Private.Runs.{Runs, RunsAll, Task, To_give, To_visit, Visited, claimed_with, entry_tasks, gives_at, losses_in, lost_at, place_tasks, tasks_from, visits_at}
+use Rattle.bolt_recover.specs.Private.Runs.{Runs, RunsAll, Task, To_give, To_visit, Visited, claimed_with, entry_tasks, gives_at, losses_in, lost_at, page_visit, pages_visited, place_tasks, tasks_from, visits_at}
 use Rattle.bolt_recover.specs.Private.Runs.Runs.{done, give, keep, lose}
 use Rattle.bolt_recover.proofs.RunOrder.{Way, further}
 
@@ -47,6 +47,10 @@ module _ (file : List ℕ) (meta : Meta) where
 
   pub forgotten : (visits : List (Visited Way)) (members : List Member) → RunsAll file meta further [] visits members → RunsAll file meta stay tt (map blind_visit visits) members
   forgotten visits members run = forgets _ (To_visit [] (root_place file meta) ∷ []) visits members run
+
+pub same_pages : (visits : List (Visited Way)) → pages_visited (map blind_visit visits) ≡ pages_visited visits
+same_pages [] = refl
+same_pages (v ∷ visits) = ap (λ (n : ℕ). page_visit v.place.spot + n) (same_pages visits)
 
 pub same_losses : (visits : List (Visited Way)) → losses_in (map blind_visit visits) ≡ losses_in visits
 same_losses [] = refl

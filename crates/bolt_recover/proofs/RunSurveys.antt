@@ -1,8 +1,9 @@
 -- What a run visits is a survey, and what it returns are the elements at the kept ways.
-use Rattle.std.proofs.Common.{◌≡◌, ◌∙◌, ◌⊎◌, ◌↔◌, ◌≤◌, ◌<◌, inl, inr, ℕ, zero, suc, ◌+◌, Bool, true, false, ◌||◌, ◌&&◌, List, [], ◌∷◌, ◌++◌, length, nat_le, Option, Some, None, Result, Ok, Err, slice_get, refl, sym, ap, subst, arith, append_assoc}
+use Rattle.std.proofs.Common.{◌≡◌, ◌∙◌, ◌⊎◌, ◌↔◌, ◌≤◌, ◌<◌, inl, inr, ℕ, zero, suc, ◌+◌, Bool, true, false, ◌||◌, ◌&&◌, List, [], ◌∷◌, ◌++◌, length, nat_le, Option, Some, None, Result, Ok, Err, slice_get, refl, sym, ap, subst, arith, append_assoc, cond}
 use Rattle.std.specs.List.{Contains}
 use Rattle.std.proofs.lemmas.Bool.Decides.{nat_tests}
 use Rattle.std.proofs.lemmas.Bool.{or_cases}
+use Rattle.std.proofs.lemmas.List.Sums.{sum_by-cons}
 use Rattle.bolt_format.specs.Elements.{LeafElement}
 use Rattle.bolt_format.specs.declared.meta.Meta.{Meta}
 use Rattle.bolt_check.specs.Findings.{IsMetaPage, Passes, Tests}
@@ -16,8 +17,9 @@ use Rattle.bolt_tree.specs.Listing.{Member}
 use Rattle.bolt_tree.specs.Paths.{Path}
 use Rattle.bolt_tree.proofs.Lists.{contains_cases, contains_head, contains_none, contains_tail}
 use Rattle.bolt_recover.specs.Losses.{LossView, loss_at, losses_of}
+use Rattle.bolt_recover.specs.PageWays.{is_at_page, page_ways}
 use Rattle.bolt_recover.specs.Places.{Place, place_at, root_place, step_place}
-use Rattle.bolt_recover.specs.Private.Runs.{Runs, RunsAll, Task, To_give, To_visit, Visited, claimed_with, claims_of, entry_tasks, gives_at, in_span, lost_at, losses_in, meta_pages, place_size, place_tasks, tasks_from, visits_at}
+use Rattle.bolt_recover.specs.Private.Runs.{Runs, RunsAll, Task, To_give, To_visit, Visited, claimed_with, claims_of, entry_tasks, gives_at, in_span, lost_at, losses_in, meta_pages, page_visit, pages_visited, place_size, place_tasks, tasks_from, visits_at}
 use Rattle.bolt_recover.specs.Private.Runs.Runs.{done, give, keep, lose}
 use Rattle.bolt_recover.specs.Recovered.{IsRecoveredMember}
 use Rattle.bolt_recover.specs.Surveys.{Gives, Has, IsClaimedIn, IsOpen, IsSurvey, Visit, kept}
@@ -167,6 +169,7 @@ module _ (file : List ℕ) (meta : Meta) (survey : List Visit) where
     pub elements : (w : Way) (p : Place) (e : LeafElement) → Has (visits_of visits) (kept w) → place_at file meta w ≡ Some p → Contains p.elements e → Contains members (p.path ++ e.key ∷ [], item_of e)
     pub exact : (path : Path) (item : Item) → Contains members (path, item) → (e : LeafElement) × IsGiven path e × (item ≡ item_of e)
     pub losses : losses_in visits ≡ losses_of file meta (visits_of visits)
+    pub pages : pages_visited visits ≡ page_ways reach (visits_of visits)
 
   comes_give : (path : Path) (e : LeafElement) (tasks : List (Task Way)) (visits : List (Visited Way)) (members : List Member) → IsGiven path e → Comes tasks visits members
       → Comes (To_give path e ∷ tasks) visits ((path, item_of e) ∷ members)
@@ -184,6 +187,7 @@ module _ (file : List ℕ) (meta : Meta) (survey : List Visit) where
       | inr later ↦ comes.exact q item later
     ];
     losses = comes.losses;
+    pages = comes.pages;
   }
 
   -- the claims in front are those that test 18 looks at
@@ -239,6 +243,17 @@ module _ (file : List ℕ) (meta : Meta) (survey : List Visit) where
   loss_first o p None e = rw e refl
   loss_first o p (Some x) e = rw e refl
 
+  page_first : (o : Option Spot) (s : Spot) → o ≡ Some s → page_visit s ≡ cond (is_at_page o) 1 0
+  page_first o (At_page s) e = rw e refl
+  page_first o (At_inline host keys) e = rw e refl
+
+  pages_first : (w : Way) (p : Place) (f : Option Finding) (rest : List Visit) (n : ℕ) → place_at file meta w ≡ Some p → n ≡ page_ways reach rest
+      → page_visit p.spot + n ≡ page_ways reach (record { way = w; found = f } ∷ rest)
+  pages_first w p f rest n at same =
+      let here = page_first (reach w) p.spot (spot_is file meta w p at) in
+      let all = sum_by-cons (λ (v : Visit). cond (is_at_page (reach v.way)) 1 0) (record { way = w; found = f }) rest in
+      omega (arith, here, all, same)
+
   comes_keep : (w : Way) (p : Place) (claimed : ℕ → Bool) (tasks : List (Task Way)) (rest : List (Visited Way)) (members : List Member) → IsOpen survey w → place_at file meta w ≡ Some p
       → Passes nodes (λ n. claimed n ≡ true) p.spot → Passes nodes (IsClaimedIn nodes reach survey w) p.spot
       → Comes (place_tasks file meta further w p ++ tasks) rest members → Comes (To_visit w p ∷ tasks) (record { way = w; place = p; found = None } ∷ rest) members
@@ -277,6 +292,7 @@ module _ (file : List ℕ) (meta : Meta) (survey : List Visit) where
         ];
         exact = comes.exact;
         losses = comes.losses ∙ ap (λ (ls : List LossView). ls ++ losses_of file meta (visits_of rest)) (sym (loss_first (place_at file meta w) p None at));
+        pages = pages_first w p None (visits_of rest) (pages_visited rest) at comes.pages;
       }
 
   comes_lose : (w : Way) (p : Place) (x : Finding) (tasks : List (Task Way)) (rest : List (Visited Way)) (members : List Member) → IsOpen survey w → place_at file meta w ≡ Some p
@@ -298,6 +314,7 @@ module _ (file : List ℕ) (meta : Meta) (survey : List Visit) where
     ];
     exact = comes.exact;
     losses = ap (λ (ls : List LossView). lost_at p (Some x) ++ ls) comes.losses ∙ ap (λ (ls : List LossView). ls ++ losses_of file meta (visits_of rest)) (sym (loss_first (place_at file meta w) p (Some x) at));
+    pages = pages_first w p (Some x) (visits_of rest) (pages_visited rest) at comes.pages;
   }
 
   pub comes_run : (claimed : ℕ → Bool) (tasks : List (Task Way)) (visits : List (Visited Way)) (members : List Member) → Runs file meta further claimed tasks visits members
@@ -310,6 +327,7 @@ module _ (file : List ℕ) (meta : Meta) (survey : List Visit) where
     elements = λ w p e has there inside. absurd has;
     exact = λ path item has. absurd (contains_none (path, item) has);
     losses = refl;
+    pages = refl;
   }
   comes_run claimed tasks visits members (give {path = path} {e = e} {tasks = more} {members = rest} run) InFront at claims are =
       comes_give path e more visits rest are.0 (comes_run claimed more visits rest run InFront at claims are.1)
@@ -355,6 +373,9 @@ module _ (file : List ℕ) (meta : Meta) (visits : List (Visited Way)) (members 
           (found, subst (λ (w : Way). Has (visits_of visits) (record { way = w; found = found })) (sym is) there)
     ];
   }
+
+  pub all_pages : pages_visited visits ≡ page_ways (reached (node_at file meta) meta.root) (visits_of visits)
+  all_pages = comes.pages
 
   pub all_losses : losses_in visits ≡ losses_of file meta (visits_of visits)
   all_losses = comes.losses

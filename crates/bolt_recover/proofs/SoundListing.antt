@@ -43,7 +43,7 @@ module _ (nodes : Nodes) (root : Option Spot) (survey : List Visit) (surveys : S
       subst (λ (w : List ℕ). Has survey (kept w)) same (keeps_on (front ++ i ∷ []) rest s (keeps_one (front ++ i ∷ []) p.0 p.1) led2)
 
   -- each way that leads somewhere is kept
-  all_kept : (way : List ℕ) (s : Spot) → follow nodes root way ≡ Some s → Has survey (kept way)
+  pub all_kept : (way : List ℕ) (s : Spot) → follow nodes root way ≡ Some s → Has survey (kept way)
   all_kept way s led =
       let at = follow_some nodes root way s led in
       let p = surveys.all [] at.0 (inl refl) at.1 in

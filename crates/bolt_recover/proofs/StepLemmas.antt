@@ -8,6 +8,7 @@ use Rattle.bolt_format.specs.declared.meta.Meta.{Meta}
 use Rattle.bolt_check.specs.Claims.{claims_file, claims_meta, is_claimed}
 use Rattle.bolt_check.specs.declared.claims.Claims.{Claims}
 use Rattle.bolt_check.proofs.Judging.{passes_fewer, tests_same}
+use Rattle.bolt_check.specs.Counts.{counted}
 use Rattle.bolt_check.specs.Findings.{IsMetaPage, Passes, Tests}
 use Rattle.bolt_check.specs.Nodes.{node_at}
 use Rattle.bolt_check.specs.ShownSpots.{page_spot, spot_at}
@@ -22,8 +23,8 @@ use Rattle.bolt_tree.specs.Listing.{Member}
 use Rattle.bolt_tree.specs.Paths.{Path}
 use Rattle.bolt_recover.specs.Losses.{LossView, loss_of}
 use Rattle.bolt_recover.specs.Places.{Place, leaves_of, step_place}
-use Rattle.bolt_recover.specs.Private.Frames.{AreOpen, ComesTo, Ends, GivesHead, GoesOn, HasOpen, IsContent, IsGoodContent, IsGoodPage, IsShallow, NoWay, State, StaysOn, ahead_level, ahead_tasks, ahead_weight, claims_nodes, content_elements, content_place, content_size, content_spot, is_over, lost_state, open_tasks, over_by, page_tasks, page_weight, state_tasks, stay, spot_place}
-use Rattle.bolt_recover.specs.Private.Runs.{Runs, RunsAll, Task, To_visit, Visited, claimed_with, entry_tasks, gives_at, losses_in, meta_pages, place_size, place_tasks, tasks_from, visits_at}
+use Rattle.bolt_recover.specs.Private.Frames.{AreOpen, ComesTo, Ends, GivesHead, GoesOn, HasOpen, IsContent, IsGoodContent, IsGoodPage, IsShallow, NoWay, State, StaysOn, ahead_level, ahead_tasks, ahead_weight, claims_nodes, content_elements, content_place, content_size, content_spot, is_over, lost_state, open_tasks, outcome_of, over_by, page_tasks, page_weight, state_tasks, stay, spot_place}
+use Rattle.bolt_recover.specs.Private.Runs.{Runs, RunsAll, Task, To_visit, Visited, claimed_with, entry_tasks, gives_at, losses_in, meta_pages, page_visit, pages_visited, place_size, place_tasks, tasks_from, visits_at}
 use Rattle.bolt_recover.specs.declared.content.Content.{Content}
 use Rattle.bolt_recover.specs.declared.content.Content.TheVariants.{Bucket, Page}
 use Rattle.bolt_recover.specs.declared.content.OpenPage.{OpenPage}
@@ -100,12 +101,19 @@ not_open : (s : State) (front : List OpenPage) (top : OpenPage) → s.ahead ≡ 
 not_open s front top is pages over =
     let f : false ≡ true = sym (more_open None front top) ∙ ap (over_by None) (sym pages) ∙ ap (λ (o : Option NextVisit). over_by o s.pages) (sym is) ∙ over in cc
 
+-- one visit more is counted, if it was of a page
+one_more : (old new one all : ℕ) (visits rest : List (Visited NoWay)) (v : Visited NoWay) → all ≡ counted old (pages_visited visits) → visits ≡ v ∷ rest → page_visit v.place.spot ≡ one
+    → new ≡ counted old one → all ≡ counted new (pages_visited rest)
+one_more old new one all visits rest v is same here counts =
+    let whole = ap (λ (vs : List (Visited NoWay)). pages_visited vs) same in omega (arith, is, whole, here, counts)
+
 -- what was ahead is open
-pub entered_page : (s : State) (ahead : NextVisit) (content : Content) (count : ℕ) (claimed : ℕ → Bool) → HasOpen s → s.ahead ≡ Some ahead
+pub entered_page : (s : State) (ahead : NextVisit) (content : Content) (count : ℕ) (claimed : ℕ → Bool) (visited : ℕ) → HasOpen s → s.ahead ≡ Some ahead
     → Passes (node_at s.file s.meta) (λ n. s.claimed n ≡ true) (spot_at ahead.spot) → IsContent s.file s.meta ahead.spot content
-    → ((n : ℕ) → claimed n ≡ claimed_with (node_at s.file s.meta) s.claimed (spot_at ahead.spot) n) → count ≡ content_size content → count < 65536
-    → GoesOn s (record s { claimed = claimed; ahead = None; pages = s.pages ++ record { content = content; level = ahead.level; count = count; next = 0 } ∷ [] })
-entered_page s ahead content count claimed has is passes content_is claims long fits =
+    → ((n : ℕ) → claimed n ≡ claimed_with (node_at s.file s.meta) s.claimed (spot_at ahead.spot) n) → visited ≡ counted s.visited (page_visit (spot_at ahead.spot))
+    → count ≡ content_size content → count < 65536
+    → GoesOn s (record s { claimed = claimed; ahead = None; pages = s.pages ++ record { content = content; level = ahead.level; count = count; next = 0 } ∷ []; visited = visited })
+entered_page s ahead content count claimed visited has is passes content_is claims counts long fits =
     let page : OpenPage = record { content = content; level = ahead.level; count = count; next = 0 } in
     let are = rw is at has.pages in
     let within = rw is at has.within in
@@ -121,7 +129,7 @@ entered_page s ahead content count claimed has is passes content_is claims long 
       };
       path = refl;
       over = λ over. absurd (not_ahead s ahead is over);
-      same = λ members losses comes.
+      same = λ members outcome comes.
           let first = subst (λ (o : Option NextVisit). Runs s.file s.meta stay s.claimed (ahead_tasks s.file s.meta s.path o (open_tasks s.file s.meta s.path s.pages [])) comes.visits members) is comes.run in
           let next = keeps s.file s.meta stay s.claimed tt (spot_place s.file s.meta (take ahead.level s.path) ahead.spot) (open_tasks s.file s.meta s.path s.pages []) comes.visits members passes first in
           record {
@@ -131,14 +139,16 @@ entered_page s ahead content count claimed has is passes content_is claims long 
                 (sym (open_last s.file s.meta s.path s.pages page [] ∙ ap (λ (ts : List (Task NoWay)). ts ++ open_tasks s.file s.meta s.path s.pages []) (opened s.file s.meta s.path ahead.spot content ahead.level count content_is long)))
                 next.2);
             all = comes.all ∙ ap (λ (vs : List (Visited NoWay)). s.losses ++ losses_in vs) next.1;
+            pages = one_more s.visited visited (page_visit (spot_at ahead.spot)) outcome.visited comes.visits next.0 _ comes.pages next.1 refl counts;
           };
     }
 
 -- what was ahead is lost
-pub entered_lost : (s : State) (ahead : NextVisit) (x : Finding) (claimed : ℕ → Bool) → HasOpen s → s.ahead ≡ Some ahead
+pub entered_lost : (s : State) (ahead : NextVisit) (x : Finding) (claimed : ℕ → Bool) (visited : ℕ) → HasOpen s → s.ahead ≡ Some ahead
     → Tests (node_at s.file s.meta) (λ n. s.claimed n ≡ true) (spot_at ahead.spot) x → ((n : ℕ) → claimed n ≡ s.claimed n)
-    → GoesOn s (lost_state (record s { claimed = claimed }) ahead x)
-entered_lost s ahead x claimed has is tests claims =
+    → visited ≡ counted s.visited (page_visit (spot_at ahead.spot))
+    → GoesOn s (lost_state (record s { claimed = claimed; visited = visited }) ahead x)
+entered_lost s ahead x claimed visited has is tests claims counts =
     let are = rw is at has.pages in
     let within = rw is at has.within in
     let place : Place = spot_place s.file s.meta (take ahead.level s.path) ahead.spot in
@@ -146,7 +156,7 @@ entered_lost s ahead x claimed has is tests claims =
       on = record { file = refl; meta = refl; placed = record { pages = are_open_up s.file s.meta 0 s.pages ahead.level (length s.path) are within; within = omega arith } };
       path = refl;
       over = λ over. absurd (not_ahead s ahead is over);
-      same = λ members losses comes.
+      same = λ members outcome comes.
           let first = subst (λ (o : Option NextVisit). Runs s.file s.meta stay s.claimed (ahead_tasks s.file s.meta s.path o (open_tasks s.file s.meta s.path s.pages [])) comes.visits members) is comes.run in
           let next = loses s.file s.meta stay s.claimed tt place x (open_tasks s.file s.meta s.path s.pages []) comes.visits members tests first in
           record {
@@ -154,17 +164,9 @@ entered_lost s ahead x claimed has is tests claims =
             run = same_claims s.file s.meta s.claimed claimed _ next.0 members claims next.2;
             all = comes.all ∙ ap (λ (vs : List (Visited NoWay)). s.losses ++ losses_in vs) next.1
                 ∙ sym (append_assoc s.losses (loss_of place x ∷ []) (losses_in next.0));
+            pages = one_more s.visited visited (page_visit (spot_at ahead.spot)) outcome.visited comes.visits next.0 _ comes.pages next.1 refl counts;
           };
     }
-
--- nothing has changed, but how the claims are kept
-pub stayed : (s : State) (claimed : ℕ → Bool) → HasOpen s → ((n : ℕ) → claimed n ≡ s.claimed n) → GoesOn s (record s { claimed = claimed })
-stayed s claimed has claims = record {
-  on = record { file = refl; meta = refl; placed = record { pages = has.pages; within = has.within } };
-  path = refl;
-  over = λ over. over;
-  same = λ members losses comes. record { visits = comes.visits; run = same_claims s.file s.meta s.claimed claimed _ comes.visits members claims comes.run; all = comes.all };
-}
 
 -- without what is ahead the tasks are those of the open pages
 run_open : (s : State) (visits : List (Visited NoWay)) (members : List Member) → s.ahead ≡ None → Runs s.file s.meta stay s.claimed (state_tasks s) visits members
@@ -194,11 +196,12 @@ took_last s front top has is pages over =
       on = record { file = refl; meta = refl; placed = record { pages = are_open_up s.file s.meta 0 front top.level (length s.path) inner.below inner.within; within = omega arith } };
       path = refl;
       over = λ over. absurd (not_open s front top is pages over);
-      same = λ members losses comes. record {
+      same = λ members outcome comes. record {
         visits = comes.visits;
         run = subst (λ (n : ℕ). Runs s.file s.meta stay s.claimed (tasks_from s.file s.meta stay tt (content_place (take top.level s.path) top.content) top.next n ++ open_tasks s.file s.meta s.path front []) comes.visits members)
             nothing (run_top s front top comes.visits members is pages comes.run);
         all = comes.all;
+        pages = comes.pages;
       };
     }
 
@@ -281,7 +284,7 @@ module _ (s : State) (front : List OpenPage) (top : OpenPage) (has : HasOpen s) 
         };
         path = refl;
         over = λ over. absurd (not_open s front top is pages over);
-        same = λ members losses comes. record {
+        same = λ members outcome comes. record {
           visits = comes.visits;
           run = subst (λ (ts : List (Task NoWay)). Runs s.file s.meta stay s.claimed ts comes.visits members)
               (ap (λ (o : Option LeafElement). (gives_at s.file s.meta stay (take top.level s.path) o ++ visits_at s.file s.meta stay tt (step_place s.file s.meta here top.next)) ++ rest_tasks) none
@@ -290,6 +293,7 @@ module _ (s : State) (front : List OpenPage) (top : OpenPage) (has : HasOpen s) 
               ∙ ap (ahead_tasks s.file s.meta s.path (ahead_of top.level r)) (moved_tasks s.path (λ n le. refl)))
               (run_entry comes.visits members comes.run);
           all = comes.all;
+          pages = comes.pages;
         };
       }
 
@@ -312,7 +316,7 @@ module _ (s : State) (front : List OpenPage) (top : OpenPage) (has : HasOpen s) 
           };
         };
         more = more_open (ahead_of (top.level + 1) r) front moved;
-        head = λ members losses comes.
+        head = λ members outcome comes.
             let first = subst (λ (ts : List (Task NoWay)). Runs s.file s.meta stay s.claimed ts comes.visits members)
             (ap (λ (o : Option LeafElement). (gives_at s.file s.meta stay (take top.level s.path) o ++ visits_at s.file s.meta stay tt (step_place s.file s.meta here top.next)) ++ rest_tasks) some)
             (run_entry comes.visits members comes.run) in
@@ -327,6 +331,7 @@ module _ (s : State) (front : List OpenPage) (top : OpenPage) (has : HasOpen s) 
                     ∙ ap (ahead_tasks s.file s.meta path (ahead_of (top.level + 1) r)) (moved_tasks path (λ n le. take_below top.level n s.path (e.key ∷ []) within le)))
                     next.2;
                 all = comes.all;
+                pages = comes.pages;
               },
             );
       }
@@ -334,22 +339,23 @@ module _ (s : State) (front : List OpenPage) (top : OpenPage) (has : HasOpen s) 
 -- a state with these parts
 pub as_state : (P : State → Type 0) (t : State) (file : List ℕ) (meta : Meta) (ahead : Option NextVisit) (pages : List OpenPage) (path : Path) (losses : List LossView)
     → t.file ≡ file → t.meta ≡ meta → t.ahead ≡ ahead → t.pages ≡ pages → t.path ≡ path → t.losses ≡ losses → P t
-    → P (record { file = file; meta = meta; claimed = t.claimed; ahead = ahead; pages = pages; path = path; losses = losses })
+    → P (record { file = file; meta = meta; claimed = t.claimed; ahead = ahead; pages = pages; path = path; losses = losses; visited = t.visited })
 as_state P t file meta ahead pages path losses f m a g p l h =
-    subst P (λ i. record { file = f i; meta = m i; claimed = t.claimed; ahead = a i; pages = g i; path = p i; losses = l i }) h
+    subst P (λ i. record { file = f i; meta = m i; claimed = t.claimed; ahead = a i; pages = g i; path = p i; losses = l i; visited = t.visited }) h
 
 -- the root page alone is ahead
-abbrev pub start_state : List ℕ → Meta → PageSpot → State
-start_state file meta root =
-    record { file = file; meta = meta; claimed = meta_pages; ahead = Some (record { spot = spots.Page root; level = 0 }); pages = []; path = []; losses = [] }
+abbrev pub start_state : List ℕ → Meta → PageSpot → ℕ → State
+start_state file meta root begun =
+    record { file = file; meta = meta; claimed = meta_pages; ahead = Some (record { spot = spots.Page root; level = 0 }); pages = []; path = []; losses = []; visited = begun }
 
-pub started : (file : List ℕ) (meta : Meta) (root : PageSpot) → page_spot root ≡ root_spot meta.root → root.number ≡ meta.root → (visits : List (Visited NoWay)) (members : List Member)
-    → RunsAll file meta stay tt visits members → ComesTo (start_state file meta root) members (losses_in visits)
-started file meta root spot number visits members run = record {
+pub started : (file : List ℕ) (meta : Meta) (root : PageSpot) (begun : ℕ) → page_spot root ≡ root_spot meta.root → root.number ≡ meta.root → (visits : List (Visited NoWay)) (members : List Member)
+    → RunsAll file meta stay tt visits members → ComesTo (start_state file meta root begun) members (outcome_of begun visits)
+started file meta root begun spot number visits members run = record {
   visits = visits;
   run = subst (λ (p : Place). Runs file meta stay meta_pages (To_visit tt p ∷ []) visits members)
       (λ i. record { spot = At_page (sym spot i); path = []; elements = leaves_of (page_at file meta (sym number i)) }) run;
   all = refl;
+  pages = refl;
 }
 
 -- the meta pages alone are claimed
@@ -375,19 +381,20 @@ either (Ok x) p q f g = f p
 either (Err e) p q f g = g q
 
 -- the root page is open
-pub begins : (file f : List ℕ) (meta m : Meta) (before claimed : ℕ → Bool) (root : PageSpot) (content : Content) (count : ℕ) → f ≡ file → m ≡ meta → ((n : ℕ) → before n ≡ meta_pages n)
+pub begins : (file f : List ℕ) (meta m : Meta) (before claimed : ℕ → Bool) (begun visited : ℕ) (root : PageSpot) (content : Content) (count : ℕ) → f ≡ file → m ≡ meta → ((n : ℕ) → before n ≡ meta_pages n)
     → page_spot root ≡ root_spot meta.root → root.number ≡ meta.root → Passes (node_at f m) (λ n. before n ≡ true) (At_page (page_spot root)) → IsContent f m (spots.Page root) content
-    → ((n : ℕ) → claimed n ≡ claimed_with (node_at f m) before (At_page (page_spot root)) n) → count ≡ content_size content → count < 65536
+    → ((n : ℕ) → claimed n ≡ claimed_with (node_at f m) before (At_page (page_spot root)) n) → visited ≡ counted begun 1 → count ≡ content_size content → count < 65536
     → (visits : List (Visited NoWay)) (members : List Member) → RunsAll file meta stay tt visits members
-    → ComesTo (record { file = f; meta = m; claimed = claimed; ahead = None; pages = record { content = content; level = 0; count = count; next = 0 } ∷ []; path = []; losses = [] }) members (losses_in visits)
-begins file f meta m before claimed root content count e h metas spot number passes is claims long fits visits members run =
-    let s : State = record (start_state f m root) { claimed = before } in
+    → ComesTo (record { file = f; meta = m; claimed = claimed; ahead = None; pages = record { content = content; level = 0; count = count; next = 0 } ∷ []; path = []; losses = []; visited = visited })
+    members (outcome_of begun visits)
+begins file f meta m before claimed begun visited root content count e h metas spot number passes is claims counts long fits visits members run =
+    let s : State = record (start_state f m root begun) { claimed = before } in
     let ahead : NextVisit = record { spot = spots.Page root; level = 0 } in
-    let here : ComesTo s members (losses_in visits) =
-    subst (λ (t : State). ComesTo t members (losses_in visits))
-    (λ i. record { file = sym e i; meta = sym h i; claimed = λ n. sym (metas n) i; ahead = Some ahead; pages = []; path = []; losses = [] }) (started file meta root spot number visits members run) in
+    let here : ComesTo s members (outcome_of begun visits) =
+    subst (λ (t : State). ComesTo t members (outcome_of begun visits))
+    (λ i. record { file = sym e i; meta = sym h i; claimed = λ n. sym (metas n) i; ahead = Some ahead; pages = []; path = []; losses = []; visited = begun }) (started file meta root begun spot number visits members run) in
     let placed : HasOpen s = record { pages = omega arith; within = omega arith } in
-    (entered_page s ahead content count claimed placed refl passes is claims long fits).same members (losses_in visits) here
+    (entered_page s ahead content count claimed visited placed refl passes is claims counts long fits).same members (outcome_of begun visits) here
 
 -- the element to be taken next is there
 pub next_below : (file : List ℕ) (meta : Meta) (page : OpenPage) → IsGoodPage file meta page → (page.next ≡ page.count → ⊥) → page.next < content_size page.content
@@ -417,13 +424,13 @@ on_from : (a b c : State) → StaysOn a b → StaysOn b c → StaysOn a c
 on_from a b c h k = record { file = k.file ∙ h.file; meta = k.meta ∙ h.meta; placed = k.placed }
 
 pub goes_from : (a b c : State) → GoesOn a b → GoesOn b c → GoesOn a c
-goes_from a b c h k = record { on = on_from a b c h.on k.on; path = k.path ∙ h.path; over = λ over. k.over (h.over over); same = λ members losses comes. k.same members losses (h.same members losses comes) }
+goes_from a b c h k = record { on = on_from a b c h.on k.on; path = k.path ∙ h.path; over = λ over. k.over (h.over over); same = λ members outcome comes. k.same members outcome (h.same members outcome comes) }
 
 pub gives_from : (a b c : State) (e : LeafElement) → GoesOn a b → GivesHead b c e → GivesHead a c e
-gives_from a b c e h k = record { on = on_from a b c h.on k.on; more = k.more; head = λ members losses comes. k.head members losses (h.same members losses comes) }
+gives_from a b c e h k = record { on = on_from a b c h.on k.on; more = k.more; head = λ members outcome comes. k.head members outcome (h.same members outcome comes) }
 
 pub ends_from : (a b c : State) → GoesOn a b → Ends b c → Ends a c
-ends_from a b c h k = record { on = on_from a b c h.on k.on; ended = k.ended; none = λ members losses comes. k.none members losses (h.same members losses comes) }
+ends_from a b c h k = record { on = on_from a b c h.on k.on; ended = k.ended; none = λ members outcome comes. k.none members outcome (h.same members outcome comes) }
 
 pub when_err : {X E P : Type 0} (result : Result X E) → P → OnErr result P
 when_err (Ok x) p = tt

@@ -1,4 +1,5 @@
 pub mod Losses
+pub mod PageWays
 pub mod Places
 pub mod Private
 pub mod Recovered

@@ -25,6 +25,13 @@ recovery_work recovery = steps_weight recovery.steps
 unfoldable pub recovery_path : Recovery → Path
 recovery_path recovery = (state_of recovery.steps).path
 
+-- how many pages it has visited so far, and how many were visited before it began
+unfoldable pub recovery_visited : Recovery → ℕ
+recovery_visited recovery = (state_of recovery.steps).visited
+
+unfoldable pub recovery_begun : Recovery → ℕ
+recovery_begun recovery = recovery.begun
+
 -- the losses that it has reported so far
 unfoldable pub recovery_losses : Recovery → List LossView
 recovery_losses recovery = (state_of recovery.steps).losses

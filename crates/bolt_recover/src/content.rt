@@ -4,13 +4,14 @@ ghost use Rattle.std.specs.Option.{option_map};
 ghost use Rattle.bolt_format.specs.Elements.{IsBucketValue};
 ghost use Rattle.bolt_format.specs.ElementPlaces.{leaf_view};
 ghost use Rattle.bolt_format.specs.declared.meta.Meta.{Meta};
-ghost use Rattle.bolt_check.specs.Claims.{claims_file, claims_meta, is_claimed, pages_left};
+ghost use Rattle.bolt_check.specs.Claims.{claims_file, claims_meta, claims_visited, is_claimed, pages_left};
+ghost use Rattle.bolt_check.specs.Counts.{counted};
 ghost use Rattle.bolt_check.specs.Findings.{Passes, Tests};
 ghost use Rattle.bolt_check.specs.ShownSpots.{spot_at};
 ghost use Rattle.bolt_tree.specs.Paths.{Path};
 ghost use Rattle.bolt_recover.specs.Places.{step_place};
 ghost use Rattle.bolt_recover.specs.Private.Frames.{IsContent, IsGoodContent, IsShallow, claims_nodes, content_elements, content_place, content_size, pages_in, step_path, spot_place};
-ghost use Rattle.bolt_recover.specs.Private.Runs.{claimed_with};
+ghost use Rattle.bolt_recover.specs.Private.Runs.{claimed_with, page_visit};
 
 use bolt_check::{BucketSpot, Claims, Finding, PageSpot, Spot, TreePage};
 use bolt_format::Leaf;
@@ -39,6 +40,7 @@ impl<'a> Content<'a> {
     pub fn visit(claims: &mut Claims<'a>, spot: Spot<'a>) -> Result<Content<'a>, Finding>
         ensures file { claims_file claims.new ≡ claims_file claims.old }
         ensures meta { claims_meta claims.new ≡ claims_meta claims.old }
+        ensures visited { claims_visited claims.new ≡ counted (claims_visited claims.old) (page_visit (spot_at spot.entry)) }
         ensures found { IfErr result (Tests (claims_nodes claims.old) (λ n. is_claimed claims.old n ≡ true) (spot_at spot.entry)) }
         ensures same { OnErr result ((n : ℕ) → is_claimed claims.new n ≡ is_claimed claims.old n) }
         ensures left { OnErr result (pages_left claims.new ≡ pages_left claims.old) }

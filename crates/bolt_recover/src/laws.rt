@@ -1,5 +1,7 @@
 //! What the definitions of recovery imply.
-ghost use Rattle.std.specs.Prelude.{◌≡◌, ℕ, List, None};
+ghost use Rattle.std.specs.List.{Contains, count_by};
+ghost use Rattle.std.specs.Prelude.{◌≡◌, ℕ, [], List, None, Some, is_some, length};
+ghost use Rattle.bolt_format.specs.Bytes.{IsBytes};
 ghost use Rattle.bolt_format.specs.declared.meta.Meta.{Meta};
 ghost use Rattle.bolt_check.specs.Sound.{HasSoundTrees, IsFirstFinding};
 ghost use Rattle.bolt_check.specs.Ways.{Before};
@@ -8,9 +10,14 @@ ghost use Rattle.bolt_tree.specs.Entries.{IsEntry, Item, Root_page};
 ghost use Rattle.bolt_tree.specs.Listing.{IsListing, Member};
 ghost use Rattle.bolt_tree.specs.Paths.{Holds, Path};
 ghost use Rattle.bolt_tree.specs.Tree.{Tree, listing_of};
-ghost use Rattle.bolt_recover.specs.Losses.{AreLosses, LossView};
+ghost use Rattle.bolt_recover.specs.Losses.{AreLosses, LossView, loss_of, losses_of};
+ghost use Rattle.bolt_recover.specs.PageWays.{ArePageWays};
+ghost use Rattle.bolt_recover.specs.Places.{Place, place_at};
 ghost use Rattle.bolt_recover.specs.Recovered.{IsRecovered, IsRecoveredMember};
+ghost use Rattle.bolt_recover.specs.Recoveries.{recovery_file};
 ghost use Rattle.bolt_recover.specs.Surveys.{Has, IsSurvey, Visit, lost};
+
+use crate::recovery::Recovery;
 
 /// A file has at most one survey.
 pub fn survey_is_one()
@@ -61,4 +68,38 @@ pub fn sound_trees_recover_their_listing()
 pub fn first_loss_is_the_first_finding()
     ensures { (file : List ℕ) (meta : Meta) (survey : List Visit) (way : List ℕ) (x : Finding) → IsSurvey file meta survey → Has survey (lost way x)
         → ((v : Visit) → Has survey v → Before v.way way → v.found ≡ None) → IsFirstFinding file meta x }
+{}
+
+/// The trees are sound if no way is lost, and so if there is no loss.
+pub fn nothing_lost_means_sound_trees()
+    ensures ways { (file : List ℕ) (meta : Meta) (survey : List Visit) → IsSurvey file meta survey → ((v : Visit) → Has survey v → v.found ≡ None) → HasSoundTrees file meta }
+    ensures losses { (file : List ℕ) (meta : Meta) → AreLosses file meta [] → HasSoundTrees file meta }
+{}
+
+/// Each lost way has one loss, that of the place that it leads to. There are as many losses as lost
+/// ways, and each loss is that of a lost way.
+pub fn each_lost_way_has_one_loss()
+    ensures number { (file : List ℕ) (meta : Meta) (survey : List Visit) → IsSurvey file meta survey
+        → length (losses_of file meta survey) ≡ count_by (λ (v : Visit). is_some v.found) survey }
+    ensures loss { (file : List ℕ) (meta : Meta) (survey : List Visit) (way : List ℕ) (x : Finding) → IsSurvey file meta survey → Has survey (lost way x)
+        → (place : Place) × (place_at file meta way ≡ Some place) × Contains (losses_of file meta survey) (loss_of place x) }
+    ensures way { (file : List ℕ) (meta : Meta) (survey : List Visit) (l : LossView) → IsSurvey file meta survey → Contains (losses_of file meta survey) l
+        → (way : List ℕ) × (x : Finding) × (place : Place) × Has survey (lost way x) × (place_at file meta way ≡ Some place) × (l ≡ loss_of place x) }
+{}
+
+/// What is recovered of sound trees is what they list, and there is no loss.
+pub fn sound_trees_recover_what_they_list()
+    ensures listing { (file : List ℕ) (meta : Meta) (listing : List Member) → HasSoundTrees file meta → IsListing file meta listing → IsRecovered file meta listing }
+    ensures losses { (file : List ℕ) (meta : Meta) (losses : List LossView) → HasSoundTrees file meta → AreLosses file meta losses → losses ≡ [] }
+{}
+
+/// A file has exactly one number of ways to page numbers.
+pub fn page_ways_are_one()
+    ensures some { (file : List ℕ) (meta : Meta) → (n : ℕ) × ArePageWays file meta n }
+    ensures one { (file : List ℕ) (meta : Meta) (a b : ℕ) → ArePageWays file meta a → ArePageWays file meta b → a ≡ b }
+{}
+
+/// The file of a recovery is bytes: none is above 255.
+pub fn the_file_of_a_recovery_is_bytes(recovery: &Recovery<'_>)
+    ensures { IsBytes (recovery_file recovery.now) }
 {}

@@ -1,12 +1,11 @@
 //! What is reported of a lost page.
-ghost use Rattle.std.specs.Prelude.{◌≡◌, IfOk};
+ghost use Rattle.std.specs.Prelude.{◌≡◌};
 ghost use Rattle.bolt_check.specs.ShownSpots.{spot_at};
 ghost use Rattle.bolt_tree.specs.Paths.{path_of};
 ghost use Rattle.bolt_recover.specs.Losses.{lower_of, upper_of};
 ghost use Rattle.bolt_recover.specs.ShownLosses.{loss_view};
 
-use bolt_check::{Finding, NoMemory, Spot};
-use std::alloc::Global;
+use bolt_check::{Finding, Spot};
 
 /// A lost page, or the lost page of an inline bucket, with everything below it (docs/RECOVERY.md,
 /// "Losses").
@@ -25,29 +24,18 @@ pub struct Loss<'a> {
 
 impl<'a> Loss<'a> {
     /// The loss of what a spot leads to, in the bucket with this path.
-    ///
-    /// # Errors
-    ///
-    /// `NoMemory` if there is no memory for the path.
-    pub fn new(
-        alloc: Global,
-        finding: Finding,
-        bucket: &[&'a [u8]],
-        spot: &Spot<'a>,
-    ) -> Result<Loss<'a>, NoMemory>
-        ensures { IfOk result (λ loss. loss_view loss ≡ record { finding = finding; bucket = path_of bucket.now; lower = lower_of (spot_at spot.now); upper = upper_of (spot_at spot.now) }) }
+    pub fn new(finding: Finding, bucket: Vec<&'a [u8]>, spot: &Spot<'a>) -> Loss<'a>
+        ensures { loss_view result ≡ record { finding = finding; bucket = path_of bucket.entry.items; lower = lower_of (spot_at spot.now); upper = upper_of (spot_at spot.now) } }
     {
-        let mut path = Vec::new(alloc);
-        path.extend_from_slice(bucket)?;
         let (lower, upper) = match spot {
             Spot::Page(page) => (page.lower, page.upper),
             Spot::Bucket(_) => (None, None),
         };
-        Ok(Loss {
+        Loss {
             finding,
-            bucket: path,
+            bucket,
             lower,
             upper,
-        })
+        }
     }
 }

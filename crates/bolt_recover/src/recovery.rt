@@ -1,12 +1,15 @@
 //! A walk over everything that is kept of a damaged file.
 ghost use Rattle.std.specs.Option.{IfNone, option_map};
-ghost use Rattle.std.specs.Prelude.{◌≡◌, ◌<◌, [], IfErr, IfOk, IfSome, OnErr, OnOk, map};
-ghost use Rattle.bolt_check.specs.Claims.{claims_file};
+ghost use Rattle.std.specs.Prelude.{◌≡◌, ◌<◌, ◌≤◌, ◌↔◌, ◌^◌, ℕ, [], true, IfErr, IfOk, IfSome, OnErr, OnOk, map};
+ghost use Rattle.bolt_check.specs.Claims.{claims_file, claims_meta, claims_visited, is_claimed};
+ghost use Rattle.bolt_check.specs.Counts.{counted};
+ghost use Rattle.bolt_check.specs.Findings.{IsMetaPage};
 ghost use Rattle.bolt_format.specs.Metas.{IsChosen, IsInSlot};
 ghost use Rattle.bolt_tree.specs.Paths.{path_of};
 ghost use Rattle.bolt_tree.specs.ShownEntries.{item_view};
 ghost use Rattle.bolt_tree.specs.Walks.{GivesNext};
 ghost use Rattle.bolt_recover.specs.Private.Frames.{IsOn, IsRefusedRoot, state_of};
+ghost use Rattle.bolt_recover.specs.PageWays.{ForPageWays};
 ghost use Rattle.bolt_recover.specs.Recovered.{ForRecovered, IsRecovered};
 ghost use Rattle.bolt_recover.specs.Refusals.{IsSlotUnrecoverable, IsUnrecoverable, KeepsRoot};
 ghost use Rattle.bolt_recover.specs.ShownLosses.{loss_view};
@@ -14,27 +17,29 @@ ghost use Rattle.bolt_recover.specs.ShownLosses.{loss_view};
 use crate::loss::Loss;
 use crate::members::Members;
 use crate::steps::Steps;
-use bolt_check::{CheckFault, NoMemory};
+use bolt_check::{CheckFault, Claims, NoMemory};
 use bolt_format::{Meta, Slot, choose, slot_meta};
 use bolt_tree::Item;
 use std::alloc::Global;
 
 /// A walk over everything that is kept of a file, in the order of paths (docs/RECOVERY.md): each
-/// value and each bucket once, a bucket before everything in it. It visits no page twice, and
-/// reports what is lost on its way. It needs a byte for each whole page that lies in the file and
+/// value and each bucket once, a bucket before everything in it. It visits each way to a page once,
+/// and reports what is lost on its way. It needs a byte for each whole page that lies in the file and
 /// below the high-water mark, room for the losses, and room for the open pages on the current way.
 #[derive(Drop)]
 pub struct Recovery<'a> {
     steps: Steps<'a>,
     meta: Meta,
+    /// The visits that were made before it began.
+    begun: u64,
     ghost sized: { 0 < meta.page_size },
-    ghost on: { ∥ IsOn (state_of steps) meta ∥₁ },
+    ghost on: { ∥ IsOn (state_of steps) meta begun ∥₁ },
     ghost root: { ∥ KeepsRoot (claims_file steps.claims) meta ∥₁ },
 }
 
-#[tactic(auto, unfolding(crate::specs::Recoveries::recovery_file, crate::specs::Recoveries::recovery_left, crate::specs::Recoveries::recovery_losses, crate::specs::Recoveries::recovery_meta, crate::specs::Recoveries::recovery_path, crate::specs::Recoveries::recovery_work))]
+#[tactic(auto, unfolding(crate::specs::Recoveries::recovery_begun, crate::specs::Recoveries::recovery_file, crate::specs::Recoveries::recovery_left, crate::specs::Recoveries::recovery_losses, crate::specs::Recoveries::recovery_meta, crate::specs::Recoveries::recovery_path, crate::specs::Recoveries::recovery_visited, crate::specs::Recoveries::recovery_work))]
 impl<'a> Recovery<'a> {
-    ghost use Rattle.bolt_recover.specs.Recoveries.{AreFirst, ForLosses, recovery_file, recovery_left, recovery_losses, recovery_meta, recovery_path, recovery_work};
+    ghost use Rattle.bolt_recover.specs.Recoveries.{AreFirst, ForLosses, recovery_begun, recovery_file, recovery_left, recovery_losses, recovery_meta, recovery_path, recovery_visited, recovery_work};
 
     /// A walk under the active meta.
     ///
@@ -48,6 +53,8 @@ impl<'a> Recovery<'a> {
         ensures all { IfOk result (λ recovery. ForRecovered file.now (recovery_meta recovery) (λ listing. recovery_left recovery listing ≡ listing)) }
         ensures path { IfOk result (λ recovery. recovery_path recovery ≡ []) }
         ensures losses { IfOk result (λ recovery. recovery_losses recovery ≡ []) }
+        ensures begun { IfOk result (λ recovery. recovery_begun recovery ≡ 0) }
+        ensures visited { IfOk result (λ recovery. recovery_visited recovery ≡ 1) }
         ensures root { IfOk result (λ recovery. KeepsRoot file.now (recovery_meta recovery)) }
         ensures refused { IfErr result (IsUnrecoverable file.now) }
     {
@@ -66,6 +73,8 @@ impl<'a> Recovery<'a> {
         ensures all { IfOk result (λ recovery. ForRecovered file.now (recovery_meta recovery) (λ listing. recovery_left recovery listing ≡ listing)) }
         ensures path { IfOk result (λ recovery. recovery_path recovery ≡ []) }
         ensures losses { IfOk result (λ recovery. recovery_losses recovery ≡ []) }
+        ensures begun { IfOk result (λ recovery. recovery_begun recovery ≡ 0) }
+        ensures visited { IfOk result (λ recovery. recovery_visited recovery ≡ 1) }
         ensures root { IfOk result (λ recovery. KeepsRoot file.now (recovery_meta recovery)) }
         ensures refused { IfErr result (IsSlotUnrecoverable file.now slot) }
     {
@@ -81,14 +90,39 @@ impl<'a> Recovery<'a> {
         ensures all { IfOk result (λ recovery. ForRecovered file.now meta (λ listing. recovery_left recovery listing ≡ listing)) }
         ensures path { IfOk result (λ recovery. recovery_path recovery ≡ []) }
         ensures losses { IfOk result (λ recovery. recovery_losses recovery ≡ []) }
+        ensures begun { IfOk result (λ recovery. recovery_begun recovery ≡ 0) }
+        ensures visited { IfOk result (λ recovery. recovery_visited recovery ≡ 1) }
         ensures root { OnOk result (KeepsRoot file.now meta) }
         ensures refused { IfErr result (IsRefusedRoot file.now meta) }
     {
-        let steps = Steps::new(alloc, file, meta)?;
-        Ok(Recovery { steps, meta })
+        let Ok(claims) = Claims::new(alloc, file, meta) else {
+            return Err(CheckFault::Memory);
+        };
+        Recovery::over(alloc, claims)
     }
 
-    /// The same recovery before its first item: everything is left, and no loss was reported.
+    /// A walk with this table, in which only the meta pages are claimed.
+    fn over(alloc: Global, claims: Claims<'a>) -> Result<Recovery<'a>, CheckFault>
+        requires sized { 0 < (claims_meta claims).page_size }
+        requires metas { (n : ℕ) → (is_claimed claims n ≡ true) ↔ IsMetaPage n }
+        ensures file { IfOk result (λ recovery. recovery_file recovery ≡ claims_file claims.entry) }
+        ensures meta { IfOk result (λ recovery. recovery_meta recovery ≡ claims_meta claims.entry) }
+        ensures all { IfOk result (λ recovery. ForRecovered (claims_file claims.entry) (claims_meta claims.entry) (λ listing. recovery_left recovery listing ≡ listing)) }
+        ensures path { IfOk result (λ recovery. recovery_path recovery ≡ []) }
+        ensures losses { IfOk result (λ recovery. recovery_losses recovery ≡ []) }
+        ensures begun { IfOk result (λ recovery. recovery_begun recovery ≡ claims_visited claims.entry) }
+        ensures visited { IfOk result (λ recovery. recovery_visited recovery ≡ counted (claims_visited claims.entry) 1) }
+        ensures root { OnOk result (KeepsRoot (claims_file claims.entry) (claims_meta claims.entry)) }
+        ensures refused { IfErr result (IsRefusedRoot (claims_file claims.entry) (claims_meta claims.entry)) }
+    {
+        let meta = claims.meta();
+        let begun = claims.visited();
+        let steps = Steps::new(alloc, claims)?;
+        Ok(Recovery { steps, meta, begun })
+    }
+
+    /// The same recovery before its first item: everything is left, and no loss was reported. It
+    /// counts on from the visits so far.
     ///
     /// # Errors
     ///
@@ -99,21 +133,17 @@ impl<'a> Recovery<'a> {
         ensures all { IfOk result (λ again. ForRecovered (recovery_file self.now) (recovery_meta self.now) (λ listing. recovery_left again listing ≡ listing)) }
         ensures path { IfOk result (λ again. recovery_path again ≡ []) }
         ensures losses { IfOk result (λ again. recovery_losses again ≡ []) }
+        ensures begun { IfOk result (λ again. recovery_begun again ≡ recovery_visited self.now) }
+        ensures visited { IfOk result (λ again. recovery_visited again ≡ counted (recovery_visited self.now) 1) }
     {
-        match Recovery::under(alloc, self.steps.claims.file(), self.meta) {
+        let claims = self.steps.claims.again(alloc)?;
+        match Recovery::over(alloc, claims) {
             Ok(again) => Ok(again),
             Err(CheckFault::Memory) => Err(NoMemory),
             Err(CheckFault::Structure(_)) => unreachable!(),
             Err(CheckFault::Open(_)) => unreachable!(),
             Err(CheckFault::Accounts(_)) => unreachable!(),
         }
-    }
-
-    /// The file that is read.
-    pub fn file(&self) -> &'a [u8]
-        ensures { result.now ≡ recovery_file self.now }
-    {
-        self.steps.claims.file()
     }
 
     /// The meta that the file is read under.
@@ -124,7 +154,7 @@ impl<'a> Recovery<'a> {
     }
 
     /// Returns the next item, or `None` if nothing is left; so do all later calls. By then all losses
-    /// are reported.
+    /// are reported, and each way to a page number was visited once.
     ///
     /// # Errors
     ///
@@ -135,6 +165,8 @@ impl<'a> Recovery<'a> {
         ensures meta { recovery_meta self.new ≡ recovery_meta self.old }
         ensures given { IfOk result (λ given. ForRecovered (recovery_file self.old) (recovery_meta self.old) (λ listing. GivesNext (recovery_left self.old listing) (recovery_left self.new listing) (recovery_path self.new) (option_map item_view given))) }
         ensures fewer { IfOk result (λ given. IfSome given (λ _. recovery_work self.new < recovery_work self.old)) }
+        ensures begun { recovery_begun self.new ≡ recovery_begun self.old }
+        ensures visited { IfOk result (λ given. IfNone given (ForPageWays (recovery_file self.old) (recovery_meta self.old) (λ ways. recovery_visited self.new ≡ counted (recovery_begun self.old) ways))) }
         ensures all { IfOk result (λ given. IfNone given (ForLosses (recovery_file self.old) (recovery_meta self.old) (λ losses. recovery_losses self.new ≡ losses))) }
         ensures same { OnErr result (ForRecovered (recovery_file self.old) (recovery_meta self.old) (λ listing. recovery_left self.new listing ≡ recovery_left self.old listing)) }
         ensures same_path { OnErr result (recovery_path self.new ≡ recovery_path self.old) }
@@ -160,6 +192,15 @@ impl<'a> Recovery<'a> {
         ensures first { ForLosses (recovery_file self.now) (recovery_meta self.now) (AreFirst (recovery_losses self.now)) }
     {
         self.steps.losses.as_slice()
+    }
+
+    /// The number of visits so far, those before it began included: of each way to a page number at
+    /// most one. Saturates at 2^64 - 1.
+    pub fn visited(&self) -> u64
+        ensures visited { result ≡ recovery_visited self.now }
+        ensures within { ForPageWays (recovery_file self.now) (recovery_meta self.now) (λ ways. recovery_visited self.now ≤ counted (recovery_begun self.now) ways) }
+    {
+        self.steps.claims.visited()
     }
 }
 

@@ -1,19 +1,22 @@
 //! The steps of a recovering walk: one loop over the open pages of the current way.
-ghost use Rattle.std.specs.Prelude.{◌≡◌, ◌≤◌, ◌<◌, List, [], false, None, IfOk, IfErr, IfSome, IsTrue, OnErr, OnOk, length};
+ghost use Rattle.std.specs.Prelude.{◌≡◌, ◌≤◌, ◌<◌, ◌↔◌, ℕ, List, [], false, true, None, IfOk, IfErr, IfSome, IsTrue, OnErr, OnOk, length, vec_capacity, vec_len};
 ghost use Rattle.std.specs.Option.{option_map};
-ghost use Rattle.bolt_check.specs.Claims.{claims_file, claims_meta};
+ghost use Rattle.bolt_check.specs.Claims.{claims_file, claims_meta, claims_visited, is_claimed};
+ghost use Rattle.bolt_check.specs.Counts.{counted};
+ghost use Rattle.bolt_check.specs.Findings.{IsMetaPage};
 ghost use Rattle.bolt_format.specs.Elements.{IsBucketValue};
 ghost use Rattle.bolt_tree.specs.Listing.{Member};
 ghost use Rattle.bolt_tree.specs.Paths.{path_of};
-ghost use Rattle.bolt_recover.specs.Private.Frames.{Advances, ComesTo, GoesOn, HasOpen, IsRefusedRoot, NoWay, Takes, TakesBucket, is_over, lost_state, state_of, stay, steps_weight, taken_weight};
+ghost use Rattle.bolt_recover.specs.Private.Frames.{Advances, ComesTo, GoesOn, HasOpen, IsRefusedRoot, NoWay, Takes, TakesBucket, is_over, lost_state, outcome_of, state_of, stay, steps_weight, taken_weight};
 ghost use Rattle.bolt_recover.specs.Refusals.{KeepsRoot};
-ghost use Rattle.bolt_recover.specs.Private.Runs.{RunsAll, Visited, losses_in};
+ghost use Rattle.bolt_recover.specs.Private.Runs.{RunsAll, Visited};
 
 use crate::content::{Content, OpenPage};
 use crate::loss::Loss;
 use bolt_check::{CheckFault, Claims, Finding, NoMemory, PageSpot, Spot};
-use bolt_format::{Leaf, Meta};
+use bolt_format::Leaf;
 use std::alloc::Global;
+use std::mem::replace;
 
 /// What is to be visited next.
 #[derive(Clone, Copy)]
@@ -57,31 +60,32 @@ pub(crate) struct Steps<'a> {
     /// The path of the last element that was returned.
     pub path: Vec<&'a [u8]>,
     pub losses: Vec<Loss<'a>>,
+    /// Room for the path of one more loss.
+    pub spare: Vec<&'a [u8]>,
 }
 
 impl<'a> Steps<'a> {
-    /// The root page is open, and nothing was returned yet.
+    /// The root page is open, and nothing was returned yet. Only the meta pages were claimed before.
     ///
     /// # Errors
     ///
     /// The finding of the root page if that is lost, or `Memory`.
-    pub fn new(alloc: Global, file: &'a [u8], meta: Meta) -> Result<Steps<'a>, CheckFault>
-        requires { 0 < meta.page_size }
-        ensures file { IfOk result (λ steps. claims_file steps.claims ≡ file.now) }
-        ensures meta { IfOk result (λ steps. claims_meta steps.claims ≡ meta) }
+    pub fn new(alloc: Global, mut claims: Claims<'a>) -> Result<Steps<'a>, CheckFault>
+        requires { (n : ℕ) → (is_claimed claims n ≡ true) ↔ IsMetaPage n }
+        ensures file { IfOk result (λ steps. claims_file steps.claims ≡ claims_file claims.entry) }
+        ensures meta { IfOk result (λ steps. claims_meta steps.claims ≡ claims_meta claims.entry) }
+        ensures visited { IfOk result (λ steps. claims_visited steps.claims ≡ counted (claims_visited claims.entry) 1) }
         ensures path { IfOk result (λ steps. path_of steps.path.items ≡ []) }
         ensures placed { IfOk result (λ steps. HasOpen (state_of steps)) }
         ensures more { IfOk result (λ steps. is_over (state_of steps) ≡ false) }
         ensures losses { IfOk result (λ steps. (state_of steps).losses ≡ []) }
-        ensures root { OnOk result (KeepsRoot file.now meta) }
-        ensures all { IfOk result (λ steps. (visits : List (Visited NoWay)) (members : List Member) → RunsAll file.now meta stay tt visits members → ComesTo (state_of steps) members (losses_in visits)) }
-        ensures refused { IfErr result (IsRefusedRoot file.now meta) }
+        ensures root { OnOk result (KeepsRoot (claims_file claims.entry) (claims_meta claims.entry)) }
+        ensures all { IfOk result (λ steps. (visits : List (Visited NoWay)) (members : List Member) → RunsAll (claims_file claims.entry) (claims_meta claims.entry) stay tt visits members
+            → ComesTo (state_of steps) members (outcome_of (claims_visited claims.entry) visits)) }
+        ensures refused { IfErr result (IsRefusedRoot (claims_file claims.entry) (claims_meta claims.entry)) }
     {
-        let Ok(mut claims) = Claims::new(alloc, file, meta) else {
-            return Err(CheckFault::Memory);
-        };
         let root = PageSpot {
-            number: meta.root,
+            number: claims.meta().root,
             depth: 1,
             lower: None,
             upper: None,
@@ -102,27 +106,33 @@ impl<'a> Steps<'a> {
             open,
             path: Vec::new(alloc),
             losses: Vec::new(alloc),
+            spare: Vec::new(alloc),
         })
     }
 
-    /// Records the loss of what was ahead, with this finding.
-    fn lose(&mut self, finding: Finding, ahead: &NextVisit<'a>) -> Result<(), NoMemory>
-        requires { ahead.now.level ≤ length self.old.path.items }
+    /// Records the loss of what was ahead, with this finding. There is room for it.
+    fn lose(&mut self, finding: Finding, ahead: &NextVisit<'a>)
+        requires within { ahead.now.level ≤ length self.old.path.items }
+        requires losses { vec_len self.old.losses < vec_capacity self.old.losses }
+        requires empty { vec_len self.old.spare ≡ 0 }
+        requires spare { ahead.now.level ≤ vec_capacity self.old.spare }
         ensures claims { self.new.claims ≡ self.old.claims }
         ensures open { self.new.open.items ≡ self.old.open.items }
-        ensures ahead { OnOk result (self.new.ahead ≡ None) }
-        ensures reported { OnOk result (state_of self.new ≡ lost_state (state_of self.old) ahead.now finding) }
-        ensures same { OnErr result (state_of self.new ≡ state_of self.old) }
+        ensures ahead { self.new.ahead ≡ None }
+        ensures reported { state_of self.new ≡ lost_state (state_of self.old) ahead.now finding }
     {
-        self.losses.reserve(1)?;
-        let bucket = &self.path.as_slice()[..ahead.level];
-        let loss = Loss::new(self.alloc, finding, bucket, &ahead.spot)?;
-        self.losses.push_reserved(loss);
+        let mut bucket = replace(&mut self.spare, Vec::new(self.alloc));
+        match bucket.extend_from_slice(&self.path.as_slice()[..ahead.level]) {
+            Ok(()) => {}
+            Err(_) => unreachable!(),
+        }
+        self.losses
+            .push_reserved(Loss::new(finding, bucket, &ahead.spot));
         self.ahead = None;
-        Ok(())
     }
 
-    /// Visits what is ahead, if anything. Then a kept page is open, and a lost one is recorded.
+    /// Visits what is ahead, if anything. Then a kept page is open, and a lost one is recorded. All
+    /// memory is asked for before the visit, so no page is visited twice.
     fn enter(&mut self) -> Result<(), NoMemory>
         requires { HasOpen (state_of self.old) }
         ensures on { GoesOn (state_of self.old) (state_of self.new) }
@@ -133,9 +143,15 @@ impl<'a> Steps<'a> {
             return Ok(());
         };
         self.open.reserve(1)?;
+        self.losses.reserve(1)?;
+        self.spare.clear();
+        self.spare.reserve(ahead.level)?;
         let content = match Content::visit(&mut self.claims, ahead.spot) {
             Ok(content) => content,
-            Err(finding) => return self.lose(finding, &ahead),
+            Err(finding) => {
+                self.lose(finding, &ahead);
+                return Ok(());
+            }
         };
         self.open.push_reserved(OpenPage {
             content,

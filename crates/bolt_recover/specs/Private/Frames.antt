@@ -7,7 +7,8 @@ use Rattle.bolt_format.specs.Pages.{page_at}
 use Rattle.bolt_format.specs.Shown.{shown}
 use Rattle.bolt_format.specs.ShownInline.{shown_inline}
 use Rattle.bolt_format.specs.declared.meta.Meta.{Meta}
-use Rattle.bolt_check.specs.Claims.{claims_file, claims_meta, is_claimed, pages_left}
+use Rattle.bolt_check.specs.Claims.{claims_file, claims_meta, claims_visited, is_claimed, pages_left}
+use Rattle.bolt_check.specs.Counts.{counted}
 use Rattle.bolt_check.specs.Nodes.{Nodes, node_at}
 use Rattle.bolt_check.specs.ShownNodes.{shown_node}
 use Rattle.bolt_check.specs.ShownSpots.{inline_keys, page_spot, spot_at}
@@ -22,8 +23,9 @@ use Rattle.bolt_tree.specs.Entries.{item_of}
 use Rattle.bolt_tree.specs.Listing.{Member}
 use Rattle.bolt_tree.specs.Paths.{Path, path_of}
 use Rattle.bolt_recover.specs.Losses.{AreLosses, LossView, loss_of}
+use Rattle.bolt_recover.specs.PageWays.{ArePageWays}
 use Rattle.bolt_recover.specs.Places.{Place, leaves_of}
-use Rattle.bolt_recover.specs.Private.Runs.{Runs, Task, To_visit, Visited, losses_in, tasks_from}
+use Rattle.bolt_recover.specs.Private.Runs.{losses_in, pages_visited, tasks_from, Runs, Task, To_visit, Visited}
 use Rattle.bolt_recover.specs.Recovered.{IsRecovered}
 use Rattle.bolt_recover.specs.Refusals.{LosesRoot}
 use Rattle.bolt_tree.specs.RestAfter.{rest_after}
@@ -99,6 +101,7 @@ pub record State : Type 0 where
   pub pages : List OpenPage
   pub path : Path
   pub losses : List LossView
+  pub visited : ℕ
 
 abbrev pub state_of : Steps → State
 state_of steps = record {
@@ -109,6 +112,7 @@ state_of steps = record {
   pages = steps.open.items;
   path = path_of steps.path.items;
   losses = map loss_view steps.losses.items;
+  visited = claims_visited steps.claims;
 }
 
 -- what was ahead is lost, with this finding
@@ -149,11 +153,21 @@ ahead_tasks file meta path (Some ahead) rest = To_visit tt (spot_place file meta
 abbrev pub state_tasks : State → List (Task NoWay)
 state_tasks s = ahead_tasks s.file s.meta s.path s.ahead (open_tasks s.file s.meta s.path s.pages [])
 
--- these members are left, and with the losses reported so far these are all losses
-pub record ComesTo (s : State) (members : List Member) (losses : List LossView) : Type 0 where
+-- what there is at the end: all losses, and the number of visits
+pub record Outcome : Type 0 where
+  pub losses : List LossView
+  pub visited : ℕ
+
+-- the outcome of these visits, if so many were made before
+abbrev pub outcome_of : ℕ → List (Visited NoWay) → Outcome
+outcome_of before visits = record { losses = losses_in visits; visited = counted before (pages_visited visits) }
+
+-- these members are left, and what is still to be visited comes to this outcome
+pub record ComesTo (s : State) (members : List Member) (outcome : Outcome) : Type 0 where
   pub visits : List (Visited NoWay)
   pub run : Runs s.file s.meta stay s.claimed (state_tasks s) visits members
-  pub all : losses ≡ s.losses ++ losses_in visits
+  pub all : outcome.losses ≡ s.losses ++ losses_in visits
+  pub pages : outcome.visited ≡ counted s.visited (pages_visited visits)
 
 -- nothing is left to be done
 abbrev pub over_by : Option NextVisit → List OpenPage → Bool
@@ -175,14 +189,14 @@ pub record GoesOn (old new : State) : Type 0 where
   pub on : StaysOn old new
   pub path : new.path ≡ old.path
   pub over : is_over old ≡ true → is_over new ≡ true
-  pub same : (members : List Member) (losses : List LossView) → ComesTo old members losses → ComesTo new members losses
+  pub same : (members : List Member) (outcome : Outcome) → ComesTo old members outcome → ComesTo new members outcome
 
 -- this element was returned
 pub record GivesHead (old new : State) (e : LeafElement) : Type 0 where
   pub on : StaysOn old new
   pub more : is_over new ≡ false
-  pub head : (members : List Member) (losses : List LossView) → ComesTo old members losses
-      → (rest : List Member) × (members ≡ (new.path, item_of e) ∷ rest) × ComesTo new rest losses
+  pub head : (members : List Member) (outcome : Outcome) → ComesTo old members outcome
+      → (rest : List Member) × (members ≡ (new.path, item_of e) ∷ rest) × ComesTo new rest outcome
 
 -- nothing was left
 pub record HasEnded (s : State) : Type 0 where
@@ -193,7 +207,7 @@ pub record HasEnded (s : State) : Type 0 where
 pub record Ends (old new : State) : Type 0 where
   pub on : StaysOn old new
   pub ended : HasEnded new
-  pub none : (members : List Member) (losses : List LossView) → ComesTo old members losses → (members ≡ []) × ComesTo new [] losses
+  pub none : (members : List Member) (outcome : Outcome) → ComesTo old members outcome → (members ≡ []) × ComesTo new [] outcome
 
 abbrev pub Takes : State → State → Taken → Type 0
 Takes old new (Leaf leaf) = GivesHead old new (leaf_view leaf)
@@ -204,11 +218,19 @@ Takes old new End = Ends old new
 abbrev pub left_by : State → List Member → List Member
 left_by s listing = if is_over s then [] else rest_after s.path listing
 
--- Good steps over a file under this meta: what is left of them is what is left of the recovered listing, and all losses.
-pub record IsOn (s : State) (under : Meta) : Type 0 where
+-- all that comes of a file, if so many visits were made before
+pub record IsOutcome (file : List ℕ) (meta : Meta) (begun : ℕ) (outcome : Outcome) : Type 0 where
+  pub losses : AreLosses file meta outcome.losses
+  pub ways : ℕ
+  pub counts : ArePageWays file meta ways
+  pub visited : outcome.visited ≡ counted begun ways
+
+-- Good steps over a file under this meta, begun after so many visits: what is left of them is what is left of the recovered listing, and they
+-- come to all losses, and to a visit of each way to a page number.
+pub record IsOn (s : State) (under : Meta) (begun : ℕ) : Type 0 where
   pub meta : s.meta ≡ under
   pub placed : HasOpen s
-  pub comes : (listing : List Member) (losses : List LossView) → IsRecovered s.file under listing → AreLosses s.file under losses → ComesTo s (left_by s listing) losses
+  pub comes : (listing : List Member) (outcome : Outcome) → IsRecovered s.file under listing → IsOutcome s.file under begun outcome → ComesTo s (left_by s listing) outcome
 
 -- a bucket that is returned has a bucket's value
 abbrev pub TakesBucket : Taken → Type 0

@@ -57,6 +57,15 @@ abbrev pub losses_in : {W : Type 0} → List (Visited W) → List LossView
 losses_in [] = []
 losses_in (v ∷ visits) = lost_at v.place v.found ++ losses_in visits
 
+-- how many visits are of pages
+abbrev pub page_visit : Spot → ℕ
+page_visit (At_page s) = 1
+page_visit (At_inline host keys) = 0
+
+abbrev pub pages_visited : {W : Type 0} → List (Visited W) → ℕ
+pages_visited [] = 0
+pages_visited (v ∷ visits) = page_visit v.place.spot + pages_visited visits
+
 module _ (file : List ℕ) (meta : Meta) {W : Type 0} (further : W → ℕ → W) where
   abbrev pub gives_at : Path → Option LeafElement → List (Task W)
   gives_at path None = []

@@ -1,9 +1,10 @@
 -- The members are those of the file's listing.
-use Rattle.std.proofs.Common.{◌≡◌, ◌<◌, IfOk, List, OnOk, length, refl, subst, subst₂}
+use Rattle.std.proofs.Common.{◌≡◌, ◌<◌, ◌≤◌, IfOk, List, OnOk, length, refl, subst, subst₂}
 use Rattle.bolt_check.specs.CheckedFiles.{bytes_of, meta_of}
 use Rattle.bolt_check.specs.declared.checked_file.Checked.{Checked}
 use Rattle.bolt_format.specs.declared.meta.Meta.{Meta}
 use Rattle.bolt_layout.specs.Copies.{IsSoundCopy, RefusesPrefixes, layout_of_listing}
+use Rattle.bolt_layout.specs.Held.{most_held}
 use Rattle.bolt_layout.specs.Layout.{layout_held, layout_root}
 use Rattle.bolt_tree.specs.Listing.{IsListing, Member}
 use Rattle.bolt_tree.specs.Tree.{tree_of}
@@ -31,6 +32,12 @@ returns-clause-held g c = subst
     (λ (file : Checked). IfOk c.put_members.result (λ done. (listing : List Member) → IsListing (bytes_of file) (meta_of file) listing
     → done.held ≡ layout_held c.args.layout c.args.page_size (tree_of listing)))
     c.new.ensures.checked c.put_members.ensures.held
+
+pub returns-clause-bounded : goal.returns-clause-bounded
+returns-clause-bounded g c = subst
+    (λ (file : Checked). IfOk c.put_members.result (λ done. (listing : List Member) → IsListing (bytes_of file) (meta_of file) listing
+    → done.held ≤ most_held c.args.page_size listing))
+    c.new.ensures.checked c.put_members.ensures.bounded
 
 pub returns-clause-prefixes : goal.returns-clause-prefixes
 returns-clause-prefixes g c = subst₂

@@ -7,7 +7,7 @@ returns-clause-tree c = λ listing recovered.
     let file = recovery_file c.args.recovery.now in
     let meta = recovery_meta c.args.recovery.now in
     let (tree, same) = c.recovered_listing_is_of_a_tree.ensures file meta listing recovered in
-    ∣ c.a_held_listing_is_of_one_tree.ensures file meta listing (rw c.file.ensures at c.are_bytes.ensures) (record {
+    ∣ c.a_held_listing_is_of_one_tree.ensures file meta listing c.the_file_of_a_recovery_is_bytes.ensures (record {
       tree = tree;
       lists = same;
       rises = recovered.rises;

@@ -77,3 +77,10 @@ returns-clause-held g c = λ listing lists.
     let fits = planned.fits in
     let size = ap (λ (n : ℕ). layout_held c.args.shape.now.layout n (tree_of listing)) c.setup_of-setup.ensures.page_size in
     let held = ends.held in omega (arith, small, fits, size, held)
+
+pub returns-clause-bounded : goal.returns-clause-bounded
+returns-clause-bounded g c = λ listing lists.
+    let planned = c.in_ok-plan.ensures listing lists in
+    let within = c.a_listing_has_one_layout.ensures.bounded c.args.shape.now.layout listing (c.requires.one listing lists) planned.fits in
+    let held = returns-clause-held g c listing lists in
+    omega (arith, within, held)

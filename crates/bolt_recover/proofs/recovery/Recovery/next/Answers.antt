@@ -1,14 +1,15 @@
-use Rattle.std.proofs.Common.{◌≡◌, ◌∙◌, ◌∷◌, List, ap, subst, sym, ℕ}
+use Rattle.std.proofs.Common.{arith, ◌≡◌, ◌∙◌, ◌∷◌, List, ap, subst, sym, ℕ}
 use Rattle.std.proofs.Math.Logic.{∥∥₁_elim, ∥∥₁_map}
 use Rattle.std.proofs.Props.{props}
 use Rattle.bolt_format.specs.ElementPlaces.{leaf_view}
+use Rattle.bolt_check.proofs.ClaimLemmas.{visited_fits}
 use Rattle.bolt_tree.specs.Entries.{Item}
 use Rattle.bolt_tree.specs.Listing.{Member}
 use Rattle.bolt_recover.specs.Recovered.{IsRecovered}
 use Rattle.bolt_recover.specs.Refusals.{KeepsRoot}
 use Rattle.bolt_recover.specs.Private.Frames.{left_by, state_of}
-use Rattle.bolt_recover.specs.Recoveries.{recovery_file, recovery_left, recovery_losses, recovery_meta, recovery_path, recovery_work}
-use Rattle.bolt_recover.proofs.Recovering.{file_advanced, has_open_prop, left_next, left_none, left_same, on_advanced, reported_ended}
+use Rattle.bolt_recover.specs.Recoveries.{recovery_begun, recovery_file, recovery_left, recovery_losses, recovery_meta, recovery_path, recovery_visited, recovery_work}
+use Rattle.bolt_recover.proofs.Recovering.{file_advanced, has_open_prop, left_next, left_none, left_same, on_advanced, reported_ended, visited_ended}
 use Rattle.bolt_recover.proofs.StepLemmas.{when_err}
 use Rattle.bolt_recover.proofs.recovery.Recovery.next.Goals as goal
 
@@ -21,7 +22,7 @@ invariant_of-self c =
     let new = state_of c.advance.new.self in
     record {
       sized = c.args.self.now.sized;
-      on = ∥∥₁_map c.args.self.now.on (λ on. on_advanced old new c.args.self.now.meta on c.advance.result c.advance.ensures.given c.advance.ensures.same);
+      on = ∥∥₁_map c.args.self.now.on (λ on. on_advanced old new c.args.self.now.meta c.args.self.now.begun on c.advance.result c.advance.ensures.given c.advance.ensures.same);
       root = subst (λ (file : List ℕ). ∥ KeepsRoot file c.args.self.now.meta ∥₁) (sym (file_advanced old new c.advance.result c.advance.ensures.given c.advance.ensures.same)) c.args.self.now.root;
     }
 
@@ -31,7 +32,7 @@ returns-in_err-leaf-clause-same c =
     let old = state_of c.args.self.now.steps in
     let new = state_of c.advance.new.self in
     let same : (listing : List Member) → IsRecovered old.file c.args.self.now.meta listing → left_by new listing ≡ left_by old listing =
-    λ listing recovered. ∥∥₁_elim c.args.self.now.on (hlevel props) (λ on. left_same old new c.args.self.now.meta on c.in_err-leaf.ensures.same listing recovered) in
+    λ listing recovered. ∥∥₁_elim c.args.self.now.on (hlevel props) (λ on. left_same old new c.args.self.now.meta c.args.self.now.begun on c.in_err-leaf.ensures.same listing recovered) in
     when_err c.from_residual.result same
 
 pub returns-in-Some-clause-given : goal.returns-in-Some-clause-given
@@ -41,7 +42,7 @@ returns-in-Some-clause-given c = λ listing recovered.
     let new = state_of c.advance.new.self in
     let given = rw c.in-Some.is at c.in_ok-leaf.ensures.given in
     ∥∥₁_elim c.args.self.now.on (hlevel props) (λ on.
-    left_next old new c.args.self.now.meta on (leaf_view c.in-Some.leaf) given listing recovered
+    left_next old new c.args.self.now.meta c.args.self.now.begun on (leaf_view c.in-Some.leaf) given listing recovered
     ∙ ap (λ (item : Item). (new.path, item) ∷ left_by new listing) (sym c.of.ensures))
 
 pub returns-in-None-clause-given : goal.returns-in-None-clause-given
@@ -50,7 +51,7 @@ returns-in-None-clause-given c = λ listing recovered.
     let old = state_of c.args.self.now.steps in
     let new = state_of c.advance.new.self in
     let ended = rw c.in-None.is at c.in_ok-leaf.ensures.given in
-    ∥∥₁_elim c.args.self.now.on (hlevel props) (λ on. left_none old new c.args.self.now.meta on ended listing recovered)
+    ∥∥₁_elim c.args.self.now.on (hlevel props) (λ on. left_none old new c.args.self.now.meta c.args.self.now.begun on ended listing recovered)
 
 pub returns-in-None-clause-all : goal.returns-in-None-clause-all
 unfolding recovery_file recovery_losses recovery_meta
@@ -58,8 +59,19 @@ returns-in-None-clause-all c = λ losses reported.
     let old = state_of c.args.self.now.steps in
     let new = state_of c.advance.new.self in
     let ended = rw c.in-None.is at c.in_ok-leaf.ensures.given in
-    ∥∥₁_elim c.args.self.now.on (hlevel props) (λ on. reported_ended old new c.args.self.now.meta on ended losses reported)
+    ∥∥₁_elim c.args.self.now.on (hlevel props) (λ on. reported_ended old new c.args.self.now.meta c.args.self.now.begun on ended losses reported)
 
 pub returns-in-Some-clause-fewer : goal.returns-in-Some-clause-fewer
 unfolding recovery_work
 returns-in-Some-clause-fewer c = rw c.in-Some.is at c.in_ok-leaf.ensures.weight
+
+pub returns-in-None-clause-visited : goal.returns-in-None-clause-visited
+unfolding recovery_begun recovery_file recovery_meta recovery_visited
+returns-in-None-clause-visited c = λ ways are.
+    let old = state_of c.args.self.now.steps in
+    let new = state_of c.advance.new.self in
+    let ended = rw c.in-None.is at c.in_ok-leaf.ensures.given in
+    ∥∥₁_elim c.args.self.now.on (hlevel props) (λ on.
+    let all = visited_ended old new c.args.self.now.meta c.args.self.now.begun on ended ways are in
+    let fits = visited_fits c.advance.new.self.claims in
+    omega (arith, all, fits))

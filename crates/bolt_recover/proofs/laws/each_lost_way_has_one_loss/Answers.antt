@@ -1,0 +1,14 @@
+use Rattle.bolt_recover.specs.Surveys.{lost}
+use Rattle.bolt_recover.proofs.LostWays.{loss_there, number_of_losses, place_of, way_there}
+use Rattle.bolt_recover.proofs.laws.each_lost_way_has_one_loss.Goals as goal
+
+pub returns-clause-number : goal.returns-clause-number
+returns-clause-number c = number_of_losses
+
+pub returns-clause-loss : goal.returns-clause-loss
+returns-clause-loss c = λ file meta survey way x is has.
+    let (p, at) = place_of file meta survey is (lost way x) has in
+    (p, at, loss_there file meta survey way x p has at)
+
+pub returns-clause-way : goal.returns-clause-way
+returns-clause-way c = λ file meta survey l is has. way_there file meta survey l has

@@ -1,0 +1,7 @@
+use Rattle.bolt_check.proofs.ClaimLemmas.{claims_bytes}
+use Rattle.bolt_recover.specs.Recoveries.{recovery_file}
+use Rattle.bolt_recover.proofs.laws.the_file_of_a_recovery_is_bytes.Goals as goal
+
+pub returns : goal.returns
+unfolding recovery_file
+returns c = claims_bytes c.args.recovery.now.steps.claims
