@@ -1,9 +1,7 @@
 -- The entries of the root bucket of a sound file, of which there is one list.
 use Rattle.std.proofs.Common.{◌≡◌, List, ℕ, [], refl, subst, sym}
 use Rattle.bolt_check.specs.CheckedFiles.{bytes_of, meta_of}
-use Rattle.bolt_check.specs.OnWays.{IsOnWay}
 use Rattle.bolt_check.specs.Sound.{HasSoundTrees}
-use Rattle.bolt_check.specs.Ways.{root_spot}
 use Rattle.bolt_check.specs.declared.checked_file.Checked.{Checked}
 use Rattle.bolt_format.specs.Elements.{LeafElement}
 use Rattle.bolt_format.specs.declared.meta.Meta.{Meta}
@@ -11,12 +9,10 @@ use Rattle.bolt_tree.specs.Buckets.{bucket_checked, bucket_start}
 use Rattle.bolt_tree.specs.EntriesLeft.{ForEntries}
 use Rattle.bolt_tree.specs.Entries.{AreEntries, IsEntry, Root_page, Start}
 use Rattle.bolt_tree.specs.declared.bucket.Bucket.{Bucket}
-use Rattle.bolt_tree.proofs.SortedLemmas.{entries_exist}
+use Rattle.bolt_tree.proofs.AllEntries.{all_entries}
 
 pub root_entries : (file : List ℕ) (meta : Meta) → HasSoundTrees file meta → (entries : List LeafElement) × AreEntries (IsEntry file meta) (Root_page meta.root) entries
-root_entries file meta trees =
-    let root : IsOnWay file meta meta.root 1 = record { way = []; spot = root_spot meta.root; led = refl; is = refl; deep = refl } in
-    entries_exist file meta trees (Root_page meta.root) root
+root_entries file meta trees = all_entries file meta trees [] (Root_page meta.root) refl
 
 -- what is promised of a bucket's entries, where it is the root bucket of this file
 pub of_root : (file : List ℕ) (checked : Checked) (bucket : Bucket) (P : List LeafElement → Type 0) → bytes_of checked ≡ file → bucket_checked bucket ≡ checked
