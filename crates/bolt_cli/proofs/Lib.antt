@@ -21,4 +21,5 @@ pub mod RootEntries
 pub mod ShownTexts
 pub mod SizesAnswers
 pub mod SnapshotCopies
+pub mod SoundRecovery
 pub mod StatsAnswers

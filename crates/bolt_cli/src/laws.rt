@@ -1,18 +1,26 @@
 //! What the definitions of answers imply.
-ghost use Rattle.std.specs.Prelude.{◌≡◌, ◌≢◌, ◌↔◌, ◌⊎◌, ◌<◌, ◌^◌, ℕ, Bool, false, List, None, Ok, codes, length, take};
+ghost use Rattle.std.specs.Prelude.{◌≡◌, ◌≢◌, ◌↔◌, ◌⊎◌, ◌<◌, ◌^◌, ℕ, Bool, false, true, List, None, Ok, Option, Some, codes, length, take};
+ghost use Rattle.bolt_check.specs.Sound.{HasSoundTrees};
+ghost use Rattle.bolt_format.specs.declared.meta.Meta.{Meta};
+ghost use Rattle.bolt_format.specs.declared.meta.Slot.{Slot};
 ghost use Rattle.bolt_layout.specs.Copies.{IsOfOneTree};
+ghost use Rattle.bolt_layout.specs.declared.layout.Layout.{Layout};
+ghost use Rattle.bolt_report.specs.declared.form.ListForm.{ListForm};
 ghost use Rattle.bolt_tree.specs.Listing.{Member};
-ghost use Rattle.bolt_cli.specs.Answers.{Answer, DoesJob, Ending, IsCheckAnswer, done, refused};
+ghost use Rattle.bolt_tree.specs.Paths.{Path};
+ghost use Rattle.bolt_cli.specs.Answers.{Answer, DoesJob, Ending, IsCheckAnswer, IsListedAnswer, IsShownMeta, MakesCopy, done, refused};
 ghost use Rattle.bolt_cli.specs.GoodCopies.{HasGoodCopies, IsGoodCopy};
 ghost use Rattle.bolt_cli.specs.Needs.{needed_bytes};
 ghost use Rattle.bolt_cli.specs.SnapshotAnswers.{copy_of};
 ghost use Rattle.bolt_cli.specs.declared.failure.Failure.TheVariants as failure;
 ghost use Rattle.bolt_cli.specs.declared.job.Job.{Job};
+ghost use Rattle.bolt_cli.specs.declared.page_size.PageSize.{PageSize};
 
-use bolt_check::laws::sound_trees_have_no_finding;
+use bolt_check::laws::{sound_trees_have_no_finding, sound_trees_pass_the_tests};
 use bolt_format::Sink;
-use bolt_format::laws::{chosen_meta_is_one, metas_lie_in_a_prefix};
+use bolt_format::laws::{chosen_meta_is_one, metas_lie_in_a_prefix, slot_meta_is_one};
 use bolt_layout::laws::{a_copy_lists_the_same, layout_has_length, prefixes_are_refused};
+use bolt_recover::laws::{sound_trees_recover_their_listing, sound_trees_recover_what_they_list};
 use bolt_snapshot::laws::{hashed_blocks_are_a_snapshot, trailing_bytes_change_nothing};
 
 /// A job does on the bytes that it needs exactly what it does on the whole file.
@@ -47,4 +55,23 @@ pub fn good_copies_pass_the_check()
 {
     chosen_meta_is_one();
     sound_trees_have_no_finding();
+}
+
+/// With sound trees, `list --recover` and `compact --recover` do exactly what they do without it and
+/// with `--meta` and the slot of the meta that is in use.
+pub fn recovering_sound_trees_reads_them<O: Sink, T: Sink>()
+    ensures list { (file : List ℕ) (slot : Slot) (meta : Meta) → HasSoundTrees file meta
+        → (wanted : Option Slot) (form : ListForm) (path from : Path) (answer : Answer) → IsShownMeta file wanted slot meta
+        → IsListedAnswer true file wanted form path from answer ↔ IsListedAnswer false file (Some slot) form path from answer }
+    ensures compact { (file : List ℕ) (slot : Slot) (meta : Meta) → HasSoundTrees file meta → (out_old out_new : O) (target_old target_new : T)
+        → (wanted : Option Slot) (size : Option PageSize) (layout : Layout) (snapshot : Bool) (ending : Ending) → IsShownMeta file wanted slot meta
+        → MakesCopy O.taken O.failed out_old out_new T.taken T.failed target_old target_new file wanted size layout snapshot true ending
+        ↔ MakesCopy O.taken O.failed out_old out_new T.taken T.failed target_old target_new file (Some slot) size layout snapshot false ending }
+{
+    chosen_meta_is_one();
+    slot_meta_is_one();
+    sound_trees_pass_the_tests();
+    sound_trees_have_no_finding();
+    sound_trees_recover_their_listing();
+    sound_trees_recover_what_they_list();
 }

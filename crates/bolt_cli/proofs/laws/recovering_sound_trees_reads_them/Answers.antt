@@ -1,0 +1,18 @@
+use Rattle.bolt_cli.proofs.SoundRecovery.{Below, copies_the_same, lists_the_same}
+use Rattle.bolt_cli.proofs.laws.recovering_sound_trees_reads_them.Goals as goal
+
+pub returns : goal.returns
+returns g c =
+    let below : Below = record {
+      chosen_is_one = c.chosen_meta_is_one.ensures;
+      slot_is_one = c.slot_meta_is_one.ensures;
+      passes = c.sound_trees_pass_the_tests.ensures;
+      no_finding = c.sound_trees_have_no_finding.ensures;
+      listed = c.sound_trees_recover_their_listing.ensures;
+      recovered = c.sound_trees_recover_what_they_list.ensures.listing;
+      none_lost = c.sound_trees_recover_what_they_list.ensures.losses;
+    } in record {
+      list = lists_the_same below;
+      compact = λ file slot meta trees out_old out_new target_old target_new.
+          copies_the_same below file slot meta trees g.O.Sink.taken g.O.Sink.failed out_old out_new g.T.Sink.taken g.T.Sink.failed target_old target_new;
+    }
