@@ -12,7 +12,7 @@ use crate::limits::Limits;
 use crate::page_setup::PageSetup;
 use crate::pass::{Ended, Pass};
 use bolt_format::Sink;
-use bolt_recover::Members;
+use bolt_tree::Members;
 
 /// Writes the pages of all members, in the layout whose rows have these limits. If `notes` is set
 /// and this is the plain layout, it returns the limits of the balanced one.

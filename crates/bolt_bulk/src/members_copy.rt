@@ -24,7 +24,7 @@ use crate::page_setup::PageSetup;
 use crate::shape::Shape;
 use bolt_format::Sink;
 use bolt_layout::Layout;
-use bolt_recover::Members;
+use bolt_tree::Members;
 use std::alloc::Global;
 
 /// The most bytes that a copy may have.

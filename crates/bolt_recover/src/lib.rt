@@ -5,10 +5,8 @@
 mod content;
 pub mod laws;
 mod loss;
-mod members;
 mod recovery;
 mod steps;
 
 pub use loss::Loss;
-pub use members::Members;
 pub use recovery::Recovery;

@@ -15,11 +15,10 @@ ghost use Rattle.bolt_recover.specs.Refusals.{IsSlotUnrecoverable, IsUnrecoverab
 ghost use Rattle.bolt_recover.specs.ShownLosses.{loss_view};
 
 use crate::loss::Loss;
-use crate::members::Members;
 use crate::steps::Steps;
 use bolt_check::{CheckFault, Claims, NoMemory};
 use bolt_format::{Meta, Slot, choose, slot_meta};
-use bolt_tree::Item;
+use bolt_tree::{Item, Members};
 use std::alloc::Global;
 
 /// A walk over everything that is kept of a file, in the order of paths (docs/RECOVERY.md): each

@@ -18,8 +18,8 @@ use crate::form::ListForm;
 use crate::member_lines::MemberLines;
 use bolt_check::Checked;
 use bolt_format::Sink;
-use bolt_recover::{Members, Recovery};
-use bolt_tree::{Item, Walk};
+use bolt_recover::Recovery;
+use bolt_tree::{Item, Members, Walk};
 use std::alloc::Global;
 
 /// Writes a line in a form for each path of a file that begins with `below` and doesn't come before

@@ -8,11 +8,10 @@ use Rattle.bolt_check.specs.Sound.{HasSoundTrees}
 use Rattle.bolt_check.specs.Ways.{At_page, PageSpot, reached}
 use Rattle.bolt_check.proofs.CheckedLemmas.{good_page}
 use Rattle.bolt_tree.specs.Entries.{IsEntry, Root_page}
+use Rattle.bolt_tree.specs.FileTrees.{file_tree}
 use Rattle.bolt_tree.specs.Listing.{IsListing, Member}
 use Rattle.bolt_tree.specs.Tree.{IsTreeOf, Tree, listing_of, tree_of}
 use Rattle.bolt_tree.proofs.Nesting.{root_tree}
-use Rattle.bolt_tree.proofs.AllEntries.{all_entries}
-use Rattle.bolt_tree.proofs.BucketWays.{flat}
 use Rattle.bolt_tree.proofs.ReadBack.{tree_back}
 use Rattle.bolt_tree.proofs.Single.{lists_once}
 use Rattle.bolt_tree.proofs.TreeListing.{tree_lists}
@@ -20,18 +19,19 @@ use Rattle.bolt_tree.proofs.TreeListing.{tree_lists}
 below : (file : List ℕ) (meta : Meta) → HasSoundTrees file meta → (w : List ℕ) (s : PageSpot) → reached (node_at file meta) meta.root w ≡ Some (At_page s) → s.number < meta.high_water
 below file meta sound w s at = below_mark file meta s.number (good_page file meta w s sound at)
 
-pub file_tree : (file : List ℕ) (meta : Meta) → HasSoundTrees file meta → (tree : Tree) × IsTreeOf (IsEntry file meta) (Root_page meta.root) tree
-file_tree file meta sound = root_tree file meta sound (flat file meta) (below file meta sound) (all_entries file meta sound)
+is_file_tree : (file : List ℕ) (meta : Meta) → HasSoundTrees file meta → IsTreeOf (IsEntry file meta) (Root_page meta.root) (file_tree file meta)
+is_file_tree file meta sound = root_tree file meta sound (below file meta sound)
+
+pub is_listing : (file : List ℕ) (meta : Meta) → HasSoundTrees file meta → IsListing file meta (listing_of (file_tree file meta))
+is_listing file meta sound = tree_lists (IsEntry file meta) (Root_page meta.root) (file_tree file meta) (is_file_tree file meta sound)
 
 pub has_listing : (file : List ℕ) (meta : Meta) → HasSoundTrees file meta → (listing : List Member) × IsListing file meta listing
-has_listing file meta sound =
-    let (tree, is) = file_tree file meta sound in (listing_of tree, tree_lists (IsEntry file meta) (Root_page meta.root) tree is)
+has_listing file meta sound = (listing_of (file_tree file meta), is_listing file meta sound)
 
 pub listing_tree : (file : List ℕ) (meta : Meta) (listing : List Member) → HasSoundTrees file meta → IsListing file meta listing
     → (tree : Tree) × IsTreeOf (IsEntry file meta) (Root_page meta.root) tree × (listing ≡ listing_of tree)
 listing_tree file meta listing sound lists =
-    let (tree, is) = file_tree file meta sound in
-    (tree, is, lists_once (IsEntry file meta) (Root_page meta.root) listing (listing_of tree) lists (tree_lists (IsEntry file meta) (Root_page meta.root) tree is))
+    (file_tree file meta, is_file_tree file meta sound, lists_once (IsEntry file meta) (Root_page meta.root) listing (listing_of (file_tree file meta)) lists (is_listing file meta sound))
 
 -- and the tree can be read off it
 pub listing_back : (file : List ℕ) (meta : Meta) (listing : List Member) → HasSoundTrees file meta → IsListing file meta listing → listing_of (tree_of listing) ≡ listing

@@ -1,20 +1,21 @@
--- Buckets nest only finitely deep: each has a root page of its own, and the pages are so many. So each has a tree.
+-- Buckets nest only finitely deep: each has a root page of its own, and the pages are so many. So each has the tree that is computed.
 -- Rests on the shape of a sound file: two ways to one page are one.
 use Rattle.std.proofs.Common.{◌≡◌, ◌∙◌, ◌≤◌, ◌<◌, inl, inr, Bool, true, false, not, ℕ, zero, suc, eqb, eq-eqb, eqb-true, List, [], ◌∷◌, ◌++◌, length, filter, Option, Some, refl, sym, ap, subst, arith, length-append}
 use Rattle.std.specs.List.{Contains}
+use Rattle.std.specs.Prelude.{if◌then◌else◌}
 use Rattle.std.proofs.lemmas.Bool.{cases_lt}
 use Rattle.bolt_format.specs.Elements.{LeafElement, head_root, head_sequence, inline_elements}
 use Rattle.bolt_format.specs.declared.meta.Meta.{Meta}
 use Rattle.bolt_check.specs.Nodes.{node_at}
-use Rattle.bolt_check.specs.Shape.{HasShape}
+use Rattle.bolt_check.specs.Sound.{HasSoundTrees}
 use Rattle.bolt_check.specs.Ways.{At_page, PageSpot, Spot, follow, reached, root_spot}
-use Rattle.bolt_tree.specs.Entries.{Inline_page, IsEntry, Root_page, ShowsEntry, Start, start_of}
-use Rattle.bolt_tree.specs.Paths.{HasEntries}
-use Rattle.bolt_tree.specs.Tree.{IsTreeOf, Shows, Tree, end, with_bucket, with_value}
+use Rattle.bolt_tree.specs.Entries.{Inline_page, IsEntry, IsStart, Root_page, ShowsEntry, Start, start_of}
+use Rattle.bolt_tree.specs.FileTrees.{file_entries, file_tree, tree_with, tree_within}
+use Rattle.bolt_tree.specs.Tree.{IsTreeOf, Shows, Tree, with_bucket, with_value}
 use Rattle.bolt_tree.proofs.Lists.{contains_head, contains_tail}
-use Rattle.bolt_tree.proofs.Named.{entries_below}
 use Rattle.bolt_check.proofs.WayFacts.{follow_append, one_way}
-use Rattle.bolt_tree.proofs.BucketWays.{IsFlat, at_root, bucket_way, in_itself}
+use Rattle.bolt_tree.proofs.BucketWays.{at_root, bucket_way, flat, in_itself, root_starts, starts_named}
+use Rattle.bolt_tree.proofs.SortedLemmas.{sorted}
 use Rattle.bolt_tree.proofs.Filters.{filter_less, kept}
 
 -- Numbers without one of them.
@@ -43,19 +44,18 @@ no_longer w v i x e =
     let one : length (i ∷ []) ≡ 1 = refl in
     omega (arith, n, a, b, c, one)
 
-module _ (Own : Start → LeafElement → Type 0) where
-  tree_with : (e : LeafElement) (entries : List LeafElement) (after : Tree) (b : Bool) → e.is_bucket ≡ b → Shows Own after entries
-      → (e.is_bucket ≡ true → (inside : Tree) × IsTreeOf Own (start_of e.value) inside) → (tree : Tree) × Shows Own tree (e ∷ entries)
-  tree_with e entries after false h shows each = (with_value e.key e.value after, (h, refl, refl, shows))
-  tree_with e entries after true h shows each =
-      let (inside, (own, are, deep)) = each h in (with_bucket e.key (head_sequence e.value) inside after, (h, refl, refl, (own, are, deep), shows))
+module _ (Own : Start → LeafElement → Type 0) (inside : Start → Tree) where
+  shows_with : (e : LeafElement) (entries : List LeafElement) (b : Bool) → e.is_bucket ≡ b → Shows Own (tree_with inside entries) entries
+      → (e.is_bucket ≡ true → IsTreeOf Own (start_of e.value) (inside (start_of e.value)))
+      → Shows Own (if b then with_bucket e.key (head_sequence e.value) (inside (start_of e.value)) (tree_with inside entries) else with_value e.key e.value (tree_with inside entries)) (e ∷ entries)
+  shows_with e entries false h shows each = (h, refl, refl, shows)
+  shows_with e entries true h shows each = (h, refl, refl, each h, shows)
 
-  pub list_tree : (entries : List LeafElement) → ((e : LeafElement) → Contains entries e → e.is_bucket ≡ true → (inside : Tree) × IsTreeOf Own (start_of e.value) inside)
-      → (tree : Tree) × Shows Own tree entries
-  list_tree [] each = (end, tt)
-  list_tree (e ∷ entries) each =
-      let (after, shows) = list_tree entries (λ f h b. each f (contains_tail e f entries h) b) in
-      tree_with e entries after e.is_bucket refl shows (λ b. each e (contains_head e entries) b)
+  pub list_shows : (entries : List LeafElement) → ((e : LeafElement) → Contains entries e → e.is_bucket ≡ true → IsTreeOf Own (start_of e.value) (inside (start_of e.value)))
+      → Shows Own (tree_with inside entries) entries
+  list_shows [] each = tt
+  list_shows (e ∷ entries) each =
+      shows_with e entries e.is_bucket refl (list_shows entries (λ f h b. each f (contains_tail e f entries h) b)) (λ b. each e (contains_head e entries) b)
 
 other_number : (m n : ℕ) → (m ≡ n → ⊥) → not (eqb m n) ≡ true
 other_number m n h = by (eqb m n) refl
@@ -67,55 +67,67 @@ other_number m n h = by (eqb m n) refl
 same_number : (m : ℕ) → not (eqb m m) ≡ false
 same_number m = ap not (eq-eqb m m refl)
 
-module _ (file : List ℕ) (meta : Meta) (shape : HasShape (node_at file meta) meta.root) (flat : IsFlat file meta) where
-  -- the tree of an inline bucket
-  flat_tree : (n : ℕ) (e : LeafElement) → ShowsEntry file meta n e → e.is_bucket ≡ true → head_root e.value ≡ 0 → HasEntries (IsEntry file meta) (Inline_page (inline_elements e.value))
-      → (tree : Tree) × IsTreeOf (IsEntry file meta) (Inline_page (inline_elements e.value)) tree
-  flat_tree n e shows b root all =
-      let (entries, are) = all [] (Inline_page (inline_elements e.value)) refl in
-      let (tree, made) = list_tree (IsEntry file meta) entries (λ f h fb. absurd (let none = flat n e f shows b root ((are.exact f).0 h) in cc)) in
-      (tree, (entries, are, made))
+few_numbers : (n : ℕ) → length (numbers n) ≤ n
+few_numbers zero = omega arith
+few_numbers (suc n) = let few = few_numbers n in omega (arith, few)
+
+module _ (file : List ℕ) (meta : Meta) (trees : HasSoundTrees file meta) where
+  abbrev Own : Start → LeafElement → Type 0
+  Own = IsEntry file meta
+
+  abbrev tree : ℕ → Start → Tree
+  tree n bucket = tree_within (file_entries file meta) n bucket
+
+  -- the tree of an inline bucket, in which there is none
+  flat_tree : (k n : ℕ) (e : LeafElement) → ShowsEntry file meta n e → e.is_bucket ≡ true → head_root e.value ≡ 0 → IsStart file meta (Inline_page (inline_elements e.value))
+      → IsTreeOf Own (Inline_page (inline_elements e.value)) (tree (suc k) (Inline_page (inline_elements e.value)))
+  flat_tree k n e shows b root start =
+      let bucket : Start = Inline_page (inline_elements e.value) in
+      let are = sorted file meta trees bucket start in
+      (file_entries file meta bucket, are, list_shows Own (tree k) (file_entries file meta bucket) (λ f h fb. absurd (let none = flat file meta n e f shows b root ((are.exact f).0 h) in cc)))
 
   -- the tree of a bucket below which only so many pages lie
   pub tree_from : (n : ℕ) (pages : List ℕ) → length pages ≤ n → (w : List ℕ) (s : PageSpot) → reached (node_at file meta) meta.root w ≡ Some (At_page s)
+      → IsStart file meta (Root_page s.number)
       → ((x : List ℕ) (t : PageSpot) → follow (node_at file meta) (Some (At_page s)) x ≡ Some (At_page t) → Contains pages t.number)
-      → HasEntries (IsEntry file meta) (Root_page s.number) → (tree : Tree) × IsTreeOf (IsEntry file meta) (Root_page s.number) tree
-  tree_from zero pages few w s at all_in all =
+      → IsTreeOf Own (Root_page s.number) (tree (suc n) (Root_page s.number))
+  tree_from zero pages few w s at start all_in =
       let (k, below, is) = all_in [] s refl in absurd (omega arith)
-  tree_from (suc n) pages few w s at all_in all =
-      let (entries, are) = all [] (Root_page s.number) refl in
+  tree_from (suc n) pages few w s at start all_in =
+      let entries = file_entries file meta (Root_page s.number) in
+      let are = sorted file meta trees (Root_page s.number) start in
       let fewer : length (without s.number pages) < length pages = filter_less (λ m. not (eqb m s.number)) pages s.number (all_in [] s refl) (same_number s.number) in
-      let inside : (e : LeafElement) → Contains entries e → e.is_bucket ≡ true → (tree : Tree) × IsTreeOf (IsEntry file meta) (start_of e.value) tree = λ e h b.
+      let inside : (e : LeafElement) → Contains entries e → e.is_bucket ≡ true → IsTreeOf Own (start_of e.value) (tree (suc n) (start_of e.value)) = λ e h b.
       let is = (are.exact e).0 h in
-      let all_below = entries_below (IsEntry file meta) (Root_page s.number) e all is b in
-      let by : (r : Bool) → eqb (head_root e.value) 0 ≡ r → (tree : Tree) × IsTreeOf (IsEntry file meta) (start_of e.value) tree = λ r.
-      elim r as (λ r. eqb (head_root e.value) 0 ≡ r → (tree : Tree) × IsTreeOf (IsEntry file meta) (start_of e.value) tree) [
+      let begins : IsStart file meta (start_of e.value) = starts_named file meta (Root_page s.number) (e.key ∷ []) (start_of e.value) start (e, is, refl, b, refl) in
+      let by : (r : Bool) → eqb (head_root e.value) 0 ≡ r → IsTreeOf Own (start_of e.value) (tree (suc n) (start_of e.value)) = λ r.
+      elim r as (λ r. eqb (head_root e.value) 0 ≡ r → IsTreeOf Own (start_of e.value) (tree (suc n) (start_of e.value))) [
         | true ↦ λ zero_root.
-            let start = in_itself e.value zero_root in
+            let same = in_itself e.value zero_root in
             let (address, page, lead, shows) = is in
-            subst (λ (from : Start). (tree : Tree) × IsTreeOf (IsEntry file meta) from tree) (sym start)
-            (flat_tree page e shows b (eqb-true (head_root e.value) 0 zero_root) (subst (λ (from : Start). HasEntries (IsEntry file meta) from) start all_below))
+            subst (λ (from : Start). IsTreeOf Own from (tree (suc n) from)) (sym same)
+            (flat_tree n page e shows b (eqb-true (head_root e.value) 0 zero_root) (subst (IsStart file meta) same begins))
         | false ↦ λ own_root.
-            let start = at_root e.value own_root in
+            let same = at_root e.value own_root in
             let (address, i, on) = bucket_way file meta s e is b own_root in
             let next : PageSpot = root_spot (head_root e.value) in
             let there : reached (node_at file meta) meta.root (w ++ (address ++ i ∷ [])) ≡ Some (At_page next) =
             follow_append (node_at file meta) (Some (At_page (root_spot meta.root))) w (address ++ i ∷ []) ∙ (ap (λ (o : Option Spot). follow (node_at file meta) o (address ++ i ∷ [])) at ∙ on) in
-            subst (λ (from : Start). (tree : Tree) × IsTreeOf (IsEntry file meta) from tree) (sym start)
-            (tree_from n (without s.number pages) (omega (arith, fewer)) (w ++ (address ++ i ∷ [])) next there
+            subst (λ (from : Start). IsTreeOf Own from (tree (suc n) from)) (sym same)
+            (tree_from n (without s.number pages) (omega (arith, fewer)) (w ++ (address ++ i ∷ [])) next there (subst (IsStart file meta) same begins)
             (λ x t reach.
             let here : follow (node_at file meta) (Some (At_page s)) ((address ++ i ∷ []) ++ x) ≡ Some (At_page t) =
             follow_append (node_at file meta) (Some (At_page s)) (address ++ i ∷ []) x ∙ (ap (λ (o : Option Spot). follow (node_at file meta) o x) on ∙ reach) in
             let whole : reached (node_at file meta) meta.root ((w ++ (address ++ i ∷ [])) ++ x) ≡ Some (At_page t) =
             follow_append (node_at file meta) (Some (At_page (root_spot meta.root))) (w ++ (address ++ i ∷ [])) x ∙ (ap (λ (o : Option Spot). follow (node_at file meta) o x) there ∙ reach) in
             kept (λ m. not (eqb m s.number)) pages t.number (all_in ((address ++ i ∷ []) ++ x) t here)
-            (other_number t.number s.number (λ same. no_longer w address i x (one_way (node_at file meta) meta.root shape w ((w ++ (address ++ i ∷ [])) ++ x) s t at whole (sym same)))))
-            (subst (λ (from : Start). HasEntries (IsEntry file meta) from) start all_below))
+            (other_number t.number s.number (λ same. no_longer w address i x (one_way (node_at file meta) meta.root trees w ((w ++ (address ++ i ∷ [])) ++ x) s t at whole (sym same))))))
       ] in by (eqb (head_root e.value) 0) refl in
-      let (tree, made) = list_tree (IsEntry file meta) entries inside in (tree, (entries, are, made))
+      (entries, are, list_shows Own (tree (suc n)) entries inside)
 
   -- the tree of the file
-  pub root_tree : ((w : List ℕ) (s : PageSpot) → reached (node_at file meta) meta.root w ≡ Some (At_page s) → s.number < meta.high_water) → HasEntries (IsEntry file meta) (Root_page meta.root)
-      → (tree : Tree) × IsTreeOf (IsEntry file meta) (Root_page meta.root) tree
-  root_tree below all =
-      tree_from (length (numbers meta.high_water)) (numbers meta.high_water) (omega arith) [] (root_spot meta.root) refl (λ x t e. has_number meta.high_water t.number (below x t e)) all
+  pub root_tree : ((w : List ℕ) (s : PageSpot) → reached (node_at file meta) meta.root w ≡ Some (At_page s) → s.number < meta.high_water)
+      → IsTreeOf Own (Root_page meta.root) (file_tree file meta)
+  unfolding file_tree
+  root_tree below =
+      tree_from meta.high_water (numbers meta.high_water) (few_numbers meta.high_water) [] (root_spot meta.root) refl (root_starts file meta) (λ x t e. has_number meta.high_water t.number (below x t e))

@@ -5,6 +5,7 @@ pub mod Cursors
 pub mod Entries
 pub mod EntriesLeft
 pub mod FileListings
+pub mod FileTrees
 pub mod Listing
 pub mod ListingParts
 pub mod Lookups
@@ -19,3 +20,4 @@ pub mod ShownEntries
 pub mod Starts
 pub mod Tree
 pub mod Walks
+pub mod WalksLeft

@@ -4,9 +4,8 @@ use crate::fault::Fault;
 use crate::words::{bucket_at, bytes_of, keys_of, push_word, slices_of};
 use bolt_check::check;
 use bolt_format::{MemSink, Sink};
-use bolt_recover::Members;
 use bolt_report::{ListForm, MemberLines, ReportFault};
-use bolt_tree::Walk;
+use bolt_tree::{Members, Walk};
 use std::alloc::Global;
 
 /// A walk from the path that the first word is, or from the start if there is none.

@@ -1,13 +1,14 @@
 use Rattle.std.proofs.Common.{◌≡◌, ◌<◌, Err, None, Ok, Option, Result, Some}
 use Rattle.std.specs.Option.{option_map}
 use Rattle.std.specs.Prelude.{IfOk, IfSome}
-use Rattle.bolt_tree.proofs.Measured.{left_number, number_falls}
+use Rattle.bolt_tree.specs.WalksLeft.{left_number}
+use Rattle.bolt_tree.proofs.Measured.{number_falls}
 use Rattle.bolt_tree.specs.FileListings.{ForListing}
 use Rattle.bolt_tree.specs.ShownEntries.{item_view}
 use Rattle.bolt_tree.specs.Walks.{GivesNext, left_of, walk_checked, walk_path}
 use Rattle.bolt_tree.specs.declared.entry.Item.{Item}
 use Rattle.bolt_tree.specs.declared.walk.Walk.{Walk}
-use Rattle.bolt_recover.proofs.members.WalkMembers.next.Goals as goal
+use Rattle.bolt_tree.proofs.members.WalkMembers.next.Goals as goal
 
 -- the walk is over the same file
 pub returns-clause-listing : goal.returns-clause-listing

@@ -7,10 +7,11 @@ ghost use Rattle.bolt_tree.specs.Listing.{IsListing, Member};
 ghost use Rattle.bolt_tree.specs.Paths.{Path, path_of};
 ghost use Rattle.bolt_tree.specs.ShownEntries.{item_view};
 ghost use Rattle.bolt_tree.specs.Walks.{GivesNext, left_of, walk_checked, walk_path};
-ghost use Rattle.bolt_tree.proofs.Measured.{left_number};
+ghost use Rattle.bolt_tree.specs.WalksLeft.{left_number};
 
+use crate::entry::Item;
+use crate::walk::Walk;
 use bolt_check::NoMemory;
-use bolt_tree::{Item, Walk};
 use std::alloc::Global;
 
 /// Returns the members of a listing in the order of their paths, each once. A bucket comes before
