@@ -1,5 +1,5 @@
 -- What `check` answers to a good copy, and to its proper prefixes.
-use Rattle.std.proofs.Common.{◌≡◌, ◌≢◌, ◌∙◌, ◌⊎◌, ◌<◌, ℕ, List, [], Bool, true, false, IsTrue, Option, None, Some, Ok, ap, codes, inl, inr, length, refl, subst, sym, take}
+use Rattle.std.proofs.Common.{◌≡◌, ◌≢◌, ◌∙◌, ◌⊎◌, Result, ◌++◌, ◌∷◌, ◌<◌, ℕ, List, [], Bool, true, false, IsTrue, Option, None, Some, Ok, ap, codes, inl, inr, length, refl, subst, sym, take}
 use Rattle.std.proofs.lemmas.Bool.{cases_lt}
 use Rattle.bolt_check.specs.Sound.{HasSoundTrees, IsFirstFinding, IsRefused, IsSound}
 use Rattle.bolt_check.specs.declared.fault.CheckFault.{CheckFault}
@@ -13,7 +13,15 @@ use Rattle.bolt_snapshot.specs.declared.hash_check.SnapshotFault.{SnapshotFault}
 use Rattle.bolt_snapshot.specs.declared.hash_check.SnapshotFault.TheVariants.{HashMissing}
 use Rattle.bolt_snapshot.proofs.SnapshotLemmas.{no_fault_iff}
 use Rattle.bolt_tree.specs.Listing.{Member}
-use Rattle.bolt_cli.specs.Answers.{Answer, IsCheckAnswer, IsFoundAnswer, check_refusal, done, found, none_found, refused}
+use Rattle.bolt_check.specs.Findings.{PageTests, node_finding}
+use Rattle.bolt_check.specs.Nodes.{IsInSpan, Node, node_at}
+use Rattle.bolt_check.specs.Ways.{At_page, root_spot}
+use Rattle.bolt_check.proofs.Lawful.{shape_passes}
+use Rattle.bolt_recover.specs.Losses.{AreLosses, LossView, loss_at, losses_of}
+use Rattle.bolt_recover.specs.Places.{Place, place_at}
+use Rattle.bolt_recover.specs.Refusals.{IsUnrecoverable, LosesRoot}
+use Rattle.bolt_recover.specs.Surveys.{Has, IsSurvey, Visit}
+use Rattle.bolt_cli.specs.Answers.{Answer, AnswersLosses, IsCheckAnswer, IsCheckAnswerAfter, IsFoundAnswer, all_refusal, check_refusal, done, found, losses_found, none_found, refused}
 use Rattle.bolt_cli.specs.GoodCopies.{IsGoodCopy, RefusesFile}
 use Rattle.bolt_cli.specs.SnapshotAnswers.{copy_of, hash_found}
 use Rattle.bolt_cli.specs.declared.failure.Failure.TheVariants as failure
@@ -21,6 +29,10 @@ use Rattle.bolt_cli.specs.declared.failure.Failure.TheVariants as failure
 pub record Laws : Type 0 where
   pub one : (file : List ℕ) (slot : Slot) (meta : Meta) → IsChosen file slot meta → (other : Slot) (another : Meta) → IsChosen file other another → (other ≡ slot) × (another ≡ meta)
   pub none : (file : List ℕ) (meta : Meta) (x : Finding) → HasSoundTrees file meta → IsFirstFinding file meta x → ⊥
+  pub lose : (file : List ℕ) (meta : Meta) (survey : List Visit) (v : Visit) → HasSoundTrees file meta → IsSurvey file meta survey → Has survey v → v.found ≡ None
+
+ok_same : {X E : Type 0} {a b : X} → ◌≡◌ {A = Result X E} (Ok a) (Ok b) → a ≡ b
+ok_same e = cc
 
 module _ (laws : Laws) where
   -- a file that `check` accepts is refused only for want of memory
@@ -34,21 +46,80 @@ module _ (laws : Laws) where
       absurd (wrong ((subst (λ (m : Meta). IsSound file m true) (sym same) sound).right refl))
   only_memory file slot meta chosen sound check.Memory is = refl
 
+  -- sound trees keep their root page
+  keeps_root : (file : List ℕ) (meta : Meta) (x : Finding) → HasSoundTrees file meta → LosesRoot file meta x → ⊥
+  keeps_root file meta x trees (PageTests.early found) =
+      let pass = (shape_passes (node_at file meta) meta.root trees).passes [] (At_page (root_spot meta.root)) refl in
+      let none : None ≡ Some x = sym pass.early ∙ found in cc
+  keeps_root file meta x trees (PageTests.twice node early is lowest same) =
+      let pass = (shape_passes (node_at file meta) meta.root trees).passes [] (At_page (root_spot meta.root)) refl in
+      let own : node ≡ pass.node = ok_same (sym is ∙ pass.page) in
+      pass.free x.page (subst (λ (n : Node). IsInSpan n meta.root x.page) own lowest.in_span) (inl lowest.was)
+  keeps_root file meta x trees (PageTests.late node early is free found) =
+      let pass = (shape_passes (node_at file meta) meta.root trees).passes [] (At_page (root_spot meta.root)) refl in
+      let own : node ≡ pass.node = ok_same (sym is ∙ pass.page) in
+      let none : None ≡ Some x = sym pass.content ∙ ap (λ (n : Node). node_finding n (root_spot meta.root)) (sym own) ∙ found in cc
+
+  recovers : (file : List ℕ) (slot : Slot) (meta : Meta) → IsChosen file slot meta → IsSound file meta true → (fault : CheckFault) → IsUnrecoverable file fault → fault ≡ check.Memory
+  recovers file slot meta chosen sound (check.Open fault) (bad, none) = absurd (none slot meta chosen.valid)
+  recovers file slot meta chosen sound (check.Structure x) (other, another, is, loses) =
+      let same = (laws.one file slot meta chosen other another is).1 in
+      absurd (keeps_root file another x (subst (HasSoundTrees file) (sym same) sound.trees) loses)
+  recovers file slot meta chosen sound (check.Accounts findings) is = absurd is
+  recovers file slot meta chosen sound check.Memory is = refl
+
+  -- and lose nothing
+  none_at : (o : Option Place) (found : Option Finding) → found ≡ None → loss_at o found ≡ []
+  none_at None found is = refl
+  none_at (Some p) None is = refl
+  none_at (Some p) (Some x) is = absurd (cc)
+
+  none_of : (file : List ℕ) (meta : Meta) (survey : List Visit) → ((v : Visit) → Has survey v → v.found ≡ None) → losses_of file meta survey ≡ []
+  none_of file meta [] each = refl
+  none_of file meta (v ∷ survey) each =
+      ap (λ (first : List LossView). first ++ losses_of file meta survey) (none_at (place_at file meta v.way) v.found (each v (inl refl)))
+      ∙ none_of file meta survey (λ w has. each w (inr has))
+
+  loses_nothing : (file : List ℕ) (meta : Meta) (losses : List LossView) → HasSoundTrees file meta → AreLosses file meta losses → losses ≡ []
+  loses_nothing file meta losses trees (survey, is, same) = same ∙ none_of file meta survey (λ v has. laws.lose file meta survey v trees is has)
+
   no_hash_fault : (snapshot : Bool) (file : List ℕ) → (IsTrue snapshot → IsSnapshot file) → hash_found snapshot file ≡ None
   no_hash_fault false file hash = refl
   no_hash_fault true file hash = (no_fault_iff file (hash_fault file) refl).1 (hash refl)
 
-  passes_by : (hash : Option SnapshotFault) (file : List ℕ) (slot : Slot) (meta : Meta) (answer : Answer) → hash ≡ None → IsChosen file slot meta → IsSound file meta true
-      → IsFoundAnswer hash file None answer → (answer ≡ done (codes "OK\n")) ⊎ (answer ≡ refused failure.Memory)
-  passes_by hash file slot meta answer right chosen sound (inl (own, under, said)) = inl (said ∙ ap none_found right)
-  passes_by hash file slot meta answer right chosen sound (inr (fault, is, said)) =
-      inr (said ∙ ap (check_refusal hash) (only_memory file slot meta chosen sound fault is))
+  -- ---- a file that `check` accepts, and nothing is wrong with its hash
 
-  pub passes : (snapshot : Bool) (layout : List ℕ) (listing : List Member) (answer : Answer) → IsGoodCopy snapshot layout listing
-      → IsCheckAnswer false snapshot (copy_of snapshot layout) None answer → (answer ≡ done (codes "OK\n")) ⊎ (answer ≡ refused failure.Memory)
-  passes snapshot layout listing answer good is =
+  abbrev IsFine : Answer → Type 0
+  IsFine answer = (answer ≡ done (codes "OK\n")) ⊎ (answer ≡ refused failure.Memory)
+
+  module _ (hash : Option SnapshotFault) (file : List ℕ) (slot : Slot) (meta : Meta) (answer : Answer) (right : hash ≡ None) (chosen : IsChosen file slot meta)
+      (sound : IsSound file meta true) where
+    fine_found : IsFoundAnswer hash file None answer → IsFine answer
+    fine_found (inl (own, under, said)) = inl (said ∙ ap none_found right)
+    fine_found (inr (fault, is, said)) = inr (said ∙ ap (check_refusal hash) (only_memory file slot meta chosen sound fault is))
+
+    fine_losses : (losses : List LossView) → losses ≡ [] → AnswersLosses hash file None losses answer → IsFine answer
+    fine_losses [] none is = fine_found is
+    fine_losses (loss ∷ losses) none is = absurd (cc)
+
+    fine_all : IsCheckAnswerAfter true hash file None answer → IsFine answer
+    fine_all (inl (own, (other, is, keeps), inl (losses, are, answers))) =
+        let same = (laws.one file slot meta chosen other own is).1 in
+        fine_losses losses (loses_nothing file own losses (subst (HasSoundTrees file) (sym same) sound.trees) are) answers
+    fine_all (inl (own, under, inr said)) = inr said
+    fine_all (inr (fault, is, said)) = inr (said ∙ ap (all_refusal hash) (recovers file slot meta chosen sound fault is))
+
+    fine : (all : Bool) → IsCheckAnswerAfter all hash file None answer → IsFine answer
+    fine false is = fine_found is
+    fine true is = fine_all is
+
+  pub passes : (all snapshot : Bool) (layout : List ℕ) (listing : List Member) (answer : Answer) → IsGoodCopy snapshot layout listing
+      → IsCheckAnswer all snapshot (copy_of snapshot layout) None answer → (answer ≡ done (codes "OK\n")) ⊎ (answer ≡ refused failure.Memory)
+  passes all snapshot layout listing answer good is =
       let (slot, meta, chosen, sound, lists) = good.accepted in
-      passes_by (hash_found snapshot (copy_of snapshot layout)) (copy_of snapshot layout) slot meta answer (no_hash_fault snapshot (copy_of snapshot layout) good.hash) chosen sound is
+      fine (hash_found snapshot (copy_of snapshot layout)) (copy_of snapshot layout) slot meta answer (no_hash_fault snapshot (copy_of snapshot layout) good.hash) chosen sound all is
+
+  -- ---- a file that `check` refuses, or whose hash is missing
 
   -- no refusal says that the file is sound
   not_ok : (hash : Option SnapshotFault) (fault : CheckFault) → (check_refusal hash fault).ending ≢ Ok 0
@@ -57,14 +128,34 @@ module _ (laws : Laws) where
   not_ok hash (check.Accounts findings) = λ same. cc
   not_ok hash check.Memory = λ same. cc
 
-  fails_by : (hash : Option SnapshotFault) (file : List ℕ) (answer : Answer) → RefusesFile file ⊎ (hash ≡ Some HashMissing) → IsFoundAnswer hash file None answer → answer.ending ≢ Ok 0
-  fails_by hash file answer why (inr (fault, is, said)) = λ same. not_ok hash fault (sym (ap (λ (a : Answer). a.ending) said) ∙ same)
-  fails_by hash file answer (inl (fault, other, is)) (inl (meta, (slot, chosen, sound), said)) = absurd (other (only_memory file slot meta chosen sound fault is))
-  fails_by hash file answer (inr missing) (inl (meta, under, said)) = λ same.
-      let ending : (found (Some HashMissing) []).ending ≡ Ok 0 = sym (ap (λ (a : Answer). a.ending) (said ∙ ap none_found missing)) ∙ same in cc
+  not_all_ok : (hash : Option SnapshotFault) (fault : CheckFault) → (all_refusal hash fault).ending ≢ Ok 0
+  not_all_ok hash (check.Open fault) = λ same. cc
+  not_all_ok hash (check.Structure x) = λ same. cc
+  not_all_ok hash (check.Accounts findings) = λ same. cc
+  not_all_ok hash check.Memory = λ same. cc
 
-  pub fails : (snapshot : Bool) (layout : List ℕ) (listing : List Member) (n : ℕ) (answer : Answer) → IsGoodCopy snapshot layout listing → n < length (copy_of snapshot layout)
-      → IsCheckAnswer false snapshot (take n (copy_of snapshot layout)) None answer → answer.ending ≢ Ok 0
-  fails snapshot layout listing n answer good less is =
+  ends_so : (answer other : Answer) → answer ≡ other → other.ending ≢ Ok 0 → answer.ending ≢ Ok 0
+  ends_so answer other said not same = not (sym (ap (λ (a : Answer). a.ending) said) ∙ same)
+
+  module _ (hash : Option SnapshotFault) (file : List ℕ) (answer : Answer) where
+    fails_found : RefusesFile file ⊎ (hash ≡ Some HashMissing) → IsFoundAnswer hash file None answer → answer.ending ≢ Ok 0
+    fails_found why (inr (fault, is, said)) = ends_so answer (check_refusal hash fault) said (not_ok hash fault)
+    fails_found (inl (fault, other, is)) (inl (meta, (slot, chosen, sound), said)) = absurd (other (only_memory file slot meta chosen sound fault is))
+    fails_found (inr missing) (inl (meta, under, said)) = ends_so answer (found (Some HashMissing) []) (said ∙ ap none_found missing) (λ same. cc)
+
+    fails_losses : (losses : List LossView) → RefusesFile file ⊎ (hash ≡ Some HashMissing) → AnswersLosses hash file None losses answer → answer.ending ≢ Ok 0
+    fails_losses [] why is = fails_found why is
+    fails_losses (loss ∷ losses) why is = ends_so answer (losses_found hash (loss ∷ losses)) is (λ same. cc)
+
+    fails_after : (all : Bool) → RefusesFile file ⊎ (hash ≡ Some HashMissing) → IsCheckAnswerAfter all hash file None answer → answer.ending ≢ Ok 0
+    fails_after false why is = fails_found why is
+    fails_after true why (inl (meta, under, inl (losses, are, answers))) = fails_losses losses why answers
+    fails_after true why (inl (meta, under, inr said)) = ends_so answer (refused failure.Memory) said (λ same. cc)
+    fails_after true why (inr (fault, is, said)) = ends_so answer (all_refusal hash fault) said (not_all_ok hash fault)
+
+  pub fails : (all snapshot : Bool) (layout : List ℕ) (listing : List Member) (n : ℕ) (answer : Answer) → IsGoodCopy snapshot layout listing → n < length (copy_of snapshot layout)
+      → IsCheckAnswer all snapshot (take n (copy_of snapshot layout)) None answer → answer.ending ≢ Ok 0
+  fails all snapshot layout listing n answer good less is =
       let file = take n (copy_of snapshot layout) in
-      fails_by (hash_found snapshot file) file answer (elim (cases_lt n (length layout)) [ inl early ↦ inl (good.cut_layout n early) | inr late ↦ inr (good.cut_hash n late less) ]) is
+      fails_after (hash_found snapshot file) file answer all
+      (elim (cases_lt n (length layout)) [ inl early ↦ inl (good.cut_layout n early) | inr late ↦ inr (good.cut_hash n late less) ]) is

@@ -83,30 +83,28 @@ module _ (b : Below) (file : List ℕ) (slot : Slot) (meta : Meta) (trees : HasS
 
   listed_there : (wanted : Option Slot) (form : ListForm) (path from : Path) (answer : Answer) → IsShownMeta file wanted slot meta
       → IsListedAnswer true file wanted form path from answer → IsListedAnswer false file (Some slot) form path from answer
-  listed_there wanted form path from answer shown (inl (other, is, listing, losses, recovered, are, ended)) =
+  listed_there wanted form path from answer shown (inl (other, is, (listing, losses, recovered, are, ended))) =
       let same = one wanted other shown is in
       let empty = b.none_lost file meta losses trees (subst (λ (m : Meta). AreLosses file m losses) same are) in
       inl (
         meta,
         (in_slot wanted shown, trees),
-        listing,
-        b.listed file meta listing trees (subst (λ (m : Meta). IsRecovered file m listing) same recovered),
-        subst (λ (ls : List LossView). IsEndedOrCut (part_text form path from listing) (part_ending path listing (lost_ending ls)) answer) empty ended,
+        (
+          listing,
+          b.listed file meta listing trees (subst (λ (m : Meta). IsRecovered file m listing) same recovered),
+          subst (λ (ls : List LossView). IsEndedOrCut (part_text form path from listing) (part_ending path listing (lost_ending ls)) answer) empty ended,
+        ),
       )
   listed_there wanted form path from answer shown (inr (fault, is, refusal)) = inr (fault, refused wanted fault shown is, refusal)
 
   listed_back : (wanted : Option Slot) (form : ListForm) (path from : Path) (answer : Answer) → IsShownMeta file wanted slot meta
       → IsListedAnswer false file (Some slot) form path from answer → IsListedAnswer true file wanted form path from answer
-  listed_back wanted form path from answer shown (inl (other, (is, sound), listing, lists, ended)) =
+  listed_back wanted form path from answer shown (inl (other, (is, sound), (listing, lists, ended))) =
       let same = b.slot_is_one file slot other meta is (in_slot wanted shown) in
       inl (
         meta,
         under wanted shown,
-        listing,
-        [],
-        b.recovered file meta listing trees (subst (λ (m : Meta). IsListing file m listing) same lists),
-        no_losses,
-        ended,
+        (listing, [], b.recovered file meta listing trees (subst (λ (m : Meta). IsListing file m listing) same lists), no_losses, ended),
       )
   listed_back wanted form path from answer shown (inr (fault, is, refusal)) = inr (fault, unrecoverable wanted fault shown is, refusal)
 
@@ -135,7 +133,7 @@ module _ (b : Below) (file : List ℕ) (slot : Slot) (meta : Meta) (trees : HasS
           b.listed file meta listing trees (subst (λ (m : Meta). IsRecovered file m listing) same recovered),
           subst (λ (m : Meta). Written snapshot listing which size m [] ending) same (subst (λ (ls : List LossView). Written snapshot listing which size other ls ending) empty writes),
         )
-    copied_there wanted size which snapshot ending shown (inr (fault, failure, is, rest)) = inr (fault, failure, refused wanted fault shown is, rest)
+    copied_there wanted size which snapshot ending shown (inr (fault, failure, is, why, out, target, ends)) = inr (fault, failure, refused wanted fault shown is, why, out, target, ends)
 
     copied_back : (wanted : Option Slot) (size : Option PageSize) (which : Layout) (snapshot : Bool) (ending : Ending) → IsShownMeta file wanted slot meta
         → Copy false (Some slot) size which snapshot ending → Copy true wanted size which snapshot ending
@@ -150,7 +148,7 @@ module _ (b : Below) (file : List ℕ) (slot : Slot) (meta : Meta) (trees : HasS
           no_losses,
           subst (λ (m : Meta). Written snapshot listing which size m [] ending) same writes,
         )
-    copied_back wanted size which snapshot ending shown (inr (fault, failure, is, rest)) = inr (fault, failure, unrecoverable wanted fault shown is, rest)
+    copied_back wanted size which snapshot ending shown (inr (fault, failure, is, why, out, target, ends)) = inr (fault, failure, unrecoverable wanted fault shown is, why, out, target, ends)
 
     pub copies_the_same : (wanted : Option Slot) (size : Option PageSize) (which : Layout) (snapshot : Bool) (ending : Ending) → IsShownMeta file wanted slot meta
         → Copy true wanted size which snapshot ending ↔ Copy false (Some slot) size which snapshot ending

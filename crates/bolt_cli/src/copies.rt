@@ -1,13 +1,9 @@
 //! Copies on a target: a layout and, in a snapshot, its hash after it.
 ghost use Rattle.std.specs.Prelude.{◌≡◌, ℕ, List, IsOk, OnOk, true};
-ghost use Rattle.bolt_bulk.specs.Compacting.{Copies, layout_for, layout_recovered};
+ghost use Rattle.bolt_bulk.specs.Compacting.{Copies};
 ghost use Rattle.bolt_format.specs.Metas.{IsPageSize};
-ghost use Rattle.bolt_recover.specs.Recovered.{ForRecovered};
-ghost use Rattle.bolt_recover.specs.Recoveries.{ForLosses, recovery_file, recovery_left, recovery_losses, recovery_meta};
-ghost use Rattle.bolt_tree.specs.FileListings.{ForListing};
-ghost use Rattle.bolt_cli.specs.CopyEnds.{EndsCopy};
+ghost use Rattle.bolt_cli.specs.CopyEnds.{EndsChecked, EndsCopy, EndsRecovered, HasAllLosses, IsFresh, PutsChecked, PutsRecovered};
 ghost use Rattle.bolt_cli.specs.Hashes.{HashesSince};
-ghost use Rattle.bolt_cli.specs.SnapshotAnswers.{copy_of};
 
 use crate::hashing::{Hashing, Origin};
 use bolt_bulk::{BulkFault, Done, compact_as, compact_recovered};
@@ -38,7 +34,7 @@ pub(crate) fn copy_checked<T: Sink>(
     target: &mut T,
 ) -> Result<u64, BulkFault>
     requires { IsPageSize shape.now.page_size }
-    ensures { ForListing checked.entry (λ listing. EndsCopy T.taken T.failed target.old target.new (layout_for shape.now.layout checked.entry shape.now.page_size listing) shape.now.snapshot result) }
+    ensures { EndsChecked T.taken T.failed target.old target.new checked.entry shape.now result }
 {
     if !shape.snapshot {
         let done = compact_as(alloc, checked, shape.layout, shape.page_size, target)?;
@@ -61,9 +57,9 @@ pub(crate) fn copy_recovered<T: Sink>(
     target: &mut T,
 ) -> Result<u64, BulkFault>
     requires size { IsPageSize shape.now.page_size }
-    requires fresh { ForRecovered (recovery_file recovery.old) (recovery_meta recovery.old) (λ listing. recovery_left recovery.old listing ≡ listing) }
-    ensures copied { ForRecovered (recovery_file recovery.old) (recovery_meta recovery.old) (λ listing. EndsCopy T.taken T.failed target.old target.new (layout_recovered shape.now.layout recovery.old shape.now.page_size listing) shape.now.snapshot result) }
-    ensures losses { OnOk result (ForLosses (recovery_file recovery.old) (recovery_meta recovery.old) (λ losses. recovery_losses recovery.new ≡ losses)) }
+    requires fresh { IsFresh recovery.old }
+    ensures copied { EndsRecovered T.taken T.failed target.old target.new recovery.old shape.now result }
+    ensures losses { OnOk result (HasAllLosses recovery.old recovery.new) }
 {
     if !shape.snapshot {
         let done = compact_recovered(alloc, recovery, shape.layout, shape.page_size, target)?;
@@ -95,7 +91,7 @@ fn hash_checked<'a, T: Sink, K: Origin>(
     requires name { target.ghost_name ≡ K.name }
     requires start { T.taken target.old ≡ K.start }
     ensures same { result.target.ghost_name ≡ target.entry.ghost_name }
-    ensures copied { ForListing checked.entry (λ listing. Copies T.taken T.failed target.old result.target.now (layout_for shape.now.layout checked.entry shape.now.page_size listing) result.result) }
+    ensures copied { PutsChecked T.taken T.failed target.old result.target.now checked.entry shape.now result.result }
     ensures hashed { T.failed result.target.now ≡ 0 → ∥ HashesSince (T.taken target.old) (T.taken result.target.now) result.hash ∥₁ }
 {
     let mut hashing: Hashing<'a, T, K> = Hashing {
@@ -123,12 +119,12 @@ fn hash_recovered<'a, T: Sink, K: Origin>(
     target: &'a mut T,
 ) -> Hashed<'a, T>
     requires size { IsPageSize shape.now.page_size }
-    requires fresh { ForRecovered (recovery_file recovery.old) (recovery_meta recovery.old) (λ listing. recovery_left recovery.old listing ≡ listing) }
+    requires fresh { IsFresh recovery.old }
     requires name { target.ghost_name ≡ K.name }
     requires start { T.taken target.old ≡ K.start }
     ensures same { result.target.ghost_name ≡ target.entry.ghost_name }
-    ensures copied { ForRecovered (recovery_file recovery.old) (recovery_meta recovery.old) (λ listing. Copies T.taken T.failed target.old result.target.now (layout_recovered shape.now.layout recovery.old shape.now.page_size listing) result.result) }
-    ensures losses { OnOk result.result (ForLosses (recovery_file recovery.old) (recovery_meta recovery.old) (λ losses. recovery_losses recovery.new ≡ losses)) }
+    ensures copied { PutsRecovered T.taken T.failed target.old result.target.now recovery.old shape.now result.result }
+    ensures losses { OnOk result.result (HasAllLosses recovery.old recovery.new) }
     ensures hashed { T.failed result.target.now ≡ 0 → ∥ HashesSince (T.taken target.old) (T.taken result.target.now) result.hash ∥₁ }
 {
     let mut hashing: Hashing<'a, T, K> = Hashing {

@@ -13,7 +13,8 @@ use bolt_recover::laws::{recovered_listing_is_of_a_tree, recovered_members_are_h
 /// The copies of what a file lists, and of what is recovered of it, are good. The range of a type is
 /// known of a value that the body reads: so it reads both, and does nothing else.
 pub(crate) fn file_has_good_copies(file: &[u8], sequence: u64)
-    ensures sound { (meta : Meta) (listing : List Member) → HasSoundTrees file.now meta → IsListing file.now meta listing → HasGoodCopies listing sequence }
+    ensures sound { (meta : Meta) (listing : List Member) → HasSoundTrees file.now meta
+        → IsListing file.now meta listing → HasGoodCopies listing sequence }
     ensures recovered { (meta : Meta) (listing : List Member) → IsRecovered file.now meta listing → HasGoodCopies listing sequence }
 {
     let _ = (file.len(), sequence);

@@ -20,7 +20,9 @@ use bolt_check::laws::{sound_trees_have_no_finding, sound_trees_pass_the_tests};
 use bolt_format::Sink;
 use bolt_format::laws::{chosen_meta_is_one, metas_lie_in_a_prefix, slot_meta_is_one};
 use bolt_layout::laws::{a_copy_lists_the_same, layout_has_length, prefixes_are_refused};
-use bolt_recover::laws::{sound_trees_recover_their_listing, sound_trees_recover_what_they_list};
+use bolt_recover::laws::{
+    sound_trees_lose_nothing, sound_trees_recover_their_listing, sound_trees_recover_what_they_list,
+};
 use bolt_snapshot::laws::{hashed_blocks_are_a_snapshot, trailing_bytes_change_nothing};
 
 /// A job does on the bytes that it needs exactly what it does on the whole file.
@@ -45,16 +47,17 @@ pub fn whole_copies_are_good()
     hashed_blocks_are_a_snapshot();
 }
 
-/// Of a good copy `check` prints that it is sound, with `--etcd-snapshot` if it is a snapshot, unless
-/// memory runs out. Of no proper prefix of it does it do so.
+/// Of a good copy `check` prints that it is sound, with or without `--all`, and with `--etcd-snapshot`
+/// if it is a snapshot, unless memory runs out. For a proper prefix of it, the status isn't 0.
 pub fn good_copies_pass_the_check()
-    ensures whole { (snapshot : Bool) (layout : List ℕ) (listing : List Member) (answer : Answer) → IsGoodCopy snapshot layout listing
-        → IsCheckAnswer false snapshot (copy_of snapshot layout) None answer → (answer ≡ done (codes "OK\n")) ⊎ (answer ≡ refused failure.Memory) }
-    ensures prefixes { (snapshot : Bool) (layout : List ℕ) (listing : List Member) (n : ℕ) (answer : Answer) → IsGoodCopy snapshot layout listing
-        → n < length (copy_of snapshot layout) → IsCheckAnswer false snapshot (take n (copy_of snapshot layout)) None answer → answer.ending ≢ Ok 0 }
+    ensures whole { (all snapshot : Bool) (layout : List ℕ) (listing : List Member) (answer : Answer) → IsGoodCopy snapshot layout listing
+        → IsCheckAnswer all snapshot (copy_of snapshot layout) None answer → (answer ≡ done (codes "OK\n")) ⊎ (answer ≡ refused failure.Memory) }
+    ensures prefixes { (all snapshot : Bool) (layout : List ℕ) (listing : List Member) (n : ℕ) (answer : Answer) → IsGoodCopy snapshot layout listing
+        → n < length (copy_of snapshot layout) → IsCheckAnswer all snapshot (take n (copy_of snapshot layout)) None answer → answer.ending ≢ Ok 0 }
 {
     chosen_meta_is_one();
     sound_trees_have_no_finding();
+    sound_trees_lose_nothing();
 }
 
 /// With sound trees, `list --recover` and `compact --recover` do exactly what they do without it and
