@@ -1,20 +1,15 @@
 -- The text of a listing, written member by member: what was written, and then the text of what is left.
 -- Rests on one text after another on a sink.
-use Rattle.std.proofs.Common.{◌≡◌, ◌↔◌, ◌∙◌, ℕ, List, [], ◌∷◌, ◌++◌, Bor, Option, Result, Ok, Err, flat_map, false, not, refl, sym, true, ap, subst, append-nil, append_assoc}
-use Rattle.std.specs.Ordering.{is_lt}
+use Rattle.std.proofs.Common.{◌≡◌, ◌↔◌, ◌∙◌, ℕ, List, [], ◌∷◌, ◌++◌, Bor, Option, Result, Ok, Err, flat_map, sym, ap, subst, append-nil, append_assoc}
 use Rattle.std.specs.Prelude.{⊤, IsErrAnd}
 use Rattle.hex.specs.Hex.{encode_lower}
 use Rattle.bolt_format.specs.Writes.{Writes}
 use Rattle.bolt_format.proofs.WriteLemmas.{Writes-same, Writes-then}
 use Rattle.bolt_check.specs.CheckedFiles.{bytes_of, meta_of}
 use Rattle.bolt_check.specs.declared.checked_file.Checked.{Checked}
-use Rattle.bolt_tree.specs.Entries.{Item}
-use Rattle.bolt_tree.proofs.Filters.{filter_all}
-use Rattle.bolt_tree.specs.Listing.{IsListing, Member, rest_from}
-use Rattle.bolt_tree.specs.Paths.{Path, path_cmp, path_of}
-use Rattle.bolt_report.specs.ListForms.{list_line, listing_lines}
+use Rattle.bolt_tree.specs.Listing.{IsListing, Member}
+use Rattle.bolt_tree.specs.Paths.{path_of}
 use Rattle.bolt_report.specs.ListLines.{hex_path}
-use Rattle.bolt_report.specs.declared.form.ListForm.{ListForm}
 use Rattle.bolt_report.specs.Reports.{Reports}
 use Rattle.bolt_report.specs.declared.fault.ReportFault.{ReportFault}
 use Rattle.bolt_report.proofs.ReportLemmas.{Reports-stop, Reports-then, reports}
