@@ -152,10 +152,10 @@ bbolt: $(PROGRAM)
 fuzz-wrong: $(PROGRAM)
 	$(FUZZ)/try_wrong.py $(PROGRAM)
 
-# Tries every wrong body, including those of the gate, each against its function's own proof. CRATES="bolt_tree
-# bolt_cli" tries those of some crates, to continue a run that was interrupted.
+# Tries the wrong bodies that the gate leaves out, in a copy of the crates. CRATES="bolt_tree bolt_cli" tries those
+# of some crates.
 wrong-bodies:
-	RT_JOBS=$(JOBS) python3 -B tools/wrong_bodies/try_bodies.py --all $(CRATES)
+	RT_JOBS=$(JOBS) python3 -B tools/wrong_bodies/try_others.py $(CRATES)
 
 # How many crates the gate proves side by side: what the machine has room for, with a processor and 6.5 GB each. rt
 # would otherwise split one crate over several processors, which ends sooner and takes a third more processor time.
@@ -166,14 +166,12 @@ JOBS ?= $(shell awk -v most=$$(nproc) '/MemTotal/ { room = int($$2 / 6500000); \
 set-up:
 	tools/set_up.sh
 
-# The merge gate: whether each wrong body can be applied; every proof from nothing, and the programs,
-# which this builds; some wrong bodies, each against its function's own proof; and then, of the programs,
-# the test cases, real databases, the manual, failures, refused memory, random files that are the same
-# each time, and a few rounds beside bbolt, where that can be built.
+# The merge gate: every proof from nothing, the wrong bodies of crates/*/must-fail, and the programs,
+# which this builds; and then, of the programs, the test cases, real databases, the manual, failures,
+# refused memory, random files that are the same each time, and a few rounds beside bbolt, where that
+# can be built.
 test: set-up
-	python3 -B tools/wrong_bodies/try_bodies.py --read
 	RT_JOBS=$(JOBS) rt ci
-	RT_JOBS=$(JOBS) python3 -B tools/wrong_bodies/try_bodies.py
 	$(MAKE) cases examples manual failures memory
 	$(FUZZ)/fuzz.py $(PROGRAM) --seed 1 --files 36
 	tools/bbolt/try.sh $(PROGRAM) 3
