@@ -1,5 +1,5 @@
 -- A pass goes along members: those that are left to both are the same.
-use Rattle.std.proofs.Common.{◌≡◌, ◌↔◌, ◌≤◌, List, ◌∷◌, length, subst, sym}
+use Rattle.std.proofs.Common.{◌≡◌, ◌≤◌, List, ◌∷◌, length, subst, sym}
 use Rattle.std.specs.List.{AllByRecursion}
 use Rattle.std.proofs.Math.Logic.{∥∥₁_elim, ∥∥₁_map}
 use Rattle.std.proofs.Props.{props}
@@ -7,7 +7,7 @@ use Rattle.bolt_tree.specs.Entries.{Bucket, Item, Value}
 use Rattle.bolt_tree.specs.Listing.{Member}
 use Rattle.bolt_tree.specs.Paths.{Path}
 use Rattle.bolt_bulk.specs.Private.Endings.{IsFitItem, IsFitMember, last_part}
-use Rattle.bolt_bulk.specs.Private.WholeListings.{IsWhole}
+use Rattle.bolt_bulk.specs.Private.WholeListings.{IsAgain, IsWhole}
 use Rattle.bolt_bulk.proofs.FileLayouts.{listing_fits}
 
 fit_prop : (path : Path) (item : Item) → IsProp ((1 ≤ length path) × (length (last_part path) ≤ 1073741824) × IsFitItem item)
@@ -37,10 +37,9 @@ module _ {M : Type 0} (lists : M → List Member → Type 0) (left : M → List 
       subst (λ (ms : List Member). ∥ AllByRecursion IsFitMember ms ∥₁) (sym (whole.all listing is)) (listing_fits listing (whole.one listing is))
 
   -- the same members from their beginning
-  pub whole_again : (old again : M) → ((listing : List Member) → lists again listing ↔ lists old listing)
-      → ((listing : List Member) → lists old listing → left again listing ≡ listing) → IsWhole lists left old → IsWhole lists left again
-  whole_again old again same all whole = record {
-    some = ∥∥₁_map whole.some (λ is. (is.0, (same is.0).1 is.1));
-    all = λ listing is. all listing ((same listing).0 is);
-    one = λ listing is. whole.one listing ((same listing).0 is);
+  pub whole_again : {ends_as : M → M → Type 0} (old new : M) → IsAgain lists left ends_as old new → IsWhole lists left old → IsWhole lists left new
+  whole_again old new again whole = record {
+    some = ∥∥₁_map whole.some (λ is. (is.0, (again.listing is.0).1 is.1));
+    all = λ listing is. again.all listing ((again.listing listing).0 is);
+    one = λ listing is. whole.one listing ((again.listing listing).0 is);
   }

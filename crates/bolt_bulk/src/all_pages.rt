@@ -1,5 +1,5 @@
 //! The pages of a copy, put in one pass over the members.
-ghost use Rattle.std.specs.Prelude.{◌≤◌, [], List, OnOk};
+ghost use Rattle.std.specs.Prelude.{◌≤◌, ◌↔◌, [], List, OnOk};
 ghost use Rattle.bolt_tree.specs.Listing.{Member};
 ghost use Rattle.bolt_tree.specs.Tree.{tree_of};
 ghost use Rattle.bolt_layout.specs.declared.layout.Layout.{Layout};
@@ -28,6 +28,8 @@ pub(crate) fn put_pages<'a, M: Members<'a>, S: Sink>(
     ensures pages { (which : Layout) (listing : List Member) → M.lists members.old listing → FitLimits which (tree_of listing) setup.page_size (limits_with limits.now)
         → Ends (record { which = which; tree = tree_of listing; notes = notes }) S.taken S.failed sink.old sink.new setup [] result }
     ensures end { OnOk result (M.ends_as members.old members.new) }
+    ensures listing { (listing : List Member) → M.lists members.new listing ↔ M.lists members.old listing }
+    ensures same_end { (end : M) → M.ends_as members.new end → M.ends_as members.old end }
 {
     let mut pass = Pass::new(setup, limits, notes);
     'members: while let Some(item) = members.next()? {

@@ -47,7 +47,7 @@ pub fn plan_as(
         page_size,
         sequence: checked.meta().root_sequence,
     };
-    plan_members(alloc, &Walk::new(alloc, checked), &shape)
+    plan_members(alloc, &mut Walk::new(alloc, checked), &shape)
 }
 
 /// Returns where a copy in the plain layout will have its root page and its high-water mark:
@@ -120,8 +120,8 @@ pub fn compact<S: Sink>(
 
 /// Writes the compact copy of what is recovered of a damaged file: the one layout of the recovered
 /// listing (docs/RECOVERY.md), written as `compact_as` writes that of a sound file. The recovery
-/// must not have returned anything yet. Each earlier pass over the file is a recovery of its own,
-/// and the last is the one that is passed, so after `Ok` it has reported all losses.
+/// must not have returned anything yet. It begins again after each pass, in the same table. After
+/// `Ok` it has reported all losses.
 ///
 /// # Errors
 ///

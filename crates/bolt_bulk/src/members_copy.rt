@@ -10,7 +10,7 @@ ghost use Rattle.bolt_layout.specs.Layout.{layout_held, layout_root};
 ghost use Rattle.bolt_layout.specs.declared.layout.Layout.{Layout};
 ghost use Rattle.bolt_layout.specs.declared.layout.Layout.TheVariants.{Balanced};
 ghost use Rattle.bolt_bulk.specs.Private.Passes.{FitLimits, limits_with};
-ghost use Rattle.bolt_bulk.specs.Private.WholeListings.{IsWhole};
+ghost use Rattle.bolt_bulk.specs.Private.WholeListings.{IsAgain, IsWhole};
 ghost use Rattle.bolt_bulk.specs.declared.fault.PlanFault.TheVariants as planned;
 
 use crate::all_pages::put_pages;
@@ -62,22 +62,25 @@ fn noting_setup_of(alloc: Global, page_size: u64) -> PageSetup
 
 /// The limits of rows that yield the balanced layout, which a pass over the plain one notes.
 /// `TooLarge` only if the balanced layout has 2^63 bytes or more.
-fn balanced_limits<'a, M: Members<'a> + Drop>(
+fn balanced_limits<'a, M: Members<'a>>(
     alloc: Global,
-    members: &M,
+    members: &mut M,
     shape: &Shape,
 ) -> Result<Limits, PlanFault>
-    requires { IsWhole M.lists M.left members.now }
-    ensures fit { IfOk result (λ limits. (listing : List Member) → M.lists members.now listing → FitLimits Balanced (tree_of listing) shape.now.page_size (limits_with limits)) }
-    ensures large { IfErr result (λ fault. fault ≡ planned.TooLarge → (listing : List Member) → M.lists members.now listing
+    requires { IsWhole M.lists M.left members.old }
+    ensures fit { IfOk result (λ limits. (listing : List Member) → M.lists members.old listing → FitLimits Balanced (tree_of listing) shape.now.page_size (limits_with limits)) }
+    ensures large { IfErr result (λ fault. fault ≡ planned.TooLarge → (listing : List Member) → M.lists members.old listing
         → too_many ≤ length (layout_of_listing Balanced shape.now.page_size listing shape.now.sequence)) }
+    ensures again { IfOk result (λ limits. IsAgain M.lists M.left M.ends_as members.old members.new) }
 {
     a_listing_has_one_layout(shape.page_size, shape.sequence);
     let none = Limits::none(alloc);
     let setup = noting_setup_of(alloc, shape.page_size);
-    let mut again = members.again(alloc)?;
-    match put_pages(setup, &none, true, &mut again, &mut NoSink) {
-        Ok(ended) => Ok(ended.noted),
+    match put_pages(setup, &none, true, members, &mut NoSink) {
+        Ok(ended) => {
+            members.restart(alloc)?;
+            Ok(ended.noted)
+        }
         Err(BulkFault::TooLarge) => Err(PlanFault::TooLarge),
         Err(BulkFault::Memory) => Err(PlanFault::Memory),
         Err(BulkFault::Sink) => unreachable!(),
@@ -85,15 +88,16 @@ fn balanced_limits<'a, M: Members<'a> + Drop>(
 }
 
 /// The limits of rows that yield the layout.
-fn limits_of<'a, M: Members<'a> + Drop>(
+fn limits_of<'a, M: Members<'a>>(
     alloc: Global,
-    members: &M,
+    members: &mut M,
     shape: &Shape,
 ) -> Result<Limits, PlanFault>
-    requires { IsWhole M.lists M.left members.now }
-    ensures fit { IfOk result (λ limits. (listing : List Member) → M.lists members.now listing → FitLimits shape.now.layout (tree_of listing) shape.now.page_size (limits_with limits)) }
-    ensures large { IfErr result (λ fault. fault ≡ planned.TooLarge → (listing : List Member) → M.lists members.now listing
+    requires { IsWhole M.lists M.left members.old }
+    ensures fit { IfOk result (λ limits. (listing : List Member) → M.lists members.old listing → FitLimits shape.now.layout (tree_of listing) shape.now.page_size (limits_with limits)) }
+    ensures large { IfErr result (λ fault. fault ≡ planned.TooLarge → (listing : List Member) → M.lists members.old listing
         → too_many ≤ length (layout_of_listing shape.now.layout shape.now.page_size listing shape.now.sequence)) }
+    ensures again { IfOk result (λ limits. IsAgain M.lists M.left M.ends_as members.old members.new) }
 {
     match shape.layout {
         Layout::Plain => Ok(Limits::none(alloc)),
@@ -102,24 +106,27 @@ fn limits_of<'a, M: Members<'a> + Drop>(
 }
 
 /// The plan of the layout whose rows have these limits.
-fn plan_within<'a, M: Members<'a> + Drop>(
+fn plan_within<'a, M: Members<'a>>(
     alloc: Global,
-    members: &M,
+    members: &mut M,
     limits: &Limits,
     shape: &Shape,
 ) -> Result<Plan, PlanFault>
-    requires whole { IsWhole M.lists M.left members.now }
-    requires fit { (listing : List Member) → M.lists members.now listing → FitLimits shape.now.layout (tree_of listing) shape.now.page_size (limits_with limits.now) }
-    ensures { (listing : List Member) → M.lists members.now listing → Plans shape.now.layout shape.now.page_size shape.now.sequence listing result }
+    requires whole { IsWhole M.lists M.left members.old }
+    requires fit { (listing : List Member) → M.lists members.old listing → FitLimits shape.now.layout (tree_of listing) shape.now.page_size (limits_with limits.now) }
+    ensures plans { (listing : List Member) → M.lists members.old listing → Plans shape.now.layout shape.now.page_size shape.now.sequence listing result }
+    ensures again { IfOk result (λ plan. IsAgain M.lists M.left M.ends_as members.old members.new) }
 {
     a_listing_has_one_layout(shape.page_size, shape.sequence);
     let setup = setup_of(alloc, shape.page_size);
-    let mut again = members.again(alloc)?;
-    match put_pages(setup, limits, false, &mut again, &mut NoSink) {
-        Ok(ended) => Ok(Plan {
-            root: ended.root,
-            high_water: ended.high_water,
-        }),
+    match put_pages(setup, limits, false, members, &mut NoSink) {
+        Ok(ended) => {
+            members.restart(alloc)?;
+            Ok(Plan {
+                root: ended.root,
+                high_water: ended.high_water,
+            })
+        }
         Err(BulkFault::TooLarge) => Err(PlanFault::TooLarge),
         Err(BulkFault::Memory) => Err(PlanFault::Memory),
         Err(BulkFault::Sink) => unreachable!(),
@@ -127,20 +134,20 @@ fn plan_within<'a, M: Members<'a> + Drop>(
 }
 
 /// The plan of a copy of all members.
-pub(crate) fn plan_members<'a, M: Members<'a> + Drop>(
+pub(crate) fn plan_members<'a, M: Members<'a>>(
     alloc: Global,
-    members: &M,
+    members: &mut M,
     shape: &Shape,
 ) -> Result<Plan, PlanFault>
-    requires { IsWhole M.lists M.left members.now }
-    ensures { (listing : List Member) → M.lists members.now listing → Plans shape.now.layout shape.now.page_size shape.now.sequence listing result }
+    requires { IsWhole M.lists M.left members.old }
+    ensures { (listing : List Member) → M.lists members.old listing → Plans shape.now.layout shape.now.page_size shape.now.sequence listing result }
 {
     let limits = limits_of(alloc, members, shape)?;
     plan_within(alloc, members, &limits, shape)
 }
 
 /// Writes the copy of all members. The last pass, which writes the pages, takes them away.
-pub(crate) fn put_members<'a, M: Members<'a> + Drop, S: Sink>(
+pub(crate) fn put_members<'a, M: Members<'a>, S: Sink>(
     alloc: Global,
     members: &mut M,
     shape: &Shape,

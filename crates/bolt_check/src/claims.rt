@@ -15,7 +15,7 @@ ghost use Rattle.bolt_check.specs.Ways.{At_page, SpanAt};
 use crate::finding::Finding;
 use crate::no_memory::NoMemory;
 use crate::spot::PageSpot;
-use crate::table::{PageUse, new_table};
+use crate::table::{PageUse, new_table, reset};
 use crate::tree_page::TreePage;
 use crate::visit::visit;
 use bolt_format::Meta;
@@ -26,7 +26,7 @@ use std::alloc::Global;
 /// in the file and below the high-water mark.
 ///
 /// The visits are counted. No call returns the file. So code that has nothing else of the file
-/// can't visit a page uncounted, and a table that it makes counts on.
+/// can't visit a page uncounted, and can't make a second table.
 #[derive(Drop)]
 pub struct Claims<'a> {
     file: &'a [u8],
@@ -64,27 +64,15 @@ impl<'a> Claims<'a> {
         })
     }
 
-    /// Another table of the same file, in which only the meta pages are claimed. It counts on from
-    /// the visits so far.
-    ///
-    /// # Errors
-    ///
-    /// `NoMemory` if there is no memory for the table.
-    pub fn again(&self, alloc: Global) -> Result<Claims<'a>, NoMemory>
-        requires { 0 < (claims_meta self.now).page_size }
-        ensures file { IfOk result (λ claims. claims_file claims ≡ claims_file self.now) }
-        ensures meta { IfOk result (λ claims. claims_meta claims ≡ claims_meta self.now) }
-        ensures metas { IfOk result (λ claims. (n : ℕ) → (is_claimed claims n ≡ true) ↔ IsMetaPage n) }
-        ensures length { IfOk result (λ claims. claims_length claims ≡ table_length (claims_file self.now) (claims_meta self.now)) }
-        ensures visited { IfOk result (λ claims. claims_visited claims ≡ claims_visited self.now) }
+    /// Begins again: only the meta pages are claimed. The visits are counted on. Needs no memory.
+    pub fn restart(&mut self)
+        ensures file { claims_file self.new ≡ claims_file self.old }
+        ensures meta { claims_meta self.new ≡ claims_meta self.old }
+        ensures metas { (n : ℕ) → (is_claimed self.new n ≡ true) ↔ IsMetaPage n }
+        ensures length { claims_length self.new ≡ claims_length self.old }
+        ensures visited { claims_visited self.new ≡ claims_visited self.old }
     {
-        let table = new_table(alloc, self.file, &self.meta)?;
-        Ok(Claims {
-            file: self.file,
-            meta: self.meta,
-            table,
-            visited: self.visited,
-        })
+        reset(&mut self.table);
     }
 
     /// The meta that the file is read under.

@@ -51,6 +51,26 @@ pub(crate) fn new_table(alloc: Global, file: &[u8], meta: &Meta) -> Result<Vec<P
     Ok(table)
 }
 
+/// Sets each entry to what its page is used for from the start.
+pub(crate) fn reset(table: &mut [PageUse])
+    ensures { (n : ℕ) → use_at table.new n ≡ first_use n }
+{
+    for n in 0..table.len() {
+        table[n] = first_use(n);
+    }
+}
+
+/// What a page is used for from the start.
+fn first_use(n: usize) -> PageUse
+    ensures { result ≡ first_use n }
+{
+    if n < 2 {
+        PageUse::Used
+    } else {
+        PageUse::Unused
+    }
+}
+
 /// The lowest claimed page of a span.
 pub(crate) fn first_claimed(table: &[PageUse], from: usize, last: usize) -> Option<usize>
     requires order { from ≤ last }

@@ -97,52 +97,33 @@ impl<'a> Recovery<'a> {
         let Ok(claims) = Claims::new(alloc, file, meta) else {
             return Err(CheckFault::Memory);
         };
-        Recovery::over(alloc, claims)
-    }
-
-    /// A walk with this table, in which only the meta pages are claimed.
-    fn over(alloc: Global, claims: Claims<'a>) -> Result<Recovery<'a>, CheckFault>
-        requires sized { 0 < (claims_meta claims).page_size }
-        requires metas { (n : ℕ) → (is_claimed claims n ≡ true) ↔ IsMetaPage n }
-        ensures file { IfOk result (λ recovery. recovery_file recovery ≡ claims_file claims.entry) }
-        ensures meta { IfOk result (λ recovery. recovery_meta recovery ≡ claims_meta claims.entry) }
-        ensures all { IfOk result (λ recovery. ForRecovered (claims_file claims.entry) (claims_meta claims.entry) (λ listing. recovery_left recovery listing ≡ listing)) }
-        ensures path { IfOk result (λ recovery. recovery_path recovery ≡ []) }
-        ensures losses { IfOk result (λ recovery. recovery_losses recovery ≡ []) }
-        ensures begun { IfOk result (λ recovery. recovery_begun recovery ≡ claims_visited claims.entry) }
-        ensures visited { IfOk result (λ recovery. recovery_visited recovery ≡ counted (claims_visited claims.entry) 1) }
-        ensures root { OnOk result (KeepsRoot (claims_file claims.entry) (claims_meta claims.entry)) }
-        ensures refused { IfErr result (IsRefusedRoot (claims_file claims.entry) (claims_meta claims.entry)) }
-    {
-        let meta = claims.meta();
-        let begun = claims.visited();
         let steps = Steps::new(alloc, claims)?;
-        Ok(Recovery { steps, meta, begun })
+        Ok(Recovery {
+            steps,
+            meta,
+            begun: 0,
+        })
     }
 
-    /// The same recovery before its first item: everything is left, and no loss was reported. It
-    /// counts on from the visits so far.
+    /// Begins again before the first item: everything is left, and no loss was reported. The visits
+    /// are counted on.
     ///
     /// # Errors
     ///
-    /// `NoMemory` if memory runs out.
-    pub fn again(&self, alloc: Global) -> Result<Recovery<'a>, NoMemory>
-        ensures file { IfOk result (λ again. recovery_file again ≡ recovery_file self.now) }
-        ensures meta { IfOk result (λ again. recovery_meta again ≡ recovery_meta self.now) }
-        ensures all { IfOk result (λ again. ForRecovered (recovery_file self.now) (recovery_meta self.now) (λ listing. recovery_left again listing ≡ listing)) }
-        ensures path { IfOk result (λ again. recovery_path again ≡ []) }
-        ensures losses { IfOk result (λ again. recovery_losses again ≡ []) }
-        ensures begun { IfOk result (λ again. recovery_begun again ≡ recovery_visited self.now) }
-        ensures visited { IfOk result (λ again. recovery_visited again ≡ counted (recovery_visited self.now) 1) }
+    /// `NoMemory` if memory runs out. Then nothing has changed.
+    pub fn restart(&mut self) -> Result<(), NoMemory>
+        ensures file { recovery_file self.new ≡ recovery_file self.old }
+        ensures meta { recovery_meta self.new ≡ recovery_meta self.old }
+        ensures all { OnOk result (ForRecovered (recovery_file self.old) (recovery_meta self.old) (λ listing. recovery_left self.new listing ≡ listing)) }
+        ensures path { OnOk result (recovery_path self.new ≡ []) }
+        ensures losses { OnOk result (recovery_losses self.new ≡ []) }
+        ensures begun { OnOk result (recovery_begun self.new ≡ recovery_visited self.old) }
+        ensures visited { OnOk result (recovery_visited self.new ≡ counted (recovery_visited self.old) 1) }
     {
-        let claims = self.steps.claims.again(alloc)?;
-        match Recovery::over(alloc, claims) {
-            Ok(again) => Ok(again),
-            Err(CheckFault::Memory) => Err(NoMemory),
-            Err(CheckFault::Structure(_)) => unreachable!(),
-            Err(CheckFault::Open(_)) => unreachable!(),
-            Err(CheckFault::Accounts(_)) => unreachable!(),
-        }
+        let begun = self.steps.claims.visited();
+        self.steps.restart()?;
+        self.begun = begun;
+        Ok(())
     }
 
     /// The meta that the file is read under.
@@ -224,7 +205,7 @@ impl<'a> Members<'a> for Recovery<'a> {
         Recovery::path(self)
     }
 
-    fn again(&self, alloc: Global) -> Result<Recovery<'a>, NoMemory> {
-        Recovery::again(self, alloc)
+    fn restart(&mut self, _alloc: Global) -> Result<(), NoMemory> {
+        Recovery::restart(self)
     }
 }

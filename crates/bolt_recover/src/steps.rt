@@ -4,6 +4,7 @@ ghost use Rattle.std.specs.Option.{option_map};
 ghost use Rattle.bolt_check.specs.Claims.{claims_file, claims_meta, claims_visited, is_claimed};
 ghost use Rattle.bolt_check.specs.Counts.{counted};
 ghost use Rattle.bolt_check.specs.Findings.{IsMetaPage};
+ghost use Rattle.bolt_check.specs.declared.spot.Spot.TheVariants as spots;
 ghost use Rattle.bolt_format.specs.Elements.{IsBucketValue};
 ghost use Rattle.bolt_tree.specs.Listing.{Member};
 ghost use Rattle.bolt_tree.specs.Paths.{path_of};
@@ -14,7 +15,7 @@ ghost use Rattle.bolt_recover.specs.Private.Runs.{RunsAll, Visited};
 use crate::content::{Content, OpenPage};
 use crate::loss::Loss;
 use bolt_check::{CheckFault, Claims, Finding, NoMemory, PageSpot, Spot};
-use bolt_format::Leaf;
+use bolt_format::{Leaf, Meta};
 use std::alloc::Global;
 use std::mem::replace;
 
@@ -64,6 +65,18 @@ pub(crate) struct Steps<'a> {
     pub spare: Vec<&'a [u8]>,
 }
 
+/// The spot at the root page, to which the empty way leads.
+fn root_of<'a>(meta: &Meta) -> Spot<'a>
+    ensures { result ≡ spots.Page (record { number = meta.now.root; depth = 1; lower = None; upper = None }) }
+{
+    Spot::Page(PageSpot {
+        number: meta.root,
+        depth: 1,
+        lower: None,
+        upper: None,
+    })
+}
+
 impl<'a> Steps<'a> {
     /// The root page is open, and nothing was returned yet. Only the meta pages were claimed before.
     ///
@@ -84,13 +97,8 @@ impl<'a> Steps<'a> {
             → ComesTo (state_of steps) members (outcome_of (claims_visited claims.entry) visits)) }
         ensures refused { IfErr result (IsRefusedRoot (claims_file claims.entry) (claims_meta claims.entry)) }
     {
-        let root = PageSpot {
-            number: claims.meta().root,
-            depth: 1,
-            lower: None,
-            upper: None,
-        };
-        let content = Content::visit(&mut claims, Spot::Page(root))?;
+        let root = root_of(&claims.meta());
+        let content = Content::visit(&mut claims, root)?;
         let mut open = Vec::new(alloc);
         open.reserve(1)?;
         open.push_reserved(OpenPage {
@@ -108,6 +116,44 @@ impl<'a> Steps<'a> {
             losses: Vec::new(alloc),
             spare: Vec::new(alloc),
         })
+    }
+
+    /// Begins again at the root page, which is kept. The visits are counted on.
+    ///
+    /// # Errors
+    ///
+    /// `NoMemory` if there is no room for an open page. Then nothing has changed.
+    pub fn restart(&mut self) -> Result<(), NoMemory>
+        requires { ∥ KeepsRoot (claims_file self.old.claims) (claims_meta self.old.claims) ∥₁ }
+        ensures file { claims_file self.new.claims ≡ claims_file self.old.claims }
+        ensures meta { claims_meta self.new.claims ≡ claims_meta self.old.claims }
+        ensures visited { OnOk result (claims_visited self.new.claims ≡ counted (claims_visited self.old.claims) 1) }
+        ensures path { OnOk result (path_of self.new.path.items ≡ []) }
+        ensures placed { OnOk result (HasOpen (state_of self.new)) }
+        ensures more { OnOk result (is_over (state_of self.new) ≡ false) }
+        ensures losses { OnOk result ((state_of self.new).losses ≡ []) }
+        ensures all { OnOk result ((visits : List (Visited NoWay)) (members : List Member) → RunsAll (claims_file self.old.claims) (claims_meta self.old.claims) stay tt visits members
+            → ComesTo (state_of self.new) members (outcome_of (claims_visited self.old.claims) visits)) }
+        ensures same { OnErr result (state_of self.new ≡ state_of self.old) }
+    {
+        self.open.reserve(1)?;
+        self.claims.restart();
+        let root = root_of(&self.claims.meta());
+        let content = match Content::visit(&mut self.claims, root) {
+            Ok(content) => content,
+            Err(_) => unreachable!(),
+        };
+        self.ahead = None;
+        self.open.clear();
+        self.open.push_reserved(OpenPage {
+            content,
+            level: 0,
+            count: content.count(),
+            next: 0,
+        });
+        self.path.clear();
+        self.losses.clear();
+        Ok(())
     }
 
     /// Records the loss of what was ahead, with this finding. There is room for it.

@@ -1,7 +1,7 @@
 //! A trait for what returns the members of a listing in the order of their paths, so that a sound
 //! file and what is kept of a damaged one are read by the same code.
 ghost use Rattle.std.specs.Option.{IfNone, option_map};
-ghost use Rattle.std.specs.Prelude.{◌≡◌, ◌↔◌, ◌<◌, ℕ, IfOk, IfSome, List, OnErr};
+ghost use Rattle.std.specs.Prelude.{◌≡◌, ◌↔◌, ◌<◌, ℕ, IfOk, IfSome, List, OnErr, OnOk};
 ghost use Rattle.bolt_check.specs.CheckedFiles.{bytes_of, meta_of};
 ghost use Rattle.bolt_tree.specs.Listing.{IsListing, Member};
 ghost use Rattle.bolt_tree.specs.Paths.{Path, path_of};
@@ -52,17 +52,15 @@ pub trait Members<'a> {
     fn path(&self) -> &[&'a [u8]]
         ensures { path_of result.now ≡ last_path self.now };
 
-    /// The same before its first member.
+    /// Begins again with the first member.
     ///
     /// # Errors
     ///
     /// `NoMemory` if memory runs out.
-    fn again(&self, alloc: Global) -> Result<Self, NoMemory>
-    where
-        Self: Sized,
-        ensures listing { IfOk result (λ again. (listing : List Member) → lists again listing ↔ lists self.now listing) }
-        ensures all { IfOk result (λ again. (listing : List Member) → lists self.now listing → left again listing ≡ listing) }
-        ensures same_end { IfOk result (λ again. (end : Self) → ends_as again end → ends_as self.now end) };
+    fn restart(&mut self, alloc: Global) -> Result<(), NoMemory>
+        ensures listing { (listing : List Member) → lists self.new listing ↔ lists self.old listing }
+        ensures all { OnOk result ((listing : List Member) → lists self.old listing → left self.new listing ≡ listing) }
+        ensures same_end { (end : Self) → ends_as self.new end → ends_as self.old end };
 }
 
 impl<'a> Members<'a> for Walk<'a> {
@@ -85,7 +83,8 @@ impl<'a> Members<'a> for Walk<'a> {
         Walk::path(self)
     }
 
-    fn again(&self, alloc: Global) -> Result<Walk<'a>, NoMemory> {
-        Ok(Walk::new(alloc, self.checked()))
+    fn restart(&mut self, alloc: Global) -> Result<(), NoMemory> {
+        *self = Walk::new(alloc, self.checked());
+        Ok(())
     }
 }

@@ -8,23 +8,22 @@ use Rattle.bolt_layout.specs.declared.layout.Layout.TheVariants.{Balanced, Plain
 use Rattle.bolt_bulk.specs.Private.Passes.{FitLimits, limits_with}
 use Rattle.bolt_bulk.proofs.FileLayouts.{balanced_too_large}
 use Rattle.bolt_bulk.proofs.Openings.{fit_plain}
-use Rattle.bolt_bulk.proofs.WalkLeft.{whole_again}
 use Rattle.bolt_bulk.proofs.members_copy.balanced_limits.Goals as goal
 
 pub put_pages-requires : goal.put_pages-requires
 put_pages-requires g c κs = (
   (refl, tt),
-  (c.noting_setup_of-setup.ensures.room, whole_again g.M.Members.lists g.M.Members.left c.args.members.now c.in_ok-again.again c.in_ok-again.ensures.listing c.in_ok-again.ensures.all c.requires),
+  (c.noting_setup_of-setup.ensures.room, c.requires),
 )
 
 pub returns-in-Ok-clause-fit : goal.returns-in-Ok-clause-fit
 returns-in-Ok-clause-fit g c = λ listing lists.
-    let ends = c.in-Ok.ensures.pages Plain listing ((c.in_ok-again.ensures.listing listing).1 lists) (fit_plain c.noting_setup_of-setup.result.page_size c.none-none.result (tree_of listing) c.none-none.ensures) in
+    let ends = c.in-Ok.ensures.pages Plain listing lists (fit_plain c.noting_setup_of-setup.result.page_size c.none-none.result (tree_of listing) c.none-none.ensures) in
     subst (λ (n : ℕ). FitLimits Balanced (tree_of listing) n (limits_with c.in-Ok.ended.noted)) c.noting_setup_of-setup.ensures.page_size (ends.noted refl refl)
 
 pub returns-in-Err-TooLarge-clause-large : goal.returns-in-Err-TooLarge-clause-large
 returns-in-Err-TooLarge-clause-large g c = λ _ listing lists.
-    let ends = c.in-Err-TooLarge.ensures.pages Plain listing ((c.in_ok-again.ensures.listing listing).1 lists) (fit_plain c.noting_setup_of-setup.result.page_size c.none-none.result (tree_of listing) c.none-none.ensures) in
+    let ends = c.in-Err-TooLarge.ensures.pages Plain listing lists (fit_plain c.noting_setup_of-setup.result.page_size c.none-none.result (tree_of listing) c.none-none.ensures) in
     let above = ends.large c.in-Err-TooLarge.field-0-is in
     let size = ap (λ (n : ℕ). layout_mark Plain n (tree_of listing)) c.noting_setup_of-setup.ensures.page_size in
     let limit = c.noting_setup_of-setup.ensures.limit in
@@ -35,5 +34,5 @@ pub unreachable-requires : goal.unreachable-requires
 unreachable-requires g c = ∥∥₁_elim c.requires.some (Prim.hlevel props) (λ is.
     let listing = is.0 in
     let lists = is.1 in
-    let ends = c.in-Err-Sink.ensures.pages Plain listing ((c.in_ok-again.ensures.listing listing).1 lists) (fit_plain c.noting_setup_of-setup.result.page_size c.none-none.result (tree_of listing) c.none-none.ensures) in
+    let ends = c.in-Err-Sink.ensures.pages Plain listing lists (fit_plain c.noting_setup_of-setup.result.page_size c.none-none.result (tree_of listing) c.none-none.ensures) in
     let none : 0 < 0 = ends.puts.failure c.in-Err-Sink.field-0-is in omega arith)

@@ -4,13 +4,12 @@ use Rattle.bolt_tree.specs.Tree.{tree_of}
 use Rattle.bolt_bulk.specs.Private.Passes.{FitLimits, limits_with}
 use Rattle.std.proofs.Math.Logic.{∥∥₁_elim}
 use Rattle.std.proofs.Props.{props}
-use Rattle.bolt_bulk.proofs.WalkLeft.{whole_again}
 use Rattle.bolt_bulk.proofs.members_copy.plan_within.Goals as goal
 
 pub put_pages-requires : goal.put_pages-requires
 put_pages-requires g c κs = (
   (refl, tt),
-  (c.setup_of-setup.ensures.room, whole_again g.M.Members.lists g.M.Members.left c.args.members.now c.in_ok-again.again c.in_ok-again.ensures.listing c.in_ok-again.ensures.all c.requires.whole),
+  (c.setup_of-setup.ensures.room, c.requires.whole),
 )
 
 pub unreachable-requires : goal.unreachable-requires
@@ -19,5 +18,5 @@ unreachable-requires g c = ∥∥₁_elim c.requires.whole.some (Prim.hlevel pro
     let lists = is.1 in
     let which = c.args.shape.now.layout in
     let fit = subst (λ (n : ℕ). FitLimits which (tree_of listing) n (limits_with c.args.limits.now)) (sym c.setup_of-setup.ensures.page_size) (c.requires.fit listing lists) in
-    let ends = c.in-Err-Sink.ensures.pages which listing ((c.in_ok-again.ensures.listing listing).1 lists) fit in
+    let ends = c.in-Err-Sink.ensures.pages which listing lists fit in
     let none : 0 < 0 = ends.puts.failure c.in-Err-Sink.field-0-is in omega arith)

@@ -1,0 +1,10 @@
+-- The file is read under the same meta.
+use Rattle.std.proofs.Common.{◌≡◌, List, subst₂, ℕ}
+use Rattle.bolt_format.specs.declared.meta.Meta.{Meta}
+use Rattle.bolt_recover.specs.Losses.{LossView}
+use Rattle.bolt_recover.specs.Recoveries.{ForLosses, recovery_losses}
+use Rattle.bolt_recover.proofs.recovery.RecoveryMembers.restart.Goals as goal
+
+pub returns-clause-same_end : goal.returns-clause-same_end
+returns-clause-same_end c = λ end h.
+    subst₂ (λ (file : List ℕ) (meta : Meta). ForLosses file meta (λ (losses : List LossView). recovery_losses end ≡ losses)) c.restart.ensures.file c.restart.ensures.meta h
