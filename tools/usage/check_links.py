@@ -71,8 +71,9 @@ def words_of(pattern):
 
 
 def is_in_sources(name):
-    """Whether each word of a name is in some source, or it is the name of a file of test cases or of a bucket of etcd."""
-    if os.path.exists(f"tests/cases/{name}.cases") or name == "members_removed":
+    """Whether each word of a name is in some source, or it names test cases, a wrong body or a bucket of etcd."""
+    files = f"tests/cases/{name}.cases", f"crates/*/must-fail/{name}.edit"
+    if any(map(glob.glob, files)) or name == "members_removed":
         return True
     return all(any(word in words_of(pattern) for pattern in SOURCES) for word in re.findall(r"\w+", name))
 
