@@ -228,8 +228,9 @@ DEEP = out/deep.db
 NESTED = out/nested.db
 
 # Refuses each of the program's requests for memory in turn: under every command on a file of 60 nested
-# buckets and on a real one; on 20,000 nested buckets under the commands that make few requests, of which
-# `check` makes fewer than a hundred; of the many that a copy of these makes, each 1500th; and under the commands that recover a damaged file.
+# buckets and on a real one; on 20,000 nested buckets under the commands that make few requests (`check` fewer
+# than a hundred: the 200th of the process, which makes more than a hundred before it reads FILE, isn't reached); of
+# the many that a copy of these makes, each 1500th; and under the commands that recover a damaged file.
 # Then refuses each request of a walk, which is called again and goes on, and of calls that need no
 # memory.
 memory: $(PROGRAM) $(CALLS) $(REFUSE) $(NESTED) $(DEEP) $(DAMAGED)
@@ -241,7 +242,7 @@ memory: $(PROGRAM) $(CALLS) $(REFUSE) $(NESTED) $(DEEP) $(DAMAGED)
 		"compact -o OUT --etcd-snapshot"
 	$(SWEEP) memory 1 $(LEAKED).db check "list --meta 1" "compact -o OUT --meta 1"
 	$(SWEEP) memory 1 $(DEEP) info check buckets stats
-	REFUSED_CALL=memory REFUSED_NUMBER=100 LD_PRELOAD=$(REFUSE) $(PROGRAM) check $(DEEP) | grep -qx OK
+	REFUSED_CALL=memory REFUSED_NUMBER=200 LD_PRELOAD=$(REFUSE) $(PROGRAM) check $(DEEP) | grep -qx OK
 	$(SWEEP) memory 1500 $(DEEP) "compact -o OUT"
 	$(SWEEP) memory 1 $(DAMAGED) "check --all" $(RECOVERIES)
 	$(SWEEP) memory 1 $(NESTED) "check --all" "check --all --etcd-snapshot" "list b b --recover" \
