@@ -94,24 +94,42 @@ class Command:
         is_taken = copy is None or full[3].startswith(copy)
         return self.lines.get(err) if status == 1 and is_begun and is_taken else None
 
+    def is_whole(self, full, result):
+        """Whether memory ran out, and OUT is whole nevertheless."""
+        return self.call == "memory" and result[0] == 1 and full[3] is not None and result[3] == full[3]
+
+
+def most_whole(full):
+    """How many requests there may be for the text that is held until OUT is whole: its room doubles."""
+    return len(full[1]).bit_length()
+
 
 def sweep(command, step):
     """Refuses calls in turn, and prints how the runs ended. Returns whether each ended as documented."""
     full = command.run(0)
     outcomes, wrong = Counter(), []
-    number = 1
+    number, whole = 1, []
     result = command.run(number)
     while command.was_refused():
         outcome = command.outcome(full, result)
         if outcome is None:
             wrong.append(number)
             print(f"{command.call} {number} of {command.words[1:]}: {result[:3]!r:.500}")
+        # OUT is whole only if the held text is refused its memory: at the last requests, and few of them.
+        if command.is_whole(full, result):
+            whole.append(number)
+        elif whole:
+            wrong.append(number)
+            print(f"{command.call} {number} of {command.words[1:]}: OUT was whole at {whole[0]}")
         outcomes[outcome] += 1
         number += step
         result = command.run(number)
     ends = ", ".join(f"{count} {outcome}" for outcome, count in outcomes.items())
     print(f"{' '.join(command.words[1:])}: {sum(outcomes.values())} times {command.call}: {ends}", flush=True)
     is_done = full[2] not in command.lines and result == full
+    if len(whole) > most_whole(full):
+        wrong.append(whole[0])
+        print(f"memory of {command.words[1:]}: OUT is whole {len(whole)} times")
     return is_done and not wrong and any(outcomes[outcome] > 0 for outcome in LINES[command.call])
 
 

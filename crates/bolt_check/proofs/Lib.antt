@@ -32,6 +32,7 @@ pub mod TourLemmas
 pub mod TourSums
 pub mod TreePages
 pub mod UseLemmas
+pub mod UsesClaimed
 pub mod VisitLemmas
 pub mod Visited
 pub mod Visiting

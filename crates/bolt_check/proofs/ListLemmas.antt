@@ -1,5 +1,6 @@
 -- Ids listed one after another.
-use Rattle.std.proofs.Common.{◌≡◌, ◌∙◌, ◌==◌, ℕ, ◌+◌, ◌<◌, Bool, List, [], ◌∷◌, ◌++◌, Some, slice_get, length, get_or, cond, take, filter, min, sym, ap, arith}
+use Rattle.std.proofs.Common.{◌≡◌, ◌≢◌, ◌∙◌, ◌==◌, ℕ, ◌+◌, ◌<◌, Bool, List, [], ◌∷◌, ◌++◌, Some, slice_get, length, get_or, cond, take, filter, min, sym, ap, arith}
+use Rattle.std.proofs.lemmas.Bool.{eq-eqb}
 use Rattle.std.proofs.lemmas.List.Elements.{filter_more}
 use Rattle.std.proofs.lemmas.List.Sums.{sum_by_more}
 use Rattle.std.proofs.lemmas.Option.{slice_get-get_or}
@@ -22,3 +23,14 @@ past_more p ids i id before h e b =
     let more = filter_more p ids i 0 h in
     let one = ap (λ (x : ℕ). filter p (take i ids) ++ cond (p x) (x ∷ []) []) (id_at ids i id h e) in
     ap (λ (xs : List ℕ). xs ++ cond (p id) (id ∷ []) []) b ∙ sym (more ∙ one)
+
+-- a number that isn't among the ids up to one isn't among those before it, and isn't that one
+pub times_before : (ids : List ℕ) (i id n : ℕ) → i < length ids → slice_get ids i ≡ Some id → times_in (take (i + 1) ids) n ≡ 0
+    → (times_in (take i ids) n ≡ 0) × (n ≢ id)
+times_before ids i id n h e none =
+    let weight : ℕ → ℕ = λ (x : ℕ). cond (x == n) 1 0 in
+    let more = sum_by_more weight ids i 0 h in
+    let one : weight (get_or ids i 0) ≡ weight id = ap weight (id_at ids i id h e) in (
+      omega (arith, more, one, none),
+      λ same. let here : weight id ≡ 1 = ap (λ b. cond b 1 0) (eq-eqb id n (sym same)) in omega (arith, more, one, none, here),
+    )

@@ -1,5 +1,5 @@
 -- The role of a page, from the table of uses.
-use Rattle.std.proofs.Common.{◌≡◌, ◌≢◌, ◌∙◌, ℕ, zero, suc, ◌<◌, ◌≤◌, ◌⊎◌, ◌↔◌, inl, inr, Bool, true, false, List, Some, sym, ap, refl, arith}
+use Rattle.std.proofs.Common.{◌≡◌, ◌≢◌, ◌∙◌, ℕ, zero, suc, ◌<◌, ◌≤◌, ◌↔◌, inl, inr, Bool, true, false, List, Some, sym, ap, refl, arith}
 use Rattle.std.proofs.lemmas.Bool.{cases_lt, cases_eq, lt-ltb, le-ltb, eq-eqb, ne_eqb, false≢true}
 use Rattle.bolt_format.specs.Metas.{IsInSlot, IsMeta, IsPageSize}
 use Rattle.bolt_format.specs.declared.meta.Meta.{Meta}
@@ -7,11 +7,11 @@ use Rattle.bolt_format.specs.declared.meta.Slot.{Slot}
 use Rattle.bolt_format.specs.declared.meta.Slot.TheVariants.{One, Zero}
 use Rattle.bolt_format.specs.declared.meta.TheConstants.{NO_FREELIST}
 use Rattle.bolt_check.specs.Accounts.{IsInFreelist}
-use Rattle.bolt_check.specs.Private.Listings.{ClaimsFreelist}
+use Rattle.bolt_check.specs.Private.Listings.{ClaimsUses}
 use Rattle.bolt_check.specs.Nodes.{Nodes, node_at}
 use Rattle.bolt_check.specs.Private.RoleTables.{AreUses, role_by, role_from}
 use Rattle.bolt_check.specs.Roles.{HasRole, IsFirstPage, IsLaterPage}
-use Rattle.bolt_check.specs.Sound.{IsSound, IsUsed}
+use Rattle.bolt_check.specs.Sound.{HasRightAccounts, IsSound, IsUsed}
 use Rattle.bolt_check.specs.Private.Tables.{IsClaimed, is_used, use_at}
 use Rattle.bolt_check.specs.Private.Uses.{HasUse, IsMetaUse, IsNoted, UseAt, use_of}
 use Rattle.bolt_check.specs.Ways.{At_inline, At_page, Reach, Spot, reached}
@@ -136,18 +136,13 @@ pub page_positive : (file : List ℕ) (meta : Meta) → IsSound file meta true �
 page_positive file meta sound = slot_positive file sound.slot meta sound.valid
 
 -- the uses of a sound file, with the freelist's span claimed or none written
-pub uses_with : (file : List ℕ) (meta : Meta) (old new : List PageUse) → IsSound file meta true → ((n : ℕ) → IsClaimed old n ↔ IsUsed file meta n)
+pub uses_with : (file : List ℕ) (meta : Meta) (old new : List PageUse) → HasRightAccounts file meta → ((n : ℕ) → IsClaimed old n ↔ IsUsed file meta n)
     → ((n : ℕ) (u : PageUse) → IsNoted old n u → HasUse (node_at file meta) (reached (node_at file meta) meta.root) IsMetaUse n u)
-    → ((meta.freelist ≡ NO_FREELIST) × (new ≡ old)) ⊎ ClaimsFreelist file meta old new → AreUses file meta new
-uses_with file meta old new sound claimed uses (inl none) = record {
-  noted = λ n u h. inl (uses n u (rw none.1 at h));
-  good = (sound.right refl).good;
-  claimed = λ n in_use. rw none.1 (elim in_use [ inl used ↦ (claimed n).1 used | inr is ↦ absurd (is.written none.0) ]);
-}
-uses_with file meta old new sound claimed uses (inr claims) = record {
-  noted = λ n u h. elim (claims.noted n u h.0) [ inl was ↦ inl (uses n u (was, h.1)) | inr is ↦ inr is ];
-  good = (sound.right refl).good;
-  claimed = λ n in_use. elim in_use [ inl used ↦ claims.kept n ((claimed n).1 used) | inr is ↦ claims.span n is ];
+    → ClaimsUses file meta old new → AreUses file meta new
+uses_with file meta old new right claimed uses claims = record {
+  noted = λ n u noted. elim (claims.noted n u noted) [ inl was ↦ inl (uses n u was) | inr is ↦ inr is ];
+  good = right.good;
+  claimed = λ n in_use. claims.claimed n (elim in_use [ inl used ↦ inl ((claimed n).1 used) | inr is ↦ inr is ]);
 }
 
 -- the freelist shares no page with those that are used

@@ -1,12 +1,12 @@
 //! Does the freelist have exactly the free pages? (docs/SOUND.md, "Accounts").
-ghost use Rattle.std.specs.Prelude.{◌≡◌, ◌≢◌, ◌≤◌, ◌<◌, ◌+◌, ◌∷◌, ℕ, [], IfOk, IfSome, MatchOption, None, length};
+ghost use Rattle.std.specs.Prelude.{◌≡◌, ◌≢◌, ◌≤◌, ◌<◌, ◌+◌, ◌∷◌, ℕ, [], IfOk, IfSome, MatchOption, None, OnOk, length};
 ghost use Rattle.bolt_format.specs.Freelists.{freelist_fault_of};
 ghost use Rattle.bolt_format.specs.declared.meta.TheConstants.{NO_FREELIST};
 ghost use Rattle.bolt_format.specs.ShownIds.{shown_ids};
 ghost use Rattle.bolt_check.specs.AccountFindings.{AreAccountFindings};
 ghost use Rattle.bolt_check.specs.Accounts.{HasAccounts, IsInFreelist, times_in};
-ghost use Rattle.bolt_check.specs.Private.Listings.{AreAllFindings, ClaimsFreelist, IsUnlisted};
-ghost use Rattle.bolt_check.specs.Private.Tables.{HasRoom, IsClaimed};
+ghost use Rattle.bolt_check.specs.Private.Listings.{AreAllFindings, ClaimsFreelist, ClaimsUses, IsUnlisted};
+ghost use Rattle.bolt_check.specs.Private.Tables.{HasRoom, IsClaimed, is_used, use_at};
 
 use crate::finding::Finding;
 use crate::listing::{Listing, list_ids};
@@ -16,7 +16,7 @@ use bolt_format::{FreeIds, Meta, free_ids, known};
 use std::alloc::{AllocError, Global};
 
 /// Tests the accounts of a file. The table has the pages that ways lead to. Returns the findings,
-/// of which there are none if the accounts are right.
+/// of which there are none if the accounts are right. Then the table has the freelist's pages too.
 pub(crate) fn test_accounts(
     alloc: Global,
     file: &[u8],
@@ -31,6 +31,7 @@ pub(crate) fn test_accounts(
     ensures right { IfOk result (λ reported. reported.items ≡ [] → HasAccounts file.now meta.now (IsClaimed table.old)) }
     ensures wrong { IfOk result (λ reported. reported.items ≢ [] → HasAccounts file.now meta.now (IsClaimed table.old) → ⊥) }
     ensures reported { IfOk result (λ reported. reported.items ≢ [] → AreAccountFindings file.now meta.now (IsClaimed table.old) reported.items) }
+    ensures uses { IfOk result (λ reported. reported.items ≡ [] → ClaimsUses file.now meta.now table.old table.new) }
 {
     let ids = match free_ids(file, meta) {
         Ok(Some(ids)) => ids,
@@ -82,7 +83,9 @@ fn test_ids(
     requires metas { (n : ℕ) → n < 2 → IsClaimed table.old n }
     requires wide { 2 ≤ length table.old }
     requires below { length table.old ≤ mark }
-    ensures { IfOk result (λ reported. AreAllFindings mark (IsClaimed table.old) (times_in (shown_ids ids.entry)) reported.items) }
+    ensures reported { IfOk result (λ reported. AreAllFindings mark (IsClaimed table.old) (times_in (shown_ids ids.entry)) reported.items) }
+    ensures used { OnOk result ((n : ℕ) → is_used (use_at table.new n) ≡ is_used (use_at table.old n)) }
+    ensures kept { OnOk result ((n : ℕ) → times_in (shown_ids ids.entry) n ≡ 0 → use_at table.new n ≡ use_at table.old n) }
 {
     let mut past = list_ids(alloc, ids, table)?;
     past.sort_unstable();

@@ -30,7 +30,7 @@ pub use finding::Finding;
 pub use no_memory::NoMemory;
 pub use role::Role;
 pub use role_table::Roles;
-pub use sound::{check, check_slot};
+pub use sound::{check, check_roles, check_slot};
 pub use spot::{BucketSpot, MAX_DEPTH, PageSpot, Spot};
 pub use tree_page::TreePage;
 pub use uses::roles;

@@ -1,5 +1,5 @@
 //! What the freelist lists: the table of pages, and the ids after it.
-ghost use Rattle.std.specs.Prelude.{◌≡◌, ◌==◌, ◌<◌, ◌+◌, ◌++◌, ◌∷◌, ℕ, [], IfOk, OnOk, filter, if◌then◌else◌, length, min, nat_le};
+ghost use Rattle.std.specs.Prelude.{◌≡◌, ◌≢◌, ◌==◌, ◌<◌, ◌+◌, ◌++◌, ◌∷◌, ℕ, [], IfOk, OnOk, filter, if◌then◌else◌, length, min, nat_le};
 ghost use Rattle.bolt_format.specs.ShownIds.{shown_ids};
 ghost use Rattle.bolt_check.specs.Accounts.{times_in};
 ghost use Rattle.bolt_check.specs.Private.Listings.{IsUnlisted};
@@ -36,6 +36,7 @@ fn listed(page_use: PageUse) -> PageUse
 fn list_id(id: u64, table: &mut [PageUse], past: &mut Vec<u64>) -> Result<(), AllocError>
     ensures used { OnOk result ((n : ℕ) → is_used (use_at table.new n) ≡ is_used (use_at table.old n)) }
     ensures times { OnOk result ((n : ℕ) → n < length table.old → times_of (use_at table.new n) ≡ min 2 (times_of (use_at table.old n) + (if id == n then 1 else 0))) }
+    ensures kept { OnOk result ((n : ℕ) → n ≢ id → use_at table.new n ≡ use_at table.old n) }
     ensures past { OnOk result (past.new.items ≡ past.old.items ++ (if nat_le (length table.old) id then id ∷ [] else [])) }
 {
     if table.len() as u64 <= id {
@@ -56,6 +57,7 @@ pub(crate) fn list_ids(
     requires { IsUnlisted table.old }
     ensures used { OnOk result ((n : ℕ) → is_used (use_at table.new n) ≡ is_used (use_at table.old n)) }
     ensures times { OnOk result ((n : ℕ) → n < length table.old → times_of (use_at table.new n) ≡ min 2 (times_in (shown_ids ids.entry) n)) }
+    ensures kept { OnOk result ((n : ℕ) → times_in (shown_ids ids.entry) n ≡ 0 → use_at table.new n ≡ use_at table.old n) }
     ensures past { IfOk result (λ past. past.items ≡ filter (λ id. nat_le (length table.old) id) (shown_ids ids.entry)) }
 {
     let mut past = Vec::new(alloc);

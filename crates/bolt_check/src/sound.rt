@@ -2,11 +2,13 @@
 ghost use Rattle.std.specs.Prelude.{◌≡◌, false, true, IfErr, IfOk};
 ghost use Rattle.bolt_format.specs.Metas.{IsChosen, IsInSlot};
 ghost use Rattle.bolt_check.specs.CheckedFiles.{bytes_of, has_accounts, meta_of};
+ghost use Rattle.bolt_check.specs.RoledFiles.{roles_checked};
 ghost use Rattle.bolt_check.specs.Sound.{HasSoundTrees, IsRefused, IsSlotRefused, IsSound};
 
 use crate::accounts::test_accounts;
 use crate::checked_file::Checked;
 use crate::fault::CheckFault;
+use crate::role_table::Roles;
 use crate::search::search;
 use bolt_format::{Slot, choose, slot_meta};
 use std::alloc::Global;
@@ -28,17 +30,35 @@ pub fn check<'a>(alloc: Global, file: &'a [u8]) -> Result<Checked<'a>, CheckFaul
     ensures accounts { IfOk result (λ checked. has_accounts checked ≡ true) }
     ensures refused { IfErr result (IsRefused file.now) }
 {
+    let roles = check_roles(alloc, file)?;
+    Ok(roles.checked())
+}
+
+/// Tests a file as `check` does, and returns the roles of its pages, which the tests have found.
+///
+/// # Errors
+///
+/// Those of `check`.
+#[tactic(auto, unfolding(crate::specs::RoledFiles::roles_checked))]
+pub fn check_roles<'a>(alloc: Global, file: &'a [u8]) -> Result<Roles<'a>, CheckFault>
+    ensures bytes { IfOk result (λ roles. bytes_of (roles_checked roles) ≡ file.now) }
+    ensures meta { IfOk result (λ roles. (slot : _) × IsChosen file.now slot (meta_of (roles_checked roles))) }
+    ensures sound { IfOk result (λ roles. IsSound file.now (meta_of (roles_checked roles)) true) }
+    ensures accounts { IfOk result (λ roles. has_accounts (roles_checked roles) ≡ true) }
+    ensures refused { IfErr result (IsRefused file.now) }
+{
     let (_, meta) = choose(file)?;
     let mut table = search(alloc, file, &meta)?;
     let findings = test_accounts(alloc, file, &meta, &mut table)?;
     if !findings.is_empty() {
         return Err(CheckFault::Accounts(findings));
     }
-    Ok(Checked {
+    let checked = Checked {
         bytes: file,
         meta,
         accounts: true,
-    })
+    };
+    Ok(Roles { checked, table })
 }
 
 /// Tests the trees of a file under the meta of a slot, active or not (docs/SOUND.md, "One meta

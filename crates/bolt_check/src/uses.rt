@@ -3,7 +3,7 @@ ghost use Rattle.std.specs.Prelude.{◌≡◌, ◌↔◌, ◌⊎◌, ℕ, IfOk, 
 ghost use Rattle.bolt_format.specs.declared.meta.TheConstants.{NO_FREELIST};
 ghost use Rattle.bolt_check.specs.CheckedFiles.{has_accounts};
 ghost use Rattle.bolt_check.specs.Nodes.{node_at};
-ghost use Rattle.bolt_check.specs.Private.Listings.{ClaimsFreelist};
+ghost use Rattle.bolt_check.specs.Private.Listings.{ClaimsUses};
 ghost use Rattle.bolt_check.specs.Private.RoleTables.{AreUses};
 ghost use Rattle.bolt_check.specs.Private.Tables.{HasRoom, IsClaimed};
 ghost use Rattle.bolt_check.specs.Private.Uses.{HasUse, IsMetaUse, IsNoted};
@@ -42,7 +42,7 @@ fn claim_written(file: &[u8], meta: &Meta, table: &mut [PageUse])
     requires sound { ∥ IsSound file.now meta.now true ∥₁ }
     requires claimed { (n : ℕ) → IsClaimed table.old n ↔ IsUsed file.now meta.now n }
     requires room { HasRoom file.now meta.now table.old }
-    ensures { (meta.now.freelist ≡ NO_FREELIST) × (table.new ≡ table.old) ⊎ ClaimsFreelist file.now meta.now table.old table.new }
+    ensures { ClaimsUses file.now meta.now table.old table.new }
 {
     if meta.freelist == NO_FREELIST {
         return;

@@ -2,7 +2,6 @@
 use Rattle.std.proofs.Common.{◌≡◌, ◌∙◌, ℕ, List, [], length, map, Option, Result, Ok, Err, inl, inr, ap, refl, subst, sym}
 use Rattle.std.specs.Result.{IsErrAnd}
 use Rattle.bolt_format.specs.declared.meta.Meta.{Meta}
-use Rattle.bolt_format.specs.declared.meta.Slot.{Slot}
 use Rattle.bolt_format.specs.Metas.{IsPageSize}
 use Rattle.bolt_check.specs.CheckedFiles.{bytes_of, meta_of}
 use Rattle.bolt_check.specs.Sound.{HasSoundTrees}
@@ -20,10 +19,11 @@ use Rattle.bolt_bulk.specs.Compacting.{layout_for}
 use Rattle.bolt_layout.specs.Copies.{layout_of_listing}
 use Rattle.bolt_cli.specs.Answers.{Answer, Compacts, Does, Ending, IsReadUnder, IsRecoveredUnder, Recovers, WritesCopy, copy_report, done, lengths_line}
 use Rattle.bolt_cli.specs.GoodCopies.{HasGoodCopies}
-use Rattle.bolt_cli.specs.declared.compact_command.WantedCopy.{WantedCopy}
+use Rattle.bolt_cli.specs.CopyKinds as kinds
 use Rattle.bolt_cli.specs.CopyEnds.{EndsCopy, shape_of}
 use Rattle.bolt_cli.specs.Failures.{copied}
 use Rattle.bolt_cli.specs.declared.copies.CopyShape.{CopyShape}
+use Rattle.bolt_cli.specs.declared.job.CompactJob.{CompactJob}
 use Rattle.bolt_bulk.specs.declared.fault.BulkFault.{BulkFault}
 use Rattle.bolt_cli.proofs.ReadFiles.{read_trees}
 
@@ -57,13 +57,13 @@ module _ {T O : Type 0} (taken : T → Option (List ℕ)) (failed : T → ℕ) (
 
   -- ---- the copy of a sound file
 
-  module _ (file : List ℕ) (slot : Option Slot) (wanted : WantedCopy) (checked : Checked) (same : bytes_of checked ≡ file) (under : IsReadUnder file slot (meta_of checked))
-      (shape : CopyShape) (is : shape ≡ shape_of wanted (meta_of checked)) where
+  module _ (file : List ℕ) (job : CompactJob) (checked : Checked) (same : bytes_of checked ≡ file) (under : IsReadUnder file job.slot (meta_of checked))
+      (shape : CopyShape) (is : shape ≡ shape_of job (meta_of checked)) where
     own_listing : (listing : List Member) × IsListing file (meta_of checked) listing
-    own_listing = has_listing file (meta_of checked) (read_trees file slot (meta_of checked) under)
+    own_listing = has_listing file (meta_of checked) (read_trees file job.slot (meta_of checked) under)
 
     abbrev Copied : O → Ending → Type 0
-    Copied out_after ending = Compacts out_taken out_failed out out_after taken failed old new file slot wanted.page_size wanted.layout wanted.snapshot ending
+    Copied out_after ending = Compacts out_taken out_failed out out_after taken failed old new file job.slot job.page_size (kinds.layout_for job.kind) (kinds.is_snapshot job.kind) ending
 
     abbrev EndedFor : Result ℕ BulkFault → List Member → Type 0
     EndedFor result listing = EndsCopy taken failed old new (layout_for shape.layout checked shape.page_size listing) shape.snapshot result
@@ -94,12 +94,12 @@ module _ {T O : Type 0} (taken : T → Option (List ℕ)) (failed : T → ℕ) (
     copy_reported count out_after ending promised size good does =
         as_copied out_after ending
         (reported shape (meta_of checked).root_sequence own_listing.0 (copy_report [] (length file)) count out_after ending (here promised) size
-        (good own_listing.0 (read_trees file slot (meta_of checked) under) own_listing.1) does)
+        (good own_listing.0 (read_trees file job.slot (meta_of checked) under) own_listing.1) does)
 
   -- ---- the copy of what is recovered
 
-  module _ (file : List ℕ) (slot : Option Slot) (wanted : WantedCopy) (meta : Meta) (under : IsRecoveredUnder file slot meta) (read : List ℕ) (same : read ≡ file)
-      (shape : CopyShape) (is : shape ≡ shape_of wanted meta) where
+  module _ (file : List ℕ) (job : CompactJob) (meta : Meta) (under : IsRecoveredUnder file job.slot meta) (read : List ℕ) (same : read ≡ file)
+      (shape : CopyShape) (is : shape ≡ shape_of job meta) where
     recovered : (listing : List Member) × IsRecovered file meta listing
     recovered = has_recovered file meta
 
@@ -107,7 +107,7 @@ module _ {T O : Type 0} (taken : T → Option (List ℕ)) (failed : T → ℕ) (
     lost = has_losses file meta
 
     abbrev CopiedRest : O → Ending → Type 0
-    CopiedRest out_after ending = Recovers out_taken out_failed out out_after taken failed old new file slot wanted.page_size wanted.layout wanted.snapshot ending
+    CopiedRest out_after ending = Recovers out_taken out_failed out out_after taken failed old new file job.slot job.page_size (kinds.layout_for job.kind) (kinds.is_snapshot job.kind) ending
 
     -- what is promised of each listing that is recovered of what is read holds of the one that there is
     there : {P : List Member → Type 0} → ForRecovered read meta P → P recovered.0

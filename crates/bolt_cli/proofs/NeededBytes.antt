@@ -1,12 +1,11 @@
 -- A job that shows nothing but metas does the same on any two files with the same metas.
-use Rattle.std.proofs.Common.{◌↔◌, inl, inr, ℕ, List, Option, None, Some, take}
+use Rattle.std.proofs.Common.{◌↔◌, inl, inr, ℕ, List, Option, None, Some, true}
 use Rattle.bolt_format.specs.Metas.{HasMetaFault, HasSlotFault, IsChosen, IsInSlot}
 use Rattle.bolt_format.specs.declared.meta.Meta.{Meta}
 use Rattle.bolt_format.specs.declared.meta.MetaFault.{MetaFault}
 use Rattle.bolt_format.specs.declared.meta.Slot.{Slot}
-use Rattle.bolt_format.specs.declared.meta.TheConstants.{METAS_END}
 use Rattle.bolt_cli.specs.Answers.{Answer, DoesJob, Ending, IsInfoAnswer}
-use Rattle.bolt_cli.specs.Needs.{needed_bytes}
+use Rattle.bolt_cli.specs.Needs.{needs_metas_alone}
 use Rattle.bolt_cli.specs.declared.job.Job.{Job}
 use Rattle.bolt_cli.specs.declared.job.Job.TheVariants as job
 
@@ -32,12 +31,20 @@ back file other s = record {
 }
 
 module _ {O T : Type 0} (out_taken : O → Option (List ℕ)) (out_failed : O → ℕ) (target_taken : T → Option (List ℕ)) (target_failed : T → ℕ)
-    (file : List ℕ) (same : SameMetas (take METAS_END file) file) where
-  pub enough : (j : Job) (out_old out_new : O) (target_old target_new : T) (ending : Ending)
-      → DoesJob out_taken out_failed out_old out_new target_taken target_failed target_old target_new (needed_bytes j file) j ending
+    (part file : List ℕ) (same : SameMetas part file) where
+  pub enough : (j : Job) → needs_metas_alone j ≡ true → (out_old out_new : O) (target_old target_new : T) (ending : Ending)
+      → DoesJob out_taken out_failed out_old out_new target_taken target_failed target_old target_new part j ending
       ↔ DoesJob out_taken out_failed out_old out_new target_taken target_failed target_old target_new file j ending
-  enough (job.Info j) out_old out_new target_old target_new ending = (
-    (λ h. (h.0, answer_there (take METAS_END file) file j.slot h.0 same h.1, h.2, h.3)),
-    (λ h. (h.0, answer_there file (take METAS_END file) j.slot h.0 (back (take METAS_END file) file same) h.1, h.2, h.3)),
+  enough (job.Info j) is out_old out_new target_old target_new ending = (
+    (λ h. (h.0, answer_there part file j.slot h.0 same h.1, h.2, h.3)),
+    (λ h. (h.0, answer_there file part j.slot h.0 (back part file same) h.1, h.2, h.3)),
   )
-  enough _ out_old out_new target_old target_new ending = (λ h. h, λ h. h)
+  enough (job.Page j) is out_old out_new target_old target_new ending = absurd (cc)
+  enough (job.Pages j) is out_old out_new target_old target_new ending = absurd (cc)
+  enough (job.Check j) is out_old out_new target_old target_new ending = absurd (cc)
+  enough (job.Buckets j) is out_old out_new target_old target_new ending = absurd (cc)
+  enough (job.Stats j) is out_old out_new target_old target_new ending = absurd (cc)
+  enough (job.Keys j) is out_old out_new target_old target_new ending = absurd (cc)
+  enough (job.Get j) is out_old out_new target_old target_new ending = absurd (cc)
+  enough (job.List j) is out_old out_new target_old target_new ending = absurd (cc)
+  enough (job.Compact j) is out_old out_new target_old target_new ending = absurd (cc)

@@ -14,12 +14,13 @@ use Rattle.bolt_format.specs.declared.meta.Meta.{Meta}
 use Rattle.bolt_cli.specs.Answers.{StopsShort, copy_page_size}
 use Rattle.bolt_cli.specs.Failures.{copied}
 use Rattle.bolt_cli.specs.SnapshotAnswers.{copy_of}
-use Rattle.bolt_cli.specs.declared.compact_command.WantedCopy.{WantedCopy}
+use Rattle.bolt_cli.specs.CopyKinds as kinds
 use Rattle.bolt_cli.specs.declared.copies.CopyShape.{CopyShape}
+use Rattle.bolt_cli.specs.declared.job.CompactJob.{CompactJob}
 
 -- the copy that is asked for of a file with this meta
-abbrev pub shape_of : WantedCopy → Meta → CopyShape
-shape_of wanted meta = record { layout = wanted.layout; page_size = copy_page_size wanted.page_size meta; snapshot = wanted.snapshot }
+abbrev pub shape_of : CompactJob → Meta → CopyShape
+shape_of job meta = record { layout = kinds.layout_for job.kind; page_size = copy_page_size job.page_size meta; snapshot = kinds.is_snapshot job.kind }
 
 -- the target accepted the whole copy without a failure, and this is its length; its layout has fewer than 2^63 bytes
 pub record IsWholeCopy {T : Type 0} (taken : T → Option (List ℕ)) (failed : T → ℕ) (old new : T) (layout copy : List ℕ) (count : ℕ) : Type 0 where

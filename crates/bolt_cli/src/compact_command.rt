@@ -5,66 +5,34 @@ ghost use Rattle.bolt_format.specs.Writes.{Writes};
 ghost use Rattle.bolt_recover.specs.ShownLosses.{loss_view};
 ghost use Rattle.bolt_cli.specs.Answers.{Compacts, Does, MakesCopy, Recovers, copy_report, lengths_line, lost_status};
 ghost use Rattle.bolt_cli.specs.CopyEnds.{shape_of};
+ghost use Rattle.bolt_cli.specs.CopyKinds.{is_snapshot, layout_for};
 
 use crate::copies::{CopyShape, copy_checked, copy_recovered};
 use crate::decimals::put_number_and;
 use crate::failure::Failure;
 use crate::good_copies::file_has_good_copies;
+use crate::job::CompactJob;
 use crate::open_read::open_read;
 use crate::open_recovery::open_recovery;
-use crate::page_size::PageSize;
-use bolt_format::{Meta, Sink, SinkFault, Slot};
-use bolt_layout::Layout;
+use bolt_format::{Meta, Sink, SinkFault};
 use bolt_recover::Loss;
 use bolt_report::losses_text;
 use std::alloc::Global;
-
-/// The copy that is asked for.
-#[derive(Clone, Copy, Debug)]
-pub(crate) struct WantedCopy {
-    /// Its page size. Without one it has that of the file.
-    pub page_size: Option<PageSize>,
-    pub layout: Layout,
-    /// Whether it is a snapshot, which ends with the hash of its layout.
-    pub snapshot: bool,
-    /// Whether it is of what a damaged file still holds.
-    pub recover: bool,
-}
-
-impl WantedCopy {
-    /// What the copy of a file with this meta is to look like.
-    fn shape(&self, meta: &Meta) -> CopyShape
-        requires { IsPageSize meta.now.page_size }
-        ensures shape { result ≡ shape_of self.now meta.now }
-        ensures accepted { IsPageSize result.page_size }
-    {
-        let page_size = match self.page_size {
-            Some(size) => size.bytes,
-            None => u64::from(meta.page_size),
-        };
-        CopyShape {
-            layout: self.layout,
-            page_size,
-            snapshot: self.snapshot,
-        }
-    }
-}
 
 /// Writes the compact copy that is asked for to `target`, and then what is reported of it to `out`.
 pub(crate) fn write_copy<O: Sink, T: Sink>(
     alloc: Global,
     file: &[u8],
-    slot: Option<Slot>,
-    wanted: &WantedCopy,
+    job: &CompactJob,
     out: &mut O,
     target: &mut T,
 ) -> Result<u8, Failure>
-    ensures { MakesCopy O.taken O.failed out.old out.new T.taken T.failed target.old target.new file.now slot wanted.now.page_size wanted.now.layout wanted.now.snapshot wanted.now.recover result }
+    ensures { MakesCopy O.taken O.failed out.old out.new T.taken T.failed target.old target.new file.now job.now.slot job.now.page_size (layout_for job.now.kind) (is_snapshot job.now.kind) job.now.recover result }
 {
-    if wanted.recover {
-        write_recovered(alloc, file, slot, wanted, out, target)
+    if job.recover {
+        write_recovered(alloc, file, job, out, target)
     } else {
-        write_sound(alloc, file, slot, wanted, out, target)
+        write_sound(alloc, file, job, out, target)
     }
 }
 
@@ -72,17 +40,16 @@ pub(crate) fn write_copy<O: Sink, T: Sink>(
 fn write_sound<O: Sink, T: Sink>(
     alloc: Global,
     file: &[u8],
-    slot: Option<Slot>,
-    wanted: &WantedCopy,
+    job: &CompactJob,
     out: &mut O,
     target: &mut T,
 ) -> Result<u8, Failure>
-    ensures { Compacts O.taken O.failed out.old out.new T.taken T.failed target.old target.new file.now slot wanted.now.page_size wanted.now.layout wanted.now.snapshot result }
+    ensures { Compacts O.taken O.failed out.old out.new T.taken T.failed target.old target.new file.now job.now.slot job.now.page_size (layout_for job.now.kind) (is_snapshot job.now.kind) result }
 {
-    let checked = open_read(alloc, file, slot)?;
+    let checked = open_read(alloc, file, job.slot)?;
     let meta = checked.meta();
     file_has_good_copies(file, meta.root_sequence);
-    let shape = wanted.shape(&meta);
+    let shape = shape_of(job, &meta);
     let length = copy_checked(alloc, checked, &shape, target)?;
     put_report(&[], file.len() as u64, length, out)
 }
@@ -91,19 +58,35 @@ fn write_sound<O: Sink, T: Sink>(
 fn write_recovered<O: Sink, T: Sink>(
     alloc: Global,
     file: &[u8],
-    slot: Option<Slot>,
-    wanted: &WantedCopy,
+    job: &CompactJob,
     out: &mut O,
     target: &mut T,
 ) -> Result<u8, Failure>
-    ensures { Recovers O.taken O.failed out.old out.new T.taken T.failed target.old target.new file.now slot wanted.now.page_size wanted.now.layout wanted.now.snapshot result }
+    ensures { Recovers O.taken O.failed out.old out.new T.taken T.failed target.old target.new file.now job.now.slot job.now.page_size (layout_for job.now.kind) (is_snapshot job.now.kind) result }
 {
-    let mut recovery = open_recovery(alloc, file, slot)?;
+    let mut recovery = open_recovery(alloc, file, job.slot)?;
     let meta = recovery.meta();
     file_has_good_copies(file, meta.root_sequence);
-    let shape = wanted.shape(&meta);
+    let shape = shape_of(job, &meta);
     let length = copy_recovered(alloc, &mut recovery, &shape, target)?;
     put_report(recovery.losses(), file.len() as u64, length, out)
+}
+
+/// What the copy of a file with this meta is to look like.
+fn shape_of(job: &CompactJob, meta: &Meta) -> CopyShape
+    requires { IsPageSize meta.now.page_size }
+    ensures shape { result ≡ shape_of job.now meta.now }
+    ensures accepted { IsPageSize result.page_size }
+{
+    let page_size = match job.page_size {
+        Some(size) => size.bytes,
+        None => u64::from(meta.page_size),
+    };
+    CopyShape {
+        layout: job.kind.layout(),
+        page_size,
+        snapshot: job.kind.is_snapshot(),
+    }
 }
 
 /// Writes the line of each loss, and then the lengths of the file and of the copy. Returns the

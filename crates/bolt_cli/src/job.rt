@@ -2,7 +2,7 @@
 
 use crate::copy_kind::CopyKind;
 use crate::page_size::PageSize;
-use bolt_format::{METAS_END, Slot};
+use bolt_format::Slot;
 use bolt_report::{Form, ListForm};
 
 /// What the words of a command line ask for (docs/COMMANDS.md). Each command has a job of its own.
@@ -124,7 +124,7 @@ pub struct CompactJob {
 
 impl Job {
     ghost use Rattle.std.specs.Prelude.{◌≡◌, option_map};
-    ghost use Rattle.bolt_cli.specs.Needs.{needed_length};
+    ghost use Rattle.bolt_cli.specs.Needs.{needs_metas_alone};
     ghost use Rattle.bolt_cli.specs.PlainWords.{file_name, target_name};
 
     /// The name of FILE.
@@ -145,15 +145,13 @@ impl Job {
         }
     }
 
-    /// The number of FILE's first bytes that the job needs, or `None` if it needs them all. On
-    /// these bytes it does what it does on the whole file (`laws::needed_bytes_are_enough`).
-    pub fn needed_length(&self) -> Option<u64>
-        ensures { result ≡ needed_length self.now }
+    /// Whether the job needs no more of FILE than its metas. On the bytes up to their end
+    /// (`bolt_format::metas_end`) it does what it does on the whole file
+    /// (`laws::needed_bytes_are_enough`).
+    pub fn needs_metas_alone(&self) -> bool
+        ensures { result ≡ needs_metas_alone self.now }
     {
-        match self {
-            Job::Info(_) => Some(METAS_END),
-            _ => None,
-        }
+        matches!(self, Job::Info(_))
     }
 
     /// The name of OUT, if the job writes a file.

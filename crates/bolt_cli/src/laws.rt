@@ -1,6 +1,7 @@
 //! What the definitions of answers imply.
 ghost use Rattle.std.specs.Prelude.{◌≡◌, ◌≢◌, ◌↔◌, ◌⊎◌, ◌<◌, ◌^◌, ℕ, Bool, false, true, List, None, Ok, Option, Some, codes, length, take};
 ghost use Rattle.bolt_check.specs.Sound.{HasSoundTrees};
+ghost use Rattle.bolt_format.specs.Metas.{IsMetasEnd};
 ghost use Rattle.bolt_format.specs.declared.meta.Meta.{Meta};
 ghost use Rattle.bolt_format.specs.declared.meta.Slot.{Slot};
 ghost use Rattle.bolt_layout.specs.Copies.{IsOfOneTree};
@@ -10,7 +11,7 @@ ghost use Rattle.bolt_tree.specs.Listing.{Member};
 ghost use Rattle.bolt_tree.specs.Paths.{Path};
 ghost use Rattle.bolt_cli.specs.Answers.{Answer, DoesJob, Ending, IsCheckAnswer, IsListedAnswer, IsShownMeta, MakesCopy, done, refused};
 ghost use Rattle.bolt_cli.specs.GoodCopies.{HasGoodCopies, IsGoodCopy};
-ghost use Rattle.bolt_cli.specs.Needs.{needed_bytes};
+ghost use Rattle.bolt_cli.specs.Needs.{needs_metas_alone};
 ghost use Rattle.bolt_cli.specs.SnapshotAnswers.{copy_of};
 ghost use Rattle.bolt_cli.specs.declared.failure.Failure.TheVariants as failure;
 ghost use Rattle.bolt_cli.specs.declared.job.Job.{Job};
@@ -25,10 +26,12 @@ use bolt_recover::laws::{
 };
 use bolt_snapshot::laws::{hashed_blocks_are_a_snapshot, trailing_bytes_change_nothing};
 
-/// A job does on the bytes that it needs exactly what it does on the whole file.
+/// A job that needs the metas alone does on the bytes up to their end, which the first 80 tell,
+/// exactly what it does on the whole file.
 pub fn needed_bytes_are_enough<O: Sink, T: Sink>()
-    ensures { (file : List ℕ) (job : Job) (out_old out_new : O) (target_old target_new : T) (ending : Ending)
-        → DoesJob O.taken O.failed out_old out_new T.taken T.failed target_old target_new (needed_bytes job file) job ending
+    ensures { (file : List ℕ) (end : ℕ) (job : Job) → needs_metas_alone job ≡ true → IsMetasEnd (take 80 file) end
+        → (out_old out_new : O) (target_old target_new : T) (ending : Ending)
+        → DoesJob O.taken O.failed out_old out_new T.taken T.failed target_old target_new (take end file) job ending
         ↔ DoesJob O.taken O.failed out_old out_new T.taken T.failed target_old target_new file job ending }
 {
     metas_lie_in_a_prefix();

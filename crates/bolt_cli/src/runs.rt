@@ -4,7 +4,7 @@ ghost use Rattle.bolt_cli.specs.Answers.{DoesJob, Ending, Accepts, error_text, s
 
 use crate::buckets_command::print_buckets;
 use crate::check_command::print_check;
-use crate::compact_command::{WantedCopy, write_copy};
+use crate::compact_command::write_copy;
 use crate::failure::{Failure, put_failure};
 use crate::get_command::print_value;
 use crate::info_command::print_info;
@@ -74,14 +74,6 @@ fn do_job<O: Sink, T: Sink>(
         Job::Keys(job) => print_keys(alloc, file, job, out),
         Job::Get(job) => print_value(alloc, file, job, out),
         Job::List(job) => print_list(alloc, file, job, out),
-        Job::Compact(job) => {
-            let wanted = WantedCopy {
-                page_size: job.page_size,
-                layout: job.kind.layout(),
-                snapshot: job.kind.is_snapshot(),
-                recover: job.recover,
-            };
-            write_copy(alloc, file, job.slot, &wanted, out, target)
-        }
+        Job::Compact(job) => write_copy(alloc, file, job, out, target),
     }
 }

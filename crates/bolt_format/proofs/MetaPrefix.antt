@@ -4,13 +4,12 @@ use Rattle.std.proofs.lemmas.List.{drop-take, length-take, take-take}
 use Rattle.byteorder.specs.Endian.{little_number}
 use Rattle.byteorder.specs.Numbers.{little_from-take}
 use Rattle.bolt_format.specs.Bytes.{fnv_of, number_at}
-use Rattle.bolt_format.specs.Metas.{HasMetaFault, HasSlotFault, IsChosen, IsInOne, IsInSlot, IsLoneMeta, IsMeta, IsPageSize, IsPlaced, IsWhole, meta_fields, other_slot, size_at}
+use Rattle.bolt_format.specs.Metas.{HasMetaFault, HasSlotFault, IsChosen, IsInOne, IsInSlot, IsLoneMeta, IsMeta, IsMetasEnd, IsPageSize, IsPlaced, IsWhole, meta_fields, other_slot, size_at}
 use Rattle.bolt_format.specs.declared.meta.Meta.{Meta}
 use Rattle.bolt_format.specs.declared.meta.MetaFault.{MetaFault}
 use Rattle.bolt_format.specs.declared.meta.MetaFault.TheVariants.{Cut, Magic, Version, Sum, PageSize}
 use Rattle.bolt_format.specs.declared.meta.Slot.{Slot}
 use Rattle.bolt_format.specs.declared.meta.Slot.TheVariants.{Zero, One}
-use Rattle.bolt_format.specs.declared.meta.TheConstants.{METAS_END}
 use Rattle.bolt_format.proofs.PageSizes.{size_bounds}
 
 -- ---- two files with the same record at a byte
@@ -67,33 +66,40 @@ fault_same file other at PageSize s (whole, magic, version, sum, inl bad) =
 fault_same file other at PageSize s (whole, magic, version, sum, inr bad) =
     (s.whole whole, s.numbers 16 4 (omega arith) ∙ magic, s.numbers 20 4 (omega arith) ∙ version, sum_same file other at s sum, inr (λ good. bad (placed_same other file at (same_back file other at s) good)))
 
--- ---- two files with the same record wherever a meta page may begin
+-- ---- two files with the same metas
 
-abbrev pub SameMetas : List ℕ → List ℕ → Type 0
-SameMetas file other = (at : ℕ) → (at ≡ 0) ⊎ IsPageSize at → SameRecord file other at
+-- the records that the metas of the first are read from are the same
+pub record SameMetas (file other : List ℕ) : Type 0 where
+  pub first : SameRecord file other 0
+  pub second : (zero : Meta) → IsMeta file 0 zero → SameRecord file other zero.page_size
+  pub alone : ((zero : Meta) → IsMeta file 0 zero → ⊥) → (at : ℕ) → IsPageSize at → SameRecord file other at
 
-metas_back : (file other : List ℕ) → SameMetas file other → SameMetas other file
-metas_back file other s = λ at h. same_back file other at (s at h)
-
-size_of : (file : List ℕ) (at : ℕ) (meta : Meta) → IsMeta file at meta → IsPageSize meta.page_size
-size_of file at meta valid = subst (λ (m : Meta). IsPageSize m.page_size) (sym valid.fields) valid.size
-
-lone_same : (file other : List ℕ) (meta : Meta) → SameMetas file other → IsLoneMeta file meta → IsLoneMeta other meta
-lone_same file other meta s lone = record {
-  at = lone.at;
-  tried = lone.tried;
-  valid = meta_same file other lone.at meta (s lone.at (inr lone.tried)) lone.valid;
-  least = λ before m size less valid. lone.least before m size less (meta_same other file before m (metas_back file other s before (inr size)) valid);
+pub metas_back : (file other : List ℕ) → SameMetas file other → SameMetas other file
+metas_back file other s = record {
+  first = same_back file other 0 s.first;
+  second = λ zero valid. same_back file other zero.page_size (s.second zero (meta_same other file 0 zero (same_back file other 0 s.first) valid));
+  alone = λ none at size. same_back file other at (s.alone (λ zero valid. none zero (meta_same file other 0 zero s.first valid)) at size);
 }
 
+lone_same : (file other : List ℕ) (meta : Meta) → SameMetas file other → ((zero : Meta) → IsMeta file 0 zero → ⊥) → IsLoneMeta file meta → IsLoneMeta other meta
+lone_same file other meta s none lone = record {
+  at = lone.at;
+  tried = lone.tried;
+  valid = meta_same file other lone.at meta (s.alone none lone.at lone.tried) lone.valid;
+  least = λ before m size less valid. lone.least before m size less (meta_same other file before m (same_back file other before (s.alone none before size)) valid);
+}
+
+-- slot zero has no valid record either
+none_same : (file other : List ℕ) → SameMetas file other → ((zero : Meta) → IsMeta file 0 zero → ⊥) → (zero : Meta) → IsMeta other 0 zero → ⊥
+none_same file other s none zero valid = none zero (meta_same other file 0 zero (same_back file other 0 s.first) valid)
+
 one_same : (file other : List ℕ) (meta : Meta) → SameMetas file other → IsInOne file meta → IsInOne other meta
-one_same file other meta s (inl (first_meta, first, second)) =
-    inl (first_meta, meta_same file other 0 first_meta (s 0 (inl refl)) first, meta_same file other first_meta.page_size meta (s first_meta.page_size (inr (size_of file 0 first_meta first))) second)
-one_same file other meta s (inr (none, lone)) =
-    inr (λ m valid. none m (meta_same other file 0 m (metas_back file other s 0 (inl refl)) valid), lone_same file other meta s lone)
+one_same file other meta s (inl (zero, first, second)) =
+    inl (zero, meta_same file other 0 zero s.first first, meta_same file other zero.page_size meta (s.second zero first) second)
+one_same file other meta s (inr (none, lone)) = inr (none_same file other s none, lone_same file other meta s none lone)
 
 pub slot_same : (file other : List ℕ) (slot : Slot) (meta : Meta) → SameMetas file other → IsInSlot file slot meta → IsInSlot other slot meta
-slot_same file other Zero meta s valid = meta_same file other 0 meta (s 0 (inl refl)) valid
+slot_same file other Zero meta s valid = meta_same file other 0 meta s.first valid
 slot_same file other One meta s valid = one_same file other meta s valid
 
 pub chosen_same : (file other : List ℕ) (slot : Slot) (meta : Meta) → SameMetas file other → IsChosen file slot meta → IsChosen other slot meta
@@ -103,14 +109,13 @@ chosen_same file other slot meta s chosen = record {
 }
 
 pub first_fault_same : (file other : List ℕ) (fault : MetaFault) → SameMetas file other → HasMetaFault file 0 fault → HasMetaFault other 0 fault
-first_fault_same file other fault s h = fault_same file other 0 fault (s 0 (inl refl)) h
+first_fault_same file other fault s h = fault_same file other 0 fault s.first h
 
 pub slot_fault_same : (file other : List ℕ) (slot : Slot) (fault : MetaFault) → SameMetas file other → HasSlotFault file slot fault → HasSlotFault other slot fault
 slot_fault_same file other Zero fault s h = first_fault_same file other fault s h
-slot_fault_same file other One fault s (inl (first_meta, first, h)) =
-    inl (first_meta, meta_same file other 0 first_meta (s 0 (inl refl)) first, fault_same file other first_meta.page_size fault (s first_meta.page_size (inr (size_of file 0 first_meta first))) h)
-slot_fault_same file other One fault s (inr (none, h)) =
-    inr (λ m valid. none m (meta_same other file 0 m (metas_back file other s 0 (inl refl)) valid), first_fault_same file other fault s h)
+slot_fault_same file other One fault s (inl (zero, first, h)) =
+    inl (zero, meta_same file other 0 zero s.first first, fault_same file other zero.page_size fault (s.second zero first) h)
+slot_fault_same file other One fault s (inr (none, h)) = inr (none_same file other s none, first_fault_same file other fault s h)
 
 -- ---- a file and its prefix
 
@@ -138,9 +143,20 @@ same_record file end at h =
       hashed = prefix_hashed file end (at + 16) 56 (omega (arith, h));
     }
 
-pub same_metas : (file : List ℕ) → SameMetas file (take METAS_END file)
-same_metas file at (inl first) = same_record file METAS_END at (omega (arith, first))
-same_metas file at (inr size) = same_record file METAS_END at (omega (arith, size_bounds at size))
+-- a record at byte 0 that is valid in a prefix of 80 bytes is valid in the file, and the other way round
+first_valid : (file : List ℕ) (zero : Meta) → IsMeta (take 80 file) 0 zero → IsMeta file 0 zero
+first_valid file zero valid = meta_same (take 80 file) file 0 zero (same_back file (take 80 file) 0 (same_record file 80 0 (omega arith))) valid
 
-pub metas_same : (file : List ℕ) → SameMetas (take METAS_END file) file
-metas_same file = metas_back file (take METAS_END file) (same_metas file)
+pub same_metas : (file : List ℕ) (end : ℕ) → IsMetasEnd (take 80 file) end → SameMetas file (take end file)
+same_metas file end (inl (zero, valid, is)) =
+    let there = first_valid file zero valid in record {
+      first = same_record file end 0 (omega (arith, is));
+      second = λ other found. let same : other.page_size ≡ zero.page_size = ap (λ (m : Meta). m.page_size) (found.fields ∙ sym there.fields) in
+          same_record file end other.page_size (omega (arith, is, same));
+      alone = λ none at size. absurd (none zero there);
+    }
+same_metas file end (inr (none, is)) = record {
+  first = same_record file end 0 (omega (arith, is));
+  second = λ zero found. absurd (none zero (meta_same file (take 80 file) 0 zero (same_record file 80 0 (omega arith)) found));
+  alone = λ no at size. same_record file end at (omega (arith, is, size_bounds at size));
+}

@@ -6,6 +6,7 @@ use Rattle.bolt_format.specs.declared.meta.Meta.{Meta}
 use Rattle.bolt_format.specs.declared.meta.Slot.{Slot}
 use Rattle.bolt_format.specs.declared.meta.Slot.TheVariants.{Zero, One}
 use Rattle.bolt_format.specs.declared.meta.MetaFault.{MetaFault}
+use Rattle.bolt_format.specs.declared.meta.TheConstants.{METAS_END}
 use Rattle.bolt_format.specs.declared.meta.MetaFault.TheVariants.{Cut, Magic, Version, Sum, PageSize}
 
 -- the 16 powers of two from 1,024 to 33,554,432
@@ -90,6 +91,12 @@ IsInOne file meta =
 abbrev pub IsInSlot : List ℕ → Slot → Meta → Type 0
 IsInSlot file Zero meta = IsMeta file 0 meta
 IsInSlot file One meta = IsInOne file meta
+
+-- how many bytes the metas need: to the end of slot one's record, if slot zero is valid, and else to the last place where it may be
+abbrev pub IsMetasEnd : List ℕ → ℕ → Type 0
+IsMetasEnd file end =
+    ((zero : Meta) × IsMeta file 0 zero × (end ≡ zero.page_size + 80))
+    ⊎ (((zero : Meta) → IsMeta file 0 zero → ⊥) × (end ≡ METAS_END))
 
 -- Why a slot has no valid record: the fault of its byte, or of byte 0 if the byte of slot one isn't known.
 abbrev pub HasSlotFault : List ℕ → Slot → MetaFault → Type 0

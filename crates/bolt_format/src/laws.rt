@@ -3,7 +3,7 @@ ghost use Rattle.std.specs.Prelude.{◌≡◌, ◌⊎◌, ◌↔◌, ◌<◌, �
 ghost use Rattle.bolt_format.specs.Bytes.{IsBytes};
 ghost use Rattle.bolt_format.specs.ElementLengths.{HasFitLengths};
 ghost use Rattle.bolt_format.specs.Elements.{IsBucketValue, LeafElement, element_at, head_root, inline_elements};
-ghost use Rattle.bolt_format.specs.Metas.{HasMetaFault, HasSlotFault, IsChosen, IsInSlot, IsMeta};
+ghost use Rattle.bolt_format.specs.Metas.{HasMetaFault, HasSlotFault, IsChosen, IsInSlot, IsMeta, IsMetasEnd};
 ghost use Rattle.bolt_format.specs.Pages.{PageView, page_at};
 ghost use Rattle.bolt_format.specs.ReadBack.{IsBranchHeader, IsBranchHeaderFit, IsHead, IsHeader, IsHeaderFit, IsLeafHeader, IsLeafHeaderFit, IsMetaFit};
 ghost use Rattle.bolt_format.specs.Written.{branch_header, head_bytes, header_bytes, leaf_header, meta_bytes};
@@ -12,7 +12,6 @@ ghost use Rattle.bolt_format.specs.declared.kind.Kind.TheVariants as kind;
 ghost use Rattle.bolt_format.specs.declared.meta.Meta.{Meta};
 ghost use Rattle.bolt_format.specs.declared.meta.MetaFault.{MetaFault};
 ghost use Rattle.bolt_format.specs.declared.meta.Slot.{Slot};
-ghost use Rattle.bolt_format.specs.declared.meta.TheConstants.{METAS_END};
 
 /// A page has at most one meta fault, and none if its meta is valid.
 pub fn meta_fault_is_one()
@@ -31,13 +30,13 @@ pub fn chosen_meta_is_one()
         → (other : Slot) (another : Meta) → IsChosen file other another → (other ≡ slot) × (another ≡ meta) }
 {}
 
-/// All metas of a file, and the faults of slots without a valid one, are those of its first
-/// `METAS_END` bytes.
+/// All metas of a file, and the faults of slots without a valid one, are those of a prefix. Its
+/// length is known by the first 80 bytes.
 pub fn metas_lie_in_a_prefix()
-    ensures chosen { (file : List ℕ) (slot : Slot) (meta : Meta) → IsChosen (take METAS_END file) slot meta ↔ IsChosen file slot meta }
-    ensures slot { (file : List ℕ) (slot : Slot) (meta : Meta) → IsInSlot (take METAS_END file) slot meta ↔ IsInSlot file slot meta }
-    ensures fault { (file : List ℕ) (fault : MetaFault) → HasMetaFault (take METAS_END file) 0 fault ↔ HasMetaFault file 0 fault }
-    ensures slot_fault { (file : List ℕ) (slot : Slot) (fault : MetaFault) → HasSlotFault (take METAS_END file) slot fault ↔ HasSlotFault file slot fault }
+    ensures chosen { (file : List ℕ) (end : ℕ) → IsMetasEnd (take 80 file) end → (slot : Slot) (meta : Meta) → IsChosen (take end file) slot meta ↔ IsChosen file slot meta }
+    ensures slot { (file : List ℕ) (end : ℕ) → IsMetasEnd (take 80 file) end → (slot : Slot) (meta : Meta) → IsInSlot (take end file) slot meta ↔ IsInSlot file slot meta }
+    ensures fault { (file : List ℕ) (end : ℕ) → IsMetasEnd (take 80 file) end → (fault : MetaFault) → HasMetaFault (take end file) 0 fault ↔ HasMetaFault file 0 fault }
+    ensures slot_fault { (file : List ℕ) (end : ℕ) → IsMetasEnd (take 80 file) end → (slot : Slot) (fault : MetaFault) → HasSlotFault (take end file) slot fault ↔ HasSlotFault file slot fault }
 {}
 
 /// The elements of a good leaf and of an inline bucket have lengths that the format allows. A

@@ -33,7 +33,7 @@ pub use header::HEADER_LEN;
 pub use kind::Kind;
 pub use mem_sink::MemSink;
 pub use meta::{
-    META_LEN, METAS_END, Meta, MetaFault, NO_FREELIST, Slot, choose, meta_at, page_size_ok,
+    META_LEN, METAS_END, Meta, MetaFault, NO_FREELIST, Slot, choose, meta_at, metas_end, page_size_ok,
     slot_meta,
 };
 pub use open_bucket::{head, inline};

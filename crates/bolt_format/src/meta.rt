@@ -1,6 +1,6 @@
 //! The two meta records of a file, and which of them is active.
 ghost use Rattle.std.specs.Prelude.{◌≡◌, ◌↔◌, IfErr, IfNone, IfOk, IfSome, IsTrue, OnErr};
-ghost use Rattle.bolt_format.specs.Metas.{HasMetaFault, HasSlotFault, IsChosen, IsInSlot, IsLoneMeta, IsMeta, IsPageSize};
+ghost use Rattle.bolt_format.specs.Metas.{HasMetaFault, HasSlotFault, IsChosen, IsInSlot, IsLoneMeta, IsMeta, IsMetasEnd, IsPageSize};
 
 use crate::bytes::{u32_at, u64_at};
 use crate::checksum::fnv1a;
@@ -154,6 +154,18 @@ pub fn slot_meta(file: &[u8], slot: Slot) -> Result<Meta, MetaFault>
             Ok(zero) => meta_at(file, zero.page_size as usize),
             Err(fault) => lone_meta(file).ok_or(fault),
         },
+    }
+}
+
+/// How many bytes of a file its metas need, by its first 80 bytes or more: if slot zero has a valid
+/// meta, its page size and 80 bytes; otherwise `METAS_END`. The metas of these bytes, and the faults
+/// of their slots, are those of the file (`laws::metas_lie_in_a_prefix`).
+pub fn metas_end(first: &[u8]) -> u64
+    ensures { IsMetasEnd first.now result }
+{
+    match meta_at(first, 0) {
+        Ok(zero) => u64::from(zero.page_size) + META_LEN as u64,
+        Err(_) => METAS_END,
     }
 }
 

@@ -3,7 +3,7 @@
 #![tactic(auto)]
 
 use bolt_cli::{Job, Refusal, read_words, run};
-use bolt_format::{MemSink, Sink, WriteSink};
+use bolt_format::{META_LEN, MemSink, Sink, WriteSink, metas_end};
 use std::cell::Cell;
 use std::env;
 use std::fs::{File, Metadata, OpenOptions};
@@ -129,22 +129,32 @@ fn read_source(rt: &HostRuntime, job: &Job) -> Result<Source, Unread> {
     Err(Unread::Changed)
 }
 
-/// Reads FILE from its start, or only its first bytes if the job needs no more. Returns `None` if
-/// FILE was changed while it was read. That is asked of regular files that are read whole.
+/// Reads FILE from its start, or only its metas if the job needs no more. Returns `None` if FILE was
+/// changed while it was read. That is asked of regular files that are read whole.
 fn read_once(rt: &HostRuntime, job: &Job) -> io::Result<Option<Source>> {
     let mut file = File::open(rt, job.file())?;
     let before = file.metadata()?;
-    let mut bytes = Vec::new(rt.alloc());
-    if let Some(length) = job.needed_length() {
-        file.take(length).read_to_end(&mut bytes)?;
-    } else {
-        file.read_to_end(&mut bytes)?;
-        if before.is_file() && Stamp::of(&before) != Stamp::of(&file.metadata()?) {
-            return Ok(None);
-        }
-    }
     let permissions = before.mode() & PERMISSIONS;
+    if job.needs_metas_alone() {
+        let bytes = read_metas(rt, file)?;
+        return Ok(Some(Source { bytes, permissions }));
+    }
+    let mut bytes = Vec::new(rt.alloc());
+    file.read_to_end(&mut bytes)?;
+    if before.is_file() && Stamp::of(&before) != Stamp::of(&file.metadata()?) {
+        return Ok(None);
+    }
     Ok(Some(Source { bytes, permissions }))
+}
+
+/// Reads the first bytes of FILE, up to the end of its metas.
+fn read_metas(rt: &HostRuntime, file: File) -> io::Result<Vec<u8>> {
+    let mut bytes = Vec::new(rt.alloc());
+    let mut first = file.take(META_LEN as u64);
+    first.read_to_end(&mut bytes)?;
+    first.set_limit(metas_end(bytes.as_slice()).saturating_sub(META_LEN as u64));
+    first.read_to_end(&mut bytes)?;
+    Ok(bytes)
 }
 
 /// What the file system changes whenever a file is written.

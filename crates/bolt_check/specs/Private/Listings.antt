@@ -2,9 +2,10 @@
 use Rattle.std.specs.Prelude.{◌≡◌, ◌≤◌, ◌<◌, ◌==◌, ◌⊎◌, ◌&&◌, ℕ, suc, ◌+◌, ◌-◌, max, slice_index, Bool, List, [], ◌∷◌, ◌↔◌, All, AllPairs, Contains, length, nat_lt, if◌then◌else◌}
 use Rattle.std.specs.List.Sorted.{IsNonDecreasing}
 use Rattle.bolt_format.specs.declared.meta.Meta.{Meta}
-use Rattle.bolt_check.specs.Accounts.{IsInFreelist, times_in}
+use Rattle.bolt_check.specs.Accounts.{IsInFreelist, IsInUse, times_in}
 use Rattle.bolt_check.specs.Findings.{finding}
 use Rattle.bolt_check.specs.Private.Tables.{IsClaimed, use_at, times_of}
+use Rattle.bolt_check.specs.Private.Uses.{IsNoted}
 use Rattle.bolt_check.specs.AccountFindings.{IsAccountFinding, IsBefore, IsLost}
 use Rattle.bolt_check.specs.declared.finding.Finding.{Finding}
 use Rattle.bolt_check.specs.declared.finding.TheConstants.Finding.{FREED_TWICE, FREE_RANGE, REACHED_FREED, UNREACHABLE}
@@ -115,3 +116,8 @@ pub record ClaimsFreelist (file : List ℕ) (meta : Meta) (old new : List PageUs
   pub span : (n : ℕ) → IsInFreelist file meta n → IsClaimed new n
   pub unlisted : IsUnlisted old → IsUnlisted new
   pub noted : (n : ℕ) (page_use : PageUse) → use_at new n ≡ page_use → (use_at old n ≡ page_use) ⊎ (IsInFreelist file meta n × (page_use ≡ Used))
+
+-- the table, after it was given the freelist's span: what it has of pages in use, whether these are listed or not
+pub record ClaimsUses (file : List ℕ) (meta : Meta) (old new : List PageUse) : Type 0 where
+  pub noted : (n : ℕ) (page_use : PageUse) → IsNoted new n page_use → IsNoted old n page_use ⊎ (IsInFreelist file meta n × (page_use ≡ Used))
+  pub claimed : (n : ℕ) → IsInUse file meta (IsClaimed old) n → IsClaimed new n

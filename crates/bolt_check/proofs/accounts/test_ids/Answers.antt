@@ -9,8 +9,8 @@ report_listing-requires c =
     settled c.args.table.now (shown_ids c.args.ids) c.in_ok-past.past.items c.sort_unstable.new.self.items _ long c.in_ok-past.ensures.used c.in_ok-past.ensures.past
     c.sort_unstable.ensures.permutation c.deref.ensures.value c.sort_unstable.ensures.sorted c.requires.metas c.requires.wide c.requires.below
 
-pub returns : goal.returns
-returns c =
+pub returns-clause-reported : goal.returns-clause-reported
+returns-clause-reported c =
     let long : length c.list_ids.new.table ≡ length c.args.table.now = omega arith in
     listing_reported c.args.table.now (shown_ids c.args.ids) c.in_ok-past.past.items c.sort_unstable.new.self.items _ long c.in_ok-past.ensures.used c.in_ok-past.ensures.past
     c.sort_unstable.ensures.permutation c.deref.ensures.value

@@ -1,7 +1,7 @@
 use Rattle.std.proofs.Common.{◌≡◌, ◌∙◌, ◌<◌, length, nat_le, arith}
 use Rattle.bolt_format.specs.ShownIds.{shown_ids}
 use Rattle.bolt_check.specs.Private.Tables.{use_at, times_of}
-use Rattle.bolt_check.proofs.ListLemmas.{past_more, times_more}
+use Rattle.bolt_check.proofs.ListLemmas.{past_more, times_before, times_more}
 use Rattle.bolt_check.proofs.listing.list_ids.Goals as goal
 
 pub loop-i-preserved : goal.loop-i-preserved
@@ -13,5 +13,7 @@ loop-i-preserved c =
       used = λ n. now.used n ∙ c.loop-i.invariant.used n;
       times = λ n h. now.times n (omega arith)
           ∙ times_more (shown_ids c.args.ids) c.loop-i.i c.get.result n (times_of (use_at c.loop-i.table n)) inside c.get.ensures (c.loop-i.invariant.times n h);
+      kept = λ n none. let before = times_before (shown_ids c.args.ids) c.loop-i.i c.get.result n inside c.get.ensures none in
+          now.kept n before.1 ∙ c.loop-i.invariant.kept n before.0;
       past = (rw long at now.past) ∙ past_more (λ id. nat_le (length c.args.table.now) id) (shown_ids c.args.ids) c.loop-i.i c.get.result c.loop-i.past.items inside c.get.ensures c.loop-i.invariant.past;
     }

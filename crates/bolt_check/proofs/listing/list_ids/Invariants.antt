@@ -9,5 +9,6 @@ abbrev pub invariant-loop-i : goal.invariant-loop-i
 invariant-loop-i l = record {
   used : (n : ℕ) → is_used (use_at l.table n) ≡ is_used (use_at l.fn.table n);
   times : (n : ℕ) → n < length l.fn.table → times_of (use_at l.table n) ≡ min 2 (times_in (take l.i (shown_ids l.ids)) n);
+  kept : (n : ℕ) → times_in (take l.i (shown_ids l.ids)) n ≡ 0 → use_at l.table n ≡ use_at l.fn.table n;
   past : l.past.items ≡ filter (λ id. nat_le (length l.fn.table) id) (take l.i (shown_ids l.ids));
 }

@@ -1,4 +1,4 @@
-use Rattle.std.proofs.Common.{◌≡◌, ap, arith, drop, length}
+use Rattle.std.proofs.Common.{◌≡◌, ap, arith, drop, length, refl}
 use Rattle.std.proofs.Math.Logic.{∥∥₁_map}
 use Rattle.std.proofs.lemmas.Grind.{common_steps}
 use Rattle.bolt_check.proofs.RoleLemmas.{uses_with}
@@ -13,4 +13,4 @@ returns c =
     let kept = written table.len c.claim_written.new.table (drop (length c.claim_written.new.table) table.items) len in
     let claims = rw c.deref_mut.ensures.value at c.claim_written.ensures in
     rw kept
-    (∥∥₁_map c.requires (λ sound. uses_with c.args.file.now c.args.meta.now table.items c.claim_written.new.table sound c.in_ok-table.ensures.claimed c.in_ok-table.ensures.uses claims))
+    (∥∥₁_map c.requires (λ sound. uses_with c.args.file.now c.args.meta.now table.items c.claim_written.new.table (sound.right refl) c.in_ok-table.ensures.claimed c.in_ok-table.ensures.uses claims))

@@ -11,23 +11,23 @@ use Rattle.bolt_cli.proofs.compact_command.write_recovered.Goals as goal
 pub returns-in_err-recovery : goal.returns-in_err-recovery
 returns-in_err-recovery g c =
     let refused = c.in_err-recovery.ensures.refused in
-    let (failure, is, ends) = failure_named c.in_err-recovery.field-0.0 _ (unrecoverable_finding c.args.file.now c.args.slot _ refused) c.from_residual.ensures.1 in
+    let (failure, is, ends) = failure_named c.in_err-recovery.field-0.0 _ (unrecoverable_finding c.args.file.now c.args.job.now.slot _ refused) c.from_residual.ensures.1 in
     inr (c.in_err-recovery.field-0.0, failure, refused, is, refl, refl, ends)
 
 pub returns-in_err-length : goal.returns-in_err-length
 returns-in_err-length g c =
     let r = c.in_ok-recovery.recovery in
     rest_stopped g.T.Sink.taken g.T.Sink.failed c.args.target.now c.copy_recovered.new.target g.O.Sink.taken g.O.Sink.failed c.args.out.now
-    c.args.file.now c.args.slot c.args.wanted.now (recovery_meta r) c.in_ok-recovery.ensures.meta (recovery_file r) c.in_ok-recovery.ensures.file
-    c.shape-shape.result (c.shape-shape.ensures.shape ∙ ap (shape_of c.args.wanted.now) c.meta-meta.ensures) _ _ c.in_err-length.ensures.copied c.from_residual-in_err-length.ensures.1
+    c.args.file.now c.args.job.now (recovery_meta r) c.in_ok-recovery.ensures.meta (recovery_file r) c.in_ok-recovery.ensures.file
+    c.shape_of.result (c.shape_of.ensures.shape ∙ ap (shape_of c.args.job.now) c.meta-meta.ensures) _ _ c.in_err-length.ensures.copied c.from_residual-in_err-length.ensures.1
 
 pub returns : goal.returns
 returns g c =
     let r = c.in_ok-recovery.recovery in
     rest_reported g.T.Sink.taken g.T.Sink.failed c.args.target.now c.copy_recovered.new.target g.O.Sink.taken g.O.Sink.failed c.args.out.now
-    c.args.file.now c.args.slot c.args.wanted.now (recovery_meta r) c.in_ok-recovery.ensures.meta (recovery_file r) c.in_ok-recovery.ensures.file
-    c.shape-shape.result (c.shape-shape.ensures.shape ∙ ap (shape_of c.args.wanted.now) c.meta-meta.ensures)
+    c.args.file.now c.args.job.now (recovery_meta r) c.in_ok-recovery.ensures.meta (recovery_file r) c.in_ok-recovery.ensures.file
+    c.shape_of.result (c.shape_of.ensures.shape ∙ ap (shape_of c.args.job.now) c.meta-meta.ensures)
     (recovery_losses c.copy_recovered.new.recovery) c.losses.result.now c.in_ok-length.length c.put_report.new.out _ c.losses.ensures.losses c.in_ok-length.ensures.losses
-    c.in_ok-length.ensures.copied c.shape-shape.ensures.accepted
+    c.in_ok-length.ensures.copied c.shape_of.ensures.accepted
     (λ listing is. subst (λ (m : Meta). HasGoodCopies listing m.root_sequence) c.meta-meta.ensures (c.file_has_good_copies.ensures.recovered (recovery_meta r) listing is))
     c.put_report.ensures

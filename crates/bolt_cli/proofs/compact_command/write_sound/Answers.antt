@@ -12,24 +12,24 @@ use Rattle.bolt_cli.proofs.compact_command.write_sound.Goals as goal
 pub returns-in_err-checked : goal.returns-in_err-checked
 returns-in_err-checked g c =
     let refused = c.in_err-checked.ensures.refused in
-    let (failure, is, ends) = failure_named c.in_err-checked.field-0.0 _ (unread_finding c.args.file.now c.args.slot _ refused) c.from_residual.ensures.1 in
+    let (failure, is, ends) = failure_named c.in_err-checked.field-0.0 _ (unread_finding c.args.file.now c.args.job.now.slot _ refused) c.from_residual.ensures.1 in
     inr (c.in_err-checked.field-0.0, failure, refused, is, refl, refl, ends)
 
-pub shape-shape-requires : goal.shape-shape-requires
-shape-shape-requires g c = subst (λ (m : Meta). IsPageSize m.page_size) (sym c.meta-meta.ensures) (checked_page_size c.in_ok-checked.checked)
+pub shape_of-requires : goal.shape_of-requires
+shape_of-requires g c = subst (λ (m : Meta). IsPageSize m.page_size) (sym c.meta-meta.ensures) (checked_page_size c.in_ok-checked.checked)
 
 pub returns-in_err-length : goal.returns-in_err-length
 returns-in_err-length g c =
     copy_stopped g.T.Sink.taken g.T.Sink.failed c.args.target.now c.copy_checked.new.target g.O.Sink.taken g.O.Sink.failed c.args.out.now
-    c.args.file.now c.args.slot c.args.wanted.now c.in_ok-checked.checked c.in_ok-checked.ensures.bytes c.in_ok-checked.ensures.sound
-    c.shape-shape.result (c.shape-shape.ensures.shape ∙ ap (shape_of c.args.wanted.now) c.meta-meta.ensures) _ _ c.in_err-length.ensures c.from_residual-in_err-length.ensures.1
+    c.args.file.now c.args.job.now c.in_ok-checked.checked c.in_ok-checked.ensures.bytes c.in_ok-checked.ensures.sound
+    c.shape_of.result (c.shape_of.ensures.shape ∙ ap (shape_of c.args.job.now) c.meta-meta.ensures) _ _ c.in_err-length.ensures c.from_residual-in_err-length.ensures.1
 
 pub returns : goal.returns
 returns g c =
     copy_reported g.T.Sink.taken g.T.Sink.failed c.args.target.now c.copy_checked.new.target g.O.Sink.taken g.O.Sink.failed c.args.out.now
-    c.args.file.now c.args.slot c.args.wanted.now c.in_ok-checked.checked c.in_ok-checked.ensures.bytes c.in_ok-checked.ensures.sound
-    c.shape-shape.result (c.shape-shape.ensures.shape ∙ ap (shape_of c.args.wanted.now) c.meta-meta.ensures) c.in_ok-length.length c.put_report.new.out _
-    c.in_ok-length.ensures c.shape-shape.ensures.accepted
+    c.args.file.now c.args.job.now c.in_ok-checked.checked c.in_ok-checked.ensures.bytes c.in_ok-checked.ensures.sound
+    c.shape_of.result (c.shape_of.ensures.shape ∙ ap (shape_of c.args.job.now) c.meta-meta.ensures) c.in_ok-length.length c.put_report.new.out _
+    c.in_ok-length.ensures c.shape_of.ensures.accepted
     (λ listing trees is. subst (λ (m : Meta). HasGoodCopies listing m.root_sequence) c.meta-meta.ensures
     (c.file_has_good_copies.ensures.sound (meta_of c.in_ok-checked.checked) listing trees is))
     c.put_report.ensures

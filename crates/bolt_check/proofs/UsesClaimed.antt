@@ -1,0 +1,38 @@
+-- The table of pages, after the freelist's span was claimed and its ids were listed.
+use Rattle.std.proofs.Common.{◌≡◌, ◌≢◌, ◌∙◌, ℕ, inl, inr, List, ap, arith, sym}
+use Rattle.std.proofs.lemmas.Bool.{cases_lt}
+use Rattle.bolt_format.specs.declared.meta.Meta.{Meta}
+use Rattle.bolt_format.specs.declared.meta.TheConstants.{NO_FREELIST}
+use Rattle.bolt_check.specs.Accounts.{IsInUse, ListsFree, times_in}
+use Rattle.bolt_check.specs.Private.Listings.{ClaimsFreelist, ClaimsUses}
+use Rattle.bolt_check.specs.Private.Tables.{IsClaimed, is_used, use_at}
+use Rattle.bolt_check.specs.declared.table.PageUse.{PageUse}
+
+-- no freelist was written
+pub uses_unwritten : (file : List ℕ) (meta : Meta) (table : List PageUse) → (meta.freelist ≢ NO_FREELIST → ⊥) → ClaimsUses file meta table table
+uses_unwritten file meta table none = record {
+  noted = λ n u noted. inl noted;
+  claimed = λ n in_use. elim in_use [ inl used ↦ used | inr is ↦ absurd (none is.written) ];
+}
+
+module _ (file : List ℕ) (meta : Meta) (old mid : List PageUse) (claims : ClaimsFreelist file meta old mid) where
+  pub uses_claimed : ClaimsUses file meta old mid
+  uses_claimed = record {
+    noted = λ n u noted. elim (claims.noted n u noted.0) [ inl was ↦ inl (was, noted.1) | inr is ↦ inr is ];
+    claimed = λ n in_use. elim in_use [ inl used ↦ claims.kept n used | inr is ↦ claims.span n is ];
+  }
+
+  -- pages that are listed aren't in use, so what the table says of those in use stays
+  module _ (new : List PageUse) (ids : List ℕ) (lists : ListsFree meta.high_water (IsInUse file meta (IsClaimed old)) (times_in ids))
+      (used : (n : ℕ) → is_used (use_at new n) ≡ is_used (use_at mid n)) (kept : (n : ℕ) → times_in ids n ≡ 0 → use_at new n ≡ use_at mid n) where
+    unlisted : (n : ℕ) → IsClaimed new n → times_in ids n ≡ 0
+    unlisted n is = elim (cases_lt 0 (times_in ids n)) [
+      | inl some ↦ absurd ((lists.free n (omega arith)).unused (claims.split n (sym (used n) ∙ is)))
+      | inr none ↦ omega arith
+    ]
+
+    pub uses_listed : ClaimsUses file meta old new
+    uses_listed = record {
+      noted = λ n u noted. let same = kept n (unlisted n (ap is_used noted.0 ∙ noted.1)) in uses_claimed.noted n u (sym same ∙ noted.0, noted.1);
+      claimed = λ n in_use. used n ∙ uses_claimed.claimed n in_use;
+    }
