@@ -20,7 +20,7 @@ _luntsegi_values() {
     case "$1 $2" in
         "list --form") echo hex json ;;
         *" --form") echo printable hex bytes text json ;;
-        *" --parts") echo text hex ;;
+        *" --parts") echo text hex mixed ;;
         *" --meta") echo 0 1 ;;
     esac
 }

@@ -1,5 +1,5 @@
 -- The answers of `compact`.
-use Rattle.std.proofs.Common.{◌≡◌, ◌∙◌, ℕ, List, [], length, map, Option, Result, Ok, Err, inl, inr, ap, refl, subst, sym}
+use Rattle.std.proofs.Common.{◌≡◌, ◌∙◌, ℕ, List, [], false, length, map, Option, Result, Ok, Err, inl, inr, ap, refl, subst, sym}
 use Rattle.std.specs.Result.{IsErrAnd}
 use Rattle.bolt_format.specs.declared.meta.Meta.{Meta}
 use Rattle.bolt_format.specs.Metas.{IsPageSize}
@@ -19,6 +19,7 @@ use Rattle.bolt_bulk.specs.Compacting.{layout_for}
 use Rattle.bolt_layout.specs.Copies.{layout_of_listing}
 use Rattle.bolt_cli.specs.Answers.{Answer, Compacts, Does, Ending, IsReadUnder, IsRecoveredUnder, Recovers, WritesCopy, copy_report, done, lengths_line}
 use Rattle.bolt_cli.specs.GoodCopies.{HasGoodCopies}
+use Rattle.bolt_cli.specs.SnapshotAnswers.{hash_differs}
 use Rattle.bolt_cli.specs.CopyKinds as kinds
 use Rattle.bolt_cli.specs.CopyEnds.{EndsCopy, shape_of}
 use Rattle.bolt_cli.specs.Failures.{copied}
@@ -58,7 +59,7 @@ module _ {T O : Type 0} (taken : T → Option (List ℕ)) (failed : T → ℕ) (
   -- ---- the copy of a sound file
 
   module _ (file : List ℕ) (job : CompactJob) (checked : Checked) (same : bytes_of checked ≡ file) (under : IsReadUnder file job.slot (meta_of checked))
-      (shape : CopyShape) (is : shape ≡ shape_of job (meta_of checked)) where
+      (same_hash : hash_differs (kinds.is_snapshot job.kind) file ≡ false) (shape : CopyShape) (is : shape ≡ shape_of job (meta_of checked)) where
     own_listing : (listing : List Member) × IsListing file (meta_of checked) listing
     own_listing = has_listing file (meta_of checked) (read_trees file job.slot (meta_of checked) under)
 
@@ -79,6 +80,7 @@ module _ {T O : Type 0} (taken : T → Option (List ℕ)) (failed : T → ℕ) (
       meta_of checked,
       own_listing.0,
       under,
+      same_hash,
       own_listing.1,
       subst (λ (s : CopyShape). Ends s (meta_of checked).root_sequence own_listing.0 out_after (λ copy. done (lengths_line (length file) copy)) ending) is ends,
     )
@@ -90,10 +92,10 @@ module _ {T O : Type 0} (taken : T → Option (List ℕ)) (failed : T → ℕ) (
     -- the copy was written whole
     pub copy_reported : (count : ℕ) (out_after : O) (ending : Ending) → ForListing checked (EndedFor (Ok count)) → IsPageSize shape.page_size
         → ((listing : List Member) → HasSoundTrees file (meta_of checked) → IsListing file (meta_of checked) listing → HasGoodCopies listing (meta_of checked).root_sequence)
-        → Does out_taken out_failed out out_after (copy_report [] (length file) count) ending → Copied out_after ending
+        → Does out_taken out_failed out out_after (copy_report false [] (length file) count) ending → Copied out_after ending
     copy_reported count out_after ending promised size good does =
         as_copied out_after ending
-        (reported shape (meta_of checked).root_sequence own_listing.0 (copy_report [] (length file)) count out_after ending (here promised) size
+        (reported shape (meta_of checked).root_sequence own_listing.0 (copy_report false [] (length file)) count out_after ending (here promised) size
         (good own_listing.0 (read_trees file job.slot (meta_of checked) under) own_listing.1) does)
 
   -- ---- the copy of what is recovered
@@ -113,7 +115,7 @@ module _ {T O : Type 0} (taken : T → Option (List ℕ)) (failed : T → ℕ) (
     there : {P : List Member → Type 0} → ForRecovered read meta P → P recovered.0
     there promised = promised recovered.0 (subst (λ (f : List ℕ). IsRecovered f meta recovered.0) (sym same) recovered.1)
 
-    as_rest : (out_after : O) (ending : Ending) → Ends shape meta.root_sequence recovered.0 out_after (copy_report lost.0 (length file)) ending → CopiedRest out_after ending
+    as_rest : (out_after : O) (ending : Ending) → Ends shape meta.root_sequence recovered.0 out_after (copy_report (hash_differs (kinds.is_snapshot job.kind) file) lost.0 (length file)) ending → CopiedRest out_after ending
     as_rest out_after ending ends = inl (
       meta,
       recovered.0,
@@ -121,7 +123,7 @@ module _ {T O : Type 0} (taken : T → Option (List ℕ)) (failed : T → ℕ) (
       under,
       recovered.1,
       lost.1,
-      subst (λ (s : CopyShape). Ends s meta.root_sequence recovered.0 out_after (copy_report lost.0 (length file)) ending) is ends,
+      subst (λ (s : CopyShape). Ends s meta.root_sequence recovered.0 out_after (copy_report (hash_differs (kinds.is_snapshot job.kind) file) lost.0 (length file)) ending) is ends,
     )
 
     abbrev EndedRest : Result ℕ BulkFault → List Member → Type 0
@@ -129,15 +131,15 @@ module _ {T O : Type 0} (taken : T → Option (List ℕ)) (failed : T → ℕ) (
 
     pub rest_stopped : (fault : BulkFault) (ending : Ending) → ForRecovered read meta (EndedRest (Err fault)) → IsErrAnd ending (λ why. why ≡ copied fault) → CopiedRest out ending
     rest_stopped fault ending promised said =
-        as_rest out ending (stopped shape meta.root_sequence recovered.0 fault (copy_report lost.0 (length file)) ending (there promised) said)
+        as_rest out ending (stopped shape meta.root_sequence recovered.0 fault (copy_report (hash_differs (kinds.is_snapshot job.kind) file) lost.0 (length file)) ending (there promised) said)
 
     -- the copy was written whole, and the recovery shows its losses at its end
     pub rest_reported : (shown : List LossView) (losses : List Loss) (count : ℕ) (out_after : O) (ending : Ending)
         → map loss_view losses ≡ shown → ForLosses read meta (λ all. shown ≡ all) → ForRecovered read meta (EndedRest (Ok count)) → IsPageSize shape.page_size
         → ((listing : List Member) → IsRecovered file meta listing → HasGoodCopies listing meta.root_sequence)
-        → Does out_taken out_failed out out_after (copy_report (map loss_view losses) (length file) count) ending → CopiedRest out_after ending
+        → Does out_taken out_failed out out_after (copy_report (hash_differs (kinds.is_snapshot job.kind) file) (map loss_view losses) (length file) count) ending → CopiedRest out_after ending
     rest_reported shown losses count out_after ending seen all promised size good does =
         let own : map loss_view losses ≡ lost.0 = seen ∙ all lost.0 (subst (λ (f : List ℕ). AreLosses f meta lost.0) (sym same) lost.1) in
         as_rest out_after ending
-        (reported shape meta.root_sequence recovered.0 (copy_report lost.0 (length file)) count out_after ending (there promised) size (good recovered.0 recovered.1)
-        (subst (λ (views : List LossView). Does out_taken out_failed out out_after (copy_report views (length file) count) ending) own does))
+        (reported shape meta.root_sequence recovered.0 (copy_report (hash_differs (kinds.is_snapshot job.kind) file) lost.0 (length file)) count out_after ending (there promised) size (good recovered.0 recovered.1)
+        (subst (λ (views : List LossView). Does out_taken out_failed out out_after (copy_report (hash_differs (kinds.is_snapshot job.kind) file) views (length file) count) ending) own does))

@@ -1,5 +1,6 @@
 -- With sound trees, `--recover` does what `--meta` does with the slot of the meta that is in use.
-use Rattle.std.proofs.Common.{◌≡◌, ◌↔◌, ℕ, Bool, true, false, List, [], Option, None, Some, inl, inr, length, refl, subst, sym}
+use Rattle.std.proofs.Common.{◌≡◌, ◌↔◌, ℕ, Bool, true, false, List, [], Option, None, Some, inl, inr, length, refl, subst, sym, subst₂, ◌∙◌}
+use Rattle.std.proofs.lemmas.Bool.{false≢true}
 use Rattle.bolt_check.proofs.Judging.{passes_fewer, passes_silent}
 use Rattle.bolt_check.specs.Findings.{IsClaimedBefore, IsMetaPage}
 use Rattle.bolt_check.specs.Nodes.{node_at}
@@ -20,6 +21,7 @@ use Rattle.bolt_recover.specs.Refusals.{KeepsRoot, LosesRoot}
 use Rattle.bolt_report.specs.declared.form.ListForm.{ListForm}
 use Rattle.bolt_tree.specs.Listing.{IsListing, Member}
 use Rattle.bolt_tree.specs.Paths.{Path}
+use Rattle.bolt_cli.specs.SnapshotAnswers.{hash_differs}
 use Rattle.bolt_cli.specs.Answers.{Answer, Compacts, Ending, IsEndedOrCut, IsListedAnswer, IsRecoveredUnder, IsShownMeta, IsUnrecoverableUnder, MakesCopy, Recovers, WritesCopy, copy_page_size, copy_report, lost_ending, part_ending, part_text}
 use Rattle.bolt_cli.specs.declared.page_size.PageSize.{PageSize}
 
@@ -117,27 +119,29 @@ module _ (b : Below) (file : List ℕ) (slot : Slot) (meta : Meta) (trees : HasS
     abbrev Copy : (recover : Bool) → Option Slot → Option PageSize → Layout → (snapshot : Bool) → Ending → Type 0
     Copy recover wanted size which snapshot ending = MakesCopy out_taken out_failed out_old out_new target_taken target_failed target_old target_new file wanted size which snapshot recover ending
 
-    abbrev Written : (snapshot : Bool) (listing : List Member) → Layout → Option PageSize → Meta → List LossView → Ending → Type 0
-    Written snapshot listing which size m losses ending = WritesCopy out_taken out_failed out_old out_new target_taken target_failed target_old target_new snapshot listing
-        (layout_of_listing which (copy_page_size size m) listing m.root_sequence) (λ copy. copy_report losses (length file) copy) ending
+    abbrev Written : (differs snapshot : Bool) (listing : List Member) → Layout → Option PageSize → Meta → List LossView → Ending → Type 0
+    Written differs snapshot listing which size m losses ending = WritesCopy out_taken out_failed out_old out_new target_taken target_failed target_old target_new snapshot listing
+        (layout_of_listing which (copy_page_size size m) listing m.root_sequence) (λ copy. copy_report differs losses (length file) copy) ending
 
     copied_there : (wanted : Option Slot) (size : Option PageSize) (which : Layout) (snapshot : Bool) (ending : Ending) → IsShownMeta file wanted slot meta
-        → Copy true wanted size which snapshot ending → Copy false (Some slot) size which snapshot ending
-    copied_there wanted size which snapshot ending shown (inl (other, listing, losses, is, recovered, are, writes)) =
+        → hash_differs snapshot file ≡ false → Copy true wanted size which snapshot ending → Copy false (Some slot) size which snapshot ending
+    copied_there wanted size which snapshot ending shown right (inl (other, listing, losses, is, recovered, are, writes)) =
         let same = one wanted other shown is in
         let empty = b.none_lost file meta losses trees (subst (λ (m : Meta). AreLosses file m losses) same are) in
         inl (
           meta,
           listing,
           (in_slot wanted shown, trees),
+          right,
           b.listed file meta listing trees (subst (λ (m : Meta). IsRecovered file m listing) same recovered),
-          subst (λ (m : Meta). Written snapshot listing which size m [] ending) same (subst (λ (ls : List LossView). Written snapshot listing which size other ls ending) empty writes),
+          subst (λ (m : Meta). Written false snapshot listing which size m [] ending) same
+              (subst₂ (λ (differs : Bool) (ls : List LossView). Written differs snapshot listing which size other ls ending) right empty writes),
         )
-    copied_there wanted size which snapshot ending shown (inr (fault, failure, is, why, out, target, ends)) = inr (fault, failure, refused wanted fault shown is, why, out, target, ends)
+    copied_there wanted size which snapshot ending shown right (inr (fault, failure, is, why, out, target, ends)) = inr (inr (fault, failure, refused wanted fault shown is, why, out, target, ends))
 
     copied_back : (wanted : Option Slot) (size : Option PageSize) (which : Layout) (snapshot : Bool) (ending : Ending) → IsShownMeta file wanted slot meta
-        → Copy false (Some slot) size which snapshot ending → Copy true wanted size which snapshot ending
-    copied_back wanted size which snapshot ending shown (inl (other, listing, (is, sound), lists, writes)) =
+        → hash_differs snapshot file ≡ false → Copy false (Some slot) size which snapshot ending → Copy true wanted size which snapshot ending
+    copied_back wanted size which snapshot ending shown right (inl (other, listing, (is, sound), same_hash, lists, writes)) =
         let same = b.slot_is_one file slot other meta is (in_slot wanted shown) in
         inl (
           meta,
@@ -146,10 +150,11 @@ module _ (b : Below) (file : List ℕ) (slot : Slot) (meta : Meta) (trees : HasS
           under wanted shown,
           b.recovered file meta listing trees (subst (λ (m : Meta). IsListing file m listing) same lists),
           no_losses,
-          subst (λ (m : Meta). Written snapshot listing which size m [] ending) same writes,
+          subst₂ (λ (differs : Bool) (m : Meta). Written differs snapshot listing which size m [] ending) (sym right) same writes,
         )
-    copied_back wanted size which snapshot ending shown (inr (fault, failure, is, why, out, target, ends)) = inr (fault, failure, unrecoverable wanted fault shown is, why, out, target, ends)
+    copied_back wanted size which snapshot ending shown right (inr (inl (other, sound, differs, out, target, ends))) = absurd (false≢true (sym right ∙ differs))
+    copied_back wanted size which snapshot ending shown right (inr (inr (fault, failure, is, why, out, target, ends))) = inr (fault, failure, unrecoverable wanted fault shown is, why, out, target, ends)
 
     pub copies_the_same : (wanted : Option Slot) (size : Option PageSize) (which : Layout) (snapshot : Bool) (ending : Ending) → IsShownMeta file wanted slot meta
-        → Copy true wanted size which snapshot ending ↔ Copy false (Some slot) size which snapshot ending
-    copies_the_same wanted size which snapshot ending shown = (copied_there wanted size which snapshot ending shown, copied_back wanted size which snapshot ending shown)
+        → hash_differs snapshot file ≡ false → Copy true wanted size which snapshot ending ↔ Copy false (Some slot) size which snapshot ending
+    copies_the_same wanted size which snapshot ending shown right = (copied_there wanted size which snapshot ending shown right, copied_back wanted size which snapshot ending shown right)

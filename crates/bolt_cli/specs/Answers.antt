@@ -44,7 +44,7 @@ use Rattle.bolt_tree.specs.Paths.{Holds, Names, Path}
 use Rattle.bolt_cli.specs.CopyKinds.{is_snapshot, layout_for}
 use Rattle.bolt_cli.specs.Failures.{IsFailureOf, failure_line}
 use Rattle.bolt_cli.specs.GoodCopies.{IsGoodCopy}
-use Rattle.bolt_cli.specs.SnapshotAnswers.{copy_of, errors_in, fault_lines, hash_found}
+use Rattle.bolt_cli.specs.SnapshotAnswers.{copy_of, differing_line, errors_in, fault_lines, hash_differs, hash_found}
 use Rattle.bolt_cli.specs.declared.failure.Failure.{Failure}
 use Rattle.bolt_cli.specs.declared.failure.Failure.TheVariants as failure
 use Rattle.bolt_cli.specs.declared.job.Job.{Job}
@@ -360,14 +360,16 @@ pub record StopsShort {T : Type 0} (taken : T → Option (List ℕ)) (failed : T
   pub why : StopsCopy failed old new layout failure
   pub large : too_many ≤ length layout → Keeps (taken old) (taken new)
 
--- the status of a copy if these losses are reported beside it
-abbrev pub lost_status : List LossView → ℕ
-lost_status [] = 0
-lost_status (loss ∷ losses) = 1
+-- the status of a copy if these losses are reported beside it, and whether the hash of its file differs
+abbrev pub copy_status : (differs : Bool) → List LossView → ℕ
+copy_status true losses = 1
+copy_status false [] = 0
+copy_status false (loss ∷ losses) = 1
 
--- what is reported of a copy: each loss, and the lengths of the file and of the copy
-abbrev pub copy_report : List LossView → (source copy : ℕ) → Answer
-copy_report losses source copy = record { out = losses_text losses ++ lengths_line source copy; ending = Ok (lost_status losses) }
+-- what is reported of a copy: that the hash of its file differs, each loss, and the lengths of the file and of the copy
+abbrev pub copy_report : (differs : Bool) → List LossView → (source copy : ℕ) → Answer
+copy_report differs losses source copy =
+    record { out = differing_line differs ++ (losses_text losses ++ lengths_line source copy); ending = Ok (copy_status differs losses) }
 
 -- ---- all commands
 
@@ -390,19 +392,21 @@ module _ {O T : Type 0} (out_taken : O → Option (List ℕ)) (out_failed : O �
       ⊎ ((failure : Failure) × StopsShort target_taken target_failed target_old target_new layout copy failure × (out_new ≡ out_old) × (ending ≡ Err failure))
 
   -- The target accepts the layout that is asked for of the file's listing, at the copy's page size, and for a snapshot then its hash: a good
-  -- copy of that listing. Or the file is refused, and neither is touched.
+  -- copy of that listing. Or the hash of the file differs, or the file is refused, and neither is touched.
   abbrev pub Compacts : List ℕ → Option Slot → Option PageSize → Layout → (snapshot : Bool) → Ending → Type 0
   Compacts file slot size which snapshot ending =
-      ((meta : Meta) × (listing : List Member) × IsReadUnder file slot meta × IsListing file meta listing
+      ((meta : Meta) × (listing : List Member) × IsReadUnder file slot meta × (hash_differs snapshot file ≡ false) × IsListing file meta listing
       × WritesCopy snapshot listing (layout_of_listing which (copy_page_size size meta) listing meta.root_sequence) (λ copy. done (lengths_line (length file) copy)) ending)
+      ⊎ ((meta : Meta) × IsReadUnder file slot meta × (hash_differs snapshot file ≡ true)
+      × (out_new ≡ out_old) × (target_new ≡ target_old) × (ending ≡ Err failure.HashDiffers))
       ⊎ ((fault : CheckFault) × (failure : Failure) × IsRefusedUnder file slot fault × IsFailureOf fault failure
       × (out_new ≡ out_old) × (target_new ≡ target_old) × (ending ≡ Err failure))
 
-  -- the same of the recovered listing, and each loss is reported; or nothing is recovered
+  -- the same of the recovered listing, and it is reported if the hash differs, and each loss; or nothing is recovered
   abbrev pub Recovers : List ℕ → Option Slot → Option PageSize → Layout → (snapshot : Bool) → Ending → Type 0
   Recovers file slot size which snapshot ending =
       ((meta : Meta) × (listing : List Member) × (losses : List LossView) × IsRecoveredUnder file slot meta × IsRecovered file meta listing × AreLosses file meta losses
-      × WritesCopy snapshot listing (layout_of_listing which (copy_page_size size meta) listing meta.root_sequence) (λ copy. copy_report losses (length file) copy) ending)
+      × WritesCopy snapshot listing (layout_of_listing which (copy_page_size size meta) listing meta.root_sequence) (λ copy. copy_report (hash_differs snapshot file) losses (length file) copy) ending)
       ⊎ ((fault : CheckFault) × (failure : Failure) × IsUnrecoverableUnder file slot fault × IsFailureOf fault failure
       × (out_new ≡ out_old) × (target_new ≡ target_old) × (ending ≡ Err failure))
 

@@ -1,5 +1,5 @@
 -- How a path is written on a command line: a word for each part, or all parts in hexadecimal in one word: docs/COMMANDS.md, "Words".
-use Rattle.std.specs.Prelude.{◌==◌, List, [], ◌∷◌, Option, Some, None, Result, Ok, Err, codes, length, if◌then◌else◌}
+use Rattle.std.specs.Prelude.{◌==◌, List, [], ◌∷◌, Option, Some, None, Result, Ok, Err, codes, drop, length, take, if◌then◌else◌}
 use Rattle.std.specs.List.{list_any, slice_split}
 use Rattle.std.specs.Str.{bytes_eq}
 use Rattle.hex.specs.Hex.{decode_of}
@@ -20,7 +20,8 @@ abbrev pub parts_of : Text → Result Parts Text
 parts_of word =
     if bytes_eq word (codes "text") then Ok parts.Text
     else if bytes_eq word (codes "hex") then Ok parts.Hex
-    else Err (codes "bad parts")
+    else if bytes_eq word (codes "mixed") then Ok parts.Mixed
+    else Err (codes "bad parts: use text, hex or mixed")
 
 abbrev pub parts_by : Option Text → Result Parts Text
 parts_by (Some word) = parts_of word
@@ -34,10 +35,15 @@ or_bad_hex (Err e) = Err (codes "bad hex")
 abbrev pub hex_bytes : Text → Result Key Text
 hex_bytes word = or_bad_hex (decode_of word)
 
+-- what follows `0x` is in hexadecimal, and any other word is text
+abbrev pub mixed_bytes : Text → Result Key Text
+mixed_bytes word = if bytes_eq (take 2 word) (codes "0x") then hex_bytes (drop 2 word) else Ok word
+
 -- a part of a path by its word
 abbrev pub part_of : Parts → Text → Result Key Text
 part_of parts.Text word = Ok word
 part_of parts.Hex word = hex_bytes word
+part_of parts.Mixed word = mixed_bytes word
 
 -- the bytes that keys are to begin with, written as a part is; without a word each key does
 abbrev pub prefix_of : Parts → Option Text → Result Key Text

@@ -232,7 +232,7 @@ abbrev pub slot_of : Text → Result (Option Slot) Text
 slot_of word =
     if bytes_eq word (codes "0") then Ok (Some Zero)
     else if bytes_eq word (codes "1") then Ok (Some One)
-    else Err (codes "bad meta")
+    else Err (codes "bad meta: use 0 or 1")
 
 abbrev pub slot_by : Option Text → Result (Option Slot) Text
 slot_by (Some word) = slot_of word

@@ -4,11 +4,26 @@ use Rattle.sha2.specs.Sha256.{sha256}
 use Rattle.bolt_report.specs.FaultWords.{snapshot_fault_text}
 use Rattle.bolt_snapshot.specs.SnapshotFaults.{hash_fault}
 use Rattle.bolt_snapshot.specs.declared.hash_check.SnapshotFault.{SnapshotFault}
+use Rattle.bolt_snapshot.specs.declared.hash_check.SnapshotFault.TheVariants.{HashDiffers, HashMissing}
 
 -- what is wrong with the hash, if a snapshot is asked for
 abbrev pub hash_found : (snapshot : Bool) → List ℕ → Option SnapshotFault
 hash_found false file = None
 hash_found true file = hash_fault file
+
+-- the file is a snapshot by its length, but its hash differs, and a snapshot is to be made of it
+abbrev is_differing : Option SnapshotFault → Bool
+is_differing None = false
+is_differing (Some HashMissing) = false
+is_differing (Some HashDiffers) = true
+
+abbrev pub hash_differs : (snapshot : Bool) → List ℕ → Bool
+hash_differs snapshot file = is_differing (hash_found snapshot file)
+
+-- the line that says so
+abbrev pub differing_line : Bool → List ℕ
+differing_line false = []
+differing_line true = snapshot_fault_text HashDiffers
 
 -- its line, and nothing if nothing is wrong
 abbrev pub fault_lines : Option SnapshotFault → List ℕ

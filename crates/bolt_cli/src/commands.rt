@@ -130,7 +130,7 @@ const PARTS: Choice = Choice {
     name: "parts",
     flag: Flag::Long("parts"),
     value: Some("P"),
-    help: "How the path is written: text or hex [default: text]",
+    help: "How the path is written: text, hex or mixed (hex after 0x, otherwise text) [default: text]",
     required: false,
 };
 

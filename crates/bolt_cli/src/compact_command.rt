@@ -1,11 +1,13 @@
 //! The command `compact`.
-ghost use Rattle.std.specs.Prelude.{◌≡◌, map};
+ghost use Rattle.std.specs.Prelude.{◌≡◌, ◌++◌, IfErr, map};
 ghost use Rattle.bolt_format.specs.Metas.{IsPageSize};
 ghost use Rattle.bolt_format.specs.Writes.{Writes};
 ghost use Rattle.bolt_recover.specs.ShownLosses.{loss_view};
-ghost use Rattle.bolt_cli.specs.Answers.{Compacts, Does, MakesCopy, Recovers, copy_report, lengths_line, lost_status};
+ghost use Rattle.bolt_report.specs.LossLines.{losses_text};
+ghost use Rattle.bolt_cli.specs.Answers.{Compacts, Does, MakesCopy, Recovers, copy_report, copy_status, lengths_line};
 ghost use Rattle.bolt_cli.specs.CopyEnds.{shape_of};
 ghost use Rattle.bolt_cli.specs.CopyKinds.{is_snapshot, layout_for};
+ghost use Rattle.bolt_cli.specs.SnapshotAnswers.{differing_line, hash_differs};
 
 use crate::copies::{CopyShape, copy_checked, copy_recovered};
 use crate::decimals::put_number_and;
@@ -16,7 +18,8 @@ use crate::open_read::open_read;
 use crate::open_recovery::open_recovery;
 use bolt_format::{Meta, Sink, SinkFault};
 use bolt_recover::Loss;
-use bolt_report::losses_text;
+use bolt_report::{ReportFault, losses_text, snapshot_fault_text};
+use bolt_snapshot::{SnapshotFault, snapshot_fault};
 use std::alloc::Global;
 
 /// Writes the compact copy that is asked for to `target`, and then what is reported of it to `out`.
@@ -47,14 +50,17 @@ fn write_sound<O: Sink, T: Sink>(
     ensures { Compacts O.taken O.failed out.old out.new T.taken T.failed target.old target.new file.now job.now.slot job.now.page_size (layout_for job.now.kind) (is_snapshot job.now.kind) result }
 {
     let checked = open_read(alloc, file, job.slot)?;
+    if hash_differs(job, file) {
+        return Err(Failure::HashDiffers);
+    }
     let meta = checked.meta();
     file_has_good_copies(file, meta.root_sequence);
     let shape = shape_of(job, &meta);
     let length = copy_checked(alloc, checked, &shape, target)?;
-    put_report(&[], file.len() as u64, length, out)
+    put_report(false, &[], file.len() as u64, length, out)
 }
 
-/// Writes the copy of what a damaged file still holds, then the line of each loss, and the lengths.
+/// Writes the copy of what a damaged file still holds, and then what is reported of it.
 fn write_recovered<O: Sink, T: Sink>(
     alloc: Global,
     file: &[u8],
@@ -69,7 +75,8 @@ fn write_recovered<O: Sink, T: Sink>(
     file_has_good_copies(file, meta.root_sequence);
     let shape = shape_of(job, &meta);
     let length = copy_recovered(alloc, &mut recovery, &shape, target)?;
-    put_report(recovery.losses(), file.len() as u64, length, out)
+    let differs = hash_differs(job, file);
+    put_report(differs, recovery.losses(), file.len() as u64, length, out)
 }
 
 /// What the copy of a file with this meta is to look like.
@@ -89,26 +96,66 @@ fn shape_of(job: &CompactJob, meta: &Meta) -> CopyShape
     }
 }
 
-/// Writes the line of each loss, and then the lengths of the file and of the copy. Returns the
-/// status.
+/// Whether a snapshot is to be made of a file that is one by its length, but whose hash differs. Its
+/// copy would have a right hash.
+fn hash_differs(job: &CompactJob, file: &[u8]) -> bool
+    ensures { result ≡ hash_differs (is_snapshot job.now.kind) file.now }
+{
+    if !job.kind.is_snapshot() {
+        return false;
+    }
+    match snapshot_fault(file) {
+        Some(SnapshotFault::HashDiffers) => true,
+        Some(SnapshotFault::HashMissing) | None => false,
+    }
+}
+
+/// Writes that the hash differs, if it does, the line of each loss, and then the lengths of the file
+/// and of the copy. Returns the status.
 fn put_report<O: Sink>(
+    differs: bool,
     losses: &[Loss<'_>],
     source: u64,
     copy: u64,
     out: &mut O,
 ) -> Result<u8, Failure>
-    ensures { Does O.taken O.failed out.old out.new (copy_report (map loss_view losses.now) source copy) result }
+    ensures { Does O.taken O.failed out.old out.new (copy_report differs (map loss_view losses.now) source copy) result }
+{
+    put_differing(differs, out)?;
+    put_losses(losses, source, copy, out)?;
+    Ok(status_of(differs, losses))
+}
+
+fn put_differing<O: Sink>(differs: bool, out: &mut O) -> Result<(), ReportFault>
+    ensures line { Writes O.taken O.failed out.old out.new (differing_line differs) result }
+    ensures fault { IfErr result (λ fault. fault ≡ ReportFault.Sink) }
+{
+    if !differs {
+        return Ok(());
+    }
+    snapshot_fault_text(SnapshotFault::HashDiffers, out)
+}
+
+/// Writes the line of each loss, and then the lengths of the file and of the copy.
+fn put_losses<O: Sink>(
+    losses: &[Loss<'_>],
+    source: u64,
+    copy: u64,
+    out: &mut O,
+) -> Result<(), ReportFault>
+    ensures lines { Writes O.taken O.failed out.old out.new (losses_text (map loss_view losses.now) ++ lengths_line source copy) result }
+    ensures fault { IfErr result (λ fault. fault ≡ ReportFault.Sink) }
 {
     losses_text(losses, out)?;
     put_lengths(source, copy, out)?;
-    Ok(status_of(losses))
+    Ok(())
 }
 
 /// The status after these losses.
-fn status_of(losses: &[Loss<'_>]) -> u8
-    ensures { result ≡ lost_status (map loss_view losses.now) }
+fn status_of(differs: bool, losses: &[Loss<'_>]) -> u8
+    ensures { result ≡ copy_status differs (map loss_view losses.now) }
 {
-    if losses.is_empty() { 0 } else { 1 }
+    if differs || !losses.is_empty() { 1 } else { 0 }
 }
 
 /// Writes the lengths of the file and of its copy.

@@ -9,7 +9,10 @@ use crate::decimals::put_number_and;
 use bolt_bulk::BulkFault;
 use bolt_check::{CheckFault, Finding, NoMemory};
 use bolt_format::{MetaFault, PageFault, Sink, SinkFault};
-use bolt_report::{ReportFault, finding_text, meta_fault_text, page_fault_text};
+use bolt_report::{
+    ReportFault, finding_text, meta_fault_text, page_fault_text, snapshot_fault_text,
+};
+use bolt_snapshot::SnapshotFault;
 use std::alloc::AllocFailed;
 
 /// Why a job isn't done (docs/COMMANDS.md, "What a run writes").
@@ -29,6 +32,8 @@ pub enum Failure {
     Memory,
     /// The copy would have 2^63 bytes or more.
     TooLarge,
+    /// A snapshot was to be made of a file that is one by its length, but whose hash differs.
+    HashDiffers,
     /// Standard output or the copy couldn't be written.
     Write,
     /// What is recovered was listed, and this many pages were lost.
@@ -127,6 +132,7 @@ fn put_text<E: Sink>(failure: &Failure, err: &mut E) -> Result<(), ReportFault>
         Failure::NoKey => put_words(b"key not found\n", err),
         Failure::Memory => put_words(b"out of memory\n", err),
         Failure::TooLarge => put_words(b"layout too large\n", err),
+        Failure::HashDiffers => snapshot_fault_text(SnapshotFault::HashDiffers, err),
         Failure::Write => put_words(b"write failed\n", err),
         Failure::Lost(count) => put_pages_lost(*count, err),
     }

@@ -12,7 +12,7 @@ ghost use Rattle.bolt_tree.specs.Paths.{Path};
 ghost use Rattle.bolt_cli.specs.Answers.{Answer, DoesJob, Ending, IsCheckAnswer, IsListedAnswer, IsShownMeta, MakesCopy, done, refused};
 ghost use Rattle.bolt_cli.specs.GoodCopies.{HasGoodCopies, IsGoodCopy};
 ghost use Rattle.bolt_cli.specs.Needs.{needs_metas_alone};
-ghost use Rattle.bolt_cli.specs.SnapshotAnswers.{copy_of};
+ghost use Rattle.bolt_cli.specs.SnapshotAnswers.{copy_of, hash_differs};
 ghost use Rattle.bolt_cli.specs.declared.failure.Failure.TheVariants as failure;
 ghost use Rattle.bolt_cli.specs.declared.job.Job.{Job};
 ghost use Rattle.bolt_cli.specs.declared.page_size.PageSize.{PageSize};
@@ -64,13 +64,14 @@ pub fn good_copies_pass_the_check()
 }
 
 /// With sound trees, `list --recover` and `compact --recover` do exactly what they do without it and
-/// with `--meta` and the slot of the meta that is in use.
+/// with `--meta` and the slot of the meta that is in use, unless a snapshot is to be made of one whose
+/// hash differs.
 pub fn recovering_sound_trees_reads_them<O: Sink, T: Sink>()
     ensures list { (file : List ℕ) (slot : Slot) (meta : Meta) → HasSoundTrees file meta
         → (wanted : Option Slot) (form : ListForm) (path from : Path) (answer : Answer) → IsShownMeta file wanted slot meta
         → IsListedAnswer true file wanted form path from answer ↔ IsListedAnswer false file (Some slot) form path from answer }
     ensures compact { (file : List ℕ) (slot : Slot) (meta : Meta) → HasSoundTrees file meta → (out_old out_new : O) (target_old target_new : T)
-        → (wanted : Option Slot) (size : Option PageSize) (layout : Layout) (snapshot : Bool) (ending : Ending) → IsShownMeta file wanted slot meta
+        → (wanted : Option Slot) (size : Option PageSize) (layout : Layout) (snapshot : Bool) (ending : Ending) → IsShownMeta file wanted slot meta → hash_differs snapshot file ≡ false
         → MakesCopy O.taken O.failed out_old out_new T.taken T.failed target_old target_new file wanted size layout snapshot true ending
         ↔ MakesCopy O.taken O.failed out_old out_new T.taken T.failed target_old target_new file (Some slot) size layout snapshot false ending }
 {

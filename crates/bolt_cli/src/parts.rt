@@ -7,4 +7,6 @@ pub(crate) enum Parts {
     Text,
     /// In hexadecimal.
     Hex,
+    /// In hexadecimal after `0x`, and otherwise as they are.
+    Mixed,
 }

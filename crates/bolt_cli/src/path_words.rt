@@ -2,7 +2,7 @@
 ghost use Rattle.std.specs.Prelude.{◌≡◌, ◌==◌, IfOk, length, map, option_map};
 ghost use Rattle.std.specs.List.{list_any, slice_split};
 ghost use Rattle.bolt_cli.specs.CommandLine.{Gives};
-ghost use Rattle.bolt_cli.specs.PathWords.{each_part, hex_bytes, hex_path_by, hex_path_of, part_of, parts_by, prefix_of};
+ghost use Rattle.bolt_cli.specs.PathWords.{each_part, hex_bytes, hex_path_by, hex_path_of, mixed_bytes, part_of, parts_by, prefix_of};
 ghost use Rattle.bolt_cli.specs.PlainWords.{path_in};
 
 use crate::parts::Parts;
@@ -17,7 +17,8 @@ pub(crate) fn read_parts(word: Option<&str>) -> Result<Parts, Refusal>
     match word {
         None | Some("text") => Ok(Parts::Text),
         Some("hex") => Ok(Parts::Hex),
-        Some(_) => Err(Refusal::Word("bad parts")),
+        Some("mixed") => Ok(Parts::Mixed),
+        Some(_) => Err(Refusal::Word("bad parts: use text, hex or mixed")),
     }
 }
 
@@ -41,7 +42,18 @@ fn read_part(alloc: Global, parts: Parts, word: &str) -> Result<Vec<u8>, Refusal
 {
     match parts {
         Parts::Text => Ok(word.as_bytes().to_vec(alloc)?),
-        Parts::Hex => read_hex(alloc, word),
+        Parts::Hex => read_hex(alloc, word.as_bytes()),
+        Parts::Mixed => read_mixed(alloc, word.as_bytes()),
+    }
+}
+
+/// A part that is in hexadecimal after `0x`, and otherwise as it is.
+fn read_mixed(alloc: Global, word: &[u8]) -> Result<Vec<u8>, Refusal>
+    ensures { Gives (λ part. part.items) (mixed_bytes word.now) result }
+{
+    match word.strip_prefix(b"0x") {
+        Some(digits) => read_hex(alloc, digits),
+        None => Ok(word.to_vec(alloc)?),
     }
 }
 
@@ -92,7 +104,7 @@ fn has_empty(parts: &[&str]) -> bool
     parts.iter().any(|part| part.is_empty())
 }
 
-fn read_hex(alloc: Global, word: &str) -> Result<Vec<u8>, Refusal>
+fn read_hex(alloc: Global, word: &[u8]) -> Result<Vec<u8>, Refusal>
     ensures { Gives (λ bytes. bytes.items) (hex_bytes word.now) result }
 {
     match hex::decode(alloc, word) {

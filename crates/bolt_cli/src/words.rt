@@ -27,8 +27,9 @@ use std::alloc::{AllocError, Global};
 /// - `Help` if help is asked for before a word is out of place.
 /// - `Version` if `--version` or `-V` is in the place of a command.
 /// - `Usage` if the words are no line of a command for another reason.
-/// - `Word` if the words are a line of a command, but one of them can't be read: `bad page id`,
-///   `bad form`, `bad parts`, `bad hex`, `bad meta` or `bad page size`.
+/// - `Word` if the words are a line of a command, but one of them can't be read: `bad form`,
+///   `bad parts` or `bad meta` with the words that are known, `bad page id`, `bad hex` or
+///   `bad page size`.
 /// - `Memory` if memory runs out.
 pub fn read_words(alloc: Global, words: Vec<String>) -> Result<Job, Refusal>
     ensures job { IfOk result (Asks (map string_bytes words.items)) }
@@ -284,7 +285,7 @@ fn read_slot(word: Option<&str>) -> Result<Option<Slot>, Refusal>
         None => Ok(None),
         Some("0") => Ok(Some(Slot::Zero)),
         Some("1") => Ok(Some(Slot::One)),
-        Some(_) => Err(Refusal::Word("bad meta")),
+        Some(_) => Err(Refusal::Word("bad meta: use 0 or 1")),
     }
 }
 
