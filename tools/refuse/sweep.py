@@ -26,7 +26,6 @@ PART_OF_LINE = "a part of its line"
 # these words.
 MAY_BEGIN = {
     "list": None,
-    "pages": None,
     "buckets": ("--sizes", "json"),
     "keys": ("json",),
     "get": ("json",),

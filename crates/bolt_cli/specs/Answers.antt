@@ -192,9 +192,9 @@ abbrev pub pages_shown : (as_map : Bool) → List ℕ → Meta → (ℕ → Role
 pages_shown false file meta roles = pages_text file meta roles
 pages_shown true file meta roles = map_text file meta roles
 
--- the text of the pages; or memory ran out, and a prefix of it was written
+-- the text of the pages
 abbrev pub IsPagesAnswer : List ℕ → (as_map : Bool) → Meta → Answer → Type 0
-IsPagesAnswer file as_map meta answer = (roles : ℕ → Role) × AreRoles file meta roles × IsWholeOrCut (pages_shown as_map file meta roles) answer
+IsPagesAnswer file as_map meta answer = (roles : ℕ → Role) × AreRoles file meta roles × (answer ≡ done (pages_shown as_map file meta roles))
 
 abbrev pub no_stats : Stats
 no_stats = record {

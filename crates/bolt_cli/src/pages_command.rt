@@ -1,15 +1,16 @@
 //! The command `pages`.
-ghost use Rattle.std.specs.Prelude.{◌≡◌, ◌⊎◌, IfErr, true};
+ghost use Rattle.std.specs.Prelude.{◌≡◌, true};
 ghost use Rattle.bolt_check.specs.CheckedFiles.{bytes_of, has_accounts, meta_of};
+ghost use Rattle.bolt_check.specs.RoledFiles.{roles_checked};
+ghost use Rattle.bolt_format.specs.Writes.{Writes};
 ghost use Rattle.bolt_report.specs.PageTables.{ForRoles};
-ghost use Rattle.bolt_report.specs.Reports.{Reports};
 ghost use Rattle.bolt_cli.specs.Answers.{Answer, Does, IsCheckedAnswer, IsFileRefusal, IsPagesAnswer, pages_shown};
 
 use crate::failure::Failure;
 use crate::job::PagesJob;
-use bolt_check::{Checked, check};
-use bolt_format::Sink;
-use bolt_report::{ReportFault, page_map, pages};
+use bolt_check::{Roles, check_roles};
+use bolt_format::{Sink, SinkFault};
+use bolt_report::{page_map, pages_table};
 use std::alloc::Global;
 
 /// Writes the table of all pages or, if it is asked for, a map of them.
@@ -22,25 +23,18 @@ pub(crate) fn print_pages<O: Sink>(
     ensures { (answer : Answer) × IsCheckedAnswer file.now (IsPagesAnswer file.now job.now.map) IsFileRefusal answer
         × Does O.taken O.failed out.old out.new answer result }
 {
-    let checked = check(alloc, file)?;
-    put_pages(alloc, checked, job.map, out)?;
+    let roles = check_roles(alloc, file)?;
+    put_pages(&roles, job.map, out)?;
     Ok(0)
 }
 
-fn put_pages<O: Sink>(
-    alloc: Global,
-    checked: Checked<'_>,
-    map: bool,
-    out: &mut O,
-) -> Result<(), ReportFault>
-    requires { has_accounts checked ≡ true }
-    ensures written { ForRoles checked.entry (λ roles. Reports O.taken O.failed out.old out.new (pages_shown map (bytes_of checked.entry) (meta_of checked.entry) roles) result) }
-    ensures fault { IfErr result (λ fault. (fault ≡ ReportFault.Sink) ⊎ (fault ≡ ReportFault.NoMemory)) }
-    ensures memory { IfErr result (λ fault. fault ≡ ReportFault.NoMemory → O.failed out.new ≡ O.failed out.old) }
+fn put_pages<O: Sink>(roles: &Roles<'_>, map: bool, out: &mut O) -> Result<(), SinkFault>
+    requires { has_accounts (roles_checked roles.now) ≡ true }
+    ensures { ForRoles (roles_checked roles.now) (λ own. Writes O.taken O.failed out.old out.new (pages_shown map (bytes_of (roles_checked roles.now)) (meta_of (roles_checked roles.now)) own) result) }
 {
     if map {
-        page_map(alloc, checked, out)
+        page_map(roles, out)
     } else {
-        pages(alloc, checked, out)
+        pages_table(roles, out)
     }
 }

@@ -114,3 +114,8 @@ module _ (prefix : Key) where
   pub after_least : (entries : List LeafElement) → Rises entry_cmp entries → (f : LeafElement) → Contains (drop (least_from prefix entries) entries) f → key_lt f.key prefix ≡ false
   after_least [] rises f has = absurd (let c : Contains {X = LeafElement} [] f = has in contains_none f c)
   after_least (e ∷ entries) rises f has = after_by e entries (key_lt e.key prefix) refl rises (λ r. after_least entries r) f has
+
+-- every key begins with no bytes
+pub with_none : (entries : List LeafElement) → with_prefix [] entries ≡ entries
+with_none [] = refl
+with_none (e ∷ entries) = ap (λ (es : List LeafElement). e ∷ es) (with_none entries)

@@ -1,5 +1,5 @@
 -- The keys of a bucket as a text: docs/COMMANDS.md, "What is printed".
-use Rattle.std.specs.Prelude.{ℕ, Bool, ◌||◌, List, [], filter, flat_map, if◌then◌else◌}
+use Rattle.std.specs.Prelude.{ℕ, List, [], filter, flat_map, if◌then◌else◌}
 use Rattle.bolt_format.specs.Elements.{LeafElement}
 use Rattle.bolt_report.specs.Forms.{value_text}
 use Rattle.bolt_report.specs.declared.form.Form.{Form}
@@ -12,6 +12,6 @@ keys_text form entries = flat_map (λ (e : LeafElement). value_text form e.key) 
 abbrev pub buckets_text : Form → List LeafElement → List ℕ
 buckets_text form entries = keys_text form (filter (λ (e : LeafElement). e.is_bucket) entries)
 
--- what one entry adds, if all are asked for or only the buckets
-abbrev pub key_line : Form → Bool → LeafElement → List ℕ
-key_line form all e = if all || e.is_bucket then value_text form e.key else []
+-- what one entry adds to these
+abbrev pub bucket_name : Form → LeafElement → List ℕ
+bucket_name form e = if e.is_bucket then value_text form e.key else []

@@ -1,16 +1,17 @@
 //! The keys of a bucket as a text.
-ghost use Rattle.std.specs.Prelude.{◌≡◌, ◌⊎◌, IfErr, OnOk, flat_map};
+ghost use Rattle.std.specs.Prelude.{◌≡◌, ◌⊎◌, IfErr, OnOk};
 ghost use Rattle.bolt_format.specs.Elements.{LeafElement};
 ghost use Rattle.bolt_tree.specs.Buckets.{bucket_checked, bucket_start};
 ghost use Rattle.bolt_tree.specs.EntriesLeft.{ForEntries};
 ghost use Rattle.bolt_tree.specs.Entries.{entry_view};
 ghost use Rattle.bolt_tree.specs.ShownEntries.{shown_entry};
-ghost use Rattle.bolt_report.specs.KeyLines.{buckets_text, key_line, keys_text};
+ghost use Rattle.bolt_report.specs.KeyLines.{bucket_name, buckets_text, keys_text};
 ghost use Rattle.bolt_report.specs.Reports.{Reports};
 
 use crate::fault::ReportFault;
 use crate::form::Form;
 use crate::item_writer::ItemWriter;
+use crate::key_prefixes::keys_with_prefix;
 use bolt_format::Sink;
 use bolt_tree::{Bucket, Entry, Item};
 use std::alloc::Global;
@@ -32,8 +33,7 @@ pub fn keys<S: Sink>(
     ensures fault { IfErr result (λ fault. (fault ≡ ReportFault.Sink) ⊎ ((fault ≡ ReportFault.NoMemory) × (form ≡ Form.Json))) }
     ensures memory { IfErr result (λ fault. fault ≡ ReportFault.NoMemory → S.failed sink.new ≡ S.failed sink.old) }
 {
-    let mut items = ItemWriter::new(alloc, form);
-    put_keys(bucket, true, &mut items, sink)
+    keys_with_prefix(alloc, &mut bucket.cursor(), &[], form, sink)
 }
 
 /// Writes the keys of those entries of a bucket that are buckets. The lines and the errors are as
@@ -49,42 +49,27 @@ pub fn buckets<S: Sink>(
     ensures memory { IfErr result (λ fault. fault ≡ ReportFault.NoMemory → S.failed sink.new ≡ S.failed sink.old) }
 {
     let mut items = ItemWriter::new(alloc, form);
-    put_keys(bucket, false, &mut items, sink)
-}
-
-/// Writes the keys of all entries, or only those of buckets.
-fn put_keys<S: Sink>(
-    bucket: &Bucket<'_>,
-    all: bool,
-    items: &mut ItemWriter,
-    sink: &mut S,
-) -> Result<(), ReportFault>
-    ensures written { ForEntries (bucket_checked bucket.now) (bucket_start bucket.now) (λ entries. Reports S.taken S.failed sink.old sink.new (flat_map (key_line items.old.form all) entries) result) }
-    ensures fault { IfErr result (λ fault. (fault ≡ ReportFault.Sink) ⊎ ((fault ≡ ReportFault.NoMemory) × (items.old.form ≡ Form.Json))) }
-    ensures memory { IfErr result (λ fault. fault ≡ ReportFault.NoMemory → S.failed sink.new ≡ S.failed sink.old) }
-{
     let mut cursor = bucket.cursor();
     'rest: while let Some(entry) = cursor.next() {
-        put_key(&entry, all, items, sink)?;
+        put_bucket(&entry, &mut items, sink)?;
     }
     Ok(())
 }
 
-/// Writes the key of an entry, if all are written or it is a bucket.
-fn put_key<S: Sink>(
+/// Writes the key of an entry, if it is a bucket.
+fn put_bucket<S: Sink>(
     entry: &Entry<'_>,
-    all: bool,
     items: &mut ItemWriter,
     sink: &mut S,
 ) -> Result<(), ReportFault>
     ensures form { items.new.form ≡ items.old.form }
-    ensures written { (e : LeafElement) → shown_entry entry.now ≡ entry_view e → Reports S.taken S.failed sink.old sink.new (key_line items.old.form all e) result }
+    ensures written { (e : LeafElement) → shown_entry entry.now ≡ entry_view e → Reports S.taken S.failed sink.old sink.new (bucket_name items.old.form e) result }
     ensures sound { OnOk result (S.failed sink.new ≡ S.failed sink.old) }
     ensures fault { IfErr result (λ fault. (fault ≡ ReportFault.Sink) ⊎ ((fault ≡ ReportFault.NoMemory) × (items.old.form ≡ Form.Json))) }
     ensures memory { IfErr result (λ fault. fault ≡ ReportFault.NoMemory → S.failed sink.new ≡ S.failed sink.old) }
 {
     match entry.item {
-        Item::Value(_) if !all => Ok(()),
-        _ => items.put_line(entry.key, sink),
+        Item::Value(_) => Ok(()),
+        Item::Bucket { .. } => items.put_line(entry.key, sink),
     }
 }

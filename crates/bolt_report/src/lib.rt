@@ -44,7 +44,7 @@ pub use maps::page_map;
 pub use member_lines::MemberLines;
 pub use metas::info;
 pub use page_lines::page_text;
-pub use page_table::pages;
+pub use page_table::{pages, pages_table};
 pub use part_lines::{list_part, list_recovered_part};
 pub use size_lines::sizes;
 pub use statistics::{Stats, add, stats_text};

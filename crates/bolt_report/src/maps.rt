@@ -1,48 +1,29 @@
 //! The map of all pages of a file.
-ghost use Rattle.std.specs.Prelude.{◌≡◌, ◌+◌, ◌-◌, ◌≤◌, ◌<◌, ◌⊎◌, IfErr, length, true};
+ghost use Rattle.std.specs.Prelude.{◌≡◌, ◌+◌, ◌-◌, ◌≤◌, ◌<◌, length, true};
 ghost use Rattle.bolt_format.specs.Writes.{Writes};
 ghost use Rattle.bolt_check.specs.CheckedFiles.{bytes_of, has_accounts, meta_of};
 ghost use Rattle.bolt_check.specs.RoledFiles.{roles_checked};
 ghost use Rattle.bolt_report.specs.PageMaps.{map_line, map_lines, map_text, page_mark};
 ghost use Rattle.bolt_report.specs.PageTables.{ForRoles, pages_in};
-ghost use Rattle.bolt_report.specs.Reports.{Reports};
 
-use crate::fault::ReportFault;
 use crate::page_table::{free_past, pages_begun};
 use crate::puts::put;
 use crate::table_rows::{past_text, push_number_column};
 use crate::text::{Text, push_bytes};
-use bolt_check::{Checked, Role, Roles, roles};
+use bolt_check::{Checked, Role, Roles};
 use bolt_format::{Sink, SinkFault};
-use std::alloc::Global;
 
 /// The number of pages on a line of the map.
 const LINE_PAGES: u64 = 64;
 
-/// Writes a map of all pages of a file (docs/COMMANDS.md, "What is printed"): a character for each
-/// page that begins in the file below the high-water mark, 64 a line, and the number of free pages
-/// past the end of the file. The file's accounts were tested too. A line needs no memory.
+/// Writes a map of all pages of a file by their roles (docs/COMMANDS.md, "What is printed"): a
+/// character for each page that begins in the file below the high-water mark, 64 a line, and the
+/// number of free pages past the end of the file. Needs no memory.
 ///
 /// # Errors
 ///
-/// `Sink` if the sink failed; `NoMemory` if memory ran out for the roles of the pages, and the sink
-/// had not failed. The sink has then accepted a prefix of the text. There is no other error.
-pub fn page_map<S: Sink>(
-    alloc: Global,
-    checked: Checked<'_>,
-    sink: &mut S,
-) -> Result<(), ReportFault>
-    requires { has_accounts checked ≡ true }
-    ensures written { ForRoles checked.entry (λ roles. Reports S.taken S.failed sink.old sink.new (map_text (bytes_of checked.entry) (meta_of checked.entry) roles) result) }
-    ensures fault { IfErr result (λ fault. (fault ≡ ReportFault.Sink) ⊎ (fault ≡ ReportFault.NoMemory)) }
-    ensures memory { IfErr result (λ fault. fault ≡ ReportFault.NoMemory → S.failed sink.new ≡ S.failed sink.old) }
-{
-    let table = roles(alloc, checked)?;
-    put_map(&table, sink)?;
-    Ok(())
-}
-
-fn put_map<S: Sink>(table: &Roles<'_>, sink: &mut S) -> Result<(), SinkFault>
+/// `SinkFault` if the sink failed. It has then accepted a prefix of the text.
+pub fn page_map<S: Sink>(table: &Roles<'_>, sink: &mut S) -> Result<(), SinkFault>
     requires { has_accounts (roles_checked table.now) ≡ true }
     ensures { ForRoles (roles_checked table.now) (λ roles. Writes S.taken S.failed sink.old sink.new (map_text (bytes_of (roles_checked table.now)) (meta_of (roles_checked table.now)) roles) result) }
 {

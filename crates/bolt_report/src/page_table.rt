@@ -17,10 +17,8 @@ use bolt_check::{Checked, Role, Roles, roles};
 use bolt_format::{Sink, SinkFault, free_ids, known};
 use std::alloc::Global;
 
-/// Writes the table of all pages of a file (docs/COMMANDS.md, "What is printed"): a line for each
-/// page that begins in the file below the high-water mark, except the later pages of a span, and
-/// the number of free pages past the end of the file. The file's accounts were tested too. A line
-/// needs no memory.
+/// Writes the table of all pages of a file, as `pages_table` does, after it has found their roles.
+/// The file's accounts were tested too.
 ///
 /// # Errors
 ///
@@ -33,11 +31,18 @@ pub fn pages<S: Sink>(alloc: Global, checked: Checked<'_>, sink: &mut S) -> Resu
     ensures memory { IfErr result (λ fault. fault ≡ ReportFault.NoMemory → S.failed sink.new ≡ S.failed sink.old) }
 {
     let table = roles(alloc, checked)?;
-    put_table(&table, sink)?;
+    pages_table(&table, sink)?;
     Ok(())
 }
 
-fn put_table<S: Sink>(table: &Roles<'_>, sink: &mut S) -> Result<(), SinkFault>
+/// Writes the table of all pages of a file by their roles (docs/COMMANDS.md, "What is printed"): a
+/// line for each page that begins in the file below the high-water mark, except the later pages of
+/// a span, and the number of free pages past the end of the file. Needs no memory.
+///
+/// # Errors
+///
+/// `SinkFault` if the sink failed. It has then accepted a prefix of the text.
+pub fn pages_table<S: Sink>(table: &Roles<'_>, sink: &mut S) -> Result<(), SinkFault>
     requires { has_accounts (roles_checked table.now) ≡ true }
     ensures { ForRoles (roles_checked table.now) (λ roles. Writes S.taken S.failed sink.old sink.new (pages_text (bytes_of (roles_checked table.now)) (meta_of (roles_checked table.now)) roles) result) }
 {

@@ -4,7 +4,7 @@ use Rattle.bolt_format.proofs.WriteLemmas.{Writes-same, Writes-stop, Writes-then
 use Rattle.bolt_check.specs.CheckedFiles.{bytes_of, meta_of}
 use Rattle.bolt_check.specs.RoledFiles.{roles_checked}
 use Rattle.bolt_report.specs.PageTables.{head_rows, is_free, page_row, pages_in, pages_past, past_line}
-use Rattle.bolt_report.proofs.page_table.put_table.Goals as goal
+use Rattle.bolt_report.proofs.page_table.pages_table.Goals as goal
 
 pub returns-in_err-put : goal.returns-in_err-put
 returns-in_err-put g c = λ roles are.

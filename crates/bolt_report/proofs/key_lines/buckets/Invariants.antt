@@ -5,19 +5,19 @@ use Rattle.bolt_report.specs.declared.fault.ReportFault.{ReportFault}
 use Rattle.bolt_tree.specs.Buckets.{bucket_checked, bucket_start}
 use Rattle.bolt_tree.specs.Cursors.{cursor_checked, cursor_place, cursor_start}
 use Rattle.bolt_tree.specs.EntriesLeft.{ForEntries, entries_left}
-use Rattle.bolt_report.specs.KeyLines.{key_line}
+use Rattle.bolt_report.specs.KeyLines.{bucket_name}
 use Rattle.bolt_tree.proofs.Leaving.{the_entries}
-use Rattle.bolt_report.proofs.key_lines.put_keys.Given as goal
+use Rattle.bolt_report.proofs.key_lines.buckets.Given as goal
 
 -- of the text of all entries, what was written, and the text of those that are left
 abbrev pub invariant-rest : goal.invariant-rest
 invariant-rest g l = record {
   checked : cursor_checked l.cursor ≡ bucket_checked l.bucket;
   start : cursor_start l.cursor ≡ bucket_start l.bucket;
-  form : l.items.form ≡ l.initial.items.form;
+  form : l.items.form ≡ l.form;
   counted : g.S.Sink.failed l.sink ≡ g.S.Sink.failed l.initial.sink;
   put : ForEntries (bucket_checked l.bucket) (bucket_start l.bucket) (λ entries. (written : List ℕ)
-      × (flat_map (key_line l.initial.items.form l.all) entries ≡ written ++ flat_map (key_line l.initial.items.form l.all) (entries_left entries (cursor_place l.cursor)))
+      × (flat_map (bucket_name l.form) entries ≡ written ++ flat_map (bucket_name l.form) (entries_left entries (cursor_place l.cursor)))
       × Writes {A = ⊤} {E = ReportFault} g.S.Sink.taken g.S.Sink.failed l.initial.sink l.sink written (Ok tt));
 }
 
