@@ -14,8 +14,9 @@ use Rattle.bolt_format.specs.declared.kind.Kind.TheVariants as kind
 use Rattle.bolt_bulk.specs.Private.BranchRuns.{IsSizedRun, run_view}
 use Rattle.bolt_bulk.specs.Private.RunViews.{run_page}
 use Rattle.bolt_bulk.specs.declared.branch_run.BranchRun.{BranchRun}
-use Rattle.bolt_bulk.proofs.PutParts.{filled_pieces, zeros}
 use Rattle.bolt_bulk.proofs.ElementPuts.{HeadsPut, data_of, headers_of, heads_next}
+use Rattle.bolt_bulk.proofs.FilledTexts.{zeros, filled_pieces}
+use Rattle.bolt_format.specs.declared.sink.Sink.{Ghosts}
 
 abbrev pub no_branch : Branch
 no_branch = record { key = record { ref_ptr = (0, 0); now = [] }; child = 0 }
@@ -59,8 +60,8 @@ pub record NextBranch (x : Branch) (pos : ℕ) : Type 0 where
   pub low : 16 ≤ pos
   pub fits : pos + length x.key.now < 4294967296
 
-pub next_branch : {S : Type 0} {taken : S → Option (List ℕ)} {failed : S → ℕ} (old new : S) (buffer : List ℕ) (xs : List Branch) (i pos : ℕ) → i < length xs
-    → HeadsPut head_of key_of taken failed old new buffer xs i pos → 16 * length xs + length (branch_data (map branch_view xs)) < 4294967296 → NextBranch (get_or xs i no_branch) pos
+pub next_branch : {S : Type 0} {sink : Ghosts S} (old new : S) (buffer : List ℕ) (xs : List Branch) (i pos : ℕ) → i < length xs
+    → HeadsPut head_of key_of sink old new buffer xs i pos → 16 * length xs + length (branch_data (map branch_view xs)) < 4294967296 → NextBranch (get_or xs i no_branch) pos
 next_branch old new buffer xs i pos h put small =
     let next = heads_next old new buffer xs i pos no_branch (get_or xs i no_branch) h refl put in
     let same = ap (λ (t : List ℕ). length t) (branch_datum xs) in

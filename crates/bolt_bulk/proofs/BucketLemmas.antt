@@ -14,15 +14,18 @@ use Rattle.bolt_bulk.specs.Private.HeldItems.{AreHeld, held_view, held_views}
 use Rattle.bolt_bulk.specs.Private.OpenBuckets.{HasRoomFor, IsLeafRun, bucket_end_next, leaf_closed, leaves_of}
 use Rattle.bolt_bulk.specs.Private.RunViews.{BucketRunsView, leaf_key, leaf_page, leaves_have_room, runs_close_put, runs_end_put, runs_next, runs_push, runs_put, runs_room, runs_room_put}
 use Rattle.bolt_bulk.specs.Private.TakenItems.{runs_taking}
-use Rattle.bolt_bulk.specs.Puts.{Puts}
 use Rattle.bolt_bulk.specs.declared.fault.BulkFault.{BulkFault}
 use Rattle.bolt_bulk.specs.declared.held.Held.{Held}
 use Rattle.bolt_bulk.specs.declared.leaf_run.LeafRun.{LeafRun}
 use Rattle.bolt_bulk.proofs.ClimbLemmas.{next_grows}
 use Rattle.bolt_bulk.proofs.CloseLemmas.{end_grows}
 use Rattle.bolt_bulk.proofs.HeldRuns.{none_small}
-use Rattle.bolt_bulk.proofs.PutsLemmas.{pages_some, proper_same, puts_same, puts_then, short_then}
 use Rattle.bolt_bulk.proofs.RunLemmas.{few_or_fits}
+use Rattle.bolt_bulk.proofs.PutsLemmas.{proper_same, pages_some, short_then}
+use Rattle.bolt_format.proofs.WroteLemmas.{Wrote-then, Wrote-same}
+use Rattle.bolt_format.specs.Wrote.{Wrote}
+use Rattle.bolt_format.specs.Endings.{Ending, whole}
+use Rattle.bolt_format.specs.declared.sink.Sink.{Ghosts}
 
 -- if a run has room on its page, an item can be added
 pub room_fits : (page_size size : ℕ) (run : LeafRun) → page_size ≤ 33554432 → IsLeafRun run → size < 4294967280 → leaves_have_room page_size (leaves_of run) size ≡ true → HasRoomFor run size
@@ -59,18 +62,16 @@ room_large page_size limit runs key size none large =
     let same : (runs_room page_size runs key size).next ≡ runs_next page_size key (leaf_closed runs.leaves runs.next) (runs.next + (1 + overflow_of page_size runs.leaves.size)) runs.uppers = rw none refl in
     omega arith
 
-pub room_made : {S A B : Type 0} {taken : S → Option (List ℕ)} {failed : S → ℕ} (page_size : ℕ) (runs : BucketRunsView) (key : List ℕ) (size : ℕ) (old mid new : S) (closed : BranchElement) (after : ℕ) (x : A) (result : Result B BulkFault)
+pub room_made : {S : Type 0} {sink : Ghosts S} (page_size : ℕ) (runs : BucketRunsView) (key : List ℕ) (size : ℕ) (old mid new : S) (closed : BranchElement) (after : ℕ) {end : Ending}
     → leaves_have_room page_size runs.leaves size ≡ false → closed ≡ leaf_closed runs.leaves runs.next → after ≡ runs.next + (1 + overflow_of page_size runs.leaves.size)
-    → Puts taken failed old mid (page_bytes page_size runs.next (leaf_page page_size runs.leaves runs.next).view) (Ok x)
-    → Puts taken failed mid new (placed_bytes page_size (runs_put page_size key closed after runs.uppers)) result
-    → Puts taken failed old new (placed_bytes page_size (runs_room_put page_size runs key size)) result
-room_made page_size runs key size old mid new closed after x result none same number one two =
+    → Wrote sink old mid (page_bytes page_size runs.next (leaf_page page_size runs.leaves runs.next).view) whole
+    → Wrote sink mid new (placed_bytes page_size (runs_put page_size key closed after runs.uppers)) end
+    → Wrote sink old new (placed_bytes page_size (runs_room_put page_size runs key size)) end
+room_made page_size runs key size old mid new closed after none same number one two =
     let text : runs_room_put page_size runs key size ≡ leaf_page page_size runs.leaves runs.next ∷ runs_put page_size key (leaf_closed runs.leaves runs.next) (runs.next + (1 + overflow_of page_size runs.leaves.size)) runs.uppers = rw none refl in
     let put : runs_put page_size key closed after runs.uppers ≡ runs_put page_size key (leaf_closed runs.leaves runs.next) (runs.next + (1 + overflow_of page_size runs.leaves.size)) runs.uppers =
     ap (λ (e : BranchElement). runs_put page_size key e after runs.uppers) same ∙ ap (λ (n : ℕ). runs_put page_size key (leaf_closed runs.leaves runs.next) n runs.uppers) number in
-    puts_same old new _ _ result
-    (ap (λ (ps : List Placed). page_bytes page_size runs.next (leaf_page page_size runs.leaves runs.next).view ++ placed_bytes page_size ps) put ∙ ap (λ (ps : List Placed). placed_bytes page_size ps) (sym text))
-    (puts_then old mid new _ _ x result one two)
+    Wrote-same (ap (λ (ps : List Placed). page_bytes page_size runs.next (leaf_page page_size runs.leaves runs.next).view ++ placed_bytes page_size ps) put ∙ ap (λ (ps : List Placed). placed_bytes page_size ps) (sym text)) (Wrote-then one two)
 
 -- the end: the leaf closes, and then each run above
 pub end_large : (page_size limit : ℕ) (runs : BucketRunsView) → limit < runs.next + (1 + overflow_of page_size runs.leaves.size) → limit < bucket_end_next page_size runs
@@ -84,25 +85,25 @@ end_text page_size runs closed after same number =
     ap (λ (e : BranchElement). runs_close_put page_size e after runs.uppers) same ∙ ap (λ (n : ℕ). runs_close_put page_size (leaf_closed runs.leaves runs.next) n runs.uppers) number in
     ap (λ (ps : List Placed). page_bytes page_size runs.next (leaf_page page_size runs.leaves runs.next).view ++ placed_bytes page_size ps) put
 
-pub end_made : {S A B : Type 0} {taken : S → Option (List ℕ)} {failed : S → ℕ} (page_size : ℕ) (runs : BucketRunsView) (old mid new : S) (closed : BranchElement) (after : ℕ) (x : A) (result : Result B BulkFault)
+pub end_made : {S : Type 0} {sink : Ghosts S} (page_size : ℕ) (runs : BucketRunsView) (old mid new : S) (closed : BranchElement) (after : ℕ) {end : Ending}
     → closed ≡ leaf_closed runs.leaves runs.next → after ≡ runs.next + (1 + overflow_of page_size runs.leaves.size)
-    → Puts taken failed old mid (page_bytes page_size runs.next (leaf_page page_size runs.leaves runs.next).view) (Ok x)
-    → Puts taken failed mid new (placed_bytes page_size (runs_close_put page_size closed after runs.uppers)) result
-    → Puts taken failed old new (placed_bytes page_size (runs_end_put page_size runs)) result
-end_made page_size runs old mid new closed after x result same number one two =
-    puts_same old new _ _ result (end_text page_size runs closed after same number) (puts_then old mid new _ _ x result one two)
+    → Wrote sink old mid (page_bytes page_size runs.next (leaf_page page_size runs.leaves runs.next).view) whole
+    → Wrote sink mid new (placed_bytes page_size (runs_close_put page_size closed after runs.uppers)) end
+    → Wrote sink old new (placed_bytes page_size (runs_end_put page_size runs)) end
+end_made page_size runs old mid new closed after same number one two =
+    Wrote-same (end_text page_size runs closed after same number) (Wrote-then one two)
 
 on_err_same : {A E : Type 0} (old new : Option (List ℕ)) (text same : List ℕ) (r : Result A E) → text ≡ same → OnErr r (AppendsProperPrefix old new text) → OnErr r (AppendsProperPrefix old new same)
 on_err_same old new text same (Ok x) e a = tt
 on_err_same old new text same (Err x) e a = proper_same old new text same e a
 
-pub end_short : {S A B : Type 0} {taken : S → Option (List ℕ)} {failed : S → ℕ} (page_size : ℕ) (runs : BucketRunsView) (old mid new : S) (closed : BranchElement) (after : ℕ) (x : A) (result : Result B BulkFault)
+pub end_short : {S B : Type 0} {sink : Ghosts S} (page_size : ℕ) (runs : BucketRunsView) (old mid new : S) (closed : BranchElement) (after : ℕ) (result : Result B BulkFault)
     → closed ≡ leaf_closed runs.leaves runs.next → after ≡ runs.next + (1 + overflow_of page_size runs.leaves.size)
-    → Puts taken failed old mid (page_bytes page_size runs.next (leaf_page page_size runs.leaves runs.next).view) (Ok x)
-    → OnErr result (AppendsProperPrefix (taken mid) (taken new) (placed_bytes page_size (runs_close_put page_size closed after runs.uppers)))
-    → OnErr result (AppendsProperPrefix (taken old) (taken new) (placed_bytes page_size (runs_end_put page_size runs)))
-end_short {taken = taken} page_size runs old mid new closed after x result same number one two =
-    on_err_same (taken old) (taken new) _ _ result (end_text page_size runs closed after same number) (short_then old mid new _ _ x result one two)
+    → Wrote sink old mid (page_bytes page_size runs.next (leaf_page page_size runs.leaves runs.next).view) whole
+    → OnErr result (AppendsProperPrefix (sink.taken mid) (sink.taken new) (placed_bytes page_size (runs_close_put page_size closed after runs.uppers)))
+    → OnErr result (AppendsProperPrefix (sink.taken old) (sink.taken new) (placed_bytes page_size (runs_end_put page_size runs)))
+end_short {sink = sink} page_size runs old mid new closed after result same number one two =
+    on_err_same (sink.taken old) (sink.taken new) _ _ result (end_text page_size runs closed after same number) (short_then old mid new _ _ result one two)
 
 pub end_some : (page_size : ℕ) (runs : BucketRunsView) → placed_bytes page_size (runs_end_put page_size runs) ≢ []
 end_some page_size runs =

@@ -14,22 +14,26 @@ use Rattle.bolt_layout.specs.Levels.{overflow_of}
 use Rattle.bolt_layout.specs.Limits.{one_less}
 use Rattle.bolt_layout.specs.Layout.{placed_bytes}
 use Rattle.bolt_bulk.specs.Private.BranchRuns.{IsStanding, element_up, run_view, taking_next, taking_puts, taking_up}
-use Rattle.bolt_bulk.specs.Puts.{Puts}
 use Rattle.bolt_bulk.specs.Private.RunViews.{RunView, no_run, one_closed, run_kept, run_push, run_stays, runs_climb, runs_next, runs_put}
 use Rattle.bolt_bulk.specs.Private.OpenRuns.{key_size}
 use Rattle.bolt_bulk.specs.declared.fault.BulkFault.{BulkFault}
 use Rattle.bolt_bulk.proofs.RunLemmas.{key_pushed}
-use Rattle.bolt_bulk.proofs.PutsLemmas.{PutsFront, bytes-append, front_none, front_puts, puts_stop, puts_whole}
+use Rattle.bolt_bulk.proofs.PutsLemmas.{bytes-append, Wrote-stops}
+use Rattle.bolt_bulk.proofs.WroteFronts.{WroteFront, front_none, front_more, front_stop, front_whole}
+use Rattle.bolt_format.specs.Wrote.{Wrote}
+use Rattle.bolt_format.specs.Endings.{whole}
+use Rattle.bolt_bulk.specs.BulkEndings.{fault_ending}
+use Rattle.bolt_format.specs.declared.sink.Sink.{Ghosts}
 
 -- The whole climb, from an element, a number and runs; and the climb that is left, from the runs from number i on.
-pub record Climbing {S : Type 0} (page_size : ℕ) (new : Option ℕ) (key : List ℕ) (e0 : BranchElement) (n0 : ℕ) (runs0 : List RunView) (taken : S → Option (List ℕ)) (failed : S → ℕ) (old later : S)
+pub record Climbing {S : Type 0} (page_size : ℕ) (new : Option ℕ) (key : List ℕ) (e0 : BranchElement) (n0 : ℕ) (runs0 : List RunView) (sink : Ghosts S) (old later : S)
     (runs : List RunView) (i : ℕ) (e : BranchElement) (next : ℕ) : Type 0 where
   pub climbs : runs_climb page_size new key e0 n0 runs0 ≡ take i runs ++ runs_climb page_size new key e next (drop i runs)
   pub nexts : runs_next page_size key e0 n0 runs0 ≡ runs_next page_size key e next (drop i runs)
-  pub front : PutsFront taken failed old later (placed_bytes page_size (runs_put page_size key e0 n0 runs0)) (placed_bytes page_size (runs_put page_size key e next (drop i runs)))
+  pub front : WroteFront sink old later (placed_bytes page_size (runs_put page_size key e0 n0 runs0)) (placed_bytes page_size (runs_put page_size key e next (drop i runs)))
 
-pub climb_begins : {S : Type 0} {taken : S → Option (List ℕ)} {failed : S → ℕ} (page_size : ℕ) (fresh : Option ℕ) (key : List ℕ) (e : BranchElement) (next : ℕ) (runs : List RunView) (old : S)
-    → Climbing page_size fresh key e next runs taken failed old old runs 0 e next
+pub climb_begins : {S : Type 0} {sink : Ghosts S} (page_size : ℕ) (fresh : Option ℕ) (key : List ℕ) (e : BranchElement) (next : ℕ) (runs : List RunView) (old : S)
+    → Climbing page_size fresh key e next runs sink old old runs 0 e next
 climb_begins page_size fresh key e next runs old = record { climbs = refl; nexts = refl; front = front_none old (placed_bytes page_size (runs_put page_size key e next runs)) }
 
 -- what the next run writes, and what is written after it
@@ -56,19 +60,19 @@ set_at : {X : Type 0} (xs : List X) (i : ℕ) (x : X) → i < length xs → set 
 set_at xs i x h = set_split xs i x h ∙ ap (λ (n : ℕ). take i xs ++ x ∷ drop n xs) (sym (add-one i))
 
 -- the run takes the element and stays: the climb is over
-pub climb_stays : {S A B : Type 0} {taken : S → Option (List ℕ)} {failed : S → ℕ} (page_size : ℕ) (fresh : Option ℕ) (key : List ℕ) (e0 : BranchElement) (n0 : ℕ) (runs0 : List RunView) (old mid new : S) (runs : List RunView) (i : ℕ)
-    (e : BranchElement) (next : ℕ) (run : RunView) (a : A) (b : B) → i < length runs → drop i runs ≡ run ∷ drop (i + 1) runs → run_stays page_size (run_push run e) (key_size key) ≡ true
-    → Climbing page_size fresh key e0 n0 runs0 taken failed old mid runs i e next → Puts taken failed mid new (placed_bytes page_size (taking_puts page_size key e next run)) (Ok a)
+pub climb_stays : {S : Type 0} {sink : Ghosts S} (page_size : ℕ) (fresh : Option ℕ) (key : List ℕ) (e0 : BranchElement) (n0 : ℕ) (runs0 : List RunView) (old mid new : S) (runs : List RunView) (i : ℕ)
+    (e : BranchElement) (next : ℕ) (run : RunView) → i < length runs → drop i runs ≡ run ∷ drop (i + 1) runs → run_stays page_size (run_push run e) (key_size key) ≡ true
+    → Climbing page_size fresh key e0 n0 runs0 sink old mid runs i e next → Wrote sink mid new (placed_bytes page_size (taking_puts page_size key e next run)) whole
     → (runs_climb page_size fresh key e0 n0 runs0 ≡ set runs i (run_kept page_size (run_push run e) (key_size key))) × (runs_next page_size key e0 n0 runs0 ≡ next)
-    × Puts taken failed old new (placed_bytes page_size (runs_put page_size key e0 n0 runs0)) (Ok b)
-climb_stays page_size fresh key e0 n0 runs0 old mid new runs i e next run a b h at room c one =
+    × Wrote sink old new (placed_bytes page_size (runs_put page_size key e0 n0 runs0)) whole
+climb_stays page_size fresh key e0 n0 runs0 old mid new runs i e next run h at room c one =
     let climbed : runs_climb page_size fresh key e next (run ∷ drop (i + 1) runs) ≡ run_kept page_size (run_push run e) (key_size key) ∷ drop (i + 1) runs = rw room refl in
     let nexted : runs_next page_size key e next (run ∷ drop (i + 1) runs) ≡ next = rw room refl in
     let no_more : after_put page_size key e next run (drop (i + 1) runs) ≡ [] = rw room refl in
-    let f = front_puts old mid new _ (placed_bytes page_size (taking_puts page_size key e next run)) _ _ a (left_split page_size key e next run (drop (i + 1) runs) (drop i runs) at) c.front one in (
+    let f = front_more (left_split page_size key e next run (drop (i + 1) runs) (drop i runs) at) c.front one in (
       c.climbs ∙ (ap (λ (rs : List RunView). take i runs ++ runs_climb page_size fresh key e next rs) at ∙ (ap (λ (rs : List RunView). take i runs ++ rs) climbed ∙ sym (set_at runs i (run_kept page_size (run_push run e) (key_size key)) h))),
       c.nexts ∙ (ap (λ (rs : List RunView). runs_next page_size key e next rs) at ∙ nexted),
-      puts_whole old new _ _ b (ap (λ (ps : List Placed). placed_bytes page_size ps) no_more) f,
+      front_whole (ap (λ (ps : List Placed). placed_bytes page_size ps) no_more) f,
     )
 
 take_set : {X : Type 0} (xs : List X) (i : ℕ) (x : X) → i < length xs → take (suc i) (set xs i x) ≡ take i xs ++ x ∷ []
@@ -80,11 +84,11 @@ take_set_at : {X : Type 0} (xs : List X) (i : ℕ) (x : X) → i < length xs →
 take_set_at xs i x h = ap (λ (n : ℕ). take n (set xs i x)) (add-one i) ∙ take_set xs i x h
 
 -- it closes: its element climbs on
-pub climb_closes : {S A : Type 0} {taken : S → Option (List ℕ)} {failed : S → ℕ} (page_size : ℕ) (fresh : Option ℕ) (key : List ℕ) (e0 : BranchElement) (n0 : ℕ) (runs0 : List RunView) (old mid new : S) (runs : List RunView) (i : ℕ)
-    (e : BranchElement) (next : ℕ) (run : RunView) (a : A) → i < length runs → drop i runs ≡ run ∷ drop (i + 1) runs → run_stays page_size (run_push run e) (key_size key) ≡ false
-    → Climbing page_size fresh key e0 n0 runs0 taken failed old mid runs i e next → Puts taken failed mid new (placed_bytes page_size (taking_puts page_size key e next run)) (Ok a)
-    → Climbing page_size fresh key e0 n0 runs0 taken failed old new (set runs i (no_run (one_less run.left) (one_closed run.closed))) (i + 1) (element_up e next run) (next + (1 + overflow_of page_size (run_push run e).size))
-climb_closes {taken = taken} {failed = failed} page_size fresh key e0 n0 runs0 old mid new runs i e next run a h at room c one =
+pub climb_closes : {S : Type 0} {sink : Ghosts S} (page_size : ℕ) (fresh : Option ℕ) (key : List ℕ) (e0 : BranchElement) (n0 : ℕ) (runs0 : List RunView) (old mid new : S) (runs : List RunView) (i : ℕ)
+    (e : BranchElement) (next : ℕ) (run : RunView) → i < length runs → drop i runs ≡ run ∷ drop (i + 1) runs → run_stays page_size (run_push run e) (key_size key) ≡ false
+    → Climbing page_size fresh key e0 n0 runs0 sink old mid runs i e next → Wrote sink mid new (placed_bytes page_size (taking_puts page_size key e next run)) whole
+    → Climbing page_size fresh key e0 n0 runs0 sink old new (set runs i (no_run (one_less run.left) (one_closed run.closed))) (i + 1) (element_up e next run) (next + (1 + overflow_of page_size (run_push run e).size))
+climb_closes {sink = sink} page_size fresh key e0 n0 runs0 old mid new runs i e next run h at room c one =
     let up : BranchElement = element_up e next run in
     let after : ℕ = next + (1 + overflow_of page_size (run_push run e).size) in
     let rest : List RunView = drop (i + 1) runs in
@@ -93,24 +97,24 @@ climb_closes {taken = taken} {failed = failed} page_size fresh key e0 n0 runs0 o
     let more : after_put page_size key e next run rest ≡ runs_put page_size key up after rest = rw room refl in
     let dropped : rest ≡ drop (i + 1) (set runs i (no_run (one_less run.left) (one_closed run.closed))) = sym (drop-set-lt (i + 1) runs i (no_run (one_less run.left) (one_closed run.closed)) (omega arith)) in
     let taken_too : take (i + 1) (set runs i (no_run (one_less run.left) (one_closed run.closed))) ≡ take i runs ++ no_run (one_less run.left) (one_closed run.closed) ∷ [] = take_set_at runs i (no_run (one_less run.left) (one_closed run.closed)) h in
-    let f = front_puts old mid new _ (placed_bytes page_size (taking_puts page_size key e next run)) _ _ a (left_split page_size key e next run rest (drop i runs) at) c.front one in
+    let f = front_more (left_split page_size key e next run rest (drop i runs) at) c.front one in
     record {
       climbs = c.climbs ∙ (ap (λ (rs : List RunView). take i runs ++ runs_climb page_size fresh key e next rs) at ∙ (ap (λ (rs : List RunView). take i runs ++ rs) climbed
           ∙ (sym (append_assoc (take i runs) (no_run (one_less run.left) (one_closed run.closed) ∷ []) (runs_climb page_size fresh key up after rest))
           ∙ (ap (λ (rs : List RunView). rs ++ runs_climb page_size fresh key up after rest) (sym taken_too)
           ∙ ap (λ (rs : List RunView). take (i + 1) (set runs i (no_run (one_less run.left) (one_closed run.closed))) ++ runs_climb page_size fresh key up after rs) dropped))));
       nexts = c.nexts ∙ (ap (λ (rs : List RunView). runs_next page_size key e next rs) at ∙ (nexted ∙ ap (λ (rs : List RunView). runs_next page_size key up after rs) dropped));
-      front = subst (λ (t : List ℕ). PutsFront taken failed old new (placed_bytes page_size (runs_put page_size key e0 n0 runs0)) t)
+      front = subst (λ (t : List ℕ). WroteFront sink old new (placed_bytes page_size (runs_put page_size key e0 n0 runs0)) t)
           (ap (λ (ps : List Placed). placed_bytes page_size ps) (more ∙ ap (λ (rs : List RunView). runs_put page_size key up after rs) dropped)) f;
     }
 
 -- a fault
-pub climb_stops : {S A B : Type 0} {taken : S → Option (List ℕ)} {failed : S → ℕ} (page_size : ℕ) (fresh : Option ℕ) (key : List ℕ) (e0 : BranchElement) (n0 : ℕ) (runs0 : List RunView) (old mid new : S) (runs : List RunView) (i : ℕ)
+pub climb_stops : {S : Type 0} {sink : Ghosts S} (page_size : ℕ) (fresh : Option ℕ) (key : List ℕ) (e0 : BranchElement) (n0 : ℕ) (runs0 : List RunView) (old mid new : S) (runs : List RunView) (i : ℕ)
     (e : BranchElement) (next : ℕ) (run : RunView) (fault : BulkFault) → drop i runs ≡ run ∷ drop (i + 1) runs
-    → Climbing page_size fresh key e0 n0 runs0 taken failed old mid runs i e next → Puts {A = A} taken failed mid new (placed_bytes page_size (taking_puts page_size key e next run)) (Err fault)
-    → Puts {A = B} taken failed old new (placed_bytes page_size (runs_put page_size key e0 n0 runs0)) (Err fault)
+    → Climbing page_size fresh key e0 n0 runs0 sink old mid runs i e next → Wrote sink mid new (placed_bytes page_size (taking_puts page_size key e next run)) (fault_ending fault)
+    → Wrote sink old new (placed_bytes page_size (runs_put page_size key e0 n0 runs0)) (fault_ending fault)
 climb_stops page_size fresh key e0 n0 runs0 old mid new runs i e next run fault at c one =
-    puts_stop old mid new _ (placed_bytes page_size (taking_puts page_size key e next run)) _ _ fault (left_split page_size key e next run (drop (i + 1) runs) (drop i runs) at) c.front one
+    front_stop (left_split page_size key e next run (drop (i + 1) runs) (drop i runs) at) c.front (Wrote-stops _ fault one)
 
 -- the numbers only grow
 pub next_grows : (page_size : ℕ) (key : List ℕ) (e : BranchElement) (next : ℕ) (runs : List RunView) → next ≤ runs_next page_size key e next runs
@@ -132,9 +136,9 @@ taking_grows page_size key e next run runs =
       | inr f ↦ rw f ih
     ]
 
-pub climb_large : {S : Type 0} {taken : S → Option (List ℕ)} {failed : S → ℕ} (page_size limit : ℕ) (fresh : Option ℕ) (key : List ℕ) (e0 : BranchElement) (n0 : ℕ) (runs0 : List RunView) (old mid : S) (runs : List RunView) (i : ℕ)
+pub climb_large : {S : Type 0} {sink : Ghosts S} (page_size limit : ℕ) (fresh : Option ℕ) (key : List ℕ) (e0 : BranchElement) (n0 : ℕ) (runs0 : List RunView) (old mid : S) (runs : List RunView) (i : ℕ)
     (e : BranchElement) (next : ℕ) (run : RunView) → drop i runs ≡ run ∷ drop (i + 1) runs
-    → Climbing page_size fresh key e0 n0 runs0 taken failed old mid runs i e next → limit < taking_next page_size key e next run → limit < runs_next page_size key e0 n0 runs0
+    → Climbing page_size fresh key e0 n0 runs0 sink old mid runs i e next → limit < taking_next page_size key e next run → limit < runs_next page_size key e0 n0 runs0
 climb_large page_size limit fresh key e0 n0 runs0 old mid runs i e next run at c large =
     let g = taking_grows page_size key e next run (drop (i + 1) runs) in
     let n = c.nexts ∙ ap (λ (rs : List RunView). runs_next page_size key e next rs) at in omega arith

@@ -9,16 +9,19 @@ use Rattle.bolt_layout.specs.Laid.{Placed}
 use Rattle.bolt_layout.specs.Layout.{layout_mark, layout_of, layout_pages, layout_root, placed_bytes}
 use Rattle.bolt_layout.specs.PageBytes.{freelist_page, meta_page}
 use Rattle.bolt_bulk.specs.Private.FirstPages.{first_pages}
-use Rattle.bolt_bulk.specs.Puts.{Puts, PutsWhole}
 use Rattle.bolt_bulk.specs.declared.fault.BulkFault.{BulkFault}
 use Rattle.bolt_bulk.specs.declared.fault.BulkFault.TheVariants as bulk
 use Rattle.bolt_bulk.specs.declared.fault.PlanFault.{PlanFault}
 use Rattle.bolt_bulk.specs.declared.fault.PlanFault.TheVariants as planned
 use Rattle.bolt_bulk.specs.declared.outcome.Done.{Done}
 use Rattle.bolt_bulk.specs.Private.Stops.{stopped_by}
-use Rattle.bolt_bulk.proofs.PutsLemmas.{proper_none, proper_same}
-use Rattle.bolt_bulk.proofs.WholePuts.{proper_first, proper_second}
 use Rattle.bolt_layout.specs.declared.layout.Layout.{Layout}
+use Rattle.bolt_bulk.proofs.PutsLemmas.{Wrote-failed, Wrote-sound, proper_none, proper_same}
+use Rattle.bolt_format.proofs.SinkLemmas.{AppendsProperPrefix-first, AppendsProperPrefix-second}
+use Rattle.bolt_format.specs.Wrote.{Wrote}
+use Rattle.bolt_format.specs.Endings.{whole, cut}
+use Rattle.bolt_bulk.specs.BulkEndings.{fault_ending}
+use Rattle.bolt_format.specs.declared.sink.Sink.{Ghosts}
 
 pub layout_parts : (which : Layout) (page_size : ℕ) (tree : Tree) (sequence root mark : ℕ) → root ≡ layout_root which page_size tree → mark ≡ layout_mark which page_size tree
     → layout_of which page_size tree sequence ≡ first_pages page_size root sequence mark ++ placed_bytes page_size (layout_pages which page_size tree)
@@ -44,32 +47,32 @@ never : {X : Type 0} (bytes : ℕ) → bytes < too_many → too_many ≤ bytes �
 never bytes fits large = absurd (omega arith)
 
 -- what stops before a byte is written
-module _ {S : Type 0} (taken : S → Option (List ℕ)) (failed : S → ℕ) (old : S) (layout : List ℕ) where
-  stops_early : (e : BulkFault) → (e ≡ bulk.Sink → ⊥) → layout ≢ [] → (e ≡ bulk.TooLarge → too_many ≤ length layout) → Copies taken failed old old layout (Err e)
+module _ {S : Type 0} (sink : Ghosts S) (old : S) (layout : List ℕ) where
+  stops_early : (e : BulkFault) → (e ≡ bulk.Sink → ⊥) → layout ≢ [] → (e ≡ bulk.TooLarge → too_many ≤ length layout) → Copies sink.taken sink.failed old old layout (Err e)
   stops_early e other some large = record {
     all = tt;
     bytes = tt;
     sound = tt;
-    short = proper_none (taken old) layout some;
+    short = proper_none (sink.taken old) layout some;
     failure = λ s. absurd (other s);
     other = λ _. refl;
     large = large;
-    refuses = λ _. (refl, Keeps-refl (taken old), refl);
+    refuses = λ _. (refl, Keeps-refl (sink.taken old), refl);
     untouched = λ _. other;
   }
 
   pub stops_unplanned : (plan : PlanFault) (result : Result Done BulkFault) → result ≡ Err (stopped_by plan) → layout ≢ [] → (plan ≡ planned.TooLarge → too_many ≤ length layout)
-      → Copies taken failed old old layout result
+      → Copies sink.taken sink.failed old old layout result
   stops_unplanned planned.Memory result stop some large = rw stop (stops_early bulk.Memory (λ e. cc) some (λ e. absurd cc))
   stops_unplanned planned.TooLarge result stop some large = rw stop (stops_early bulk.TooLarge (λ e. cc) some (λ _. large refl))
 
-module _ {S : Type 0} (taken : S → Option (List ℕ)) (failed : S → ℕ) (old new : S) (layout first pages : List ℕ) (same : layout ≡ first ++ pages) (fits : length layout < too_many) where
-  pub copied : {A B E : Type 0} (mid : S) (x : A) (y : B) (bytes held : ℕ) → PutsWhole {A = A} {E = E} taken failed old mid first (Ok x) → Puts {A = B} taken failed mid new pages (Ok y) → bytes ≡ length layout
-      → Copies taken failed old new layout (Ok (record { bytes = bytes; held = held }))
-  copied mid x y bytes held one two count = record {
-    all = subst (λ (text : List ℕ). Appends (taken old) (taken new) text) (sym same) (Appends-trans (taken old) (taken mid) (taken new) first pages one.all two.all);
+module _ {S : Type 0} (sink : Ghosts S) (old new : S) (layout first pages : List ℕ) (same : layout ≡ first ++ pages) (fits : length layout < too_many) where
+  pub copied : (mid : S) (bytes held : ℕ) → Wrote sink old mid first whole → Wrote sink mid new pages whole → bytes ≡ length layout
+      → Copies sink.taken sink.failed old new layout (Ok (record { bytes = bytes; held = held }))
+  copied mid bytes held one two count = record {
+    all = subst (λ (text : List ℕ). Appends (sink.taken old) (sink.taken new) text) (sym same) (Appends-trans (sink.taken old) (sink.taken mid) (sink.taken new) first pages one.appends two.appends);
     bytes = count;
-    sound = two.sound ∙ one.sound;
+    sound = two.failures ∙ one.failures;
     short = tt;
     failure = tt;
     other = tt;
@@ -78,28 +81,28 @@ module _ {S : Type 0} (taken : S → Option (List ℕ)) (failed : S → ℕ) (ol
     untouched = λ large. never (length layout) fits large;
   }
 
-  pub stops_first : {A E : Type 0} (e : E) → PutsWhole {A = A} {E = E} taken failed old new first (Err e) → Copies taken failed old new layout (Err bulk.Sink)
-  stops_first e one = record {
+  pub stops_first : Wrote sink old new first cut → Copies sink.taken sink.failed old new layout (Err bulk.Sink)
+  stops_first one = record {
     all = tt;
     bytes = tt;
     sound = tt;
-    short = proper_same (taken old) (taken new) _ _ (sym same) (proper_first (taken old) (taken new) first pages one.short);
-    failure = λ s. one.failure;
+    short = proper_same (sink.taken old) (sink.taken new) _ _ (sym same) (AppendsProperPrefix-first (sink.taken old) (sink.taken new) first pages one.appends);
+    failure = λ s. one.failures;
     other = λ s. absurd (s refl);
     large = λ e. absurd cc;
     refuses = λ large. never (length layout) fits large;
     untouched = λ large. never (length layout) fits large;
   }
 
-  pub stops_later : {A B E : Type 0} (mid : S) (x : A) (e : BulkFault) → PutsWhole {A = A} {E = E} taken failed old mid first (Ok x) → Puts {A = B} taken failed mid new pages (Err e)
-      → AppendsProperPrefix (taken mid) (taken new) pages → (e ≡ bulk.TooLarge → too_many ≤ length layout) → Copies taken failed old new layout (Err e)
-  stops_later mid x e one two short large = record {
+  pub stops_later : (mid : S) (e : BulkFault) → Wrote sink old mid first whole → Wrote sink mid new pages (fault_ending e)
+      → AppendsProperPrefix (sink.taken mid) (sink.taken new) pages → (e ≡ bulk.TooLarge → too_many ≤ length layout) → Copies sink.taken sink.failed old new layout (Err e)
+  stops_later mid e one two short large = record {
     all = tt;
     bytes = tt;
     sound = tt;
-    short = proper_same (taken old) (taken new) _ _ (sym same) (proper_second (taken old) (taken mid) (taken new) first pages one.all short);
-    failure = two.failure;
-    other = λ s. two.other s ∙ one.sound;
+    short = proper_same (sink.taken old) (sink.taken new) _ _ (sym same) (AppendsProperPrefix-second (sink.taken old) (sink.taken mid) (sink.taken new) first pages one.appends short);
+    failure = Wrote-failed e two;
+    other = λ s. Wrote-sound e two s ∙ one.failures;
     large = large;
     refuses = λ much. never (length layout) fits much;
     untouched = λ much. never (length layout) fits much;

@@ -14,8 +14,9 @@ use Rattle.bolt_bulk.specs.Private.OpenBuckets.{leaves_of}
 use Rattle.bolt_bulk.specs.Private.RunViews.{leaf_page}
 use Rattle.bolt_bulk.specs.declared.held.Held.{Held}
 use Rattle.bolt_bulk.specs.declared.leaf_run.LeafRun.{LeafRun}
-use Rattle.bolt_bulk.proofs.PutParts.{filled_pieces, zeros}
 use Rattle.bolt_bulk.proofs.ElementPuts.{HeadsPut, data_of, headers_of, heads_next}
+use Rattle.bolt_bulk.proofs.FilledTexts.{zeros, filled_pieces}
+use Rattle.bolt_format.specs.declared.sink.Sink.{Ghosts}
 
 abbrev pub head_of : {X : Type 0} → (X → LeafElement) → ℕ → X → List ℕ
 head_of view pos x = leaf_header (view x).is_bucket pos (length (view x).key) (length (view x).value)
@@ -79,8 +80,8 @@ pub record NextLeaf (e : LeafElement) (pos : ℕ) : Type 0 where
   pub low : 16 ≤ pos
   pub fits : pos + (length e.key + length e.value) < 4294967296
 
-pub next_leaf : {S X : Type 0} {taken : S → Option (List ℕ)} {failed : S → ℕ} (view : X → LeafElement) (old new : S) (buffer : List ℕ) (xs : List X) (i pos : ℕ) (none : X) → i < length xs
-    → HeadsPut (head_of view) (datum_of view) taken failed old new buffer xs i pos → 16 * length xs + length (leaf_data (map view xs)) < 4294967296
+pub next_leaf : {S X : Type 0} {sink : Ghosts S} (view : X → LeafElement) (old new : S) (buffer : List ℕ) (xs : List X) (i pos : ℕ) (none : X) → i < length xs
+    → HeadsPut (head_of view) (datum_of view) sink old new buffer xs i pos → 16 * length xs + length (leaf_data (map view xs)) < 4294967296
     → NextLeaf (view (get_or xs i none)) pos
 next_leaf {X} view old new buffer xs i pos none h put small =
     let x : X = get_or xs i none in

@@ -24,7 +24,6 @@ use Rattle.bolt_bulk.specs.Private.OpenRuns.{Frame, Known, Open, base_in, end_of
 use Rattle.bolt_bulk.specs.Private.Passes.{AreComing, AreComingAround, AreNumbered, Notes, Wanted, open_in, limits_by, AreWaiting, HasRoot, IsAt, IsPending, IsPendingSmall, IsSmall, StandsBefore, Steps, level_of, onto}
 use Rattle.bolt_bulk.specs.Private.RunViews.{BucketRunsView, runs_end, runs_end_put, runs_push, runs_room, runs_room_put}
 use Rattle.bolt_bulk.specs.Private.TakenItems.{inline_element, root_element, runs_taking, value_element}
-use Rattle.bolt_bulk.specs.Puts.{Puts}
 use Rattle.bolt_bulk.specs.declared.page_setup.PageSetup.{PageSetup}
 use Rattle.bolt_bulk.specs.declared.fault.BulkFault.{BulkFault}
 use Rattle.bolt_bulk.specs.declared.fault.BulkFault.TheVariants as fault
@@ -45,7 +44,12 @@ use Rattle.bolt_bulk.proofs.Tables.{numbered_same, opened_most, room_known, note
 use Rattle.bolt_bulk.proofs.Openings.{around_at, coming_at, coming_onto, opened_inline, opened_onto, opened_rooted}
 use Rattle.bolt_bulk.proofs.PassReady.{inline_long, small_of}
 use Rattle.bolt_bulk.proofs.PassSteps.{IsOn, inline_item, on_before, on_enters, on_leaves, on_numbers, on_takes, open_values, pass_takes_all, root_item, values_put, values_runs}
-use Rattle.bolt_bulk.proofs.PutsLemmas.{bytes-append, puts_then}
+use Rattle.bolt_bulk.proofs.PutsLemmas.{bytes-append, Wrote-gave_up}
+use Rattle.bolt_format.proofs.WroteLemmas.{Wrote-halt, Wrote-none, Wrote-then}
+use Rattle.bolt_format.specs.Wrote.{Wrote}
+use Rattle.bolt_format.specs.Endings.{whole, halted}
+use Rattle.bolt_bulk.specs.BulkEndings.{bulk_ending, fault_ending}
+use Rattle.bolt_format.specs.declared.sink.Sink.{Ghosts}
 
 -- ---- results
 
@@ -61,45 +65,20 @@ pub if_err_map : {A E : Type 0} {P Q : E → Type 0} (result : Result A E) → I
 if_err_map (Ok x) p f = tt
 if_err_map (Err e) p f = f e p
 
--- ---- sinks
-
--- nothing is written, and a fault other than Sink is returned
-pub puts_none : {S A : Type 0} {taken : S → Option (List ℕ)} {failed : S → ℕ} (old : S) (result : Result A BulkFault) → IfErr result (λ e. e ≡ fault.Sink → ⊥)
-    → Puts taken failed old old [] result
-puts_none {taken} {failed} old (Ok x) other = record { all = Appends-nil (taken old); sound = refl; prefix = tt; failure = tt; other = tt }
-puts_none {taken} {failed} old (Err e) other = record { all = tt; sound = tt; prefix = AppendsPrefix-none (taken old) []; failure = λ s. absurd (other s); other = λ _. refl }
-
--- what was written well, if memory then runs out
-pub puts_failed : {S A B : Type 0} {taken : S → Option (List ℕ)} {failed : S → ℕ} (old new : S) (text : List ℕ) (x : A) → Puts taken failed old new text (Ok x) → Puts {A = B} taken failed old new text (Err fault.Memory)
-puts_failed {taken} {failed} old new text x a = record {
-  all = tt;
-  sound = tt;
-  prefix = AppendsPrefix-whole (taken old) (taken new) text a.all;
-  failure = λ s. absurd cc;
-  other = λ _. a.sound;
-}
-
--- the same of a call that returns nothing
-pub puts_well : {S A : Type 0} {taken : S → Option (List ℕ)} {failed : S → ℕ} (old new : S) (text : List ℕ) (x : A) → Puts taken failed old new text (Ok x) → Puts {A = ⊤} taken failed old new text (Ok tt)
-puts_well old new text x a = record { all = a.all; sound = a.sound; prefix = tt; failure = tt; other = tt }
-
-pub puts_fault : {S A B : Type 0} {taken : S → Option (List ℕ)} {failed : S → ℕ} (old new : S) (text : List ℕ) (e : BulkFault) → Puts {A = A} taken failed old new text (Err e) → Puts {A = B} taken failed old new text (Err e)
-puts_fault old new text e a = record { all = tt; sound = tt; prefix = a.prefix; failure = a.failure; other = a.other }
-
 -- ---- one step after another
 
-module _ {S : Type 0} (wanted : Wanted) (taken : S → Option (List ℕ)) (failed : S → ℕ) (setup : PageSetup) where
+module _ {S : Type 0} (wanted : Wanted) (sink : Ghosts S) (setup : PageSetup) where
   abbrev StepsBy : {A : Type 0} (old new : S) (put : List Placed) (At : List Placed → Type 0) (result : Result A BulkFault) → Type 0
-  StepsBy old new put At result = Steps wanted taken failed old new setup put At result
+  StepsBy old new put At result = Steps wanted sink old new setup put At result
 
   pub steps_then : {A B : Type 0} {later : PageSetup} (old mid new : S) (put : List Placed) (Mid At : List Placed → Type 0) (x : A) (result : Result B BulkFault)
-      → later ≡ setup → StepsBy old mid put Mid (Ok x) → ((all : List Placed) → Mid all → Steps wanted taken failed mid new later all At result) → StepsBy old new put At result
+      → later ≡ setup → StepsBy old mid put Mid (Ok x) → ((all : List Placed) → Mid all → Steps wanted sink mid new later all At result) → StepsBy old new put At result
   steps_then old mid new put Mid At x result later_is one two =
-      let then = subst (λ (b : PageSetup). Steps wanted taken failed mid new b (put ++ one.more) At result) later_is (two (put ++ one.more) one.at) in
+      let then = subst (λ (b : PageSetup). Steps wanted sink mid new b (put ++ one.more) At result) later_is (two (put ++ one.more) one.at) in
       let same : (put ++ one.more) ++ then.more ≡ put ++ (one.more ++ then.more) = append_assoc put one.more then.more in
       record {
         more = one.more ++ then.more;
-        puts = subst (λ (bs : List ℕ). Puts taken failed old new bs result) (sym (bytes-append setup.page_size one.more then.more)) (puts_then {taken = taken} {failed = failed} old mid new _ _ x result one.puts then.puts);
+        puts = subst (λ (bs : List ℕ). Wrote sink old new bs (bulk_ending result)) (sym (bytes-append setup.page_size one.more then.more)) (Wrote-then one.puts then.puts);
         at = subst (λ (ps : List Placed). OnOk result (At ps)) same then.at;
         before = subst (λ (ps : List Placed). StandsBefore ps (layout_pages wanted.which setup.page_size wanted.tree)) same then.before;
         large = then.large;
@@ -110,7 +89,7 @@ module _ {S : Type 0} (wanted : Wanted) (taken : S → Option (List ℕ)) (faile
   steps_stop old new put Mid At e (Ok x) same one = absurd same
   steps_stop old new put Mid At e (Err f) same one = rw same (record {
     more = one.more;
-    puts = record { all = tt; sound = tt; prefix = one.puts.prefix; failure = one.puts.failure; other = one.puts.other };
+    puts = one.puts;
     at = tt;
     before = one.before;
     large = one.large;
@@ -118,7 +97,7 @@ module _ {S : Type 0} (wanted : Wanted) (taken : S → Option (List ℕ)) (faile
 
   -- memory ran out after steps that went well
   pub steps_failed : {A B : Type 0} (old new : S) (put : List Placed) (At : List Placed → Type 0) (x : A) → StepsBy old new put At (Ok x) → StepsBy {A = B} old new put At (Err fault.Memory)
-  steps_failed old new put At x one = record { more = one.more; puts = puts_failed old new _ x one.puts; at = tt; before = one.before; large = λ e. absurd cc }
+  steps_failed old new put At x one = record { more = one.more; puts = Wrote-gave_up one.puts; at = tt; before = one.before; large = λ e. absurd cc }
 
 -- ---- what is in a pass
 
@@ -159,18 +138,18 @@ at_before wanted pass levels left put is =
     on_before wanted.which pass.setup.page_size wanted.tree is.frames is.state (items_of wanted.which pass.setup.page_size is.rest) (bucket_runs pass.bucket pass.next) put (record { under = is.under; runs_are_kept = is.runs; put_is = is.put_is })
 
 -- a step that writes nothing
-pub steps_none : {S A : Type 0} {taken : S → Option (List ℕ)} {failed : S → ℕ} (wanted : Wanted) (pass : Pass) (levels : List Level) (left : Tree) (put : List Placed) (old : S) (At : List Placed → Type 0) (result : Result A BulkFault)
-    → IsAt wanted pass levels left put → IfErr result (λ e. e ≡ fault.Memory) → OnOk result (At put) → Steps wanted taken failed old old pass.setup put At result
+pub steps_none : {S A : Type 0} {sink : Ghosts S} (wanted : Wanted) (pass : Pass) (levels : List Level) (left : Tree) (put : List Placed) (old : S) (At : List Placed → Type 0) (result : Result A BulkFault)
+    → IsAt wanted pass levels left put → IfErr result (λ e. e ≡ fault.Memory) → OnOk result (At put) → Steps wanted sink old old pass.setup put At result
 steps_none wanted pass levels left put old At (Ok x) is memory at = record {
   more = [];
-  puts = puts_none old (Ok x) tt;
+  puts = Wrote-none old;
   at = subst At (sym (append-nil put)) at;
   before = subst (λ (ps : List Placed). StandsBefore ps (layout_pages wanted.which pass.setup.page_size wanted.tree)) (sym (append-nil put)) (at_before wanted pass levels left put is);
   large = tt;
 }
 steps_none wanted pass levels left put old At (Err e) is memory at = record {
   more = [];
-  puts = puts_none old (Err e) (λ s. absurd (let other : fault.Memory ≡ fault.Sink = sym memory ∙ s in cc));
+  puts = rw memory (Wrote-halt old []);
   at = tt;
   before = subst (λ (ps : List Placed). StandsBefore ps (layout_pages wanted.which pass.setup.page_size wanted.tree)) (sym (append-nil put)) (at_before wanted pass levels left put is);
   large = λ s. absurd (let other : fault.Memory ≡ fault.TooLarge = sym memory ∙ s in cc);
@@ -198,7 +177,7 @@ counted_items frames state waits bucket next are runs =
     let b = around_reverse waits in
     let c = items_length bucket next (base_in frames) state runs in omega arith
 
-module _ {S : Type 0} (taken : S → Option (List ℕ)) (failed : S → ℕ) (wanted : Wanted) (pass : Pass) (put : List Placed) where
+module _ {S : Type 0} (sink : Ghosts S) (wanted : Wanted) (pass : Pass) (put : List Placed) where
   abbrev P : ℕ
   P = pass.setup.page_size
 
@@ -210,11 +189,11 @@ module _ {S : Type 0} (taken : S → Option (List ℕ)) (failed : S → ℕ) (wa
       (entries : Vec Leaf Global) (next : ℕ) (counted : Pass) (result : Result A BulkFault) (is : IsAt wanted pass within left put) → size ≡ 16 + (length key + length value)
       → IsOn wanted.which P wanted.tree is.frames is.state (leaf_item key value flag ∷ items_of wanted.which P rest) runs_now put → IsComingFor wanted pass is.opened rest is.frames
       → pending ≡ None → (levels ≡ map level_of is.frames) × (rest ≡ after)
-      → Puts taken failed old new (placed_bytes P (runs_room_put P runs_now key size)) result
+      → Wrote sink old new (placed_bytes P (runs_room_put P runs_now key size)) (bulk_ending result)
       → OnOk result (bucket_runs bucket next ≡ runs_taking P runs_now (record { key = key; value = value; is_bucket = flag }) size)
       → IfErr result (λ e. e ≡ fault.TooLarge → pass.setup.limit < (runs_room P runs_now key size).next)
       → OnOk result (Counts (record pass { bucket = bucket; pending = pending; entries = entries; next = next }) counted)
-      → Steps wanted taken failed old new pass.setup put (IsAt wanted counted levels after) result
+      → Steps wanted sink old new pass.setup put (IsAt wanted counted levels after) result
   item_steps within left key value flag size rest levels after pending old new bucket entries next counted result is sized on right none pends puts runs large counts =
       let made : Open = taking P is.state (leaf_item key value flag) in
       let Then : ℕ → Type 0 = λ n. IsOn wanted.which P wanted.tree is.frames made (items_of wanted.which P rest) (runs_taking P runs_now (record { key = key; value = value; is_bucket = flag }) n) (put ++ runs_room_put P runs_now key n) in
@@ -251,11 +230,11 @@ module _ {S : Type 0} (taken : S → Option (List ℕ)) (failed : S → ℕ) (wa
   -- a value
   pub value_steps : {A : Type 0} (levels : List Level) (key value : List ℕ) (after : Tree) (old new : S) (bucket : BucketRuns) (next : ℕ) (counted : Pass) (result : Result A BulkFault)
       → IsAt wanted pass levels (with_value key value after) put → pass.pending ≡ None
-      → Puts taken failed old new (placed_bytes P (runs_room_put P runs_now key (16 + (length key + length value)))) result
+      → Wrote sink old new (placed_bytes P (runs_room_put P runs_now key (16 + (length key + length value)))) (bulk_ending result)
       → OnOk result (bucket_runs bucket next ≡ runs_taking P runs_now (value_element key value) (16 + (length key + length value)))
       → IfErr result (λ e. e ≡ fault.TooLarge → pass.setup.limit < (runs_room P runs_now key (16 + (length key + length value))).next)
       → OnOk result (Counts (record pass { bucket = bucket; next = next }) counted)
-      → Steps wanted taken failed old new pass.setup put (IsAt wanted counted levels after) result
+      → Steps wanted sink old new pass.setup put (IsAt wanted counted levels after) result
   value_steps levels key value after old new bucket next counted result is none puts runs large counts =
       let (same, on, right) = on_of wanted pass levels (with_value key value after) put is none in
       item_steps levels (with_value key value after) key value false (16 + (length key + length value)) after levels after pass.pending old new bucket pass.entries next counted result is refl on right none (same, refl) puts runs large counts
@@ -263,11 +242,11 @@ module _ {S : Type 0} (taken : S → Option (List ℕ)) (failed : S → ℕ) (wa
   -- the end of a bucket that is inline
   pub inline_steps : {A : Type 0} (level : Level) (levels : List Level) (p : PendingBucket) (old new : S) (bucket : BucketRuns) (entries : Vec Leaf Global) (next : ℕ) (counted : Pass) (result : Result A BulkFault)
       → IsAt wanted pass (level ∷ levels) end put → pass.pending ≡ Some p → IsPendingSmall P pass.pending pass.entries.items
-      → Puts taken failed old new (placed_bytes P (runs_room_put P runs_now p.key.now (16 + (length p.key.now + (p.size + 16))))) result
+      → Wrote sink old new (placed_bytes P (runs_room_put P runs_now p.key.now (16 + (length p.key.now + (p.size + 16))))) (bulk_ending result)
       → OnOk result (bucket_runs bucket next ≡ runs_taking P runs_now (inline_element p.key.now p.sequence (map leaf_view pass.entries.items)) (16 + (length p.key.now + (p.size + 16))))
       → IfErr result (λ e. e ≡ fault.TooLarge → pass.setup.limit < (runs_room P runs_now p.key.now (16 + (length p.key.now + (p.size + 16)))).next)
       → OnOk result (Counts (record pass { bucket = bucket; pending = None; entries = entries; next = next }) counted)
-      → Steps wanted taken failed old new pass.setup put (IsAt wanted counted levels level.after) result
+      → Steps wanted sink old new pass.setup put (IsAt wanted counted levels level.after) result
   inline_steps level levels p old new bucket entries next counted result is some pending puts runs large counts =
       let small = small_of P pass.pending p pass.entries.items some pending in
       let (after, same, on, right) = pending_of wanted pass (level ∷ levels) end put p is some in
@@ -359,18 +338,18 @@ module _ {S : Type 0} (taken : S → Option (List ℕ)) (failed : S → ℕ) (wa
       }
 
   -- a fault on the way
-  pub open_stops : {A B : Type 0} (levels : List Level) (left : Tree) (p : PendingBucket) (old new : S) (At : List Placed → Type 0) (e : BulkFault) (result : Result B BulkFault) → IsErrAnd result (λ f. f ≡ e)
+  pub open_stops : {B : Type 0} (levels : List Level) (left : Tree) (p : PendingBucket) (old new : S) (At : List Placed → Type 0) (e : BulkFault) (result : Result B BulkFault) → IsErrAnd result (λ f. f ≡ e)
       → IsAt wanted pass levels left put → pass.pending ≡ Some p → IsPendingSmall P pass.pending pass.entries.items → HasRoot wanted.which P (onto (map leaf_view pass.entries.items) left)
-      → Puts {A = A} taken failed old new (placed_bytes P (runs_room_put P runs_now p.key.now (32 + length p.key.now))) (Err e)
+      → Wrote sink old new (placed_bytes P (runs_room_put P runs_now p.key.now (32 + length p.key.now))) (fault_ending e)
       → (e ≡ fault.TooLarge → pass.setup.limit < (room_for p).next)
-      → Steps wanted taken failed old new pass.setup put At result
+      → Steps wanted sink old new pass.setup put At result
   open_stops levels left p old new At e (Ok x) same is some pending rooted puts large = absurd same
   open_stops levels left p old new At e (Err f) same is some pending rooted puts large =
       let then = has_opened levels left p is some (small_of P pass.pending p pass.entries.items some pending) rooted in
       let numbers = on_numbers wanted.which P wanted.tree _ _ _ _ _ then.on in
       rw same (record {
         more = runs_room_put P runs_now p.key.now (32 + length p.key.now);
-        puts = puts_fault _ _ _ e puts;
+        puts = puts;
         at = tt;
         before = on_before wanted.which P wanted.tree _ _ _ _ _ then.on;
         large = λ h. let m = large h in omega (arith, m, numbers);
@@ -379,11 +358,11 @@ module _ {S : Type 0} (taken : S → Option (List ℕ)) (failed : S → ℕ) (wa
   -- all went well
   pub open_steps : (levels : List Level) (left : Tree) (p : PendingBucket) (old new : S) (bucket : BucketRuns) (w : WaitingBucket) (around : Vec WaitingBucket Global) (entries : Vec Leaf Global) (next opened held : ℕ) (counted : Pass)
       → IsAt wanted pass levels left put → pass.pending ≡ Some p → IsPendingSmall P pass.pending pass.entries.items → HasRoot wanted.which P (onto (map leaf_view pass.entries.items) left)
-      → Puts {A = ⊤} taken failed old new (placed_bytes P (runs_room_put P runs_now p.key.now (32 + length p.key.now))) (Ok tt)
+      → Wrote sink old new (placed_bytes P (runs_room_put P runs_now p.key.now (32 + length p.key.now))) whole
       → around.items ≡ pass.waiting.items ++ w ∷ [] → bucket_runs w.bucket next ≡ room_for p → w.key.now ≡ p.key.now → w.sequence ≡ p.sequence → bucket_runs bucket next ≡ opened_runs p next
       → opened ≡ min (pass.opened + 1) 18446744073709551615
       → Counts (record pass { waiting = around; bucket = bucket; pending = None; entries = entries; next = next; opened = opened; around = held }) counted
-      → Steps {A = ⊤} wanted taken failed old new pass.setup put (IsAt wanted counted levels left) (Ok tt)
+      → Steps {A = ⊤} wanted sink old new pass.setup put (IsAt wanted counted levels left) (Ok tt)
   open_steps levels left p old new bucket w around entries next opened held counted is some pending rooted puts items runs key sequence values_are one_more k =
       let small = small_of P pass.pending p pass.entries.items some pending in
       let then = has_opened levels left p is some small rooted in
@@ -437,11 +416,11 @@ module _ {S : Type 0} (taken : S → Option (List ℕ)) (failed : S → ℕ) (wa
   pub leave_steps : {A : Type 0} (level : Level) (levels : List Level) (w : WaitingBucket) (old new : S) (bucket : BucketRuns) (around : Vec WaitingBucket Global) (next held : ℕ) (noted : NotedLimits) (counted : Pass) (result : Result A BulkFault)
       → IsAt wanted pass (level ∷ levels) end put → pass.pending ≡ None → pass.waiting.items ≡ around.items ++ w ∷ []
       → BucketEnds pass.noted noted pass.bucket.uppers
-      → Puts taken failed old new (placed_bytes P (runs_end_put P runs_now)) result
+      → Wrote sink old new (placed_bytes P (runs_end_put P runs_now)) (bulk_ending result)
       → OnOk result ((before : ℕ) → bucket_runs bucket next ≡ runs_push (bucket_runs w.bucket before) (root_element w.key.now (runs_end P runs_now) w.sequence) (32 + length w.key.now) (bucket_end_next P runs_now))
       → IfErr result (λ e. e ≡ fault.TooLarge → pass.setup.limit < bucket_end_next P runs_now)
       → OnOk result (Counts (record pass { waiting = around; bucket = bucket; next = next; around = held; noted = noted }) counted)
-      → Steps wanted taken failed old new pass.setup put (IsAt wanted counted levels level.after) result
+      → Steps wanted sink old new pass.setup put (IsAt wanted counted levels level.after) result
   leave_steps level levels w old new bucket around next held noted counted result is none popped ended puts runs large counts =
       let (same, on, right) = on_of wanted pass (level ∷ levels) end put is none in
       let (frame, frames, more_frames, top) = first_frame level levels is.frames same in

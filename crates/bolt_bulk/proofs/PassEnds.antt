@@ -27,7 +27,6 @@ use Rattle.bolt_layout.specs.Items.{items_of}
 use Rattle.bolt_bulk.specs.Private.OpenRuns.{Frame, Known, Open, all_put, base_in, end_of, nothing_open}
 use Rattle.bolt_bulk.specs.Private.Passes.{AreComingAround, AreNumbered, FitLimits, HasLeft, IsAt, IsTable, Steps, Wanted, depth_of, level_of, limits_by, limits_with, open_in, pending_depth}
 use Rattle.bolt_bulk.specs.Private.RunViews.{BucketRunsView, no_leaves, runs_end, runs_end_put}
-use Rattle.bolt_bulk.specs.Puts.{Puts}
 use Rattle.bolt_bulk.specs.declared.page_setup.PageSetup.{PageSetup}
 use Rattle.bolt_bulk.specs.declared.fault.BulkFault.{BulkFault}
 use Rattle.bolt_bulk.specs.declared.pass.Ended.{Ended}
@@ -45,7 +44,12 @@ use Rattle.bolt_bulk.proofs.PassAt.{on_of}
 use Rattle.bolt_bulk.proofs.PassLeft.{depth_levels}
 use Rattle.bolt_bulk.proofs.PassSteps.{IsOn}
 use Rattle.bolt_bulk.proofs.Tables.{no_numbers, none_noted, opened_most, table_fits, noted_leaves}
-use Rattle.bolt_bulk.proofs.PutsLemmas.{bytes-append, pages_some, puts_first, puts_then, short_then}
+use Rattle.bolt_bulk.proofs.PutsLemmas.{Wrote-prefix, Wrote-stops, bytes-append, pages_some, short_then}
+use Rattle.bolt_format.proofs.WroteLemmas.{Wrote-then}
+use Rattle.bolt_format.specs.Wrote.{Wrote}
+use Rattle.bolt_format.specs.Endings.{whole}
+use Rattle.bolt_bulk.specs.BulkEndings.{bulk_ending, fault_ending}
+use Rattle.bolt_format.specs.declared.sink.Sink.{Ghosts}
 
 -- ---- the next member
 
@@ -230,9 +234,9 @@ rest_some : (page_size : ℕ) (pages : List Placed) → 1 ≤ length pages → p
 rest_some page_size [] some = absurd (omega arith)
 rest_some page_size (page ∷ pages) some = pages_some page_size page pages
 
-module _ {S : Type 0} (wanted : Wanted) (taken : S → Option (List ℕ)) (failed : S → ℕ) (setup : PageSetup) where
+module _ {S : Type 0} (wanted : Wanted) (sink : Ghosts S) (setup : PageSetup) where
   -- a step failed on the way
-  pub ends_early : {A : Type 0} (old new : S) (put : List Placed) (At : List Placed → Type 0) (e : BulkFault) (result : Result Ended BulkFault) → IsErrAnd result (λ f. f ≡ e) → Steps {A = A} wanted taken failed old new setup put At (Err e) → Ends wanted taken failed old new setup put result
+  pub ends_early : {A : Type 0} (old new : S) (put : List Placed) (At : List Placed → Type 0) (e : BulkFault) (result : Result Ended BulkFault) → IsErrAnd result (λ f. f ≡ e) → Steps {A = A} wanted sink old new setup put At (Err e) → Ends wanted sink old new setup put result
   ends_early old new put At e (Ok x) same steps = absurd same
   ends_early old new put At e (Err f) same steps =
       let P : ℕ = setup.page_size in
@@ -241,9 +245,9 @@ module _ {S : Type 0} (wanted : Wanted) (taken : S → Option (List ℕ)) (faile
       rw same (record {
         others = others;
         all = steps.before.parts ∙ append_assoc put steps.more steps.before.rest;
-        puts = subst (λ (bs : List ℕ). Puts {A = Ended} taken failed old new bs (Err e)) (sym bytes) (puts_first old new (placed_bytes P steps.more) (placed_bytes P steps.before.rest) e steps.puts);
-        short = subst (λ (bs : List ℕ). AppendsProperPrefix (taken old) (taken new) bs) (sym bytes)
-            (proper_more (taken old) (taken new) (placed_bytes P steps.more) (placed_bytes P steps.before.rest) steps.puts.prefix (rest_some P steps.before.rest steps.before.some));
+        puts = subst (λ (bs : List ℕ). Wrote sink old new bs (fault_ending e)) (sym bytes) (Wrote-stops (placed_bytes P steps.before.rest) e steps.puts);
+        short = subst (λ (bs : List ℕ). AppendsProperPrefix (sink.taken old) (sink.taken new) bs) (sym bytes)
+            (proper_more (sink.taken old) (sink.taken new) (placed_bytes P steps.more) (placed_bytes P steps.before.rest) (Wrote-prefix e steps.puts) (rest_some P steps.before.rest steps.before.some));
         root = tt;
         mark = tt;
         within = tt;
@@ -253,19 +257,19 @@ module _ {S : Type 0} (wanted : Wanted) (taken : S → Option (List ℕ)) (faile
       })
 
   -- after steps that went well
-  pub ends_after : {A : Type 0} {later : PageSetup} (old mid new : S) (put : List Placed) (At : List Placed → Type 0) (x : A) (result : Result Ended BulkFault) → later ≡ setup → Steps wanted taken failed old mid setup put At (Ok x)
-      → ((all : List Placed) → At all → Ends wanted taken failed mid new later all result) → Ends wanted taken failed old new setup put result
+  pub ends_after : {A : Type 0} {later : PageSetup} (old mid new : S) (put : List Placed) (At : List Placed → Type 0) (x : A) (result : Result Ended BulkFault) → later ≡ setup → Steps wanted sink old mid setup put At (Ok x)
+      → ((all : List Placed) → At all → Ends wanted sink mid new later all result) → Ends wanted sink old new setup put result
   ends_after old mid new put At x result later_is one two =
       let P : ℕ = setup.page_size in
-      let then = subst (λ (b : PageSetup). Ends wanted taken failed mid new b (put ++ one.more) result) later_is (two (put ++ one.more) one.at) in
+      let then = subst (λ (b : PageSetup). Ends wanted sink mid new b (put ++ one.more) result) later_is (two (put ++ one.more) one.at) in
       let others : List Placed = one.more ++ then.others in
       let bytes : placed_bytes P others ≡ placed_bytes P one.more ++ placed_bytes P then.others = bytes-append P one.more then.others in
       record {
         others = others;
         all = then.all ∙ append_assoc put one.more then.others;
-        puts = subst (λ (bs : List ℕ). Puts taken failed old new bs result) (sym bytes) (puts_then old mid new (placed_bytes P one.more) (placed_bytes P then.others) x result one.puts then.puts);
-        short = subst (λ (bs : List ℕ). OnErr result (AppendsProperPrefix (taken old) (taken new) bs)) (sym bytes)
-            (short_then old mid new (placed_bytes P one.more) (placed_bytes P then.others) x result one.puts then.short);
+        puts = subst (λ (bs : List ℕ). Wrote sink old new bs (bulk_ending result)) (sym bytes) (Wrote-then one.puts then.puts);
+        short = subst (λ (bs : List ℕ). OnErr result (AppendsProperPrefix (sink.taken old) (sink.taken new) bs)) (sym bytes)
+            (short_then old mid new (placed_bytes P one.more) (placed_bytes P then.others) result one.puts then.short);
         root = then.root;
         mark = then.mark;
         within = then.within;

@@ -16,6 +16,7 @@ use Rattle.bolt_bulk.specs.declared.pending_bucket.PendingBucket.{PendingBucket}
 use Rattle.bolt_bulk.specs.declared.waiting_bucket.WaitingBucket.{WaitingBucket}
 use Rattle.bolt_bulk.proofs.Members.{none_at_all, none_further}
 use Rattle.bolt_bulk.proofs.PassAt.{on_ok_map, steps_none}
+use Rattle.bolt_format.specs.declared.sink.Sink.{Ghosts}
 
 -- The depth that the code counts is that of the levels.
 waiting_frames : (waiting : List WaitingBucket) (frames : List Frame) → AreWaiting waiting frames → length waiting ≡ length frames
@@ -37,14 +38,14 @@ depth_levels wanted pass levels left put is =
     let d = pending_levels pass.pending pass.entries.items (map level_of is.frames) is.rest levels left is.pends in omega arith
 
 -- what a step leaves, in other words
-pub steps_map : {S A : Type 0} {taken : S → Option (List ℕ)} {failed : S → ℕ} (wanted : Wanted) (old new : S) (setup : PageSetup) (put : List Placed) (At Then : List Placed → Type 0) (result : Result A BulkFault)
-    → ((all : List Placed) → At all → Then all) → Steps wanted taken failed old new setup put At result → Steps wanted taken failed old new setup put Then result
+pub steps_map : {S A : Type 0} {sink : Ghosts S} (wanted : Wanted) (old new : S) (setup : PageSetup) (put : List Placed) (At Then : List Placed → Type 0) (result : Result A BulkFault)
+    → ((all : List Placed) → At all → Then all) → Steps wanted sink old new setup put At result → Steps wanted sink old new setup put Then result
 steps_map wanted old new setup put At Then result f steps =
     record { more = steps.more; puts = steps.puts; at = on_ok_map result steps.at (f (put ++ steps.more)); before = steps.before; large = steps.large }
 
 -- nothing was done yet
-pub steps_begun : {S : Type 0} {taken : S → Option (List ℕ)} {failed : S → ℕ} (wanted : Wanted) (pass : Pass) (members : List Member) (put : List Placed) (old : S) → HasLeft wanted pass members put
-    → Steps {A = ⊤} wanted taken failed old old pass.setup put (HasLeft wanted pass members) (Ok tt)
+pub steps_begun : {S : Type 0} {sink : Ghosts S} (wanted : Wanted) (pass : Pass) (members : List Member) (put : List Placed) (old : S) → HasLeft wanted pass members put
+    → Steps {A = ⊤} wanted sink old old pass.setup put (HasLeft wanted pass members) (Ok tt)
 steps_begun wanted pass members put old has = steps_none wanted pass has.levels has.left put old (HasLeft wanted pass members) (Ok tt) has.at tt has
 
 -- The next member is further out, or there is none: the innermost bucket has no more.

@@ -1,23 +1,26 @@
--- Texts on a sink one after another, if a call can also fail because memory runs out or the layout is too large.
-use Rattle.std.proofs.Common.{◌≡◌, ◌≢◌, ◌∙◌, ℕ, ◌+◌, ◌-◌, ◌*◌, ◌≤◌, List, [], ◌∷◌, ◌++◌, length, replicate, OnErr, Option, Result, Ok, Err, refl, sym, ap, subst, arith, append_assoc, append-nil}
-use Rattle.std.specs.Prelude.{⊤}
-use Rattle.std.specs.Io.KnownBytes.{Appends}
-use Rattle.std.proofs.KnownBytes.{Appends-nil, Appends-trans}
+-- What a call that writes pages leaves on its sink, if it can also fail because memory runs out or the layout is too large.
+use Rattle.std.proofs.Common.{◌≡◌, ◌≢◌, ◌∙◌, ℕ, ◌+◌, ◌-◌, ◌*◌, ◌<◌, ◌≤◌, List, [], ◌∷◌, ◌++◌, length, replicate, OnErr, Option, Result, Ok, Err, refl, sym, ap, subst, arith, append_assoc}
+use Rattle.std.specs.Prelude.{IsErrAnd}
+use Rattle.std.proofs.KnownBytes.{Appends-nil}
 use Rattle.std.proofs.lemmas.List.{length-append}
-use Rattle.bolt_format.proofs.SinkLemmas.{AppendsPrefix-first, AppendsPrefix-second}
+use Rattle.bolt_format.proofs.SinkLemmas.{AppendsPrefix-whole, AppendsProperPrefix-first, AppendsProperPrefix-second, more_some}
+use Rattle.bolt_format.proofs.WroteLemmas.{Wrote-cut, Wrote-halt, Wrote-stop, Wrote-stop_halted}
+use Rattle.bolt_format.specs.Endings.{whole, cut, halted}
 use Rattle.bolt_format.specs.Pages.{PageView}
-use Rattle.bolt_format.specs.Sinks.{AppendsProperPrefix}
+use Rattle.bolt_format.specs.Sinks.{AppendsPrefix, AppendsProperPrefix}
+use Rattle.bolt_format.specs.Wrote.{Wrote}
+use Rattle.bolt_format.specs.declared.sink.Sink.{Ghosts}
 use Rattle.bolt_format.specs.declared.kind.Kind.{Kind}
 use Rattle.bolt_format.specs.declared.kind.Kind.TheVariants as kind
 use Rattle.bolt_layout.specs.Laid.{Placed}
 use Rattle.bolt_layout.specs.Layout.{placed_bytes}
 use Rattle.bolt_layout.specs.PageBytes.{branch_bytes, content_bytes, leaf_bytes, page_bytes}
 use Rattle.bolt_format.specs.Written.{header_bytes}
-use Rattle.bolt_bulk.proofs.WholePuts.{more_some, proper_first, proper_second}
-use Rattle.bolt_bulk.specs.Puts.{Puts}
+use Rattle.bolt_format.proofs.WrittenHeaders.{length-header_bytes}
+use Rattle.bolt_bulk.specs.BulkEndings.{bulk_ending, fault_ending}
 use Rattle.bolt_bulk.specs.declared.fault.BulkFault.{BulkFault}
 use Rattle.bolt_bulk.specs.declared.fault.BulkFault.TheVariants as fault
-use Rattle.bolt_format.proofs.WrittenHeaders.{length-header_bytes}
+use Rattle.bolt_bulk.proofs.WroteFronts.{WroteFront}
 
 -- Nothing is a proper prefix of a text that has any bytes.
 pub proper_none : (old : Option (List ℕ)) (text : List ℕ) → text ≢ [] → AppendsProperPrefix old old text
@@ -61,45 +64,47 @@ bytes-append page_size [] ys = refl
 bytes-append page_size (x ∷ xs) ys =
     ap (λ (bs : List ℕ). page_bytes page_size x.number x.view ++ bs) (bytes-append page_size xs ys) ∙ sym (append_assoc (page_bytes page_size x.number x.view) (placed_bytes page_size xs) (placed_bytes page_size ys))
 
--- the same text in other words
-pub puts_same : {S A : Type 0} {taken : S → Option (List ℕ)} {failed : S → ℕ} (old new : S) (text same : List ℕ) (result : Result A BulkFault) → text ≡ same → Puts taken failed old new text result → Puts taken failed old new same result
-puts_same {taken = taken} {failed = failed} old new text same result e a = subst (λ (l : List ℕ). Puts taken failed old new l result) e a
+-- a fault is passed on, and the second text is left out
+pub Wrote-stops : {S : Type 0} {sink : Ghosts S} {old new : S} {first : List ℕ} (second : List ℕ) (e : BulkFault) → Wrote sink old new first (fault_ending e) → Wrote sink old new (first ++ second) (fault_ending e)
+Wrote-stops second fault.Memory a = Wrote-stop_halted second a
+Wrote-stops second fault.TooLarge a = Wrote-stop_halted second a
+Wrote-stops second fault.Sink a = Wrote-stop second a
 
-memory_apart : fault.Memory ≡ fault.Sink → ⊥
-memory_apart e = cc
+-- memory ran out after the text
+pub Wrote-gave_up : {S : Type 0} {sink : Ghosts S} {old new : S} {text : List ℕ} → Wrote sink old new text whole → Wrote sink old new text halted
+Wrote-gave_up {sink} {old} {new} {text} a = record { appends = AppendsPrefix-whole (sink.taken old) (sink.taken new) text a.appends; failures = a.failures }
 
--- if memory runs out, nothing is written
-pub puts_none : {S A : Type 0} {taken : S → Option (List ℕ)} {failed : S → ℕ} (old : S) (text : List ℕ) (result : Result A BulkFault) → result ≡ Err fault.Memory → Puts taken failed old old text result
-puts_none {A = A} {taken = taken} {failed = failed} old text result is = subst (λ (r : Result A BulkFault). Puts taken failed old old text r) (sym is)
-    (record { all = tt; sound = tt; prefix = record { front = []; rest = text; parts = refl; taken = Appends-nil (taken old) }; failure = λ same. absurd (memory_apart same); other = λ _. refl })
+-- or before it
+pub Wrote-no_memory : {S A : Type 0} {sink : Ghosts S} (old : S) (text : List ℕ) (result : Result A BulkFault) → IsErrAnd result (λ e. e ≡ fault.Memory) → Wrote sink old old text (bulk_ending result)
+Wrote-no_memory old text (Ok x) memory = absurd memory
+Wrote-no_memory old text (Err e) memory = rw memory (Wrote-halt old text)
 
--- a text and then another
-pub puts_then : {S A B : Type 0} {taken : S → Option (List ℕ)} {failed : S → ℕ} (old mid new : S) (first second : List ℕ) (x : A) (result : Result B BulkFault)
-    → Puts taken failed old mid first (Ok x) → Puts taken failed mid new second result → Puts taken failed old new (first ++ second) result
-puts_then {taken = taken} {failed = failed} old mid new first second x (Ok y) a b = record {
-  all = Appends-trans (taken old) (taken mid) (taken new) first second a.all b.all;
-  sound = b.sound ∙ a.sound;
-  prefix = tt;
-  failure = tt;
-  other = tt;
-}
-puts_then {taken = taken} {failed = failed} old mid new first second x (Err e) a b = record {
-  all = tt;
-  sound = tt;
-  prefix = AppendsPrefix-second (taken old) (taken mid) (taken new) first second a.all b.prefix;
-  failure = b.failure;
-  other = λ no. b.other no ∙ a.sound;
-}
+-- the fault of a call is returned
+pub Wrote-fault : {S A : Type 0} {sink : Ghosts S} {old new : S} {text : List ℕ} (e : BulkFault) (result : Result A BulkFault) → IsErrAnd result (λ f. f ≡ e) → Wrote sink old new text (fault_ending e) → Wrote sink old new text (bulk_ending result)
+Wrote-fault e (Ok x) same a = absurd same
+Wrote-fault e (Err f) same a = rw same a
 
-pub puts_first : {S A B : Type 0} {taken : S → Option (List ℕ)} {failed : S → ℕ} (old new : S) (first second : List ℕ) (e : BulkFault)
-    → Puts {A = A} taken failed old new first (Err e) → Puts {A = B} taken failed old new (first ++ second) (Err e)
-puts_first {taken = taken} old new first second e a = record {
-  all = tt;
-  sound = tt;
-  prefix = AppendsPrefix-first (taken old) (taken new) first second a.prefix;
-  failure = a.failure;
-  other = a.other;
-}
+-- a sink's failure is a fault of the call
+pub Wrote-passed : {S A : Type 0} {sink : Ghosts S} {old new : S} {text : List ℕ} (result : Result A BulkFault) → IsErrAnd result (λ e. e ≡ fault.Sink) → Wrote sink old new text cut → Wrote sink old new text (bulk_ending result)
+Wrote-passed result same a = Wrote-fault fault.Sink result same (Wrote-cut a)
+
+-- whatever the fault
+pub Wrote-prefix : {S : Type 0} {sink : Ghosts S} {old new : S} {text : List ℕ} (e : BulkFault) → Wrote sink old new text (fault_ending e) → AppendsPrefix (sink.taken old) (sink.taken new) text
+Wrote-prefix fault.Memory a = a.appends
+Wrote-prefix fault.TooLarge a = a.appends
+Wrote-prefix fault.Sink a = a.appends
+
+-- the fault is Sink only if the sink failed,
+pub Wrote-failed : {S : Type 0} {sink : Ghosts S} {old new : S} {text : List ℕ} (e : BulkFault) → Wrote sink old new text (fault_ending e) → e ≡ fault.Sink → 0 < sink.failed new
+Wrote-failed fault.Memory a is = absurd cc
+Wrote-failed fault.TooLarge a is = absurd cc
+Wrote-failed fault.Sink a is = a.failures
+
+-- and another one only if it didn't
+pub Wrote-sound : {S : Type 0} {sink : Ghosts S} {old new : S} {text : List ℕ} (e : BulkFault) → Wrote sink old new text (fault_ending e) → (e ≡ fault.Sink → ⊥) → sink.failed new ≡ sink.failed old
+Wrote-sound fault.Memory a other = a.failures
+Wrote-sound fault.TooLarge a other = a.failures
+Wrote-sound fault.Sink a other = absurd (other refl)
 
 -- what always holds, holds after an error
 pub after_error : {A E : Type 0} (P : Type 0) (r : Result A E) → P → OnErr r P
@@ -107,48 +112,14 @@ after_error P (Ok x) p = tt
 after_error P (Err e) p = p
 
 -- if the second call leaves something out, so do both
-pub short_then : {S A B : Type 0} {taken : S → Option (List ℕ)} {failed : S → ℕ} (old mid new : S) (first second : List ℕ) (x : A) (result : Result B BulkFault)
-    → Puts taken failed old mid first (Ok x) → OnErr result (AppendsProperPrefix (taken mid) (taken new) second) → OnErr result (AppendsProperPrefix (taken old) (taken new) (first ++ second))
-short_then old mid new first second x (Ok y) a b = tt
-short_then {taken = taken} old mid new first second x (Err e) a b = proper_second (taken old) (taken mid) (taken new) first second a.all b
+pub short_then : {S A E : Type 0} {sink : Ghosts S} (old mid new : S) (first second : List ℕ) (result : Result A E)
+    → Wrote sink old mid first whole → OnErr result (AppendsProperPrefix (sink.taken mid) (sink.taken new) second) → OnErr result (AppendsProperPrefix (sink.taken old) (sink.taken new) (first ++ second))
+short_then old mid new first second (Ok y) a b = tt
+short_then {sink} old mid new first second (Err e) a b = AppendsProperPrefix-second (sink.taken old) (sink.taken mid) (sink.taken new) first second a.appends b
 
--- a text of which a front was written: what is left
-pub record PutsFront {S : Type 0} (taken : S → Option (List ℕ)) (failed : S → ℕ) (old new : S) (whole rest : List ℕ) : Type 0 where
-  pub front : List ℕ
-  pub parts : whole ≡ front ++ rest
-  pub all : Appends (taken old) (taken new) front
-  pub sound : failed new ≡ failed old
-
-pub front_none : {S : Type 0} {taken : S → Option (List ℕ)} {failed : S → ℕ} (old : S) (whole : List ℕ) → PutsFront taken failed old old whole whole
-front_none {taken = taken} old whole = record { front = []; parts = refl; all = Appends-nil (taken old); sound = refl }
-
--- the next piece of it was written,
-pub front_puts : {S A : Type 0} {taken : S → Option (List ℕ)} {failed : S → ℕ} (old mid new : S) (whole piece rest left : List ℕ) (x : A) → left ≡ piece ++ rest
-    → PutsFront taken failed old mid whole left → Puts taken failed mid new piece (Ok x) → PutsFront taken failed old new whole rest
-front_puts {taken = taken} old mid new whole piece rest left x e before one = record {
-  front = before.front ++ piece;
-  parts = before.parts ∙ (ap (λ (xs : List ℕ). before.front ++ xs) e ∙ sym (append_assoc before.front piece rest));
-  all = Appends-trans (taken old) (taken mid) (taken new) before.front piece before.all one.all;
-  sound = one.sound ∙ before.sound;
-}
-
--- or a prefix of it, and then nothing more;
-pub puts_stop : {S A B : Type 0} {taken : S → Option (List ℕ)} {failed : S → ℕ} (old mid new : S) (whole piece rest left : List ℕ) (e : BulkFault) → left ≡ piece ++ rest
-    → PutsFront taken failed old mid whole left → Puts {A = A} taken failed mid new piece (Err e) → Puts {A = B} taken failed old new whole (Err e)
-puts_stop {taken = taken} {failed = failed} old mid new whole piece rest left e same before one =
-    puts_same old new (before.front ++ left) whole (Err e) (sym before.parts)
-    (puts_then {A = ⊤} old mid new before.front left tt (Err e) (record { all = before.all; sound = before.sound; prefix = tt; failure = tt; other = tt })
-    (puts_same mid new (piece ++ rest) left (Err e) (sym same) (puts_first mid new piece rest e one)))
-
-pub short_stop : {S : Type 0} {taken : S → Option (List ℕ)} {failed : S → ℕ} (old mid new : S) (whole piece rest left : List ℕ) → left ≡ piece ++ rest
-    → PutsFront taken failed old mid whole left → AppendsProperPrefix (taken mid) (taken new) piece → AppendsProperPrefix (taken old) (taken new) whole
-short_stop {taken = taken} old mid new whole piece rest left same before one =
-    proper_same (taken old) (taken new) (before.front ++ left) whole (sym before.parts)
-    (proper_second (taken old) (taken mid) (taken new) before.front left before.all
-    (proper_same (taken mid) (taken new) (piece ++ rest) left (sym same) (proper_first (taken mid) (taken new) piece rest one)))
-
--- and if nothing is left, the whole was written.
-pub puts_whole : {S A : Type 0} {taken : S → Option (List ℕ)} {failed : S → ℕ} (old new : S) (whole rest : List ℕ) (x : A) → rest ≡ [] → PutsFront taken failed old new whole rest → Puts taken failed old new whole (Ok x)
-puts_whole {taken = taken} {failed = failed} old new whole rest x none before =
-    puts_same old new before.front whole (Ok x) (sym (before.parts ∙ (ap (λ (xs : List ℕ). before.front ++ xs) none ∙ append-nil before.front)))
-    (record { all = before.all; sound = before.sound; prefix = tt; failure = tt; other = tt })
+pub short_stop : {S : Type 0} {sink : Ghosts S} {old mid new : S} {text piece left : List ℕ} (rest : List ℕ) → left ≡ piece ++ rest
+    → WroteFront sink old mid text left → AppendsProperPrefix (sink.taken mid) (sink.taken new) piece → AppendsProperPrefix (sink.taken old) (sink.taken new) text
+short_stop {sink} {old} {mid} {new} {text} {piece} {left} rest same before one =
+    proper_same (sink.taken old) (sink.taken new) (before.front ++ left) text (sym before.parts)
+    (AppendsProperPrefix-second (sink.taken old) (sink.taken mid) (sink.taken new) before.front left before.wrote.appends
+    (proper_same (sink.taken mid) (sink.taken new) (piece ++ rest) left (sym same) (AppendsProperPrefix-first (sink.taken mid) (sink.taken new) piece rest one)))

@@ -1,3 +1,3 @@
+pub mod BulkEndings
 pub mod Compacting
 pub mod Private
-pub mod Puts

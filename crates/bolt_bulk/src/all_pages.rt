@@ -26,7 +26,7 @@ pub(crate) fn put_pages<'a, M: Members<'a>, S: Sink>(
     requires room { 3 ≤ setup.limit }
     requires whole { IsWhole M.lists M.left members.old }
     ensures pages { (which : Layout) (listing : List Member) → M.lists members.old listing → FitLimits which (tree_of listing) setup.page_size (limits_with limits.now)
-        → Ends (record { which = which; tree = tree_of listing; notes = notes }) S.taken S.failed sink.old sink.new setup [] result }
+        → Ends (record { which = which; tree = tree_of listing; notes = notes }) S.Sink sink.old sink.new setup [] result }
     ensures end { OnOk result (M.ends_as members.old members.new) }
     ensures listing { (listing : List Member) → M.lists members.new listing ↔ M.lists members.old listing }
     ensures same_end { (end : M) → M.ends_as members.new end → M.ends_as members.old end }

@@ -6,7 +6,8 @@ ghost use Rattle.bolt_layout.specs.PageBytes.{branch_data, branch_headers};
 ghost use Rattle.bolt_bulk.specs.Private.FormatLimits.{length_end};
 ghost use Rattle.bolt_bulk.specs.Private.BranchRuns.{IsSizedRun, run_view};
 ghost use Rattle.bolt_bulk.specs.Private.RunViews.{run_page};
-ghost use Rattle.bolt_bulk.specs.Puts.{PutsWhole};
+ghost use Rattle.bolt_format.specs.Endings.{page_ending};
+ghost use Rattle.bolt_format.specs.Wrote.{Wrote};
 
 use crate::branch_run::BranchRun;
 use crate::headers::Headers;
@@ -18,7 +19,7 @@ use bolt_format::{Branch, Kind, Sink, SinkFault};
 /// Writes the headers of elements. All keys are packed after the last header.
 fn put_headers<S: Sink>(branches: &[Branch<'_>], sink: &mut S) -> Result<(), SinkFault>
     requires { 16 * length branches.now + length (branch_data (map branch_view branches.now)) < length_end }
-    ensures { PutsWhole S.taken S.failed sink.old sink.new (branch_headers 0 (map branch_view branches.now)) result }
+    ensures { Wrote S.Sink sink.old sink.new (branch_headers 0 (map branch_view branches.now)) (page_ending result) }
 {
     let mut headers = Headers::new(branches.len());
     for branch in branches {
@@ -29,7 +30,7 @@ fn put_headers<S: Sink>(branches: &[Branch<'_>], sink: &mut S) -> Result<(), Sin
 
 /// Writes the keys of elements.
 fn put_keys<S: Sink>(branches: &[Branch<'_>], sink: &mut S) -> Result<(), SinkFault>
-    ensures { PutsWhole S.taken S.failed sink.old sink.new (branch_data (map branch_view branches.now)) result }
+    ensures { Wrote S.Sink sink.old sink.new (branch_data (map branch_view branches.now)) (page_ending result) }
 {
     for branch in branches {
         put(branch.key, sink)?;
@@ -47,7 +48,7 @@ pub(crate) fn put_branch_page<S: Sink>(
     requires sized { IsSizedRun (run_view run.now) }
     requires small { run.now.size < length_end }
     requires few { length run.now.elements.items < 65536 }
-    ensures { PutsWhole S.taken S.failed sink.old sink.new (placed_bytes setup.now.page_size (run_page setup.now.page_size (run_view run.now) number ∷ [])) result }
+    ensures { Wrote S.Sink sink.old sink.new (placed_bytes setup.now.page_size (run_page setup.now.page_size (run_view run.now) number ∷ [])) (page_ending result) }
 {
     let branches = run.elements.as_slice();
     let zeros = put_page_header(setup, number, Kind::Branch, branches.len(), run.size, sink)?;

@@ -9,7 +9,8 @@ ghost use Rattle.bolt_bulk.specs.Private.BranchRuns.{IsPushed, IsStanding, eleme
 ghost use Rattle.bolt_bulk.specs.Private.OpenRuns.{key_size};
 ghost use Rattle.bolt_layout.specs.Limits.{one_less};
 ghost use Rattle.bolt_bulk.specs.Private.RunViews.{no_run, one_closed, run_has_room, run_kept, run_page, run_push, run_stays};
-ghost use Rattle.bolt_bulk.specs.Puts.{Puts};
+ghost use Rattle.bolt_format.specs.Wrote.{Wrote};
+ghost use Rattle.bolt_bulk.specs.BulkEndings.{bulk_ending};
 ghost use Rattle.bolt_bulk.specs.declared.fault.BulkFault.TheVariants as fault;
 
 use crate::branch_page::put_branch_page;
@@ -96,7 +97,7 @@ impl<'a> BranchRun<'a> {
         requires key { length key.now ≤ longest_key }
         requires closed { length closed.key.now ≤ longest_key }
         requires next { next.old ≤ setup.now.limit }
-        ensures pages { Puts S.taken S.failed sink.old sink.new (placed_bytes setup.now.page_size (taking_puts setup.now.page_size key.now (branch_view closed.entry) next.old (run_view self.old))) result }
+        ensures pages { Wrote S.Sink sink.old sink.new (placed_bytes setup.now.page_size (taking_puts setup.now.page_size key.now (branch_view closed.entry) next.old (run_view self.old))) (bulk_ending result) }
         ensures run { OnOk result (run_view self.new ≡ run_taking setup.now.page_size key.now (branch_view closed.entry) (run_view self.old)) }
         ensures standing { OnOk result (IsStanding (run_view self.new)) }
         ensures next { OnOk result (next.new ≡ taking_next setup.now.page_size key.now (branch_view closed.entry) next.old (run_view self.old)) }
@@ -124,7 +125,7 @@ impl<'a> BranchRun<'a> {
         requires standing { IsStanding (run_view self.old) }
         requires closed { length closed.key.now ≤ longest_key }
         requires next { next.old ≤ setup.now.limit }
-        ensures pages { Puts S.taken S.failed sink.old sink.new (placed_bytes setup.now.page_size (run_page setup.now.page_size (run_push (run_view self.old) (branch_view closed.entry)) next.old ∷ [])) result }
+        ensures pages { Wrote S.Sink sink.old sink.new (placed_bytes setup.now.page_size (run_page setup.now.page_size (run_push (run_view self.old) (branch_view closed.entry)) next.old ∷ [])) (bulk_ending result) }
         ensures short { OnErr result (AppendsProperPrefix (S.taken sink.old) (S.taken sink.new) (placed_bytes setup.now.page_size (run_page setup.now.page_size (run_push (run_view self.old) (branch_view closed.entry)) next.old ∷ []))) }
         ensures up { IfOk result (λ up. branch_view up ≡ element_up (branch_view closed.entry) next.old (run_view self.old)) }
         ensures standing { OnOk result (IsStanding (run_view self.new)) }
@@ -145,7 +146,7 @@ impl<'a> BranchRun<'a> {
     ) -> Result<Branch<'a>, BulkFault>
         requires pushed { IsPushed (run_view self.old) }
         requires next { next.old ≤ setup.now.limit }
-        ensures pages { Puts S.taken S.failed sink.old sink.new (placed_bytes setup.now.page_size (run_page setup.now.page_size (run_view self.old) next.old ∷ [])) result }
+        ensures pages { Wrote S.Sink sink.old sink.new (placed_bytes setup.now.page_size (run_page setup.now.page_size (run_view self.old) next.old ∷ [])) (bulk_ending result) }
         ensures short { OnErr result (AppendsProperPrefix (S.taken sink.old) (S.taken sink.new) (placed_bytes setup.now.page_size (run_page setup.now.page_size (run_view self.old) next.old ∷ []))) }
         ensures up { IfOk result (λ up. branch_view up ≡ own_element (run_view self.old) next.old) }
         ensures run { OnOk result (run_view self.new ≡ no_run (one_less self.old.left) (one_closed self.old.closed)) }

@@ -13,7 +13,8 @@ ghost use Rattle.bolt_bulk.specs.Private.OpenBuckets.{HasRoomFor, IsOpenBucket, 
 ghost use Rattle.bolt_bulk.specs.Private.RunViews.{leaves_have_room, no_leaves, runs_end, runs_end_put, runs_push, runs_room, runs_room_put};
 ghost use Rattle.bolt_bulk.specs.Private.TakenItems.{entries_size, inline_element, inline_size, runs_taking, value_element};
 ghost use Rattle.bolt_bulk.specs.Private.WaitingBuckets.{IsWaiting};
-ghost use Rattle.bolt_bulk.specs.Puts.{Puts};
+ghost use Rattle.bolt_format.specs.Wrote.{Wrote};
+ghost use Rattle.bolt_bulk.specs.BulkEndings.{bulk_ending};
 ghost use Rattle.bolt_bulk.specs.declared.fault.BulkFault.TheVariants as fault;
 
 use crate::fault::BulkFault;
@@ -110,7 +111,7 @@ impl<'a> BucketRuns<'a> {
         requires key { length key.now ≤ longest_key }
         requires size { size < length_end }
         requires next { next.old ≤ setup.now.limit }
-        ensures pages { Puts S.taken S.failed sink.old sink.new (placed_bytes setup.now.page_size (runs_room_put setup.now.page_size (bucket_runs self.old next.old) key.now size)) result }
+        ensures pages { Wrote S.Sink sink.old sink.new (placed_bytes setup.now.page_size (runs_room_put setup.now.page_size (bucket_runs self.old next.old) key.now size)) (bulk_ending result) }
         ensures runs { OnOk result (bucket_runs self.new next.new ≡ runs_room setup.now.page_size (bucket_runs self.old next.old) key.now size) }
         ensures open { OnOk result (IsOpenBucket self.new) }
         ensures room { OnOk result (leaves_have_room setup.now.page_size (leaves_of self.new.leaves) size ≡ true) }
@@ -213,7 +214,7 @@ impl<'a> BucketRuns<'a> {
         requires key { length key.now ≤ longest_key }
         requires value { IsValueLength (length value.now) }
         requires next { next.old ≤ setup.now.limit }
-        ensures pages { Puts S.taken S.failed sink.old sink.new (placed_bytes setup.now.page_size (runs_room_put setup.now.page_size (bucket_runs self.old next.old) key.now (16 + (length key.now + length value.now)))) result }
+        ensures pages { Wrote S.Sink sink.old sink.new (placed_bytes setup.now.page_size (runs_room_put setup.now.page_size (bucket_runs self.old next.old) key.now (16 + (length key.now + length value.now)))) (bulk_ending result) }
         ensures runs { OnOk result (bucket_runs self.new next.new ≡ runs_taking setup.now.page_size (bucket_runs self.old next.old) (value_element key.now value.now) (16 + (length key.now + length value.now))) }
         ensures open { OnOk result (IsOpenBucket self.new) }
         ensures within { OnOk result (next.new ≤ setup.now.limit) }
@@ -240,7 +241,7 @@ impl<'a> BucketRuns<'a> {
         requires size { pending.size + 16 ≡ inline_size (map leaf_view entries.now) }
         requires small { pending.size < 2147483632 }
         requires next { next.old ≤ setup.now.limit }
-        ensures pages { Puts S.taken S.failed sink.old sink.new (placed_bytes setup.now.page_size (runs_room_put setup.now.page_size (bucket_runs self.old next.old) pending.entry.key.now (16 + (length pending.entry.key.now + (pending.entry.size + 16))))) result }
+        ensures pages { Wrote S.Sink sink.old sink.new (placed_bytes setup.now.page_size (runs_room_put setup.now.page_size (bucket_runs self.old next.old) pending.entry.key.now (16 + (length pending.entry.key.now + (pending.entry.size + 16))))) (bulk_ending result) }
         ensures runs { OnOk result (bucket_runs self.new next.new ≡ runs_taking setup.now.page_size (bucket_runs self.old next.old) (inline_element pending.entry.key.now pending.entry.sequence (map leaf_view entries.now)) (16 + (length pending.entry.key.now + (pending.entry.size + 16)))) }
         ensures open { OnOk result (IsOpenBucket self.new) }
         ensures within { OnOk result (next.new ≤ setup.now.limit) }
@@ -265,7 +266,7 @@ impl<'a> BucketRuns<'a> {
         requires open { IsOpenBucket self }
         requires key { length pending.key.now ≤ longest_key }
         requires next { next.old ≤ setup.now.limit }
-        ensures pages { Puts S.taken S.failed sink.old sink.new (placed_bytes setup.now.page_size (runs_room_put setup.now.page_size (bucket_runs self.entry next.old) pending.entry.key.now (32 + length pending.entry.key.now))) result }
+        ensures pages { Wrote S.Sink sink.old sink.new (placed_bytes setup.now.page_size (runs_room_put setup.now.page_size (bucket_runs self.entry next.old) pending.entry.key.now (32 + length pending.entry.key.now))) (bulk_ending result) }
         ensures runs { IfOk result (λ waiting. bucket_runs waiting.bucket next.new ≡ runs_room setup.now.page_size (bucket_runs self.entry next.old) pending.entry.key.now (32 + length pending.entry.key.now)) }
         ensures waits { IfOk result (λ waiting. IsWaiting setup.now.page_size waiting) }
         ensures key { IfOk result (λ waiting. waiting.key.now ≡ pending.entry.key.now) }
@@ -294,7 +295,7 @@ impl<'a> BucketRuns<'a> {
     ) -> Result<u64, BulkFault>
         requires open { IsOpenBucket self.old }
         requires next { next.old ≤ setup.now.limit }
-        ensures pages { Puts S.taken S.failed sink.old sink.new (placed_bytes setup.now.page_size (runs_end_put setup.now.page_size (bucket_runs self.old next.old))) result }
+        ensures pages { Wrote S.Sink sink.old sink.new (placed_bytes setup.now.page_size (runs_end_put setup.now.page_size (bucket_runs self.old next.old))) (bulk_ending result) }
         ensures short { OnErr result (AppendsProperPrefix (S.taken sink.old) (S.taken sink.new) (placed_bytes setup.now.page_size (runs_end_put setup.now.page_size (bucket_runs self.old next.old)))) }
         ensures root { IfOk result (λ root. root ≡ runs_end setup.now.page_size (bucket_runs self.old next.old)) }
         ensures next { OnOk result (next.new ≡ bucket_end_next setup.now.page_size (bucket_runs self.old next.old)) }

@@ -2,7 +2,8 @@
 ghost use Rattle.std.specs.Prelude.{◌+◌, ◌*◌, ◌<◌, ◌++◌, length, map};
 ghost use Rattle.bolt_format.specs.ElementPlaces.{leaf_view};
 ghost use Rattle.bolt_layout.specs.PageBytes.{inline_value, leaf_data, leaf_headers};
-ghost use Rattle.bolt_bulk.specs.Puts.{PutsWhole};
+ghost use Rattle.bolt_format.specs.Endings.{page_ending};
+ghost use Rattle.bolt_format.specs.Wrote.{Wrote};
 ghost use Rattle.bolt_bulk.specs.Private.FormatLimits.{length_end};
 
 use crate::headers::Headers;
@@ -12,7 +13,7 @@ use bolt_format::{Kind, Leaf, Sink, SinkFault, bucket_head, page_header};
 /// Writes the headers of entries. All their data is packed after the last header.
 fn put_headers<S: Sink>(entries: &[Leaf<'_>], sink: &mut S) -> Result<(), SinkFault>
     requires { 16 * length entries.now + length (leaf_data (map leaf_view entries.now)) < length_end }
-    ensures { PutsWhole S.taken S.failed sink.old sink.new (leaf_headers 0 (map leaf_view entries.now)) result }
+    ensures { Wrote S.Sink sink.old sink.new (leaf_headers 0 (map leaf_view entries.now)) (page_ending result) }
 {
     let mut headers = Headers::new(entries.len());
     for entry in entries {
@@ -23,7 +24,7 @@ fn put_headers<S: Sink>(entries: &[Leaf<'_>], sink: &mut S) -> Result<(), SinkFa
 
 /// Writes the key and the value of an entry.
 fn put_entry<S: Sink>(entry: &Leaf<'_>, sink: &mut S) -> Result<(), SinkFault>
-    ensures { PutsWhole S.taken S.failed sink.old sink.new (entry.now.key.now ++ entry.now.value.now) result }
+    ensures { Wrote S.Sink sink.old sink.new (entry.now.key.now ++ entry.now.value.now) (page_ending result) }
 {
     put(entry.key, sink)?;
     put(entry.value, sink)
@@ -31,7 +32,7 @@ fn put_entry<S: Sink>(entry: &Leaf<'_>, sink: &mut S) -> Result<(), SinkFault>
 
 /// Writes the data of entries.
 fn put_data<S: Sink>(entries: &[Leaf<'_>], sink: &mut S) -> Result<(), SinkFault>
-    ensures { PutsWhole S.taken S.failed sink.old sink.new (leaf_data (map leaf_view entries.now)) result }
+    ensures { Wrote S.Sink sink.old sink.new (leaf_data (map leaf_view entries.now)) (page_ending result) }
 {
     for entry in entries {
         put_entry(entry, sink)?;
@@ -47,7 +48,7 @@ pub(crate) fn put_inline_value<S: Sink>(
 ) -> Result<(), SinkFault>
     requires count { length entries.now < 65535 }
     requires size { 16 * length entries.now + length (leaf_data (map leaf_view entries.now)) < length_end }
-    ensures { PutsWhole S.taken S.failed sink.old sink.new (inline_value sequence (map leaf_view entries.now)) result }
+    ensures { Wrote S.Sink sink.old sink.new (inline_value sequence (map leaf_view entries.now)) (page_ending result) }
 {
     put(&bucket_head(0, sequence), sink)?;
     let header = page_header(0, Kind::Leaf, entries.len() as u16, 0);

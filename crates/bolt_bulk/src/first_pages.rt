@@ -2,7 +2,8 @@
 ghost use Rattle.std.specs.Prelude.{◌≡◌, ◌≤◌, length};
 ghost use Rattle.bolt_layout.specs.PageBytes.{filled, copy_meta};
 ghost use Rattle.bolt_bulk.specs.Private.FirstPages.{first_pages};
-ghost use Rattle.bolt_bulk.specs.Puts.{PutsWhole};
+ghost use Rattle.bolt_format.specs.Endings.{page_ending};
+ghost use Rattle.bolt_format.specs.Wrote.{Wrote};
 
 use crate::outcome::Plan;
 use crate::pieces::{put, put_zeros};
@@ -29,7 +30,7 @@ fn meta(shape: &Shape, plan: &Plan, txid: u64) -> Meta
 /// Writes bytes, and zeros up to the end of a page.
 fn put_filled<S: Sink>(bytes: &[u8], page_size: usize, sink: &mut S) -> Result<(), SinkFault>
     requires { length bytes.now ≤ page_size }
-    ensures { PutsWhole S.taken S.failed sink.old sink.new (filled page_size bytes.now) result }
+    ensures { Wrote S.Sink sink.old sink.new (filled page_size bytes.now) (page_ending result) }
 {
     put(bytes, sink)?;
     put_zeros(page_size - bytes.len(), sink)
@@ -41,7 +42,7 @@ pub(crate) fn put_first_pages<S: Sink>(
     plan: &Plan,
     sink: &mut S,
 ) -> Result<(), SinkFault>
-    ensures { PutsWhole S.taken S.failed sink.old sink.new (first_pages shape.now.page_size plan.now.root shape.now.sequence plan.now.high_water) result }
+    ensures { Wrote S.Sink sink.old sink.new (first_pages shape.now.page_size plan.now.root shape.now.sequence plan.now.high_water) (page_ending result) }
 {
     let page_size = shape.page_size as usize;
     put_filled(&meta_page(0, &meta(shape, plan, 0)), page_size, sink)?;

@@ -3,7 +3,8 @@ ghost use Rattle.std.specs.Prelude.{◌≡◌, ◌+◌, ◌*◌, ◌<◌, ◌≤
 ghost use Rattle.bolt_format.specs.Written.{branch_header, leaf_header};
 ghost use Rattle.bolt_bulk.specs.Private.FormatLimits.{length_end};
 ghost use Rattle.bolt_bulk.specs.Private.Gathering.{Adds, Gathers};
-ghost use Rattle.bolt_bulk.specs.Puts.{PutsWhole};
+ghost use Rattle.bolt_format.specs.Endings.{page_ending};
+ghost use Rattle.bolt_format.specs.Wrote.{Wrote};
 
 use crate::pieces::put;
 use arrayvec::ArrayVec;
@@ -17,7 +18,7 @@ type Buffer = ArrayVec<u8, BUFFER_LEN>;
 /// Makes room in the buffer for one more header. If it has none, it is written and emptied.
 #[inline(always)]
 fn put_full<S: Sink>(buffer: &mut Buffer, sink: &mut S) -> Result<(), SinkFault>
-    ensures gathers { Gathers S.taken S.failed sink.old sink.new buffer.old.items buffer.new.items result }
+    ensures gathers { Gathers S.Sink sink.old sink.new buffer.old.items buffer.new.items result }
     ensures room { length buffer.new.items + ELEMENT_LEN ≤ BUFFER_LEN }
 {
     if buffer.len() + ELEMENT_LEN <= BUFFER_LEN {
@@ -60,7 +61,7 @@ impl Headers {
     ) -> Result<(), SinkFault>
         requires low { 16 ≤ self.old.pos }
         requires small { self.old.pos + key < length_end }
-        ensures adds { Adds S.taken S.failed sink.old sink.new self.old.buffer.items (branch_header self.old.pos key child) self.new.buffer.items result }
+        ensures adds { Adds S.Sink sink.old sink.new self.old.buffer.items (branch_header self.old.pos key child) self.new.buffer.items result }
         ensures pos { OnOk result (self.new.pos + 16 ≡ self.old.pos + key) }
     {
         put_full(&mut self.buffer, sink)?;
@@ -81,7 +82,7 @@ impl Headers {
     ) -> Result<(), SinkFault>
         requires low { 16 ≤ self.old.pos }
         requires small { self.old.pos + (key + value) < length_end }
-        ensures adds { Adds S.taken S.failed sink.old sink.new self.old.buffer.items (leaf_header is_bucket self.old.pos key value) self.new.buffer.items result }
+        ensures adds { Adds S.Sink sink.old sink.new self.old.buffer.items (leaf_header is_bucket self.old.pos key value) self.new.buffer.items result }
         ensures pos { OnOk result (self.new.pos + 16 ≡ self.old.pos + (key + value)) }
     {
         put_full(&mut self.buffer, sink)?;
@@ -93,7 +94,7 @@ impl Headers {
 
     /// Writes the headers that were not yet written.
     pub fn put_rest<S: Sink>(&self, sink: &mut S) -> Result<(), SinkFault>
-        ensures { PutsWhole S.taken S.failed sink.old sink.new self.now.buffer.items result }
+        ensures { Wrote S.Sink sink.old sink.new self.now.buffer.items (page_ending result) }
     {
         put(self.buffer.as_slice(), sink)
     }

@@ -2,7 +2,8 @@
 //! anew, or with the root page of a bucket.
 ghost use Rattle.std.specs.Prelude.{◌≡◌, List, length};
 ghost use Rattle.bolt_bulk.specs.Private.HeldItems.{IsStored, is_stored_bucket, stored_value};
-ghost use Rattle.bolt_bulk.specs.Puts.{PutsWhole};
+ghost use Rattle.bolt_format.specs.Endings.{page_ending};
+ghost use Rattle.bolt_format.specs.Wrote.{Wrote};
 
 use crate::bucket_value::put_inline_value;
 use crate::pieces::put;
@@ -60,7 +61,7 @@ impl<'a> Stored<'a> {
     /// Writes the value. The entries of inline buckets are in the list `inlined`.
     pub(crate) fn put<S: Sink>(&self, inlined: &[Leaf<'_>], sink: &mut S) -> Result<(), SinkFault>
         requires { IsStored inlined.now self.now }
-        ensures { PutsWhole S.taken S.failed sink.old sink.new (stored_value inlined.now self.now) result }
+        ensures { Wrote S.Sink sink.old sink.new (stored_value inlined.now self.now) (page_ending result) }
     {
         match *self {
             Stored::Value(value) => put(value, sink),

@@ -5,7 +5,8 @@ ghost use Rattle.bolt_bulk.specs.Private.FormatLimits.{length_end};
 ghost use Rattle.bolt_bulk.specs.Private.HeldItems.{AreHeld, IsHeld, held_views, stored_value};
 ghost use Rattle.bolt_bulk.specs.Private.OpenBuckets.{IsLeafRun, leaves_of};
 ghost use Rattle.bolt_bulk.specs.Private.RunViews.{leaf_page};
-ghost use Rattle.bolt_bulk.specs.Puts.{PutsWhole};
+ghost use Rattle.bolt_format.specs.Endings.{page_ending};
+ghost use Rattle.bolt_format.specs.Wrote.{Wrote};
 
 use crate::headers::Headers;
 use crate::held::Held;
@@ -23,7 +24,7 @@ fn put_headers<S: Sink>(
 ) -> Result<(), SinkFault>
     requires held { AreHeld inlined.now items.now }
     requires size { 16 * length items.now + length (leaf_data (held_views inlined.now items.now)) < length_end }
-    ensures { PutsWhole S.taken S.failed sink.old sink.new (leaf_headers 0 (held_views inlined.now items.now)) result }
+    ensures { Wrote S.Sink sink.old sink.new (leaf_headers 0 (held_views inlined.now items.now)) (page_ending result) }
 {
     let mut headers = Headers::new(items.len());
     for held in items {
@@ -36,7 +37,7 @@ fn put_headers<S: Sink>(
 /// Writes the key and the value of an item.
 fn put_item<S: Sink>(held: &Held<'_>, inlined: &[Leaf<'_>], sink: &mut S) -> Result<(), SinkFault>
     requires { IsHeld inlined.now held.now }
-    ensures { PutsWhole S.taken S.failed sink.old sink.new (held.now.key.now ++ stored_value inlined.now held.now.stored) result }
+    ensures { Wrote S.Sink sink.old sink.new (held.now.key.now ++ stored_value inlined.now held.now.stored) (page_ending result) }
 {
     put(held.key, sink)?;
     held.stored.put(inlined, sink)
@@ -49,7 +50,7 @@ fn put_data<S: Sink>(
     sink: &mut S,
 ) -> Result<(), SinkFault>
     requires { AreHeld inlined.now items.now }
-    ensures { PutsWhole S.taken S.failed sink.old sink.new (leaf_data (held_views inlined.now items.now)) result }
+    ensures { Wrote S.Sink sink.old sink.new (leaf_data (held_views inlined.now items.now)) (page_ending result) }
 {
     for held in items {
         put_item(held, inlined, sink)?;
@@ -65,7 +66,7 @@ pub(crate) fn put_leaf_page<S: Sink>(
     sink: &mut S,
 ) -> Result<(), SinkFault>
     requires { IsLeafRun run.now }
-    ensures { PutsWhole S.taken S.failed sink.old sink.new (page_bytes setup.now.page_size number (leaf_page setup.now.page_size (leaves_of run.now) number).view) result }
+    ensures { Wrote S.Sink sink.old sink.new (page_bytes setup.now.page_size number (leaf_page setup.now.page_size (leaves_of run.now) number).view) (page_ending result) }
 {
     let items = run.items.as_slice();
     let inlined = run.inlined.as_slice();

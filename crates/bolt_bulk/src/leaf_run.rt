@@ -6,7 +6,8 @@ ghost use Rattle.bolt_layout.specs.Levels.{overflow_of};
 ghost use Rattle.bolt_layout.specs.PageBytes.{page_bytes};
 ghost use Rattle.bolt_bulk.specs.Private.OpenBuckets.{IsLeafRun, leaf_closed, leaves_of};
 ghost use Rattle.bolt_bulk.specs.Private.RunViews.{leaf_page, leaves_have_room, no_leaves};
-ghost use Rattle.bolt_bulk.specs.Puts.{Puts};
+ghost use Rattle.bolt_format.specs.Wrote.{Wrote};
+ghost use Rattle.bolt_bulk.specs.BulkEndings.{bulk_ending};
 ghost use Rattle.bolt_bulk.specs.declared.fault.BulkFault.TheVariants as fault;
 
 use crate::fault::BulkFault;
@@ -43,7 +44,7 @@ impl<'a> LeafRun<'a> {
     ) -> Result<Branch<'a>, BulkFault>
         requires run { IsLeafRun self.old }
         requires next { next.old ≤ setup.now.limit }
-        ensures page { Puts S.taken S.failed sink.old sink.new (page_bytes setup.now.page_size next.old (leaf_page setup.now.page_size (leaves_of self.old) next.old).view) result }
+        ensures page { Wrote S.Sink sink.old sink.new (page_bytes setup.now.page_size next.old (leaf_page setup.now.page_size (leaves_of self.old) next.old).view) (bulk_ending result) }
         ensures short { OnErr result (AppendsProperPrefix (S.taken sink.old) (S.taken sink.new) (page_bytes setup.now.page_size next.old (leaf_page setup.now.page_size (leaves_of self.old) next.old).view)) }
         ensures closed { IfOk result (λ closed. branch_view closed ≡ leaf_closed (leaves_of self.old) next.old) }
         ensures leaves { OnOk result (leaves_of self.new ≡ no_leaves) }

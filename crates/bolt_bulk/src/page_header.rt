@@ -2,7 +2,8 @@
 ghost use Rattle.std.specs.Prelude.{◌≡◌, ◌+◌, ◌-◌, ◌*◌, ◌<◌, IfOk};
 ghost use Rattle.bolt_format.specs.Written.{header_bytes};
 ghost use Rattle.bolt_layout.specs.Levels.{overflow_of};
-ghost use Rattle.bolt_bulk.specs.Puts.{PutsWhole};
+ghost use Rattle.bolt_format.specs.Endings.{page_ending};
+ghost use Rattle.bolt_format.specs.Wrote.{Wrote};
 ghost use Rattle.bolt_bulk.specs.Private.FormatLimits.{length_end};
 
 use crate::page_setup::{PageSetup, overflow};
@@ -22,7 +23,7 @@ pub(crate) fn put_page_header<S: Sink>(
     requires some { 0 < size }
     requires small { size < length_end }
     requires few { count < 65536 }
-    ensures header { PutsWhole S.taken S.failed sink.old sink.new (header_bytes number kind count (overflow_of setup.now.page_size size)) result }
+    ensures header { Wrote S.Sink sink.old sink.new (header_bytes number kind count (overflow_of setup.now.page_size size)) (page_ending result) }
     ensures zeros { IfOk result (λ zeros. zeros ≡ (1 + overflow_of setup.now.page_size size) * setup.now.page_size - size) }
 {
     let further = overflow(setup.page_size, size);

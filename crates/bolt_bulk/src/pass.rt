@@ -138,7 +138,7 @@ impl<'a> Pass<'a> {
         ensures ready { OnOk result (IsReady self.new) }
         ensures depth { OnOk result (depth_of self.new ≡ depth_of self.old) }
         ensures steps { (wanted : Wanted) (after : Tree) (levels : List Level) (put : List Placed) → IsAt wanted self.old levels (with_value key.now value.now after) put
-            → Steps wanted S.taken S.failed sink.old sink.new self.old.setup put (IsAt wanted self.new levels after) result }
+            → Steps wanted S.Sink sink.old sink.new self.old.setup put (IsAt wanted self.new levels after) result }
     {
         let Some(pending) = self.pending else {
             return self.put_value(key, value, sink);
@@ -198,7 +198,7 @@ impl<'a> Pass<'a> {
         ensures ready { OnOk result (IsReady self.new) }
         ensures depth { OnOk result (depth_of self.new ≡ depth_of self.old) }
         ensures steps { (wanted : Wanted) (after : Tree) (levels : List Level) (put : List Placed) → IsAt wanted self.old levels (with_value key.now value.now after) put
-            → Steps wanted S.taken S.failed sink.old sink.new self.old.setup put (IsAt wanted self.new levels after) result }
+            → Steps wanted S.Sink sink.old sink.new self.old.setup put (IsAt wanted self.new levels after) result }
     {
         self.bucket
             .add_value(&self.setup, key, value, &mut self.next, sink)?;
@@ -219,7 +219,7 @@ impl<'a> Pass<'a> {
         ensures ready { OnOk result (IsReady self.new) }
         ensures depth { OnOk result (depth_of self.new ≡ depth_of self.old + 1) }
         ensures steps { (wanted : Wanted) (inside after : Tree) (levels : List Level) (put : List Placed) → IsAt wanted self.old levels (with_bucket key.now sequence inside after) put
-            → Steps wanted S.taken S.failed sink.old sink.new self.old.setup put (IsAt wanted self.new (record { key = key.now; after = after } ∷ levels) inside) result }
+            → Steps wanted S.Sink sink.old sink.new self.old.setup put (IsAt wanted self.new (record { key = key.now; after = after } ∷ levels) inside) result }
     {
         self.open_pending(sink)?;
         self.begin(key, sequence);
@@ -254,7 +254,7 @@ impl<'a> Pass<'a> {
         ensures pending { OnOk result (self.new.pending ≡ None) }
         ensures steps { (wanted : Wanted) (left : Tree) (levels : List Level) (put : List Placed) → IsAt wanted self.old levels left put
             → HasRoot wanted.which self.old.setup.page_size (onto (map leaf_view self.old.entries.items) left)
-            → Steps wanted S.taken S.failed sink.old sink.new self.old.setup put (IsAt wanted self.new levels left) result }
+            → Steps wanted S.Sink sink.old sink.new self.old.setup put (IsAt wanted self.new levels left) result }
     {
         let Some(pending) = self.pending else {
             return Ok(());
@@ -290,7 +290,7 @@ impl<'a> Pass<'a> {
         ensures ready { OnOk result (IsReady self.new) }
         ensures depth { OnOk result (depth_of self.new + 1 ≡ depth_of self.old) }
         ensures steps { (wanted : Wanted) (level : Level) (levels : List Level) (put : List Placed) → IsAt wanted self.old (level ∷ levels) end put
-            → Steps wanted S.taken S.failed sink.old sink.new self.old.setup put (IsAt wanted self.new levels level.after) result }
+            → Steps wanted S.Sink sink.old sink.new self.old.setup put (IsAt wanted self.new levels level.after) result }
     {
         match self.pending {
             Some(pending) => self.end_inline(pending, sink),
@@ -310,7 +310,7 @@ impl<'a> Pass<'a> {
         ensures ready { OnOk result (IsReady self.new) }
         ensures depth { OnOk result (depth_of self.new + 1 ≡ depth_of self.old) }
         ensures steps { (wanted : Wanted) (level : Level) (levels : List Level) (put : List Placed) → IsAt wanted self.old (level ∷ levels) end put
-            → Steps wanted S.taken S.failed sink.old sink.new self.old.setup put (IsAt wanted self.new levels level.after) result }
+            → Steps wanted S.Sink sink.old sink.new self.old.setup put (IsAt wanted self.new levels level.after) result }
     {
         self.bucket.add_inline(
             &self.setup,
@@ -334,7 +334,7 @@ impl<'a> Pass<'a> {
         ensures ready { OnOk result (IsReady self.new) }
         ensures depth { OnOk result (depth_of self.new + 1 ≡ depth_of self.old) }
         ensures steps { (wanted : Wanted) (level : Level) (levels : List Level) (put : List Placed) → IsAt wanted self.old (level ∷ levels) end put
-            → Steps wanted S.taken S.failed sink.old sink.new self.old.setup put (IsAt wanted self.new levels level.after) result }
+            → Steps wanted S.Sink sink.old sink.new self.old.setup put (IsAt wanted self.new levels level.after) result }
     {
         self.noted.bucket_ends(&self.bucket.uppers)?;
         let Some(waiting) = self.waiting.pop() else {
@@ -360,7 +360,7 @@ impl<'a> Pass<'a> {
         ensures ready { OnOk result (IsReady self.new) }
         ensures depth { OnOk result (depth_of self.new ≤ depth) }
         ensures steps { (wanted : Wanted) (members : List Member) (put : List Placed) → HasLeft wanted self.old members put → IsNoDeeper depth members
-            → Steps wanted S.taken S.failed sink.old sink.new self.old.setup put (HasLeft wanted self.new members) result }
+            → Steps wanted S.Sink sink.old sink.new self.old.setup put (HasLeft wanted self.new members) result }
     {
         'levels: while self.depth() > depth {
             self.leave_bucket(sink)?;
@@ -381,7 +381,7 @@ impl<'a> Pass<'a> {
         ensures ready { OnOk result (IsReady self.new) }
         ensures depth { OnOk result (depth_of self.new ≤ 1 + length path.now) }
         ensures steps { (wanted : Wanted) (members : List Member) (put : List Placed) → HasLeft wanted self.old ((path_of path.now, item_view item.entry) ∷ members) put
-            → Steps wanted S.taken S.failed sink.old sink.new self.old.setup put (HasLeft wanted self.new members) result }
+            → Steps wanted S.Sink sink.old sink.new self.old.setup put (HasLeft wanted self.new members) result }
     {
         let Some((key, _)) = path.split_last() else {
             unreachable!()
@@ -396,7 +396,7 @@ impl<'a> Pass<'a> {
     /// Ends all buckets, up to the root page of the root bucket.
     pub(crate) fn end_all<S: Sink>(&mut self, sink: &mut S) -> Result<Ended, BulkFault>
         requires { IsReady self.old }
-        ensures { (wanted : Wanted) (put : List Placed) → HasLeft wanted self.old [] put → Ends wanted S.taken S.failed sink.old sink.new self.old.setup put result }
+        ensures { (wanted : Wanted) (put : List Placed) → HasLeft wanted self.old [] put → Ends wanted S.Sink sink.old sink.new self.old.setup put result }
     {
         self.leave_to(1, sink)?;
         self.noted.bucket_ends(&self.bucket.uppers)?;

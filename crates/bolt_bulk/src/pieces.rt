@@ -1,6 +1,7 @@
 //! Bytes that are written piece by piece.
 ghost use Rattle.std.specs.Prelude.{replicate};
-ghost use Rattle.bolt_bulk.specs.Puts.{PutsWhole};
+ghost use Rattle.bolt_format.specs.Endings.{page_ending};
+ghost use Rattle.bolt_format.specs.Wrote.{Wrote};
 
 use bolt_format::{Sink, SinkFault};
 
@@ -10,7 +11,7 @@ static ZEROS: [u8; 4096] = [0; 4096];
 /// Writes bytes in one piece. If there are none, the sink isn't called, so a call that fails leaves
 /// something out.
 pub(crate) fn put<S: Sink>(bytes: &[u8], sink: &mut S) -> Result<(), SinkFault>
-    ensures { PutsWhole S.taken S.failed sink.old sink.new bytes.now result }
+    ensures { Wrote S.Sink sink.old sink.new bytes.now (page_ending result) }
 {
     if bytes.is_empty() {
         return Ok(());
@@ -20,7 +21,7 @@ pub(crate) fn put<S: Sink>(bytes: &[u8], sink: &mut S) -> Result<(), SinkFault>
 
 /// Writes `count` zeros.
 pub(crate) fn put_zeros<S: Sink>(count: usize, sink: &mut S) -> Result<(), SinkFault>
-    ensures { PutsWhole S.taken S.failed sink.old sink.new (replicate count 0) result }
+    ensures { Wrote S.Sink sink.old sink.new (replicate count 0) (page_ending result) }
 {
     let mut left = count;
     while left > 0 {

@@ -8,7 +8,8 @@ ghost use Rattle.bolt_bulk.specs.Private.FormatLimits.{longest_key};
 ghost use Rattle.bolt_bulk.specs.Private.BranchRuns.{IsStanding, runs_above, runs_end_next};
 ghost use Rattle.bolt_bulk.specs.Private.RowLimits.{bucket_limit};
 ghost use Rattle.bolt_bulk.specs.Private.RunViews.{runs_climb, runs_close_put, runs_next, runs_put, runs_root};
-ghost use Rattle.bolt_bulk.specs.Puts.{Puts};
+ghost use Rattle.bolt_format.specs.Wrote.{Wrote};
+ghost use Rattle.bolt_bulk.specs.BulkEndings.{bulk_ending};
 ghost use Rattle.bolt_bulk.specs.declared.fault.BulkFault.TheVariants as fault;
 
 use crate::branch_run::BranchRun;
@@ -53,7 +54,7 @@ impl<'a> UpperRuns<'a> {
         requires key { length key.now ≤ longest_key }
         requires closed { length closed.key.now ≤ longest_key }
         requires next { next.old ≤ setup.now.limit }
-        ensures pages { Puts S.taken S.failed sink.old sink.new (placed_bytes setup.now.page_size (runs_put setup.now.page_size key.now (branch_view closed.entry) next.old (runs_above self.old.runs.items))) result }
+        ensures pages { Wrote S.Sink sink.old sink.new (placed_bytes setup.now.page_size (runs_put setup.now.page_size key.now (branch_view closed.entry) next.old (runs_above self.old.runs.items))) (bulk_ending result) }
         ensures runs { OnOk result (runs_above self.new.runs.items ≡ runs_climb setup.now.page_size (bucket_limit self.old.limits (length (runs_above self.old.runs.items))) key.now (branch_view closed.entry) next.old (runs_above self.old.runs.items)) }
         ensures limits { OnOk result (self.new.limits ≡ self.old.limits) }
         ensures standing { OnOk result (AllByRecursion IsStanding (runs_above self.new.runs.items)) }
@@ -85,7 +86,7 @@ impl<'a> UpperRuns<'a> {
         requires standing { AllByRecursion IsStanding (runs_above self.old.runs.items) }
         requires closed { length closed.key.now ≤ longest_key }
         requires next { next.old ≤ setup.now.limit }
-        ensures pages { Puts S.taken S.failed sink.old sink.new (placed_bytes setup.now.page_size (runs_close_put setup.now.page_size (branch_view closed.entry) next.old (runs_above self.old.runs.items))) result }
+        ensures pages { Wrote S.Sink sink.old sink.new (placed_bytes setup.now.page_size (runs_close_put setup.now.page_size (branch_view closed.entry) next.old (runs_above self.old.runs.items))) (bulk_ending result) }
         ensures short { OnErr result (AppendsProperPrefix (S.taken sink.old) (S.taken sink.new) (placed_bytes setup.now.page_size (runs_close_put setup.now.page_size (branch_view closed.entry) next.old (runs_above self.old.runs.items)))) }
         ensures root { IfOk result (λ root. root ≡ runs_root setup.now.page_size (branch_view closed.entry) next.old (runs_above self.old.runs.items)) }
         ensures next { OnOk result (next.new ≡ runs_end_next setup.now.page_size (branch_view closed.entry) next.old (runs_above self.old.runs.items)) }

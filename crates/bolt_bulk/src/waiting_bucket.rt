@@ -6,7 +6,8 @@ ghost use Rattle.bolt_bulk.specs.Private.OpenBuckets.{IsOpenBucket, bucket_end_n
 ghost use Rattle.bolt_bulk.specs.Private.RunViews.{runs_end, runs_end_put, runs_push};
 ghost use Rattle.bolt_bulk.specs.Private.TakenItems.{root_element};
 ghost use Rattle.bolt_bulk.specs.Private.WaitingBuckets.{IsWaiting};
-ghost use Rattle.bolt_bulk.specs.Puts.{Puts};
+ghost use Rattle.bolt_format.specs.Wrote.{Wrote};
+ghost use Rattle.bolt_bulk.specs.BulkEndings.{bulk_ending};
 ghost use Rattle.bolt_bulk.specs.declared.fault.BulkFault.TheVariants as fault;
 
 use crate::bucket_runs::BucketRuns;
@@ -41,7 +42,7 @@ impl<'a> WaitingBucket<'a> {
         requires open { IsOpenBucket bucket }
         requires waits { IsWaiting setup.now.page_size self }
         requires next { next.old ≤ setup.now.limit }
-        ensures pages { Puts S.taken S.failed sink.old sink.new (placed_bytes setup.now.page_size (runs_end_put setup.now.page_size (bucket_runs bucket.entry next.old))) result }
+        ensures pages { Wrote S.Sink sink.old sink.new (placed_bytes setup.now.page_size (runs_end_put setup.now.page_size (bucket_runs bucket.entry next.old))) (bulk_ending result) }
         ensures short { OnErr result (AppendsProperPrefix (S.taken sink.old) (S.taken sink.new) (placed_bytes setup.now.page_size (runs_end_put setup.now.page_size (bucket_runs bucket.entry next.old)))) }
         ensures runs { IfOk result (λ outer. (before : ℕ) → bucket_runs outer next.new
             ≡ runs_push (bucket_runs self.entry.bucket before) (root_element self.entry.key.now (runs_end setup.now.page_size (bucket_runs bucket.entry next.old)) self.entry.sequence)

@@ -14,3 +14,4 @@ pub mod SinkLemmas
 pub mod WriteLemmas
 pub mod WrittenHeaders
 pub mod WrittenMetas
+pub mod WroteLemmas

@@ -1,6 +1,8 @@
 -- The elements of a list up to one and from it on, and what an option holds, for the crates above too.
-use Rattle.std.proofs.Common.{◌≡◌, ◌∙◌, ℕ, zero, suc, ◌+◌, List, [], ◌∷◌, Some, drop, slice_get, ap, arith, Option, sym, take, ◌++◌, refl}
-use Rattle.std.proofs.lemmas.Option.{none-some, same_Some}
+use Rattle.std.proofs.Common.{◌≡◌, ◌∙◌, ℕ, zero, suc, ◌+◌, List, [], ◌∷◌, Some, drop, slice_get, ap, arith, Option, sym, take, ◌++◌, append-nil, flat_map, refl}
+use Rattle.std.proofs.Math.Seq.{split_at}
+use Rattle.std.proofs.lemmas.Grind.{flat_map-append}
+use Rattle.std.proofs.lemmas.Option.{get_or_from_slice_get, none-some, same_Some, slice_get_within}
 
 pub drop_at : {X : Type 0} (xs : List X) (i : ℕ) (x : X) → slice_get xs i ≡ Some x → drop i xs ≡ x ∷ drop (suc i) xs
 drop_at [] i x e = absurd (none-some x e)
@@ -18,3 +20,17 @@ take_next {X = X} (y ∷ xs) (suc i) x e = ap (λ (l : List X). y ∷ l) (take_n
 
 pub one_some : {X : Type 0} (o : Option X) (x y : X) → o ≡ Some x → o ≡ Some y → x ≡ y
 one_some o x y e h = same_Some x y (sym e ∙ h)
+
+-- a list, cut around one of its elements
+cut_at : {X : Type 0} (xs : List X) (i : ℕ) (x : X) → slice_get xs i ≡ Some x → xs ≡ take i xs ++ x ∷ drop (suc i) xs
+cut_at xs i x found =
+    split_at xs i x (slice_get_within xs i x found) ∙ ap (λ y. take i xs ++ y ∷ drop (suc i) xs) (get_or_from_slice_get xs i x x found)
+
+pub flat_map-cut_at : {X Y : Type 0} (f : X → List Y) (xs : List X) (i : ℕ) (x : X) → slice_get xs i ≡ Some x
+    → flat_map f xs ≡ flat_map f (take i xs) ++ (f x ++ flat_map f (drop (suc i) xs))
+flat_map-cut_at f xs i x found = ap (flat_map f) (cut_at xs i x found) ∙ flat_map-append f (take i xs) (x ∷ drop (suc i) xs)
+
+pub flat_map-take_more : {X Y : Type 0} (f : X → List Y) (xs : List X) (i : ℕ) (x : X) → slice_get xs i ≡ Some x
+    → flat_map f (take (suc i) xs) ≡ flat_map f (take i xs) ++ f x
+flat_map-take_more f xs i x found =
+    ap (flat_map f) (take_next xs i x found) ∙ flat_map-append f (take i xs) (x ∷ []) ∙ ap (λ l. flat_map f (take i xs) ++ l) (append-nil (f x))

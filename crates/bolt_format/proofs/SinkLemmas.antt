@@ -1,8 +1,9 @@
 -- One text after another on a sink: a caller of several puts joins their clauses by these.
-use Rattle.std.proofs.Common.{◌∙◌, ℕ, List, [], ◌++◌, Option, ap, append_assoc, append-nil, refl, sym}
+use Rattle.std.proofs.Common.{◌∙◌, ℕ, List, [], ◌∷◌, ◌++◌, Option, ap, append_assoc, append-nil, refl, sym}
+use Rattle.std.specs.Prelude.{◌≢◌}
 use Rattle.std.specs.Io.KnownBytes.{Appends}
 use Rattle.std.proofs.KnownBytes.{Appends-nil, Appends-trans}
-use Rattle.bolt_format.specs.Sinks.{AppendsPrefix}
+use Rattle.bolt_format.specs.Sinks.{AppendsPrefix, AppendsProperPrefix}
 
 -- a text that was taken whole is a prefix of itself
 pub AppendsPrefix-whole : (old new : Option (List ℕ)) (text : List ℕ) → Appends old new text → AppendsPrefix old new text
@@ -28,5 +29,34 @@ AppendsPrefix-second old mid new first second taken begun = record {
   front = first ++ begun.front;
   rest = begun.rest;
   parts = ap (λ text. first ++ text) begun.parts ∙ sym (append_assoc first begun.front begun.rest);
+  taken = Appends-trans old mid new first begun.front taken begun.taken;
+}
+
+pub more_some : (xs ys : List ℕ) → xs ≢ [] → xs ++ ys ≢ []
+more_some [] ys some none = some refl
+more_some (x ∷ xs) ys some none = absurd (cc)
+
+-- a proper prefix is a prefix,
+pub AppendsProperPrefix-prefix : (old new : Option (List ℕ)) (text : List ℕ) → AppendsProperPrefix old new text → AppendsPrefix old new text
+AppendsProperPrefix-prefix old new text begun = record { front = begun.front; rest = begun.rest; parts = begun.parts; taken = begun.taken }
+
+-- one of the first text is one of both,
+pub AppendsProperPrefix-first : (old new : Option (List ℕ)) (first second : List ℕ) → AppendsProperPrefix old new first → AppendsProperPrefix old new (first ++ second)
+AppendsProperPrefix-first old new first second begun = record {
+  front = begun.front;
+  rest = begun.rest ++ second;
+  parts = ap (λ text. text ++ second) begun.parts ∙ append_assoc begun.front begun.rest second;
+  short = more_some begun.rest second begun.short;
+  taken = begun.taken;
+}
+
+-- and so is the whole first text with one of the second
+pub AppendsProperPrefix-second : (old mid new : Option (List ℕ)) (first second : List ℕ) → Appends old mid first → AppendsProperPrefix mid new second
+    → AppendsProperPrefix old new (first ++ second)
+AppendsProperPrefix-second old mid new first second taken begun = record {
+  front = first ++ begun.front;
+  rest = begun.rest;
+  parts = ap (λ text. first ++ text) begun.parts ∙ sym (append_assoc first begun.front begun.rest);
+  short = begun.short;
   taken = Appends-trans old mid new first begun.front taken begun.taken;
 }

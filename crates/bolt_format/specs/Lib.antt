@@ -2,6 +2,7 @@ pub mod Bytes
 pub mod ElementPlaces
 pub mod ElementLengths
 pub mod Elements
+pub mod Endings
 pub mod Freelists
 pub mod Headers
 pub mod Metas
@@ -14,3 +15,4 @@ pub mod ShownInline
 pub mod Sinks
 pub mod Writes
 pub mod Written
+pub mod Wrote

@@ -12,19 +12,21 @@ use Rattle.bolt_bulk.specs.Private.FormatLimits.{longest_key}
 use Rattle.bolt_bulk.specs.Private.HeldCounts.{capped}
 use Rattle.bolt_bulk.specs.Private.Passes.{FitLimits, Wanted, limits_with}
 use Rattle.bolt_layout.specs.declared.layout.Layout.TheVariants.{Balanced, Plain}
-use Rattle.bolt_bulk.specs.Puts.{Puts}
 use Rattle.bolt_bulk.specs.declared.page_setup.PageSetup.{PageSetup}
 use Rattle.bolt_bulk.specs.declared.fault.BulkFault.{BulkFault}
 use Rattle.bolt_bulk.specs.declared.fault.BulkFault.TheVariants as fault
 use Rattle.bolt_bulk.specs.declared.pass.Ended.{Ended}
+use Rattle.bolt_format.specs.Wrote.{Wrote}
+use Rattle.bolt_bulk.specs.BulkEndings.{bulk_ending}
+use Rattle.bolt_format.specs.declared.sink.Sink.{Ghosts}
 
 -- The pages `put` were written earlier. The others of the layout are written, or a proper prefix of their bytes. The root page, the high-water
 -- mark and the number of items held are returned and, if they are asked for, the limits that yield the balanced layout.
-pub record Ends {S : Type 0} (wanted : Wanted) (taken : S → Option (List ℕ)) (failed : S → ℕ) (old new : S) (setup : PageSetup) (put : List Placed) (result : Result Ended BulkFault) : Type 0 where
+pub record Ends {S : Type 0} (wanted : Wanted) (sink : Ghosts S) (old new : S) (setup : PageSetup) (put : List Placed) (result : Result Ended BulkFault) : Type 0 where
   pub others : List Placed
   pub all : layout_pages wanted.which setup.page_size wanted.tree ≡ put ++ others
-  pub puts : Puts taken failed old new (placed_bytes setup.page_size others) result
-  pub short : OnErr result (AppendsProperPrefix (taken old) (taken new) (placed_bytes setup.page_size others))
+  pub puts : Wrote sink old new (placed_bytes setup.page_size others) (bulk_ending result)
+  pub short : OnErr result (AppendsProperPrefix (sink.taken old) (sink.taken new) (placed_bytes setup.page_size others))
   pub root : IfOk result (λ ended. ended.root ≡ layout_root wanted.which setup.page_size wanted.tree)
   pub mark : IfOk result (λ ended. ended.high_water ≡ layout_mark wanted.which setup.page_size wanted.tree)
   pub within : IfOk result (λ ended. ended.high_water ≤ setup.limit)

@@ -1,15 +1,17 @@
 -- What a buffer gathers before it is written.
 use Rattle.std.specs.Prelude.{◌≡◌, ◌++◌, ℕ, List, OnOk, Option, Result}
-use Rattle.bolt_bulk.specs.Puts.{PutsWhole}
+use Rattle.bolt_format.specs.Wrote.{Wrote}
+use Rattle.bolt_format.specs.Endings.{page_ending}
+use Rattle.bolt_format.specs.declared.sink.Sink.{Ghosts}
 
 -- the buffer loses at its front what is written
-pub record Gathers {S A E : Type 0} (taken : S → Option (List ℕ)) (failed : S → ℕ) (old new : S) (before after : List ℕ) (result : Result A E) : Type 0 where
+pub record Gathers {S A E : Type 0} (sink : Ghosts S) (old new : S) (before after : List ℕ) (result : Result A E) : Type 0 where
   pub put : List ℕ
   pub parts : before ≡ put ++ after
-  pub puts : PutsWhole taken failed old new put result
+  pub puts : Wrote sink old new put (page_ending result)
 
 -- and then gets a text at its end
-pub record Adds {S A E : Type 0} (taken : S → Option (List ℕ)) (failed : S → ℕ) (old new : S) (before text after : List ℕ) (result : Result A E) : Type 0 where
+pub record Adds {S A E : Type 0} (sink : Ghosts S) (old new : S) (before text after : List ℕ) (result : Result A E) : Type 0 where
   pub kept : List ℕ
-  pub gathers : Gathers taken failed old new before kept result
+  pub gathers : Gathers sink old new before kept result
   pub added : OnOk result (after ≡ kept ++ text)

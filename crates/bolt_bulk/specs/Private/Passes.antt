@@ -24,7 +24,6 @@ use Rattle.bolt_bulk.specs.Private.BucketRuns.{AreOpenRuns}
 use Rattle.bolt_bulk.specs.Private.OpenRuns.{Frame, Open, all_put, base_in}
 use Rattle.bolt_bulk.specs.Private.TakenItems.{entries_size}
 use Rattle.bolt_bulk.specs.Private.WaitingBuckets.{IsWaiting}
-use Rattle.bolt_bulk.specs.Puts.{Puts}
 use Rattle.bolt_bulk.specs.declared.page_setup.PageSetup.{PageSetup}
 use Rattle.bolt_bulk.specs.declared.fault.BulkFault.{BulkFault}
 use Rattle.bolt_bulk.specs.declared.fault.BulkFault.TheVariants as fault
@@ -33,6 +32,10 @@ use Rattle.bolt_bulk.specs.declared.pending_bucket.PendingBucket.{PendingBucket}
 use Rattle.bolt_bulk.specs.declared.waiting_bucket.WaitingBucket.{WaitingBucket}
 use Rattle.bolt_bulk.specs.declared.noted_limits.NotedLimits.{NotedLimits}
 use Rattle.bolt_layout.specs.declared.layout.Layout.{Layout}
+use Rattle.bolt_format.specs.Wrote.{Wrote}
+use Rattle.bolt_format.specs.Endings.{whole}
+use Rattle.bolt_bulk.specs.BulkEndings.{bulk_ending}
+use Rattle.bolt_format.specs.declared.sink.Sink.{Ghosts}
 
 -- entries that are values, in front of a tree
 abbrev pub onto : List LeafElement → Tree → Tree
@@ -188,9 +191,9 @@ pub record StandsBefore (front whole : List Placed) : Type 0 where
 
 -- A step writes further pages, after which others of the layout come, or a prefix of their bytes if it fails. If it returns TooLarge, the
 -- layout is too large.
-pub record Steps {S A : Type 0} (wanted : Wanted) (taken : S → Option (List ℕ)) (failed : S → ℕ) (old new : S) (setup : PageSetup) (put : List Placed) (At : List Placed → Type 0) (result : Result A BulkFault) : Type 0 where
+pub record Steps {S A : Type 0} (wanted : Wanted) (sink : Ghosts S) (old new : S) (setup : PageSetup) (put : List Placed) (At : List Placed → Type 0) (result : Result A BulkFault) : Type 0 where
   pub more : List Placed
-  pub puts : Puts taken failed old new (placed_bytes setup.page_size more) result
+  pub puts : Wrote sink old new (placed_bytes setup.page_size more) (bulk_ending result)
   pub at : OnOk result (At (put ++ more))
   pub before : StandsBefore (put ++ more) (layout_pages wanted.which setup.page_size wanted.tree)
   pub large : IfErr result (λ e. e ≡ fault.TooLarge → setup.limit < layout_mark wanted.which setup.page_size wanted.tree)

@@ -28,7 +28,7 @@ members-init g c = record {
   steps = λ which listing lists fit.
       let wanted : Wanted = record { which = which; tree = tree_of listing; notes = c.args.notes } in
       let all = listing_is_back listing (c.requires.whole.one listing lists) ∙ sym (c.requires.whole.all listing lists) in
-      subst (λ (b : PageSetup). Steps {A = ⊤} wanted g.S.Sink.taken g.S.Sink.failed c.args.sink.now c.args.sink.now b [] (HasLeft wanted c.new-pass.result (g.M.Members.left c.args.members.now listing)) (Ok tt)) c.new-pass.ensures.setup
+      subst (λ (b : PageSetup). Steps {A = ⊤} wanted g.S.Sink c.args.sink.now c.args.sink.now b [] (HasLeft wanted c.new-pass.result (g.M.Members.left c.args.members.now listing)) (Ok tt)) c.new-pass.ensures.setup
       (steps_begun wanted c.new-pass.result (g.M.Members.left c.args.members.now listing) [] c.args.sink.now
       (subst (λ (ms : List Member). HasLeft wanted c.new-pass.result ms []) all (c.new-pass.ensures.at wanted refl fit)));
 }
@@ -37,8 +37,8 @@ pub returns-in_err-item-clause-pages : goal.returns-in_err-item-clause-pages
 returns-in_err-item-clause-pages g c = λ which listing lists fit.
     let wanted : Wanted = record { which = which; tree = tree_of listing; notes = c.args.notes } in
     let steps = c.members.invariant.steps which listing lists fit in
-    ends_early wanted g.S.Sink.taken g.S.Sink.failed c.args.setup c.args.sink.now c.members.sink [] (HasLeft wanted c.members.pass (g.M.Members.left c.members.members listing)) fault.Memory c.from_residual.result c.from_residual.ensures.1
-    (steps_failed wanted g.S.Sink.taken g.S.Sink.failed c.args.setup {B = ⊤} c.args.sink.now c.members.sink [] _ tt steps)
+    ends_early wanted g.S.Sink c.args.setup c.args.sink.now c.members.sink [] (HasLeft wanted c.members.pass (g.M.Members.left c.members.members listing)) fault.Memory c.from_residual.result c.from_residual.ensures.1
+    (steps_failed wanted g.S.Sink c.args.setup {B = ⊤} c.args.sink.now c.members.sink [] _ tt steps)
 
 pub end_all-requires : goal.end_all-requires
 end_all-requires g c = c.members.invariant.ready
@@ -50,7 +50,7 @@ returns-clause-pages g c = λ which listing lists fit.
     let here = (c.members.invariant.same listing).1 lists in
     let none : g.M.Members.left c.members.members listing ≡ [] = (given listing here).0 in
     let steps = c.members.invariant.steps which listing lists fit in
-    ends_after wanted g.S.Sink.taken g.S.Sink.failed c.args.setup c.args.sink.now c.members.sink c.end_all.new.sink [] (HasLeft wanted c.members.pass (g.M.Members.left c.members.members listing)) tt c.end_all.result c.members.invariant.setup steps
+    ends_after wanted g.S.Sink c.args.setup c.args.sink.now c.members.sink c.end_all.new.sink [] (HasLeft wanted c.members.pass (g.M.Members.left c.members.members listing)) tt c.end_all.result c.members.invariant.setup steps
     (λ all mid. c.end_all.ensures wanted all (subst (λ (ms : List Member). HasLeft wanted c.members.pass ms all) none mid))
 
 pub take_member-requires-clause-ready : goal.take_member-requires-clause-ready
@@ -71,8 +71,8 @@ returns-in_err-take_member-clause-pages g c = λ which listing lists fit.
     let stop : Result ⊤ BulkFault = Err c.in_err-take_member.field-0.0 in
     let At : List Placed → Type 0 = HasLeft wanted c.take_member.new.self (g.M.Members.left c.next.new.self listing) in
     let steps = c.members.invariant.steps which listing lists fit in
-    ends_early wanted g.S.Sink.taken g.S.Sink.failed c.args.setup c.args.sink.now c.take_member.new.sink [] At _ c.from_residual-in_err-take_member.result c.from_residual-in_err-take_member.ensures.1
-    (steps_then wanted g.S.Sink.taken g.S.Sink.failed c.args.setup c.args.sink.now c.members.sink c.take_member.new.sink [] (HasLeft wanted c.members.pass (g.M.Members.left c.members.members listing)) At tt stop c.members.invariant.setup steps
+    ends_early wanted g.S.Sink c.args.setup c.args.sink.now c.take_member.new.sink [] At _ c.from_residual-in_err-take_member.result c.from_residual-in_err-take_member.ensures.1
+    (steps_then wanted g.S.Sink c.args.setup c.args.sink.now c.members.sink c.take_member.new.sink [] (HasLeft wanted c.members.pass (g.M.Members.left c.members.members listing)) At tt stop c.members.invariant.setup steps
     (λ all mid. c.in_err-take_member.ensures.steps wanted (g.M.Members.left c.next.new.self listing) all (subst (λ (ms : List Member). HasLeft wanted c.members.pass ms all) next mid)))
 
 pub members-smaller : goal.members-smaller
@@ -83,12 +83,12 @@ members-preserved g c =
     let given = rw (c.in-Some.is, sym c.path.ensures) at c.in_ok-item.ensures.given in
     let taken : (which : Layout) (listing : List Member) (lists : g.M.Members.lists c.args.members.now listing)
     → FitLimits which (tree_of listing) c.args.setup.page_size (limits_with c.args.limits.now)
-    → Steps {A = ⊤} (record { which = which; tree = tree_of listing; notes = c.args.notes }) g.S.Sink.taken g.S.Sink.failed c.args.sink.now c.take_member.new.sink c.args.setup []
+    → Steps {A = ⊤} (record { which = which; tree = tree_of listing; notes = c.args.notes }) g.S.Sink c.args.sink.now c.take_member.new.sink c.args.setup []
     (HasLeft (record { which = which; tree = tree_of listing; notes = c.args.notes }) c.take_member.new.self (g.M.Members.left c.next.new.self listing)) (Ok tt) = λ which listing lists fit.
     let wanted : Wanted = record { which = which; tree = tree_of listing; notes = c.args.notes } in
     let well : Result ⊤ BulkFault = Ok tt in
     let At : List Placed → Type 0 = HasLeft wanted c.take_member.new.self (g.M.Members.left c.next.new.self listing) in
-    steps_then wanted g.S.Sink.taken g.S.Sink.failed c.args.setup c.args.sink.now c.members.sink c.take_member.new.sink [] (HasLeft wanted c.members.pass (g.M.Members.left c.members.members listing)) At tt well c.members.invariant.setup
+    steps_then wanted g.S.Sink c.args.setup c.args.sink.now c.members.sink c.take_member.new.sink [] (HasLeft wanted c.members.pass (g.M.Members.left c.members.members listing)) At tt well c.members.invariant.setup
     (c.members.invariant.steps which listing lists fit)
     (λ all mid. c.in_ok-take_member.ensures.steps wanted (g.M.Members.left c.next.new.self listing) all (subst (λ (ms : List Member). HasLeft wanted c.members.pass ms all) (given listing ((c.members.invariant.same listing).1 lists)) mid)) in
     record {

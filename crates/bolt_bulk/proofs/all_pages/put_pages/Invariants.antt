@@ -17,7 +17,7 @@ invariant-members g l = record {
   ready : IsReady l.pass;
   fit : (listing : List Member) → g.M.Members.lists l.initial.members listing → ∥ AllByRecursion IsFitMember (g.M.Members.left l.members listing) ∥₁;
   steps : (which : Layout) (listing : List Member) → g.M.Members.lists l.initial.members listing → FitLimits which (tree_of listing) l.fn.setup.page_size (limits_with l.limits)
-      → Steps {A = ⊤} (record { which = which; tree = tree_of listing; notes = l.notes }) g.S.Sink.taken g.S.Sink.failed l.initial.sink l.sink l.fn.setup []
+      → Steps {A = ⊤} (record { which = which; tree = tree_of listing; notes = l.notes }) g.S.Sink l.initial.sink l.sink l.fn.setup []
       (HasLeft (record { which = which; tree = tree_of listing; notes = l.notes }) l.pass (g.M.Members.left l.members listing)) (Ok tt);
 }
 

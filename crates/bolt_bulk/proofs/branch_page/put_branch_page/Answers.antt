@@ -1,29 +1,22 @@
 -- A branch page is its header, the headers of its elements, their keys, and zeros.
 use Rattle.std.proofs.Common.{ap}
 use Rattle.bolt_bulk.proofs.BranchPuts.{branch_run_pieces}
-use Rattle.bolt_bulk.proofs.PutParts.{zeros}
-use Rattle.bolt_bulk.proofs.WholePuts.{whole_same, whole_stop, whole_then}
 use Rattle.bolt_bulk.proofs.branch_page.put_branch_page.Goals as goal
+use Rattle.bolt_bulk.proofs.FilledTexts.{zeros}
+use Rattle.bolt_format.proofs.WroteLemmas.{Wrote-then, Wrote-same, Wrote-return_cut}
 
 pub returns-in_err-zeros : goal.returns-in_err-zeros
 returns-in_err-zeros g c =
-    whole_same _ _ _ _ _ (branch_run_pieces c.args.setup.now.page_size c.args.number c.args.run.now _ c.as_slice-branches.ensures.value c.requires.sized)
-    (whole_stop _ _ _ _ _ _ c.in_err-zeros.ensures.header c.from_residual.ensures.0)
+    Wrote-same (branch_run_pieces c.args.setup.now.page_size c.args.number c.args.run.now _ c.as_slice-branches.ensures.value c.requires.sized) (Wrote-return_cut _ _ c.in_err-zeros.ensures.header c.from_residual.ensures.0)
 
 pub returns-in_err-put_headers : goal.returns-in_err-put_headers
 returns-in_err-put_headers g c =
-    whole_same _ _ _ _ _ (branch_run_pieces c.args.setup.now.page_size c.args.number c.args.run.now _ c.as_slice-branches.ensures.value c.requires.sized)
-    (whole_then _ _ _ _ _ _ _ c.in_ok-zeros.ensures.header (whole_stop _ _ _ _ _ _ c.in_err-put_headers.ensures c.from_residual-in_err-put_headers.ensures.0))
+    Wrote-same (branch_run_pieces c.args.setup.now.page_size c.args.number c.args.run.now _ c.as_slice-branches.ensures.value c.requires.sized) (Wrote-then c.in_ok-zeros.ensures.header (Wrote-return_cut _ _ c.in_err-put_headers.ensures c.from_residual-in_err-put_headers.ensures.0))
 
 pub returns-in_err-put_keys : goal.returns-in_err-put_keys
 returns-in_err-put_keys g c =
-    whole_same _ _ _ _ _ (branch_run_pieces c.args.setup.now.page_size c.args.number c.args.run.now _ c.as_slice-branches.ensures.value c.requires.sized)
-    (whole_then _ _ _ _ _ _ _ c.in_ok-zeros.ensures.header
-    (whole_then _ _ _ _ _ _ _ c.in_ok-put_headers.ensures (whole_stop _ _ _ _ _ _ c.in_err-put_keys.ensures c.from_residual-in_err-put_keys.ensures.0)))
+    Wrote-same (branch_run_pieces c.args.setup.now.page_size c.args.number c.args.run.now _ c.as_slice-branches.ensures.value c.requires.sized) (Wrote-then c.in_ok-zeros.ensures.header (Wrote-then c.in_ok-put_headers.ensures (Wrote-return_cut _ _ c.in_err-put_keys.ensures c.from_residual-in_err-put_keys.ensures.0)))
 
 pub returns : goal.returns
 returns g c =
-    whole_same _ _ _ _ _ (branch_run_pieces c.args.setup.now.page_size c.args.number c.args.run.now _ c.as_slice-branches.ensures.value c.requires.sized)
-    (whole_then _ _ _ _ _ _ _ c.in_ok-zeros.ensures.header
-    (whole_then _ _ _ _ _ _ _ c.in_ok-put_headers.ensures
-    (whole_then _ _ _ _ _ _ _ c.in_ok-put_keys.ensures (whole_same _ _ _ _ _ (ap zeros c.in_ok-zeros.ensures.zeros) c.put_zeros.ensures))))
+    Wrote-same (branch_run_pieces c.args.setup.now.page_size c.args.number c.args.run.now _ c.as_slice-branches.ensures.value c.requires.sized) (Wrote-then c.in_ok-zeros.ensures.header (Wrote-then c.in_ok-put_headers.ensures (Wrote-then c.in_ok-put_keys.ensures (Wrote-same (ap zeros c.in_ok-zeros.ensures.zeros) c.put_zeros.ensures))))

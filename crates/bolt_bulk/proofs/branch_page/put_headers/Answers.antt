@@ -2,8 +2,8 @@
 use Rattle.std.proofs.Common.{arith, get_or, refl}
 use Rattle.bolt_bulk.proofs.BranchPuts.{branch_heads, next_branch, no_branch}
 use Rattle.bolt_bulk.proofs.ElementPuts.{heads_all, heads_more, heads_none, heads_stop}
-use Rattle.bolt_bulk.proofs.WholePuts.{whole_same}
 use Rattle.bolt_bulk.proofs.branch_page.put_headers.Goals as goal
+use Rattle.bolt_format.proofs.WroteLemmas.{Wrote-same}
 
 pub loop-branch-init : goal.loop-branch-init
 loop-branch-init g c = heads_none c.args.sink.now c.new-headers.result.buffer.items c.args.branches.now c.new-headers.result.pos c.new-headers.ensures.empty c.new-headers.ensures.pos
@@ -21,10 +21,8 @@ loop-branch-preserved g c =
 
 pub returns-in_err-put_branch : goal.returns-in_err-put_branch
 returns-in_err-put_branch g c =
-    whole_same _ _ _ _ _ (branch_heads c.args.branches.now 0)
-    (heads_stop _ _ _ _ _ _ c.args.branches.now c.loop-branch.branch-index c.loop-branch.headers.pos _ _ c.loop-branch.invariant c.in_err-put_branch.ensures.adds c.from_residual.ensures.0)
+    Wrote-same (branch_heads c.args.branches.now 0) (heads_stop _ _ _ _ _ _ c.args.branches.now c.loop-branch.branch-index c.loop-branch.headers.pos _ _ c.loop-branch.invariant c.in_err-put_branch.ensures.adds c.from_residual.ensures.0)
 
 pub returns : goal.returns
 returns g c =
-    whole_same _ _ _ _ _ (branch_heads c.args.branches.now 0)
-    (heads_all _ _ _ _ c.args.branches.now c.loop-branch.branch-index c.loop-branch.headers.pos _ (omega arith) c.loop-branch.invariant c.put_rest.ensures)
+    Wrote-same (branch_heads c.args.branches.now 0) (heads_all _ _ _ _ c.args.branches.now c.loop-branch.branch-index c.loop-branch.headers.pos (omega arith) c.loop-branch.invariant c.put_rest.ensures)

@@ -6,8 +6,8 @@ use Rattle.bolt_format.specs.declared.element.Leaf.{Leaf}
 use Rattle.bolt_bulk.proofs.ElementPuts.{heads_all, heads_more, heads_none, heads_stop}
 use Rattle.bolt_bulk.proofs.HeldPuts.{no_entry}
 use Rattle.bolt_bulk.proofs.LeafPuts.{leaf_heads, next_leaf}
-use Rattle.bolt_bulk.proofs.WholePuts.{whole_same}
 use Rattle.bolt_bulk.proofs.bucket_value.put_headers.Goals as goal
+use Rattle.bolt_format.proofs.WroteLemmas.{Wrote-same}
 
 pub loop-entry-init : goal.loop-entry-init
 loop-entry-init g c = heads_none c.args.sink.now c.new-headers.result.buffer.items c.args.entries.now c.new-headers.result.pos c.new-headers.ensures.empty c.new-headers.ensures.pos
@@ -27,10 +27,8 @@ loop-entry-preserved g c =
 
 pub returns-in_err-put_leaf : goal.returns-in_err-put_leaf
 returns-in_err-put_leaf g c =
-    whole_same _ _ _ _ _ (leaf_heads leaf_view c.args.entries.now 0)
-    (heads_stop _ _ _ _ _ _ c.args.entries.now c.loop-entry.entry-index c.loop-entry.headers.pos _ _ c.loop-entry.invariant c.in_err-put_leaf.ensures.adds c.from_residual.ensures.0)
+    Wrote-same (leaf_heads leaf_view c.args.entries.now 0) (heads_stop _ _ _ _ _ _ c.args.entries.now c.loop-entry.entry-index c.loop-entry.headers.pos _ _ c.loop-entry.invariant c.in_err-put_leaf.ensures.adds c.from_residual.ensures.0)
 
 pub returns : goal.returns
 returns g c =
-    whole_same _ _ _ _ _ (leaf_heads leaf_view c.args.entries.now 0)
-    (heads_all _ _ _ _ c.args.entries.now c.loop-entry.entry-index c.loop-entry.headers.pos _ (omega arith) c.loop-entry.invariant c.put_rest.ensures)
+    Wrote-same (leaf_heads leaf_view c.args.entries.now 0) (heads_all _ _ _ _ c.args.entries.now c.loop-entry.entry-index c.loop-entry.headers.pos (omega arith) c.loop-entry.invariant c.put_rest.ensures)

@@ -5,4 +5,4 @@ use Rattle.bolt_bulk.proofs.LeafPuts.{datum_of, head_of}
 use Rattle.bolt_bulk.proofs.bucket_value.put_headers.Given as goal
 
 abbrev pub invariant-loop-entry : goal.invariant-loop-entry
-invariant-loop-entry g l = HeadsPut (head_of leaf_view) (datum_of leaf_view) g.S.Sink.taken g.S.Sink.failed l.initial.sink l.sink l.headers.buffer.items l.entries l.entry-index l.headers.pos
+invariant-loop-entry g l = HeadsPut (head_of leaf_view) (datum_of leaf_view) g.S.Sink l.initial.sink l.sink l.headers.buffer.items l.entries l.entry-index l.headers.pos

@@ -4,9 +4,9 @@ use Rattle.bolt_bulk.specs.Private.HeldItems.{held_view}
 use Rattle.bolt_bulk.proofs.ElementPuts.{data_of, datum_left, datum_none}
 use Rattle.bolt_bulk.proofs.HeldPuts.{no_held}
 use Rattle.bolt_bulk.proofs.LeafPuts.{datum_of, leaf_datum}
-use Rattle.bolt_bulk.proofs.PutParts.{front_more, front_none, front_stop, front_whole}
-use Rattle.bolt_bulk.proofs.WholePuts.{whole_same}
 use Rattle.bolt_bulk.proofs.leaf_page.put_data.Goals as goal
+use Rattle.bolt_bulk.proofs.WroteFronts.{front_none, front_more, front_stop, front_whole}
+use Rattle.bolt_format.proofs.WroteLemmas.{Wrote-same, Wrote-return_cut}
 
 pub loop-held-init : goal.loop-held-init
 loop-held-init g c = front_none c.args.sink.now (data_of (datum_of (held_view c.args.inlined.now)) c.args.items.now)
@@ -14,15 +14,13 @@ loop-held-init g c = front_none c.args.sink.now (data_of (datum_of (held_view c.
 pub loop-held-preserved : goal.loop-held-preserved
 loop-held-preserved g c =
     let left = datum_left (datum_of (held_view c.args.inlined.now)) c.args.items.now c.loop-held.held-index no_held (get_or c.args.items.now c.loop-held.held-index no_held) c.loop-held-test.true refl in
-    front_more _ _ _ _ _ _ _ _ left c.loop-held.invariant c.in_ok-put_item.ensures
+    front_more left c.loop-held.invariant c.in_ok-put_item.ensures
 
 pub returns-in_err-put_item : goal.returns-in_err-put_item
 returns-in_err-put_item g c =
     let left = datum_left (datum_of (held_view c.args.inlined.now)) c.args.items.now c.loop-held.held-index no_held (get_or c.args.items.now c.loop-held.held-index no_held) c.loop-held-test.true refl in
-    whole_same _ _ _ _ _ (leaf_datum (held_view c.args.inlined.now) c.args.items.now)
-    (front_stop _ _ _ _ _ _ _ _ _ left c.loop-held.invariant c.in_err-put_item.ensures c.from_residual.ensures.0)
+    Wrote-same (leaf_datum (held_view c.args.inlined.now) c.args.items.now) (front_stop left c.loop-held.invariant (Wrote-return_cut _ _ c.in_err-put_item.ensures c.from_residual.ensures.0))
 
 pub returns : goal.returns
 returns g c =
-    whole_same _ _ _ _ _ (leaf_datum (held_view c.args.inlined.now) c.args.items.now)
-    (front_whole _ _ _ _ (datum_none (datum_of (held_view c.args.inlined.now)) c.args.items.now c.loop-held.held-index (omega arith)) c.loop-held.invariant)
+    Wrote-same (leaf_datum (held_view c.args.inlined.now) c.args.items.now) (front_whole (datum_none (datum_of (held_view c.args.inlined.now)) c.args.items.now c.loop-held.held-index (omega arith)) c.loop-held.invariant)

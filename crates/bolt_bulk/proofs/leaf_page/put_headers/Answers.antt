@@ -7,8 +7,8 @@ use Rattle.bolt_bulk.specs.Private.HeldItems.{held_view, stored_value}
 use Rattle.bolt_bulk.proofs.ElementPuts.{heads_all, heads_more, heads_none, heads_stop}
 use Rattle.bolt_bulk.proofs.HeldPuts.{held_at, no_held}
 use Rattle.bolt_bulk.proofs.LeafPuts.{leaf_heads, next_leaf}
-use Rattle.bolt_bulk.proofs.WholePuts.{whole_same}
 use Rattle.bolt_bulk.proofs.leaf_page.put_headers.Goals as goal
+use Rattle.bolt_format.proofs.WroteLemmas.{Wrote-same}
 
 pub loop-held-init : goal.loop-held-init
 loop-held-init g c = heads_none c.args.sink.now c.new-headers.result.buffer.items c.args.items.now c.new-headers.result.pos c.new-headers.ensures.empty c.new-headers.ensures.pos
@@ -35,10 +35,8 @@ loop-held-preserved g c =
 
 pub returns-in_err-put_leaf : goal.returns-in_err-put_leaf
 returns-in_err-put_leaf g c =
-    whole_same _ _ _ _ _ (leaf_heads (held_view c.args.inlined.now) c.args.items.now 0)
-    (heads_stop _ _ _ _ _ _ c.args.items.now c.loop-held.held-index c.loop-held.headers.pos _ _ c.loop-held.invariant c.in_err-put_leaf.ensures.adds c.from_residual.ensures.0)
+    Wrote-same (leaf_heads (held_view c.args.inlined.now) c.args.items.now 0) (heads_stop _ _ _ _ _ _ c.args.items.now c.loop-held.held-index c.loop-held.headers.pos _ _ c.loop-held.invariant c.in_err-put_leaf.ensures.adds c.from_residual.ensures.0)
 
 pub returns : goal.returns
 returns g c =
-    whole_same _ _ _ _ _ (leaf_heads (held_view c.args.inlined.now) c.args.items.now 0)
-    (heads_all _ _ _ _ c.args.items.now c.loop-held.held-index c.loop-held.headers.pos _ (omega arith) c.loop-held.invariant c.put_rest.ensures)
+    Wrote-same (leaf_heads (held_view c.args.inlined.now) c.args.items.now 0) (heads_all _ _ _ _ c.args.items.now c.loop-held.held-index c.loop-held.headers.pos (omega arith) c.loop-held.invariant c.put_rest.ensures)

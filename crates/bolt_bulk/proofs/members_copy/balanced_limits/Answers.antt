@@ -8,6 +8,7 @@ use Rattle.bolt_layout.specs.declared.layout.Layout.TheVariants.{Balanced, Plain
 use Rattle.bolt_bulk.specs.Private.Passes.{FitLimits, limits_with}
 use Rattle.bolt_bulk.proofs.FileLayouts.{balanced_too_large}
 use Rattle.bolt_bulk.proofs.Openings.{fit_plain}
+use Rattle.bolt_bulk.proofs.PutsLemmas.{Wrote-failed}
 use Rattle.bolt_bulk.proofs.members_copy.balanced_limits.Goals as goal
 
 pub put_pages-requires : goal.put_pages-requires
@@ -35,4 +36,4 @@ unreachable-requires g c = ∥∥₁_elim c.requires.some (Prim.hlevel props) (�
     let listing = is.0 in
     let lists = is.1 in
     let ends = c.in-Err-Sink.ensures.pages Plain listing lists (fit_plain c.noting_setup_of-setup.result.page_size c.none-none.result (tree_of listing) c.none-none.ensures) in
-    let none : 0 < 0 = ends.puts.failure c.in-Err-Sink.field-0-is in omega arith)
+    let none : 0 < 0 = Wrote-failed _ ends.puts c.in-Err-Sink.field-0-is in omega arith)

@@ -4,6 +4,7 @@ use Rattle.bolt_tree.specs.Tree.{tree_of}
 use Rattle.bolt_bulk.specs.Private.Passes.{FitLimits, limits_with}
 use Rattle.std.proofs.Math.Logic.{∥∥₁_elim}
 use Rattle.std.proofs.Props.{props}
+use Rattle.bolt_bulk.proofs.PutsLemmas.{Wrote-failed}
 use Rattle.bolt_bulk.proofs.members_copy.plan_within.Goals as goal
 
 pub put_pages-requires : goal.put_pages-requires
@@ -19,4 +20,4 @@ unreachable-requires g c = ∥∥₁_elim c.requires.whole.some (Prim.hlevel pro
     let which = c.args.shape.now.layout in
     let fit = subst (λ (n : ℕ). FitLimits which (tree_of listing) n (limits_with c.args.limits.now)) (sym c.setup_of-setup.ensures.page_size) (c.requires.fit listing lists) in
     let ends = c.in-Err-Sink.ensures.pages which listing lists fit in
-    let none : 0 < 0 = ends.puts.failure c.in-Err-Sink.field-0-is in omega arith)
+    let none : 0 < 0 = Wrote-failed _ ends.puts c.in-Err-Sink.field-0-is in omega arith)

@@ -43,14 +43,14 @@ put_pages-requires g c κs =
 pub returns-in_err-limits-clause-copied : goal.returns-in_err-limits-clause-copied
 returns-in_err-limits-clause-copied g c = λ listing lists.
     let stop : c.from_residual.result ≡ Err (stopped_by c.in_err-limits.field-0.0) = search rules in
-    stops_unplanned g.S.Sink.taken g.S.Sink.failed c.args.sink.now _ c.in_err-limits.field-0.0 c.from_residual.result stop
+    stops_unplanned g.S.Sink c.args.sink.now _ c.in_err-limits.field-0.0 c.from_residual.result stop
     (some_bytes _ _ c.args.shape.now.page_size (c.a_listing_has_one_layout.ensures.length c.args.shape.now.layout listing (c.requires.one listing lists)) c.args.shape.now.accepted) (λ e. c.in_err-limits.ensures.large e listing lists)
 
 pub returns-in_err-plan-clause-copied : goal.returns-in_err-plan-clause-copied
 returns-in_err-plan-clause-copied g c = λ listing lists.
     let stop : c.from_residual-in_err-plan.result ≡ Err (stopped_by c.in_err-plan.field-0.0) = search rules in
     let planned = c.in_err-plan.ensures.plans listing ((c.in_ok-limits.ensures.again.listing listing).1 lists) in
-    stops_unplanned g.S.Sink.taken g.S.Sink.failed c.args.sink.now _ c.in_err-plan.field-0.0 c.from_residual-in_err-plan.result stop
+    stops_unplanned g.S.Sink c.args.sink.now _ c.in_err-plan.field-0.0 c.from_residual-in_err-plan.result stop
     (some_bytes _ _ c.args.shape.now.page_size (c.a_listing_has_one_layout.ensures.length c.args.shape.now.layout listing (c.requires.one listing lists)) c.args.shape.now.accepted) planned.large
 
 pub returns-in_err-put_first_pages-clause-copied : goal.returns-in_err-put_first_pages-clause-copied
@@ -58,7 +58,7 @@ returns-in_err-put_first_pages-clause-copied g c = λ listing lists.
     let planned = c.in_ok-plan.ensures.plans listing ((c.in_ok-limits.ensures.again.listing listing).1 lists) in
     let parts = layout_parts c.args.shape.now.layout c.args.shape.now.page_size (tree_of listing) c.args.shape.now.sequence c.in_ok-plan.plan.root c.in_ok-plan.plan.high_water planned.root planned.high_water in
     let p = err_from_is_err_and c.from_residual-in_err-put_first_pages.result c.from_residual-in_err-put_first_pages.ensures.1 in
-    rw (p.1, p.2) (stops_first g.S.Sink.taken g.S.Sink.failed c.args.sink.now c.put_first_pages.new.sink _ _ _ parts planned.fits _ c.in_err-put_first_pages.ensures)
+    rw (p.1, p.2) (stops_first g.S.Sink c.args.sink.now c.put_first_pages.new.sink _ _ _ parts planned.fits c.in_err-put_first_pages.ensures)
 
 pub overflow_mul-result : goal.overflow_mul-result
 overflow_mul-result g c = ∥∥₁_elim c.requires.some (Prim.hlevel props) (λ is.
@@ -76,7 +76,7 @@ returns-in_err-ended-clause-copied g c = λ listing lists.
     let low = (size_bounds c.args.shape.now.page_size c.args.shape.now.accepted).0 in
     let mark : layout_mark c.args.shape.now.layout c.setup_of-setup.result.page_size (tree_of listing) ≡ layout_mark c.args.shape.now.layout c.args.shape.now.page_size (tree_of listing) = ap (λ (n : ℕ). layout_mark c.args.shape.now.layout n (tree_of listing)) c.setup_of-setup.ensures.page_size in
     let p = err_from_is_err_and c.from_residual-in_err-ended.result c.from_residual-in_err-ended.ensures.1 in
-    rw (p.1, p.2) (stops_later g.S.Sink.taken g.S.Sink.failed c.args.sink.now c.put_pages.new.sink _ _ _ whole planned.fits c.put_first_pages.new.sink tt _
+    rw (p.1, p.2) (stops_later g.S.Sink c.args.sink.now c.put_pages.new.sink _ _ _ whole planned.fits c.put_first_pages.new.sink _
     c.in_ok-put_first_pages.ensures ends.puts ends.short
     (λ e. let above = ends.large e in too_large c.args.shape.now.page_size c.setup_of-setup.result.limit (layout_mark c.args.shape.now.layout c.args.shape.now.page_size (tree_of listing)) _ (omega arith) c.setup_of-setup.ensures.limit (omega arith) (c.a_listing_has_one_layout.ensures.length c.args.shape.now.layout listing (c.requires.one listing lists))))
 
@@ -87,7 +87,7 @@ returns-clause-copied g c = λ listing lists.
     let whole = layout_written c.args.shape.now.layout c.args.shape.now.page_size (tree_of listing) c.args.shape.now.sequence c.in_ok-plan.plan.root c.in_ok-plan.plan.high_water c.setup_of-setup.result.page_size ends.others
     planned.root planned.high_water c.setup_of-setup.ensures.page_size ends.all in
     let mark : c.in_ok-ended.ended.high_water ≡ layout_mark c.args.shape.now.layout c.args.shape.now.page_size (tree_of listing) = ends.mark ∙ ap (λ (n : ℕ). layout_mark c.args.shape.now.layout n (tree_of listing)) c.setup_of-setup.ensures.page_size in
-    copied g.S.Sink.taken g.S.Sink.failed c.args.sink.now c.put_pages.new.sink _ _ _ whole planned.fits c.put_first_pages.new.sink tt c.in_ok-ended.ended _ _
+    copied g.S.Sink c.args.sink.now c.put_pages.new.sink _ _ _ whole planned.fits c.put_first_pages.new.sink _ _
     c.in_ok-put_first_pages.ensures ends.puts (ap (λ (n : ℕ). n * c.args.shape.now.page_size) mark ∙ sym (c.a_listing_has_one_layout.ensures.length c.args.shape.now.layout listing (c.requires.one listing lists)))
 
 pub returns-clause-held : goal.returns-clause-held

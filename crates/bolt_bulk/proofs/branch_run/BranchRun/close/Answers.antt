@@ -2,8 +2,8 @@
 use Rattle.std.proofs.Common.{[]}
 use Rattle.bolt_bulk.specs.Private.BranchRuns.{run_view}
 use Rattle.bolt_bulk.specs.Private.RunViews.{run_page}
-use Rattle.bolt_bulk.proofs.PutsLemmas.{after_error, pages_some, proper_none}
 use Rattle.bolt_bulk.proofs.branch_run.BranchRun.close.Goals as goal
+use Rattle.bolt_bulk.proofs.PutsLemmas.{proper_none, pages_some, after_error}
 
 pub returns-in_err-after-clause-short : goal.returns-in_err-after-clause-short
 returns-in_err-after-clause-short g c =

@@ -3,9 +3,9 @@ use Rattle.std.proofs.Common.{[], subst, sym}
 use Rattle.bolt_format.specs.ElementPlaces.{branch_view}
 use Rattle.bolt_bulk.specs.Private.BranchRuns.{IsPushed, run_view}
 use Rattle.bolt_bulk.specs.Private.RunViews.{RunView, run_page, run_push}
-use Rattle.bolt_bulk.proofs.PutsLemmas.{after_error, pages_some, proper_none}
 use Rattle.bolt_bulk.proofs.RunLemmas.{pushed}
 use Rattle.bolt_bulk.proofs.branch_run.BranchRun.take_last_page.Goals as goal
+use Rattle.bolt_bulk.proofs.PutsLemmas.{proper_none, pages_some, after_error}
 
 pub returns-in_err-push_page-clause-short : goal.returns-in_err-push_page-clause-short
 returns-in_err-push_page-clause-short g c =

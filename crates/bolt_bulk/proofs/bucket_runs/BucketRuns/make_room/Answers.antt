@@ -4,8 +4,8 @@ use Rattle.bolt_format.specs.ElementPlaces.{branch_view}
 use Rattle.bolt_bulk.specs.Private.OpenBuckets.{bucket_runs}
 use Rattle.bolt_bulk.proofs.BucketLemmas.{closed_short, room_large, room_made}
 use Rattle.std.proofs.lemmas.Result.{err_from_is_err_and}
-use Rattle.bolt_bulk.proofs.PutsLemmas.{puts_first}
 use Rattle.bolt_bulk.proofs.bucket_runs.BucketRuns.make_room.Goals as goal
+use Rattle.bolt_bulk.proofs.PutsLemmas.{Wrote-stops}
 
 pub climb-requires-clause-closed : goal.climb-requires-clause-closed
 climb-requires-clause-closed g c =
@@ -18,8 +18,8 @@ returns-in_err-closed-clause-large g c =
 
 pub returns-clause-pages : goal.returns-clause-pages
 returns-clause-pages g c =
-    room_made c.args.setup.now.page_size (bucket_runs c.args.self.now c.args.next.now) c.args.key.now c.args.size _ _ _ (branch_view c.in_ok-closed.closed) c.close.new.next _ _ (sym c.has_room.ensures ∙ c.if-has_room.false)
+    room_made c.args.setup.now.page_size (bucket_runs c.args.self.now c.args.next.now) c.args.key.now c.args.size _ _ _ (branch_view c.in_ok-closed.closed) c.close.new.next (sym c.has_room.ensures ∙ c.if-has_room.false)
     c.in_ok-closed.ensures.closed c.in_ok-closed.ensures.next c.in_ok-closed.ensures.page c.climb.ensures.pages
 
 pub returns-in_err-closed-clause-pages : goal.returns-in_err-closed-clause-pages
-returns-in_err-closed-clause-pages g c = let p = err_from_is_err_and c.from_residual.result c.from_residual.ensures.1 in rw (p.1, p.2, sym c.has_room.ensures ∙ c.if-has_room.false) (puts_first _ _ _ _ _ c.in_err-closed.ensures.page)
+returns-in_err-closed-clause-pages g c = let p = err_from_is_err_and c.from_residual.result c.from_residual.ensures.1 in rw (p.1, p.2, sym c.has_room.ensures ∙ c.if-has_room.false) (Wrote-stops _ _ c.in_err-closed.ensures.page)

@@ -1,8 +1,8 @@
 -- If the numbers run out, the page is left out.
 use Rattle.bolt_bulk.specs.Private.OpenBuckets.{leaves_of}
 use Rattle.bolt_bulk.specs.Private.RunViews.{leaf_page}
-use Rattle.bolt_bulk.proofs.PutsLemmas.{after_error, page_some, proper_none}
 use Rattle.bolt_bulk.proofs.leaf_run.LeafRun.close.Goals as goal
+use Rattle.bolt_bulk.proofs.PutsLemmas.{proper_none, page_some, after_error}
 
 pub returns-in_err-after-clause-short : goal.returns-in_err-after-clause-short
 returns-in_err-after-clause-short g c =

@@ -22,10 +22,10 @@ pub returns-in_err-leave_bucket-clause-steps : goal.returns-in_err-leave_bucket-
 returns-in_err-leave_bucket-clause-steps g c = λ wanted members put has shallow.
     let stop = c.from_residual.result in
     let At : List Placed → Type 0 = HasLeft wanted c.leave_bucket.new.self members in
-    steps_then wanted g.S.Sink.taken g.S.Sink.failed c.args.self.now.setup c.args.sink.now c.levels.sink c.leave_bucket.new.sink put (HasLeft wanted c.levels.self members) At tt stop c.levels.invariant.setup
+    steps_then wanted g.S.Sink c.args.self.now.setup c.args.sink.now c.levels.sink c.leave_bucket.new.sink put (HasLeft wanted c.levels.self members) At tt stop c.levels.invariant.setup
     (c.levels.invariant.steps wanted members put has shallow)
     (λ all mid. let ended = has_ended c.args.depth wanted c.levels.self members all mid shallow c.requires.some (omega arith) in
-    steps_stop wanted g.S.Sink.taken g.S.Sink.failed c.levels.self.setup c.levels.sink c.leave_bucket.new.sink all (IsAt wanted c.leave_bucket.new.self ended.levels ended.level.after) At _ stop c.from_residual.ensures.1
+    steps_stop wanted g.S.Sink c.levels.self.setup c.levels.sink c.leave_bucket.new.sink all (IsAt wanted c.leave_bucket.new.self ended.levels ended.level.after) At _ stop c.from_residual.ensures.1
     (c.in_err-leave_bucket.ensures.steps wanted ended.level ended.levels all ended.at))
 
 pub levels-smaller : goal.levels-smaller
@@ -38,7 +38,7 @@ levels-preserved g c = record {
   steps = λ wanted members put has shallow.
       let well : Result ⊤ BulkFault = Ok tt in
       let At : List Placed → Type 0 = HasLeft wanted c.leave_bucket.new.self members in
-      steps_then wanted g.S.Sink.taken g.S.Sink.failed c.args.self.now.setup c.args.sink.now c.levels.sink c.leave_bucket.new.sink put (HasLeft wanted c.levels.self members) At tt well c.levels.invariant.setup
+      steps_then wanted g.S.Sink c.args.self.now.setup c.args.sink.now c.levels.sink c.leave_bucket.new.sink put (HasLeft wanted c.levels.self members) At tt well c.levels.invariant.setup
       (c.levels.invariant.steps wanted members put has shallow)
       (λ all mid. let ended = has_ended c.args.depth wanted c.levels.self members all mid shallow c.requires.some (omega arith) in
       steps_map wanted c.levels.sink c.leave_bucket.new.sink c.levels.self.setup all (IsAt wanted c.leave_bucket.new.self ended.levels ended.level.after) At well

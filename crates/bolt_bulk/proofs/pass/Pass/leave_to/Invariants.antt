@@ -11,7 +11,7 @@ invariant-levels g l = record {
   setup : l.self.setup ≡ l.initial.self.setup;
   ready : IsReady l.self;
   steps : (wanted : Wanted) (members : List Member) (put : List Placed) → HasLeft wanted l.initial.self members put → IsNoDeeper l.depth members
-      → Steps {A = ⊤} wanted g.S.Sink.taken g.S.Sink.failed l.initial.sink l.sink l.initial.self.setup put (HasLeft wanted l.self members) (Ok tt);
+      → Steps {A = ⊤} wanted g.S.Sink l.initial.sink l.sink l.initial.self.setup put (HasLeft wanted l.self members) (Ok tt);
 }
 
 abbrev pub decreases-levels : goal.decreases-levels

@@ -15,7 +15,7 @@ pub returns-in_err-open_pending-clause-steps : goal.returns-in_err-open_pending-
 returns-in_err-open_pending-clause-steps g c = λ wanted inside after levels put is.
     let left : Tree = with_bucket c.args.key.now c.args.sequence inside after in
     let rooted = bucket_has_root wanted.which c.args.self.now.setup.page_size (map leaf_view c.args.self.now.entries.items) c.args.key.now c.args.sequence inside after in
-    steps_stop wanted g.S.Sink.taken g.S.Sink.failed c.args.self.now.setup c.args.sink.now c.open_pending.new.sink put (IsAt wanted c.open_pending.new.self levels left) _ _ c.from_residual.result c.from_residual.ensures.1
+    steps_stop wanted g.S.Sink c.args.self.now.setup c.args.sink.now c.open_pending.new.sink put (IsAt wanted c.open_pending.new.self levels left) _ _ c.from_residual.result c.from_residual.ensures.1
     (c.in_err-open_pending.ensures.steps wanted left levels put is rooted)
 
 pub returns-clause-steps : goal.returns-clause-steps
@@ -25,6 +25,6 @@ returns-clause-steps g c = λ wanted inside after levels put is.
     let rooted = bucket_has_root wanted.which c.args.self.now.setup.page_size (map leaf_view c.args.self.now.entries.items) c.args.key.now c.args.sequence inside after in
     let done : Result ⊤ BulkFault = Ok tt in
     let At : List Placed → Type 0 = IsAt wanted c.begin.new.self (own ∷ levels) inside in
-    steps_then wanted g.S.Sink.taken g.S.Sink.failed c.args.self.now.setup c.args.sink.now c.open_pending.new.sink c.open_pending.new.sink put (IsAt wanted c.open_pending.new.self levels left) At tt done c.in_ok-open_pending.ensures.setup
+    steps_then wanted g.S.Sink c.args.self.now.setup c.args.sink.now c.open_pending.new.sink c.open_pending.new.sink put (IsAt wanted c.open_pending.new.self levels left) At tt done c.in_ok-open_pending.ensures.setup
     (c.in_ok-open_pending.ensures.steps wanted left levels put is rooted)
     (λ all mid. steps_none wanted c.open_pending.new.self levels left all c.open_pending.new.sink At done mid tt (c.begin.ensures.at wanted inside after levels all mid))

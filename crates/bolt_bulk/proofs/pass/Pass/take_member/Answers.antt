@@ -31,7 +31,7 @@ pub returns-in_err-leave_to-clause-steps : goal.returns-in_err-leave_to-clause-s
 returns-in_err-leave_to-clause-steps g c = λ wanted members put has.
     let first : Member = (path_of c.args.path.now, item_view c.args.item) in
     let l = length-map c.args.path.now (λ (part : Bor (List ℕ)). part.now) in
-    steps_stop wanted g.S.Sink.taken g.S.Sink.failed c.args.self.now.setup c.args.sink.now c.leave_to.new.sink put (HasLeft wanted c.leave_to.new.self (first ∷ members)) (HasLeft wanted c.leave_to.new.self members) _ c.from_residual.result c.from_residual.ensures.1
+    steps_stop wanted g.S.Sink c.args.self.now.setup c.args.sink.now c.leave_to.new.sink put (HasLeft wanted c.leave_to.new.self (first ∷ members)) (HasLeft wanted c.leave_to.new.self members) _ c.from_residual.result c.from_residual.ensures.1
     (c.in_err-leave_to.ensures.steps wanted (first ∷ members) put has (omega arith))
 
 pub take_value-requires-clause-key : goal.take_value-requires-clause-key
@@ -52,7 +52,7 @@ returns-in-Value-clause-steps g c = λ wanted members put has.
     let last = last_is c.args.path.now c.in-Some.field-0-1.now c.in-Some.key.now c.in-Some.ensures.cases.0 in
     let l = length-map c.args.path.now (λ (part : Bor (List ℕ)). part.now) in
     let At : List Placed → Type 0 = HasLeft wanted c.take_value.new.self members in
-    steps_then wanted g.S.Sink.taken g.S.Sink.failed c.args.self.now.setup c.args.sink.now c.leave_to.new.sink c.take_value.new.sink put (HasLeft wanted c.leave_to.new.self (first ∷ members)) At tt c.take_value.result c.in_ok-leave_to.ensures.setup
+    steps_then wanted g.S.Sink c.args.self.now.setup c.args.sink.now c.leave_to.new.sink c.take_value.new.sink put (HasLeft wanted c.leave_to.new.self (first ∷ members)) At tt c.take_value.result c.in_ok-leave_to.ensures.setup
     (c.in_ok-leave_to.ensures.steps wanted (first ∷ members) put has (omega arith))
     (λ all mid. let deep = c.in_ok-leave_to.ensures.depth in
     let next = has_value wanted c.leave_to.new.self path key value members all (subst (λ (i : entries.Item). HasLeft wanted c.leave_to.new.self ((path, i) ∷ members) all) item mid) (omega arith) last in
@@ -69,7 +69,7 @@ returns-in-Bucket-clause-steps g c = λ wanted members put has.
     let last = last_is c.args.path.now c.in-Some.field-0-1.now c.in-Some.key.now c.in-Some.ensures.cases.0 in
     let l = length-map c.args.path.now (λ (part : Bor (List ℕ)). part.now) in
     let At : List Placed → Type 0 = HasLeft wanted c.take_bucket.new.self members in
-    steps_then wanted g.S.Sink.taken g.S.Sink.failed c.args.self.now.setup c.args.sink.now c.leave_to.new.sink c.take_bucket.new.sink put (HasLeft wanted c.leave_to.new.self (first ∷ members)) At tt c.take_bucket.result c.in_ok-leave_to.ensures.setup
+    steps_then wanted g.S.Sink c.args.self.now.setup c.args.sink.now c.leave_to.new.sink c.take_bucket.new.sink put (HasLeft wanted c.leave_to.new.self (first ∷ members)) At tt c.take_bucket.result c.in_ok-leave_to.ensures.setup
     (c.in_ok-leave_to.ensures.steps wanted (first ∷ members) put has (omega arith))
     (λ all mid. let deep = c.in_ok-leave_to.ensures.depth in
     let next = has_bucket wanted c.leave_to.new.self path key c.in-Bucket.sequence members all (subst (λ (i : entries.Item). HasLeft wanted c.leave_to.new.self ((path, i) ∷ members) all) item mid) (omega arith) last in

@@ -27,13 +27,13 @@ returns-then-len-lt-MAX_ITEMS-clause-steps g c = λ wanted after levels put is.
 pub returns-in_err-open_pending-clause-steps : goal.returns-in_err-open_pending-clause-steps
 returns-in_err-open_pending-clause-steps g c = λ wanted after levels put is.
     let left : Tree = with_value c.args.key.now c.args.value.now after in
-    steps_stop wanted g.S.Sink.taken g.S.Sink.failed c.args.self.now.setup c.args.sink.now c.open_pending.new.sink put (IsAt wanted c.open_pending.new.self levels left) (IsAt wanted c.open_pending.new.self levels after) _ c.from_residual.result c.from_residual.ensures.1
+    steps_stop wanted g.S.Sink c.args.self.now.setup c.args.sink.now c.open_pending.new.sink put (IsAt wanted c.open_pending.new.self levels left) (IsAt wanted c.open_pending.new.self levels after) _ c.from_residual.result c.from_residual.ensures.1
     (c.in_err-open_pending.ensures.steps wanted left levels put is (rooted g (goal.at.returns-in_err-open_pending-clause-steps g c).After-open_pending wanted after))
 
 pub returns-clause-steps : goal.returns-clause-steps
 returns-clause-steps g c = λ wanted after levels put is.
     let left : Tree = with_value c.args.key.now c.args.value.now after in
     let At : List Placed → Type 0 = IsAt wanted c.put_value-2.new.self levels after in
-    steps_then wanted g.S.Sink.taken g.S.Sink.failed c.args.self.now.setup c.args.sink.now c.open_pending.new.sink c.put_value-2.new.sink put (IsAt wanted c.open_pending.new.self levels left) At tt c.put_value-2.result c.in_ok-open_pending.ensures.setup
+    steps_then wanted g.S.Sink c.args.self.now.setup c.args.sink.now c.open_pending.new.sink c.put_value-2.new.sink put (IsAt wanted c.open_pending.new.self levels left) At tt c.put_value-2.result c.in_ok-open_pending.ensures.setup
     (c.in_ok-open_pending.ensures.steps wanted left levels put is (rooted g (goal.at.returns-clause-steps g c).After-open_pending wanted after))
     (λ all mid. c.put_value-2.ensures.steps wanted after levels all mid)

@@ -40,7 +40,7 @@ returns-in-None g c =
     let old = run_view c.index_mut.result.now in
     let h : c.loop-i.i < length items = (let l = c.loop-i.invariant.2 in let t = c.loop-i-test.true in omega arith) in
     let room = room_by c.args.setup.now.page_size c.args.key.now (branch_view c.loop-i.closed) c.loop-i.next old _ c.in-None.is c.in_ok-take_page.ensures.up in
-    let stays = climb_stays {B = Unit {0}} c.args.setup.now.page_size (bucket_limit c.args.self.now.limits (length (map run_view c.args.self.now.runs.items))) c.args.key.now _ _ _ _ _ _ (map run_view items) c.loop-i.i (branch_view c.loop-i.closed) c.loop-i.next old _ tt
+    let stays = climb_stays c.args.setup.now.page_size (bucket_limit c.args.self.now.limits (length (map run_view c.args.self.now.runs.items))) c.args.key.now _ _ _ _ _ _ (map run_view items) c.loop-i.i (branch_view c.loop-i.closed) c.loop-i.next old
     (within_runs items c.loop-i.i h) (run_here items c.loop-i.i c.index_mut.result.now h c.index_mut.ensures.value) room c.loop-i.invariant.0 c.in_ok-take_page.ensures.pages in
     let took : run_view c.take_page.new.self ≡ run_kept c.args.setup.now.page_size (run_push old (branch_view c.loop-i.closed)) (key_size c.args.key.now) = c.in_ok-take_page.ensures.run ∙ (rw room refl) in
     let next : c.take_page.new.next ≡ c.loop-i.next = c.in_ok-take_page.ensures.next ∙ (rw room refl) in
@@ -66,11 +66,11 @@ loop-i-preserved g c =
     let next : c.take_page.new.next ≡ c.loop-i.next + (1 + overflow_of c.args.setup.now.page_size (run_push old e).size) = c.in_ok-take_page.ensures.next ∙ (rw f refl) in
     let runs : map run_view (set c.loop-i.self.runs.items c.loop-i.i c.take_page.new.self) ≡ set (map run_view c.loop-i.self.runs.items) c.loop-i.i (no_run (one_less old.left) (one_closed old.closed)) =
     map-set run_view c.loop-i.self.runs.items c.loop-i.i c.take_page.new.self ∙ ap (λ (r : RunView). set (map run_view c.loop-i.self.runs.items) c.loop-i.i r) took in
-    let closes = climb_closes c.args.setup.now.page_size (bucket_limit c.args.self.now.limits (length (map run_view c.args.self.now.runs.items))) c.args.key.now _ _ _ _ _ _ (map run_view c.loop-i.self.runs.items) c.loop-i.i e c.loop-i.next old _
+    let closes = climb_closes c.args.setup.now.page_size (bucket_limit c.args.self.now.limits (length (map run_view c.args.self.now.runs.items))) c.args.key.now _ _ _ _ _ _ (map run_view c.loop-i.self.runs.items) c.loop-i.i e c.loop-i.next old
     (within_runs c.loop-i.self.runs.items c.loop-i.i h) (run_here c.loop-i.self.runs.items c.loop-i.i c.index_mut.result.now h c.index_mut.ensures.value) f c.loop-i.invariant.0 c.in_ok-take_page.ensures.pages in
     let k = up_key e c.loop-i.next old (standing_at c.loop-i.self.runs.items c.loop-i.i c.index_mut.result.now h c.index_mut.ensures.value c.loop-i.invariant.1) c.loop-i.invariant.3 in
     let kk = ap (λ (x : BranchElement). length x.key) two.1 in
-    let C : List RunView → BranchElement → ℕ → Type 0 = λ rs x n. Climbing c.args.setup.now.page_size (bucket_limit c.args.self.now.limits (length (map run_view c.args.self.now.runs.items))) c.args.key.now (branch_view c.args.closed) c.args.next.now (map run_view c.args.self.now.runs.items) g.S.Sink.taken g.S.Sink.failed c.args.sink.now c.take_page.new.sink rs (c.loop-i.i + 1) x n in
+    let C : List RunView → BranchElement → ℕ → Type 0 = λ rs x n. Climbing c.args.setup.now.page_size (bucket_limit c.args.self.now.limits (length (map run_view c.args.self.now.runs.items))) c.args.key.now (branch_view c.args.closed) c.args.next.now (map run_view c.args.self.now.runs.items) g.S.Sink c.args.sink.now c.take_page.new.sink rs (c.loop-i.i + 1) x n in
     let one : C (map run_view (set c.loop-i.self.runs.items c.loop-i.i c.take_page.new.self)) (branch_view c.in-Some.up) c.take_page.new.next =
     subst (λ (rs : List RunView). C rs (branch_view c.in-Some.up) c.take_page.new.next) (sym runs)
     (subst (λ (x : BranchElement). C (set (map run_view c.loop-i.self.runs.items) c.loop-i.i (no_run (one_less old.left) (one_closed old.closed))) x c.take_page.new.next) (sym two.1)

@@ -35,12 +35,12 @@ loop-i-preserved g c =
     let h : c.loop-i.i < length c.loop-i.self.runs.items = (let l = c.loop-i.invariant.2 in let t = c.loop-i-test.true in omega arith) in
     let run = run_view c.index_mut.result.now in
     let e = branch_view c.loop-i.closed in
-    let more = close_more c.args.setup.now.page_size _ _ _ _ _ _ (map run_view c.loop-i.self.runs.items) c.loop-i.i e c.loop-i.next run (run_view c.take_last_page.new.self) _ (branch_view c.in_ok-closed.closed) c.take_last_page.new.next
+    let more = close_more c.args.setup.now.page_size _ _ _ _ _ _ (map run_view c.loop-i.self.runs.items) c.loop-i.i e c.loop-i.next run (run_view c.take_last_page.new.self) (branch_view c.in_ok-closed.closed) c.take_last_page.new.next
     (run_here c.loop-i.self.runs.items c.loop-i.i c.index_mut.result.now h c.index_mut.ensures.value) c.in_ok-closed.ensures.up c.in_ok-closed.ensures.next c.loop-i.invariant.0 c.in_ok-closed.ensures.pages in
     let k = up_key e c.loop-i.next run (standing_at c.loop-i.self.runs.items c.loop-i.i c.index_mut.result.now h c.index_mut.ensures.value c.loop-i.invariant.1) c.loop-i.invariant.3 in
     let kk = ap (λ (x : BranchElement). length x.key) c.in_ok-closed.ensures.up in
     let runs = sym (map-set run_view c.loop-i.self.runs.items c.loop-i.i c.take_last_page.new.self) in (
-      subst (λ (rs : List RunView). Closing c.args.setup.now.page_size (branch_view c.args.closed) c.args.next.now (map run_view c.args.self.now.runs.items) g.S.Sink.taken g.S.Sink.failed c.args.sink.now c.take_last_page.new.sink rs (c.loop-i.i + 1) (branch_view c.in_ok-closed.closed) c.take_last_page.new.next) runs more,
+      subst (λ (rs : List RunView). Closing c.args.setup.now.page_size (branch_view c.args.closed) c.args.next.now (map run_view c.args.self.now.runs.items) g.S.Sink c.args.sink.now c.take_last_page.new.sink rs (c.loop-i.i + 1) (branch_view c.in_ok-closed.closed) c.take_last_page.new.next) runs more,
       subst (λ (rs : List RunView). AllByRecursion IsStanding rs) runs
           (standing_set (map run_view c.loop-i.self.runs.items) c.loop-i.i (run_view c.take_last_page.new.self) c.loop-i.invariant.1 c.in_ok-closed.ensures.standing),
       length-set c.loop-i.self.runs.items c.loop-i.i c.take_last_page.new.self ∙ c.loop-i.invariant.2,

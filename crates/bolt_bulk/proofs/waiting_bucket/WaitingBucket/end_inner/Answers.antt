@@ -6,13 +6,11 @@ use Rattle.bolt_bulk.specs.Private.TakenItems.{root_element}
 use Rattle.bolt_bulk.specs.declared.fault.BulkFault.TheVariants as fault
 use Rattle.bolt_bulk.proofs.BucketLemmas.{end_some, room_fits}
 use Rattle.bolt_format.proofs.WrittenHeaders.{length-head_bytes}
-use Rattle.bolt_bulk.proofs.PutsLemmas.{after_error, proper_none, puts_none}
 use Rattle.bolt_bulk.proofs.waiting_bucket.WaitingBucket.end_inner.Goals as goal
+use Rattle.bolt_bulk.proofs.PutsLemmas.{Wrote-no_memory, after_error, proper_none}
 
 pub returns-in_err-reserve-clause-pages : goal.returns-in_err-reserve-clause-pages
-returns-in_err-reserve-clause-pages g c =
-    let memory : c.from_residual.result ≡ Err fault.Memory = search rules in
-    puts_none c.args.sink.now _ c.from_residual.result memory
+returns-in_err-reserve-clause-pages g c = Wrote-no_memory c.args.sink.now _ c.from_residual.result (search rules)
 
 pub returns-in_err-reserve-clause-short : goal.returns-in_err-reserve-clause-short
 returns-in_err-reserve-clause-short g c = after_error _ _ (proper_none (g.S.Sink.taken c.args.sink.now) _ (end_some c.args.setup.now.page_size (bucket_runs c.args.bucket c.args.next.now)))

@@ -1,0 +1,15 @@
+-- How a call ends that may stop for reasons other than its sink: docs/PROMISES.md, "The layout of a compact copy".
+use Rattle.std.specs.Prelude.{Result, Ok, Err}
+use Rattle.bolt_format.specs.Endings.{Ending, whole, broken, halted}
+use Rattle.bolt_bulk.specs.declared.fault.BulkFault.{BulkFault}
+use Rattle.bolt_bulk.specs.declared.fault.BulkFault.TheVariants.{Memory, Sink, TooLarge}
+
+-- the fault is Sink exactly if the sink failed
+abbrev pub fault_ending : BulkFault → Ending
+fault_ending Memory = halted
+fault_ending TooLarge = halted
+fault_ending Sink = broken
+
+abbrev pub bulk_ending : {A : Type 0} → Result A BulkFault → Ending
+bulk_ending (Ok x) = whole
+bulk_ending (Err e) = fault_ending e
