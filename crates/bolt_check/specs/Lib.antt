@@ -1,5 +1,6 @@
 pub mod AccountFindings
 pub mod Accounts
+pub mod Assumed
 pub mod CheckedFiles
 pub mod Claims
 pub mod Counts

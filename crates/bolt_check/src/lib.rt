@@ -3,6 +3,7 @@
 #![tactic(auto)]
 
 mod accounts;
+mod assumed;
 mod checked_file;
 mod claims;
 mod fault;
@@ -23,6 +24,7 @@ mod tree_page;
 mod uses;
 mod visit;
 
+pub use assumed::assumed_meta;
 pub use checked_file::Checked;
 pub use claims::Claims;
 pub use fault::CheckFault;
@@ -30,7 +32,7 @@ pub use finding::Finding;
 pub use no_memory::NoMemory;
 pub use role::Role;
 pub use role_table::Roles;
-pub use sound::{check, check_slot};
+pub use sound::{check, check_slot, check_under};
 pub use spot::{BucketSpot, MAX_DEPTH, PageSpot, Spot};
 pub use tree_page::TreePage;
 pub use uses::roles;

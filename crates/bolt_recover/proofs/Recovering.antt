@@ -32,11 +32,11 @@ use Rattle.bolt_tree.proofs.PathOrder.{flip_less, less_lt, path_total}
 use Rattle.bolt_tree.proofs.Single.{member_total}
 use Rattle.bolt_recover.specs.Losses.{AreLosses, LossView, losses_of}
 use Rattle.bolt_recover.specs.PageWays.{ArePageWays, page_ways}
-use Rattle.bolt_recover.specs.Private.Frames.{Advances, AreOpen, ComesTo, Ends, GivesHead, GoesOn, HasOpen, IsGoodContent, IsGoodPage, IsOn, IsOutcome, IsRefusedRoot, NoWay, Outcome, State, StaysOn, ahead_tasks, is_over, left_by, open_tasks, outcome_of, over_by, stay}
+use Rattle.bolt_recover.specs.Private.Frames.{Advances, AreOpen, ComesTo, Ends, GivesHead, GoesOn, HasOpen, IsGoodContent, IsGoodPage, IsOn, IsOutcome, NoWay, Outcome, State, StaysOn, ahead_tasks, is_over, left_by, open_tasks, outcome_of, over_by, stay}
 use Rattle.bolt_recover.specs.Private.Runs.{Runs, RunsAll, Task, Visited, losses_in, pages_visited}
 use Rattle.bolt_recover.specs.Recovered.{IsRecovered}
 use Rattle.bolt_recover.specs.Recoveries.{AreFirst}
-use Rattle.bolt_recover.specs.Refusals.{IsSlotUnrecoverable, IsUnrecoverable}
+use Rattle.bolt_recover.specs.Refusals.{IsRefusedRoot, IsSlotUnrecoverable, IsUnrecoverable}
 use Rattle.bolt_recover.specs.declared.content.Content.{Content}
 use Rattle.bolt_recover.specs.declared.content.Content.TheVariants.{Bucket, Page}
 use Rattle.bolt_recover.specs.declared.content.OpenPage.{OpenPage}

@@ -8,10 +8,10 @@ ghost use Rattle.bolt_format.specs.Metas.{IsChosen, IsInSlot};
 ghost use Rattle.bolt_tree.specs.Paths.{path_of};
 ghost use Rattle.bolt_tree.specs.ShownEntries.{item_view};
 ghost use Rattle.bolt_tree.specs.Walks.{GivesNext};
-ghost use Rattle.bolt_recover.specs.Private.Frames.{IsOn, IsRefusedRoot, state_of};
+ghost use Rattle.bolt_recover.specs.Private.Frames.{IsOn, state_of};
 ghost use Rattle.bolt_recover.specs.PageWays.{ForPageWays};
 ghost use Rattle.bolt_recover.specs.Recovered.{ForRecovered, IsRecovered};
-ghost use Rattle.bolt_recover.specs.Refusals.{IsSlotUnrecoverable, IsUnrecoverable, KeepsRoot};
+ghost use Rattle.bolt_recover.specs.Refusals.{IsRefusedRoot, IsSlotUnrecoverable, IsUnrecoverable, KeepsRoot};
 ghost use Rattle.bolt_recover.specs.ShownLosses.{loss_view};
 
 use crate::loss::Loss;
@@ -81,8 +81,13 @@ impl<'a> Recovery<'a> {
         Recovery::under(alloc, file, meta)
     }
 
-    /// A walk under a valid meta.
-    fn under(alloc: Global, file: &'a [u8], meta: Meta) -> Result<Recovery<'a>, CheckFault>
+    /// A walk under a meta that is handed in. The metas of the file are ignored.
+    ///
+    /// # Errors
+    ///
+    /// `Structure` with the finding of the root page if that is lost, and nothing is recovered;
+    /// `Memory` if memory runs out. Never `Open` or `Accounts`.
+    pub fn under(alloc: Global, file: &'a [u8], meta: Meta) -> Result<Recovery<'a>, CheckFault>
         requires { 0 < meta.page_size }
         ensures file { IfOk result (λ recovery. recovery_file recovery ≡ file.now) }
         ensures meta { IfOk result (λ recovery. recovery_meta recovery ≡ meta) }

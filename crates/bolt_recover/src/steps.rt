@@ -8,8 +8,8 @@ ghost use Rattle.bolt_check.specs.declared.spot.Spot.TheVariants as spots;
 ghost use Rattle.bolt_format.specs.Elements.{IsBucketValue};
 ghost use Rattle.bolt_tree.specs.Listing.{Member};
 ghost use Rattle.bolt_tree.specs.Paths.{path_of};
-ghost use Rattle.bolt_recover.specs.Private.Frames.{Advances, ComesTo, GoesOn, HasOpen, IsRefusedRoot, NoWay, Takes, TakesBucket, is_over, lost_state, outcome_of, state_of, stay, steps_weight, taken_weight};
-ghost use Rattle.bolt_recover.specs.Refusals.{KeepsRoot};
+ghost use Rattle.bolt_recover.specs.Private.Frames.{Advances, ComesTo, GoesOn, HasOpen, NoWay, Takes, TakesBucket, is_over, lost_state, outcome_of, state_of, stay, steps_weight, taken_weight};
+ghost use Rattle.bolt_recover.specs.Refusals.{IsRefusedRoot, KeepsRoot};
 ghost use Rattle.bolt_recover.specs.Private.Runs.{RunsAll, Visited};
 
 use crate::content::{Content, OpenPage};

@@ -13,8 +13,6 @@ use Rattle.bolt_check.specs.Nodes.{Nodes, node_at}
 use Rattle.bolt_check.specs.ShownNodes.{shown_node}
 use Rattle.bolt_check.specs.ShownSpots.{inline_keys, page_spot, spot_at}
 use Rattle.bolt_check.specs.Ways.{At_inline, At_page, Spot}
-use Rattle.bolt_check.specs.declared.fault.CheckFault.{CheckFault}
-use Rattle.bolt_check.specs.declared.fault.CheckFault.TheVariants.{Accounts, Memory, Open, Structure}
 use Rattle.bolt_check.specs.declared.claims.Claims.{Claims}
 use Rattle.bolt_check.specs.declared.finding.Finding.{Finding}
 use Rattle.bolt_check.specs.declared.spot.Spot.{Spot as CodeSpot}
@@ -27,7 +25,6 @@ use Rattle.bolt_recover.specs.PageWays.{ArePageWays}
 use Rattle.bolt_recover.specs.Places.{Place, leaves_of}
 use Rattle.bolt_recover.specs.Private.Runs.{losses_in, pages_visited, tasks_from, Runs, Task, To_visit, Visited}
 use Rattle.bolt_recover.specs.Recovered.{IsRecovered}
-use Rattle.bolt_recover.specs.Refusals.{LosesRoot}
 use Rattle.bolt_tree.specs.RestAfter.{rest_after}
 use Rattle.bolt_recover.specs.ShownLosses.{loss_view}
 use Rattle.bolt_recover.specs.declared.content.Content.{Content}
@@ -241,13 +238,6 @@ TakesBucket End = Unit {0}
 abbrev pub Advances : State → State → Option element.Leaf → Type 0
 Advances old new (Some leaf) = GivesHead old new (leaf_view leaf)
 Advances old new None = Ends old new
-
--- the finding of the root page while only the meta pages are claimed, or memory runs out
-abbrev pub IsRefusedRoot : List ℕ → Meta → CheckFault → Type 0
-IsRefusedRoot file meta (Structure x) = LosesRoot file meta x
-IsRefusedRoot file meta Memory = Unit {0}
-IsRefusedRoot file meta (Open fault) = ⊥
-IsRefusedRoot file meta (Accounts findings) = ⊥
 
 -- How much there is to do at most: a page holds fewer than 65536 elements, and a visit of a page claims one.
 abbrev pub element_weight : Content → ℕ → ℕ

@@ -4,7 +4,7 @@ use Rattle.bolt_check.specs.CheckedFiles.{bytes_of, has_accounts, meta_of}
 use Rattle.bolt_check.specs.Nodes.{node_at}
 use Rattle.bolt_check.proofs.MarkLemmas.{table_wide}
 use Rattle.bolt_check.proofs.Shaping.{shape_of}
-use Rattle.bolt_check.proofs.SoundLemmas.{no_items, some_items, sound_of, findings_of_file, wrong_of}
+use Rattle.bolt_check.proofs.SoundLemmas.{no_items, some_items, sound_of, findings_of_file, tested_of, wrong_of}
 use Rattle.bolt_check.proofs.sound.check.Goals as goal
 
 pub test_accounts-requires-clause-below : goal.test_accounts-requires-clause-below
@@ -22,7 +22,7 @@ pub invariant_of-result : goal.invariant_of-result
 invariant_of-result c =
     let right = rw c.deref_mut.ensures.value at c.in_ok-findings.ensures.right in
     let empty = no_items c.in_ok-findings.findings.items (grind (arith, common_steps, c.is_empty.ensures, c.if-not-is_empty.false)) in
-    record { sound = merely (sound_of c.args.file.now c.in_ok-meta.field-0-0 c.in_ok-meta.meta c.in_ok-table.table.items c.in_ok-meta.ensures.chosen c.in_ok-table.ensures.clean c.in_ok-table.ensures.covered (right empty)) }
+    record { sound = merely (tested_of c.args.file.now c.in_ok-meta.field-0-0 c.in_ok-meta.meta c.in_ok-table.table.items c.in_ok-meta.ensures.chosen c.in_ok-table.ensures.clean c.in_ok-table.ensures.covered (right empty)) }
 
 pub returns-clause-bytes : goal.returns-clause-bytes
 unfolding bytes_of

@@ -6,7 +6,8 @@ use Rattle.bolt_check.proofs.Visited.{passed_on}
 use Rattle.bolt_check.specs.declared.spot.PageSpot.{PageSpot}
 use Rattle.bolt_format.specs.declared.meta.Meta.{Meta}
 use Rattle.bolt_tree.specs.Paths.{path_of}
-use Rattle.bolt_recover.specs.Private.Frames.{ComesTo, IsRefusedRoot, State, outcome_of}
+use Rattle.bolt_recover.specs.Private.Frames.{ComesTo, State, outcome_of}
+use Rattle.bolt_recover.specs.Refusals.{IsRefusedRoot}
 use Rattle.bolt_recover.specs.ShownLosses.{loss_view}
 use Rattle.bolt_recover.specs.declared.content.OpenPage.{OpenPage}
 use Rattle.bolt_recover.proofs.StepLemmas.{as_state, begins, of_metas, root_kept, root_refused}
