@@ -7,6 +7,8 @@ pub mod Counts
 pub mod EntrySpots
 pub mod Findings
 pub mod Keys
+pub mod Leftovers
+pub mod LoneLeaves
 pub mod Nodes
 pub mod OnWays
 pub mod Private
