@@ -1,6 +1,7 @@
 mod ElementLists
 pub mod Existing
 mod FirstLoss
+mod FoundLemmas
 mod HeldMembers
 mod Leading
 pub mod LeftMembers
