@@ -1,6 +1,7 @@
 mod ElementLists
 pub mod Existing
 mod FirstLoss
+mod FoundAll
 mod FoundLemmas
 mod HeldMembers
 mod Leading

@@ -30,7 +30,7 @@ use Rattle.bolt_tree.proofs.Filters.{filter_all, filter_same, lt_of, not_lt_of}
 use Rattle.bolt_tree.proofs.Lists.{contains_head, contains_tail}
 use Rattle.bolt_tree.proofs.PathOrder.{flip_less, less_lt, path_total}
 use Rattle.bolt_tree.proofs.Single.{member_total}
-use Rattle.bolt_recover.specs.KeptPages.{IsKeptPage}
+use Rattle.bolt_recover.specs.KeptPages.{AreKeptPages, IsKeptPage}
 use Rattle.bolt_recover.specs.Losses.{AreLosses, LossView, losses_of}
 use Rattle.bolt_recover.specs.PageWays.{ArePageWays, page_ways}
 use Rattle.bolt_recover.specs.Private.Frames.{Advances, AreOpen, ComesTo, Ends, GivesHead, GoesOn, HasOpen, IsGoodContent, IsGoodPage, IsOn, IsOutcome, NoWay, Outcome, State, StaysOn, ahead_tasks, is_over, left_by, open_tasks, outcome_of, over_by, stay}
@@ -68,14 +68,14 @@ pub has_open_prop : (s : State) (x y : HasOpen s) → x ≡ y
 has_open_prop s = hlevel (props, open_prop)
 
 -- the recovered listing of a file and the outcome, and the run that comes to them
-record IsAll (file : List ℕ) (meta : Meta) (begun : ℕ) (listing : List Member) (outcome : Outcome) : Type 0 where
-  recovered : IsRecovered file meta listing
-  whole : IsOutcome file meta begun outcome
-  visits : List (Visited NoWay)
-  run : RunsAll file meta stay tt visits listing
-  all : outcome ≡ outcome_of (node_at file meta) begun visits
+pub record IsAll (file : List ℕ) (meta : Meta) (begun : ℕ) (listing : List Member) (outcome : Outcome) : Type 0 where
+  pub recovered : IsRecovered file meta listing
+  pub whole : IsOutcome file meta begun outcome
+  pub visits : List (Visited NoWay)
+  pub run : RunsAll file meta stay tt visits listing
+  pub all : outcome ≡ outcome_of (node_at file meta) begun visits
 
-all_of : (file : List ℕ) (meta : Meta) (begun : ℕ) → (listing : List Member) × (outcome : Outcome) × IsAll file meta begun listing outcome
+pub all_of : (file : List ℕ) (meta : Meta) (begun : ℕ) → (listing : List Member) × (outcome : Outcome) × IsAll file meta begun listing outcome
 all_of file meta begun =
     let (visits, members, run) = run_exists file meta further [] in
     let survey = surveyed file meta visits members run in (
@@ -101,6 +101,13 @@ all_of file meta begun =
         };
       },
     )
+
+-- the pages that are claimed at the end
+abbrev pub all_claimed : List ℕ → Meta → ℕ → ℕ → Bool
+all_claimed file meta begun = (all_of file meta begun).1.claimed
+
+pub claimed_all : (file : List ℕ) (meta : Meta) (begun : ℕ) → AreKeptPages file meta (all_claimed file meta begun)
+claimed_all file meta begun = (all_of file meta begun).2.whole.claimed
 
 one_losses : (file : List ℕ) (meta : Meta) (a b : List LossView) → AreLosses file meta a → AreLosses file meta b → a ≡ b
 one_losses file meta a b (s, is_s, of_s) (t, is_t, of_t) =
@@ -285,11 +292,8 @@ module _ (old new : State) (meta : Meta) (before : ℕ) (on : IsOn old meta befo
       (ended_with h (record other { visited = counted before ways }) (record { losses = all.whole.losses; ways = ways; counts = are; visited = refl; claimed = all.whole.claimed })).1
 
   -- and the claimed pages are those that kept ways take in
-  pub kept_ended : Ends old new → (survey : List Visit) → IsSurvey old.file meta survey → (n : ℕ) → (new.claimed n ≡ true) ↔ IsKeptPage old.file meta survey n
-  kept_ended h survey is n =
-      let (members, other, all) = all_of old.file meta before in
-      let same = (ended_with h other all.whole).2 n in
-      subst (λ (b : Bool). (b ≡ true) ↔ IsKeptPage old.file meta survey n) same (all.whole.claimed survey is n)
+  pub claimed_ended : Ends old new → (n : ℕ) → all_claimed old.file meta before n ≡ new.claimed n
+  claimed_ended h n = let all = all_of old.file meta before in (ended_with h all.1 all.2.whole).2 n
 
   -- after memory ran out
   over_parts : (o : Option NextVisit) (pages : List OpenPage) → over_by o pages ≡ true → (o ≡ None) × (pages ≡ [])

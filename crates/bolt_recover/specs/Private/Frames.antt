@@ -1,5 +1,5 @@
 -- The open pages of the code as what is still to be done.
-use Rattle.std.specs.Prelude.{◌≡◌, ◌||◌, ◌↔◌, ◌≤◌, ◌<◌, IsTrue, ℕ, ◌+◌, ◌-◌, ◌*◌, Bool, true, false, List, [], ◌∷◌, ◌++◌, length, map, take, Option, Some, None, Ok, if◌then◌else◌, sum_by}
+use Rattle.std.specs.Prelude.{◌≡◌, ◌||◌, ◌≤◌, ◌<◌, IsTrue, ℕ, ◌+◌, ◌-◌, ◌*◌, Bool, true, false, List, [], ◌∷◌, ◌++◌, length, map, take, Option, Some, None, Ok, if◌then◌else◌, sum_by}
 use Rattle.bolt_format.specs.ElementPlaces.{leaf_view}
 use Rattle.bolt_format.specs.Elements.{IsBucketValue, LeafElement}
 use Rattle.bolt_format.specs.declared.element.Leaf as element
@@ -20,7 +20,7 @@ use Rattle.bolt_check.specs.declared.spot.Spot.TheVariants as spots
 use Rattle.bolt_tree.specs.Entries.{item_of}
 use Rattle.bolt_tree.specs.Listing.{Member}
 use Rattle.bolt_tree.specs.Paths.{Path, path_of}
-use Rattle.bolt_recover.specs.KeptPages.{IsKeptPage}
+use Rattle.bolt_recover.specs.KeptPages.{AreKeptPages}
 use Rattle.bolt_recover.specs.Losses.{AreLosses, LossView, loss_of}
 use Rattle.bolt_recover.specs.PageWays.{ArePageWays}
 use Rattle.bolt_recover.specs.Places.{Place, leaves_of}
@@ -28,7 +28,6 @@ use Rattle.bolt_recover.specs.Private.Runs.{losses_in, meta_pages, pages_visited
 use Rattle.bolt_recover.specs.Recovered.{IsRecovered}
 use Rattle.bolt_tree.specs.RestAfter.{rest_after}
 use Rattle.bolt_recover.specs.ShownLosses.{loss_view}
-use Rattle.bolt_recover.specs.Surveys.{IsSurvey, Visit}
 use Rattle.bolt_recover.specs.declared.content.Content.{Content}
 use Rattle.bolt_recover.specs.declared.content.Content.TheVariants.{Bucket, Page}
 use Rattle.bolt_recover.specs.declared.content.OpenPage.{OpenPage}
@@ -225,7 +224,7 @@ pub record IsOutcome (file : List ℕ) (meta : Meta) (begun : ℕ) (outcome : Ou
   pub ways : ℕ
   pub counts : ArePageWays file meta ways
   pub visited : outcome.visited ≡ counted begun ways
-  pub claimed : (survey : List Visit) → IsSurvey file meta survey → (n : ℕ) → (outcome.claimed n ≡ true) ↔ IsKeptPage file meta survey n
+  pub claimed : AreKeptPages file meta outcome.claimed
 
 -- Good steps over a file under this meta, begun after so many visits: what is left of them is what is left of the recovered listing, and they
 -- come to all losses, and to a visit of each way to a page number.
