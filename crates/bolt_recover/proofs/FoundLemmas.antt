@@ -8,7 +8,7 @@ use Rattle.bolt_check.specs.LoneLeaves.{IsListedFree, IsLoneLeaf}
 use Rattle.bolt_check.specs.Nodes.{Nodes, node_at}
 use Rattle.bolt_check.specs.Ways.{At_page, SpanAt, root_spot}
 use Rattle.bolt_check.proofs.LeafLemmas.{lone_free, lone_same, lone_span}
-use Rattle.bolt_tree.proofs.Lists.{contains_head}
+use Rattle.bolt_tree.proofs.Lists.{contains_head, contains_none}
 use Rattle.bolt_recover.specs.Found.{FoundBelow, IsFoundNext, IsFoundPage}
 
 pub not_true : (b : Bool) → (b ≡ true → ⊥) → b ≡ false
@@ -137,3 +137,52 @@ module _ (file : List ℕ) (meta : Meta) where
             | inr (none, same) ↦ none (subst (IsFoundNext file meta kept before) here (record { leaf = lone_apart before n lone apart (λ k span is. alone k span (less k is)); unlisted = unlisted }))
           ]
         ]
+
+    -- what is found below a number is below it, intact, unlisted and apart from what is kept
+    pub record IsFoundHere (mark n : ℕ) : Type 0 where
+      pub below : n < mark
+      pub leaf : IsLoneLeaf nodes kept n
+      pub unlisted : IsListedFree file meta n → ⊥
+
+    here_of : (found : List ℕ) (n : ℕ) → IsFoundNext file meta kept found n → IsFoundHere (suc n) n
+    here_of found n next = record {
+      below = omega arith;
+      leaf = lone_same nodes (λ k. kept k ⊎ IsFoundPage file meta found k) kept n (λ k is. inl is) next.leaf;
+      unlisted = next.unlisted;
+    }
+
+    here_up : (mark n : ℕ) → IsFoundHere mark n → IsFoundHere (suc mark) n
+    here_up mark n here = record { below = (let lt = here.below in omega (arith, lt)); leaf = here.leaf; unlisted = here.unlisted }
+
+    pub found_here : (mark : ℕ) (found : List ℕ) (n : ℕ) → FoundBelow file meta kept mark found → Contains found n → IsFoundHere mark n
+    found_here zero found n below has = absurd (contains_none n (subst (λ (xs : List ℕ). Contains xs n) below has))
+    found_here (suc mark) found n (before, below, inl (next, is)) has =
+        elim (Contains-push_cases before mark n (subst (λ (xs : List ℕ). Contains xs n) is has)) [
+          | inl lower ↦ here_up mark n (found_here mark before n below lower)
+          | inr same ↦ subst (IsFoundHere (suc mark)) same (here_of before mark next)
+        ]
+    found_here (suc mark) found n (before, below, inr (none, is)) has = here_up mark n (found_here mark before n below (subst (λ (xs : List ℕ). Contains xs n) is has))
+
+    -- two found pages share no page
+    pub found_apart : (mark : ℕ) (found : List ℕ) (n m k : ℕ) → FoundBelow file meta kept mark found → Contains found n → Contains found m
+        → SpanAt nodes (At_page (root_spot n)) k → SpanAt nodes (At_page (root_spot m)) k → n ≡ m
+    found_apart zero found n m k below a b left right = absurd (contains_none n (subst (λ (xs : List ℕ). Contains xs n) below a))
+    found_apart (suc mark) found n m k (before, below, inr (none, is)) a b left right =
+        found_apart mark before n m k below (subst (λ (xs : List ℕ). Contains xs n) is a) (subst (λ (xs : List ℕ). Contains xs m) is b) left right
+    found_apart (suc mark) found n m k (before, below, inl (next, is)) a b left right =
+        elim (Contains-push_cases before mark n (subst (λ (xs : List ℕ). Contains xs n) is a)) [
+          | inl lower ↦ elim (Contains-push_cases before mark m (subst (λ (xs : List ℕ). Contains xs m) is b)) [
+            | inl low ↦ found_apart mark before n m k below lower low left right
+            | inr same ↦ absurd (shares before mark n k next lower left (subst (λ (x : ℕ). SpanAt nodes (At_page (root_spot x)) k) (sym same) right))
+          ]
+          | inr same ↦ elim (Contains-push_cases before mark m (subst (λ (xs : List ℕ). Contains xs m) is b)) [
+            | inl low ↦ absurd (shares before mark m k next low right (subst (λ (x : ℕ). SpanAt nodes (At_page (root_spot x)) k) (sym same) left))
+            | inr also ↦ sym same ∙ also
+          ]
+        ]
+      where
+        shares : (before : List ℕ) (mark n k : ℕ) → IsFoundNext file meta kept before mark → Contains before n
+            → SpanAt nodes (At_page (root_spot n)) k → SpanAt nodes (At_page (root_spot mark)) k → ⊥
+        shares before mark n k next has left right =
+            let inside = rw next.leaf.passes.page at right in
+            next.leaf.passes.free k inside (inr (n, (has, left)))
