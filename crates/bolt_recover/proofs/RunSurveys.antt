@@ -76,11 +76,11 @@ in_of (Ok node) number n h = two (nat_le number n) (nat_le n (number + node.over
     le_is : (a b : ℕ) → a ≤ b → nat_le a b ≡ true
     le_is a b h = grind (arith, nat_tests)
 
-claims_in : (nodes : Nodes) (s : Spot) (n : ℕ) → claims_of nodes s n ≡ true → SpanAt nodes s n
+pub claims_in : (nodes : Nodes) (s : Spot) (n : ℕ) → claims_of nodes s n ≡ true → SpanAt nodes s n
 claims_in nodes (At_page s) n e = span_in (nodes s.number) s.number n e
 claims_in nodes (At_inline host keys) n e = absurd (cc)
 
-claims_is : (nodes : Nodes) (s : Spot) (n : ℕ) → SpanAt nodes s n → claims_of nodes s n ≡ true
+pub claims_is : (nodes : Nodes) (s : Spot) (n : ℕ) → SpanAt nodes s n → claims_of nodes s n ≡ true
 claims_is nodes (At_page s) n h = in_of (nodes s.number) s.number n h
 claims_is nodes (At_inline host keys) n h = absurd h
 

@@ -130,9 +130,9 @@ pub fn found_pages_are_intact()
 {}
 
 /// No intact leaf is left behind: if something is lost, each one that isn't listed as free shares a
-/// page with a kept way or with a found page. It isn't the case that it shares none.
+/// page with a kept way or with a found page.
 pub fn no_intact_leaf_is_left_behind()
     ensures { (file : List ℕ) (meta : Meta) (found : List ℕ) (survey : List Visit) (way : List ℕ) (x : Finding) (n : ℕ) → AreFound file meta found → IsSurvey file meta survey → Has survey (lost way x)
         → IsLoneLeaf (node_at file meta) (λ k. ⊥) n → (IsListedFree file meta n → ⊥)
-        → ((k : ℕ) → SpanAt (node_at file meta) (At_page (root_spot n)) k → IsKeptPage file meta survey k ⊎ IsFoundPage file meta found k → ⊥) → ⊥ }
+        → (k : ℕ) × SpanAt (node_at file meta) (At_page (root_spot n)) k × (IsKeptPage file meta survey k ⊎ IsFoundPage file meta found k) }
 {}

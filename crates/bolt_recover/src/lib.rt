@@ -9,6 +9,6 @@ mod loss;
 mod recovery;
 mod steps;
 
-pub use found::Found;
+pub use found::{Found, found_without_root};
 pub use loss::Loss;
 pub use recovery::Recovery;
