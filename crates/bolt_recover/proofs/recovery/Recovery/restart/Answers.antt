@@ -2,6 +2,7 @@
 use Rattle.std.proofs.Common.{◌∙◌, List, subst, sym, ℕ}
 use Rattle.std.proofs.Math.Logic.{∥∥₁_elim, ∥∥₁_map, ∥∥₁_prop}
 use Rattle.bolt_check.specs.Claims.{claims_file, claims_visited}
+use Rattle.bolt_check.specs.Nodes.{node_at}
 use Rattle.bolt_format.specs.declared.meta.Meta.{Meta}
 use Rattle.bolt_tree.specs.Listing.{Member}
 use Rattle.bolt_recover.specs.Refusals.{KeepsRoot}
