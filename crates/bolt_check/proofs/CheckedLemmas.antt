@@ -28,7 +28,7 @@ good_page file meta way s trees leads =
 -- its trees are sound
 pub checked_trees : (checked : Checked) → ∥ HasSoundTrees (bytes_of checked) (meta_of checked) ∥₁
 unfolding bytes_of meta_of
-checked_trees checked = ∥∥₁_map checked.sound (λ sound. sound.trees)
+checked_trees checked = ∥∥₁_map checked.sound (λ tested. tested.trees)
 
 -- what follows of sound trees, and has one proof, holds of a checked file
 pub with_trees : (checked : Checked) (P : Type 0) → IsProp P → (HasSoundTrees (bytes_of checked) (meta_of checked) → P) → P

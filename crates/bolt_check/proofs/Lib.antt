@@ -11,6 +11,7 @@ pub mod Judging
 pub mod KeyLaws
 pub mod KeyOrder
 pub mod Lawful
+pub mod LeafLemmas
 pub mod ListLemmas
 pub mod ListingLemmas
 pub mod MarkLemmas

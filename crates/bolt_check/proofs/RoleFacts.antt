@@ -1,7 +1,7 @@
 -- What holds of a page with a role, for the crates above.
 use Rattle.std.proofs.Common.{◌≡◌, ℕ, ◌+◌, ◌*◌, ◌<◌, ◌≤◌, ◌⊎◌, inl, inr, Bool, true, List, [], Ok, length, refl, sym, subst, arith}
 use Rattle.std.specs.Prelude.{IsSome}
-use Rattle.std.proofs.Math.Logic.{∥∥₁_elim}
+use Rattle.std.proofs.Math.Logic.{∥∥₁_elim, ∥∥₁_map}
 use Rattle.std.proofs.Math.Nat.{mul-le-mul_right}
 use Rattle.std.proofs.lemmas.Bool.{cases_lt}
 use Rattle.bolt_format.specs.Pages.{page_at}
@@ -24,7 +24,7 @@ use Rattle.bolt_check.proofs.RoleOnce.{role_once}
 -- a file whose accounts were tested is sound with its accounts
 pub sound_accounts : (checked : Checked) → has_accounts checked ≡ true → ∥ IsSound (bytes_of checked) (meta_of checked) true ∥₁
 unfolding bytes_of meta_of has_accounts
-sound_accounts checked is = subst (λ (accounts : Bool). ∥ IsSound checked.bytes.now checked.meta accounts ∥₁) is checked.sound
+sound_accounts checked is = ∥∥₁_map checked.sound (λ tested. tested.whole is)
 
 -- what follows of that, and has one proof, holds of it
 pub with_accounts : (checked : Checked) (P : Type 0) → has_accounts checked ≡ true → IsProp P → (IsSound (bytes_of checked) (meta_of checked) true → P) → P

@@ -6,7 +6,7 @@ use Rattle.bolt_format.specs.declared.meta.Slot.{Slot}
 use Rattle.bolt_check.specs.Accounts.{HasAccounts}
 use Rattle.bolt_check.specs.Findings.{IsClean, IsMetaPage}
 use Rattle.bolt_check.specs.Nodes.{node_at}
-use Rattle.bolt_check.specs.Sound.{HasRightAccounts, IsSound, IsUsed}
+use Rattle.bolt_check.specs.Sound.{HasRightAccounts, IsSound, IsTested, IsUsed}
 use Rattle.bolt_check.specs.Private.Tables.{IsClaimed}
 use Rattle.bolt_check.specs.AccountFindings.{AreAccountFindings}
 use Rattle.bolt_check.specs.Ways.{reached}
@@ -36,6 +36,13 @@ sound_of file slot meta table chosen clean same accounts = record {
   trees = shape_of (node_at file meta) meta.root clean;
   right = λ _. right_of file meta table same accounts;
 }
+
+pub tested_of : (file : List ℕ) (slot : Slot) (meta : Meta) (table : List PageUse) → IsChosen file slot meta
+    → IsClean (node_at file meta) (reached (node_at file meta) meta.root) IsMetaPage → ((n : ℕ) → IsClaimed table n ↔ IsUsed file meta n)
+    → HasAccounts file meta (IsClaimed table) → IsTested file meta true
+tested_of file slot meta table chosen clean same accounts =
+    let sound = sound_of file slot meta table chosen clean same accounts in
+    record { trees = sound.trees; whole = λ _. sound }
 
 pub no_items : (reported : List Finding) → length reported ≡ 0 → reported ≡ []
 no_items [] e = refl

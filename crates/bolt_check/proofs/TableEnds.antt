@@ -15,7 +15,7 @@ other_unused n high = rw (le-ltb n 2 high) refl
 pub past_metas : (t : List PageUse) (n : ℕ) → 2 ≤ n → length t ≤ n → use_at t n ≡ Unused
 past_metas t n high past = get_or_past t n (first_use n) past ∙ other_unused n high
 
-first_unlisted : (n : ℕ) → times_of (first_use n) ≡ 0
+pub first_unlisted : (n : ℕ) → times_of (first_use n) ≡ 0
 first_unlisted n = elim (cases_lt n 2) [
   | inl low ↦ ap times_of (meta_used n low)
   | inr high ↦ ap times_of (other_unused n high)

@@ -46,6 +46,19 @@ claims_made nodes s node old new e span below above = record {
   span = λ n h. let i : IsInSpan node s.number n = rw e at h in span n i.0 i.1;
 }
 
+-- a page that is still unclaimed lies outside the span
+pub outside_span : (old new : List PageUse) (from last : ℕ) → ((k : ℕ) → from ≤ k → k ≤ last → IsClaimed new k)
+    → ((k : ℕ) → k < from → use_at new k ≡ use_at old k) → ((k : ℕ) → last < k → use_at new k ≡ use_at old k)
+    → (n : ℕ) → IsUnclaimed new n → use_at new n ≡ use_at old n
+outside_span old new from last span below above n free =
+    elim (cases_lt n from) [
+      | inl lt ↦ below n lt
+      | inr ge ↦ elim (cases_lt last n) [
+        | inl gt ↦ above n gt
+        | inr le ↦ absurd (not_both new n free (span n ge le))
+      ]
+    ]
+
 start_claimed : (nodes : Nodes) (reach : Reach) (c d : ℕ → Type 0) (way : List ℕ) → ((n : ℕ) → c n → d n) → (n : ℕ) → IsClaimedBefore nodes reach c way n → IsClaimedBefore nodes reach d way n
 start_claimed nodes reach c d way to n (inl h) = inl (to n h)
 start_claimed nodes reach c d way to n (inr h) = inr h

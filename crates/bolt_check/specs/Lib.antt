@@ -1,11 +1,14 @@
 pub mod AccountFindings
 pub mod Accounts
+pub mod Assumed
 pub mod CheckedFiles
 pub mod Claims
 pub mod Counts
 pub mod EntrySpots
 pub mod Findings
 pub mod Keys
+pub mod Leftovers
+pub mod LoneLeaves
 pub mod Nodes
 pub mod OnWays
 pub mod Private

@@ -1,4 +1,5 @@
 -- What private contracts and proofs cite, and no public one.
+pub mod LeafTests
 pub mod Listings
 pub mod Pending
 pub mod RoleTables

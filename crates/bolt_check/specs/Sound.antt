@@ -1,5 +1,5 @@
 -- Sound files, and what is reported of the others: docs/SOUND.md.
-use Rattle.std.specs.Prelude.{◌≢◌, ℕ, List, [], Bool, IsTrue}
+use Rattle.std.specs.Prelude.{◌≢◌, ℕ, List, [], Bool, true, IsTrue}
 use Rattle.bolt_format.specs.Metas.{HasMetaFault, HasSlotFault, IsChosen, IsInSlot}
 use Rattle.bolt_format.specs.declared.meta.Meta.{Meta}
 use Rattle.bolt_format.specs.declared.meta.Slot.{Slot}
@@ -33,12 +33,17 @@ HasRightAccounts file meta = HasAccounts file meta (IsUsed file meta)
 abbrev pub IsFirstFinding : List ℕ → Meta → Finding → Type 0
 IsFirstFinding file meta x = IsFirst (node_at file meta) (reached (node_at file meta) meta.root) IsMetaPage x
 
--- what is known of a checked file, whether its accounts were tested too or not
+-- the file is sound for the meta of a slot: its trees are, and its accounts if they were tested too
 pub record IsSound (file : List ℕ) (meta : Meta) (accounts : Bool) : Type 0 where
   pub slot : Slot
   pub valid : IsInSlot file slot meta
   pub trees : HasSoundTrees file meta
   pub right : IsTrue accounts → HasRightAccounts file meta
+
+-- what is known of a checked file: its trees are sound and, if its accounts were tested too, all of it is sound for the meta of a slot
+pub record IsTested (file : List ℕ) (meta : Meta) (accounts : Bool) : Type 0 where
+  pub trees : HasSoundTrees file meta
+  pub whole : IsTrue accounts → IsSound file meta true
 
 -- why the file isn't sound for the active meta
 abbrev pub IsRefused : List ℕ → CheckFault → Type 0
@@ -48,6 +53,13 @@ IsRefused file (Accounts reported) =
     (slot : Slot) × (meta : Meta) × IsChosen file slot meta × HasSoundTrees file meta × (HasRightAccounts file meta → ⊥)
     × AreAccountFindings file meta (IsUsed file meta) reported.items × (reported.items ≢ [])
 IsRefused file Memory = Unit {0}
+
+-- why the trees of the file aren't sound for this meta
+abbrev pub AreTreesRefused : List ℕ → Meta → CheckFault → Type 0
+AreTreesRefused file meta (Structure x) = IsFirstFinding file meta x
+AreTreesRefused file meta Memory = Unit {0}
+AreTreesRefused file meta (Open fault) = ⊥
+AreTreesRefused file meta (Accounts reported) = ⊥
 
 -- why the trees of the file aren't sound for the meta of this slot
 abbrev pub IsSlotRefused : List ℕ → Slot → CheckFault → Type 0

@@ -1,17 +1,17 @@
 //! A file that passed its tests.
 ghost use Rattle.std.specs.Prelude.{◌≡◌};
-ghost use Rattle.bolt_check.specs.Sound.{IsSound};
+ghost use Rattle.bolt_check.specs.Sound.{IsTested};
 
 use bolt_format::Meta;
 
-/// A file whose trees are sound for a valid meta (docs/SOUND.md). Only a test of the file makes
+/// A file whose trees are sound for a meta (docs/SOUND.md). Only a test of the file makes
 /// one, so its pages may be read without a second test.
 #[derive(Clone, Copy)]
 pub struct Checked<'a> {
     pub(crate) bytes: &'a [u8],
     pub(crate) meta: Meta,
     pub(crate) accounts: bool,
-    pub ghost sound: { ∥ IsSound bytes.now meta accounts ∥₁ },
+    pub ghost sound: { ∥ IsTested bytes.now meta accounts ∥₁ },
 }
 
 #[tactic(auto, unfolding(crate::specs::CheckedFiles::bytes_of, crate::specs::CheckedFiles::meta_of, crate::specs::CheckedFiles::has_accounts))]

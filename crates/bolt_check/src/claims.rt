@@ -6,6 +6,7 @@ ghost use Rattle.bolt_format.specs.Shown.{shown};
 ghost use Rattle.bolt_check.specs.Counts.{counted};
 ghost use Rattle.bolt_check.specs.Findings.{IsMetaPage, PagePasses, PageTests};
 ghost use Rattle.bolt_check.specs.Nodes.{node_at};
+ghost use Rattle.bolt_check.specs.Private.Listings.{IsUnlisted};
 ghost use Rattle.bolt_check.specs.Private.Tables.{HasRoom};
 ghost use Rattle.bolt_check.specs.ShownNodes.{shown_node};
 ghost use Rattle.bolt_check.specs.ShownSpots.{page_spot};
@@ -29,11 +30,12 @@ use std::alloc::Global;
 /// can't visit a page uncounted, and can't make a second table.
 #[derive(Drop)]
 pub struct Claims<'a> {
-    file: &'a [u8],
-    meta: Meta,
-    table: Vec<PageUse>,
+    pub(crate) file: &'a [u8],
+    pub(crate) meta: Meta,
+    pub(crate) table: Vec<PageUse>,
     visited: u64,
     ghost room: { HasRoom file.now meta table.items },
+    ghost unlisted: { IsUnlisted table.items },
     ghost bytes: { IsBytes file.now },
     ghost fits: { visited < 2 ^ 64 },
 }

@@ -66,3 +66,26 @@ pub(crate) fn list_ids(
     }
     Ok(past)
 }
+
+/// Lists one id in the table, if it isn't past it.
+fn list_within(id: u64, table: &mut [PageUse])
+    ensures used { (n : ℕ) → is_used (use_at table.new n) ≡ is_used (use_at table.old n) }
+    ensures times { (n : ℕ) → n < length table.old → times_of (use_at table.new n) ≡ min 2 (times_of (use_at table.old n) + (if id == n then 1 else 0)) }
+{
+    if table.len() as u64 <= id {
+        return;
+    }
+    let n = id as usize;
+    table[n] = listed(table[n]);
+}
+
+/// Lists the ids in the table. Those past it are ignored, so it needs no memory.
+pub(crate) fn list_ids_within(ids: FreeIds<'_>, table: &mut [PageUse])
+    requires { IsUnlisted table.old }
+    ensures used { (n : ℕ) → is_used (use_at table.new n) ≡ is_used (use_at table.old n) }
+    ensures times { (n : ℕ) → n < length table.old → times_of (use_at table.new n) ≡ min 2 (times_in (shown_ids ids.entry) n) }
+{
+    for i in 0..ids.len() {
+        list_within(ids.get(i), table);
+    }
+}

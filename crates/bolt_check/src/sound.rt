@@ -1,16 +1,16 @@
 //! Is a whole file sound, and are the trees of one meta?
-ghost use Rattle.std.specs.Prelude.{◌≡◌, false, true, IfErr, IfOk};
+ghost use Rattle.std.specs.Prelude.{◌≡◌, ◌<◌, false, true, IfErr, IfOk, OnOk};
 ghost use Rattle.bolt_format.specs.Metas.{IsChosen, IsInSlot};
 ghost use Rattle.bolt_check.specs.CheckedFiles.{bytes_of, has_accounts, meta_of};
 ghost use Rattle.bolt_check.specs.RoledFiles.{roles_checked};
-ghost use Rattle.bolt_check.specs.Sound.{HasSoundTrees, IsRefused, IsSlotRefused, IsSound};
+ghost use Rattle.bolt_check.specs.Sound.{AreTreesRefused, HasSoundTrees, IsRefused, IsSlotRefused, IsSound};
 
 use crate::accounts::test_accounts;
 use crate::checked_file::Checked;
 use crate::fault::CheckFault;
 use crate::role_table::Roles;
 use crate::search::search;
-use bolt_format::{Slot, choose, slot_meta};
+use bolt_format::{Meta, Slot, choose, slot_meta};
 use std::alloc::Global;
 
 /// Tests a file under the active meta: its trees, and then its accounts (docs/SOUND.md).
@@ -76,6 +76,24 @@ pub fn check_slot<'a>(alloc: Global, file: &'a [u8], slot: Slot) -> Result<Check
     ensures refused { IfErr result (IsSlotRefused file.now slot) }
 {
     let meta = slot_meta(file, slot)?;
+    check_under(alloc, file, meta)
+}
+
+/// Tests the trees of a file under a meta that is handed in (docs/SOUND.md, "One meta alone"). The
+/// metas of the file are ignored, and so are its accounts. It needs memory as `check_slot` does.
+///
+/// # Errors
+///
+/// `Structure` with the first finding of the trees; `Memory` if memory runs out. Never `Open` or
+/// `Accounts`.
+pub fn check_under<'a>(alloc: Global, file: &'a [u8], meta: Meta) -> Result<Checked<'a>, CheckFault>
+    requires { 0 < meta.page_size }
+    ensures bytes { IfOk result (λ checked. bytes_of checked ≡ file.now) }
+    ensures meta { IfOk result (λ checked. meta_of checked ≡ meta) }
+    ensures trees { OnOk result (HasSoundTrees file.now meta) }
+    ensures accounts { IfOk result (λ checked. has_accounts checked ≡ false) }
+    ensures refused { IfErr result (AreTreesRefused file.now meta) }
+{
     search(alloc, file, &meta)?;
     Ok(Checked {
         bytes: file,

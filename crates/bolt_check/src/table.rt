@@ -1,6 +1,6 @@
 //! The table of pages: one byte for each whole page that lies in the file and below the high-water
 //! mark. The meta pages are claimed, whether the table has them or not.
-ghost use Rattle.std.specs.Prelude.{◌≡◌, ℕ, true, ◌<◌, ◌≤◌, ◌+◌, ◌*◌, ◌↔◌, length, IfOk, IfSome, MatchOption};
+ghost use Rattle.std.specs.Prelude.{◌≡◌, ◌==◌, ℕ, not, true, ◌<◌, ◌≤◌, ◌+◌, ◌*◌, ◌↔◌, length, IfOk, IfSome, MatchOption};
 ghost use Rattle.bolt_check.specs.Findings.{IsMetaPage};
 ghost use Rattle.bolt_check.specs.Private.Listings.{IsUnlisted};
 ghost use Rattle.bolt_check.specs.Private.Tables.{HasRoom, IsClaimed, IsUnclaimed, first_use, is_used, times_of, unclaimed, use_at};
@@ -96,6 +96,16 @@ fn is_used(page_use: PageUse) -> bool
         | PageUse::UsedFree
         | PageUse::UsedFreeTwice => true,
         PageUse::Unused | PageUse::Free | PageUse::FreeTwice => false,
+    }
+}
+
+/// Whether a page is listed as free.
+pub(crate) fn is_listed(page_use: PageUse) -> bool
+    ensures { result ≡ not (times_of page_use == 0) }
+{
+    match page_use {
+        PageUse::Free | PageUse::FreeTwice | PageUse::UsedFree | PageUse::UsedFreeTwice => true,
+        PageUse::Unused | PageUse::Branch | PageUse::Leaf | PageUse::Used => false,
     }
 }
 

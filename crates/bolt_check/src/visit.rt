@@ -1,5 +1,5 @@
 //! The visit of one page: its tests, and the claim of its span.
-ghost use Rattle.std.specs.Prelude.{◌≡◌, ◌<◌, ◌≤◌, IfErr, IfOk, Ok, OnErr, OnOk, Some};
+ghost use Rattle.std.specs.Prelude.{◌≡◌, ◌<◌, ◌≤◌, ℕ, IfErr, IfOk, Ok, OnErr, OnOk, Some};
 ghost use Rattle.std.specs.Result.{result_err};
 ghost use Rattle.bolt_format.specs.Pages.{page_at};
 ghost use Rattle.bolt_format.specs.Shown.{shown};
@@ -9,7 +9,7 @@ ghost use Rattle.bolt_check.specs.Private.Listings.{IsUnlisted};
 ghost use Rattle.bolt_check.specs.Private.Pending.{Claims};
 ghost use Rattle.bolt_check.specs.ShownSpots.{page_spot};
 ghost use Rattle.bolt_check.specs.ShownNodes.{shown_node};
-ghost use Rattle.bolt_check.specs.Private.Tables.{HasRoom, IsClaimed, unclaimed};
+ghost use Rattle.bolt_check.specs.Private.Tables.{HasRoom, IsClaimed, IsUnclaimed, unclaimed, use_at};
 ghost use Rattle.bolt_check.specs.Private.Uses.{Notes, use_of};
 ghost use Rattle.bolt_check.specs.Ways.{At_page};
 
@@ -36,6 +36,7 @@ pub(crate) fn visit<'a>(
     ensures passes { OnOk result (PagePasses (node_at file.now meta.now) (IsClaimed table.old) (page_spot spot.now)) }
     ensures claims { OnOk result (Claims (node_at file.now meta.now) (At_page (page_spot spot.now)) table.old table.new) }
     ensures notes { OnOk result (Notes (node_at file.now meta.now) (At_page (page_spot spot.now)) table.old table.new) }
+    ensures outside { OnOk result ((n : ℕ) → IsUnclaimed table.new n → use_at table.new n ≡ use_at table.old n) }
     ensures fewer { OnOk result (unclaimed table.new < unclaimed table.old) }
     ensures unlisted { OnOk result (IsUnlisted table.old → IsUnlisted table.new) }
     ensures shallow { OnOk result (spot.now.depth ≤ 64) }

@@ -1,6 +1,8 @@
 mod ElementLists
 pub mod Existing
 mod FirstLoss
+mod FoundAll
+mod FoundLemmas
 mod HeldMembers
 mod Leading
 pub mod LeftMembers

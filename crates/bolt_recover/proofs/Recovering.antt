@@ -1,7 +1,7 @@
 -- A recovery between its calls: what of the recovered listing is left, and which losses are still to be reported.
-use Rattle.std.proofs.Common.{◌≡◌, ◌∙◌, ◌≤◌, ◌<◌, ◌^◌, inl, inr, ℕ, Bool, true, false, List, [], ◌∷◌, ◌++◌, length, map, take, Option, Some, None, Result, Ok, Err, IfErr, IfOk, OnErr, cond, filter, if◌then◌else◌, refl, sym, ap, subst, subst₂, arith}
+use Rattle.std.proofs.Common.{◌≡◌, ◌∙◌, ◌≤◌, ◌<◌, ◌^◌, inl, inr, ℕ, Bool, true, false, ◌||◌, ◌↔◌, List, [], ◌∷◌, ◌++◌, length, map, take, Option, Some, None, Result, Ok, Err, IfErr, IfOk, OnErr, cond, filter, if◌then◌else◌, refl, sym, ap, subst, subst₂, arith}
 use Rattle.std.proofs.Props.{props}
-use Rattle.std.specs.Cmp.{IsTotalOrder}
+use Rattle.std.specs.Cmp.{IsTotalOrder, both_ways}
 use Rattle.std.specs.List.{Contains}
 use Rattle.std.specs.Ordering.{is_lt}
 use Rattle.std.specs.declared.cmp.Ordering.{Ordering}
@@ -30,24 +30,26 @@ use Rattle.bolt_tree.proofs.Filters.{filter_all, filter_same, lt_of, not_lt_of}
 use Rattle.bolt_tree.proofs.Lists.{contains_head, contains_tail}
 use Rattle.bolt_tree.proofs.PathOrder.{flip_less, less_lt, path_total}
 use Rattle.bolt_tree.proofs.Single.{member_total}
+use Rattle.bolt_recover.specs.KeptPages.{AreKeptPages, IsKeptPage}
 use Rattle.bolt_recover.specs.Losses.{AreLosses, LossView, losses_of}
 use Rattle.bolt_recover.specs.PageWays.{ArePageWays, page_ways}
-use Rattle.bolt_recover.specs.Private.Frames.{Advances, AreOpen, ComesTo, Ends, GivesHead, GoesOn, HasOpen, IsGoodContent, IsGoodPage, IsOn, IsOutcome, IsRefusedRoot, NoWay, Outcome, State, StaysOn, ahead_tasks, is_over, left_by, open_tasks, outcome_of, over_by, stay}
-use Rattle.bolt_recover.specs.Private.Runs.{Runs, RunsAll, Task, Visited, losses_in, pages_visited}
+use Rattle.bolt_recover.specs.Private.Frames.{Advances, AreOpen, ComesTo, Ends, GivesHead, GoesOn, HasOpen, IsGoodContent, IsGoodPage, IsOn, IsOutcome, NoWay, Outcome, State, StaysOn, ahead_tasks, is_over, left_by, open_tasks, outcome_of, over_by, stay}
+use Rattle.bolt_recover.specs.Private.Runs.{Runs, RunsAll, Task, Visited, losses_in, meta_pages, pages_visited, spans_in}
 use Rattle.bolt_recover.specs.Recovered.{IsRecovered}
 use Rattle.bolt_recover.specs.Recoveries.{AreFirst}
-use Rattle.bolt_recover.specs.Refusals.{IsSlotUnrecoverable, IsUnrecoverable}
+use Rattle.bolt_recover.specs.Refusals.{IsRefusedRoot, IsSlotUnrecoverable, IsUnrecoverable}
+use Rattle.bolt_recover.specs.Surveys.{IsSurvey, Visit}
 use Rattle.bolt_recover.specs.declared.content.Content.{Content}
 use Rattle.bolt_recover.specs.declared.content.Content.TheVariants.{Bucket, Page}
 use Rattle.bolt_recover.specs.declared.content.OpenPage.{OpenPage}
 use Rattle.bolt_recover.specs.declared.steps.NextVisit.{NextVisit}
 use Rattle.bolt_recover.proofs.OneRecovered.{one_recovered}
 use Rattle.bolt_recover.proofs.RunExists.{run_exists}
-use Rattle.bolt_recover.proofs.RunForgets.{blind_visit, forgotten, same_losses, same_pages}
+use Rattle.bolt_recover.proofs.RunForgets.{blind_visit, forgotten, same_losses, same_pages, same_spans}
 use Rattle.bolt_recover.proofs.RunOrder.{further, visits_of}
 use Rattle.bolt_recover.proofs.RunRecovers.{recovers}
 use Rattle.bolt_recover.proofs.RunSteps.{ends}
-use Rattle.bolt_recover.proofs.RunSurveys.{all_losses, all_pages, surveyed}
+use Rattle.bolt_recover.proofs.RunSurveys.{all_losses, all_pages, all_spans, surveyed}
 use Rattle.bolt_recover.proofs.SurveyIsOne.{one_survey}
 
 -- that pages are open in good order is known or not, and no more
@@ -66,19 +68,19 @@ pub has_open_prop : (s : State) (x y : HasOpen s) → x ≡ y
 has_open_prop s = hlevel (props, open_prop)
 
 -- the recovered listing of a file and the outcome, and the run that comes to them
-record IsAll (file : List ℕ) (meta : Meta) (begun : ℕ) (listing : List Member) (outcome : Outcome) : Type 0 where
-  recovered : IsRecovered file meta listing
-  whole : IsOutcome file meta begun outcome
-  visits : List (Visited NoWay)
-  run : RunsAll file meta stay tt visits listing
-  all : outcome ≡ outcome_of begun visits
+pub record IsAll (file : List ℕ) (meta : Meta) (begun : ℕ) (listing : List Member) (outcome : Outcome) : Type 0 where
+  pub recovered : IsRecovered file meta listing
+  pub whole : IsOutcome file meta begun outcome
+  pub visits : List (Visited NoWay)
+  pub run : RunsAll file meta stay tt visits listing
+  pub all : outcome ≡ outcome_of (node_at file meta) begun visits
 
-all_of : (file : List ℕ) (meta : Meta) (begun : ℕ) → (listing : List Member) × (outcome : Outcome) × IsAll file meta begun listing outcome
+pub all_of : (file : List ℕ) (meta : Meta) (begun : ℕ) → (listing : List Member) × (outcome : Outcome) × IsAll file meta begun listing outcome
 all_of file meta begun =
     let (visits, members, run) = run_exists file meta further [] in
     let survey = surveyed file meta visits members run in (
       members,
-      record { losses = losses_in visits; visited = counted begun (pages_visited visits) },
+      record { losses = losses_in visits; visited = counted begun (pages_visited visits); claimed = λ n. meta_pages n || spans_in (node_at file meta) visits n },
       record {
         recovered = recovers file meta visits members run;
         whole = record {
@@ -86,12 +88,26 @@ all_of file meta begun =
           ways = pages_visited visits;
           counts = (visits_of visits, survey, all_pages file meta visits members run);
           visited = refl;
+          claimed = λ other is n.
+              subst (λ (sv : List Visit). ((meta_pages n || spans_in (node_at file meta) visits n) ≡ true) ↔ IsKeptPage file meta sv n)
+              (one_survey (node_at file meta) (reached (node_at file meta) meta.root) (visits_of visits) other survey is) (all_spans file meta visits members run n);
         };
         visits = map blind_visit visits;
         run = forgotten file meta visits members run;
-        all = λ i. record { losses = sym (same_losses visits) i; visited = counted begun (sym (same_pages visits) i) };
+        all = λ i. record {
+          losses = sym (same_losses visits) i;
+          visited = counted begun (sym (same_pages visits) i);
+          claimed = λ n. meta_pages n || sym (same_spans (node_at file meta) visits n) i;
+        };
       },
     )
+
+-- the pages that are claimed at the end
+abbrev pub all_claimed : List ℕ → Meta → ℕ → ℕ → Bool
+all_claimed file meta begun = (all_of file meta begun).1.claimed
+
+pub claimed_all : (file : List ℕ) (meta : Meta) (begun : ℕ) → AreKeptPages file meta (all_claimed file meta begun)
+claimed_all file meta begun = (all_of file meta begun).2.whole.claimed
 
 one_losses : (file : List ℕ) (meta : Meta) (a b : List LossView) → AreLosses file meta a → AreLosses file meta b → a ≡ b
 one_losses file meta a b (s, is_s, of_s) (t, is_t, of_t) =
@@ -101,11 +117,17 @@ pub one_number : (file : List ℕ) (meta : Meta) (a b : ℕ) → ArePageWays fil
 one_number file meta a b (s, is_s, of_s) (t, is_t, of_t) =
     of_s ∙ ap (page_ways (reached (node_at file meta) meta.root)) (one_survey (node_at file meta) (reached (node_at file meta) meta.root) s t is_s is_t) ∙ sym of_t
 
+one_claimed : (file : List ℕ) (meta : Meta) (begun : ℕ) (a b : Outcome) → IsOutcome file meta begun a → IsOutcome file meta begun b → (n : ℕ) → a.claimed n ≡ b.claimed n
+one_claimed file meta begun a b h k n =
+    let (survey, is, of) = h.losses in
+    both_ways (a.claimed n) (b.claimed n) (λ was. (k.claimed survey is n).1 ((h.claimed survey is n).0 was)) (λ was. (h.claimed survey is n).1 ((k.claimed survey is n).0 was))
+
 one_outcome : (file : List ℕ) (meta : Meta) (begun : ℕ) (a b : Outcome) → IsOutcome file meta begun a → IsOutcome file meta begun b → a ≡ b
 one_outcome file meta begun a b h k =
     let losses = one_losses file meta a.losses b.losses h.losses k.losses in
     let visited = h.visited ∙ ap (counted begun) (one_number file meta h.ways k.ways h.counts k.counts) ∙ sym k.visited in
-    λ i. record { losses = losses i; visited = visited i }
+    let claimed = one_claimed file meta begun a b h k in
+    λ i. record { losses = losses i; visited = visited i; claimed = λ n. claimed n i }
 
 -- each recovered listing and outcome come of a run
 all_from : (file : List ℕ) (meta : Meta) (begun : ℕ) (listing : List Member) (outcome : Outcome) → IsRecovered file meta listing → IsOutcome file meta begun outcome → IsAll file meta begun listing outcome
@@ -136,7 +158,7 @@ left_all s file meta listing more path recovered =
     left_more s listing more ∙ ap (λ (p : Path). rest_after p listing) path ∙ behind_start file meta listing recovered
 
 pub begun : (s : State) (file : List ℕ) (meta : Meta) (before : ℕ) → s.file ≡ file → s.meta ≡ meta → HasOpen s → is_over s ≡ false → s.path ≡ []
-    → ((visits : List (Visited NoWay)) (members : List Member) → RunsAll file meta stay tt visits members → ComesTo s members (outcome_of before visits)) → IsOn s meta before
+    → ((visits : List (Visited NoWay)) (members : List Member) → RunsAll file meta stay tt visits members → ComesTo s members (outcome_of (node_at file meta) before visits)) → IsOn s meta before
 begun s file meta before of_file of_meta placed more path comes = record {
   meta = of_meta;
   placed = placed;
@@ -191,6 +213,10 @@ left_given s listing m rest rises e =
       | inr more ↦ given_left s.path listing m rest rises (sym (left_more s listing more) ∙ e)
     ]
 
+or_none : (b : Bool) → (b || false) ≡ b
+or_none true = refl
+or_none false = refl
+
 module _ (old new : State) (meta : Meta) (before : ℕ) (on : IsOn old meta before) where
   -- after an element was returned
   given_next : (e : LeafElement) → GivesHead old new e → (listing : List Member) (outcome : Outcome) → IsRecovered old.file meta listing → IsOutcome old.file meta before outcome
@@ -237,7 +263,7 @@ module _ (old new : State) (meta : Meta) (before : ℕ) (on : IsOn old meta befo
 
   -- if nothing is left to be done, everything is reported
   reported_all : (s : State) (members : List Member) (outcome : Outcome) → s.ahead ≡ None → s.pages ≡ [] → ComesTo s members outcome
-      → (members ≡ []) × (s.losses ≡ outcome.losses) × (outcome.visited ≡ counted s.visited 0)
+      → (members ≡ []) × (s.losses ≡ outcome.losses) × (outcome.visited ≡ counted s.visited 0) × ((n : ℕ) → outcome.claimed n ≡ s.claimed n)
   reported_all s members outcome ahead pages comes =
       let run = subst (λ (ts : List (Task NoWay)). Runs s.file s.meta stay s.claimed ts comes.visits members)
       (ap (λ (o : Option NextVisit). ahead_tasks s.file s.meta s.path o (open_tasks s.file s.meta s.path s.pages [])) ahead ∙ ap (λ (ps : List OpenPage). open_tasks s.file s.meta s.path ps []) pages) comes.run in
@@ -245,24 +271,29 @@ module _ (old new : State) (meta : Meta) (before : ℕ) (on : IsOn old meta befo
         over.1,
         sym (comes.all ∙ ap (λ (vs : List (Visited NoWay)). s.losses ++ losses_in vs) over.0 ∙ append-nil s.losses),
         comes.pages ∙ ap (λ (vs : List (Visited NoWay)). counted s.visited (pages_visited vs)) over.0,
+        λ n. comes.spans n ∙ ap (λ (vs : List (Visited NoWay)). s.claimed n || spans_in (node_at s.file s.meta) vs n) over.0 ∙ or_none (s.claimed n),
       )
 
-  ended_with : Ends old new → (outcome : Outcome) → IsOutcome old.file meta before outcome → (new.losses ≡ outcome.losses) × (outcome.visited ≡ counted new.visited 0)
+  ended_with : Ends old new → (outcome : Outcome) → IsOutcome old.file meta before outcome → (new.losses ≡ outcome.losses) × (outcome.visited ≡ counted new.visited 0) × ((n : ℕ) → outcome.claimed n ≡ new.claimed n)
   ended_with h outcome whole =
       let (members, other, all) = all_of old.file meta before in
       let last = reported_all new [] outcome h.ended.ahead h.ended.pages (h.none (left_by old members) outcome (on.comes members outcome all.recovered whole)).1 in
-      (last.1, last.2)
+      (last.1, last.2, last.3)
 
   pub reported_ended : Ends old new → (losses : List LossView) → AreLosses old.file meta losses → new.losses ≡ losses
   reported_ended h losses reported =
       let (members, other, all) = all_of old.file meta before in
-      (ended_with h (record other { losses = losses }) (record { losses = reported; ways = all.whole.ways; counts = all.whole.counts; visited = all.whole.visited })).0
+      (ended_with h (record other { losses = losses }) (record { losses = reported; ways = all.whole.ways; counts = all.whole.counts; visited = all.whole.visited; claimed = all.whole.claimed })).0
 
   -- and each way to a page number was visited once
   pub visited_ended : Ends old new → (ways : ℕ) → ArePageWays old.file meta ways → counted before ways ≡ counted new.visited 0
   visited_ended h ways are =
       let (members, other, all) = all_of old.file meta before in
-      (ended_with h (record other { visited = counted before ways }) (record { losses = all.whole.losses; ways = ways; counts = are; visited = refl })).1
+      (ended_with h (record other { visited = counted before ways }) (record { losses = all.whole.losses; ways = ways; counts = are; visited = refl; claimed = all.whole.claimed })).1
+
+  -- and the claimed pages are those that kept ways take in
+  pub claimed_ended : Ends old new → (n : ℕ) → all_claimed old.file meta before n ≡ new.claimed n
+  claimed_ended h n = let all = all_of old.file meta before in (ended_with h all.1 all.2.whole).2 n
 
   -- after memory ran out
   over_parts : (o : Option NextVisit) (pages : List OpenPage) → over_by o pages ≡ true → (o ≡ None) × (pages ≡ [])
@@ -309,7 +340,7 @@ file_advanced old new (Err e) given same = same.on.file
 pub reported_first : (s : State) (meta : Meta) (before : ℕ) → IsOn s meta before → (losses : List LossView) → AreLosses s.file meta losses → AreFirst s.losses losses
 reported_first s meta before on losses reported =
     let (members, other, all) = all_of s.file meta before in
-    let comes = on.comes members (record other { losses = losses }) all.recovered (record { losses = reported; ways = all.whole.ways; counts = all.whole.counts; visited = all.whole.visited }) in
+    let comes = on.comes members (record other { losses = losses }) all.recovered (record { losses = reported; ways = all.whole.ways; counts = all.whole.counts; visited = all.whole.visited; claimed = all.whole.claimed }) in
     let short : length s.losses ≤ length s.losses = omega arith in
     sym (ap (take (length s.losses)) comes.all ∙ take-append-le (length s.losses) s.losses (losses_in comes.visits) short ∙ take_all (length s.losses) s.losses short)
 
@@ -318,7 +349,7 @@ pub visited_within : (s : State) (meta : Meta) (before : ℕ) → IsOn s meta be
 visited_within s meta before on fits ways are =
     let (members, other, all) = all_of s.file meta before in
     let comes = on.comes members (record other { visited = counted before ways }) all.recovered
-    (record { losses = all.whole.losses; ways = ways; counts = are; visited = refl }) in
+    (record { losses = all.whole.losses; ways = ways; counts = are; visited = refl; claimed = all.whole.claimed }) in
     let pages = comes.pages in
     omega (arith, pages, fits)
 

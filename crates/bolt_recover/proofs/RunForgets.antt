@@ -1,15 +1,15 @@
 -- A run may forget its ways.
-use Rattle.std.proofs.Common.{◌≡◌, ◌∙◌, ℕ, zero, suc, ◌+◌, Bool, List, [], ◌∷◌, ◌++◌, map, Option, Some, None, slice_get, refl, ap, subst}
+use Rattle.std.proofs.Common.{◌≡◌, ◌∙◌, ℕ, zero, suc, ◌+◌, Bool, ◌||◌, List, [], ◌∷◌, ◌++◌, map, Option, Some, None, slice_get, refl, ap, subst}
 use Rattle.std.proofs.lemmas.List.{map-append}
 use Rattle.bolt_format.specs.Elements.{LeafElement}
 use Rattle.bolt_format.specs.declared.meta.Meta.{Meta}
-use Rattle.bolt_check.specs.Nodes.{node_at}
+use Rattle.bolt_check.specs.Nodes.{Nodes, node_at}
 use Rattle.bolt_tree.specs.Listing.{Member}
 use Rattle.bolt_tree.specs.Paths.{Path}
 use Rattle.bolt_recover.specs.Losses.{LossView}
 use Rattle.bolt_recover.specs.Places.{Place, root_place, step_place}
 use Rattle.bolt_recover.specs.Private.Frames.{NoWay, stay}
-use Rattle.bolt_recover.specs.Private.Runs.{Runs, RunsAll, Task, To_give, To_visit, Visited, claimed_with, entry_tasks, gives_at, losses_in, lost_at, page_visit, pages_visited, place_tasks, tasks_from, visits_at}
+use Rattle.bolt_recover.specs.Private.Runs.{Runs, RunsAll, Task, To_give, To_visit, Visited, claimed_with, entry_tasks, gives_at, losses_in, lost_at, page_visit, pages_visited, place_tasks, span_of, spans_in, tasks_from, visits_at}
 use Rattle.bolt_recover.specs.Private.Runs.Runs.{done, give, keep, lose}
 use Rattle.bolt_recover.proofs.RunOrder.{Way, further}
 
@@ -55,3 +55,7 @@ same_pages (v ∷ visits) = ap (λ (n : ℕ). page_visit v.place.spot + n) (same
 pub same_losses : (visits : List (Visited Way)) → losses_in (map blind_visit visits) ≡ losses_in visits
 same_losses [] = refl
 same_losses (v ∷ visits) = ap (λ (ls : List LossView). lost_at v.place v.found ++ ls) (same_losses visits)
+
+pub same_spans : (nodes : Nodes) (visits : List (Visited Way)) (n : ℕ) → spans_in nodes (map blind_visit visits) n ≡ spans_in nodes visits n
+same_spans nodes [] n = refl
+same_spans nodes (v ∷ visits) n = ap (λ (b : Bool). span_of nodes v.place.spot v.found n || b) (same_spans nodes visits n)

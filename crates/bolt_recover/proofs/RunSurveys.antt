@@ -2,7 +2,7 @@
 use Rattle.std.proofs.Common.{◌≡◌, ◌∙◌, ◌⊎◌, ◌↔◌, ◌≤◌, ◌<◌, inl, inr, ℕ, zero, suc, ◌+◌, Bool, true, false, ◌||◌, ◌&&◌, List, [], ◌∷◌, ◌++◌, length, nat_le, Option, Some, None, Result, Ok, Err, slice_get, refl, sym, ap, subst, arith, append_assoc, cond}
 use Rattle.std.specs.List.{Contains}
 use Rattle.std.proofs.lemmas.Bool.Decides.{nat_tests}
-use Rattle.std.proofs.lemmas.Bool.{or_cases}
+use Rattle.std.proofs.lemmas.Bool.{false≢true, or_cases}
 use Rattle.std.proofs.lemmas.List.Sums.{sum_by-cons}
 use Rattle.bolt_format.specs.Elements.{LeafElement}
 use Rattle.bolt_format.specs.declared.meta.Meta.{Meta}
@@ -16,10 +16,11 @@ use Rattle.bolt_tree.specs.Entries.{Item, item_of}
 use Rattle.bolt_tree.specs.Listing.{Member}
 use Rattle.bolt_tree.specs.Paths.{Path}
 use Rattle.bolt_tree.proofs.Lists.{contains_cases, contains_head, contains_none, contains_tail}
+use Rattle.bolt_recover.specs.KeptPages.{IsKeptPage}
 use Rattle.bolt_recover.specs.Losses.{LossView, loss_at, losses_of}
 use Rattle.bolt_recover.specs.PageWays.{is_at_page, page_ways}
 use Rattle.bolt_recover.specs.Places.{Place, place_at, root_place, step_place}
-use Rattle.bolt_recover.specs.Private.Runs.{Runs, RunsAll, Task, To_give, To_visit, Visited, claimed_with, claims_of, entry_tasks, gives_at, in_span, lost_at, losses_in, meta_pages, page_visit, pages_visited, place_size, place_tasks, tasks_from, visits_at}
+use Rattle.bolt_recover.specs.Private.Runs.{Runs, RunsAll, Task, To_give, To_visit, Visited, claimed_with, claims_of, entry_tasks, gives_at, in_span, lost_at, losses_in, meta_pages, page_visit, pages_visited, place_size, place_tasks, spans_in, tasks_from, visits_at}
 use Rattle.bolt_recover.specs.Private.Runs.Runs.{done, give, keep, lose}
 use Rattle.bolt_recover.specs.Recovered.{IsRecoveredMember}
 use Rattle.bolt_recover.specs.Surveys.{Gives, Has, IsClaimedIn, IsOpen, IsSurvey, Visit, kept}
@@ -75,11 +76,11 @@ in_of (Ok node) number n h = two (nat_le number n) (nat_le n (number + node.over
     le_is : (a b : ℕ) → a ≤ b → nat_le a b ≡ true
     le_is a b h = grind (arith, nat_tests)
 
-claims_in : (nodes : Nodes) (s : Spot) (n : ℕ) → claims_of nodes s n ≡ true → SpanAt nodes s n
+pub claims_in : (nodes : Nodes) (s : Spot) (n : ℕ) → claims_of nodes s n ≡ true → SpanAt nodes s n
 claims_in nodes (At_page s) n e = span_in (nodes s.number) s.number n e
 claims_in nodes (At_inline host keys) n e = absurd (cc)
 
-claims_is : (nodes : Nodes) (s : Spot) (n : ℕ) → SpanAt nodes s n → claims_of nodes s n ≡ true
+pub claims_is : (nodes : Nodes) (s : Spot) (n : ℕ) → SpanAt nodes s n → claims_of nodes s n ≡ true
 claims_is nodes (At_page s) n h = in_of (nodes s.number) s.number n h
 claims_is nodes (At_inline host keys) n h = absurd h
 
@@ -170,6 +171,7 @@ module _ (file : List ℕ) (meta : Meta) (survey : List Visit) where
     pub exact : (path : Path) (item : Item) → Contains members (path, item) → (e : LeafElement) × IsGiven path e × (item ≡ item_of e)
     pub losses : losses_in visits ≡ losses_of file meta (visits_of visits)
     pub pages : pages_visited visits ≡ page_ways reach (visits_of visits)
+    pub spans : (n : ℕ) → (spans_in nodes visits n ≡ true) ↔ ((v : Way) × (Has (visits_of visits) (kept v) × SpanHas nodes (reach v) n))
 
   comes_give : (path : Path) (e : LeafElement) (tasks : List (Task Way)) (visits : List (Visited Way)) (members : List Member) → IsGiven path e → Comes tasks visits members
       → Comes (To_give path e ∷ tasks) visits ((path, item_of e) ∷ members)
@@ -188,6 +190,7 @@ module _ (file : List ℕ) (meta : Meta) (survey : List Visit) where
     ];
     losses = comes.losses;
     pages = comes.pages;
+    spans = comes.spans;
   }
 
   -- the claims in front are those that test 18 looks at
@@ -293,6 +296,16 @@ module _ (file : List ℕ) (meta : Meta) (survey : List Visit) where
         exact = comes.exact;
         losses = comes.losses ∙ ap (λ (ls : List LossView). ls ++ losses_of file meta (visits_of rest)) (sym (loss_first (place_at file meta w) p None at));
         pages = pages_first w p None (visits_of rest) (pages_visited rest) at comes.pages;
+        spans = λ n. (
+          λ is. elim (or_cases (claims_of nodes p.spot n) (spans_in nodes rest n) is) [
+            | inl here ↦ (w, (inl refl, subst (λ (o : Option Spot). SpanHas nodes o n) (sym (spot_is file meta w p at)) (claims_in nodes p.spot n here)))
+            | inr later ↦ let (v, (has, span)) = (comes.spans n).0 later in (v, (inr has, span))
+          ],
+          λ (v, (has, span)). or_either (claims_of nodes p.spot n) (spans_in nodes rest n) (elim has [
+            | inl same ↦ inl (claims_is nodes p.spot n (subst (λ (o : Option Spot). SpanHas nodes o n) (ap reach (ap (λ (z : Visit). z.way) same) ∙ spot_is file meta w p at) span))
+            | inr later ↦ inr ((comes.spans n).1 (v, (later, span)))
+          ]),
+        );
       }
 
   comes_lose : (w : Way) (p : Place) (x : Finding) (tasks : List (Task Way)) (rest : List (Visited Way)) (members : List Member) → IsOpen survey w → place_at file meta w ≡ Some p
@@ -315,6 +328,10 @@ module _ (file : List ℕ) (meta : Meta) (survey : List Visit) where
     exact = comes.exact;
     losses = ap (λ (ls : List LossView). lost_at p (Some x) ++ ls) comes.losses ∙ ap (λ (ls : List LossView). ls ++ losses_of file meta (visits_of rest)) (sym (loss_first (place_at file meta w) p (Some x) at));
     pages = pages_first w p (Some x) (visits_of rest) (pages_visited rest) at comes.pages;
+    spans = λ n. (
+      λ is. let (v, (has, span)) = (comes.spans n).0 is in (v, (inr has, span)),
+      λ (v, (has, span)). elim has [ inl same ↦ absurd (not_lost v w x same) | inr later ↦ (comes.spans n).1 (v, (later, span)) ],
+    );
   }
 
   pub comes_run : (claimed : ℕ → Bool) (tasks : List (Task Way)) (visits : List (Visited Way)) (members : List Member) → Runs file meta further claimed tasks visits members
@@ -328,6 +345,7 @@ module _ (file : List ℕ) (meta : Meta) (survey : List Visit) where
     exact = λ path item has. absurd (contains_none (path, item) has);
     losses = refl;
     pages = refl;
+    spans = λ n. (λ is. absurd (false≢true is), λ (v, (has, span)). absurd has);
   }
   comes_run claimed tasks visits members (give {path = path} {e = e} {tasks = more} {members = rest} run) InFront at claims are =
       comes_give path e more visits rest are.0 (comes_run claimed more visits rest run InFront at claims are.1)
@@ -385,4 +403,17 @@ module _ (file : List ℕ) (meta : Meta) (visits : List (Visited Way)) (members 
     λ has. let (e, (way, p, keeps, leads, inside, named), is) = comes.exact path item has in
         record { way = way; place = p; element = e; keeps = keeps; leads = leads; has = inside; named = named; is = is },
     λ is. subst (λ (m : Member). Contains members m) (λ i. (sym is.named i, sym is.is i)) (comes.elements is.way is.place is.element is.keeps is.leads is.has),
+  )
+
+  -- the pages that its kept visits take in
+  pub all_spans : (n : ℕ) → ((meta_pages n || spans_in (node_at file meta) visits n) ≡ true) ↔ IsKeptPage file meta (visits_of visits) n
+  all_spans n = (
+    λ is. elim (or_cases (meta_pages n) (spans_in (node_at file meta) visits n) is) [
+      | inl low ↦ inl (grind (arith, nat_tests))
+      | inr inside ↦ inr ((comes.spans n).0 inside)
+    ],
+    λ is. or_either (meta_pages n) (spans_in (node_at file meta) visits n) (elim is [
+      | inl low ↦ inl (grind (arith, nat_tests))
+      | inr way ↦ inr ((comes.spans n).1 way)
+    ]),
   )

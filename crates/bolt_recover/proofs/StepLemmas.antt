@@ -1,5 +1,5 @@
 -- What the steps of a recovering walk leave to be done.
-use Rattle.std.proofs.Common.{◌≡◌, ◌∙◌, ◌≤◌, ◌<◌, ℕ, suc, ◌+◌, ◌-◌, Bool, true, false, ◌↔◌, List, [], ◌∷◌, ◌++◌, length, take, drop, Option, Some, None, Result, Ok, Err, OnOk, OnErr, slice_get, refl, sym, ap, subst, subst₂, arith, append_assoc, length-append}
+use Rattle.std.proofs.Common.{◌≡◌, ◌∙◌, ◌≤◌, ◌<◌, ℕ, suc, ◌+◌, ◌-◌, Bool, true, false, ◌||◌, ◌↔◌, List, [], ◌∷◌, ◌++◌, length, take, drop, Option, Some, None, Result, Ok, Err, OnOk, OnErr, slice_get, refl, sym, ap, subst, subst₂, arith, append_assoc, length-append}
 use Rattle.std.proofs.lemmas.List.{length-take-le, take-append-drop, take-append-le, take_all}
 use Rattle.std.specs.Option.{option_map}
 use Rattle.bolt_format.specs.Elements.{LeafElement}
@@ -24,7 +24,7 @@ use Rattle.bolt_tree.specs.Paths.{Path}
 use Rattle.bolt_recover.specs.Losses.{LossView, loss_of}
 use Rattle.bolt_recover.specs.Places.{Place, leaves_of, step_place}
 use Rattle.bolt_recover.specs.Private.Frames.{AreOpen, ComesTo, Ends, GivesHead, GoesOn, HasOpen, IsContent, IsGoodContent, IsGoodPage, IsShallow, NoWay, State, StaysOn, ahead_level, ahead_tasks, ahead_weight, claims_nodes, content_elements, content_place, content_size, content_spot, is_over, lost_state, open_tasks, outcome_of, over_by, page_tasks, page_weight, state_tasks, stay, spot_place}
-use Rattle.bolt_recover.specs.Private.Runs.{Runs, RunsAll, Task, To_visit, Visited, claimed_with, entry_tasks, gives_at, losses_in, meta_pages, page_visit, pages_visited, place_size, place_tasks, tasks_from, visits_at}
+use Rattle.bolt_recover.specs.Private.Runs.{Runs, RunsAll, Task, To_visit, Visited, claimed_with, claims_of, entry_tasks, gives_at, losses_in, meta_pages, page_visit, pages_visited, place_size, place_tasks, spans_in, tasks_from, visits_at}
 use Rattle.bolt_recover.specs.declared.content.Content.{Content}
 use Rattle.bolt_recover.specs.declared.content.Content.TheVariants.{Bucket, Page}
 use Rattle.bolt_recover.specs.declared.content.OpenPage.{OpenPage}
@@ -101,6 +101,10 @@ not_open : (s : State) (front : List OpenPage) (top : OpenPage) → s.ahead ≡ 
 not_open s front top is pages over =
     let f : false ≡ true = sym (more_open None front top) ∙ ap (over_by None) (sym pages) ∙ ap (λ (o : Option NextVisit). over_by o s.pages) (sym is) ∙ over in cc
 
+or_assoc : (a b c : Bool) → ((a || b) || c) ≡ (a || (b || c))
+or_assoc true b c = refl
+or_assoc false b c = refl
+
 -- one visit more is counted, if it was of a page
 one_more : (old new one all : ℕ) (visits rest : List (Visited NoWay)) (v : Visited NoWay) → all ≡ counted old (pages_visited visits) → visits ≡ v ∷ rest → page_visit v.place.spot ≡ one
     → new ≡ counted old one → all ≡ counted new (pages_visited rest)
@@ -140,6 +144,9 @@ entered_page s ahead content count claimed visited has is passes content_is clai
                 next.2);
             all = comes.all ∙ ap (λ (vs : List (Visited NoWay)). s.losses ++ losses_in vs) next.1;
             pages = one_more s.visited visited (page_visit (spot_at ahead.spot)) outcome.visited comes.visits next.0 _ comes.pages next.1 refl counts;
+            spans = λ n. comes.spans n ∙ ap (λ (vs : List (Visited NoWay)). s.claimed n || spans_in (node_at s.file s.meta) vs n) next.1
+                ∙ sym (or_assoc (s.claimed n) (claims_of (node_at s.file s.meta) (spot_at ahead.spot) n) (spans_in (node_at s.file s.meta) next.0 n))
+                ∙ ap (λ (b : Bool). b || spans_in (node_at s.file s.meta) next.0 n) (sym (claims n));
           };
     }
 
@@ -165,6 +172,8 @@ entered_lost s ahead x claimed visited has is tests claims counts =
             all = comes.all ∙ ap (λ (vs : List (Visited NoWay)). s.losses ++ losses_in vs) next.1
                 ∙ sym (append_assoc s.losses (loss_of place x ∷ []) (losses_in next.0));
             pages = one_more s.visited visited (page_visit (spot_at ahead.spot)) outcome.visited comes.visits next.0 _ comes.pages next.1 refl counts;
+            spans = λ n. comes.spans n ∙ ap (λ (vs : List (Visited NoWay)). s.claimed n || spans_in (node_at s.file s.meta) vs n) next.1
+                ∙ ap (λ (b : Bool). b || spans_in (node_at s.file s.meta) next.0 n) (sym (claims n));
           };
     }
 
@@ -202,6 +211,7 @@ took_last s front top has is pages over =
             nothing (run_top s front top comes.visits members is pages comes.run);
         all = comes.all;
         pages = comes.pages;
+        spans = comes.spans;
       };
     }
 
@@ -294,6 +304,7 @@ module _ (s : State) (front : List OpenPage) (top : OpenPage) (has : HasOpen s) 
               (run_entry comes.visits members comes.run);
           all = comes.all;
           pages = comes.pages;
+          spans = comes.spans;
         };
       }
 
@@ -332,6 +343,7 @@ module _ (s : State) (front : List OpenPage) (top : OpenPage) (has : HasOpen s) 
                     next.2;
                 all = comes.all;
                 pages = comes.pages;
+                spans = comes.spans;
               },
             );
       }
@@ -349,13 +361,14 @@ start_state file meta root begun =
     record { file = file; meta = meta; claimed = meta_pages; ahead = Some (record { spot = spots.Page root; level = 0 }); pages = []; path = []; losses = []; visited = begun }
 
 pub started : (file : List ℕ) (meta : Meta) (root : PageSpot) (begun : ℕ) → page_spot root ≡ root_spot meta.root → root.number ≡ meta.root → (visits : List (Visited NoWay)) (members : List Member)
-    → RunsAll file meta stay tt visits members → ComesTo (start_state file meta root begun) members (outcome_of begun visits)
+    → RunsAll file meta stay tt visits members → ComesTo (start_state file meta root begun) members (outcome_of (node_at file meta) begun visits)
 started file meta root begun spot number visits members run = record {
   visits = visits;
   run = subst (λ (p : Place). Runs file meta stay meta_pages (To_visit tt p ∷ []) visits members)
       (λ i. record { spot = At_page (sym spot i); path = []; elements = leaves_of (page_at file meta (sym number i)) }) run;
   all = refl;
   pages = refl;
+  spans = λ n. refl;
 }
 
 -- the meta pages alone are claimed
@@ -386,15 +399,15 @@ pub begins : (file f : List ℕ) (meta m : Meta) (before claimed : ℕ → Bool)
     → ((n : ℕ) → claimed n ≡ claimed_with (node_at f m) before (At_page (page_spot root)) n) → visited ≡ counted begun 1 → count ≡ content_size content → count < 65536
     → (visits : List (Visited NoWay)) (members : List Member) → RunsAll file meta stay tt visits members
     → ComesTo (record { file = f; meta = m; claimed = claimed; ahead = None; pages = record { content = content; level = 0; count = count; next = 0 } ∷ []; path = []; losses = []; visited = visited })
-    members (outcome_of begun visits)
+    members (outcome_of (node_at file meta) begun visits)
 begins file f meta m before claimed begun visited root content count e h metas spot number passes is claims counts long fits visits members run =
     let s : State = record (start_state f m root begun) { claimed = before } in
     let ahead : NextVisit = record { spot = spots.Page root; level = 0 } in
-    let here : ComesTo s members (outcome_of begun visits) =
-    subst (λ (t : State). ComesTo t members (outcome_of begun visits))
+    let here : ComesTo s members (outcome_of (node_at file meta) begun visits) =
+    subst (λ (t : State). ComesTo t members (outcome_of (node_at file meta) begun visits))
     (λ i. record { file = sym e i; meta = sym h i; claimed = λ n. sym (metas n) i; ahead = Some ahead; pages = []; path = []; losses = []; visited = begun }) (started file meta root begun spot number visits members run) in
     let placed : HasOpen s = record { pages = omega arith; within = omega arith } in
-    (entered_page s ahead content count claimed visited placed refl passes is claims counts long fits).same members (outcome_of begun visits) here
+    (entered_page s ahead content count claimed visited placed refl passes is claims counts long fits).same members (outcome_of (node_at file meta) begun visits) here
 
 -- the element to be taken next is there
 pub next_below : (file : List ℕ) (meta : Meta) (page : OpenPage) → IsGoodPage file meta page → (page.next ≡ page.count → ⊥) → page.next < content_size page.content

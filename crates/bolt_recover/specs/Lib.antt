@@ -1,3 +1,5 @@
+pub mod Found
+pub mod KeptPages
 pub mod Losses
 pub mod PageWays
 pub mod Places
@@ -5,5 +7,6 @@ pub mod Private
 pub mod Recovered
 pub mod Recoveries
 pub mod Refusals
+pub mod ShownFound
 pub mod ShownLosses
 pub mod Surveys

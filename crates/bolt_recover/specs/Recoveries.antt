@@ -1,5 +1,5 @@
 -- What a recovery shows: the file that it reads, the part of the recovered listing that is left, and the losses so far.
-use Rattle.std.specs.Prelude.{◌≡◌, ℕ, List, length, take}
+use Rattle.std.specs.Prelude.{◌≡◌, ℕ, Bool, List, length, take}
 use Rattle.bolt_format.specs.declared.meta.Meta.{Meta}
 use Rattle.bolt_tree.specs.Listing.{Member}
 use Rattle.bolt_tree.specs.Paths.{Path}
@@ -31,6 +31,10 @@ recovery_visited recovery = (state_of recovery.steps).visited
 
 unfoldable pub recovery_begun : Recovery → ℕ
 recovery_begun recovery = recovery.begun
+
+-- whether page n is claimed so far
+unfoldable pub recovery_claimed : Recovery → ℕ → Bool
+recovery_claimed recovery = (state_of recovery.steps).claimed
 
 -- the losses that it has reported so far
 unfoldable pub recovery_losses : Recovery → List LossView

@@ -17,7 +17,14 @@ KeepsRoot file meta = Passes (node_at file meta) IsMetaPage (At_page (root_spot 
 abbrev pub LosesRoot : List ℕ → Meta → Finding → Type 0
 LosesRoot file meta x = Tests (node_at file meta) IsMetaPage (At_page (root_spot meta.root)) x
 
--- why nothing is recovered under the active meta
+-- why nothing is recovered under this meta
+abbrev pub IsRefusedRoot : List ℕ → Meta → CheckFault → Type 0
+IsRefusedRoot file meta (Structure x) = LosesRoot file meta x
+IsRefusedRoot file meta Memory = Unit {0}
+IsRefusedRoot file meta (Open fault) = ⊥
+IsRefusedRoot file meta (Accounts reported) = ⊥
+
+-- under the active meta
 abbrev pub IsUnrecoverable : List ℕ → CheckFault → Type 0
 IsUnrecoverable file (Open fault) = HasMetaFault file 0 fault × ((slot : Slot) (meta : Meta) → IsInSlot file slot meta → ⊥)
 IsUnrecoverable file (Structure x) = (slot : Slot) × (meta : Meta) × IsChosen file slot meta × LosesRoot file meta x

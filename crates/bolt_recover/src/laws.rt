@@ -1,15 +1,19 @@
 //! What the definitions of recovery imply.
 ghost use Rattle.std.specs.List.{Contains, count_by};
-ghost use Rattle.std.specs.Prelude.{◌≡◌, ℕ, [], List, None, Some, is_some, length};
+ghost use Rattle.std.specs.Prelude.{◌≡◌, ◌<◌, ◌⊎◌, ℕ, [], List, None, Some, is_some, length};
 ghost use Rattle.bolt_format.specs.Bytes.{IsBytes};
 ghost use Rattle.bolt_format.specs.declared.meta.Meta.{Meta};
+ghost use Rattle.bolt_check.specs.LoneLeaves.{IsListedFree, IsLoneLeaf};
+ghost use Rattle.bolt_check.specs.Nodes.{node_at};
 ghost use Rattle.bolt_check.specs.Sound.{HasSoundTrees, IsFirstFinding};
-ghost use Rattle.bolt_check.specs.Ways.{Before};
+ghost use Rattle.bolt_check.specs.Ways.{At_page, Before, SpanAt, root_spot};
 ghost use Rattle.bolt_check.specs.declared.finding.Finding.{Finding};
 ghost use Rattle.bolt_tree.specs.Entries.{IsEntry, Item, Root_page};
 ghost use Rattle.bolt_tree.specs.Listing.{IsListing, Member};
 ghost use Rattle.bolt_tree.specs.Paths.{Holds, Path};
 ghost use Rattle.bolt_tree.specs.Tree.{Tree, listing_of};
+ghost use Rattle.bolt_recover.specs.Found.{AreFound, IsFoundPage};
+ghost use Rattle.bolt_recover.specs.KeptPages.{IsKeptPage};
 ghost use Rattle.bolt_recover.specs.Losses.{AreLosses, LossView, loss_of, losses_of};
 ghost use Rattle.bolt_recover.specs.PageWays.{ArePageWays};
 ghost use Rattle.bolt_recover.specs.Places.{Place, place_at};
@@ -102,4 +106,33 @@ pub fn page_ways_are_one()
 /// The file of a recovery is bytes: none is above 255.
 pub fn the_file_of_a_recovery_is_bytes(recovery: &Recovery<'_>)
     ensures { IsBytes (recovery_file recovery.now) }
+{}
+
+/// A file has at most one list of found pages.
+pub fn found_pages_are_one()
+    ensures { (file : List ℕ) (meta : Meta) (a b : List ℕ) → AreFound file meta a → AreFound file meta b → a ≡ b }
+{}
+
+/// If nothing is lost, nothing is found.
+pub fn nothing_lost_finds_nothing()
+    ensures { (file : List ℕ) (meta : Meta) (found : List ℕ) → AreLosses file meta [] → AreFound file meta found → found ≡ [] }
+{}
+
+/// Each found page is an intact leaf below the high-water mark, isn't listed as free, and shares no
+/// page with a kept way or with another found page.
+pub fn found_pages_are_intact()
+    ensures below { (file : List ℕ) (meta : Meta) (found : List ℕ) (n : ℕ) → AreFound file meta found → Contains found n → n < meta.high_water }
+    ensures leaf { (file : List ℕ) (meta : Meta) (found : List ℕ) (survey : List Visit) (n : ℕ) → AreFound file meta found → IsSurvey file meta survey → Contains found n
+        → IsLoneLeaf (node_at file meta) (IsKeptPage file meta survey) n }
+    ensures unlisted { (file : List ℕ) (meta : Meta) (found : List ℕ) (n : ℕ) → AreFound file meta found → Contains found n → IsListedFree file meta n → ⊥ }
+    ensures apart { (file : List ℕ) (meta : Meta) (found : List ℕ) (n m k : ℕ) → AreFound file meta found → Contains found n → Contains found m
+        → SpanAt (node_at file meta) (At_page (root_spot n)) k → SpanAt (node_at file meta) (At_page (root_spot m)) k → n ≡ m }
+{}
+
+/// No intact leaf is left behind: if something is lost, each one that isn't listed as free shares a
+/// page with a kept way or with a found page.
+pub fn no_intact_leaf_is_left_behind()
+    ensures { (file : List ℕ) (meta : Meta) (found : List ℕ) (survey : List Visit) (way : List ℕ) (x : Finding) (n : ℕ) → AreFound file meta found → IsSurvey file meta survey → Has survey (lost way x)
+        → IsLoneLeaf (node_at file meta) (λ k. ⊥) n → (IsListedFree file meta n → ⊥)
+        → (k : ℕ) × SpanAt (node_at file meta) (At_page (root_spot n)) k × (IsKeptPage file meta survey k ⊎ IsFoundPage file meta found k) }
 {}

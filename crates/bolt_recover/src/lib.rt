@@ -3,10 +3,12 @@
 #![tactic(auto)]
 
 mod content;
+mod found;
 pub mod laws;
 mod loss;
 mod recovery;
 mod steps;
 
+pub use found::{Found, found_without_root};
 pub use loss::Loss;
 pub use recovery::Recovery;

@@ -1,4 +1,5 @@
 //! A walk over everything that is kept of a damaged file.
+ghost use Rattle.std.specs.List.{All};
 ghost use Rattle.std.specs.Option.{IfNone, option_map};
 ghost use Rattle.std.specs.Prelude.{◌≡◌, ◌<◌, ◌≤◌, ◌↔◌, ◌^◌, ℕ, [], true, IfErr, IfOk, IfSome, OnErr, OnOk, map};
 ghost use Rattle.bolt_check.specs.Claims.{claims_file, claims_meta, claims_visited, is_claimed};
@@ -8,15 +9,19 @@ ghost use Rattle.bolt_format.specs.Metas.{IsChosen, IsInSlot};
 ghost use Rattle.bolt_tree.specs.Paths.{path_of};
 ghost use Rattle.bolt_tree.specs.ShownEntries.{item_view};
 ghost use Rattle.bolt_tree.specs.Walks.{GivesNext};
-ghost use Rattle.bolt_recover.specs.Private.Frames.{IsOn, IsRefusedRoot, state_of};
+ghost use Rattle.bolt_recover.specs.Found.{AreFound, numbers_of};
+ghost use Rattle.bolt_recover.specs.KeptPages.{AreKeptPages};
+ghost use Rattle.bolt_recover.specs.Private.Frames.{IsOn, state_of};
 ghost use Rattle.bolt_recover.specs.PageWays.{ForPageWays};
 ghost use Rattle.bolt_recover.specs.Recovered.{ForRecovered, IsRecovered};
-ghost use Rattle.bolt_recover.specs.Refusals.{IsSlotUnrecoverable, IsUnrecoverable, KeepsRoot};
+ghost use Rattle.bolt_recover.specs.Refusals.{IsRefusedRoot, IsSlotUnrecoverable, IsUnrecoverable, KeepsRoot};
+ghost use Rattle.bolt_recover.specs.ShownFound.{IsFoundView};
 ghost use Rattle.bolt_recover.specs.ShownLosses.{loss_view};
 
+use crate::found::{Found, find_leaves};
 use crate::loss::Loss;
 use crate::steps::Steps;
-use bolt_check::{CheckFault, Claims, NoMemory};
+use bolt_check::{CheckFault, Claims, Leftovers, NoMemory};
 use bolt_format::{Meta, Slot, choose, slot_meta};
 use bolt_tree::{Item, Members};
 use std::alloc::Global;
@@ -36,9 +41,9 @@ pub struct Recovery<'a> {
     ghost root: { ∥ KeepsRoot (claims_file steps.claims) meta ∥₁ },
 }
 
-#[tactic(auto, unfolding(crate::specs::Recoveries::recovery_begun, crate::specs::Recoveries::recovery_file, crate::specs::Recoveries::recovery_left, crate::specs::Recoveries::recovery_losses, crate::specs::Recoveries::recovery_meta, crate::specs::Recoveries::recovery_path, crate::specs::Recoveries::recovery_visited, crate::specs::Recoveries::recovery_work))]
+#[tactic(auto, unfolding(crate::specs::Recoveries::recovery_begun, crate::specs::Recoveries::recovery_claimed, crate::specs::Recoveries::recovery_file, crate::specs::Recoveries::recovery_left, crate::specs::Recoveries::recovery_losses, crate::specs::Recoveries::recovery_meta, crate::specs::Recoveries::recovery_path, crate::specs::Recoveries::recovery_visited, crate::specs::Recoveries::recovery_work))]
 impl<'a> Recovery<'a> {
-    ghost use Rattle.bolt_recover.specs.Recoveries.{AreFirst, ForLosses, recovery_begun, recovery_file, recovery_left, recovery_losses, recovery_meta, recovery_path, recovery_visited, recovery_work};
+    ghost use Rattle.bolt_recover.specs.Recoveries.{AreFirst, ForLosses, recovery_begun, recovery_claimed, recovery_file, recovery_left, recovery_losses, recovery_meta, recovery_path, recovery_visited, recovery_work};
 
     /// A walk under the active meta.
     ///
@@ -81,8 +86,13 @@ impl<'a> Recovery<'a> {
         Recovery::under(alloc, file, meta)
     }
 
-    /// A walk under a valid meta.
-    fn under(alloc: Global, file: &'a [u8], meta: Meta) -> Result<Recovery<'a>, CheckFault>
+    /// A walk under a meta that is handed in. The metas of the file are ignored.
+    ///
+    /// # Errors
+    ///
+    /// `Structure` with the finding of the root page if that is lost, and nothing is recovered;
+    /// `Memory` if memory runs out. Never `Open` or `Accounts`.
+    pub fn under(alloc: Global, file: &'a [u8], meta: Meta) -> Result<Recovery<'a>, CheckFault>
         requires { 0 < meta.page_size }
         ensures file { IfOk result (λ recovery. recovery_file recovery ≡ file.now) }
         ensures meta { IfOk result (λ recovery. recovery_meta recovery ≡ meta) }
@@ -148,12 +158,47 @@ impl<'a> Recovery<'a> {
         ensures begun { recovery_begun self.new ≡ recovery_begun self.old }
         ensures visited { IfOk result (λ given. IfNone given (ForPageWays (recovery_file self.old) (recovery_meta self.old) (λ ways. recovery_visited self.new ≡ counted (recovery_begun self.old) ways))) }
         ensures all { IfOk result (λ given. IfNone given (ForLosses (recovery_file self.old) (recovery_meta self.old) (λ losses. recovery_losses self.new ≡ losses))) }
+        ensures kept { IfOk result (λ given. IfNone given (AreKeptPages (recovery_file self.old) (recovery_meta self.old) (recovery_claimed self.new))) }
         ensures same { OnErr result (ForRecovered (recovery_file self.old) (recovery_meta self.old) (λ listing. recovery_left self.new listing ≡ recovery_left self.old listing)) }
         ensures same_path { OnErr result (recovery_path self.new ≡ recovery_path self.old) }
     {
         match self.steps.advance()? {
             Some(leaf) => Ok(Some(Item::of(&leaf))),
             None => Ok(None),
+        }
+    }
+
+    /// Finds the intact leaves that nothing leads to, by rising number (docs/RECOVERY.md, "Found
+    /// pages"). It drops what is left first. If nothing is lost, nothing is found. It needs room for
+    /// what is found, and no second table.
+    ///
+    /// # Errors
+    ///
+    /// `NoMemory` if memory runs out.
+    pub fn found(mut self) -> Result<Vec<Found<'a>>, NoMemory>
+        ensures found { IfOk result (λ found. AreFound (recovery_file self.entry) (recovery_meta self.entry) (numbers_of found.items)) }
+        ensures views { IfOk result (λ found. All (IsFoundView (recovery_file self.entry) (recovery_meta self.entry)) found.items) }
+    {
+        self.finish()?;
+        if self.steps.losses.is_empty() {
+            return Ok(Vec::new(self.steps.alloc));
+        }
+        find_leaves(self.steps.alloc, Leftovers::new(self.steps.claims))
+    }
+
+    /// Drops what is left.
+    fn finish(&mut self) -> Result<(), NoMemory>
+        ensures file { recovery_file self.new ≡ recovery_file self.old }
+        ensures meta { recovery_meta self.new ≡ recovery_meta self.old }
+        ensures under { claims_meta self.new.steps.claims ≡ self.old.meta }
+        ensures all { OnOk result (ForLosses (recovery_file self.old) (recovery_meta self.old) (λ losses. recovery_losses self.new ≡ losses)) }
+        ensures kept { OnOk result (AreKeptPages (recovery_file self.old) (recovery_meta self.old) (recovery_claimed self.new)) }
+    {
+        loop {
+            match self.next()? {
+                Some(_) => {}
+                None => return Ok(()),
+            }
         }
     }
 

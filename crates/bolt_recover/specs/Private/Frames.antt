@@ -1,5 +1,5 @@
 -- The open pages of the code as what is still to be done.
-use Rattle.std.specs.Prelude.{◌≡◌, ◌≤◌, ◌<◌, IsTrue, ℕ, ◌+◌, ◌-◌, ◌*◌, Bool, true, false, List, [], ◌∷◌, ◌++◌, length, map, take, Option, Some, None, Ok, if◌then◌else◌, sum_by}
+use Rattle.std.specs.Prelude.{◌≡◌, ◌||◌, ◌≤◌, ◌<◌, IsTrue, ℕ, ◌+◌, ◌-◌, ◌*◌, Bool, true, false, List, [], ◌∷◌, ◌++◌, length, map, take, Option, Some, None, Ok, if◌then◌else◌, sum_by}
 use Rattle.bolt_format.specs.ElementPlaces.{leaf_view}
 use Rattle.bolt_format.specs.Elements.{IsBucketValue, LeafElement}
 use Rattle.bolt_format.specs.declared.element.Leaf as element
@@ -13,8 +13,6 @@ use Rattle.bolt_check.specs.Nodes.{Nodes, node_at}
 use Rattle.bolt_check.specs.ShownNodes.{shown_node}
 use Rattle.bolt_check.specs.ShownSpots.{inline_keys, page_spot, spot_at}
 use Rattle.bolt_check.specs.Ways.{At_inline, At_page, Spot}
-use Rattle.bolt_check.specs.declared.fault.CheckFault.{CheckFault}
-use Rattle.bolt_check.specs.declared.fault.CheckFault.TheVariants.{Accounts, Memory, Open, Structure}
 use Rattle.bolt_check.specs.declared.claims.Claims.{Claims}
 use Rattle.bolt_check.specs.declared.finding.Finding.{Finding}
 use Rattle.bolt_check.specs.declared.spot.Spot.{Spot as CodeSpot}
@@ -22,12 +20,12 @@ use Rattle.bolt_check.specs.declared.spot.Spot.TheVariants as spots
 use Rattle.bolt_tree.specs.Entries.{item_of}
 use Rattle.bolt_tree.specs.Listing.{Member}
 use Rattle.bolt_tree.specs.Paths.{Path, path_of}
+use Rattle.bolt_recover.specs.KeptPages.{AreKeptPages}
 use Rattle.bolt_recover.specs.Losses.{AreLosses, LossView, loss_of}
 use Rattle.bolt_recover.specs.PageWays.{ArePageWays}
 use Rattle.bolt_recover.specs.Places.{Place, leaves_of}
-use Rattle.bolt_recover.specs.Private.Runs.{losses_in, pages_visited, tasks_from, Runs, Task, To_visit, Visited}
+use Rattle.bolt_recover.specs.Private.Runs.{losses_in, meta_pages, pages_visited, spans_in, tasks_from, Runs, Task, To_visit, Visited}
 use Rattle.bolt_recover.specs.Recovered.{IsRecovered}
-use Rattle.bolt_recover.specs.Refusals.{LosesRoot}
 use Rattle.bolt_tree.specs.RestAfter.{rest_after}
 use Rattle.bolt_recover.specs.ShownLosses.{loss_view}
 use Rattle.bolt_recover.specs.declared.content.Content.{Content}
@@ -153,14 +151,15 @@ ahead_tasks file meta path (Some ahead) rest = To_visit tt (spot_place file meta
 abbrev pub state_tasks : State → List (Task NoWay)
 state_tasks s = ahead_tasks s.file s.meta s.path s.ahead (open_tasks s.file s.meta s.path s.pages [])
 
--- what there is at the end: all losses, and the number of visits
+-- what there is at the end: all losses, the number of visits, and the claimed pages
 pub record Outcome : Type 0 where
   pub losses : List LossView
   pub visited : ℕ
+  pub claimed : ℕ → Bool
 
 -- the outcome of these visits, if so many were made before
-abbrev pub outcome_of : ℕ → List (Visited NoWay) → Outcome
-outcome_of before visits = record { losses = losses_in visits; visited = counted before (pages_visited visits) }
+abbrev pub outcome_of : Nodes → ℕ → List (Visited NoWay) → Outcome
+outcome_of nodes before visits = record { losses = losses_in visits; visited = counted before (pages_visited visits); claimed = λ n. meta_pages n || spans_in nodes visits n }
 
 -- these members are left, and what is still to be visited comes to this outcome
 pub record ComesTo (s : State) (members : List Member) (outcome : Outcome) : Type 0 where
@@ -168,6 +167,7 @@ pub record ComesTo (s : State) (members : List Member) (outcome : Outcome) : Typ
   pub run : Runs s.file s.meta stay s.claimed (state_tasks s) visits members
   pub all : outcome.losses ≡ s.losses ++ losses_in visits
   pub pages : outcome.visited ≡ counted s.visited (pages_visited visits)
+  pub spans : (n : ℕ) → outcome.claimed n ≡ (s.claimed n || spans_in (node_at s.file s.meta) visits n)
 
 -- nothing is left to be done
 abbrev pub over_by : Option NextVisit → List OpenPage → Bool
@@ -224,6 +224,7 @@ pub record IsOutcome (file : List ℕ) (meta : Meta) (begun : ℕ) (outcome : Ou
   pub ways : ℕ
   pub counts : ArePageWays file meta ways
   pub visited : outcome.visited ≡ counted begun ways
+  pub claimed : AreKeptPages file meta outcome.claimed
 
 -- Good steps over a file under this meta, begun after so many visits: what is left of them is what is left of the recovered listing, and they
 -- come to all losses, and to a visit of each way to a page number.
@@ -241,13 +242,6 @@ TakesBucket End = Unit {0}
 abbrev pub Advances : State → State → Option element.Leaf → Type 0
 Advances old new (Some leaf) = GivesHead old new (leaf_view leaf)
 Advances old new None = Ends old new
-
--- the finding of the root page while only the meta pages are claimed, or memory runs out
-abbrev pub IsRefusedRoot : List ℕ → Meta → CheckFault → Type 0
-IsRefusedRoot file meta (Structure x) = LosesRoot file meta x
-IsRefusedRoot file meta Memory = Unit {0}
-IsRefusedRoot file meta (Open fault) = ⊥
-IsRefusedRoot file meta (Accounts findings) = ⊥
 
 -- How much there is to do at most: a page holds fewer than 65536 elements, and a visit of a page claims one.
 abbrev pub element_weight : Content → ℕ → ℕ

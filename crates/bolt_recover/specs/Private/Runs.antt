@@ -57,6 +57,15 @@ abbrev pub losses_in : {W : Type 0} → List (Visited W) → List LossView
 losses_in [] = []
 losses_in (v ∷ visits) = lost_at v.place v.found ++ losses_in visits
 
+-- page n lies in the span of one of these visits that is kept
+abbrev pub span_of : Nodes → Spot → Option Finding → ℕ → Bool
+span_of nodes s None n = claims_of nodes s n
+span_of nodes s (Some x) n = false
+
+abbrev pub spans_in : {W : Type 0} → Nodes → List (Visited W) → ℕ → Bool
+spans_in nodes [] n = false
+spans_in nodes (v ∷ visits) n = span_of nodes v.place.spot v.found n || spans_in nodes visits n
+
 -- how many visits are of pages
 abbrev pub page_visit : Spot → ℕ
 page_visit (At_page s) = 1

@@ -6,7 +6,7 @@ use Rattle.bolt_check.specs.Nodes.{node_at}
 use Rattle.bolt_check.proofs.MarkLemmas.{table_wide}
 use Rattle.bolt_check.proofs.RoleLemmas.{uses_with}
 use Rattle.bolt_check.proofs.Shaping.{shape_of}
-use Rattle.bolt_check.proofs.SoundLemmas.{no_items, some_items, sound_of, findings_of_file, wrong_of}
+use Rattle.bolt_check.proofs.SoundLemmas.{no_items, some_items, sound_of, findings_of_file, tested_of, wrong_of}
 use Rattle.bolt_check.proofs.Visited.{written}
 use Rattle.bolt_check.proofs.sound.check_roles.Goals as goal
 
@@ -25,7 +25,7 @@ pub invariant_of-checked : goal.invariant_of-checked
 invariant_of-checked c =
     let right = rw c.deref_mut.ensures.value at c.in_ok-findings.ensures.right in
     let empty = no_items c.in_ok-findings.findings.items (grind (arith, common_steps, c.is_empty.ensures, c.if-not-is_empty.false)) in
-    record { sound = merely (sound_of c.args.file.now c.in_ok-meta.field-0-0 c.in_ok-meta.meta c.in_ok-table.table.items c.in_ok-meta.ensures.chosen c.in_ok-table.ensures.clean c.in_ok-table.ensures.covered (right empty)) }
+    record { sound = merely (tested_of c.args.file.now c.in_ok-meta.field-0-0 c.in_ok-meta.meta c.in_ok-table.table.items c.in_ok-meta.ensures.chosen c.in_ok-table.ensures.clean c.in_ok-table.ensures.covered (right empty)) }
 
 pub invariant_of-result : goal.invariant_of-result
 invariant_of-result c =

@@ -5,7 +5,7 @@ use Rattle.bolt_check.specs.ShownSpots.{page_spot}
 use Rattle.bolt_check.specs.Private.Tables.{IsClaimed}
 use Rattle.bolt_check.specs.ShownNodes.{shown_node}
 use Rattle.bolt_check.proofs.Lawful.{early_passes}
-use Rattle.bolt_check.proofs.Visited.{claims_made, not_both, passed_on}
+use Rattle.bolt_check.proofs.Visited.{claims_made, not_both, outside_span, passed_on}
 use Rattle.bolt_check.proofs.UseLemmas.{notes_made}
 use Rattle.bolt_check.proofs.VisitLemmas.{in_room, leaf-is, overflow-is}
 use Rattle.bolt_check.proofs.visit.visit.Goals as goal
@@ -60,3 +60,6 @@ returns-clause-notes c =
     let last = overflow-is node _ c.overflow.ensures in
     notes_made (node_at c.args.file.now c.args.meta.now) (page_spot c.args.spot.now) (shown_node node) c.args.table.now c.claim.new.table _ (omega (arith, last)) c.in_ok-node.ensures.node
     (c.claim.ensures.first ∙ c.first_use.ensures ∙ leaf-is node) c.claim.ensures.later c.claim.ensures.below c.claim.ensures.above
+
+pub returns-clause-outside : goal.returns-clause-outside
+returns-clause-outside c = outside_span c.args.table.now c.claim.new.table _ _ c.claim.ensures.span c.claim.ensures.below c.claim.ensures.above

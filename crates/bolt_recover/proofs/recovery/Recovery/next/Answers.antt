@@ -1,15 +1,16 @@
-use Rattle.std.proofs.Common.{arith, ◌≡◌, ◌∙◌, ◌∷◌, List, ap, subst, sym, ℕ}
+use Rattle.std.proofs.Common.{arith, ◌≡◌, ◌↔◌, ◌∙◌, ◌∷◌, Bool, true, List, ap, subst, sym, ℕ}
 use Rattle.std.proofs.Math.Logic.{∥∥₁_elim, ∥∥₁_map}
 use Rattle.std.proofs.Props.{props}
 use Rattle.bolt_format.specs.ElementPlaces.{leaf_view}
 use Rattle.bolt_check.proofs.ClaimLemmas.{visited_fits}
 use Rattle.bolt_tree.specs.Entries.{Item}
 use Rattle.bolt_tree.specs.Listing.{Member}
+use Rattle.bolt_recover.specs.KeptPages.{IsKeptPage}
 use Rattle.bolt_recover.specs.Recovered.{IsRecovered}
 use Rattle.bolt_recover.specs.Refusals.{KeepsRoot}
 use Rattle.bolt_recover.specs.Private.Frames.{left_by, state_of}
-use Rattle.bolt_recover.specs.Recoveries.{recovery_begun, recovery_file, recovery_left, recovery_losses, recovery_meta, recovery_path, recovery_visited, recovery_work}
-use Rattle.bolt_recover.proofs.Recovering.{file_advanced, has_open_prop, left_next, left_none, left_same, on_advanced, reported_ended, visited_ended}
+use Rattle.bolt_recover.specs.Recoveries.{recovery_begun, recovery_claimed, recovery_file, recovery_left, recovery_losses, recovery_meta, recovery_path, recovery_visited, recovery_work}
+use Rattle.bolt_recover.proofs.Recovering.{all_claimed, claimed_all, claimed_ended, file_advanced, has_open_prop, left_next, left_none, left_same, on_advanced, reported_ended, visited_ended}
 use Rattle.bolt_recover.proofs.StepLemmas.{when_err}
 use Rattle.bolt_recover.proofs.recovery.Recovery.next.Goals as goal
 
@@ -75,3 +76,14 @@ returns-in-None-clause-visited c = λ ways are.
     let all = visited_ended old new c.args.self.now.meta c.args.self.now.begun on ended ways are in
     let fits = visited_fits c.advance.new.self.claims in
     omega (arith, all, fits))
+
+pub returns-in-None-clause-kept : goal.returns-in-None-clause-kept
+unfolding recovery_claimed recovery_file recovery_meta
+returns-in-None-clause-kept c = λ survey is n.
+    let old = state_of c.args.self.now.steps in
+    let new = state_of c.advance.new.self in
+    let meta = c.args.self.now.meta in
+    let begun = c.args.self.now.begun in
+    let ended = rw c.in-None.is at c.in_ok-leaf.ensures.given in
+    let same : all_claimed old.file meta begun n ≡ new.claimed n = ∥∥₁_elim c.args.self.now.on (hlevel props) (λ on. claimed_ended old new meta begun on ended n) in
+    subst (λ (b : Bool). (b ≡ true) ↔ IsKeptPage old.file meta survey n) same (claimed_all old.file meta begun survey is n)

@@ -1,12 +1,14 @@
 use Rattle.std.proofs.Common.{arith, ◌∙◌, List, [], ◌∷◌, ◌++◌, None, map, ap, sym, refl}
 use Rattle.bolt_check.specs.Claims.{claims_file, claims_meta, claims_visited, is_claimed}
+use Rattle.bolt_check.specs.Nodes.{node_at}
 use Rattle.bolt_check.specs.Ways.{root_spot}
 use Rattle.bolt_check.specs.declared.fault.CheckFault.TheVariants.{Structure}
 use Rattle.bolt_check.proofs.Visited.{passed_on}
 use Rattle.bolt_check.specs.declared.spot.PageSpot.{PageSpot}
 use Rattle.bolt_format.specs.declared.meta.Meta.{Meta}
 use Rattle.bolt_tree.specs.Paths.{path_of}
-use Rattle.bolt_recover.specs.Private.Frames.{ComesTo, IsRefusedRoot, State, outcome_of}
+use Rattle.bolt_recover.specs.Private.Frames.{ComesTo, State, outcome_of}
+use Rattle.bolt_recover.specs.Refusals.{IsRefusedRoot}
 use Rattle.bolt_recover.specs.ShownLosses.{loss_view}
 use Rattle.bolt_recover.specs.declared.content.OpenPage.{OpenPage}
 use Rattle.bolt_recover.proofs.StepLemmas.{as_state, begins, of_metas, root_kept, root_refused}
@@ -28,7 +30,7 @@ returns-clause-all c = λ visits members run.
     let visited = claims_visited c.visit.new.claims in
     let root : PageSpot = record { number = c.meta.result.root; depth = 1; lower = None; upper = None } in
     let page : OpenPage = record { content = c.in_ok-content.content; level = 0; count = c.count.result; next = 0 } in
-    as_state (λ (t : State). ComesTo t members (outcome_of begun visits))
+    as_state (λ (t : State). ComesTo t members (outcome_of (node_at file meta) begun visits))
     (record { file = file; meta = meta; claimed = claimed; ahead = None; pages = page ∷ []; path = []; losses = []; visited = visited })
     (claims_file c.visit.new.claims) (claims_meta c.visit.new.claims) None c.push_reserved.new.self.items (path_of c.new.result.items) (map loss_view c.new-2.result.items)
     (sym c.in_ok-content.ensures.file) (sym c.in_ok-content.ensures.meta) refl

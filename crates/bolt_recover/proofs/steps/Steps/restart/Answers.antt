@@ -35,7 +35,7 @@ returns-clause-all c = λ visits members run.
     let begun = claims_visited old in
     let root : PageSpot = record { number = c.meta.result.root; depth = 1; lower = None; upper = None } in
     let page : OpenPage = record { content = c.in-Ok.content; level = 0; count = c.count.result; next = 0 } in
-    as_state (λ (t : State). ComesTo t members (outcome_of begun visits))
+    as_state (λ (t : State). ComesTo t members (outcome_of (node_at (claims_file old) (claims_meta old)) begun visits))
     (record { file = claims_file claims; meta = claims_meta claims; claimed = is_claimed new; ahead = None; pages = page ∷ []; path = []; losses = []; visited = claims_visited new })
     (claims_file new) (claims_meta new) None c.push_reserved.new.self.items (path_of c.clear-2.new.self.items) (map loss_view c.clear-3.new.self.items)
     (sym c.in-Ok.ensures.file) (sym c.in-Ok.ensures.meta) refl

@@ -4,15 +4,13 @@ use Rattle.std.proofs.lemmas.Grind.{merely}
 use Rattle.bolt_check.specs.CheckedFiles.{bytes_of, has_accounts, meta_of}
 use Rattle.bolt_check.specs.Nodes.{node_at}
 use Rattle.bolt_check.proofs.Shaping.{shape_of}
-use Rattle.bolt_check.proofs.sound.check_slot.Goals as goal
+use Rattle.bolt_check.proofs.sound.check_under.Goals as goal
 
 pub invariant_of-result : goal.invariant_of-result
 invariant_of-result c = record {
   sound = merely (record {
-    slot = c.args.slot;
-    valid = c.in_ok-meta.ensures.valid;
-    trees = shape_of (node_at c.args.file.now c.in_ok-meta.meta) c.in_ok-meta.meta.root c.in_ok-search.ensures.clean;
-    right = λ tested. absurd (false≢true tested);
+    trees = shape_of (node_at c.args.file.now c.args.meta) c.args.meta.root c.in_ok-search.ensures.clean;
+    whole = λ tested. absurd (false≢true tested);
   });
 }
 
@@ -22,11 +20,10 @@ returns-clause-bytes c = refl
 
 pub returns-clause-meta : goal.returns-clause-meta
 unfolding meta_of
-returns-clause-meta c = c.in_ok-meta.ensures.valid
+returns-clause-meta c = refl
 
 pub returns-clause-trees : goal.returns-clause-trees
-unfolding meta_of
-returns-clause-trees c = shape_of (node_at c.args.file.now c.in_ok-meta.meta) c.in_ok-meta.meta.root c.in_ok-search.ensures.clean
+returns-clause-trees c = shape_of (node_at c.args.file.now c.args.meta) c.args.meta.root c.in_ok-search.ensures.clean
 
 pub returns-clause-accounts : goal.returns-clause-accounts
 unfolding has_accounts

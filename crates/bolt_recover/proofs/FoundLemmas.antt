@@ -1,0 +1,188 @@
+-- Found pages, one number after another.
+use Rattle.std.proofs.Common.{◌≡◌, ◌∙◌, ◌≤◌, ◌<◌, ◌⊎◌, ◌↔◌, inl, inr, ℕ, zero, suc, ◌+◌, Bool, true, false, List, [], ◌∷◌, ◌++◌, Option, Some, None, refl, sym, ap, subst, arith}
+use Rattle.std.specs.List.{Contains}
+use Rattle.std.proofs.lemmas.Bool.{cases_lt, false≢true}
+use Rattle.std.proofs.lemmas.List.Elements.{Contains-append_left, Contains-append_right, Contains-push_cases}
+use Rattle.bolt_format.specs.declared.meta.Meta.{Meta}
+use Rattle.bolt_check.specs.LoneLeaves.{IsListedFree, IsLoneLeaf}
+use Rattle.bolt_check.specs.Nodes.{Nodes, node_at}
+use Rattle.bolt_check.specs.Ways.{At_page, SpanAt, root_spot}
+use Rattle.bolt_check.proofs.LeafLemmas.{lone_free, lone_same, lone_span}
+use Rattle.bolt_tree.proofs.Lists.{contains_head, contains_none}
+use Rattle.bolt_recover.specs.Found.{FoundBelow, IsFoundNext, IsFoundPage}
+
+pub not_true : (b : Bool) → (b ≡ true → ⊥) → b ≡ false
+not_true true never = absurd (never refl)
+not_true false never = refl
+
+module _ (file : List ℕ) (meta : Meta) where
+  abbrev nodes : Nodes
+  nodes = node_at file meta
+
+  -- the pages of one found page more
+  page_more : (found : List ℕ) (n k : ℕ) → IsFoundPage file meta (found ++ n ∷ []) k → IsFoundPage file meta found k ⊎ SpanAt nodes (At_page (root_spot n)) k
+  page_more found n k (m, (has, span)) =
+      elim (Contains-push_cases found n m has) [
+        | inl before ↦ inl (m, (before, span))
+        | inr same ↦ inr (subst (λ (x : ℕ). SpanAt nodes (At_page (root_spot x)) k) (sym same) span)
+      ]
+
+  pub page_old : (found : List ℕ) (n k : ℕ) → IsFoundPage file meta found k → IsFoundPage file meta (found ++ n ∷ []) k
+  page_old found n k (m, (has, span)) = (m, (Contains-append_left found (n ∷ []) m has, span))
+
+  page_new : (found : List ℕ) (n k : ℕ) → SpanAt nodes (At_page (root_spot n)) k → IsFoundPage file meta (found ++ n ∷ []) k
+  page_new found n k span = (n, (Contains-append_right found (n ∷ []) n (contains_head n []), span))
+
+  -- it doesn't matter how it is said which pages are kept
+  next_same : (a b : ℕ → Type 0) (found : List ℕ) (n : ℕ) → ((k : ℕ) → b k → a k) → IsFoundNext file meta a found n → IsFoundNext file meta b found n
+  next_same a b found n from next = record {
+    leaf = lone_same nodes (λ k. a k ⊎ IsFoundPage file meta found k) (λ k. b k ⊎ IsFoundPage file meta found k) n
+        (λ k h. elim h [ inl kept ↦ inl (from k kept) | inr is ↦ inr is ]) next.leaf;
+    unlisted = next.unlisted;
+  }
+
+  pub found_same : (a b : ℕ → Type 0) → ((k : ℕ) → a k → b k) → ((k : ℕ) → b k → a k) → (n : ℕ) (found : List ℕ) → FoundBelow file meta a n found → FoundBelow file meta b n found
+  found_same a b to from zero found below = below
+  found_same a b to from (suc n) found (before, below, inl (next, is)) = (before, found_same a b to from n before below, inl (next_same a b before n from next, is))
+  found_same a b to from (suc n) found (before, below, inr (none, is)) = (before, found_same a b to from n before below, inr (λ next. none (next_same b a before n to next), is))
+
+  module _ (kept : ℕ → Type 0) where
+    -- there is one list
+    pub found_one : (n : ℕ) (a b : List ℕ) → FoundBelow file meta kept n a → FoundBelow file meta kept n b → a ≡ b
+    found_one zero a b h k = h ∙ sym k
+    found_one (suc n) a b (x, below, inl (next, is)) (y, other, inl (also, of)) = is ∙ ap (λ (xs : List ℕ). xs ++ n ∷ []) (found_one n x y below other) ∙ sym of
+    found_one (suc n) a b (x, below, inl (next, is)) (y, other, inr (none, of)) = absurd (none (subst (λ (xs : List ℕ). IsFoundNext file meta kept xs n) (found_one n x y below other) next))
+    found_one (suc n) a b (x, below, inr (none, is)) (y, other, inl (next, of)) = absurd (none (subst (λ (xs : List ℕ). IsFoundNext file meta kept xs n) (sym (found_one n x y below other)) next))
+    found_one (suc n) a b (x, below, inr (none, is)) (y, other, inr (also, of)) = is ∙ found_one n x y below other ∙ sym of
+
+    -- past the last page that can be found, none is
+    pub found_up : (end : ℕ) (found : List ℕ) (d : ℕ) → FoundBelow file meta kept end found → ((n : ℕ) → end ≤ n → n < end + d → IsFoundNext file meta kept found n → ⊥)
+        → FoundBelow file meta kept (end + d) found
+    found_up end found zero below none = let same : end ≡ end + 0 = omega arith in subst (λ (n : ℕ). FoundBelow file meta kept n found) same below
+    found_up end found (suc d) below none =
+        let same : suc (end + d) ≡ end + suc d = omega arith in
+        let before = found_up end found d below (λ n le lt. none n le (omega (arith, lt))) in
+        subst (λ (n : ℕ). FoundBelow file meta kept n found) same (found, before, inr (none (end + d) (omega arith) (omega arith), refl))
+
+    -- if these pages are taken
+    module _ (found : List ℕ) (n : ℕ) (taken listed first : ℕ → Bool) (are : (k : ℕ) → (taken k ≡ true) ↔ (kept k ⊎ IsFoundPage file meta found k))
+        (same : taken n ≡ false → listed n ≡ first n) (free : (first n ≡ true) ↔ IsListedFree file meta n) (below : FoundBelow file meta kept n found) where
+      untaken : {before : ℕ → Type 0} → ((k : ℕ) → taken k ≡ true → before k) → IsLoneLeaf nodes before n → taken n ≡ false
+      untaken {before} to lone = not_true (taken n) (λ was. lone_free nodes before n lone (to n was))
+
+      next_of : IsLoneLeaf nodes (λ k. taken k ≡ true) n → listed n ≡ false → IsFoundNext file meta kept found n
+      next_of lone none = record {
+        leaf = lone_same nodes (λ k. taken k ≡ true) (λ k. kept k ⊎ IsFoundPage file meta found k) n (λ k h. (are k).1 h) lone;
+        unlisted = λ is. false≢true (sym none ∙ same (untaken (λ k was. was) lone) ∙ free.1 is);
+      }
+
+      pub found_next : IsLoneLeaf nodes (λ k. taken k ≡ true) n → listed n ≡ false → FoundBelow file meta kept (n + 1) (found ++ n ∷ [])
+      found_next lone none =
+          let more : suc n ≡ n + 1 = omega arith in
+          subst (λ (m : ℕ). FoundBelow file meta kept m (found ++ n ∷ [])) more (found, below, inl (next_of lone none, refl))
+
+      pub found_not : (IsLoneLeaf nodes (λ k. taken k ≡ true) n → listed n ≡ false → ⊥) → FoundBelow file meta kept (n + 1) found
+      found_not none =
+          let more : suc n ≡ n + 1 = omega arith in
+          let not_next : IsFoundNext file meta kept found n → ⊥ = λ next.
+          let lone = lone_same nodes (λ k. kept k ⊎ IsFoundPage file meta found k) (λ k. taken k ≡ true) n (λ k was. (are k).0 was) next.leaf in
+          none lone (not_true (listed n) (λ is. next.unlisted (free.0 (sym (same (untaken (λ k was. was) lone)) ∙ is)))) in
+          subst (λ (m : ℕ). FoundBelow file meta kept m found) more (found, below, inr (not_next, refl))
+
+    -- one page more is taken
+    pub taken_more : (found : List ℕ) (n : ℕ) (old new : ℕ → Bool) → ((k : ℕ) → (old k ≡ true) ↔ (kept k ⊎ IsFoundPage file meta found k))
+        → ((k : ℕ) → (new k ≡ true) ↔ ((old k ≡ true) ⊎ SpanAt nodes (At_page (root_spot n)) k)) → (k : ℕ) → (new k ≡ true) ↔ (kept k ⊎ IsFoundPage file meta (found ++ n ∷ []) k)
+    taken_more found n old new are more k = (
+      λ is. elim ((more k).0 is) [
+        | inl was ↦ elim ((are k).0 was) [ inl here ↦ inl here | inr there ↦ inr (page_old found n k there) ]
+        | inr span ↦ inr (page_new found n k span)
+      ],
+      λ is. (more k).1 (elim is [
+        | inl here ↦ inl ((are k).1 (inl here))
+        | inr there ↦ elim (page_more found n k there) [ inl before ↦ inl ((are k).1 (inr before)) | inr span ↦ inr span ]
+      ]),
+    )
+
+    -- an intact leaf apart from all these
+    lone_apart : (found : List ℕ) (n : ℕ) (lone : IsLoneLeaf nodes (λ k. ⊥) n) → ((k : ℕ) → SpanAt nodes (At_page (root_spot n)) k → kept k → ⊥)
+        → ((k : ℕ) → SpanAt nodes (At_page (root_spot n)) k → IsFoundPage file meta found k → ⊥) → IsLoneLeaf nodes (λ k. kept k ⊎ IsFoundPage file meta found k) n
+    lone_apart found n lone apart alone = record {
+      passes = record {
+        node = lone.passes.node;
+        early = lone.passes.early;
+        page = lone.passes.page;
+        free = λ k inside was.
+            let span : SpanAt nodes (At_page (root_spot n)) k = rw lone.passes.page inside in
+            elim was [ inl is ↦ apart k span is | inr is ↦ alone k span is ];
+        content = lone.passes.content;
+      };
+      leaf = lone.leaf;
+      some = lone.some;
+    }
+
+    -- an intact leaf is found, or it shares a page, or it is free
+    pub passed : (mark : ℕ) (found : List ℕ) (n : ℕ) → FoundBelow file meta kept mark found → n < mark → IsLoneLeaf nodes (λ k. ⊥) n → (IsListedFree file meta n → ⊥)
+        → ((k : ℕ) → SpanAt nodes (At_page (root_spot n)) k → kept k → ⊥) → ((k : ℕ) → SpanAt nodes (At_page (root_spot n)) k → IsFoundPage file meta found k → ⊥) → ⊥
+    passed zero found n below lt lone unlisted apart alone = absurd (omega arith)
+    passed (suc mark) found n (before, below, how) lt lone unlisted apart alone =
+        let less : (k : ℕ) → IsFoundPage file meta before k → IsFoundPage file meta found k = λ k is. elim how [
+          | inl (next, same) ↦ subst (λ (xs : List ℕ). IsFoundPage file meta xs k) (sym same) (page_old before mark k is)
+          | inr (none, same) ↦ subst (λ (xs : List ℕ). IsFoundPage file meta xs k) (sym same) is
+        ] in
+        elim (cases_lt n mark) [
+          | inl lower ↦ passed mark before n below lower lone unlisted apart (λ k span is. alone k span (less k is))
+          | inr high ↦ let here : n ≡ mark = omega arith in elim how [
+            | inl (next, same) ↦ alone n (lone_span nodes (λ k. ⊥) n lone)
+                (subst (λ (xs : List ℕ). IsFoundPage file meta xs n) (sym same) (page_new before mark n (subst (λ (m : ℕ). SpanAt nodes (At_page (root_spot m)) n) here (lone_span nodes (λ k. ⊥) n lone))))
+            | inr (none, same) ↦ none (subst (IsFoundNext file meta kept before) here (record { leaf = lone_apart before n lone apart (λ k span is. alone k span (less k is)); unlisted = unlisted }))
+          ]
+        ]
+
+    -- what is found below a number is below it, intact, unlisted and apart from what is kept
+    pub record IsFoundHere (mark n : ℕ) : Type 0 where
+      pub below : n < mark
+      pub leaf : IsLoneLeaf nodes kept n
+      pub unlisted : IsListedFree file meta n → ⊥
+
+    here_of : (found : List ℕ) (n : ℕ) → IsFoundNext file meta kept found n → IsFoundHere (suc n) n
+    here_of found n next = record {
+      below = omega arith;
+      leaf = lone_same nodes (λ k. kept k ⊎ IsFoundPage file meta found k) kept n (λ k is. inl is) next.leaf;
+      unlisted = next.unlisted;
+    }
+
+    here_up : (mark n : ℕ) → IsFoundHere mark n → IsFoundHere (suc mark) n
+    here_up mark n here = record { below = (let lt = here.below in omega (arith, lt)); leaf = here.leaf; unlisted = here.unlisted }
+
+    pub found_here : (mark : ℕ) (found : List ℕ) (n : ℕ) → FoundBelow file meta kept mark found → Contains found n → IsFoundHere mark n
+    found_here zero found n below has = absurd (contains_none n (subst (λ (xs : List ℕ). Contains xs n) below has))
+    found_here (suc mark) found n (before, below, inl (next, is)) has =
+        elim (Contains-push_cases before mark n (subst (λ (xs : List ℕ). Contains xs n) is has)) [
+          | inl lower ↦ here_up mark n (found_here mark before n below lower)
+          | inr same ↦ subst (IsFoundHere (suc mark)) same (here_of before mark next)
+        ]
+    found_here (suc mark) found n (before, below, inr (none, is)) has = here_up mark n (found_here mark before n below (subst (λ (xs : List ℕ). Contains xs n) is has))
+
+    -- two found pages share no page
+    pub found_apart : (mark : ℕ) (found : List ℕ) (n m k : ℕ) → FoundBelow file meta kept mark found → Contains found n → Contains found m
+        → SpanAt nodes (At_page (root_spot n)) k → SpanAt nodes (At_page (root_spot m)) k → n ≡ m
+    found_apart zero found n m k below a b left right = absurd (contains_none n (subst (λ (xs : List ℕ). Contains xs n) below a))
+    found_apart (suc mark) found n m k (before, below, inr (none, is)) a b left right =
+        found_apart mark before n m k below (subst (λ (xs : List ℕ). Contains xs n) is a) (subst (λ (xs : List ℕ). Contains xs m) is b) left right
+    found_apart (suc mark) found n m k (before, below, inl (next, is)) a b left right =
+        elim (Contains-push_cases before mark n (subst (λ (xs : List ℕ). Contains xs n) is a)) [
+          | inl lower ↦ elim (Contains-push_cases before mark m (subst (λ (xs : List ℕ). Contains xs m) is b)) [
+            | inl low ↦ found_apart mark before n m k below lower low left right
+            | inr same ↦ absurd (shares before mark n k next lower left (subst (λ (x : ℕ). SpanAt nodes (At_page (root_spot x)) k) (sym same) right))
+          ]
+          | inr same ↦ elim (Contains-push_cases before mark m (subst (λ (xs : List ℕ). Contains xs m) is b)) [
+            | inl low ↦ absurd (shares before mark m k next low right (subst (λ (x : ℕ). SpanAt nodes (At_page (root_spot x)) k) (sym same) left))
+            | inr also ↦ sym same ∙ also
+          ]
+        ]
+      where
+        shares : (before : List ℕ) (mark n k : ℕ) → IsFoundNext file meta kept before mark → Contains before n
+            → SpanAt nodes (At_page (root_spot n)) k → SpanAt nodes (At_page (root_spot mark)) k → ⊥
+        shares before mark n k next has left right =
+            let inside = rw next.leaf.passes.page at right in
+            next.leaf.passes.free k inside (inr (n, (has, left)))

@@ -1,0 +1,90 @@
+use Rattle.std.proofs.Common.{◌≡◌, ◌∙◌, ◌⊎◌, ◌↔◌, ◌<◌, ◌+◌, ◌-◌, ◌++◌, ◌∷◌, inl, inr, ℕ, true, false, List, [], Ok, Some, ap, arith, map, subst, subst₂, sym, refl}
+use Rattle.std.specs.List.{All}
+use Rattle.std.proofs.lemmas.Bool.{false≢true}
+use Rattle.std.proofs.lemmas.List.{map-append}
+use Rattle.std.proofs.lemmas.List.Elements.{All-push}
+use Rattle.bolt_format.specs.Pages.{page_at}
+use Rattle.bolt_format.specs.Shown.{shown}
+use Rattle.bolt_format.specs.declared.meta.Meta.{Meta}
+use Rattle.bolt_check.specs.Leftovers.{is_listed, is_taken, leftovers_file, leftovers_length, leftovers_meta}
+use Rattle.bolt_check.specs.LoneLeaves.{IsListedFree, IsLoneLeaf}
+use Rattle.bolt_check.specs.Nodes.{node_at}
+use Rattle.bolt_check.specs.ShownNodes.{shown_node}
+use Rattle.bolt_check.specs.Ways.{At_page, SpanAt, root_spot}
+use Rattle.bolt_recover.specs.Found.{FoundBelow, IsFoundPage, numbers_of}
+use Rattle.bolt_recover.specs.ShownFound.{IsFoundView}
+use Rattle.bolt_recover.specs.declared.found.Found.{Found}
+use Rattle.bolt_recover.proofs.FoundLemmas.{found_next, found_not, found_up, not_true, taken_more}
+use Rattle.bolt_recover.proofs.found.find_leaves.Goals as goal
+use Rattle.bolt_recover.proofs.found.find_leaves.Goals.{in-Some, in_default}
+
+pub loop-number-preserved : goal.loop-number-preserved
+loop-number-preserved c =
+    let file = leftovers_file c.args.leftovers in
+    let meta = leftovers_meta c.args.leftovers in
+    let kept : ℕ → Type 0 = λ n. is_taken c.args.leftovers n ≡ true in
+    let l = c.loop-number in
+    let inv = l.invariant in
+    let n = l.number in
+    let found = numbers_of l.found.items in
+    let old = is_taken l.leftovers in
+    let new = is_taken c.take.new.self in
+    let listed = is_listed l.leftovers in
+    let first = is_listed c.args.leftovers in
+    let inside : n < leftovers_length c.args.leftovers = (let within = c.end-number-end.ensures.within in let lt = c.loop-number-test.true in omega (arith, within, lt)) in
+    let free = c.requires n inside in
+    elim c.match-take.branch [
+      | in-Some w ↦
+          let some = w.in-Some.ensures in
+          let f : Found = record { number = n; page = w.in-Some.page } in
+          let items : c.match-take.found.items ≡ l.found.items ++ f ∷ [] =
+          ap (λ v. v.items) w.found-is ∙ w.push_reserved.ensures.items ∙ ap (λ (fs : List Found). fs ++ f ∷ []) c.in_ok-reserve.ensures.items in
+          let numbers : numbers_of c.match-take.found.items ≡ found ++ n ∷ [] = ap numbers_of items ∙ map-append (λ (x : Found). x.number) l.found.items (f ∷ []) in
+          let lone = subst₂ (λ (a : List ℕ) (b : Meta). IsLoneLeaf (node_at a b) (λ k. old k ≡ true) n) inv.file inv.meta some.leaf in
+          let more = subst₂ (λ (a : List ℕ) (b : Meta). (k : ℕ) → (new k ≡ true) ↔ ((old k ≡ true) ⊎ SpanAt (node_at a b) (At_page (root_spot n)) k)) inv.file inv.meta some.taken in
+          let view : IsFoundView file meta f = record {
+            page = subst₂ (λ (a : List ℕ) (b : Meta). page_at a b n ≡ Some (shown w.in-Some.page.page)) inv.file inv.meta some.page;
+            node = subst₂ (λ (a : List ℕ) (b : Meta). node_at a b n ≡ Ok (shown_node w.in-Some.page)) inv.file inv.meta some.node;
+          } in
+          record {
+            file = c.take.ensures.file ∙ inv.file;
+            meta = c.take.ensures.meta ∙ inv.meta;
+            length = c.take.ensures.length ∙ inv.length;
+            below = subst (λ (xs : List ℕ). FoundBelow file meta kept (n + 1) xs) (sym numbers)
+                (found_next file meta kept found n old listed first inv.taken (inv.listed n) free inv.below lone some.unlisted);
+            taken = subst (λ (xs : List ℕ). (k : ℕ) → (new k ≡ true) ↔ (kept k ⊎ IsFoundPage file meta xs k)) (sym numbers)
+                (taken_more file meta kept found n old new inv.taken more);
+            listed = λ k untaken. c.take.ensures.noted k untaken ∙ inv.listed k (not_true (old k) (λ was. false≢true (sym untaken ∙ (more k).1 (inl was))));
+            views = subst (All (IsFoundView file meta)) (sym items) (All-push (IsFoundView file meta) l.found.items f inv.views view);
+          }
+      | in_default w ↦
+          let none = w.in_default.ensures in
+          let items : c.match-take.found.items ≡ l.found.items = ap (λ v. v.items) w.found-is ∙ c.in_ok-reserve.ensures.items in
+          let numbers : numbers_of c.match-take.found.items ≡ found = ap numbers_of items in
+          record {
+            file = c.take.ensures.file ∙ inv.file;
+            meta = c.take.ensures.meta ∙ inv.meta;
+            length = c.take.ensures.length ∙ inv.length;
+            below = subst (λ (xs : List ℕ). FoundBelow file meta kept (n + 1) xs) (sym numbers)
+                (found_not file meta kept found n old listed first inv.taken (inv.listed n) free inv.below
+                (subst₂ (λ (a : List ℕ) (b : Meta). IsLoneLeaf (node_at a b) (λ k. old k ≡ true) n → listed n ≡ false → ⊥) inv.file inv.meta none.none));
+            taken = subst (λ (xs : List ℕ). (k : ℕ) → (new k ≡ true) ↔ (kept k ⊎ IsFoundPage file meta xs k)) (sym numbers)
+                (λ k. subst (λ b. (b ≡ true) ↔ (kept k ⊎ IsFoundPage file meta found k)) (sym (none.same k)) (inv.taken k));
+            listed = λ k untaken. c.take.ensures.noted k untaken ∙ inv.listed k (sym (none.same k) ∙ untaken);
+            views = subst (All (IsFoundView file meta)) (sym items) inv.views;
+          }
+    ]
+
+pub returns-clause-found : goal.returns-clause-found
+returns-clause-found c =
+    let file = leftovers_file c.args.leftovers in
+    let meta = leftovers_meta c.args.leftovers in
+    let kept : ℕ → Type 0 = λ n. is_taken c.args.leftovers n ≡ true in
+    let end = c.end-number-end.result in
+    let below = c.end-number-end.ensures.below in
+    let at_end : c.loop-number.number ≡ end = (let over = c.loop-number-test.false in let auto_ = c.loop-number.auto.number-end in omega (arith, over, auto_)) in
+    let up : end + (meta.high_water - end) ≡ meta.high_water = omega (arith, below) in
+    let found = numbers_of c.loop-number.found.items in
+    subst (λ (n : ℕ). FoundBelow file meta kept n found) up
+    (found_up file meta kept end found (meta.high_water - end) (subst (λ (n : ℕ). FoundBelow file meta kept n found) at_end c.loop-number.invariant.below)
+    (λ n le lt next. c.end-number-end.ensures.past n next.leaf.passes.node le next.leaf.passes.page (omega (arith, lt, up))))

@@ -1,0 +1,5 @@
+use Rattle.bolt_recover.proofs.FoundAll.{shares}
+use Rattle.bolt_recover.proofs.laws.no_intact_leaf_is_left_behind.Goals as goal
+
+pub returns : goal.returns
+returns c = shares

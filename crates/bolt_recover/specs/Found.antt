@@ -1,0 +1,39 @@
+-- The pages that are found though nothing leads to them: docs/RECOVERY.md, "Found pages".
+use Rattle.std.specs.Prelude.{◌≡◌, ℕ, zero, suc, ◌⊎◌, List, [], ◌∷◌, ◌++◌, Contains, None, map}
+use Rattle.bolt_format.specs.declared.meta.Meta.{Meta}
+use Rattle.bolt_check.specs.LoneLeaves.{IsListedFree, IsLoneLeaf}
+use Rattle.bolt_check.specs.Nodes.{node_at}
+use Rattle.bolt_check.specs.Ways.{At_page, SpanAt, root_spot}
+use Rattle.bolt_check.specs.declared.finding.Finding.{Finding}
+use Rattle.bolt_recover.specs.KeptPages.{IsKeptPage}
+use Rattle.bolt_recover.specs.Surveys.{Has, IsSurvey, Visit, lost}
+use Rattle.bolt_recover.specs.declared.found.Found.{Found}
+
+module _ (file : List ℕ) (meta : Meta) where
+  -- page n lies in the span of one of these pages
+  abbrev pub IsFoundPage : List ℕ → ℕ → Type 0
+  IsFoundPage found n = (m : ℕ) × (Contains found m × SpanAt (node_at file meta) (At_page (root_spot m)) n)
+
+  -- Page n is found, if these of smaller numbers were: it is an intact leaf, its span shares no page with a kept way or with one of these, and it
+  -- isn't listed as free.
+  pub record IsFoundNext (kept : ℕ → Type 0) (found : List ℕ) (n : ℕ) : Type 0 where
+    pub leaf : IsLoneLeaf (node_at file meta) (λ k. kept k ⊎ IsFoundPage found k) n
+    pub unlisted : IsListedFree file meta n → ⊥
+
+  -- the found pages below a number, by rising number
+  abbrev pub FoundBelow : (ℕ → Type 0) → ℕ → List ℕ → Type 0
+  FoundBelow kept zero found = found ≡ []
+  FoundBelow kept (suc n) found =
+      (before : List ℕ) × FoundBelow kept n before
+      × ((IsFoundNext kept before n × (found ≡ before ++ n ∷ [])) ⊎ ((IsFoundNext kept before n → ⊥) × (found ≡ before)))
+
+  -- The found pages of a file under a meta. If no way is lost, there are none.
+  pub record AreFound (found : List ℕ) : Type 0 where
+    pub survey : List Visit
+    pub surveys : IsSurvey file meta survey
+    pub none : ((v : Visit) → Has survey v → v.found ≡ None) → found ≡ []
+    pub some : (way : List ℕ) (x : Finding) → Has survey (lost way x) → FoundBelow (IsKeptPage file meta survey) meta.high_water found
+
+-- the numbers of found pages of the code
+abbrev pub numbers_of : List Found → List ℕ
+numbers_of found = map (λ (f : Found). f.number) found

@@ -1,0 +1,12 @@
+-- A found page of the code: the page that the file has under its number.
+use Rattle.std.specs.Prelude.{◌≡◌, ℕ, List, Ok, Some}
+use Rattle.bolt_format.specs.Pages.{page_at}
+use Rattle.bolt_format.specs.Shown.{shown}
+use Rattle.bolt_format.specs.declared.meta.Meta.{Meta}
+use Rattle.bolt_check.specs.Nodes.{node_at}
+use Rattle.bolt_check.specs.ShownNodes.{shown_node}
+use Rattle.bolt_recover.specs.declared.found.Found.{Found}
+
+pub record IsFoundView (file : List ℕ) (meta : Meta) (found : Found) : Type 0 where
+  pub page : page_at file meta found.number ≡ Some (shown found.page.page)
+  pub node : node_at file meta found.number ≡ Ok (shown_node found.page)
