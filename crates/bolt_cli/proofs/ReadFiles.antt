@@ -38,9 +38,9 @@ slot_page_size file Zero meta is = meta_page_size file 0 meta is
 slot_page_size file One meta (inl is) = meta_page_size file _ meta is.2
 slot_page_size file One meta (inr is) = meta_page_size file is.1.at meta is.1.valid
 
-pub checked_page_size : (checked : Checked) → IsPageSize (meta_of checked).page_size
-unfolding meta_of
-checked_page_size checked = ∥∥₁_elim checked.sound (hlevel props) (λ sound. slot_page_size checked.bytes.now sound.slot checked.meta sound.valid)
+pub read_page_size : (file : List ℕ) (slot : Option Slot) (meta : Meta) → IsReadUnder file slot meta → IsPageSize meta.page_size
+read_page_size file None meta (slot, chosen, sound) = slot_page_size file slot meta chosen.valid
+read_page_size file (Some slot) meta (is, trees) = slot_page_size file slot meta is
 
 -- ---- why the file is refused, or nothing of it is recovered
 

@@ -11,11 +11,12 @@
 //! | `walk`, `walk PATH` | the line of each member of a walk |
 //! | `listed PATH`, `keys PATH` | what `list` writes from a path, and `keys` of a bucket |
 //! | `depths`, `depths PATH` | the numbers of items and keys of a walk |
-//! | `recovered`, `recovered SLOT` | the line of each member that is recovered, and of each loss |
+//! | `recovered`, `recovered META` | the line of each member that is recovered, and of each loss |
+//! | `found`, `found META` | the number of each page that is found, and its keys |
 //! | `plan LAYOUT SIZE` | the root page and the high-water mark of a copy |
 //! | `copy LAYOUT SIZE` | the bytes of a copy, those that were accepted, and the items held at one time |
 //! | `roles` | the role of each page |
-//! | `checked`, `checked SLOT` | the transaction, the length, and whether the accounts were tested |
+//! | `checked`, `checked META` | the transaction, the length, and whether the accounts were tested |
 //! | `pager`, `root`, `bucket KEY` | keys that are found over a pager, and what it opened |
 //! | `checksums WORD ..`, `faults` | the checksum of each word, and the numbers of faults |
 //! | `puts SINK NUMBER PIECE ..` | what sinks accept |
@@ -27,7 +28,8 @@
 //! | `fails COMMAND ..`, `halts COMMAND ..` | how many bytes, and how many calls, fail in turn |
 //! | `agree` | how many changed files were compared |
 //!
-//! If a result is none, the reason is on standard error, and the status is 3.
+//! META is the slot of a meta, or assumes one by its page size and its root page, as `4096:3`. If a
+//! result is none, the reason is on standard error, and the status is 3.
 #![tactic(auto)]
 
 mod agreements;
@@ -121,6 +123,7 @@ fn result_of(alloc: Global, verb: &str, file: &[u8], words: &[String]) -> Result
         "keys" => listings::keys_in(alloc, file, words),
         "depths" => walks::depths(alloc, file, words),
         "recovered" => recoveries::recovered(alloc, file, words),
+        "found" => recoveries::found(alloc, file, words),
         "plan" => copies::planned(alloc, file, words),
         "copy" => copies::copied(alloc, file, words),
         "roles" => roles::roles_of(alloc, file),

@@ -1,20 +1,67 @@
-//! Recoveries: what is kept of a file, and what is lost.
+//! Recoveries: what is kept of a file, what is lost, and what is found.
+ghost use Rattle.std.specs.Prelude.{◌<◌};
 
 use crate::fault::Fault;
 use crate::walks::lines_of;
-use crate::words::slot_of;
-use bolt_recover::Recovery;
+use crate::words::{assumed_of, slot_of};
+use bolt_check::CheckFault;
+use bolt_format::Meta;
+use bolt_recover::{Found, Recovery, found_without_root};
 use bolt_report::losses_text;
 use std::alloc::Global;
 
 /// The line of each member that is recovered, and then that of each loss. The first word may name
-/// the slot of the meta.
+/// the slot of the meta, or assume one.
 pub fn recovered(alloc: Global, file: &[u8], words: &[String]) -> Result<Vec<u8>, Fault> {
-    let mut recovery = match slot_of(words)? {
-        None => Recovery::new(alloc, file)?,
-        Some(slot) => Recovery::of_slot(alloc, file, slot)?,
+    let mut recovery = match assumed_of(file, words)? {
+        Some(meta) => Recovery::under(alloc, file, meta)?,
+        None => recovery_of(alloc, file, words)?,
     };
     let mut sink = lines_of(alloc, &mut recovery)?;
     losses_text(recovery.losses(), &mut sink)?;
     Ok(sink.bytes().to_vec(alloc)?)
+}
+
+fn recovery_of<'a>(alloc: Global, file: &'a [u8], words: &[String]) -> Result<Recovery<'a>, Fault> {
+    let recovery = match slot_of(words)? {
+        None => Recovery::new(alloc, file)?,
+        Some(slot) => Recovery::of_slot(alloc, file, slot)?,
+    };
+    Ok(recovery)
+}
+
+/// A line for each page that is found: its number, and its keys in hexadecimal. The first word is as
+/// that of `recovered`.
+pub fn found(alloc: Global, file: &[u8], words: &[String]) -> Result<Vec<u8>, Fault> {
+    let pages = match assumed_of(file, words)? {
+        Some(meta) => found_under(alloc, file, meta)?,
+        None => recovery_of(alloc, file, words)?.found()?,
+    };
+    let mut lines = Vec::new(alloc);
+    for page in &pages {
+        push_found(alloc, page, &mut lines)?;
+    }
+    Ok(lines)
+}
+
+/// The pages that are found under a meta, also if the root page is lost.
+fn found_under<'a>(alloc: Global, file: &'a [u8], meta: Meta) -> Result<Vec<Found<'a>>, Fault>
+    requires { 0 < meta.page_size }
+{
+    match Recovery::under(alloc, file, meta) {
+        Ok(recovery) => Ok(recovery.found()?),
+        Err(CheckFault::Structure(_)) => Ok(found_without_root(alloc, file, meta)?),
+        Err(fault) => Err(Fault::from(fault)),
+    }
+}
+
+fn push_found(alloc: Global, found: &Found<'_>, lines: &mut Vec<u8>) -> Result<(), Fault> {
+    let number = found.number;
+    lines.extend_from_slice(format!(in alloc; "{number}")?.as_bytes())?;
+    for i in 0..found.page.count() {
+        lines.push(b' ')?;
+        lines.extend_from_slice(hex::encode(alloc, found.page.key(i))?.as_bytes())?;
+    }
+    lines.push(b'\n')?;
+    Ok(())
 }

@@ -1,8 +1,9 @@
 //! Words of a call, and words of its result.
+ghost use Rattle.std.specs.Prelude.{◌<◌, IfOk, IfSome};
 
 use crate::fault::Fault;
-use bolt_check::Checked;
-use bolt_format::Slot;
+use bolt_check::{Checked, assumed_meta};
+use bolt_format::{Meta, Slot};
 use bolt_tree::Bucket;
 use std::alloc::{AllocError, Global};
 
@@ -18,6 +19,23 @@ pub fn slot_of(words: &[String]) -> Result<Option<Slot>, Fault> {
         [slot, ..] if slot.as_str() == "1" => Ok(Some(Slot::One)),
         _ => Err(Fault::Unread),
     }
+}
+
+/// The meta that is assumed, if the first word is a page size and a root page, as `4096:3`.
+pub fn assumed_of(file: &[u8], words: &[String]) -> Result<Option<Meta>, Fault>
+    ensures { IfOk result (λ assumed. IfSome assumed (λ meta. 0 < meta.page_size)) }
+{
+    let Some(word) = words.first() else {
+        return Ok(None);
+    };
+    let Some((size, root)) = word.as_str().split_once(':') else {
+        return Ok(None);
+    };
+    let size: u32 = size.parse().map_err(|_| Fault::Unread)?;
+    if size == 0 {
+        return Err(Fault::Unread);
+    }
+    Ok(Some(assumed_meta(file.len() as u64, size, number(root)?)))
 }
 
 /// The bytes of a word in hexadecimal.

@@ -6,7 +6,7 @@ use Rattle.bolt_check.specs.CheckedFiles.{meta_of}
 use Rattle.bolt_cli.specs.CopyEnds.{shape_of}
 use Rattle.bolt_cli.specs.GoodCopies.{HasGoodCopies}
 use Rattle.bolt_cli.proofs.CopyAnswers.{copy_reported, copy_stopped}
-use Rattle.bolt_cli.proofs.ReadFiles.{checked_page_size, failure_named, unread_finding}
+use Rattle.bolt_cli.proofs.ReadFiles.{read_page_size, failure_named, unread_finding}
 use Rattle.bolt_cli.proofs.compact_command.write_sound.Goals as goal
 
 pub returns-in_err-checked : goal.returns-in_err-checked
@@ -20,7 +20,7 @@ returns-then-hash_differs g c =
     inr (inl (meta_of c.in_ok-checked.checked, c.in_ok-checked.ensures.sound, sym c.hash_differs.ensures ∙ c.if-hash_differs.true, refl, refl, refl))
 
 pub shape_of-requires : goal.shape_of-requires
-shape_of-requires g c = subst (λ (m : Meta). IsPageSize m.page_size) (sym c.meta-meta.ensures) (checked_page_size c.in_ok-checked.checked)
+shape_of-requires g c = subst (λ (m : Meta). IsPageSize m.page_size) (sym c.meta-meta.ensures) (read_page_size _ _ _ c.in_ok-checked.ensures.sound)
 
 pub returns-in_err-length : goal.returns-in_err-length
 returns-in_err-length g c =
