@@ -1,6 +1,6 @@
 -- A branch page, written piece by piece.
-use Rattle.std.proofs.Common.{◌≡◌, ◌∙◌, ℕ, suc, ◌+◌, ◌-◌, ◌*◌, ◌<◌, ◌≤◌, List, [], ◌∷◌, ◌++◌, length, map, get_or, Option, refl, sym, ap, arith}
-use Rattle.std.proofs.lemmas.List.{append-nil, length-map}
+use Rattle.std.proofs.Common.{◌≡◌, ◌∙◌, ℕ, suc, ◌+◌, ◌-◌, ◌*◌, ◌<◌, ◌≤◌, List, [], ◌∷◌, ◌++◌, length, map, drop, get_or, refl, sym, ap, arith}
+use Rattle.std.proofs.lemmas.List.{append-nil, at_drop_more, drop_all, length-map}
 use Rattle.bolt_format.specs.Elements.{BranchElement}
 use Rattle.bolt_format.specs.ElementPlaces.{branch_view}
 use Rattle.bolt_format.specs.declared.element.Branch.{Branch}
@@ -14,6 +14,9 @@ use Rattle.bolt_format.specs.declared.kind.Kind.TheVariants as kind
 use Rattle.bolt_bulk.specs.Private.BranchRuns.{IsSizedRun, run_view}
 use Rattle.bolt_bulk.specs.Private.RunViews.{run_page}
 use Rattle.bolt_bulk.specs.declared.branch_run.BranchRun.{BranchRun}
+use Rattle.bolt_format.proofs.WroteLemmas.{Wrote-same}
+use Rattle.bolt_format.specs.Endings.{Ending}
+use Rattle.bolt_format.specs.Wrote.{Wrote}
 use Rattle.bolt_bulk.proofs.ElementPuts.{HeadsPut, data_of, headers_of, heads_next}
 use Rattle.bolt_bulk.proofs.FilledTexts.{zeros, filled_pieces}
 use Rattle.bolt_format.specs.declared.sink.Sink.{Ghosts}
@@ -38,22 +41,28 @@ pub branch_datum : (xs : List Branch) → data_of key_of xs ≡ branch_data (map
 branch_datum [] = refl
 branch_datum (x ∷ xs) = ap (λ (t : List ℕ). x.key.now ++ t) (branch_datum xs)
 
--- The pieces of the page over a run, in the list that the code has.
-pub branch_run_pieces : (page_size number : ℕ) (run : BranchRun) (branches : List Branch) → branches ≡ run.elements.items → IsSizedRun (run_view run)
-    → header_bytes number kind.Branch (length branches) (overflow_of page_size run.size)
-    ++ (branch_headers 0 (map branch_view branches) ++ (branch_data (map branch_view branches) ++ zeros ((1 + overflow_of page_size run.size) * page_size - run.size)))
-    ≡ placed_bytes page_size (run_page page_size (run_view run) number ∷ [])
+-- the keys that are left, from number i on
+pub keys_left : (xs : List Branch) (i : ℕ) → i < length xs → branch_data (map branch_view (drop i xs)) ≡ (get_or xs i no_branch).key.now ++ branch_data (map branch_view (drop (i + 1) xs))
+keys_left xs i h = at_drop_more (λ ys. branch_data (map branch_view ys)) xs i no_branch h
+
+pub keys_none : (xs : List Branch) (i : ℕ) → length xs ≤ i → branch_data (map branch_view (drop i xs)) ≡ []
+keys_none xs i h = ap (λ ys. branch_data (map branch_view ys)) (drop_all i xs h)
+
+-- The page over a run, in the pieces that are written.
+pub branch_run_wrote : {S : Type 0} {sink : Ghosts S} {old new : S} (page_size number : ℕ) (run : BranchRun) {end : Ending} → IsSizedRun (run_view run)
+    → Wrote sink old new (header_bytes number kind.Branch (length run.elements.items) (overflow_of page_size run.size)
+    ++ (branch_headers 0 (map branch_view run.elements.items) ++ (branch_data (map branch_view run.elements.items) ++ zeros ((1 + overflow_of page_size run.size) * page_size - run.size)))) end
+    → Wrote sink old new (placed_bytes page_size (run_page page_size (run_view run) number ∷ [])) end
 unfolding page_bytes branch_bytes
-branch_run_pieces page_size number run branches branches_are sized =
+branch_run_wrote page_size number run sized wrote =
     let es : List BranchElement = map branch_view run.elements.items in
     let over : ℕ = overflow_of page_size run.size in
     let n : ℕ = (1 + over) * page_size in
     let count : length run.elements.items ≡ length es = sym (length-map run.elements.items branch_view) in
     let a = length-header_bytes number kind.Branch (length es) over in
     let b = length-branch_headers 0 es in
-    rw branches_are
-    (ap (λ (m : ℕ). header_bytes number kind.Branch m over ++ (branch_headers 0 es ++ (branch_data es ++ zeros (n - run.size)))) count
-    ∙ (filled_pieces n run.size (header_bytes number kind.Branch (length es) over) (branch_headers 0 es) (branch_data es) (omega arith) ∙ sym (append-nil _)))
+    Wrote-same (ap (λ (m : ℕ). header_bytes number kind.Branch m over ++ (branch_headers 0 es ++ (branch_data es ++ zeros (n - run.size)))) count
+    ∙ (filled_pieces n run.size (header_bytes number kind.Branch (length es) over) (branch_headers 0 es) (branch_data es) (omega arith) ∙ sym (append-nil _))) wrote
 
 -- what is known of the next header, if all headers and keys are small
 pub record NextBranch (x : Branch) (pos : ℕ) : Type 0 where

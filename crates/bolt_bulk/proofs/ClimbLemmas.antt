@@ -1,5 +1,5 @@
 -- The climb over a bucket's open runs, one run after another.
-use Rattle.std.proofs.Common.{◌≡◌, ◌∙◌, ℕ, suc, ◌+◌, ◌<◌, ◌≤◌, true, false, List, [], ◌∷◌, ◌++◌, length, map, take, drop, get_or, set, if◌then◌else◌, zero, add-one, Option, Some, None, option_map, Ok, Err, refl, sym, ap, subst, inl, inr, arith, append_assoc}
+use Rattle.std.proofs.Common.{◌≡◌, ◌∙◌, ℕ, suc, ◌+◌, ◌<◌, ◌≤◌, true, false, List, [], ◌∷◌, ◌++◌, length, map, take, drop, get_or, set, if◌then◌else◌, zero, add-one, Option, Some, None, option_map, refl, sym, ap, subst, inl, inr, arith, append_assoc}
 use Rattle.std.specs.List.{AllByRecursion}
 use Rattle.std.proofs.lemmas.Bool.{cases_Bool}
 use Rattle.std.proofs.lemmas.List.{length-map, drop_more, drop-set-lt, set_split}
@@ -69,10 +69,10 @@ climb_stays page_size fresh key e0 n0 runs0 old mid new runs i e next run h at r
     let climbed : runs_climb page_size fresh key e next (run ∷ drop (i + 1) runs) ≡ run_kept page_size (run_push run e) (key_size key) ∷ drop (i + 1) runs = rw room refl in
     let nexted : runs_next page_size key e next (run ∷ drop (i + 1) runs) ≡ next = rw room refl in
     let no_more : after_put page_size key e next run (drop (i + 1) runs) ≡ [] = rw room refl in
-    let f = front_more (left_split page_size key e next run (drop (i + 1) runs) (drop i runs) at) c.front one in (
+    let f = front_more c.front one (left_split page_size key e next run (drop (i + 1) runs) (drop i runs) at) in (
       c.climbs ∙ (ap (λ (rs : List RunView). take i runs ++ runs_climb page_size fresh key e next rs) at ∙ (ap (λ (rs : List RunView). take i runs ++ rs) climbed ∙ sym (set_at runs i (run_kept page_size (run_push run e) (key_size key)) h))),
       c.nexts ∙ (ap (λ (rs : List RunView). runs_next page_size key e next rs) at ∙ nexted),
-      front_whole (ap (λ (ps : List Placed). placed_bytes page_size ps) no_more) f,
+      front_whole f (ap (λ (ps : List Placed). placed_bytes page_size ps) no_more),
     )
 
 take_set : {X : Type 0} (xs : List X) (i : ℕ) (x : X) → i < length xs → take (suc i) (set xs i x) ≡ take i xs ++ x ∷ []
@@ -97,7 +97,7 @@ climb_closes {sink = sink} page_size fresh key e0 n0 runs0 old mid new runs i e 
     let more : after_put page_size key e next run rest ≡ runs_put page_size key up after rest = rw room refl in
     let dropped : rest ≡ drop (i + 1) (set runs i (no_run (one_less run.left) (one_closed run.closed))) = sym (drop-set-lt (i + 1) runs i (no_run (one_less run.left) (one_closed run.closed)) (omega arith)) in
     let taken_too : take (i + 1) (set runs i (no_run (one_less run.left) (one_closed run.closed))) ≡ take i runs ++ no_run (one_less run.left) (one_closed run.closed) ∷ [] = take_set_at runs i (no_run (one_less run.left) (one_closed run.closed)) h in
-    let f = front_more (left_split page_size key e next run rest (drop i runs) at) c.front one in
+    let f = front_more c.front one (left_split page_size key e next run rest (drop i runs) at) in
     record {
       climbs = c.climbs ∙ (ap (λ (rs : List RunView). take i runs ++ runs_climb page_size fresh key e next rs) at ∙ (ap (λ (rs : List RunView). take i runs ++ rs) climbed
           ∙ (sym (append_assoc (take i runs) (no_run (one_less run.left) (one_closed run.closed) ∷ []) (runs_climb page_size fresh key up after rest))
@@ -114,7 +114,7 @@ pub climb_stops : {S : Type 0} {sink : Ghosts S} (page_size : ℕ) (fresh : Opti
     → Climbing page_size fresh key e0 n0 runs0 sink old mid runs i e next → Wrote sink mid new (placed_bytes page_size (taking_puts page_size key e next run)) (fault_ending fault)
     → Wrote sink old new (placed_bytes page_size (runs_put page_size key e0 n0 runs0)) (fault_ending fault)
 climb_stops page_size fresh key e0 n0 runs0 old mid new runs i e next run fault at c one =
-    front_stop (left_split page_size key e next run (drop (i + 1) runs) (drop i runs) at) c.front (Wrote-stops _ fault one)
+    front_stop c.front (Wrote-stops _ fault one) (left_split page_size key e next run (drop (i + 1) runs) (drop i runs) at)
 
 -- the numbers only grow
 pub next_grows : (page_size : ℕ) (key : List ℕ) (e : BranchElement) (next : ℕ) (runs : List RunView) → next ≤ runs_next page_size key e next runs

@@ -1,5 +1,5 @@
 -- The end of a bucket: its open runs close, one after another.
-use Rattle.std.proofs.Common.{◌≡◌, ◌∙◌, ℕ, ◌+◌, ◌<◌, ◌≤◌, List, [], ◌∷◌, ◌++◌, drop, set, Option, Ok, Err, sym, ap, subst, arith}
+use Rattle.std.proofs.Common.{◌≡◌, ◌∙◌, ℕ, ◌+◌, ◌<◌, ◌≤◌, List, [], ◌∷◌, ◌++◌, drop, set, sym, ap, subst, arith}
 use Rattle.std.proofs.lemmas.List.{drop-set-lt}
 use Rattle.bolt_format.specs.Elements.{BranchElement}
 use Rattle.bolt_format.specs.Sinks.{AppendsProperPrefix}
@@ -39,7 +39,7 @@ pub close_more : {S : Type 0} {sink : Ghosts S} (page_size : ℕ) (e0 : BranchEl
 close_more {sink = sink} page_size e0 n0 runs0 old mid new runs i e next run left up after at up_is after_is c one =
     let rest : List RunView = drop (i + 1) runs in
     let dropped : rest ≡ drop (i + 1) (set runs i left) = sym (drop-set-lt (i + 1) runs i left (omega arith)) in
-    let f = front_more (close_left page_size e next run rest (drop i runs) at) c.front one in
+    let f = front_more c.front one (close_left page_size e next run rest (drop i runs) at) in
     let made : Closing page_size e0 n0 runs0 sink old new (set runs i left) (i + 1) (element_up e next run) (next + (1 + overflow_of page_size (run_push run e).size)) = record {
       roots = c.roots ∙ (ap (λ (rs : List RunView). runs_root page_size e next rs) at ∙ ap (λ (rs : List RunView). runs_root page_size (element_up e next run) (next + (1 + overflow_of page_size (run_push run e).size)) rs) dropped);
       nexts = c.nexts ∙ (ap (λ (rs : List RunView). runs_end_next page_size e next rs) at ∙ ap (λ (rs : List RunView). runs_end_next page_size (element_up e next run) (next + (1 + overflow_of page_size (run_push run e).size)) rs) dropped);
@@ -54,7 +54,7 @@ pub close_stops : {S : Type 0} {sink : Ghosts S} (page_size : ℕ) (e0 : BranchE
     → Closing page_size e0 n0 runs0 sink old mid runs i e next → Wrote sink mid new (placed_bytes page_size (run_page page_size (run_push run e) next ∷ [])) (fault_ending fault)
     → Wrote sink old new (placed_bytes page_size (runs_close_put page_size e0 n0 runs0)) (fault_ending fault)
 close_stops page_size e0 n0 runs0 old mid new runs i e next run fault at c one =
-    front_stop (close_left page_size e next run (drop (i + 1) runs) (drop i runs) at) c.front (Wrote-stops _ fault one)
+    front_stop c.front (Wrote-stops _ fault one) (close_left page_size e next run (drop (i + 1) runs) (drop i runs) at)
 
 -- and it leaves something out
 pub close_short : {S : Type 0} {sink : Ghosts S} (page_size : ℕ) (e0 : BranchElement) (n0 : ℕ) (runs0 : List RunView) (old mid new : S) (runs : List RunView) (i : ℕ)

@@ -1,5 +1,5 @@
 -- The first pages and those of all buckets are the layout, and so a copy is written whole, or stops short.
-use Rattle.std.proofs.Common.{◌≡◌, ◌≢◌, ◌∙◌, ℕ, [], Result, ◌≤◌, ◌<◌, List, ◌++◌, length, Option, Ok, Err, refl, sym, ap, subst, arith, append_assoc}
+use Rattle.std.proofs.Common.{◌≡◌, ◌≢◌, ◌∙◌, ℕ, [], Result, ◌≤◌, ◌<◌, List, ◌++◌, length, Ok, Err, refl, sym, ap, subst, arith, append_assoc}
 use Rattle.std.proofs.KnownBytes.{Appends-trans, Keeps-refl}
 use Rattle.std.specs.Io.KnownBytes.{Appends}
 use Rattle.bolt_format.specs.Sinks.{AppendsProperPrefix}

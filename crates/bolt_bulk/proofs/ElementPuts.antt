@@ -1,11 +1,11 @@
 -- The headers and the data of a page's elements, written one after another: the same for branch and leaf elements, whatever the code keeps
 -- of them.
-use Rattle.std.proofs.Common.{◌≡◌, ◌∙◌, ℕ, suc, ◌+◌, ◌*◌, ◌<◌, ◌≤◌, List, [], ◌∷◌, ◌++◌, length, drop, get_or, Option, Result, Ok, Err, ap, arith, append_assoc, append-nil, sym}
+use Rattle.std.proofs.Common.{◌≡◌, ◌∙◌, ℕ, suc, ◌+◌, ◌*◌, ◌<◌, ◌≤◌, List, [], ◌∷◌, ◌++◌, length, drop, get_or, Result, Ok, Err, ap, arith, append_assoc, append-nil, sym}
 use Rattle.std.specs.Prelude.{IsErr}
 use Rattle.std.proofs.lemmas.List.{drop_all, drop_more, length-append, length-drop}
 use Rattle.bolt_bulk.specs.Private.Gathering.{Adds}
-use Rattle.bolt_bulk.proofs.WroteFronts.{WroteFront, front_more, front_stop}
-use Rattle.bolt_format.proofs.WroteLemmas.{Wrote-none, Wrote-return_cut, Wrote-same, Wrote-then}
+use Rattle.bolt_bulk.proofs.WroteFronts.{WroteFront, front_more, front_return}
+use Rattle.bolt_format.proofs.WroteLemmas.{Wrote-none, Wrote-same, Wrote-then}
 use Rattle.bolt_format.specs.Wrote.{Wrote}
 use Rattle.bolt_format.specs.Endings.{Ending, page_ending}
 use Rattle.bolt_format.specs.declared.sink.Sink.{Ghosts}
@@ -83,7 +83,7 @@ heads_more {X = X} {header = header} {datum = datum} old mid new buffer text aft
     ∙ ap (λ (t : List ℕ). adds.gathers.put ++ t) (sym (append_assoc adds.kept (header pos x) rest) ∙ ap (λ (t : List ℕ). t ++ rest) (sym pushed))) in
     record {
       before = heads.before + length (datum x);
-      front = front_more left heads.front adds.gathers.puts;
+      front = front_more heads.front adds.gathers.puts left;
       place = omega arith;
       room = omega arith;
     }
@@ -92,7 +92,7 @@ pub heads_stop : {S X A E B F : Type 0} {header : ℕ → X → List ℕ} {datum
     → HeadsPut header datum sink old mid buffer xs i pos → Adds {A = A} {E = E} sink mid new buffer text after (Err e) → IsErr result
     → Wrote sink old new (headers_of header datum 0 xs) (page_ending result)
 heads_stop {header = header} {datum = datum} old mid new buffer text after xs i pos e result heads adds err =
-    front_stop (gathered_left buffer adds.kept adds.gathers.put (headers_of header datum heads.before (drop i xs)) adds.gathers.parts) heads.front (Wrote-return_cut _ result adds.gathers.puts err)
+    front_return _ result heads.front adds.gathers.puts (gathered_left buffer adds.kept adds.gathers.put (headers_of header datum heads.before (drop i xs)) adds.gathers.parts) err
 
 -- if all headers are in the buffer or were written, the buffer is what is left
 pub heads_all : {S X : Type 0} {header : ℕ → X → List ℕ} {datum : X → List ℕ} {sink : Ghosts S} (old mid new : S) (buffer : List ℕ) (xs : List X) (i pos : ℕ) {end : Ending} → length xs ≤ i
@@ -101,11 +101,3 @@ heads_all {X = X} {header = header} {datum = datum} old mid new buffer xs i pos 
     let none = ap (λ (ys : List X). headers_of header datum heads.before ys) (drop_all i xs h) in
     let left = ap (λ (t : List ℕ). buffer ++ t) none ∙ append-nil buffer in
     Wrote-same (sym (heads.front.parts ∙ ap (λ (t : List ℕ). heads.front.front ++ t) left)) (Wrote-then heads.front.wrote put)
-
--- The data of elements, up to number i.
-pub datum_left : {X : Type 0} (datum : X → List ℕ) (xs : List X) (i : ℕ) (none x : X) → i < length xs → get_or xs i none ≡ x
-    → data_of datum (drop i xs) ≡ datum x ++ data_of datum (drop (i + 1) xs)
-datum_left {X} datum xs i none x h e = ap (λ (ys : List X). data_of datum ys) (at_i xs i none x h e)
-
-pub datum_none : {X : Type 0} (datum : X → List ℕ) (xs : List X) (i : ℕ) → length xs ≤ i → data_of datum (drop i xs) ≡ []
-datum_none {X} datum xs i h = ap (λ (ys : List X). data_of datum ys) (drop_all i xs h)

@@ -1,18 +1,19 @@
 -- Zeros, and a page that they fill.
-use Rattle.std.proofs.Common.{◌≡◌, ◌∙◌, ℕ, ◌+◌, ◌-◌, ◌≤◌, List, ◌++◌, length, take, replicate, sym, ap, arith, append_assoc}
+use Rattle.std.proofs.Common.{◌≡◌, ◌∙◌, ℕ, ◌+◌, ◌-◌, ◌≤◌, List, [], ◌++◌, length, take, replicate, sym, ap, arith, append_assoc}
 use Rattle.std.proofs.lemmas.List.{length-append, replicate-append-replicate, take-replicate}
 use Rattle.bolt_layout.specs.PageBytes.{filled}
 
 abbrev pub zeros : ℕ → List ℕ
 zeros n = replicate n 0
 
-pub zeros_left : (left size : ℕ) → size ≤ left → zeros left ≡ zeros size ++ zeros (left - size)
-zeros_left left size h =
+-- the next of them, from a block of 4,096
+pub zeros_left : (left size : ℕ) → size ≤ left → size ≤ 4096 → zeros left ≡ take size (zeros 4096) ++ zeros (left - size)
+zeros_left left size h block =
     let same : size + (left - size) ≡ left = omega arith in
-    sym (replicate-append-replicate {A = ℕ} size (left - size) 0 ∙ ap zeros same)
+    sym (ap (λ t. t ++ zeros (left - size)) (take-replicate {X = ℕ} size 4096 0 block) ∙ (replicate-append-replicate {A = ℕ} size (left - size) 0 ∙ ap zeros same))
 
-pub zeros_cut : (size n : ℕ) → size ≤ n → take size (zeros n) ≡ zeros size
-zeros_cut size n h = take-replicate {X = ℕ} size n 0 h
+pub zeros_none : (left : ℕ) → left ≡ 0 → zeros left ≡ []
+zeros_none left none = ap zeros none
 
 -- three texts with zeros after them are what fills a page
 pub filled_pieces : (n size : ℕ) (first second third : List ℕ) → size ≡ length first + (length second + length third)

@@ -1,8 +1,11 @@
 -- The pages that precede those of the buckets, written one after another.
-use Rattle.std.proofs.Common.{◌≡◌, ℕ, List, ◌++◌, refl}
+use Rattle.std.proofs.Common.{ℕ, List, ◌++◌}
 use Rattle.bolt_layout.specs.PageBytes.{copy_meta, filled, freelist_page, meta_page}
 use Rattle.bolt_format.specs.Written.{header_bytes, meta_bytes}
 use Rattle.bolt_format.specs.declared.kind.Kind.TheVariants as kind
+use Rattle.bolt_format.specs.Endings.{Ending}
+use Rattle.bolt_format.specs.Wrote.{Wrote}
+use Rattle.bolt_format.specs.declared.sink.Sink.{Ghosts}
 use Rattle.bolt_bulk.specs.Private.FirstPages.{first_pages}
 
 -- a meta page, and the freelist page
@@ -12,6 +15,8 @@ meta_filled page_size root sequence mark txid = filled page_size (meta_bytes txi
 abbrev pub freelist_filled : (page_size : ℕ) → List ℕ
 freelist_filled page_size = filled page_size (header_bytes 2 kind.Freelist 0 0)
 
-pub first_pieces : (page_size root sequence mark : ℕ) → meta_filled page_size root sequence mark 0 ++ (meta_filled page_size root sequence mark 1 ++ freelist_filled page_size) ≡ first_pages page_size root sequence mark
+pub first_wrote : {S : Type 0} {sink : Ghosts S} {old new : S} (page_size root sequence mark : ℕ) {end : Ending}
+    → Wrote sink old new (meta_filled page_size root sequence mark 0 ++ (meta_filled page_size root sequence mark 1 ++ freelist_filled page_size)) end
+    → Wrote sink old new (first_pages page_size root sequence mark) end
 unfolding meta_page freelist_page
-first_pieces page_size root sequence mark = refl
+first_wrote page_size root sequence mark wrote = wrote

@@ -1,12 +1,13 @@
 -- What is known of the items of an open leaf when they are written.
-use Rattle.std.proofs.Common.{false, ◌≡◌, ◌∙◌, ℕ, zero, suc, ◌+◌, ◌≤◌, ◌<◌, List, [], ◌∷◌, length, drop, take, get_or, sym, ap, subst, arith}
-use Rattle.std.proofs.lemmas.List.{length-drop, length-take-le}
+use Rattle.std.proofs.Common.{false, ◌≡◌, ◌∙◌, ℕ, zero, suc, ◌+◌, ◌≤◌, ◌<◌, List, [], ◌∷◌, ◌++◌, length, map, drop, take, get_or, append_assoc, sym, ap, subst, arith}
+use Rattle.std.proofs.lemmas.List.{at_drop_more, drop_all, length-drop, length-take-le}
 use Rattle.bolt_format.specs.ElementPlaces.{leaf_view}
 use Rattle.bolt_format.specs.declared.element.Leaf.{Leaf}
 use Rattle.bolt_bulk.specs.declared.held.Held.{Held}
 use Rattle.bolt_bulk.specs.declared.held.Stored.{Stored}
 use Rattle.bolt_bulk.specs.declared.held.Stored.TheVariants as stored
-use Rattle.bolt_bulk.specs.Private.HeldItems.{AreHeld, IsHeld, IsInlined, IsStored, stored_value}
+use Rattle.bolt_bulk.specs.Private.HeldItems.{AreHeld, IsHeld, IsInlined, IsStored, held_views, stored_value}
+use Rattle.bolt_layout.specs.PageBytes.{leaf_data}
 use Rattle.bolt_bulk.proofs.LeafPuts.{length-inline_value}
 use Rattle.bolt_format.proofs.WrittenHeaders.{length-head_bytes}
 
@@ -39,3 +40,18 @@ inline_len inlined s sequence first count size e is =
     let sized = known.sized in
     let value = ap (λ (x : Stored). length (stored_value inlined x)) e in
     let long = length-inline_value leaf_view sequence entries in omega arith
+
+-- the data that are left, from number i on
+pub held_left : (inlined : List Leaf) (xs : List Held) (i : ℕ) → i < length xs
+    → leaf_data (held_views inlined (drop i xs)) ≡ ((get_or xs i no_held).key.now ++ stored_value inlined (get_or xs i no_held).stored) ++ leaf_data (held_views inlined (drop (i + 1) xs))
+held_left inlined xs i h = at_drop_more (λ ys. leaf_data (held_views inlined ys)) xs i no_held h ∙ sym (append_assoc (get_or xs i no_held).key.now (stored_value inlined (get_or xs i no_held).stored) (leaf_data (held_views inlined (drop (i + 1) xs))))
+
+pub held_none : (inlined : List Leaf) (xs : List Held) (i : ℕ) → length xs ≤ i → leaf_data (held_views inlined (drop i xs)) ≡ []
+held_none inlined xs i h = ap (λ ys. leaf_data (held_views inlined ys)) (drop_all i xs h)
+
+pub entries_left : (xs : List Leaf) (i : ℕ) → i < length xs
+    → leaf_data (map leaf_view (drop i xs)) ≡ ((get_or xs i no_entry).key.now ++ (get_or xs i no_entry).value.now) ++ leaf_data (map leaf_view (drop (i + 1) xs))
+entries_left xs i h = at_drop_more (λ ys. leaf_data (map leaf_view ys)) xs i no_entry h ∙ sym (append_assoc (get_or xs i no_entry).key.now (get_or xs i no_entry).value.now (leaf_data (map leaf_view (drop (i + 1) xs))))
+
+pub entries_none : (xs : List Leaf) (i : ℕ) → length xs ≤ i → leaf_data (map leaf_view (drop i xs)) ≡ []
+entries_none xs i h = ap (λ ys. leaf_data (map leaf_view ys)) (drop_all i xs h)

@@ -1,8 +1,7 @@
 -- A leaf page, and an inline value, written piece by piece, whatever the code keeps of their elements: `view` is the element that it keeps.
-use Rattle.std.proofs.Common.{◌≡◌, ◌∙◌, ℕ, suc, ◌+◌, ◌-◌, ◌*◌, ◌<◌, ◌≤◌, List, [], ◌∷◌, ◌++◌, length, map, get_or, Option, refl, sym, ap, arith, append_assoc}
+use Rattle.std.proofs.Common.{◌≡◌, ◌∙◌, ℕ, suc, ◌+◌, ◌-◌, ◌*◌, ◌<◌, ◌≤◌, List, [], ◌∷◌, ◌++◌, length, map, get_or, refl, sym, ap, arith, append_assoc}
 use Rattle.std.proofs.lemmas.List.{length-append, length-map}
 use Rattle.bolt_format.specs.Elements.{LeafElement}
-use Rattle.bolt_format.specs.declared.element.Leaf.{Leaf}
 use Rattle.bolt_layout.specs.Levels.{overflow_of}
 use Rattle.bolt_format.specs.Written.{header_bytes, leaf_header, head_bytes}
 use Rattle.bolt_layout.specs.PageBytes.{inline_value, leaf_bytes, leaf_data, leaf_headers, page_bytes}
@@ -12,9 +11,11 @@ use Rattle.bolt_format.specs.declared.kind.Kind.TheVariants as kind
 use Rattle.bolt_bulk.specs.Private.HeldItems.{held_view, held_views, page_size_of}
 use Rattle.bolt_bulk.specs.Private.OpenBuckets.{leaves_of}
 use Rattle.bolt_bulk.specs.Private.RunViews.{leaf_page}
-use Rattle.bolt_bulk.specs.declared.held.Held.{Held}
 use Rattle.bolt_bulk.specs.declared.leaf_run.LeafRun.{LeafRun}
 use Rattle.bolt_bulk.proofs.ElementPuts.{HeadsPut, data_of, headers_of, heads_next}
+use Rattle.bolt_format.proofs.WroteLemmas.{Wrote-same}
+use Rattle.bolt_format.specs.Endings.{Ending}
+use Rattle.bolt_format.specs.Wrote.{Wrote}
 use Rattle.bolt_bulk.proofs.FilledTexts.{zeros, filled_pieces}
 use Rattle.bolt_format.specs.declared.sink.Sink.{Ghosts}
 
@@ -37,23 +38,21 @@ pub leaf_datum : {X : Type 0} (view : X → LeafElement) (xs : List X) → data_
 leaf_datum view [] = refl
 leaf_datum view (x ∷ xs) = ap (λ (t : List ℕ). datum_of view x ++ t) (leaf_datum view xs) ∙ append_assoc (view x).key (view x).value (leaf_data (map view xs))
 
--- The pieces of the page over a run, in the lists that the code has.
-pub leaf_run_pieces : (page_size number : ℕ) (run : LeafRun) (items : List Held) (inlined : List Leaf) → items ≡ run.items.items → inlined ≡ run.inlined.items
-    → run.size ≡ page_size_of run.inlined.items run.items.items
-    → header_bytes number kind.Leaf (length items) (overflow_of page_size run.size)
-    ++ (leaf_headers 0 (held_views inlined items) ++ (leaf_data (held_views inlined items) ++ zeros ((1 + overflow_of page_size run.size) * page_size - run.size)))
-    ≡ page_bytes page_size number (leaf_page page_size (leaves_of run) number).view
+-- The page over a run, in the pieces that are written.
+pub leaf_run_wrote : {S : Type 0} {sink : Ghosts S} {old new : S} (page_size number : ℕ) (run : LeafRun) {end : Ending} → run.size ≡ page_size_of run.inlined.items run.items.items
+    → Wrote sink old new (header_bytes number kind.Leaf (length run.items.items) (overflow_of page_size run.size)
+    ++ (leaf_headers 0 (held_views run.inlined.items run.items.items) ++ (leaf_data (held_views run.inlined.items run.items.items) ++ zeros ((1 + overflow_of page_size run.size) * page_size - run.size)))) end
+    → Wrote sink old new (page_bytes page_size number (leaf_page page_size (leaves_of run) number).view) end
 unfolding page_bytes leaf_bytes
-leaf_run_pieces page_size number run items inlined items_are inlined_are sized =
+leaf_run_wrote page_size number run sized wrote =
     let es : List LeafElement = held_views run.inlined.items run.items.items in
     let over : ℕ = overflow_of page_size run.size in
     let n : ℕ = (1 + over) * page_size in
     let count : length run.items.items ≡ length es = sym (length-map run.items.items (held_view run.inlined.items)) in
     let a = length-header_bytes number kind.Leaf (length es) over in
     let b = length-leaf_headers 0 es in
-    rw (items_are, inlined_are)
-    (ap (λ (m : ℕ). header_bytes number kind.Leaf m over ++ (leaf_headers 0 es ++ (leaf_data es ++ zeros (n - run.size)))) count
-    ∙ filled_pieces n run.size (header_bytes number kind.Leaf (length es) over) (leaf_headers 0 es) (leaf_data es) (omega arith))
+    Wrote-same (ap (λ (m : ℕ). header_bytes number kind.Leaf m over ++ (leaf_headers 0 es ++ (leaf_data es ++ zeros (n - run.size)))) count
+    ∙ filled_pieces n run.size (header_bytes number kind.Leaf (length es) over) (leaf_headers 0 es) (leaf_data es) (omega arith)) wrote
 
 -- The pieces of an inline value, and its length.
 pub inline_pieces : {X : Type 0} (view : X → LeafElement) (sequence : ℕ) (xs : List X)
@@ -89,3 +88,8 @@ next_leaf {X} view old new buffer xs i pos none h put small =
     let same = ap (λ (t : List ℕ). length t) (leaf_datum view xs) in
     let d = length-append (view x).key (view x).value in
     let fits = next.fits in record { low = next.low; fits = omega arith }
+
+pub inline_wrote : {S X : Type 0} {sink : Ghosts S} {old new : S} (view : X → LeafElement) (sequence : ℕ) (xs : List X) {end : Ending}
+    → Wrote sink old new (head_bytes 0 sequence ++ (header_bytes 0 kind.Leaf (length xs) 0 ++ (leaf_headers 0 (map view xs) ++ leaf_data (map view xs)))) end
+    → Wrote sink old new (inline_value sequence (map view xs)) end
+inline_wrote view sequence xs a = Wrote-same (inline_pieces view sequence xs) a

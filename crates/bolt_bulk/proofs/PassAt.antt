@@ -2,12 +2,10 @@
 use Rattle.std.proofs.Common.{Bool, ◌≡◌, ◌∙◌, ℕ, suc, ◌+◌, ◌<◌, true, false, List, [], ◌∷◌, ◌++◌, length, map, max, min, reverse, Option, Some, None, Result, Ok, Err, Vec, Global, refl, sym, ap, subst, arith, append_assoc}
 use Rattle.std.specs.Prelude.{⊤, IfErr, IsErrAnd, OnOk}
 use Rattle.std.specs.List.{AllByRecursion}
-use Rattle.std.proofs.KnownBytes.{Appends-nil}
 use Rattle.std.proofs.lemmas.List.{append-nil, length-map, map-append, reverse-append}
 use Rattle.bolt_format.specs.ElementPlaces.{leaf_view}
 use Rattle.bolt_format.specs.Elements.{LeafElement}
 use Rattle.bolt_format.specs.declared.element.Leaf.{Leaf}
-use Rattle.bolt_format.proofs.SinkLemmas.{AppendsPrefix-none, AppendsPrefix-whole}
 use Rattle.bolt_tree.specs.Tree.{Tree, end, with_bucket, with_value}
 use Rattle.bolt_layout.specs.Items.{items_of, leaf_item, root_of}
 use Rattle.bolt_layout.specs.Laid.{Laid, Placed}
@@ -47,7 +45,7 @@ use Rattle.bolt_bulk.proofs.PassSteps.{IsOn, inline_item, on_before, on_enters, 
 use Rattle.bolt_bulk.proofs.PutsLemmas.{bytes-append, Wrote-gave_up}
 use Rattle.bolt_format.proofs.WroteLemmas.{Wrote-halt, Wrote-none, Wrote-then}
 use Rattle.bolt_format.specs.Wrote.{Wrote}
-use Rattle.bolt_format.specs.Endings.{whole, halted}
+use Rattle.bolt_format.specs.Endings.{whole}
 use Rattle.bolt_bulk.specs.BulkEndings.{bulk_ending, fault_ending}
 use Rattle.bolt_format.specs.declared.sink.Sink.{Ghosts}
 

@@ -47,7 +47,6 @@ use Rattle.bolt_bulk.proofs.Tables.{no_numbers, none_noted, opened_most, table_f
 use Rattle.bolt_bulk.proofs.PutsLemmas.{Wrote-prefix, Wrote-stops, bytes-append, pages_some, short_then}
 use Rattle.bolt_format.proofs.WroteLemmas.{Wrote-then}
 use Rattle.bolt_format.specs.Wrote.{Wrote}
-use Rattle.bolt_format.specs.Endings.{whole}
 use Rattle.bolt_bulk.specs.BulkEndings.{bulk_ending, fault_ending}
 use Rattle.bolt_format.specs.declared.sink.Sink.{Ghosts}
 

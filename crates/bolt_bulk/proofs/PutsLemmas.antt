@@ -4,7 +4,7 @@ use Rattle.std.specs.Prelude.{IsErrAnd}
 use Rattle.std.proofs.KnownBytes.{Appends-nil}
 use Rattle.std.proofs.lemmas.List.{length-append}
 use Rattle.bolt_format.proofs.SinkLemmas.{AppendsPrefix-whole, AppendsProperPrefix-first, AppendsProperPrefix-second, more_some}
-use Rattle.bolt_format.proofs.WroteLemmas.{Wrote-cut, Wrote-halt, Wrote-stop, Wrote-stop_halted}
+use Rattle.bolt_format.proofs.WroteLemmas.{Wrote-cut, Wrote-halt, Wrote-none, Wrote-return_cut, Wrote-stop, Wrote-stop_cut, Wrote-stop_halted, Wrote-then}
 use Rattle.bolt_format.specs.Endings.{whole, cut, halted}
 use Rattle.bolt_format.specs.Pages.{PageView}
 use Rattle.bolt_format.specs.Sinks.{AppendsPrefix, AppendsProperPrefix}
@@ -123,3 +123,6 @@ short_stop {sink} {old} {mid} {new} {text} {piece} {left} rest same before one =
     proper_same (sink.taken old) (sink.taken new) (before.front ++ left) text (sym before.parts)
     (AppendsProperPrefix-second (sink.taken old) (sink.taken mid) (sink.taken new) before.front left before.wrote.appends
     (proper_same (sink.taken mid) (sink.taken new) (piece ++ rest) left (sym same) (AppendsProperPrefix-first (sink.taken mid) (sink.taken new) piece rest one)))
+
+-- for the search: one text after another
+pub ruleset puts = (Wrote-then, Wrote-return_cut, Wrote-stop_cut, Wrote-none)

@@ -1,9 +1,10 @@
 -- A text written piece by piece.
 use Rattle.std.proofs.Common.{◌≡◌, ◌∙◌, ℕ, List, [], ◌++◌, refl, sym, ap, append_assoc, append-nil}
-use Rattle.bolt_format.specs.Endings.{Ending, whole}
+use Rattle.std.specs.Prelude.{IsErr, Result}
+use Rattle.bolt_format.specs.Endings.{Ending, cut, page_ending, whole}
 use Rattle.bolt_format.specs.Wrote.{Wrote}
 use Rattle.bolt_format.specs.declared.sink.Sink.{Ghosts}
-use Rattle.bolt_format.proofs.WroteLemmas.{Wrote-none, Wrote-same, Wrote-then}
+use Rattle.bolt_format.proofs.WroteLemmas.{Wrote-none, Wrote-return_cut, Wrote-same, Wrote-then}
 
 -- a text of which a front was written: what is left
 pub record WroteFront {S : Type 0} (sink : Ghosts S) (old new : S) (text rest : List ℕ) : Type 0 where
@@ -15,19 +16,27 @@ pub front_none : {S : Type 0} {sink : Ghosts S} (old : S) (text : List ℕ) → 
 front_none old text = record { front = []; parts = refl; wrote = Wrote-none old }
 
 -- the next piece was written,
-pub front_more : {S : Type 0} {sink : Ghosts S} {old mid new : S} {text piece rest left : List ℕ} → left ≡ piece ++ rest
-    → WroteFront sink old mid text left → Wrote sink mid new piece whole → WroteFront sink old new text rest
-front_more {piece = piece} {rest = rest} e before one = record {
+pub front_more : {S : Type 0} {sink : Ghosts S} {old mid new : S} {text piece rest left : List ℕ} → WroteFront sink old mid text left
+    → Wrote sink mid new piece whole → left ≡ piece ++ rest → WroteFront sink old new text rest
+front_more {piece = piece} {rest = rest} before one e = record {
   front = before.front ++ piece;
   parts = before.parts ∙ (ap (λ (xs : List ℕ). before.front ++ xs) e ∙ sym (append_assoc before.front piece rest));
   wrote = Wrote-then before.wrote one;
 }
 
--- or what is left, in whatever way that ended;
-pub front_stop : {S : Type 0} {sink : Ghosts S} {old mid new : S} {text rest left : List ℕ} {end : Ending} → left ≡ rest
-    → WroteFront sink old mid text left → Wrote sink mid new rest end → Wrote sink old new text end
-front_stop e before one = Wrote-same (sym before.parts) (Wrote-then before.wrote (Wrote-same (sym e) one))
+-- or what is left, in whatever way that ended,
+pub front_stop : {S : Type 0} {sink : Ghosts S} {old mid new : S} {text rest left : List ℕ} {end : Ending} → WroteFront sink old mid text left
+    → Wrote sink mid new rest end → left ≡ rest → Wrote sink old new text end
+front_stop before one e = Wrote-same (sym before.parts) (Wrote-then before.wrote (Wrote-same (sym e) one))
+
+-- or not the whole of it;
+pub front_return : {S A E : Type 0} {sink : Ghosts S} {old mid new : S} {text piece left : List ℕ} (rest : List ℕ) (result : Result A E) → WroteFront sink old mid text left
+    → Wrote sink mid new piece cut → left ≡ piece ++ rest → IsErr result → Wrote sink old new text (page_ending result)
+front_return rest result before one e err = front_stop before (Wrote-return_cut rest result one err) e
 
 -- and if nothing is left, the whole was written.
-pub front_whole : {S : Type 0} {sink : Ghosts S} {old new : S} {text rest : List ℕ} → rest ≡ [] → WroteFront sink old new text rest → Wrote sink old new text whole
-front_whole none before = Wrote-same (sym (before.parts ∙ (ap (λ (xs : List ℕ). before.front ++ xs) none ∙ append-nil before.front))) before.wrote
+pub front_whole : {S : Type 0} {sink : Ghosts S} {old new : S} {text rest : List ℕ} → WroteFront sink old new text rest → rest ≡ [] → Wrote sink old new text whole
+front_whole before none = Wrote-same (sym (before.parts ∙ (ap (λ (xs : List ℕ). before.front ++ xs) none ∙ append-nil before.front))) before.wrote
+
+-- for the search
+pub ruleset fronts = (front_none, front_more, front_whole)

@@ -23,6 +23,7 @@ fn put_headers<S: Sink>(entries: &[Leaf<'_>], sink: &mut S) -> Result<(), SinkFa
 }
 
 /// Writes the key and the value of an entry.
+#[tactic(auto, using(crate::proofs::PutsLemmas::puts))]
 fn put_entry<S: Sink>(entry: &Leaf<'_>, sink: &mut S) -> Result<(), SinkFault>
     ensures { Wrote S.Sink sink.old sink.new (entry.now.key.now ++ entry.now.value.now) (page_ending result) }
 {
@@ -31,6 +32,7 @@ fn put_entry<S: Sink>(entry: &Leaf<'_>, sink: &mut S) -> Result<(), SinkFault>
 }
 
 /// Writes the data of entries.
+#[tactic(auto, using(crate::proofs::WroteFronts::fronts, crate::proofs::HeldPuts::entries_left, crate::proofs::HeldPuts::entries_none))]
 fn put_data<S: Sink>(entries: &[Leaf<'_>], sink: &mut S) -> Result<(), SinkFault>
     ensures { Wrote S.Sink sink.old sink.new (leaf_data (map leaf_view entries.now)) (page_ending result) }
 {
@@ -41,6 +43,7 @@ fn put_data<S: Sink>(entries: &[Leaf<'_>], sink: &mut S) -> Result<(), SinkFault
 }
 
 /// Writes the value of an inline bucket, packed anew.
+#[tactic(auto, using(crate::proofs::PutsLemmas::puts, crate::proofs::LeafPuts::inline_wrote))]
 pub(crate) fn put_inline_value<S: Sink>(
     sequence: u64,
     entries: &[Leaf<'_>],

@@ -28,6 +28,7 @@ fn meta(shape: &Shape, plan: &Plan, txid: u64) -> Meta
 }
 
 /// Writes bytes, and zeros up to the end of a page.
+#[tactic(auto, using(crate::proofs::PutsLemmas::puts))]
 fn put_filled<S: Sink>(bytes: &[u8], page_size: usize, sink: &mut S) -> Result<(), SinkFault>
     requires { length bytes.now ≤ page_size }
     ensures { Wrote S.Sink sink.old sink.new (filled page_size bytes.now) (page_ending result) }
@@ -37,6 +38,7 @@ fn put_filled<S: Sink>(bytes: &[u8], page_size: usize, sink: &mut S) -> Result<(
 }
 
 /// Writes both metas, and a freelist without ids.
+#[tactic(auto, using(crate::proofs::PutsLemmas::puts, crate::proofs::FirstPuts::first_wrote))]
 pub(crate) fn put_first_pages<S: Sink>(
     shape: &Shape,
     plan: &Plan,

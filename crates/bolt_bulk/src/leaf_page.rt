@@ -35,6 +35,7 @@ fn put_headers<S: Sink>(
 }
 
 /// Writes the key and the value of an item.
+#[tactic(auto, using(crate::proofs::PutsLemmas::puts))]
 fn put_item<S: Sink>(held: &Held<'_>, inlined: &[Leaf<'_>], sink: &mut S) -> Result<(), SinkFault>
     requires { IsHeld inlined.now held.now }
     ensures { Wrote S.Sink sink.old sink.new (held.now.key.now ++ stored_value inlined.now held.now.stored) (page_ending result) }
@@ -44,6 +45,7 @@ fn put_item<S: Sink>(held: &Held<'_>, inlined: &[Leaf<'_>], sink: &mut S) -> Res
 }
 
 /// Writes the data of items.
+#[tactic(auto, using(crate::proofs::WroteFronts::fronts, crate::proofs::HeldPuts::held_left, crate::proofs::HeldPuts::held_none))]
 fn put_data<S: Sink>(
     items: &[Held<'_>],
     inlined: &[Leaf<'_>],
@@ -59,6 +61,7 @@ fn put_data<S: Sink>(
 }
 
 /// Writes the leaf page over a run.
+#[tactic(auto, using(crate::proofs::PutsLemmas::puts, crate::proofs::LeafPuts::leaf_run_wrote))]
 pub(crate) fn put_leaf_page<S: Sink>(
     run: &LeafRun<'_>,
     setup: &PageSetup,

@@ -1,5 +1,5 @@
 -- What the end of a pass leaves, and what is known of the members of a listing.
-use Rattle.std.specs.Prelude.{◌≡◌, ◌<◌, ◌≤◌, ℕ, List, [], ◌∷◌, ◌++◌, length, true, Option, Result, IfErr, IfOk, OnErr}
+use Rattle.std.specs.Prelude.{◌≡◌, ◌<◌, ◌≤◌, List, [], ◌∷◌, ◌++◌, length, true, Result, IfErr, IfOk, OnErr}
 use Rattle.bolt_check.specs.Keys.{Key}
 use Rattle.bolt_format.specs.ElementLengths.{IsValueLength}
 use Rattle.bolt_format.specs.Sinks.{AppendsProperPrefix}

@@ -1,5 +1,5 @@
 -- What a buffer gathers before it is written.
-use Rattle.std.specs.Prelude.{◌≡◌, ◌++◌, ℕ, List, OnOk, Option, Result}
+use Rattle.std.specs.Prelude.{◌≡◌, ◌++◌, ℕ, List, OnOk, Result}
 use Rattle.bolt_format.specs.Wrote.{Wrote}
 use Rattle.bolt_format.specs.Endings.{page_ending}
 use Rattle.bolt_format.specs.declared.sink.Sink.{Ghosts}

@@ -33,7 +33,6 @@ use Rattle.bolt_bulk.specs.declared.waiting_bucket.WaitingBucket.{WaitingBucket}
 use Rattle.bolt_bulk.specs.declared.noted_limits.NotedLimits.{NotedLimits}
 use Rattle.bolt_layout.specs.declared.layout.Layout.{Layout}
 use Rattle.bolt_format.specs.Wrote.{Wrote}
-use Rattle.bolt_format.specs.Endings.{whole}
 use Rattle.bolt_bulk.specs.BulkEndings.{bulk_ending}
 use Rattle.bolt_format.specs.declared.sink.Sink.{Ghosts}
 
