@@ -1,5 +1,5 @@
 -- Each file has found pages: whether a page is found can be told.
-use Rattle.std.proofs.Common.{◌≡◌, ◌∙◌, ◌≢◌, ◌⊎◌, ◌≤◌, ◌<◌, ◌+◌, inl, inr, ℕ, zero, suc, Bool, true, false, List, [], ◌∷◌, ◌++◌, Option, Some, None, Result, Ok, Err, refl, sym, ap, subst, arith}
+use Rattle.std.proofs.Common.{◌≡◌, ◌∙◌, ◌≢◌, ◌⊎◌, ◌+◌, inl, inr, ℕ, zero, suc, List, [], ◌∷◌, ◌++◌, Option, Some, None, Result, Ok, Err, refl, sym, ap, subst, arith}
 use Rattle.std.proofs.lemmas.Bool.{cases_Bool, cases_lt, false≢true}
 use Rattle.bolt_format.specs.Freelists.{free_ids_of, freelist_fault_of}
 use Rattle.bolt_format.specs.declared.meta.Meta.{Meta}
@@ -11,7 +11,7 @@ use Rattle.bolt_check.specs.Ways.{root_spot}
 use Rattle.bolt_check.specs.declared.finding.Finding.{Finding}
 use Rattle.bolt_recover.specs.Found.{AreFound, FoundBelow, IsFoundNext, IsFoundPage}
 use Rattle.bolt_recover.specs.KeptPages.{IsKeptPage}
-use Rattle.bolt_recover.specs.Surveys.{Has, IsSurvey, Visit, lost}
+use Rattle.bolt_recover.specs.Surveys.{IsSurvey, Visit, lost}
 use Rattle.bolt_recover.proofs.Existing.{has_survey}
 use Rattle.bolt_recover.proofs.FoundAll.{either_or_not, look, lost_or_none}
 

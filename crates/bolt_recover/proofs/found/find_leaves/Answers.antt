@@ -1,4 +1,4 @@
-use Rattle.std.proofs.Common.{◌≡◌, ◌∙◌, ◌⊎◌, ◌↔◌, ◌<◌, ◌+◌, ◌-◌, ◌++◌, ◌∷◌, inl, inr, ℕ, true, false, List, [], Ok, Some, ap, arith, map, subst, subst₂, sym, refl}
+use Rattle.std.proofs.Common.{◌≡◌, ◌∙◌, ◌⊎◌, ◌↔◌, ◌<◌, ◌+◌, ◌-◌, ◌++◌, ◌∷◌, inl, ℕ, true, false, List, [], Ok, Some, ap, arith, subst, subst₂, sym}
 use Rattle.std.specs.List.{All}
 use Rattle.std.proofs.lemmas.Bool.{false≢true}
 use Rattle.std.proofs.lemmas.List.{map-append}
@@ -7,7 +7,7 @@ use Rattle.bolt_format.specs.Pages.{page_at}
 use Rattle.bolt_format.specs.Shown.{shown}
 use Rattle.bolt_format.specs.declared.meta.Meta.{Meta}
 use Rattle.bolt_check.specs.Leftovers.{is_listed, is_taken, leftovers_file, leftovers_length, leftovers_meta}
-use Rattle.bolt_check.specs.LoneLeaves.{IsListedFree, IsLoneLeaf}
+use Rattle.bolt_check.specs.LoneLeaves.{IsLoneLeaf}
 use Rattle.bolt_check.specs.Nodes.{node_at}
 use Rattle.bolt_check.specs.ShownNodes.{shown_node}
 use Rattle.bolt_check.specs.Ways.{At_page, SpanAt, root_spot}
