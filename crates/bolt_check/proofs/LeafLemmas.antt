@@ -1,5 +1,5 @@
 -- Leaves by themselves, and what is listed as free.
-use Rattle.std.proofs.Common.{◌≡◌, ◌≢◌, ◌∙◌, ◌==◌, ◌≤◌, ◌<◌, ◌+◌, ◌*◌, ◌↔◌, ℕ, zero, suc, Bool, true, false, not, min, List, [], length, Option, Some, None, Result, Ok, Err, refl, sym, ap, subst, arith}
+use Rattle.std.proofs.Common.{◌≡◌, ◌≢◌, ◌∙◌, ◌==◌, ◌≤◌, ◌<◌, ◌+◌, ℕ, true, false, not, min, List, [], length, Option, Some, None, Result, Ok, sym, ap, subst, arith}
 use Rattle.std.specs.Option.{IfNone}
 use Rattle.std.specs.Prelude.{IsTrue, nat_lt}
 use Rattle.std.proofs.lemmas.Bool.{false≢true}
@@ -11,7 +11,7 @@ use Rattle.bolt_check.specs.Findings.{PagePasses}
 use Rattle.bolt_check.specs.LoneLeaves.{IsListedFree, IsLoneLeaf}
 use Rattle.bolt_check.specs.Nodes.{Entry, Node, Nodes, node_at}
 use Rattle.bolt_check.specs.Private.LeafTests.{IsFilledLeaf}
-use Rattle.bolt_check.specs.Private.Tables.{HasRoom, times_of, use_at}
+use Rattle.bolt_check.specs.Private.Tables.{HasRoom}
 use Rattle.bolt_check.specs.ShownNodes.{shown_node}
 use Rattle.bolt_check.specs.Ways.{At_page, SpanAt, root_spot}
 use Rattle.bolt_check.specs.declared.table.PageUse.{PageUse}

@@ -27,7 +27,8 @@ use std::alloc::Global;
 /// in the file and below the high-water mark.
 ///
 /// The visits are counted. No call returns the file. So code that has nothing else of the file
-/// can't visit a page uncounted, and can't make a second table.
+/// can't visit a page uncounted, and can't make a second table. `Leftovers` read pages uncounted,
+/// but no way can be followed any more once the claims were given to them.
 #[derive(Drop)]
 pub struct Claims<'a> {
     pub(crate) file: &'a [u8],

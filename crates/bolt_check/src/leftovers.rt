@@ -112,6 +112,7 @@ fn take_leaf<'a>(
     if table.len() as u64 <= number || is_listed(table[number as usize]) {
         return None;
     }
+    // A visit would claim a branch too, so the page is opened before.
     if !is_filled_leaf(file, meta, number) {
         return None;
     }

@@ -1,5 +1,5 @@
 -- The found pages of a whole file.
-use Rattle.std.proofs.Common.{◌≡◌, ◌∙◌, ◌↔◌, ◌⊎◌, ◌≤◌, ◌<◌, ◌+◌, inl, inr, ℕ, zero, suc, Bool, true, false, arith, List, [], ◌∷◌, length, map, Option, Some, None, Result, Ok, Err, IfOk, refl, sym, ap, subst}
+use Rattle.std.proofs.Common.{◌≡◌, ◌∙◌, ◌↔◌, ◌⊎◌, ◌≤◌, ◌<◌, ◌+◌, inl, inr, ℕ, zero, suc, Bool, true, arith, List, [], ◌∷◌, length, map, Option, Some, None, Result, Ok, Err, IfOk, refl, sym, ap, subst}
 use Rattle.std.specs.List.{Contains}
 use Rattle.std.proofs.lemmas.Bool.{cases_Bool, cases_lt, false≢true}
 use Rattle.std.proofs.Math.Logic.{∥∥₁_elim}
@@ -75,7 +75,7 @@ module _ (file : List ℕ) (meta : Meta) (reported : List LossView) (all : (loss
       }
 
 -- a way of a survey is lost, or none is
-lost_or_none : (survey : List Visit) → ((v : Visit) → Has survey v → v.found ≡ None) ⊎ ((way : List ℕ) × (x : Finding) × Has survey (lost way x))
+pub lost_or_none : (survey : List Visit) → ((v : Visit) → Has survey v → v.found ≡ None) ⊎ ((way : List ℕ) × (x : Finding) × Has survey (lost way x))
 lost_or_none [] = inl (λ v has. absurd has)
 lost_or_none (v ∷ survey) = first v survey v.found refl (lost_or_none survey)
   where
@@ -120,7 +120,7 @@ module _ (file : List ℕ) (meta : Meta) where
       ]
 
 -- a page with a property among so many, or none
-look : (P : ℕ → Type 0) → ((k : ℕ) → P k ⊎ (P k → ⊥)) → (from count : ℕ) → ((k : ℕ) × (from ≤ k) × (k < from + count) × P k) ⊎ ((k : ℕ) → from ≤ k → k < from + count → P k → ⊥)
+pub look : (P : ℕ → Type 0) → ((k : ℕ) → P k ⊎ (P k → ⊥)) → (from count : ℕ) → ((k : ℕ) × (from ≤ k) × (k < from + count) × P k) ⊎ ((k : ℕ) → from ≤ k → k < from + count → P k → ⊥)
 look P decide from zero = inr (λ k low high. absurd (omega arith))
 look P decide from (suc count) =
     elim (look P decide from count) [
@@ -166,7 +166,7 @@ module _ (file : List ℕ) (meta : Meta) where
         ]
       ]
 
-  either_or_not : (found : List ℕ) (survey : List Visit) → IsSurvey file meta survey → (k : ℕ)
+  pub either_or_not : (found : List ℕ) (survey : List Visit) → IsSurvey file meta survey → (k : ℕ)
       → (IsKeptPage file meta survey k ⊎ IsFoundPage file meta found k) ⊎ (IsKeptPage file meta survey k ⊎ IsFoundPage file meta found k → ⊥)
   either_or_not found survey is k =
       elim (kept_or_not survey is k) [

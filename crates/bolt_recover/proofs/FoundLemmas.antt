@@ -1,15 +1,21 @@
 -- Found pages, one number after another.
-use Rattle.std.proofs.Common.{◌≡◌, ◌∙◌, ◌≤◌, ◌<◌, ◌⊎◌, ◌↔◌, inl, inr, ℕ, zero, suc, ◌+◌, Bool, true, false, List, [], ◌∷◌, ◌++◌, Option, Some, None, refl, sym, ap, subst, arith}
+use Rattle.std.proofs.Common.{◌≡◌, ◌∙◌, ◌≤◌, ◌<◌, ◌⊎◌, ◌↔◌, inl, inr, ℕ, zero, suc, ◌+◌, Bool, true, false, List, [], ◌∷◌, ◌++◌, Some, Ok, ◌≢◌, refl, sym, ap, subst, arith}
 use Rattle.std.specs.List.{Contains}
+use Rattle.std.specs.Prelude.{IsTrue}
 use Rattle.std.proofs.lemmas.Bool.{cases_lt, false≢true}
 use Rattle.std.proofs.lemmas.List.Elements.{Contains-append_left, Contains-append_right, Contains-push_cases}
+use Rattle.bolt_format.specs.Pages.{page_at}
+use Rattle.bolt_format.specs.Shown.{shown}
 use Rattle.bolt_format.specs.declared.meta.Meta.{Meta}
 use Rattle.bolt_check.specs.LoneLeaves.{IsListedFree, IsLoneLeaf}
-use Rattle.bolt_check.specs.Nodes.{Nodes, node_at}
+use Rattle.bolt_check.specs.Nodes.{Node, Nodes, node_at}
+use Rattle.bolt_check.specs.ShownNodes.{shown_node}
 use Rattle.bolt_check.specs.Ways.{At_page, SpanAt, root_spot}
 use Rattle.bolt_check.proofs.LeafLemmas.{lone_free, lone_same, lone_span}
 use Rattle.bolt_tree.proofs.Lists.{contains_head, contains_none}
 use Rattle.bolt_recover.specs.Found.{FoundBelow, IsFoundNext, IsFoundPage}
+use Rattle.bolt_recover.specs.ShownFound.{IsFoundView}
+use Rattle.bolt_recover.specs.declared.found.Found.{Found}
 
 pub not_true : (b : Bool) → (b ≡ true → ⊥) → b ≡ false
 not_true true never = absurd (never refl)
@@ -18,6 +24,14 @@ not_true false never = refl
 module _ (file : List ℕ) (meta : Meta) where
   abbrev nodes : Nodes
   nodes = node_at file meta
+
+  -- a page of the code that is an intact leaf
+  pub view_of : (before : ℕ → Type 0) (f : Found) → page_at file meta f.number ≡ Some (shown f.page.page) → node_at file meta f.number ≡ Ok (shown_node f.page)
+      → IsLoneLeaf nodes before f.number → IsFoundView file meta f
+  view_of before f page node lone =
+      let both : Ok lone.passes.node ≡ Ok (shown_node f.page) = sym lone.passes.page ∙ node in
+      let same : lone.passes.node ≡ shown_node f.page = cc in
+      record { page = page; node = node; leaf = subst (λ (x : Node). IsTrue x.is_leaf) same lone.leaf; some = subst (λ (x : Node). x.entries ≢ []) same lone.some }
 
   -- the pages of one found page more
   page_more : (found : List ℕ) (n k : ℕ) → IsFoundPage file meta (found ++ n ∷ []) k → IsFoundPage file meta found k ⊎ SpanAt nodes (At_page (root_spot n)) k

@@ -2,6 +2,7 @@ mod ElementLists
 pub mod Existing
 mod FirstLoss
 mod FoundAll
+mod FoundExists
 mod FoundLemmas
 mod HeldMembers
 mod Leading

@@ -38,7 +38,7 @@ use Rattle.bolt_recover.specs.Private.Runs.{Runs, RunsAll, Task, Visited, losses
 use Rattle.bolt_recover.specs.Recovered.{IsRecovered}
 use Rattle.bolt_recover.specs.Recoveries.{AreFirst}
 use Rattle.bolt_recover.specs.Refusals.{IsRefusedRoot, IsSlotUnrecoverable, IsUnrecoverable}
-use Rattle.bolt_recover.specs.Surveys.{IsSurvey, Visit}
+use Rattle.bolt_recover.specs.Surveys.{Visit}
 use Rattle.bolt_recover.specs.declared.content.Content.{Content}
 use Rattle.bolt_recover.specs.declared.content.Content.TheVariants.{Bucket, Page}
 use Rattle.bolt_recover.specs.declared.content.OpenPage.{OpenPage}

@@ -1,5 +1,5 @@
--- A found page of the code: the page that the file has under its number.
-use Rattle.std.specs.Prelude.{◌≡◌, ℕ, List, Ok, Some}
+-- A found page of the code: the page that the file has under its number, a leaf with an element.
+use Rattle.std.specs.Prelude.{◌≡◌, ◌≢◌, ℕ, List, [], IsTrue, Ok, Some}
 use Rattle.bolt_format.specs.Pages.{page_at}
 use Rattle.bolt_format.specs.Shown.{shown}
 use Rattle.bolt_format.specs.declared.meta.Meta.{Meta}
@@ -10,3 +10,5 @@ use Rattle.bolt_recover.specs.declared.found.Found.{Found}
 pub record IsFoundView (file : List ℕ) (meta : Meta) (found : Found) : Type 0 where
   pub page : page_at file meta found.number ≡ Some (shown found.page.page)
   pub node : node_at file meta found.number ≡ Ok (shown_node found.page)
+  pub leaf : IsTrue (shown_node found.page).is_leaf
+  pub some : (shown_node found.page).entries ≢ []

@@ -113,6 +113,11 @@ pub fn found_pages_are_one()
     ensures { (file : List ℕ) (meta : Meta) (a b : List ℕ) → AreFound file meta a → AreFound file meta b → a ≡ b }
 {}
 
+/// Each file has found pages: one list, which may be empty.
+pub fn each_file_has_found_pages()
+    ensures { (file : List ℕ) (meta : Meta) → (found : List ℕ) × AreFound file meta found }
+{}
+
 /// If nothing is lost, nothing is found.
 pub fn nothing_lost_finds_nothing()
     ensures { (file : List ℕ) (meta : Meta) (found : List ℕ) → AreLosses file meta [] → AreFound file meta found → found ≡ [] }

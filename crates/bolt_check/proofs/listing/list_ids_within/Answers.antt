@@ -1,4 +1,4 @@
-use Rattle.std.proofs.Common.{◌≡◌, ◌∙◌, ◌<◌, length, arith}
+use Rattle.std.proofs.Common.{◌∙◌, ◌<◌, length, arith}
 use Rattle.bolt_format.specs.ShownIds.{shown_ids}
 use Rattle.bolt_check.specs.Private.Tables.{use_at, times_of}
 use Rattle.bolt_check.proofs.ListLemmas.{times_more}

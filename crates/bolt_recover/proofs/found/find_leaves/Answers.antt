@@ -1,4 +1,4 @@
-use Rattle.std.proofs.Common.{◌≡◌, ◌∙◌, ◌⊎◌, ◌↔◌, ◌<◌, ◌+◌, ◌-◌, ◌++◌, ◌∷◌, inl, inr, ℕ, true, false, List, [], Ok, Some, ap, arith, map, subst, subst₂, sym, refl}
+use Rattle.std.proofs.Common.{◌≡◌, ◌∙◌, ◌⊎◌, ◌↔◌, ◌<◌, ◌+◌, ◌-◌, ◌++◌, ◌∷◌, inl, ℕ, true, false, List, [], Ok, Some, ap, arith, subst, subst₂, sym}
 use Rattle.std.specs.List.{All}
 use Rattle.std.proofs.lemmas.Bool.{false≢true}
 use Rattle.std.proofs.lemmas.List.{map-append}
@@ -7,14 +7,14 @@ use Rattle.bolt_format.specs.Pages.{page_at}
 use Rattle.bolt_format.specs.Shown.{shown}
 use Rattle.bolt_format.specs.declared.meta.Meta.{Meta}
 use Rattle.bolt_check.specs.Leftovers.{is_listed, is_taken, leftovers_file, leftovers_length, leftovers_meta}
-use Rattle.bolt_check.specs.LoneLeaves.{IsListedFree, IsLoneLeaf}
+use Rattle.bolt_check.specs.LoneLeaves.{IsLoneLeaf}
 use Rattle.bolt_check.specs.Nodes.{node_at}
 use Rattle.bolt_check.specs.ShownNodes.{shown_node}
 use Rattle.bolt_check.specs.Ways.{At_page, SpanAt, root_spot}
 use Rattle.bolt_recover.specs.Found.{FoundBelow, IsFoundPage, numbers_of}
 use Rattle.bolt_recover.specs.ShownFound.{IsFoundView}
 use Rattle.bolt_recover.specs.declared.found.Found.{Found}
-use Rattle.bolt_recover.proofs.FoundLemmas.{found_next, found_not, found_up, not_true, taken_more}
+use Rattle.bolt_recover.proofs.FoundLemmas.{found_next, found_not, found_up, not_true, taken_more, view_of}
 use Rattle.bolt_recover.proofs.found.find_leaves.Goals as goal
 use Rattle.bolt_recover.proofs.found.find_leaves.Goals.{in-Some, in_default}
 
@@ -42,10 +42,9 @@ loop-number-preserved c =
           let numbers : numbers_of c.match-take.found.items ≡ found ++ n ∷ [] = ap numbers_of items ∙ map-append (λ (x : Found). x.number) l.found.items (f ∷ []) in
           let lone = subst₂ (λ (a : List ℕ) (b : Meta). IsLoneLeaf (node_at a b) (λ k. old k ≡ true) n) inv.file inv.meta some.leaf in
           let more = subst₂ (λ (a : List ℕ) (b : Meta). (k : ℕ) → (new k ≡ true) ↔ ((old k ≡ true) ⊎ SpanAt (node_at a b) (At_page (root_spot n)) k)) inv.file inv.meta some.taken in
-          let view : IsFoundView file meta f = record {
-            page = subst₂ (λ (a : List ℕ) (b : Meta). page_at a b n ≡ Some (shown w.in-Some.page.page)) inv.file inv.meta some.page;
-            node = subst₂ (λ (a : List ℕ) (b : Meta). node_at a b n ≡ Ok (shown_node w.in-Some.page)) inv.file inv.meta some.node;
-          } in
+          let view = view_of file meta (λ k. old k ≡ true) f
+          (subst₂ (λ (a : List ℕ) (b : Meta). page_at a b n ≡ Some (shown w.in-Some.page.page)) inv.file inv.meta some.page)
+          (subst₂ (λ (a : List ℕ) (b : Meta). node_at a b n ≡ Ok (shown_node w.in-Some.page)) inv.file inv.meta some.node) lone in
           record {
             file = c.take.ensures.file ∙ inv.file;
             meta = c.take.ensures.meta ∙ inv.meta;

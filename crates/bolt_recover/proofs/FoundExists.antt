@@ -1,0 +1,125 @@
+-- Each file has found pages: whether a page is found can be told.
+use Rattle.std.proofs.Common.{◌≡◌, ◌∙◌, ◌≢◌, ◌⊎◌, ◌+◌, inl, inr, ℕ, zero, suc, List, [], ◌∷◌, ◌++◌, Option, Some, None, Result, Ok, Err, refl, sym, ap, subst, arith}
+use Rattle.std.proofs.lemmas.Bool.{cases_Bool, cases_lt, false≢true}
+use Rattle.bolt_format.specs.Freelists.{free_ids_of, freelist_fault_of}
+use Rattle.bolt_format.specs.declared.meta.Meta.{Meta}
+use Rattle.bolt_check.specs.Accounts.{times_in}
+use Rattle.bolt_check.specs.Findings.{early_finding, node_finding}
+use Rattle.bolt_check.specs.LoneLeaves.{IsListedFree, IsLoneLeaf}
+use Rattle.bolt_check.specs.Nodes.{Entry, Node, Nodes, node_at}
+use Rattle.bolt_check.specs.Ways.{root_spot}
+use Rattle.bolt_check.specs.declared.finding.Finding.{Finding}
+use Rattle.bolt_recover.specs.Found.{AreFound, FoundBelow, IsFoundNext, IsFoundPage}
+use Rattle.bolt_recover.specs.KeptPages.{IsKeptPage}
+use Rattle.bolt_recover.specs.Surveys.{IsSurvey, Visit, lost}
+use Rattle.bolt_recover.proofs.Existing.{has_survey}
+use Rattle.bolt_recover.proofs.FoundAll.{either_or_not, look, lost_or_none}
+
+abbrev Decided : Type 0 → Type 0
+Decided P = P ⊎ (P → ⊥)
+
+nothing_or_not : (o : Option Finding) → Decided (o ≡ None)
+nothing_or_not None = inl refl
+nothing_or_not (Some x) = inr (λ e. (let f : Some x ≡ None = e in cc))
+
+empty_or_not : (entries : List Entry) → Decided (entries ≢ [])
+empty_or_not [] = inr (λ some. some refl)
+empty_or_not (e ∷ entries) = inl (λ none. (let f : e ∷ entries ≡ [] = none in cc))
+
+module _ (nodes : Nodes) (before : ℕ → Type 0) (which : (k : ℕ) → Decided (before k)) (n : ℕ) where
+  node_is : (node : Node) → nodes n ≡ Ok node → (lone : IsLoneLeaf nodes before n) → node ≡ lone.passes.node
+  node_is node is lone = let both : Ok node ≡ Ok lone.passes.node = sym is ∙ lone.passes.page in cc
+
+  early_none : (node : Node) → nodes n ≡ Ok node → early_finding nodes (root_spot n) ≡ None
+  early_none node is = rw is refl
+
+  leaf_decided : (node : Node) → nodes n ≡ Ok node → Decided (IsLoneLeaf nodes before n)
+  leaf_decided node is =
+      elim (cases_Bool node.is_leaf) [
+        | inr branch ↦ inr (λ lone. false≢true (sym branch ∙ ap (λ (x : Node). x.is_leaf) (node_is node is lone) ∙ lone.leaf))
+        | inl leaf ↦ elim (empty_or_not node.entries) [
+          | inr empty ↦ inr (λ lone. empty (subst (λ (x : Node). x.entries ≢ []) (sym (node_is node is lone)) lone.some))
+          | inl some ↦ elim (nothing_or_not (node_finding node (root_spot n))) [
+            | inr finding ↦ inr (λ lone. finding (ap (λ (x : Node). node_finding x (root_spot n)) (node_is node is lone) ∙ lone.passes.content))
+            | inl content ↦ elim (look before which n (node.overflow + 1)) [
+              | inl (k, low, high, was) ↦ inr (λ lone.
+                  let same = ap (λ (x : Node). x.overflow) (node_is node is lone) in
+                  lone.passes.free k (low, omega (arith, high, same)) was)
+              | inr free ↦ inl (record {
+                passes = record {
+                  node = node;
+                  early = early_none node is;
+                  page = is;
+                  free = λ k inside was. free k inside.0 (let to = inside.1 in omega (arith, to)) was;
+                  content = content;
+                };
+                leaf = leaf;
+                some = some;
+              })
+            ]
+          ]
+        ]
+      ]
+
+  seen_decided : (seen : Result Node ℕ) → nodes n ≡ seen → Decided (IsLoneLeaf nodes before n)
+  seen_decided (Ok node) is = leaf_decided node is
+  seen_decided (Err fault) is = inr (λ lone. (let f : Err fault ≡ Ok lone.passes.node = sym is ∙ lone.passes.page in cc))
+
+module _ (file : List ℕ) (meta : Meta) where
+  ids_decided : (n : ℕ) (fault : Option ℕ) (ids : Option (List ℕ)) → freelist_fault_of file meta ≡ fault → free_ids_of file meta ≡ ids → Decided (IsListedFree file meta n)
+  ids_decided n (Some x) ids good is = inr (λ listed. (let f : Some x ≡ None = sym good ∙ listed.good in cc))
+  ids_decided n None None good is = inr (λ listed. (let f : None ≡ Some listed.ids = sym is ∙ listed.listed in cc))
+  ids_decided n None (Some ids) good is =
+      elim (cases_lt 0 (times_in ids n)) [
+        | inl more ↦ inl (record { ids = ids; good = good; listed = is; times = omega (arith, more) })
+        | inr none ↦ inr (λ listed.
+            let both : Some ids ≡ Some listed.ids = sym is ∙ listed.listed in
+            let same : ids ≡ listed.ids = cc in
+            let times = listed.times in
+            let here : times_in ids n ≡ times_in listed.ids n = ap (λ (xs : List ℕ). times_in xs n) same in
+            omega (arith, none, times, here))
+      ]
+
+  next_decided : (survey : List Visit) → IsSurvey file meta survey → (found : List ℕ) (n : ℕ) → Decided (IsFoundNext file meta (IsKeptPage file meta survey) found n)
+  next_decided survey is found n =
+      elim (seen_decided (node_at file meta) (λ k. IsKeptPage file meta survey k ⊎ IsFoundPage file meta found k) (either_or_not file meta found survey is) n (node_at file meta n) refl) [
+        | inr none ↦ inr (λ next. none next.leaf)
+        | inl leaf ↦ elim (ids_decided n (freelist_fault_of file meta) (free_ids_of file meta) refl refl) [
+          | inl listed ↦ inr (λ next. next.unlisted listed)
+          | inr unlisted ↦ inl (record { leaf = leaf; unlisted = unlisted })
+        ]
+      ]
+
+  below_exists : (survey : List Visit) → IsSurvey file meta survey → (mark : ℕ) → (found : List ℕ) × FoundBelow file meta (IsKeptPage file meta survey) mark found
+  below_exists survey is zero = ([], refl)
+  below_exists survey is (suc n) =
+      let (found, below) = below_exists survey is n in
+      elim (next_decided survey is found n) [
+        | inl next ↦ (found ++ n ∷ [], (found, below, inl (next, refl)))
+        | inr none ↦ (found, (found, below, inr (none, refl)))
+      ]
+
+  pub has_found : (found : List ℕ) × AreFound file meta found
+  has_found =
+      let (survey, is) = has_survey file meta in
+      elim (lost_or_none survey) [
+        | inl none ↦ (
+          [],
+          record {
+            survey = survey;
+            surveys = is;
+            none = λ kept. refl;
+            some = λ way x has. (let f : Some x ≡ None = none (lost way x) has in absurd (cc));
+          },
+        )
+        | inr (way, x, gone) ↦
+            let (found, below) = below_exists survey is meta.high_water in (
+              found,
+              record {
+                survey = survey;
+                surveys = is;
+                none = λ kept. (let f : Some x ≡ None = kept (lost way x) gone in absurd (cc));
+                some = λ other y has. below;
+              },
+            )
+      ]
