@@ -1,11 +1,10 @@
 -- What a call that writes pages leaves on its sink, if it can also fail because memory runs out or the layout is too large.
 use Rattle.std.proofs.Common.{◌≡◌, ◌≢◌, ◌∙◌, ℕ, ◌+◌, ◌-◌, ◌*◌, ◌<◌, ◌≤◌, List, [], ◌∷◌, ◌++◌, length, replicate, OnErr, Option, Result, Ok, Err, refl, sym, ap, subst, arith, append_assoc}
-use Rattle.std.specs.Prelude.{IsErrAnd}
 use Rattle.std.proofs.KnownBytes.{Appends-nil}
 use Rattle.std.proofs.lemmas.List.{length-append}
 use Rattle.bolt_format.proofs.SinkLemmas.{AppendsPrefix-whole, AppendsProperPrefix-first, AppendsProperPrefix-second, more_some}
 use Rattle.bolt_format.proofs.WroteLemmas.{Wrote-cut, Wrote-halt, Wrote-none, Wrote-return_cut, Wrote-stop, Wrote-stop_cut, Wrote-stop_halted, Wrote-then}
-use Rattle.bolt_format.specs.Endings.{whole, cut, halted}
+use Rattle.bolt_format.specs.Endings.{whole, halted}
 use Rattle.bolt_format.specs.Pages.{PageView}
 use Rattle.bolt_format.specs.Sinks.{AppendsPrefix, AppendsProperPrefix}
 use Rattle.bolt_format.specs.Wrote.{Wrote}
@@ -17,7 +16,7 @@ use Rattle.bolt_layout.specs.Layout.{placed_bytes}
 use Rattle.bolt_layout.specs.PageBytes.{branch_bytes, content_bytes, leaf_bytes, page_bytes}
 use Rattle.bolt_format.specs.Written.{header_bytes}
 use Rattle.bolt_format.proofs.WrittenHeaders.{length-header_bytes}
-use Rattle.bolt_bulk.specs.BulkEndings.{bulk_ending, fault_ending}
+use Rattle.bolt_bulk.specs.BulkEndings.{fault_ending}
 use Rattle.bolt_bulk.specs.declared.fault.BulkFault.{BulkFault}
 use Rattle.bolt_bulk.specs.declared.fault.BulkFault.TheVariants as fault
 use Rattle.bolt_bulk.proofs.WroteFronts.{WroteFront}
@@ -58,6 +57,9 @@ page_some page_size number view e =
 pub pages_some : (page_size : ℕ) (page : Placed) (pages : List Placed) → placed_bytes page_size (page ∷ pages) ≢ []
 pages_some page_size page pages = more_some (page_bytes page_size page.number page.view) (placed_bytes page_size pages) (page_some page_size page.number page.view)
 
+pub one_some : (page_size number : ℕ) (view : PageView) → page_bytes page_size number view ++ [] ≢ []
+one_some page_size number view = more_some (page_bytes page_size number view) [] (page_some page_size number view)
+
 -- the bytes of two rows of pages are those of the first and then those of the second
 pub bytes-append : (page_size : ℕ) (xs ys : List Placed) → placed_bytes page_size (xs ++ ys) ≡ placed_bytes page_size xs ++ placed_bytes page_size ys
 bytes-append page_size [] ys = refl
@@ -73,20 +75,6 @@ Wrote-stops second fault.Sink a = Wrote-stop second a
 -- memory ran out after the text
 pub Wrote-gave_up : {S : Type 0} {sink : Ghosts S} {old new : S} {text : List ℕ} → Wrote sink old new text whole → Wrote sink old new text halted
 Wrote-gave_up {sink} {old} {new} {text} a = record { appends = AppendsPrefix-whole (sink.taken old) (sink.taken new) text a.appends; failures = a.failures }
-
--- or before it
-pub Wrote-no_memory : {S A : Type 0} {sink : Ghosts S} (old : S) (text : List ℕ) (result : Result A BulkFault) → IsErrAnd result (λ e. e ≡ fault.Memory) → Wrote sink old old text (bulk_ending result)
-Wrote-no_memory old text (Ok x) memory = absurd memory
-Wrote-no_memory old text (Err e) memory = rw memory (Wrote-halt old text)
-
--- the fault of a call is returned
-pub Wrote-fault : {S A : Type 0} {sink : Ghosts S} {old new : S} {text : List ℕ} (e : BulkFault) (result : Result A BulkFault) → IsErrAnd result (λ f. f ≡ e) → Wrote sink old new text (fault_ending e) → Wrote sink old new text (bulk_ending result)
-Wrote-fault e (Ok x) same a = absurd same
-Wrote-fault e (Err f) same a = rw same a
-
--- a sink's failure is a fault of the call
-pub Wrote-passed : {S A : Type 0} {sink : Ghosts S} {old new : S} {text : List ℕ} (result : Result A BulkFault) → IsErrAnd result (λ e. e ≡ fault.Sink) → Wrote sink old new text cut → Wrote sink old new text (bulk_ending result)
-Wrote-passed result same a = Wrote-fault fault.Sink result same (Wrote-cut a)
 
 -- whatever the fault
 pub Wrote-prefix : {S : Type 0} {sink : Ghosts S} {old new : S} {text : List ℕ} (e : BulkFault) → Wrote sink old new text (fault_ending e) → AppendsPrefix (sink.taken old) (sink.taken new) text
@@ -124,5 +112,11 @@ short_stop {sink} {old} {mid} {new} {text} {piece} {left} rest same before one =
     (AppendsProperPrefix-second (sink.taken old) (sink.taken mid) (sink.taken new) before.front left before.wrote.appends
     (proper_same (sink.taken mid) (sink.taken new) (piece ++ rest) left (sym same) (AppendsProperPrefix-first (sink.taken mid) (sink.taken new) piece rest one)))
 
--- for the search: one text after another
+-- for the search: a call that gives up before it puts a page
+pub ruleset nothing_put = (after_error, proper_none, page_some, one_some, Wrote-halt)
+
+-- a fault is passed on
+pub ruleset stops = (Wrote-stops, AppendsProperPrefix-first)
+
+-- one text after another
 pub ruleset puts = (Wrote-then, Wrote-return_cut, Wrote-stop_cut, Wrote-none)

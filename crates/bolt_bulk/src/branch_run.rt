@@ -115,6 +115,7 @@ impl<'a> BranchRun<'a> {
 
     /// Takes the element of the last page below, and closes the run: its page is written, and the
     /// element of that page is returned.
+    #[tactic(auto, using(crate::proofs::PutsLemmas::nothing_put))]
     pub(crate) fn take_last_page<S: Sink>(
         &mut self,
         setup: &PageSetup,
@@ -138,6 +139,7 @@ impl<'a> BranchRun<'a> {
     }
 
     /// Writes the page over the run, and begins the next run. Returns the page's element.
+    #[tactic(auto, using(crate::proofs::PutsLemmas::nothing_put))]
     fn close<S: Sink>(
         &mut self,
         setup: &PageSetup,

@@ -287,6 +287,7 @@ impl<'a> BucketRuns<'a> {
     }
 
     /// Closes all runs, up to the root page, and returns the number of that page.
+    #[tactic(auto, using(crate::proofs::PutsLemmas::stops))]
     pub(crate) fn close_runs<S: Sink>(
         &mut self,
         setup: &PageSetup,

@@ -36,6 +36,7 @@ impl<'a> LeafRun<'a> {
 
     /// Writes the page over the run, and begins the next run. Returns the page's element.
     #[inline(never)]
+    #[tactic(auto, using(crate::proofs::PutsLemmas::nothing_put))]
     pub(crate) fn close<S: Sink>(
         &mut self,
         setup: &PageSetup,

@@ -32,6 +32,7 @@ pub(crate) struct WaitingBucket<'a> {
 impl<'a> WaitingBucket<'a> {
     /// Ends the bucket within, and takes its item. Memory for the item is reserved first, so any
     /// failure leaves some page out.
+    #[tactic(auto, using(crate::proofs::PutsLemmas::nothing_put))]
     pub(crate) fn end_inner<S: Sink>(
         self,
         setup: &PageSetup,

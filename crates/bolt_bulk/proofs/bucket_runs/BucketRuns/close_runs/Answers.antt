@@ -4,8 +4,6 @@ use Rattle.bolt_format.specs.ElementPlaces.{branch_view}
 use Rattle.bolt_bulk.specs.Private.OpenBuckets.{bucket_runs}
 use Rattle.bolt_bulk.proofs.BucketLemmas.{closed_short, end_large, end_made, end_short}
 use Rattle.bolt_bulk.proofs.bucket_runs.BucketRuns.close_runs.Goals as goal
-use Rattle.bolt_bulk.proofs.PutsLemmas.{Wrote-stops}
-use Rattle.bolt_format.proofs.SinkLemmas.{AppendsProperPrefix-first}
 
 pub close_all-requires-clause-closed : goal.close_all-requires-clause-closed
 close_all-requires-clause-closed g c =
@@ -23,11 +21,3 @@ returns-clause-pages g c =
 pub returns-clause-short : goal.returns-clause-short
 returns-clause-short g c =
     end_short c.args.setup.now.page_size (bucket_runs c.args.self.now c.args.next.now) _ _ _ (branch_view c.in_ok-closed.closed) c.close.new.next _ c.in_ok-closed.ensures.closed c.in_ok-closed.ensures.next c.in_ok-closed.ensures.page c.close_all.ensures.short
-
-pub returns-in_err-closed-clause-short : goal.returns-in_err-closed-clause-short
-returns-in_err-closed-clause-short g c =
-    let p = err_from_is_err_and c.from_residual.result c.from_residual.ensures.1 in
-    rw p.1 (AppendsProperPrefix-first (g.S.Sink.taken c.args.sink.now) (g.S.Sink.taken c.close.new.sink) _ _ c.in_err-closed.ensures.short)
-
-pub returns-in_err-closed-clause-pages : goal.returns-in_err-closed-clause-pages
-returns-in_err-closed-clause-pages g c = let p = err_from_is_err_and c.from_residual.result c.from_residual.ensures.1 in rw (p.1, p.2) (Wrote-stops _ _ c.in_err-closed.ensures.page)

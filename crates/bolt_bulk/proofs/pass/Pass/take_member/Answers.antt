@@ -14,9 +14,6 @@ use Rattle.bolt_bulk.proofs.PassEnds.{has_bucket, has_value, last_pushed}
 use Rattle.bolt_bulk.proofs.PassLeft.{steps_map}
 use Rattle.bolt_bulk.proofs.pass.Pass.take_member.Goals as goal
 
-no_part : Bor (List ℕ)
-no_part = record { ref_ptr = (0, 0); now = [] }
-
 -- the last part of the path is the key
 last_is : (parts front : List (Bor (List ℕ))) (key : Bor (List ℕ)) → parts ≡ front ++ key ∷ [] → last_part (path_of parts) ≡ key.now
 last_is parts front key same =

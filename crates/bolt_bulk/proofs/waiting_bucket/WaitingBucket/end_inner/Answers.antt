@@ -1,15 +1,12 @@
 -- Memory for the item is there before anything is written, and what is open of the outer bucket stays until then.
-use Rattle.std.proofs.Common.{rules, ◌∙◌, ◌+◌, ap, arith, ℕ, length}
+use Rattle.std.proofs.Common.{◌∙◌, ◌+◌, ap, arith, ℕ, length}
 use Rattle.bolt_bulk.specs.Private.OpenBuckets.{bucket_runs}
 use Rattle.bolt_bulk.specs.Private.RunViews.{BucketRunsView, leaves_have_room, runs_end, runs_push}
 use Rattle.bolt_bulk.specs.Private.TakenItems.{root_element}
 use Rattle.bolt_bulk.proofs.BucketLemmas.{end_some, room_fits}
 use Rattle.bolt_format.proofs.WrittenHeaders.{length-head_bytes}
 use Rattle.bolt_bulk.proofs.waiting_bucket.WaitingBucket.end_inner.Goals as goal
-use Rattle.bolt_bulk.proofs.PutsLemmas.{Wrote-no_memory, after_error, proper_none}
-
-pub returns-in_err-reserve-clause-pages : goal.returns-in_err-reserve-clause-pages
-returns-in_err-reserve-clause-pages g c = Wrote-no_memory c.args.sink.now _ c.from_residual.result (search rules)
+use Rattle.bolt_bulk.proofs.PutsLemmas.{after_error, proper_none}
 
 pub returns-in_err-reserve-clause-short : goal.returns-in_err-reserve-clause-short
 returns-in_err-reserve-clause-short g c = after_error _ _ (proper_none (g.S.Sink.taken c.args.sink.now) _ (end_some c.args.setup.now.page_size (bucket_runs c.args.bucket c.args.next.now)))
