@@ -14,10 +14,10 @@ abbrev pub invariant-rest : goal.invariant-rest
 invariant-rest g l = record {
   checked : cursor_checked l.cursor ≡ bucket_checked l.bucket;
   start : cursor_start l.cursor ≡ bucket_start l.bucket;
-  form : l.items.form ≡ l.form;
+  form : l.items.form ≡ l.fn.form;
   counted : g.S.Sink.failed l.sink ≡ g.S.Sink.failed l.initial.sink;
   put : ForEntries (bucket_checked l.bucket) (bucket_start l.bucket) (λ entries. (written : List ℕ)
-      × (flat_map (bucket_name l.form) entries ≡ written ++ flat_map (bucket_name l.form) (entries_left entries (cursor_place l.cursor)))
+      × (flat_map (bucket_name l.fn.form) entries ≡ written ++ flat_map (bucket_name l.fn.form) (entries_left entries (cursor_place l.cursor)))
       × Writes {A = ⊤} {E = ReportFault} g.S.Sink.taken g.S.Sink.failed l.initial.sink l.sink written (Ok tt));
 }
 
