@@ -1,5 +1,6 @@
 -- What jobs do with their text, and what is reported at the end of a run.
 use Rattle.std.proofs.Common.{◌⊎◌, ◌≡◌, ◌∙◌, ◌++◌, ℕ, List, Option, Result, Ok, Err, IfErr, inl, inr, ap, refl, subst}
+use Rattle.std.specs.Prelude.{IsErr}
 use Rattle.std.specs.Result.{IsErrAnd}
 use Rattle.std.proofs.KnownBytes.{Appends-nil}
 use Rattle.bolt_format.specs.Writes.{Writes}
@@ -21,6 +22,12 @@ pub Writes-reported : {S A : Type 0} {taken : S → Option (List ℕ)} {failed :
     → Reports taken failed old new text result → IfErr result (λ fault. fault ≡ report.Sink) → Writes taken failed old new text result
 Writes-reported {taken} {failed} old new text (Ok x) a only = record { all = a.all; sound = a.sound; prefix = a.prefix; failure = tt }
 Writes-reported {taken} {failed} old new text (Err e) a only = record { all = tt; sound = tt; prefix = a.prefix; failure = a.failure (ap Err only) }
+
+-- a text that wasn't written whole, and a fault that was passed on
+pub Writes-failed : {S A B E F : Type 0} {taken : S → Option (List ℕ)} {failed : S → ℕ} (old new : S) (text : List ℕ) (e : E) (result : Result B F)
+    → Writes {A = A} taken failed old new text (Err e) → IsErr result → Writes taken failed old new text result
+Writes-failed {taken} {failed} old new text e (Ok y) a is = absurd (cc)
+Writes-failed {taken} {failed} old new text e (Err f) a is = record { all = tt; sound = tt; prefix = a.prefix; failure = a.failure }
 
 -- if only the sink failed, the job ends with that
 pub only_write : (e : ReportFault) (ending : Ending) → e ≡ report.Sink → IsErrAnd ending (λ reason. reason ≡ reported e) → IsErrAnd ending (λ reason. reason ≡ failure.Write)

@@ -1,5 +1,5 @@
 -- A job that shows nothing but metas does the same on any two files with the same metas.
-use Rattle.std.proofs.Common.{◌↔◌, inl, inr, ℕ, List, Option, None, Some, true}
+use Rattle.std.proofs.Common.{◌≡◌, ◌↔◌, inl, inr, ℕ, List, Option, None, Some, true}
 use Rattle.bolt_format.specs.Metas.{HasMetaFault, HasSlotFault, IsChosen, IsInSlot}
 use Rattle.bolt_format.specs.declared.meta.Meta.{Meta}
 use Rattle.bolt_format.specs.declared.meta.MetaFault.{MetaFault}

@@ -21,7 +21,7 @@ module _ (file : List ℕ) (as_map : Bool) (checked : Checked) (same : bytes_of 
   own_roles =
       subst (λ (f : List ℕ). (roles : ℕ → Role) × AreRoles f (meta_of checked) roles) (sym same) (some_roles file (meta_of checked) trees right)
 
-  shown : Answer
+  abbrev shown : Answer
   shown = done (pages_shown as_map (bytes_of checked) (meta_of checked) own_roles.0)
 
   is_shown : IsPagesAnswer file as_map (meta_of checked) shown

@@ -1,8 +1,6 @@
 -- What is known of a file that is read, under whatever meta.
 use Rattle.std.proofs.Common.{◌≡◌, ℕ, List, Option, Some, None, Ok, Err, ap, inl, inr, refl, subst, sym}
 use Rattle.std.specs.Result.{IsErrAnd}
-use Rattle.std.proofs.Math.Logic.{∥∥₁_elim}
-use Rattle.std.proofs.Props.{props}
 use Rattle.bolt_check.specs.CheckedFiles.{bytes_of, meta_of}
 use Rattle.bolt_check.specs.declared.checked_file.Checked.{Checked}
 use Rattle.bolt_format.specs.Metas.{IsInSlot, IsMeta, IsPageSize}

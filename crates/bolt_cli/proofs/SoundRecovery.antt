@@ -22,7 +22,7 @@ use Rattle.bolt_report.specs.declared.form.ListForm.{ListForm}
 use Rattle.bolt_tree.specs.Listing.{IsListing, Member}
 use Rattle.bolt_tree.specs.Paths.{Path}
 use Rattle.bolt_cli.specs.SnapshotAnswers.{hash_differs}
-use Rattle.bolt_cli.specs.Answers.{Answer, Compacts, Ending, IsEndedOrCut, IsListedAnswer, IsRecoveredUnder, IsShownMeta, IsUnrecoverableUnder, MakesCopy, Recovers, WritesCopy, copy_page_size, copy_report, lost_ending, part_ending, part_text}
+use Rattle.bolt_cli.specs.Answers.{Answer, Ending, IsEndedOrCut, IsListedAnswer, IsRecoveredUnder, IsShownMeta, IsUnrecoverableUnder, MakesCopy, WritesCopy, copy_page_size, copy_report, lost_ending, part_ending, part_text}
 use Rattle.bolt_cli.specs.declared.page_size.PageSize.{PageSize}
 
 -- what the laws of the crates below say

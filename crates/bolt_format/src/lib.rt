@@ -33,8 +33,8 @@ pub use header::HEADER_LEN;
 pub use kind::Kind;
 pub use mem_sink::MemSink;
 pub use meta::{
-    META_LEN, METAS_END, Meta, MetaFault, NO_FREELIST, Slot, choose, meta_at, metas_end, page_size_ok,
-    slot_meta,
+    META_LEN, METAS_END, Meta, MetaFault, NO_FREELIST, Slot, choose, meta_at, metas_end,
+    page_size_ok, slot_meta,
 };
 pub use open_bucket::{head, inline};
 pub use open_freelist::{free_ids, free_ids_at};

@@ -19,21 +19,21 @@ pub returns-then-hash_differs : goal.returns-then-hash_differs
 returns-then-hash_differs g c =
     inr (inl (meta_of c.in_ok-checked.checked, c.in_ok-checked.ensures.sound, sym c.hash_differs.ensures ∙ c.if-hash_differs.true, refl, refl, refl))
 
-pub shape_of-requires : goal.shape_of-requires
-shape_of-requires g c = subst (λ (m : Meta). IsPageSize m.page_size) (sym c.meta-meta.ensures) (read_page_size _ _ _ c.in_ok-checked.ensures.sound)
+pub shape_of-shape-requires : goal.shape_of-shape-requires
+shape_of-shape-requires g c = subst (λ (m : Meta). IsPageSize m.page_size) (sym c.meta-meta.ensures) (read_page_size _ _ _ c.in_ok-checked.ensures.sound)
 
 pub returns-in_err-length : goal.returns-in_err-length
 returns-in_err-length g c =
     copy_stopped g.T.Sink.taken g.T.Sink.failed c.args.target.now c.copy_checked.new.target g.O.Sink.taken g.O.Sink.failed c.args.out.now
     c.args.file.now c.args.job.now c.in_ok-checked.checked c.in_ok-checked.ensures.bytes c.in_ok-checked.ensures.sound (sym c.hash_differs.ensures ∙ c.if-hash_differs.false)
-    c.shape_of.result (c.shape_of.ensures.shape ∙ ap (shape_of c.args.job.now) c.meta-meta.ensures) _ _ c.in_err-length.ensures c.from_residual-in_err-length.ensures.1
+    c.shape_of-shape.result (c.shape_of-shape.ensures.shape ∙ ap (shape_of c.args.job.now) c.meta-meta.ensures) _ _ c.in_err-length.ensures c.from_residual-in_err-length.ensures.1
 
 pub returns : goal.returns
 returns g c =
     copy_reported g.T.Sink.taken g.T.Sink.failed c.args.target.now c.copy_checked.new.target g.O.Sink.taken g.O.Sink.failed c.args.out.now
     c.args.file.now c.args.job.now c.in_ok-checked.checked c.in_ok-checked.ensures.bytes c.in_ok-checked.ensures.sound (sym c.hash_differs.ensures ∙ c.if-hash_differs.false)
-    c.shape_of.result (c.shape_of.ensures.shape ∙ ap (shape_of c.args.job.now) c.meta-meta.ensures) c.in_ok-length.length c.put_report.new.out _
-    c.in_ok-length.ensures c.shape_of.ensures.accepted
+    c.shape_of-shape.result (c.shape_of-shape.ensures.shape ∙ ap (shape_of c.args.job.now) c.meta-meta.ensures) c.in_ok-length.length c.put_report.new.out _
+    c.in_ok-length.ensures c.shape_of-shape.ensures.accepted
     (λ listing trees is. subst (λ (m : Meta). HasGoodCopies listing m.root_sequence) c.meta-meta.ensures
     (c.file_has_good_copies.ensures.sound (meta_of c.in_ok-checked.checked) listing trees is))
     c.put_report.ensures
