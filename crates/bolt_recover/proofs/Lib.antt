@@ -5,6 +5,7 @@ mod FoundAll
 mod FoundExists
 mod FoundLemmas
 mod HeldMembers
+mod JoinedLemmas
 mod Leading
 pub mod LeftMembers
 mod LostWays

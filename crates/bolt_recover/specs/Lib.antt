@@ -1,4 +1,5 @@
 pub mod Found
+pub mod Joined
 pub mod KeptPages
 pub mod Losses
 pub mod PageWays

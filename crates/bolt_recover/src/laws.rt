@@ -1,6 +1,6 @@
 //! What the definitions of recovery imply.
 ghost use Rattle.std.specs.List.{Contains, count_by};
-ghost use Rattle.std.specs.Prelude.{◌≡◌, ◌<◌, ◌⊎◌, ℕ, [], List, None, Some, is_some, length};
+ghost use Rattle.std.specs.Prelude.{◌≡◌, ◌<◌, ◌⊎◌, ℕ, [], true, List, None, Some, filter, is_some, length, not};
 ghost use Rattle.bolt_format.specs.Bytes.{IsBytes};
 ghost use Rattle.bolt_format.specs.declared.meta.Meta.{Meta};
 ghost use Rattle.bolt_check.specs.LoneLeaves.{IsListedFree, IsLoneLeaf};
@@ -13,6 +13,7 @@ ghost use Rattle.bolt_tree.specs.Listing.{IsListing, Member};
 ghost use Rattle.bolt_tree.specs.Paths.{Holds, Path};
 ghost use Rattle.bolt_tree.specs.Tree.{Tree, listing_of};
 ghost use Rattle.bolt_recover.specs.Found.{AreFound, IsFoundPage};
+ghost use Rattle.bolt_recover.specs.Joined.{IsJoined, is_found_path};
 ghost use Rattle.bolt_recover.specs.KeptPages.{IsKeptPage};
 ghost use Rattle.bolt_recover.specs.Losses.{AreLosses, LossView, loss_of, losses_of};
 ghost use Rattle.bolt_recover.specs.PageWays.{ArePageWays};
@@ -140,4 +141,26 @@ pub fn no_intact_leaf_is_left_behind()
     ensures { (file : List ℕ) (meta : Meta) (found : List ℕ) (survey : List Visit) (way : List ℕ) (x : Finding) (n : ℕ) → AreFound file meta found → IsSurvey file meta survey → Has survey (lost way x)
         → IsLoneLeaf (node_at file meta) (λ k. ⊥) n → (IsListedFree file meta n → ⊥)
         → (k : ℕ) × SpanAt (node_at file meta) (At_page (root_spot n)) k × (IsKeptPage file meta survey k ⊎ IsFoundPage file meta found k) }
+{}
+
+/// A file has at most one joined listing.
+pub fn joined_listing_is_one()
+    ensures { (file : List ℕ) (meta : Meta) (a b : List Member) → IsJoined file meta a → IsJoined file meta b → a ≡ b }
+{}
+
+/// Each file has a joined listing.
+pub fn each_file_has_a_joined_listing()
+    ensures { (file : List ℕ) (meta : Meta) → (listing : List Member) × IsJoined file meta listing }
+{}
+
+/// A joined listing is what a tree of buckets lists.
+pub fn joined_listing_is_of_a_tree()
+    ensures { (file : List ℕ) (meta : Meta) (listing : List Member) → IsJoined file meta listing → (tree : Tree) × (listing ≡ listing_of tree) }
+{}
+
+/// What isn't in the bucket of what is found is exactly the recovered listing, if that has no entry
+/// with the bucket's key itself.
+pub fn joined_listing_keeps_what_is_recovered()
+    ensures { (file : List ℕ) (meta : Meta) (listing recovered : List Member) → IsJoined file meta listing → IsRecovered file meta recovered
+        → ((m : Member) → Contains recovered m → not (is_found_path m.0) ≡ true) → filter (λ (m : Member). not (is_found_path m.0)) listing ≡ recovered }
 {}

@@ -35,7 +35,7 @@ pub mod PathEntries
 pub mod PathOrder
 pub mod PlaceLemmas
 pub mod PlaceMoves
-mod ReadBack
+pub mod ReadBack
 pub mod RootLemmas
 pub mod SeekBounds
 pub mod SeekCounts

@@ -1,0 +1,70 @@
+-- The recovered listing, joined with what is found: docs/RECOVERY.md, "The joined listing".
+use Rattle.std.specs.Prelude.{◌≡◌, ◌==◌, ◌&&◌, ◌+◌, ◌/◌, ◌%◌, ℕ, zero, suc, Bool, false, List, [], ◌∷◌, ◌++◌, None, codes, if◌then◌else◌, is_none, map}
+use Rattle.std.specs.Ordering.{is_eq}
+use Rattle.bolt_format.specs.Elements.{LeafElement, head_root, head_sequence, inline_elements}
+use Rattle.bolt_format.specs.Pages.{page_at}
+use Rattle.bolt_format.specs.declared.meta.Meta.{Meta}
+use Rattle.bolt_check.specs.Keys.{Key, key_cmp, key_lt, keys_order_fault}
+use Rattle.bolt_tree.specs.Listing.{Member}
+use Rattle.bolt_tree.specs.Paths.{Path}
+use Rattle.bolt_tree.specs.Tree.{Tree, end, listing_of, tree_of, with_bucket, with_value}
+use Rattle.bolt_recover.specs.Found.{AreFound}
+use Rattle.bolt_recover.specs.Places.{leaves_of}
+use Rattle.bolt_recover.specs.Recovered.{IsRecovered}
+
+-- the bucket of what is found
+abbrev pub lost_and_found : Key
+lost_and_found = codes "lost+found"
+
+-- a path into it, or to it
+abbrev pub is_found_path : Path → Bool
+is_found_path [] = false
+is_found_path (key ∷ path) = is_eq (key_cmp key lost_and_found)
+
+-- a number in so many decimal digits
+abbrev pub decimal : ℕ → ℕ → List ℕ
+decimal zero n = []
+decimal (suc count) n = decimal count (n / 10) ++ (48 + n % 10) ∷ []
+
+-- in it, the bucket of a found page has the page's number in sixteen digits as its key
+abbrev pub page_key : ℕ → Key
+page_key n = decimal 16 n
+
+-- elements as a tree, with what each bucket among them holds
+abbrev pub tree_with : (LeafElement → Tree) → List LeafElement → Tree
+tree_with inside [] = end
+tree_with inside (e ∷ elements) =
+    if e.is_bucket then with_bucket e.key (head_sequence e.value) (inside e) (tree_with inside elements)
+    else with_value e.key e.value (tree_with inside elements)
+
+-- An inline bucket holds its elements if their keys rise. What a bucket with a root page holds is kept, found or lost by itself.
+abbrev pub inside_of : LeafElement → Tree
+inside_of e =
+    if (head_root e.value == 0) && is_none (keys_order_fault None None None (map (λ (inner : LeafElement). inner.key) (inline_elements e.value)))
+    then tree_with (λ inner. end) (inline_elements e.value) else end
+
+-- found pages with their elements
+abbrev pub found_tree : List (ℕ × List LeafElement) → Tree
+found_tree [] = end
+found_tree ((n, elements) ∷ found) = with_bucket (page_key n) 0 (tree_with inside_of elements) (found_tree found)
+
+-- a tree with one bucket more, before the first key that is above its own
+abbrev pub put_bucket : Key → Tree → Tree → Tree
+put_bucket key inside end = with_bucket key 0 inside end
+put_bucket key inside (with_value k value after) =
+    if key_lt k key then with_value k value (put_bucket key inside after) else with_bucket key 0 inside (with_value k value after)
+put_bucket key inside (with_bucket k sequence own after) =
+    if key_lt k key then with_bucket k sequence own (put_bucket key inside after) else with_bucket key 0 inside (with_bucket k sequence own after)
+
+-- the recovered listing and, if a page is found, the bucket of what is found
+abbrev pub joined_listing : List Member → List (ℕ × List LeafElement) → List Member
+joined_listing recovered [] = recovered
+joined_listing recovered (page ∷ found) = listing_of (put_bucket lost_and_found (found_tree (page ∷ found)) (tree_of recovered))
+
+-- the joined listing of a file under a meta
+pub record IsJoined (file : List ℕ) (meta : Meta) (listing : List Member) : Type 0 where
+  pub recovered : List Member
+  pub recovers : IsRecovered file meta recovered
+  pub found : List ℕ
+  pub are_found : AreFound file meta found
+  pub joined : listing ≡ joined_listing recovered (map (λ n. (n, leaves_of (page_at file meta n))) found)
