@@ -3,7 +3,7 @@ use Rattle.std.proofs.Common.{◌≡◌, ◌≢◌, ◌∙◌, ℕ, ◌+◌, ◌
 use Rattle.std.proofs.KnownBytes.{Appends-nil}
 use Rattle.std.proofs.lemmas.List.{length-append}
 use Rattle.bolt_format.proofs.SinkLemmas.{AppendsPrefix-whole, AppendsProperPrefix-first, AppendsProperPrefix-second, more_some}
-use Rattle.bolt_format.proofs.WroteLemmas.{Wrote-cut, Wrote-halt, Wrote-none, Wrote-return_cut, Wrote-stop, Wrote-stop_cut, Wrote-stop_halted, Wrote-then}
+use Rattle.bolt_format.proofs.WroteLemmas.{Wrote-cut, Wrote-halt, Wrote-none, Wrote-return_cut, Wrote-stop, Wrote-stop_cut, Wrote-stop_halted, Wrote-then, Wrote-unkept}
 use Rattle.bolt_format.specs.Endings.{whole, halted}
 use Rattle.bolt_format.specs.Pages.{PageView}
 use Rattle.bolt_format.specs.Sinks.{AppendsPrefix, AppendsProperPrefix}
@@ -119,4 +119,4 @@ pub ruleset nothing_put = (after_error, proper_none, page_some, one_some, Wrote-
 pub ruleset stops = (Wrote-stops, AppendsProperPrefix-first)
 
 -- one text after another
-pub ruleset puts = (Wrote-then, Wrote-return_cut, Wrote-stop_cut, Wrote-none)
+pub ruleset puts = (Wrote-then, Wrote-return_cut, Wrote-stop_cut, Wrote-none, Wrote-unkept)

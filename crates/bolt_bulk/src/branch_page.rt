@@ -52,6 +52,9 @@ pub(crate) fn put_branch_page<S: Sink>(
     requires few { length run.now.elements.items < 65536 }
     ensures { Wrote S.Sink sink.old sink.new (placed_bytes setup.now.page_size (run_page setup.now.page_size (run_view run.now) number ∷ [])) (page_ending result) }
 {
+    if sink.keeps_nothing() {
+        return Ok(());
+    }
     let branches = run.elements.as_slice();
     let zeros = put_page_header(setup, number, Kind::Branch, branches.len(), run.size, sink)?;
     put_headers(branches, sink)?;

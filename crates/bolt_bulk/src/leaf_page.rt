@@ -71,6 +71,9 @@ pub(crate) fn put_leaf_page<S: Sink>(
     requires { IsLeafRun run.now }
     ensures { Wrote S.Sink sink.old sink.new (page_bytes setup.now.page_size number (leaf_page setup.now.page_size (leaves_of run.now) number).view) (page_ending result) }
 {
+    if sink.keeps_nothing() {
+        return Ok(());
+    }
     let items = run.items.as_slice();
     let inlined = run.inlined.as_slice();
     let zeros = put_page_header(setup, number, Kind::Leaf, items.len(), run.size, sink)?;

@@ -19,4 +19,8 @@ impl Sink for NoSink {
     fn failures(&self) -> u64 {
         0
     }
+
+    fn keeps_nothing(&self) -> bool {
+        true
+    }
 }

@@ -1,6 +1,7 @@
 -- One text after another on a sink.
-use Rattle.std.proofs.Common.{◌≡◌, ◌∙◌, ◌+◌, ℕ, suc, List, [], ◌++◌, Some, Result, Ok, Err, add-one, ap, drop, flat_map, refl, slice_get, subst, sym, take}
+use Rattle.std.proofs.Common.{◌≡◌, ◌∙◌, ◌+◌, ℕ, suc, List, [], ◌++◌, None, Option, Some, Result, Ok, Err, add-one, ap, drop, flat_map, refl, slice_get, subst, sym, take}
 use Rattle.std.specs.Prelude.{IsErr}
+use Rattle.std.specs.Io.KnownBytes.{Appends}
 use Rattle.std.proofs.KnownBytes.{Appends-nil, Appends-trans}
 use Rattle.bolt_format.proofs.ListLemmas.{flat_map-cut_at, flat_map-take_more}
 use Rattle.bolt_format.proofs.SinkLemmas.{AppendsPrefix-first, AppendsPrefix-none, AppendsPrefix-second, AppendsProperPrefix-first, AppendsProperPrefix-prefix, AppendsProperPrefix-second}
@@ -89,6 +90,10 @@ Wrote-return_cut second result a err = Wrote-ends (cut_by result err) (Wrote-sto
 -- nothing is put, and the call gave up
 pub Wrote-halt : {S : Type 0} {sink : Ghosts S} (old : S) (text : List ℕ) → Wrote sink old old text halted
 Wrote-halt {sink} old text = record { appends = AppendsPrefix-none (sink.taken old) text; failures = refl }
+
+-- a sink that keeps nothing, which isn't given the text
+pub Wrote-unkept : {S : Type 0} {sink : Ghosts S} (old : S) (text : List ℕ) → sink.taken old ≡ None → Wrote sink old old text whole
+Wrote-unkept {sink} old text none = record { appends = subst (λ (t : Option (List ℕ)). Appends t t text) (sym none) tt; failures = refl }
 
 -- one element more
 pub Wrote-element : {S X : Type 0} {sink : Ghosts S} (f : X → List ℕ) (xs : List X) (i : ℕ) (x : X) {old mid new : S} {end : Ending} → slice_get xs i ≡ Some x

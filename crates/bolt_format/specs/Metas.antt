@@ -92,6 +92,9 @@ abbrev pub IsInSlot : List ℕ → Slot → Meta → Type 0
 IsInSlot file Zero meta = IsMeta file 0 meta
 IsInSlot file One meta = IsInOne file meta
 
+abbrev pub HasBothMetas : List ℕ → Type 0
+HasBothMetas file = (slot : Slot) → (meta : Meta) × IsInSlot file slot meta
+
 -- how many bytes the metas need: to the end of slot one's record, if slot zero is valid, and else to the last place where it may be
 abbrev pub IsMetasEnd : List ℕ → ℕ → Type 0
 IsMetasEnd file end =

@@ -1,5 +1,5 @@
 //! Sinks: what output is written to.
-ghost use Rattle.std.specs.Prelude.{◌≡◌, ◌≢◌, ◌<◌, ℕ, List, [], Option, OnErr, OnOk, IsErr};
+ghost use Rattle.std.specs.Prelude.{◌≡◌, ◌≢◌, ◌<◌, ℕ, List, [], None, Option, OnErr, OnOk, IsErr, true};
 ghost use Rattle.std.specs.Io.KnownBytes.{Appends, Keeps};
 ghost use Rattle.bolt_format.specs.Sinks.{AppendsPrefix, AppendsProperPrefix};
 
@@ -38,4 +38,11 @@ pub trait Sink {
     /// The number of failures so far.
     fn failures(&self) -> u64
         ensures { result ≡ failed self.now };
+
+    /// Whether nothing is kept of what is put, so that a caller need not make the bytes.
+    fn keeps_nothing(&self) -> bool
+        ensures { result ≡ true → taken self.now ≡ None }
+    {
+        false
+    }
 }

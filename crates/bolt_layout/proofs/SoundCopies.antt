@@ -42,6 +42,7 @@ sound_copy passing lists which page_size tree sequence asked short =
     let file = layout_of which page_size tree sequence in
     let meta = layout_meta which page_size tree sequence 1 in
     record {
+      metas = sound.metas;
       chosen = sound.chosen;
       sound = record { slot = One; valid = sound.chosen.valid; trees = sound.trees; right = λ tested. sound.accounts };
       lists = lists file meta (Root_page (layout_root which page_size tree)) tree (layout_tree which page_size tree sequence asked.size asked.storable sound);

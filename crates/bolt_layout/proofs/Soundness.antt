@@ -5,11 +5,11 @@ use Rattle.std.proofs.Math.Nat.{mul-le-mul_left}
 use Rattle.std.proofs.lemmas.Bool.{cases_lt}
 use Rattle.std.proofs.lemmas.List.{append-nil, length-append}
 use Rattle.bolt_format.specs.Freelists.{free_ids_of, freelist_fault_of}
-use Rattle.bolt_format.specs.Metas.{IsChosen, IsMeta, IsPageSize}
+use Rattle.bolt_format.specs.Metas.{HasBothMetas, IsChosen, IsMeta, IsPageSize}
 use Rattle.bolt_format.specs.Pages.{PageView, page_fault, page_overflow}
 use Rattle.bolt_format.specs.declared.meta.Meta.{Meta}
 use Rattle.bolt_format.specs.declared.meta.TheConstants.{NO_FREELIST}
-use Rattle.bolt_format.specs.declared.meta.Slot.TheVariants.{One}
+use Rattle.bolt_format.specs.declared.meta.Slot.TheVariants.{Zero, One}
 use Rattle.bolt_check.specs.Accounts.{IsInUse, ListsFree, times_in}
 use Rattle.bolt_check.specs.Nodes.{node_at, node_of, node_seen}
 use Rattle.bolt_check.specs.Sound.{HasRightAccounts, HasSoundTrees, IsUsed, PassesTests}
@@ -111,6 +111,10 @@ pieces_stand page_size root sequence mark pages size r s m =
       placed = d3 ∙ sym (append-nil rest);
       long = all;
     }
+
+both_metas : (page_size root sequence mark : ℕ) (pages : List Placed) (file : List ℕ) → IsFile page_size root sequence mark pages file → HasBothMetas file
+both_metas page_size root sequence mark pages file is Zero = (copy_meta page_size root sequence mark 0, is.first)
+both_metas page_size root sequence mark pages file is One = (copy_meta page_size root sequence mark 1, inl (copy_meta page_size root sequence mark 0, is.first, is.second))
 
 -- what shows a page is a node
 node_shown : (file : List ℕ) (meta : Meta) (n : ℕ) (view : PageView) → IsShown file meta n view → node_at file meta n ≡ node_of view.kind view
@@ -220,6 +224,7 @@ laid_out which page_size tree sequence size storable sized short =
     }
 
 pub record IsSoundLayout (which : Layout) (page_size : ℕ) (tree : Tree) (sequence : ℕ) : Type 0 where
+  pub metas : HasBothMetas (layout_of which page_size tree sequence)
   pub chosen : IsChosen (layout_of which page_size tree sequence) One (layout_meta which page_size tree sequence 1)
   pub trees : HasSoundTrees (layout_of which page_size tree sequence) (layout_meta which page_size tree sequence 1)
   pub accounts : HasRightAccounts (layout_of which page_size tree sequence) (layout_meta which page_size tree sequence 1)
@@ -246,6 +251,7 @@ layout_sound law which page_size tree sequence size laid =
     let part = laid.page.part (node_at file meta) 3 (root_spot root) refl (omega arith) (omega arith) nodes (let deep = laid.low in omega arith) (within_none items) in
     let free = freelist_shown file meta 2 (placed_bytes page_size pages) stand.free (record { number = omega arith; further = omega arith; below = omega arith; within = omega arith }) (omega arith) in
     record {
+      metas = both_metas page_size root sequence mark pages file stand;
       chosen = chosen_of file page_size (copy_meta page_size root sequence mark 0) (copy_meta page_size root sequence mark 1) stand.first stand.second refl (omega arith);
       trees = law file meta (part_clean (node_at file meta) root 3 mark part (omega arith));
       accounts = accounts_of file page_size root sequence mark 1 free part;

@@ -1,6 +1,6 @@
 -- What a layout promises: docs/LAYOUT.md, "What holds of both layouts".
 use Rattle.std.specs.Prelude.{◌≡◌, ◌≤◌, ◌<◌, ◌^◌, ℕ, true, List, length, take}
-use Rattle.bolt_format.specs.Metas.{IsChosen, IsPageSize}
+use Rattle.bolt_format.specs.Metas.{HasBothMetas, IsChosen, IsPageSize}
 use Rattle.bolt_format.specs.declared.fault.TheConstants.PageFault.{CUT}
 use Rattle.bolt_format.specs.declared.meta.MetaFault.TheVariants.{Cut}
 use Rattle.bolt_format.specs.declared.meta.Slot.TheVariants.{One}
@@ -13,8 +13,9 @@ use Rattle.bolt_layout.specs.Layout.{layout_meta, layout_of}
 use Rattle.bolt_layout.specs.Storable.{IsStorable}
 use Rattle.bolt_layout.specs.declared.layout.Layout.{Layout}
 
--- the meta of slot one is active in the layout, which is sound for it, trees and accounts, and has this listing
+-- both metas are valid, and that of slot one is active in the layout, which is sound for it, trees and accounts, and has this listing
 pub record IsSoundCopy (which : Layout) (page_size : ℕ) (tree : Tree) (sequence : ℕ) (listing : List Member) : Type 0 where
+  pub metas : HasBothMetas (layout_of which page_size tree sequence)
   pub chosen : IsChosen (layout_of which page_size tree sequence) One (layout_meta which page_size tree sequence 1)
   pub sound : IsSound (layout_of which page_size tree sequence) (layout_meta which page_size tree sequence 1) true
   pub lists : IsListing (layout_of which page_size tree sequence) (layout_meta which page_size tree sequence 1) listing

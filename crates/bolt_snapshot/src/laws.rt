@@ -1,7 +1,7 @@
 //! What holds of a snapshot: of the bytes after the database, and of their hash.
 ghost use Rattle.std.specs.Prelude.{◌≡◌, ◌↔◌, ◌<◌, ◌+◌, ◌%◌, ◌++◌, ℕ, Bool, List, Some, length, take};
 ghost use Rattle.bolt_check.specs.Sound.{IsSound};
-ghost use Rattle.bolt_format.specs.Metas.{IsChosen};
+ghost use Rattle.bolt_format.specs.Metas.{HasBothMetas, IsChosen};
 ghost use Rattle.bolt_format.specs.declared.meta.Meta.{Meta};
 ghost use Rattle.bolt_format.specs.declared.meta.Slot.{Slot};
 ghost use Rattle.bolt_snapshot.specs.Marks.{HasAllPages};
@@ -9,9 +9,10 @@ ghost use Rattle.bolt_snapshot.specs.SnapshotFaults.{IsSnapshot, hash_fault, sna
 ghost use Rattle.bolt_snapshot.specs.declared.hash_check.SnapshotFault.TheVariants.{HashMissing};
 ghost use Rattle.bolt_tree.specs.Listing.{IsListing, Member};
 
-/// Bytes after the last page below the high-water mark change nothing: the same meta is active, the
-/// file stays sound, and it lists the same.
+/// Bytes after the last page below the high-water mark change nothing: metas stay valid, the same
+/// one is active, the file stays sound, and it lists the same.
 pub fn trailing_bytes_change_nothing()
+    ensures metas { (file more : List ℕ) → HasBothMetas file → HasBothMetas (file ++ more) }
     ensures chosen { (file more : List ℕ) (slot : Slot) (meta : Meta) (accounts : Bool) → HasAllPages file meta
         → IsSound file meta accounts → IsChosen file slot meta → IsChosen (file ++ more) slot meta }
     ensures sound { (file more : List ℕ) (meta : Meta) (accounts : Bool) → HasAllPages file meta

@@ -1,8 +1,11 @@
 -- Each page is as it was, and so is all that is said of pages.
 use Rattle.bolt_snapshot.proofs.TrailingAccounts.{sound_more}
-use Rattle.bolt_snapshot.proofs.TrailingMetas.{chosen_more}
+use Rattle.bolt_snapshot.proofs.TrailingMetas.{chosen_more, in_slot_more}
 use Rattle.bolt_snapshot.proofs.TrailingTrees.{listing_more}
 use Rattle.bolt_snapshot.proofs.laws.trailing_bytes_change_nothing.Goals as goal
+
+pub returns-clause-metas : goal.returns-clause-metas
+returns-clause-metas c = λ file more both slot. let (meta, valid) = both slot in (meta, in_slot_more file more slot meta valid)
 
 pub returns-clause-chosen : goal.returns-clause-chosen
 returns-clause-chosen c = λ file more slot meta accounts all sound chosen. chosen_more file more slot meta all sound.trees chosen
