@@ -25,19 +25,32 @@ pub(crate) struct BucketLimits<'a> {
     pub bucket: u64,
 }
 
-/// Returns how many runs may begin after the first one of a row, and whether the row above loses
-/// its last item because this row has one page less. `run` is the last open run of the row in the
-/// plain layout, and the page under way joins it. If `lost` is set, this row itself has lost its
-/// last item.
-fn row_limit(lost: bool, run: &BranchRun<'_>) -> (Option<u64>, bool)
-    ensures { (rows : List (ℕ × ℕ)) → limits_from_ends lost (run_end run.now ∷ rows) ≡ result.0 ∷ limits_from_ends result.1 rows }
+/// How a row ends in the balanced layout.
+#[derive(Clone, Copy)]
+struct RowLimit {
+    /// How many runs may begin after the first one. `None` if any number may.
+    left: Option<u64>,
+    /// Whether the row above loses its last item, because this row has one page less.
+    loses: bool,
+}
+
+/// The limit of a row. `run` is the last open run of the row in the plain layout, and the page under
+/// way joins it. If `lost` is set, this row itself has lost its last item.
+fn row_limit(lost: bool, run: &BranchRun<'_>) -> RowLimit
+    ensures { (rows : List (ℕ × ℕ)) → limits_from_ends lost (run_end run.now ∷ rows) ≡ result.left ∷ limits_from_ends result.loses rows }
 {
     let before = run.elements.len();
     let single = if lost { 1 } else { 0 };
     if before == single && run.closed > 0 {
-        return (Some(run.closed - 1), true);
+        return RowLimit {
+            left: Some(run.closed - 1),
+            loses: true,
+        };
     }
-    (None, lost && before == 0)
+    RowLimit {
+        left: None,
+        loses: lost && before == 0,
+    }
 }
 
 impl Limits {
@@ -74,11 +87,11 @@ impl Limits {
     {
         let mut lost = false;
         for level in 0..runs.len() {
-            let (limit, loses) = row_limit(lost, &runs[level]);
-            if let Some(left) = limit {
+            let limit = row_limit(lost, &runs[level]);
+            if let Some(left) = limit.left {
                 self.set(bucket, level, left)?;
             }
-            lost = loses;
+            lost = limit.loses;
         }
         Ok(())
     }

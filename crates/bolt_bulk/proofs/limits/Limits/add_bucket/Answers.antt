@@ -21,21 +21,21 @@ loop-level-preserved c =
     elim c.match-limit.branch [
       | in-Some+in_ok-set w ↦
           let set = w.in_ok-set.ensures in
-          let step = λ (fresh : (k : ℕ) → limit_in c.args.self.now c.args.bucket k ≡ None). noted_step rows c.loop-level.lost c.row_limit-limit.result.1 i row c.row_limit-limit.result.0 (limit_in c.loop-level.self c.args.bucket) (limit_in w.set.new.self c.args.bucket) at c.row_limit-limit.ensures
+          let step = λ (fresh : (k : ℕ) → limit_in c.args.self.now c.args.bucket k ≡ None). noted_step rows c.loop-level.lost c.row_limit-limit.result.loses i row c.row_limit-limit.result.left (limit_in c.loop-level.self c.args.bucket) (limit_in w.set.new.self c.args.bucket) at c.row_limit-limit.ensures
           (before.below fresh) (before.above fresh) before.rest (set.row ∙ sym w.in-Some.is) (λ k other. set.others c.args.bucket k (inr other)) in
           record {
             below = λ fresh k less. ap (λ (l : Limits). limit_in l c.args.bucket k) w.self-is ∙ (step fresh).0 k less;
             above = λ fresh k more. ap (λ (l : Limits). limit_in l c.args.bucket k) w.self-is ∙ (step fresh).1 k more;
-            rest = noted_rest rows c.loop-level.lost c.row_limit-limit.result.1 i row c.row_limit-limit.result.0 at c.row_limit-limit.ensures before.rest;
+            rest = noted_rest rows c.loop-level.lost c.row_limit-limit.result.loses i row c.row_limit-limit.result.left at c.row_limit-limit.ensures before.rest;
             others = λ b k other. ap (λ (l : Limits). limit_in l b k) w.self-is ∙ (set.others b k (inl other) ∙ before.others b k other);
           }
       | in_default w ↦
-          let step = λ (fresh : (k : ℕ) → limit_in c.args.self.now c.args.bucket k ≡ None). noted_step rows c.loop-level.lost c.row_limit-limit.result.1 i row c.row_limit-limit.result.0 (limit_in c.loop-level.self c.args.bucket) (limit_in c.loop-level.self c.args.bucket) at c.row_limit-limit.ensures
+          let step = λ (fresh : (k : ℕ) → limit_in c.args.self.now c.args.bucket k ≡ None). noted_step rows c.loop-level.lost c.row_limit-limit.result.loses i row c.row_limit-limit.result.left (limit_in c.loop-level.self c.args.bucket) (limit_in c.loop-level.self c.args.bucket) at c.row_limit-limit.ensures
           (before.below fresh) (before.above fresh) before.rest (before.above fresh i (omega arith) ∙ sym w.in_default.is) (λ k other. refl) in
           record {
             below = λ fresh k less. ap (λ (l : Limits). limit_in l c.args.bucket k) w.self-is ∙ (step fresh).0 k less;
             above = λ fresh k more. ap (λ (l : Limits). limit_in l c.args.bucket k) w.self-is ∙ (step fresh).1 k more;
-            rest = noted_rest rows c.loop-level.lost c.row_limit-limit.result.1 i row c.row_limit-limit.result.0 at c.row_limit-limit.ensures before.rest;
+            rest = noted_rest rows c.loop-level.lost c.row_limit-limit.result.loses i row c.row_limit-limit.result.left at c.row_limit-limit.ensures before.rest;
             others = λ b k other. ap (λ (l : Limits). limit_in l b k) w.self-is ∙ before.others b k other;
           }
     ]
