@@ -4,14 +4,15 @@
 _luntsegi_options() {
     case $1 in
         info) echo --meta ;;
+        page) echo --assume-meta ;;
         pages) echo --map ;;
-        check) echo --all --etcd-snapshot --meta ;;
-        buckets) echo --sizes --form --parts --meta ;;
-        keys) echo --prefix --form --parts --meta ;;
-        get) echo --no-newline -n --form --parts --meta ;;
-        stats) echo --parts --meta ;;
-        list) echo --from --form --parts --recover --meta ;;
-        compact) echo -o --page-size --for-bbolt --etcd-snapshot --recover --meta ;;
+        check) echo --all --etcd-snapshot --meta --assume-meta ;;
+        buckets) echo --sizes --form --parts --meta --assume-meta ;;
+        keys) echo --prefix --form --parts --meta --assume-meta ;;
+        get) echo --no-newline -n --form --parts --meta --assume-meta ;;
+        stats) echo --parts --meta --assume-meta ;;
+        list) echo --from --form --parts --recover --meta --assume-meta ;;
+        compact) echo -o --page-size --for-bbolt --etcd-snapshot --recover --meta --assume-meta ;;
     esac
 }
 
@@ -33,7 +34,7 @@ _luntsegi_wants_file() {
         word=${COMP_WORDS[at]}
         case $word in
             --) ;;
-            --form | --parts | --meta | --from | --prefix | --page-size | -o)
+            --form | --parts | --meta | --assume-meta | --from | --prefix | --page-size | -o)
                 [[ ${COMP_WORDS[at + 1]} == = ]] && ((at++))
                 ((at++))
                 ;;
@@ -84,7 +85,7 @@ _luntsegi_argument() {
         --form | --parts | --meta)
             _luntsegi_words "$(_luntsegi_values "${COMP_WORDS[1]}" "$option")" "$1"
             ;;
-        --from | --prefix | --page-size) ;;
+        --from | --prefix | --page-size | --assume-meta) ;;
         *) _luntsegi_option_or_operand "$1" ;;
     esac
 }

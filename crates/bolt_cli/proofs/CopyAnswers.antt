@@ -58,13 +58,13 @@ module _ {T O : Type 0} (taken : T → Option (List ℕ)) (failed : T → ℕ) (
 
   -- ---- the copy of a sound file
 
-  module _ (file : List ℕ) (job : CompactJob) (checked : Checked) (same : bytes_of checked ≡ file) (under : IsReadUnder file job.slot (meta_of checked))
+  module _ (file : List ℕ) (job : CompactJob) (checked : Checked) (same : bytes_of checked ≡ file) (under : IsReadUnder file job.meta (meta_of checked))
       (same_hash : hash_differs (kinds.is_snapshot job.kind) file ≡ false) (shape : CopyShape) (is : shape ≡ shape_of job (meta_of checked)) where
     own_listing : (listing : List Member) × IsListing file (meta_of checked) listing
-    own_listing = has_listing file (meta_of checked) (read_trees file job.slot (meta_of checked) under)
+    own_listing = has_listing file (meta_of checked) (read_trees file job.meta (meta_of checked) under)
 
     abbrev Copied : O → Ending → Type 0
-    Copied out_after ending = Compacts out_taken out_failed out out_after taken failed old new file job.slot job.page_size (kinds.layout_for job.kind) (kinds.is_snapshot job.kind) ending
+    Copied out_after ending = Compacts out_taken out_failed out out_after taken failed old new file job.meta job.page_size (kinds.layout_for job.kind) (kinds.is_snapshot job.kind) ending
 
     abbrev EndedFor : Result ℕ BulkFault → List Member → Type 0
     EndedFor result listing = EndsCopy taken failed old new (layout_for shape.layout checked shape.page_size listing) shape.snapshot result
@@ -96,11 +96,11 @@ module _ {T O : Type 0} (taken : T → Option (List ℕ)) (failed : T → ℕ) (
     copy_reported count out_after ending promised size good does =
         as_copied out_after ending
         (reported shape (meta_of checked).root_sequence own_listing.0 (copy_report false [] (length file)) count out_after ending (here promised) size
-        (good own_listing.0 (read_trees file job.slot (meta_of checked) under) own_listing.1) does)
+        (good own_listing.0 (read_trees file job.meta (meta_of checked) under) own_listing.1) does)
 
   -- ---- the copy of what is recovered
 
-  module _ (file : List ℕ) (job : CompactJob) (meta : Meta) (under : IsRecoveredUnder file job.slot meta) (read : List ℕ) (same : read ≡ file)
+  module _ (file : List ℕ) (job : CompactJob) (meta : Meta) (under : IsRecoveredUnder file job.meta meta) (read : List ℕ) (same : read ≡ file)
       (shape : CopyShape) (is : shape ≡ shape_of job meta) where
     recovered : (listing : List Member) × IsRecovered file meta listing
     recovered = has_recovered file meta
@@ -109,7 +109,7 @@ module _ {T O : Type 0} (taken : T → Option (List ℕ)) (failed : T → ℕ) (
     lost = has_losses file meta
 
     abbrev CopiedRest : O → Ending → Type 0
-    CopiedRest out_after ending = Recovers out_taken out_failed out out_after taken failed old new file job.slot job.page_size (kinds.layout_for job.kind) (kinds.is_snapshot job.kind) ending
+    CopiedRest out_after ending = Recovers out_taken out_failed out out_after taken failed old new file job.meta job.page_size (kinds.layout_for job.kind) (kinds.is_snapshot job.kind) ending
 
     -- what is promised of each listing that is recovered of what is read holds of the one that there is
     there : {P : List Member → Type 0} → ForRecovered read meta P → P recovered.0

@@ -25,6 +25,7 @@ use Rattle.bolt_cli.specs.Answers.{Answer, AnswersLosses, IsCheckAnswer, IsCheck
 use Rattle.bolt_cli.specs.GoodCopies.{IsGoodCopy, RefusesFile}
 use Rattle.bolt_cli.specs.SnapshotAnswers.{copy_of, hash_found}
 use Rattle.bolt_cli.specs.declared.failure.Failure.TheVariants as failure
+use Rattle.bolt_cli.specs.declared.meta_choice.MetaChoice.TheVariants.{Active}
 
 pub record Laws : Type 0 where
   pub one : (file : List ℕ) (slot : Slot) (meta : Meta) → IsChosen file slot meta → (other : Slot) (another : Meta) → IsChosen file other another → (other ≡ slot) × (another ≡ meta)
@@ -94,27 +95,27 @@ module _ (laws : Laws) where
 
   module _ (hash : Option SnapshotFault) (file : List ℕ) (slot : Slot) (meta : Meta) (answer : Answer) (right : hash ≡ None) (chosen : IsChosen file slot meta)
       (sound : IsSound file meta true) where
-    fine_found : IsFoundAnswer hash file None answer → IsFine answer
+    fine_found : IsFoundAnswer hash file Active answer → IsFine answer
     fine_found (inl (own, under, said)) = inl (said ∙ ap none_found right)
     fine_found (inr (fault, is, said)) = inr (said ∙ ap (check_refusal hash) (only_memory file slot meta chosen sound fault is))
 
-    fine_losses : (losses : List LossView) → losses ≡ [] → AnswersLosses hash file None losses answer → IsFine answer
+    fine_losses : (losses : List LossView) → losses ≡ [] → AnswersLosses hash file Active losses answer → IsFine answer
     fine_losses [] none is = fine_found is
     fine_losses (loss ∷ losses) none is = absurd (cc)
 
-    fine_all : IsCheckAnswerAfter true hash file None answer → IsFine answer
-    fine_all (inl (own, (other, is, keeps), inl (losses, are, answers))) =
+    fine_all : IsCheckAnswerAfter true hash file Active answer → IsFine answer
+    fine_all (inl (own, ((other, is), keeps), inl (losses, are, answers))) =
         let same = (laws.one file slot meta chosen other own is).1 in
         fine_losses losses (loses_nothing file own losses (subst (HasSoundTrees file) (sym same) sound.trees) are) answers
     fine_all (inl (own, under, inr said)) = inr said
     fine_all (inr (fault, is, said)) = inr (said ∙ ap (all_refusal hash) (recovers file slot meta chosen sound fault is))
 
-    fine : (all : Bool) → IsCheckAnswerAfter all hash file None answer → IsFine answer
+    fine : (all : Bool) → IsCheckAnswerAfter all hash file Active answer → IsFine answer
     fine false is = fine_found is
     fine true is = fine_all is
 
   pub passes : (all snapshot : Bool) (layout : List ℕ) (listing : List Member) (answer : Answer) → IsGoodCopy snapshot layout listing
-      → IsCheckAnswer all snapshot (copy_of snapshot layout) None answer → (answer ≡ done (codes "OK\n")) ⊎ (answer ≡ refused failure.Memory)
+      → IsCheckAnswer all snapshot (copy_of snapshot layout) Active answer → (answer ≡ done (codes "OK\n")) ⊎ (answer ≡ refused failure.Memory)
   passes all snapshot layout listing answer good is =
       let (slot, meta, chosen, sound, lists) = good.accepted in
       fine (hash_found snapshot (copy_of snapshot layout)) (copy_of snapshot layout) slot meta answer (no_hash_fault snapshot (copy_of snapshot layout) good.hash) chosen sound all is
@@ -138,23 +139,23 @@ module _ (laws : Laws) where
   ends_so answer other said not same = not (sym (ap (λ (a : Answer). a.ending) said) ∙ same)
 
   module _ (hash : Option SnapshotFault) (file : List ℕ) (answer : Answer) where
-    fails_found : RefusesFile file ⊎ (hash ≡ Some HashMissing) → IsFoundAnswer hash file None answer → answer.ending ≢ Ok 0
+    fails_found : RefusesFile file ⊎ (hash ≡ Some HashMissing) → IsFoundAnswer hash file Active answer → answer.ending ≢ Ok 0
     fails_found why (inr (fault, is, said)) = ends_so answer (check_refusal hash fault) said (not_ok hash fault)
     fails_found (inl (fault, other, is)) (inl (meta, (slot, chosen, sound), said)) = absurd (other (only_memory file slot meta chosen sound fault is))
     fails_found (inr missing) (inl (meta, under, said)) = ends_so answer (found (Some HashMissing) []) (said ∙ ap none_found missing) (λ same. cc)
 
-    fails_losses : (losses : List LossView) → RefusesFile file ⊎ (hash ≡ Some HashMissing) → AnswersLosses hash file None losses answer → answer.ending ≢ Ok 0
+    fails_losses : (losses : List LossView) → RefusesFile file ⊎ (hash ≡ Some HashMissing) → AnswersLosses hash file Active losses answer → answer.ending ≢ Ok 0
     fails_losses [] why is = fails_found why is
     fails_losses (loss ∷ losses) why is = ends_so answer (losses_found hash (loss ∷ losses)) is (λ same. cc)
 
-    fails_after : (all : Bool) → RefusesFile file ⊎ (hash ≡ Some HashMissing) → IsCheckAnswerAfter all hash file None answer → answer.ending ≢ Ok 0
+    fails_after : (all : Bool) → RefusesFile file ⊎ (hash ≡ Some HashMissing) → IsCheckAnswerAfter all hash file Active answer → answer.ending ≢ Ok 0
     fails_after false why is = fails_found why is
     fails_after true why (inl (meta, under, inl (losses, are, answers))) = fails_losses losses why answers
     fails_after true why (inl (meta, under, inr said)) = ends_so answer (refused failure.Memory) said (λ same. cc)
     fails_after true why (inr (fault, is, said)) = ends_so answer (all_refusal hash fault) said (not_all_ok hash fault)
 
   pub fails : (all snapshot : Bool) (layout : List ℕ) (listing : List Member) (n : ℕ) (answer : Answer) → IsGoodCopy snapshot layout listing → n < length (copy_of snapshot layout)
-      → IsCheckAnswer all snapshot (take n (copy_of snapshot layout)) None answer → answer.ending ≢ Ok 0
+      → IsCheckAnswer all snapshot (take n (copy_of snapshot layout)) Active answer → answer.ending ≢ Ok 0
   fails all snapshot layout listing n answer good less is =
       let file = take n (copy_of snapshot layout) in
       fails_after (hash_found snapshot file) file answer all

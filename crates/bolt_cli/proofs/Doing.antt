@@ -11,11 +11,11 @@ use Rattle.bolt_report.specs.declared.fault.ReportFault.TheVariants as report
 use Rattle.bolt_cli.specs.Answers.{Answer, Does, Ending, IsFileRefusal, IsReadAnswer, IsRefusedUnder, refused}
 use Rattle.bolt_check.specs.declared.fault.CheckFault.{CheckFault}
 use Rattle.bolt_format.specs.declared.meta.Meta.{Meta}
-use Rattle.bolt_format.specs.declared.meta.Slot.{Slot}
 use Rattle.bolt_cli.specs.Failures.{HasFinding, IsFailureOf, reported}
 use Rattle.bolt_cli.specs.declared.failure.Failure.{Failure}
 use Rattle.bolt_cli.specs.declared.failure.Failure.TheVariants as failure
 use Rattle.bolt_cli.proofs.ReadFiles.{unread_finding}
+use Rattle.bolt_cli.specs.declared.meta_choice.MetaChoice.{MetaChoice}
 
 -- a text that no other fault but the sink's can stop
 pub Writes-reported : {S A : Type 0} {taken : S → Option (List ℕ)} {failed : S → ℕ} (old new : S) (text : List ℕ) (result : Result A ReportFault)
@@ -86,7 +86,7 @@ Does-refused taken failed old fault (Ok x) has is names = absurd names
 Does-refused taken failed old fault (Err said) has is names =
     (refused said, inr (fault, is, (said, names has, refl)), Does-nothing taken failed old said (Err said) refl)
 
-pub Does-unread : {S : Type 0} {IsAccepted : Meta → Answer → Type 0} (taken : S → Option (List ℕ)) (failed : S → ℕ) (old : S) (file : List ℕ) (slot : Option Slot) (fault : CheckFault) (ending : Ending)
-    → IsRefusedUnder file slot fault → IsErrAnd ending (λ said. HasFinding fault → IsFailureOf fault said)
-    → (answer : Answer) × IsReadAnswer file slot IsAccepted answer × Does taken failed old old answer ending
-Does-unread taken failed old file slot fault ending is names = Does-refused taken failed old fault ending (unread_finding file slot fault is) is names
+pub Does-unread : {S : Type 0} {IsAccepted : Meta → Answer → Type 0} (taken : S → Option (List ℕ)) (failed : S → ℕ) (old : S) (file : List ℕ) (choice : MetaChoice) (fault : CheckFault) (ending : Ending)
+    → IsRefusedUnder file choice fault → IsErrAnd ending (λ said. HasFinding fault → IsFailureOf fault said)
+    → (answer : Answer) × IsReadAnswer file choice IsAccepted answer × Does taken failed old old answer ending
+Does-unread taken failed old file choice fault ending is names = Does-refused taken failed old fault ending (unread_finding file choice fault is) is names

@@ -4,7 +4,6 @@ use Rattle.std.specs.Result.{IsErrAnd}
 use Rattle.bolt_check.specs.CheckedFiles.{bytes_of, meta_of}
 use Rattle.bolt_check.specs.declared.checked_file.Checked.{Checked}
 use Rattle.bolt_format.specs.Elements.{LeafElement}
-use Rattle.bolt_format.specs.declared.meta.Slot.{Slot}
 use Rattle.bolt_report.specs.Reports.{Reports}
 use Rattle.bolt_report.specs.declared.form.Form.{Form}
 use Rattle.bolt_report.specs.declared.form.Form.TheVariants.{Json}
@@ -23,13 +22,14 @@ use Rattle.bolt_cli.proofs.Doing.{Does-nothing}
 use Rattle.bolt_cli.proofs.CutTexts.{EndsAfter}
 use Rattle.bolt_cli.proofs.ShownTexts.{shown_put}
 use Rattle.bolt_cli.proofs.ReadFiles.{of_read, own_trees}
+use Rattle.bolt_cli.specs.declared.meta_choice.MetaChoice.{MetaChoice}
 
-module _ (file : List ℕ) (slot : Option Slot) (path : Path) (form : Form) (text : List LeafElement → List ℕ) (checked : Checked) (same : bytes_of checked ≡ file) (under : IsReadUnder file slot (meta_of checked)) where
+module _ (file : List ℕ) (choice : MetaChoice) (path : Path) (form : Form) (text : List LeafElement → List ℕ) (checked : Checked) (same : bytes_of checked ≡ file) (under : IsReadUnder file choice (meta_of checked)) where
   abbrev EntriesAnswer : {S : Type 0} → (taken : S → Option (List ℕ)) (failed : S → ℕ) (old new : S) → Ending → Type 0
-  EntriesAnswer taken failed old new ending = (answer : Answer) × IsReadAnswer file slot (IsEntriesAnswer file path form text) answer × Does taken failed old new answer ending
+  EntriesAnswer taken failed old new ending = (answer : Answer) × IsReadAnswer file choice (IsEntriesAnswer file path form text) answer × Does taken failed old new answer ending
 
-  of_file : (answer : Answer) → IsEntriesAnswer (bytes_of checked) path form text (meta_of checked) answer → IsReadAnswer file slot (IsEntriesAnswer file path form text) answer
-  of_file answer said = of_read (λ (f : List ℕ). IsEntriesAnswer f path form text) file slot checked same under answer said
+  of_file : (answer : Answer) → IsEntriesAnswer (bytes_of checked) path form text (meta_of checked) answer → IsReadAnswer file choice (IsEntriesAnswer file path form text) answer
+  of_file answer said = of_read (λ (f : List ℕ). IsEntriesAnswer f path form text) file choice checked same under answer said
 
   -- the path leads to no bucket
   pub entries_missing : {S : Type 0} (taken : S → Option (List ℕ)) (failed : S → ℕ) (out : S) (said : Failure) (result : Ending)
@@ -42,6 +42,6 @@ module _ (file : List ℕ) (slot : Option Slot) (path : Path) (form : Form) (tex
         → IfErr put (λ e. (e ≡ report.Sink) ⊎ ((e ≡ report.NoMemory) × (form ≡ Json))) → IfErr put (λ e. e ≡ report.NoMemory → failed new ≡ failed old) → EndsAfter put (Ok 0) ending → EntriesAnswer taken failed old new ending
     entries_put put ending written fault memory ends =
         let Put : List LeafElement → Type 0 = λ entries. Reports taken failed old new (text entries) put in
-        let (start, entries, names, are, here) = at_path checked path bucket Put (own_trees file slot checked same under) in_file led written in
+        let (start, entries, names, are, here) = at_path checked path bucket Put (own_trees file choice checked same under) in_file led written in
         let (answer, shown, does) = shown_put form old new (text entries) put ending here fault memory ends in
         (answer, of_file answer (inl (start, entries, names, are, shown)), does)

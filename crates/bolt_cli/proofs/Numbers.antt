@@ -1,19 +1,20 @@
 -- What `parse` makes of a word that is to be a number.
-use Rattle.std.proofs.Common.{◌≡◌, ◌≢◌, ◌∙◌, ◌<◌, ◌^◌, ◌&&◌, ◌==◌, Bool, ℕ, List, [], ◌∷◌, Option, Some, None, Result, Ok, Err, true, false, codes, length, get_or, inl, inr, refl, sym, ap, ap₂, rules, arith, subst}
+use Rattle.std.proofs.Common.{◌≡◌, ◌≢◌, ◌∙◌, ◌<◌, ◌+◌, ◌^◌, ◌&&◌, ◌==◌, Bool, ℕ, List, [], ◌∷◌, Option, Some, None, Result, Ok, Err, true, false, codes, length, get_or, inl, inr, refl, sym, ap, ap₂, rules, arith, subst}
 use Rattle.std.specs.Fmt.{decimal}
-use Rattle.std.specs.List.{list_all, list_any}
+use Rattle.std.specs.List.{after_first, before_first, list_all, list_any, position_or_len}
 use Rattle.std.specs.Prelude.{IfNone, IfSome, MatchOption, nat_lt, if◌then◌else◌}
 use Rattle.std.specs.Result.{result_ok}
 use Rattle.std.specs.Str.{all_ascii_digits}
 use Rattle.std.specs.Str.Parse.{ParsesUnsigned}
 use Rattle.std.proofs.lemmas.Bool.{cases_Bool, eqb-true, or_cases, and_left, and_parts, and_right, false_from_ne_true, ltb-true}
+use Rattle.std.proofs.lemmas.List.{drop_all}
 use Rattle.std.proofs.lemmas.Bool.Decides.{nat_tests}
 use Rattle.std.proofs.lemmas.Fmt.{decimal_nonempty, digits_decimal, digits_value-decimal}
 use Rattle.std.proofs.lemmas.Str.Parse.{IsNumeralModel, numerals_by_weight, parse_plain}
 use Rattle.clap.specs.Words.{Text}
 use Rattle.bolt_format.specs.Metas.{IsPageSize, page_sizes}
 use Rattle.bolt_cli.specs.declared.page_size.PageSize.{PageSize}
-use Rattle.bolt_cli.specs.PlainWords.{decimal_value, is_number, is_page_size, number_of, page_size_of}
+use Rattle.bolt_cli.specs.PlainWords.{assumed_of, assumed_when, decimal_value, is_number, is_page_size, number_of, page_size_of}
 
 pub decimal_numerals : IsNumeralModel (λ digits. all_ascii_digits digits ≡ true) decimal_value
 decimal_numerals = numerals_by_weight _ (search rules) decimal_value (search rules)
@@ -88,3 +89,16 @@ pub size_answered : (word : Text) (n : ℕ) (answer : Option PageSize) → numbe
     → MatchOption answer (page_size_of word ≡ Err (codes "bad page size")) (λ size. page_size_of word ≡ Ok (Some size.bytes))
 size_answered word n None is same refused = size_refused word n is refused
 size_answered word n (Some size) is same refused = subst (λ (m : ℕ). page_size_of word ≡ Ok (Some m)) (sym same) (size_read word n is (subst IsPageSize same size.accepted))
+
+-- ---- an assumed meta
+
+no_root : (size : Result (Option ℕ) Text) → assumed_when size None ≡ Err (codes "bad meta: use PAGE_SIZE:ROOT, and no --meta")
+no_root (Ok (Some size)) = refl
+no_root (Ok None) = refl
+no_root (Err why) = refl
+
+-- after the end of a word there is no number
+pub no_colon : (word : Text) → position_or_len (λ byte. byte == 58) word ≡ length word → assumed_of word ≡ Err (codes "bad meta: use PAGE_SIZE:ROOT, and no --meta")
+no_colon word end =
+    let empty : after_first (λ byte. byte == 58) word ≡ [] = drop_all (position_or_len (λ byte. byte == 58) word + 1) word (omega (arith, end)) in
+    ap (λ (root : Text). assumed_when (page_size_of (before_first (λ byte. byte == 58) word)) (number_of root)) empty ∙ no_root (page_size_of (before_first (λ byte. byte == 58) word))

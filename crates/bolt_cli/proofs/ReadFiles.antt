@@ -1,5 +1,5 @@
 -- What is known of a file that is read, under whatever meta.
-use Rattle.std.proofs.Common.{◌≡◌, ℕ, List, Option, Some, None, Ok, Err, ap, inl, inr, refl, subst, sym}
+use Rattle.std.proofs.Common.{◌≡◌, ℕ, List, Ok, Err, ap, inl, inr, refl, subst, sym}
 use Rattle.std.specs.Result.{IsErrAnd}
 use Rattle.bolt_check.specs.CheckedFiles.{bytes_of, meta_of}
 use Rattle.bolt_check.specs.declared.checked_file.Checked.{Checked}
@@ -13,18 +13,21 @@ use Rattle.bolt_check.specs.declared.fault.CheckFault.TheVariants as check
 use Rattle.bolt_cli.specs.Answers.{Answer, Ending, IsReadAnswer, IsReadUnder, IsRefusedUnder, IsUnrecoverableUnder}
 use Rattle.bolt_cli.specs.Failures.{HasFinding, IsFailureOf}
 use Rattle.bolt_cli.specs.declared.failure.Failure.{Failure}
+use Rattle.bolt_cli.specs.declared.meta_choice.MetaChoice.{MetaChoice}
+use Rattle.bolt_cli.specs.declared.meta_choice.MetaChoice.TheVariants.{Active, Assumed, InSlot}
 
-pub read_trees : (file : List ℕ) (slot : Option Slot) (meta : Meta) → IsReadUnder file slot meta → HasSoundTrees file meta
-read_trees file None meta (slot, chosen, sound) = sound.trees
-read_trees file (Some slot) meta (valid, trees) = trees
+pub read_trees : (file : List ℕ) (choice : MetaChoice) (meta : Meta) → IsReadUnder file choice meta → HasSoundTrees file meta
+read_trees file Active meta (slot, chosen, sound) = sound.trees
+read_trees file (InSlot slot) meta (valid, trees) = trees
+read_trees file (Assumed assumed) meta (same, trees) = trees
 
-pub own_trees : (file : List ℕ) (slot : Option Slot) (checked : Checked) → bytes_of checked ≡ file → IsReadUnder file slot (meta_of checked) → HasSoundTrees (bytes_of checked) (meta_of checked)
-own_trees file slot checked same under = subst (λ (f : List ℕ). HasSoundTrees f (meta_of checked)) (sym same) (read_trees file slot (meta_of checked) under)
+pub own_trees : (file : List ℕ) (choice : MetaChoice) (checked : Checked) → bytes_of checked ≡ file → IsReadUnder file choice (meta_of checked) → HasSoundTrees (bytes_of checked) (meta_of checked)
+own_trees file choice checked same under = subst (λ (f : List ℕ). HasSoundTrees f (meta_of checked)) (sym same) (read_trees file choice (meta_of checked) under)
 
 -- what is answered of its bytes is answered of the file
-pub of_read : (IsAnswer : List ℕ → Meta → Answer → Type 0) (file : List ℕ) (slot : Option Slot) (checked : Checked) → bytes_of checked ≡ file → IsReadUnder file slot (meta_of checked)
-    → (answer : Answer) → IsAnswer (bytes_of checked) (meta_of checked) answer → IsReadAnswer file slot (IsAnswer file) answer
-of_read IsAnswer file slot checked same under answer said = inl (meta_of checked, under, subst (λ (f : List ℕ). IsAnswer f (meta_of checked) answer) same said)
+pub of_read : (IsAnswer : List ℕ → Meta → Answer → Type 0) (file : List ℕ) (choice : MetaChoice) (checked : Checked) → bytes_of checked ≡ file → IsReadUnder file choice (meta_of checked)
+    → (answer : Answer) → IsAnswer (bytes_of checked) (meta_of checked) answer → IsReadAnswer file choice (IsAnswer file) answer
+of_read IsAnswer file choice checked same under answer said = inl (meta_of checked, under, subst (λ (f : List ℕ). IsAnswer f (meta_of checked) answer) same said)
 
 -- ---- the page size
 
@@ -36,25 +39,28 @@ slot_page_size file Zero meta is = meta_page_size file 0 meta is
 slot_page_size file One meta (inl is) = meta_page_size file _ meta is.2
 slot_page_size file One meta (inr is) = meta_page_size file is.1.at meta is.1.valid
 
-pub read_page_size : (file : List ℕ) (slot : Option Slot) (meta : Meta) → IsReadUnder file slot meta → IsPageSize meta.page_size
-read_page_size file None meta (slot, chosen, sound) = slot_page_size file slot meta chosen.valid
-read_page_size file (Some slot) meta (is, trees) = slot_page_size file slot meta is
+pub read_page_size : (file : List ℕ) (choice : MetaChoice) (meta : Meta) → IsReadUnder file choice meta → IsPageSize meta.page_size
+read_page_size file Active meta (slot, chosen, sound) = slot_page_size file slot meta chosen.valid
+read_page_size file (InSlot slot) meta (is, trees) = slot_page_size file slot meta is
+read_page_size file (Assumed assumed) meta (same, trees) = subst (λ (m : Meta). IsPageSize m.page_size) (sym same) assumed.page_size.accepted
 
 -- ---- why the file is refused, or nothing of it is recovered
 
-pub unread_finding : (file : List ℕ) (slot : Option Slot) (fault : CheckFault) → IsRefusedUnder file slot fault → HasFinding fault
-unread_finding file slot (check.Open fault) is = tt
-unread_finding file slot (check.Structure x) is = tt
-unread_finding file None (check.Accounts findings) (slot, meta, chosen, trees, wrong, are, some) = some
-unread_finding file (Some slot) (check.Accounts findings) is = absurd is
-unread_finding file slot check.Memory is = tt
+pub unread_finding : (file : List ℕ) (choice : MetaChoice) (fault : CheckFault) → IsRefusedUnder file choice fault → HasFinding fault
+unread_finding file choice (check.Open fault) is = tt
+unread_finding file choice (check.Structure x) is = tt
+unread_finding file Active (check.Accounts findings) (slot, meta, chosen, trees, wrong, are, some) = some
+unread_finding file (InSlot slot) (check.Accounts findings) is = absurd is
+unread_finding file (Assumed assumed) (check.Accounts findings) is = absurd is
+unread_finding file choice check.Memory is = tt
 
-pub unrecoverable_finding : (file : List ℕ) (slot : Option Slot) (fault : CheckFault) → IsUnrecoverableUnder file slot fault → HasFinding fault
-unrecoverable_finding file slot (check.Open fault) is = tt
-unrecoverable_finding file slot (check.Structure x) is = tt
-unrecoverable_finding file None (check.Accounts findings) is = absurd is
-unrecoverable_finding file (Some slot) (check.Accounts findings) is = absurd is
-unrecoverable_finding file slot check.Memory is = tt
+pub unrecoverable_finding : (file : List ℕ) (choice : MetaChoice) (fault : CheckFault) → IsUnrecoverableUnder file choice fault → HasFinding fault
+unrecoverable_finding file choice (check.Open fault) is = tt
+unrecoverable_finding file choice (check.Structure x) is = tt
+unrecoverable_finding file Active (check.Accounts findings) is = absurd is
+unrecoverable_finding file (InSlot slot) (check.Accounts findings) is = absurd is
+unrecoverable_finding file (Assumed assumed) (check.Accounts findings) is = absurd is
+unrecoverable_finding file choice check.Memory is = tt
 
 -- only the first finding is reported
 pub failure_named : (fault : CheckFault) (ending : Ending) → HasFinding fault → IsErrAnd ending (λ said. HasFinding fault → IsFailureOf fault said)

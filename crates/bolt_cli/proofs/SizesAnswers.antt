@@ -5,7 +5,6 @@ use Rattle.bolt_check.specs.CheckedFiles.{bytes_of, meta_of}
 use Rattle.bolt_check.specs.Sound.{HasSoundTrees}
 use Rattle.bolt_check.specs.declared.checked_file.Checked.{Checked}
 use Rattle.bolt_format.specs.Elements.{LeafElement}
-use Rattle.bolt_format.specs.declared.meta.Slot.{Slot}
 use Rattle.bolt_report.specs.Reports.{Reports}
 use Rattle.bolt_report.specs.SizeLines.{AreSized, Sized, sizes_text}
 use Rattle.bolt_report.specs.declared.form.Form.{Form}
@@ -24,13 +23,14 @@ use Rattle.bolt_cli.proofs.AtPaths.{at_path}
 use Rattle.bolt_cli.proofs.CutTexts.{EndsAfter, ended_put}
 use Rattle.bolt_cli.proofs.Doing.{Does-nothing}
 use Rattle.bolt_cli.proofs.ReadFiles.{of_read, own_trees}
+use Rattle.bolt_cli.specs.declared.meta_choice.MetaChoice.{MetaChoice}
 
-module _ (file : List ℕ) (slot : Option Slot) (path : Path) (form : Form) (checked : Checked) (same : bytes_of checked ≡ file) (under : IsReadUnder file slot (meta_of checked)) where
+module _ (file : List ℕ) (choice : MetaChoice) (path : Path) (form : Form) (checked : Checked) (same : bytes_of checked ≡ file) (under : IsReadUnder file choice (meta_of checked)) where
   abbrev SizesAnswer : {S : Type 0} → (taken : S → Option (List ℕ)) (failed : S → ℕ) (old new : S) → Ending → Type 0
-  SizesAnswer taken failed old new ending = (answer : Answer) × IsReadAnswer file slot (IsSizesAnswer file path form) answer × Does taken failed old new answer ending
+  SizesAnswer taken failed old new ending = (answer : Answer) × IsReadAnswer file choice (IsSizesAnswer file path form) answer × Does taken failed old new answer ending
 
-  of_file : (answer : Answer) → IsSizesAnswer (bytes_of checked) path form (meta_of checked) answer → IsReadAnswer file slot (IsSizesAnswer file path form) answer
-  of_file answer said = of_read (λ (f : List ℕ). IsSizesAnswer f path form) file slot checked same under answer said
+  of_file : (answer : Answer) → IsSizesAnswer (bytes_of checked) path form (meta_of checked) answer → IsReadAnswer file choice (IsSizesAnswer file path form) answer
+  of_file answer said = of_read (λ (f : List ℕ). IsSizesAnswer f path form) file choice checked same under answer said
 
   -- the path leads to no bucket
   pub sizes_missing : {S : Type 0} (taken : S → Option (List ℕ)) (failed : S → ℕ) (out : S) (said : Failure) (result : Ending)
@@ -39,7 +39,7 @@ module _ (file : List ℕ) (slot : Option Slot) (path : Path) (form : Form) (che
   sizes_missing taken failed out said result (is, nowhere) ends = (refused said, of_file (refused said) (inr (nowhere, ap refused is)), Does-nothing taken failed out said result ends)
 
   trees : HasSoundTrees (bytes_of checked) (meta_of checked)
-  trees = own_trees file slot checked same under
+  trees = own_trees file choice checked same under
 
   -- the sizes of the entries at the path
   own_sizes : (start : Start) (entries : List LeafElement) → LeadsTo (bytes_of checked) (meta_of checked) path start → AreEntries (IsEntry (bytes_of checked) (meta_of checked)) start entries

@@ -4,7 +4,7 @@ use Rattle.std.specs.Io.KnownBytes.{Appends, Keeps}
 use Rattle.bolt_bulk.specs.Compacting.{too_many}
 use Rattle.bolt_layout.specs.Copies.{layout_of_listing}
 use Rattle.bolt_check.specs.Roles.{AreRoles}
-use Rattle.bolt_check.specs.Sound.{HasSoundTrees, IsRefused, IsSlotRefused, IsSound}
+use Rattle.bolt_check.specs.Sound.{AreTreesRefused, HasSoundTrees, IsRefused, IsSlotRefused, IsSound}
 use Rattle.bolt_check.specs.declared.fault.CheckFault.{CheckFault}
 use Rattle.bolt_check.specs.declared.fault.CheckFault.TheVariants as check
 use Rattle.bolt_check.specs.declared.finding.Finding.{Finding}
@@ -18,7 +18,7 @@ use Rattle.bolt_format.specs.declared.meta.MetaFault.{MetaFault}
 use Rattle.bolt_format.specs.declared.meta.Slot.{Slot}
 use Rattle.bolt_recover.specs.Losses.{AreLosses, LossView}
 use Rattle.bolt_recover.specs.Recovered.{IsRecovered}
-use Rattle.bolt_recover.specs.Refusals.{IsSlotUnrecoverable, IsUnrecoverable, KeepsRoot}
+use Rattle.bolt_recover.specs.Refusals.{IsRefusedRoot, IsSlotUnrecoverable, IsUnrecoverable, KeepsRoot}
 use Rattle.bolt_report.specs.FaultWords.{findings_text}
 use Rattle.bolt_report.specs.Forms.{item_text, value_text}
 use Rattle.bolt_report.specs.Figures.{add_stats, stats_text}
@@ -44,11 +44,15 @@ use Rattle.bolt_tree.specs.Paths.{Holds, Names, Path}
 use Rattle.bolt_cli.specs.CopyKinds.{is_snapshot, layout_for}
 use Rattle.bolt_cli.specs.Failures.{IsFailureOf, failure_line}
 use Rattle.bolt_cli.specs.GoodCopies.{IsGoodCopy}
+use Rattle.bolt_cli.specs.MetaChoices.{IsMetaOf, assumed_for}
 use Rattle.bolt_cli.specs.SnapshotAnswers.{copy_of, differing_line, errors_in, fault_lines, hash_differs, hash_found}
 use Rattle.bolt_cli.specs.declared.failure.Failure.{Failure}
 use Rattle.bolt_cli.specs.declared.failure.Failure.TheVariants as failure
 use Rattle.bolt_cli.specs.declared.job.Job.{Job}
 use Rattle.bolt_cli.specs.declared.job.Job.TheVariants as job
+use Rattle.bolt_cli.specs.declared.meta_choice.AssumedMeta.{AssumedMeta}
+use Rattle.bolt_cli.specs.declared.meta_choice.MetaChoice.{MetaChoice}
+use Rattle.bolt_cli.specs.declared.meta_choice.MetaChoice.TheVariants.{Active, Assumed, InSlot}
 use Rattle.bolt_cli.specs.declared.page_size.PageSize.{PageSize}
 use Rattle.bolt_cli.specs.PlainWords.{path_in}
 use Rattle.bolt_layout.specs.declared.layout.Layout.{Layout}
@@ -74,12 +78,6 @@ abbrev pub page_answer : Option PageFault → List ℕ → Answer
 page_answer None text = done text
 page_answer (Some fault) text = refused (failure.Page fault)
 
--- the answer under the active meta or, if there is none, with the fault of byte 0
-abbrev pub IsOpenAnswer : List ℕ → (Slot → Meta → Answer) → Answer → Type 0
-IsOpenAnswer file opened answer =
-    ((slot : Slot) × (meta : Meta) × IsChosen file slot meta × (answer ≡ opened slot meta))
-    ⊎ ((fault : MetaFault) × HasMetaFault file 0 fault × ((slot : Slot) (meta : Meta) → IsInSlot file slot meta → ⊥) × (answer ≡ refused (failure.Metas fault)))
-
 -- the meta that is shown: that of the slot that is named, or the active one
 abbrev pub IsShownMeta : List ℕ → Option Slot → Slot → Meta → Type 0
 IsShownMeta file None slot meta = IsChosen file slot meta
@@ -94,6 +92,21 @@ abbrev pub IsInfoAnswer : List ℕ → Option Slot → Answer → Type 0
 IsInfoAnswer file wanted answer =
     ((slot : Slot) × (meta : Meta) × IsShownMeta file wanted slot meta × (answer ≡ done (info_text slot meta)))
     ⊎ ((fault : MetaFault) × HasNoMeta file wanted fault × (answer ≡ refused (failure.Metas fault)))
+
+-- the meta that a page is read under: one that is assumed, or the active one
+abbrev pub IsOpenedUnder : List ℕ → Option AssumedMeta → Meta → Type 0
+IsOpenedUnder file None meta = (slot : Slot) × IsChosen file slot meta
+IsOpenedUnder file (Some assumed) meta = meta ≡ assumed_for file assumed
+
+-- why there is none
+abbrev pub IsUnopenedUnder : List ℕ → Option AssumedMeta → MetaFault → Type 0
+IsUnopenedUnder file None fault = HasNoMeta file None fault
+IsUnopenedUnder file (Some assumed) fault = ⊥
+
+abbrev pub IsPageAnswer : List ℕ → Option AssumedMeta → ℕ → Answer → Type 0
+IsPageAnswer file assumed id answer =
+    ((meta : Meta) × IsOpenedUnder file assumed meta × (answer ≡ page_answer (page_text_fault file meta id) (page_text file meta id)))
+    ⊎ ((fault : MetaFault) × IsUnopenedUnder file assumed fault × (answer ≡ refused (failure.Metas fault)))
 
 -- ---- the other commands, which check the file
 
@@ -249,42 +262,44 @@ IsCheckedAnswer file IsAccepted IsRefusal answer =
 abbrev pub IsFileRefusal : CheckFault → Answer → Type 0
 IsFileRefusal fault answer = (failure : Failure) × IsFailureOf fault failure × (answer ≡ refused failure)
 
--- the meta that the file is read under: that of the slot that is named, or the active one, and then accounts count too
-abbrev pub IsReadUnder : List ℕ → Option Slot → Meta → Type 0
-IsReadUnder file None meta = (slot : Slot) × IsChosen file slot meta × IsSound file meta true
-IsReadUnder file (Some slot) meta = IsInSlot file slot meta × HasSoundTrees file meta
+-- the meta that the file is read under; of the active one the accounts count too
+abbrev pub IsReadUnder : List ℕ → MetaChoice → Meta → Type 0
+IsReadUnder file Active meta = (slot : Slot) × IsChosen file slot meta × IsSound file meta true
+IsReadUnder file (InSlot slot) meta = IsInSlot file slot meta × HasSoundTrees file meta
+IsReadUnder file (Assumed assumed) meta = (meta ≡ assumed_for file assumed) × HasSoundTrees file meta
 
-abbrev pub IsRefusedUnder : List ℕ → Option Slot → CheckFault → Type 0
-IsRefusedUnder file None fault = IsRefused file fault
-IsRefusedUnder file (Some slot) fault = IsSlotRefused file slot fault
+abbrev pub IsRefusedUnder : List ℕ → MetaChoice → CheckFault → Type 0
+IsRefusedUnder file Active fault = IsRefused file fault
+IsRefusedUnder file (InSlot slot) fault = IsSlotRefused file slot fault
+IsRefusedUnder file (Assumed assumed) fault = AreTreesRefused file (assumed_for file assumed) fault
 
-abbrev pub IsReadAnswer : List ℕ → Option Slot → (Meta → Answer → Type 0) → Answer → Type 0
-IsReadAnswer file slot IsAccepted answer =
-    ((meta : Meta) × IsReadUnder file slot meta × IsAccepted meta answer)
-    ⊎ ((fault : CheckFault) × IsRefusedUnder file slot fault × IsFileRefusal fault answer)
+abbrev pub IsReadAnswer : List ℕ → MetaChoice → (Meta → Answer → Type 0) → Answer → Type 0
+IsReadAnswer file choice IsAccepted answer =
+    ((meta : Meta) × IsReadUnder file choice meta × IsAccepted meta answer)
+    ⊎ ((fault : CheckFault) × IsRefusedUnder file choice fault × IsFileRefusal fault answer)
 
--- ---- `check`, under the active meta or that of a slot
+-- ---- `check`
 
-abbrev pub IsFoundAnswer : Option SnapshotFault → List ℕ → Option Slot → Answer → Type 0
-IsFoundAnswer hash file slot answer =
-    ((meta : Meta) × IsReadUnder file slot meta × (answer ≡ none_found hash))
-    ⊎ ((fault : CheckFault) × IsRefusedUnder file slot fault × (answer ≡ check_refusal hash fault))
+abbrev pub IsFoundAnswer : Option SnapshotFault → List ℕ → MetaChoice → Answer → Type 0
+IsFoundAnswer hash file choice answer =
+    ((meta : Meta) × IsReadUnder file choice meta × (answer ≡ none_found hash))
+    ⊎ ((fault : CheckFault) × IsRefusedUnder file choice fault × (answer ≡ check_refusal hash fault))
 
 -- ---- what is recovered of a damaged file
 
 -- the meta under which it is read, where its root page is kept; or why nothing is recovered
-abbrev pub IsRecoveredUnder : List ℕ → Option Slot → Meta → Type 0
-IsRecoveredUnder file None meta = (slot : Slot) × IsChosen file slot meta × KeepsRoot file meta
-IsRecoveredUnder file (Some slot) meta = IsInSlot file slot meta × KeepsRoot file meta
+abbrev pub IsRecoveredUnder : List ℕ → MetaChoice → Meta → Type 0
+IsRecoveredUnder file choice meta = IsMetaOf file choice meta × KeepsRoot file meta
 
-abbrev pub IsUnrecoverableUnder : List ℕ → Option Slot → CheckFault → Type 0
-IsUnrecoverableUnder file None fault = IsUnrecoverable file fault
-IsUnrecoverableUnder file (Some slot) fault = IsSlotUnrecoverable file slot fault
+abbrev pub IsUnrecoverableUnder : List ℕ → MetaChoice → CheckFault → Type 0
+IsUnrecoverableUnder file Active fault = IsUnrecoverable file fault
+IsUnrecoverableUnder file (InSlot slot) fault = IsSlotUnrecoverable file slot fault
+IsUnrecoverableUnder file (Assumed assumed) fault = IsRefusedRoot file (assumed_for file assumed) fault
 
-abbrev pub IsRecoveredAnswer : List ℕ → Option Slot → (Meta → Answer → Type 0) → (CheckFault → Answer → Type 0) → Answer → Type 0
-IsRecoveredAnswer file slot IsAccepted IsRefusal answer =
-    ((meta : Meta) × IsRecoveredUnder file slot meta × IsAccepted meta answer)
-    ⊎ ((fault : CheckFault) × IsUnrecoverableUnder file slot fault × IsRefusal fault answer)
+abbrev pub IsRecoveredAnswer : List ℕ → MetaChoice → (Meta → Answer → Type 0) → (CheckFault → Answer → Type 0) → Answer → Type 0
+IsRecoveredAnswer file choice IsAccepted IsRefusal answer =
+    ((meta : Meta) × IsRecoveredUnder file choice meta × IsAccepted meta answer)
+    ⊎ ((fault : CheckFault) × IsUnrecoverableUnder file choice fault × IsRefusal fault answer)
 
 -- if something was lost, the number of losses is reported on standard error
 abbrev pub lost_ending : List LossView → Ending
@@ -302,12 +317,12 @@ abbrev pub losses_found : Option SnapshotFault → List LossView → Answer
 losses_found hash losses = record { out = fault_lines hash ++ counted_losses_text (errors_in hash) losses; ending = Ok 1 }
 
 -- each loss; if nothing is lost, what `check` writes; or nothing, if memory ran out
-abbrev pub AnswersLosses : Option SnapshotFault → List ℕ → Option Slot → List LossView → Answer → Type 0
-AnswersLosses hash file slot [] answer = IsFoundAnswer hash file slot answer
-AnswersLosses hash file slot (loss ∷ losses) answer = answer ≡ losses_found hash (loss ∷ losses)
+abbrev pub AnswersLosses : Option SnapshotFault → List ℕ → MetaChoice → List LossView → Answer → Type 0
+AnswersLosses hash file choice [] answer = IsFoundAnswer hash file choice answer
+AnswersLosses hash file choice (loss ∷ losses) answer = answer ≡ losses_found hash (loss ∷ losses)
 
-abbrev pub IsLossesAnswer : Option SnapshotFault → List ℕ → Option Slot → Meta → Answer → Type 0
-IsLossesAnswer hash file slot meta answer = ((losses : List LossView) × AreLosses file meta losses × AnswersLosses hash file slot losses answer) ⊎ (answer ≡ refused failure.Memory)
+abbrev pub IsLossesAnswer : Option SnapshotFault → List ℕ → MetaChoice → Meta → Answer → Type 0
+IsLossesAnswer hash file choice meta answer = ((losses : List LossView) × AreLosses file meta losses × AnswersLosses hash file choice losses answer) ⊎ (answer ≡ refused failure.Memory)
 
 abbrev pub all_refusal : Option SnapshotFault → CheckFault → Answer
 all_refusal hash (check.Structure x) = record { out = fault_lines hash ++ all_lost_text (errors_in hash) x; ending = Ok 1 }
@@ -316,17 +331,17 @@ all_refusal hash (check.Accounts findings) = check_refusal hash (check.Accounts 
 all_refusal hash check.Memory = check_refusal hash check.Memory
 
 -- `check` and `check --all` of a file whose hash was looked at
-abbrev pub IsCheckAnswerAfter : (all : Bool) → Option SnapshotFault → List ℕ → Option Slot → Answer → Type 0
-IsCheckAnswerAfter false hash file slot answer = IsFoundAnswer hash file slot answer
-IsCheckAnswerAfter true hash file slot answer = IsRecoveredAnswer file slot (IsLossesAnswer hash file slot) (λ fault answer. answer ≡ all_refusal hash fault) answer
+abbrev pub IsCheckAnswerAfter : (all : Bool) → Option SnapshotFault → List ℕ → MetaChoice → Answer → Type 0
+IsCheckAnswerAfter false hash file choice answer = IsFoundAnswer hash file choice answer
+IsCheckAnswerAfter true hash file choice answer = IsRecoveredAnswer file choice (IsLossesAnswer hash file choice) (λ fault answer. answer ≡ all_refusal hash fault) answer
 
 -- `check`, `check --all`, and either of a snapshot; `list` and `list --recover`
-abbrev pub IsCheckAnswer : (all snapshot : Bool) → List ℕ → Option Slot → Answer → Type 0
-IsCheckAnswer all snapshot file slot answer = IsCheckAnswerAfter all (hash_found snapshot file) file slot answer
+abbrev pub IsCheckAnswer : (all snapshot : Bool) → List ℕ → MetaChoice → Answer → Type 0
+IsCheckAnswer all snapshot file choice answer = IsCheckAnswerAfter all (hash_found snapshot file) file choice answer
 
-abbrev pub IsListedAnswer : Bool → List ℕ → Option Slot → ListForm → (path from : Path) → Answer → Type 0
-IsListedAnswer false file slot form path from answer = IsReadAnswer file slot (IsListAnswer file form path from) answer
-IsListedAnswer true file slot form path from answer = IsRecoveredAnswer file slot (IsRecoveredList file form path from) IsFileRefusal answer
+abbrev pub IsListedAnswer : Bool → List ℕ → MetaChoice → ListForm → (path from : Path) → Answer → Type 0
+IsListedAnswer false file choice form path from answer = IsReadAnswer file choice (IsListAnswer file form path from) answer
+IsListedAnswer true file choice form path from answer = IsRecoveredAnswer file choice (IsRecoveredList file form path from) IsFileRefusal answer
 
 -- From its state `old` to `new` standard output accepted the text of the answer without a failure, and the job ends so; or it failed,
 -- accepted a prefix, and the job ends with that.
@@ -393,40 +408,40 @@ module _ {O T : Type 0} (out_taken : O → Option (List ℕ)) (out_failed : O �
 
   -- The target accepts the layout that is asked for of the file's listing, at the copy's page size, and for a snapshot then its hash: a good
   -- copy of that listing. Or the hash of the file differs, or the file is refused, and neither is touched.
-  abbrev pub Compacts : List ℕ → Option Slot → Option PageSize → Layout → (snapshot : Bool) → Ending → Type 0
-  Compacts file slot size which snapshot ending =
-      ((meta : Meta) × (listing : List Member) × IsReadUnder file slot meta × (hash_differs snapshot file ≡ false) × IsListing file meta listing
+  abbrev pub Compacts : List ℕ → MetaChoice → Option PageSize → Layout → (snapshot : Bool) → Ending → Type 0
+  Compacts file choice size which snapshot ending =
+      ((meta : Meta) × (listing : List Member) × IsReadUnder file choice meta × (hash_differs snapshot file ≡ false) × IsListing file meta listing
       × WritesCopy snapshot listing (layout_of_listing which (copy_page_size size meta) listing meta.root_sequence) (λ copy. done (lengths_line (length file) copy)) ending)
-      ⊎ ((meta : Meta) × IsReadUnder file slot meta × (hash_differs snapshot file ≡ true)
+      ⊎ ((meta : Meta) × IsReadUnder file choice meta × (hash_differs snapshot file ≡ true)
       × (out_new ≡ out_old) × (target_new ≡ target_old) × (ending ≡ Err failure.HashDiffers))
-      ⊎ ((fault : CheckFault) × (failure : Failure) × IsRefusedUnder file slot fault × IsFailureOf fault failure
+      ⊎ ((fault : CheckFault) × (failure : Failure) × IsRefusedUnder file choice fault × IsFailureOf fault failure
       × (out_new ≡ out_old) × (target_new ≡ target_old) × (ending ≡ Err failure))
 
   -- the same of the recovered listing, and it is reported if the hash differs, and each loss; or nothing is recovered
-  abbrev pub Recovers : List ℕ → Option Slot → Option PageSize → Layout → (snapshot : Bool) → Ending → Type 0
-  Recovers file slot size which snapshot ending =
-      ((meta : Meta) × (listing : List Member) × (losses : List LossView) × IsRecoveredUnder file slot meta × IsRecovered file meta listing × AreLosses file meta losses
+  abbrev pub Recovers : List ℕ → MetaChoice → Option PageSize → Layout → (snapshot : Bool) → Ending → Type 0
+  Recovers file choice size which snapshot ending =
+      ((meta : Meta) × (listing : List Member) × (losses : List LossView) × IsRecoveredUnder file choice meta × IsRecovered file meta listing × AreLosses file meta losses
       × WritesCopy snapshot listing (layout_of_listing which (copy_page_size size meta) listing meta.root_sequence) (λ copy. copy_report (hash_differs snapshot file) losses (length file) copy) ending)
-      ⊎ ((fault : CheckFault) × (failure : Failure) × IsUnrecoverableUnder file slot fault × IsFailureOf fault failure
+      ⊎ ((fault : CheckFault) × (failure : Failure) × IsUnrecoverableUnder file choice fault × IsFailureOf fault failure
       × (out_new ≡ out_old) × (target_new ≡ target_old) × (ending ≡ Err failure))
 
   -- `compact` and `compact --recover`
-  abbrev pub MakesCopy : List ℕ → Option Slot → Option PageSize → Layout → (snapshot recover : Bool) → Ending → Type 0
-  MakesCopy file slot size which snapshot false ending = Compacts file slot size which snapshot ending
-  MakesCopy file slot size which snapshot true ending = Recovers file slot size which snapshot ending
+  abbrev pub MakesCopy : List ℕ → MetaChoice → Option PageSize → Layout → (snapshot recover : Bool) → Ending → Type 0
+  MakesCopy file choice size which snapshot false ending = Compacts file choice size which snapshot ending
+  MakesCopy file choice size which snapshot true ending = Recovers file choice size which snapshot ending
 
   -- what a job does, and how it ends
   abbrev pub DoesJob : List ℕ → Job → Ending → Type 0
   DoesJob file (job.Info j) = Prints (IsInfoAnswer file j.slot)
-  DoesJob file (job.Page j) = Prints (IsOpenAnswer file (λ slot meta. page_answer (page_text_fault file meta j.id) (page_text file meta j.id)))
+  DoesJob file (job.Page j) = Prints (IsPageAnswer file j.assumed j.id)
   DoesJob file (job.Pages j) = Prints (IsCheckedAnswer file (IsPagesAnswer file j.map) IsFileRefusal)
-  DoesJob file (job.Check j) = Prints (IsCheckAnswer j.all j.snapshot file j.slot)
-  DoesJob file (job.Buckets j) = Prints (IsReadAnswer file j.slot (IsBucketsAnswer file (path_in j.path.items) j.form j.sizes))
-  DoesJob file (job.Stats j) = Prints (IsReadAnswer file j.slot (IsStatsAnswer file (path_in j.path.items)))
-  DoesJob file (job.Keys j) = Prints (IsReadAnswer file j.slot (IsEntriesAnswer file (path_in j.path.items) j.form (λ entries. keys_text j.form (with_prefix j.prefix.items entries))))
-  DoesJob file (job.Get j) = Prints (IsReadAnswer file j.slot (IsGetAnswer file (path_in j.path.items) j.form j.no_newline))
-  DoesJob file (job.List j) = Prints (IsListedAnswer j.recover file j.slot j.form (path_in j.path.items) (path_in j.from.items))
-  DoesJob file (job.Compact j) = MakesCopy file j.slot j.page_size (layout_for j.kind) (is_snapshot j.kind) j.recover
+  DoesJob file (job.Check j) = Prints (IsCheckAnswer j.all j.snapshot file j.meta)
+  DoesJob file (job.Buckets j) = Prints (IsReadAnswer file j.meta (IsBucketsAnswer file (path_in j.path.items) j.form j.sizes))
+  DoesJob file (job.Stats j) = Prints (IsReadAnswer file j.meta (IsStatsAnswer file (path_in j.path.items)))
+  DoesJob file (job.Keys j) = Prints (IsReadAnswer file j.meta (IsEntriesAnswer file (path_in j.path.items) j.form (λ entries. keys_text j.form (with_prefix j.prefix.items entries))))
+  DoesJob file (job.Get j) = Prints (IsReadAnswer file j.meta (IsGetAnswer file (path_in j.path.items) j.form j.no_newline))
+  DoesJob file (job.List j) = Prints (IsListedAnswer j.recover file j.meta j.form (path_in j.path.items) (path_in j.from.items))
+  DoesJob file (job.Compact j) = MakesCopy file j.meta j.page_size (layout_for j.kind) (is_snapshot j.kind) j.recover
 
 -- ---- the end of a run
 

@@ -6,6 +6,7 @@ pub mod Failures
 pub mod GoodCopies
 pub mod Hashes
 pub mod LineWords
+pub mod MetaChoices
 pub mod Needs
 pub mod PathWords
 pub mod PlainWords

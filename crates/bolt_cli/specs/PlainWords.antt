@@ -1,6 +1,6 @@
 -- What the words of a command line ask for: docs/COMMANDS.md, "Words".
 use Rattle.std.specs.Prelude.{◌==◌, ◌&&◌, ◌+◌, ◌-◌, ◌*◌, ◌^◌, ℕ, Bool, true, false, List, [], ◌∷◌, Option, Some, None, Result, Ok, Err, Vec, codes, length, map, nat_lt, option_map, string_bytes, if◌then◌else◌}
-use Rattle.std.specs.List.{list_any}
+use Rattle.std.specs.List.{after_first, before_first, list_any}
 use Rattle.std.specs.Str.{all_ascii_digits, bytes_eq}
 use Rattle.bolt_check.specs.Keys.{Key}
 use Rattle.bolt_tree.specs.Paths.{Path}
@@ -17,6 +17,9 @@ use Rattle.bolt_cli.specs.declared.copy_kind.CopyKind.{CopyKind}
 use Rattle.bolt_cli.specs.declared.copy_kind.CopyKind.TheVariants as kind
 use Rattle.bolt_cli.specs.declared.job.Job.{Job}
 use Rattle.bolt_cli.specs.declared.job.Job.TheVariants as job
+use Rattle.bolt_cli.specs.declared.meta_choice.AssumedMeta.{AssumedMeta}
+use Rattle.bolt_cli.specs.declared.meta_choice.MetaChoice.{MetaChoice}
+use Rattle.bolt_cli.specs.declared.meta_choice.MetaChoice.TheVariants as choice
 use Rattle.bolt_cli.specs.declared.page_size.PageSize.{PageSize}
 
 abbrev pub file_operand : Operand
@@ -47,6 +50,9 @@ from_option = valued_option (codes "from")
 
 abbrev pub meta_option : Choice
 meta_option = valued_option (codes "meta")
+
+abbrev pub assumed_option : Choice
+assumed_option = valued_option (codes "assume-meta")
 
 -- the file of a copy, by `-o` (111)
 abbrev pub output_option : Choice
@@ -85,46 +91,57 @@ abbrev pub info_line : Syntax
 info_line = record { name = codes "info"; operands = file_operand ∷ []; options = meta_option ∷ [] }
 
 abbrev pub page_line : Syntax
-page_line = record { name = codes "page"; operands = file_operand ∷ id_operand ∷ []; options = [] }
+page_line = record { name = codes "page"; operands = file_operand ∷ id_operand ∷ []; options = assumed_option ∷ [] }
 
 abbrev pub pages_line : Syntax
 pages_line = record { name = codes "pages"; operands = file_operand ∷ []; options = map_option ∷ [] }
 
 abbrev pub check_line : Syntax
-check_line = record { name = codes "check"; operands = file_operand ∷ []; options = all_option ∷ snapshot_option ∷ meta_option ∷ [] }
+check_line = record { name = codes "check"; operands = file_operand ∷ []; options = all_option ∷ snapshot_option ∷ meta_option ∷ assumed_option ∷ [] }
 
 abbrev pub buckets_line : Syntax
-buckets_line = record { name = codes "buckets"; operands = file_operand ∷ part_operand false ∷ []; options = sizes_option ∷ form_option ∷ parts_option ∷ meta_option ∷ [] }
+buckets_line = record { name = codes "buckets"; operands = file_operand ∷ part_operand false ∷ []; options = sizes_option ∷ form_option ∷ parts_option ∷ meta_option ∷ assumed_option ∷ [] }
 
 abbrev pub keys_line : Syntax
-keys_line = record { name = codes "keys"; operands = file_operand ∷ part_operand true ∷ []; options = prefix_option ∷ form_option ∷ parts_option ∷ meta_option ∷ [] }
+keys_line = record { name = codes "keys"; operands = file_operand ∷ part_operand true ∷ []; options = prefix_option ∷ form_option ∷ parts_option ∷ meta_option ∷ assumed_option ∷ [] }
 
 abbrev pub get_line : Syntax
-get_line = record { name = codes "get"; operands = file_operand ∷ part_operand true ∷ []; options = no_newline_option ∷ form_option ∷ parts_option ∷ meta_option ∷ [] }
+get_line = record { name = codes "get"; operands = file_operand ∷ part_operand true ∷ []; options = no_newline_option ∷ form_option ∷ parts_option ∷ meta_option ∷ assumed_option ∷ [] }
 
 abbrev pub stats_line : Syntax
-stats_line = record { name = codes "stats"; operands = file_operand ∷ part_operand false ∷ []; options = parts_option ∷ meta_option ∷ [] }
+stats_line = record { name = codes "stats"; operands = file_operand ∷ part_operand false ∷ []; options = parts_option ∷ meta_option ∷ assumed_option ∷ [] }
 
 abbrev pub list_line : Syntax
-list_line = record { name = codes "list"; operands = file_operand ∷ part_operand false ∷ []; options = from_option ∷ form_option ∷ parts_option ∷ recover_option ∷ meta_option ∷ [] }
+list_line = record { name = codes "list"; operands = file_operand ∷ part_operand false ∷ []; options = from_option ∷ form_option ∷ parts_option ∷ recover_option ∷ meta_option ∷ assumed_option ∷ [] }
 
 abbrev pub compact_line : Syntax
-compact_line = record { name = codes "compact"; operands = file_operand ∷ []; options = output_option ∷ page_size_option ∷ for_bbolt_option ∷ snapshot_option ∷ recover_option ∷ meta_option ∷ [] }
+compact_line = record { name = codes "compact"; operands = file_operand ∷ []; options = output_option ∷ page_size_option ∷ for_bbolt_option ∷ snapshot_option ∷ recover_option ∷ meta_option ∷ assumed_option ∷ [] }
 
 -- ---- what a line asks for
+
+-- an assumed meta, by its page size and root page
+pub record AskedAssumed : Type 0 where
+  pub page_size : ℕ
+  pub root : ℕ
+
+-- the active meta, that of a slot, or an assumed one
+pub data AskedMeta : Type 0 where
+  active : AskedMeta
+  in_slot : Slot → AskedMeta
+  assumed : AskedAssumed → AskedMeta
 
 -- a job by its texts, numbers and paths
 pub data Asked : Type 0 where
   info : Text → Option Slot → Asked
-  page : Text → ℕ → Asked
+  page : Text → Option AskedAssumed → ℕ → Asked
   pages : Text → (map : Bool) → Asked
-  check : Text → Option Slot → (all snapshot : Bool) → Asked
-  buckets : Text → Option Slot → Path → Form → (sizes : Bool) → Asked
-  keys : Text → Option Slot → Path → (prefix : Key) → Form → Asked
-  get : Text → Option Slot → Path → Form → (no_newline : Bool) → Asked
-  stats : Text → Option Slot → Path → Asked
-  list : Text → Option Slot → ListForm → (path from : Path) → (recover : Bool) → Asked
-  compact : (file : Text) → Option Slot → (target : Text) → (page_size : Option ℕ) → CopyKind → (recover : Bool) → Asked
+  check : Text → AskedMeta → (all snapshot : Bool) → Asked
+  buckets : Text → AskedMeta → Path → Form → (sizes : Bool) → Asked
+  keys : Text → AskedMeta → Path → (prefix : Key) → Form → Asked
+  get : Text → AskedMeta → Path → Form → (no_newline : Bool) → Asked
+  stats : Text → AskedMeta → Path → Asked
+  list : Text → AskedMeta → ListForm → (path from : Path) → (recover : Bool) → Asked
+  compact : (file : Text) → AskedMeta → (target : Text) → (page_size : Option ℕ) → CopyKind → (recover : Bool) → Asked
 
 -- the path that the code owns
 abbrev pub path_in : {Z : Type 0} → List (Vec ℕ Z) → Path
@@ -134,17 +151,26 @@ path_in {Z} parts = map (λ (part : Vec ℕ Z). part.items) parts
 abbrev pub size_in : Option PageSize → Option ℕ
 size_in size = option_map (λ (s : PageSize). s.bytes) size
 
+-- the meta that the code has
+abbrev pub assumed_in : AssumedMeta → AskedAssumed
+assumed_in meta = record { page_size = meta.page_size.bytes; root = meta.root }
+
+abbrev pub meta_in : MetaChoice → AskedMeta
+meta_in choice.Active = active
+meta_in (choice.InSlot slot) = in_slot slot
+meta_in (choice.Assumed meta) = assumed (assumed_in meta)
+
 abbrev pub asked_of : Job → Asked
 asked_of (job.Info j) = info (string_bytes j.file) j.slot
-asked_of (job.Page j) = page (string_bytes j.file) j.id
+asked_of (job.Page j) = page (string_bytes j.file) (option_map assumed_in j.assumed) j.id
 asked_of (job.Pages j) = pages (string_bytes j.file) j.map
-asked_of (job.Check j) = check (string_bytes j.file) j.slot j.all j.snapshot
-asked_of (job.Buckets j) = buckets (string_bytes j.file) j.slot (path_in j.path.items) j.form j.sizes
-asked_of (job.Keys j) = keys (string_bytes j.file) j.slot (path_in j.path.items) j.prefix.items j.form
-asked_of (job.Get j) = get (string_bytes j.file) j.slot (path_in j.path.items) j.form j.no_newline
-asked_of (job.Stats j) = stats (string_bytes j.file) j.slot (path_in j.path.items)
-asked_of (job.List j) = list (string_bytes j.file) j.slot j.form (path_in j.path.items) (path_in j.from.items) j.recover
-asked_of (job.Compact j) = compact (string_bytes j.file) j.slot (string_bytes j.target) (size_in j.page_size) j.kind j.recover
+asked_of (job.Check j) = check (string_bytes j.file) (meta_in j.meta) j.all j.snapshot
+asked_of (job.Buckets j) = buckets (string_bytes j.file) (meta_in j.meta) (path_in j.path.items) j.form j.sizes
+asked_of (job.Keys j) = keys (string_bytes j.file) (meta_in j.meta) (path_in j.path.items) j.prefix.items j.form
+asked_of (job.Get j) = get (string_bytes j.file) (meta_in j.meta) (path_in j.path.items) j.form j.no_newline
+asked_of (job.Stats j) = stats (string_bytes j.file) (meta_in j.meta) (path_in j.path.items)
+asked_of (job.List j) = list (string_bytes j.file) (meta_in j.meta) j.form (path_in j.path.items) (path_in j.from.items) j.recover
+asked_of (job.Compact j) = compact (string_bytes j.file) (meta_in j.meta) (string_bytes j.target) (size_in j.page_size) j.kind j.recover
 
 -- the words that a line gives by each name
 abbrev pub Values : Type 0
@@ -225,30 +251,55 @@ list_form_by (Some word) = list_form_of word
 list_form_by None = Ok list_form.Hex
 
 -- the slot of a meta by its word; without one it is that of the active meta
-abbrev pub slot_of : Text → Result (Option Slot) Text
+abbrev pub slot_of : Text → Result Slot Text
 slot_of word =
-    if bytes_eq word (codes "0") then Ok (Some Zero)
-    else if bytes_eq word (codes "1") then Ok (Some One)
+    if bytes_eq word (codes "0") then Ok Zero
+    else if bytes_eq word (codes "1") then Ok One
     else Err (codes "bad meta: use 0 or 1")
 
 abbrev pub slot_by : Option Text → Result (Option Slot) Text
-slot_by (Some word) = slot_of word
+slot_by (Some word) = result_and_then (λ slot. Ok (Some slot)) (slot_of word)
 slot_by None = Ok None
+
+-- an assumed meta by its page size, and its root page after a colon (58)
+abbrev bad_assumed : Text
+bad_assumed = codes "bad meta: use PAGE_SIZE:ROOT, and no --meta"
+
+abbrev pub assumed_when : Result (Option ℕ) Text → Option ℕ → Result AskedAssumed Text
+assumed_when (Ok (Some page_size)) (Some root) = Ok (record { page_size = page_size; root = root })
+assumed_when _ _ = Err bad_assumed
+
+abbrev pub assumed_of : Text → Result AskedAssumed Text
+assumed_of word = assumed_when (page_size_of (before_first (λ byte. byte == 58) word)) (number_of (after_first (λ byte. byte == 58) word))
+
+abbrev pub assumed_by : Option Text → Result (Option AskedAssumed) Text
+assumed_by (Some word) = result_and_then (λ meta. Ok (Some meta)) (assumed_of word)
+assumed_by None = Ok None
+
+-- the meta by the words of `--meta` and `--assume-meta`, of which only one may be given
+abbrev pub meta_asked : (named assumed : Option Text) → Result AskedMeta Text
+meta_asked None None = Ok active
+meta_asked (Some word) None = result_and_then (λ slot. Ok (in_slot slot)) (slot_of word)
+meta_asked None (Some word) = result_and_then (λ meta. Ok (assumed meta)) (assumed_of word)
+meta_asked (Some word) (Some other) = Err bad_assumed
+
+abbrev pub meta_by : Values → Result AskedMeta Text
+meta_by values = meta_asked (first_of (values (codes "meta"))) (first_of (values (codes "assume-meta")))
 
 abbrev pub asks_info : Values → Result Asked Text
 asks_info values = result_and_then (λ file. result_and_then (λ slot. Ok (info file slot))
     (slot_by (first_of (values (codes "meta"))))) (text_by (codes "FILE") values)
 
 abbrev pub asks_page : Values → Result Asked Text
-asks_page values = result_and_then (λ file. result_and_then (λ id. Ok (page file id))
-    (result_and_then page_id (text_by (codes "ID") values))) (text_by (codes "FILE") values)
+asks_page values = result_and_then (λ file. result_and_then (λ meta. result_and_then (λ id. Ok (page file meta id))
+    (result_and_then page_id (text_by (codes "ID") values))) (assumed_by (first_of (values (codes "assume-meta"))))) (text_by (codes "FILE") values)
 
 abbrev pub asks_pages : Values → Result Asked Text
 asks_pages values = result_and_then (λ file. Ok (pages file (is_given (first_of (values (codes "map")))))) (text_by (codes "FILE") values)
 
 abbrev pub asks_check : Values → Result Asked Text
-asks_check values = result_and_then (λ file. result_and_then (λ slot. Ok (check file slot (is_given (first_of (values (codes "all")))) (is_given (first_of (values (codes "etcd-snapshot"))))))
-    (slot_by (first_of (values (codes "meta"))))) (text_by (codes "FILE") values)
+asks_check values = result_and_then (λ file. result_and_then (λ meta. Ok (check file meta (is_given (first_of (values (codes "all")))) (is_given (first_of (values (codes "etcd-snapshot"))))))
+    (meta_by values)) (text_by (codes "FILE") values)
 
 -- a path by its words
 abbrev pub path_by : Values → Result Path Text
@@ -258,32 +309,32 @@ path_by values = result_and_then (λ how. each_part (part_of how) (values (codes
 abbrev pub prefix_by : Values → Result Key Text
 prefix_by values = result_and_then (λ how. prefix_of how (first_of (values (codes "prefix")))) (parts_by (first_of (values (codes "parts"))))
 
-abbrev pub asks_at : (Text → Option Slot → Path → Form → Result Asked Text) → Values → Result Asked Text
-asks_at wanted values = result_and_then (λ file. result_and_then (λ slot. result_and_then (λ form. result_and_then (λ path. wanted file slot path form) (path_by values))
-    (form_by (first_of (values (codes "form"))))) (slot_by (first_of (values (codes "meta"))))) (text_by (codes "FILE") values)
+abbrev pub asks_at : (Text → AskedMeta → Path → Form → Result Asked Text) → Values → Result Asked Text
+asks_at wanted values = result_and_then (λ file. result_and_then (λ meta. result_and_then (λ form. result_and_then (λ path. wanted file meta path form) (path_by values))
+    (form_by (first_of (values (codes "form"))))) (meta_by values)) (text_by (codes "FILE") values)
 
 abbrev pub asks_buckets : Values → Result Asked Text
-asks_buckets values = asks_at (λ file slot path form. Ok (buckets file slot path form (is_given (first_of (values (codes "sizes")))))) values
+asks_buckets values = asks_at (λ file meta path form. Ok (buckets file meta path form (is_given (first_of (values (codes "sizes")))))) values
 
 abbrev pub asks_keys : Values → Result Asked Text
-asks_keys values = asks_at (λ file slot path form. result_and_then (λ prefix. Ok (keys file slot path prefix form)) (prefix_by values)) values
+asks_keys values = asks_at (λ file meta path form. result_and_then (λ prefix. Ok (keys file meta path prefix form)) (prefix_by values)) values
 
 abbrev pub asks_get : Values → Result Asked Text
-asks_get values = asks_at (λ file slot path form. Ok (get file slot path form (is_given (first_of (values (codes "no-newline")))))) values
+asks_get values = asks_at (λ file meta path form. Ok (get file meta path form (is_given (first_of (values (codes "no-newline")))))) values
 
 abbrev pub asks_stats : Values → Result Asked Text
-asks_stats values = result_and_then (λ file. result_and_then (λ slot. result_and_then (λ path. Ok (stats file slot path)) (path_by values))
-    (slot_by (first_of (values (codes "meta"))))) (text_by (codes "FILE") values)
+asks_stats values = result_and_then (λ file. result_and_then (λ meta. result_and_then (λ path. Ok (stats file meta path)) (path_by values))
+    (meta_by values)) (text_by (codes "FILE") values)
 
 abbrev pub asks_list : Values → Result Asked Text
-asks_list values = result_and_then (λ file. result_and_then (λ slot. result_and_then (λ form. result_and_then (λ path. result_and_then (λ from.
-    Ok (list file slot form path from (is_given (first_of (values (codes "recover"))))))
-    (hex_path_by (first_of (values (codes "from"))))) (path_by values)) (list_form_by (first_of (values (codes "form"))))) (slot_by (first_of (values (codes "meta"))))) (text_by (codes "FILE") values)
+asks_list values = result_and_then (λ file. result_and_then (λ meta. result_and_then (λ form. result_and_then (λ path. result_and_then (λ from.
+    Ok (list file meta form path from (is_given (first_of (values (codes "recover"))))))
+    (hex_path_by (first_of (values (codes "from"))))) (path_by values)) (list_form_by (first_of (values (codes "form"))))) (meta_by values)) (text_by (codes "FILE") values)
 
 abbrev pub asks_compact : Values → Result Asked Text
-asks_compact values = result_and_then (λ file. result_and_then (λ slot. result_and_then (λ target. result_and_then (λ size.
-    Ok (compact file slot target size (copy_kind_by (first_of (values (codes "for-bbolt"))) (first_of (values (codes "etcd-snapshot")))) (is_given (first_of (values (codes "recover"))))))
-    (page_size_by (first_of (values (codes "page-size"))))) (text_by (codes "output") values)) (slot_by (first_of (values (codes "meta"))))) (text_by (codes "FILE") values)
+asks_compact values = result_and_then (λ file. result_and_then (λ meta. result_and_then (λ target. result_and_then (λ size.
+    Ok (compact file meta target size (copy_kind_by (first_of (values (codes "for-bbolt"))) (first_of (values (codes "etcd-snapshot")))) (is_given (first_of (values (codes "recover"))))))
+    (page_size_by (first_of (values (codes "page-size"))))) (text_by (codes "output") values)) (meta_by values)) (text_by (codes "FILE") values)
 
 -- a command by its line, and what the words of that line ask for, or which of them can't be read and why
 pub record Command : Type 0 where

@@ -18,7 +18,7 @@ pub(crate) fn print_buckets<O: Sink>(
     job: &BucketsJob,
     out: &mut O,
 ) -> Result<u8, Failure>
-    ensures { (answer : Answer) × IsReadAnswer file.now job.now.slot (IsBucketsAnswer file.now (path_in job.now.path.items) job.now.form job.now.sizes) answer
+    ensures { (answer : Answer) × IsReadAnswer file.now job.now.meta (IsBucketsAnswer file.now (path_in job.now.path.items) job.now.form job.now.sizes) answer
         × Does O.taken O.failed out.old out.new answer result }
 {
     if job.sizes {
@@ -34,10 +34,10 @@ fn print_names<O: Sink>(
     job: &BucketsJob,
     out: &mut O,
 ) -> Result<u8, Failure>
-    ensures { (answer : Answer) × IsReadAnswer file.now job.now.slot (IsEntriesAnswer file.now (path_in job.now.path.items) job.now.form (buckets_text job.now.form)) answer
+    ensures { (answer : Answer) × IsReadAnswer file.now job.now.meta (IsEntriesAnswer file.now (path_in job.now.path.items) job.now.form (buckets_text job.now.form)) answer
         × Does O.taken O.failed out.old out.new answer result }
 {
-    let checked = open_read(alloc, file, job.slot)?;
+    let checked = open_read(alloc, file, job.meta)?;
     let bucket = open_bucket(checked, job.path.as_slice())?;
     buckets(alloc, &bucket, job.form, out)?;
     Ok(0)
@@ -49,10 +49,10 @@ fn print_sizes<O: Sink>(
     job: &BucketsJob,
     out: &mut O,
 ) -> Result<u8, Failure>
-    ensures { (answer : Answer) × IsReadAnswer file.now job.now.slot (IsSizesAnswer file.now (path_in job.now.path.items) job.now.form) answer
+    ensures { (answer : Answer) × IsReadAnswer file.now job.now.meta (IsSizesAnswer file.now (path_in job.now.path.items) job.now.form) answer
         × Does O.taken O.failed out.old out.new answer result }
 {
-    let checked = open_read(alloc, file, job.slot)?;
+    let checked = open_read(alloc, file, job.meta)?;
     let bucket = open_bucket(checked, job.path.as_slice())?;
     sizes(alloc, &bucket, job.form, out)?;
     Ok(0)

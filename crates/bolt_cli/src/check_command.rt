@@ -9,10 +9,11 @@ ghost use Rattle.bolt_cli.specs.SnapshotAnswers.{errors_in, fault_lines, hash_fo
 
 use crate::failure::Failure;
 use crate::job::CheckJob;
+use crate::meta_choice::MetaChoice;
 use crate::open_read::open_read;
 use crate::open_recovery::open_recovery;
 use bolt_check::{CheckFault, Finding, NoMemory};
-use bolt_format::{MetaFault, Sink, Slot};
+use bolt_format::{MetaFault, Sink};
 use bolt_recover::{Loss, Recovery};
 use bolt_report::{
     ReportFault, all_lost_text, counted_losses_text, findings_text, snapshot_fault_text,
@@ -29,14 +30,14 @@ pub(crate) fn print_check<O: Sink>(
     job: &CheckJob,
     out: &mut O,
 ) -> Result<u8, Failure>
-    ensures { (answer : Answer) × IsCheckAnswer job.now.all job.now.snapshot file.now job.now.slot answer
+    ensures { (answer : Answer) × IsCheckAnswer job.now.all job.now.snapshot file.now job.now.meta answer
         × Does O.taken O.failed out.old out.new answer result }
 {
     let hash = hash_found(job.snapshot, file);
     if job.all {
-        print_losses(alloc, file, job.slot, hash, out)
+        print_losses(alloc, file, job.meta, hash, out)
     } else {
-        print_findings(alloc, file, job.slot, hash, out)
+        print_findings(alloc, file, job.meta, hash, out)
     }
 }
 
@@ -52,14 +53,14 @@ fn hash_found(snapshot: bool, file: &[u8]) -> Option<SnapshotFault>
 fn print_findings<O: Sink>(
     alloc: Global,
     file: &[u8],
-    slot: Option<Slot>,
+    choice: MetaChoice,
     hash: Option<SnapshotFault>,
     out: &mut O,
 ) -> Result<u8, Failure>
-    ensures { (answer : Answer) × IsFoundAnswer hash file.now slot answer
+    ensures { (answer : Answer) × IsFoundAnswer hash file.now choice answer
         × Does O.taken O.failed out.old out.new answer result }
 {
-    match open_read(alloc, file, slot) {
+    match open_read(alloc, file, choice) {
         Ok(_) => put_none_found(hash, out),
         Err(fault) => put_refusal(&fault, hash, out),
     }
@@ -69,21 +70,21 @@ fn print_findings<O: Sink>(
 fn print_losses<O: Sink>(
     alloc: Global,
     file: &[u8],
-    slot: Option<Slot>,
+    choice: MetaChoice,
     hash: Option<SnapshotFault>,
     out: &mut O,
 ) -> Result<u8, Failure>
-    ensures { (answer : Answer) × IsRecoveredAnswer file.now slot (IsLossesAnswer hash file.now slot) (λ fault answer. answer ≡ all_refusal hash fault) answer
+    ensures { (answer : Answer) × IsRecoveredAnswer file.now choice (IsLossesAnswer hash file.now choice) (λ fault answer. answer ≡ all_refusal hash fault) answer
         × Does O.taken O.failed out.old out.new answer result }
 {
-    let mut recovery = match open_recovery(alloc, file, slot) {
+    let mut recovery = match open_recovery(alloc, file, choice) {
         Ok(recovery) => recovery,
         Err(fault) => return put_all_lost(&fault, hash, out),
     };
     walk_to_end(&mut recovery)?;
     let losses = recovery.losses();
     if losses.is_empty() {
-        return print_findings(alloc, file, slot, hash, out);
+        return print_findings(alloc, file, choice, hash, out);
     }
     put_losses(losses, hash, out)
 }

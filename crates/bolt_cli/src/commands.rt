@@ -150,6 +150,14 @@ const META: Choice = Choice {
     required: false,
 };
 
+const ASSUME_META: Choice = Choice {
+    name: "assume-meta",
+    flag: Flag::Long("assume-meta"),
+    value: Some("A"),
+    help: "Read the file as under a meta with page size and root page A, such as 4096:3, and ignore its metas and freelist",
+    required: false,
+};
+
 const INFO_META: Choice = Choice {
     name: "meta",
     flag: Flag::Long("meta"),
@@ -242,7 +250,7 @@ pub(crate) static SYNTAXES: [Syntax; 10] = [
         name: "page",
         about: "Print one page: its type and its items, keys and values in hex",
         operands: &[FILE, ID],
-        options: &[],
+        options: &[ASSUME_META],
         note: None,
     },
     Syntax {
@@ -256,49 +264,57 @@ pub(crate) static SYNTAXES: [Syntax; 10] = [
         name: "check",
         about: "Check whether the file is sound; if it isn't, print what is wrong",
         operands: &[FILE],
-        options: &[ALL, CHECK_SNAPSHOT, META],
+        options: &[ALL, CHECK_SNAPSHOT, META, ASSUME_META],
         note: None,
     },
     Syntax {
         name: "buckets",
         about: "Print the names of the buckets in a bucket",
         operands: &[FILE, BUCKET_IN],
-        options: &[SIZES, FORM, PARTS, META],
+        options: &[SIZES, FORM, PARTS, META, ASSUME_META],
         note: None,
     },
     Syntax {
         name: "keys",
         about: "Print the keys of a bucket, and the names of the buckets in it",
         operands: &[FILE, BUCKET_PART],
-        options: &[PREFIX, FORM, PARTS, META],
+        options: &[PREFIX, FORM, PARTS, META, ASSUME_META],
         note: None,
     },
     Syntax {
         name: "get",
         about: "Print the value of a key",
         operands: &[FILE, KEY_PART],
-        options: &[NO_NEWLINE, FORM, PARTS, META],
+        options: &[NO_NEWLINE, FORM, PARTS, META, ASSUME_META],
         note: None,
     },
     Syntax {
         name: "stats",
         about: "Print figures of all buckets, or of one and all in it: their number, keys, depth and pages",
         operands: &[FILE, BUCKET_IN],
-        options: &[PARTS, META],
+        options: &[PARTS, META, ASSUME_META],
         note: None,
     },
     Syntax {
         name: "list",
         about: "Print everything in the file or in a bucket, one line for each path, in hex or as JSON",
         operands: &[FILE, BUCKET_IN],
-        options: &[FROM, LIST_FORM, PARTS, RECOVER, META],
+        options: &[FROM, LIST_FORM, PARTS, RECOVER, META, ASSUME_META],
         note: None,
     },
     Syntax {
         name: "compact",
         about: "Write a compact copy: everything in the file, and no free pages",
         operands: &[FILE],
-        options: &[OUTPUT, PAGE_SIZE, FOR_BBOLT, COPY_SNAPSHOT, RECOVER, META],
+        options: &[
+            OUTPUT,
+            PAGE_SIZE,
+            FOR_BBOLT,
+            COPY_SNAPSHOT,
+            RECOVER,
+            META,
+            ASSUME_META,
+        ],
         note: Some(COPY_NOTE),
     },
 ];

@@ -30,7 +30,7 @@ pub(crate) fn write_copy<O: Sink, T: Sink>(
     out: &mut O,
     target: &mut T,
 ) -> Result<u8, Failure>
-    ensures { MakesCopy O.taken O.failed out.old out.new T.taken T.failed target.old target.new file.now job.now.slot job.now.page_size (layout_for job.now.kind) (is_snapshot job.now.kind) job.now.recover result }
+    ensures { MakesCopy O.taken O.failed out.old out.new T.taken T.failed target.old target.new file.now job.now.meta job.now.page_size (layout_for job.now.kind) (is_snapshot job.now.kind) job.now.recover result }
 {
     if job.recover {
         write_recovered(alloc, file, job, out, target)
@@ -47,9 +47,9 @@ fn write_sound<O: Sink, T: Sink>(
     out: &mut O,
     target: &mut T,
 ) -> Result<u8, Failure>
-    ensures { Compacts O.taken O.failed out.old out.new T.taken T.failed target.old target.new file.now job.now.slot job.now.page_size (layout_for job.now.kind) (is_snapshot job.now.kind) result }
+    ensures { Compacts O.taken O.failed out.old out.new T.taken T.failed target.old target.new file.now job.now.meta job.now.page_size (layout_for job.now.kind) (is_snapshot job.now.kind) result }
 {
-    let checked = open_read(alloc, file, job.slot)?;
+    let checked = open_read(alloc, file, job.meta)?;
     if hash_differs(job, file) {
         return Err(Failure::HashDiffers);
     }
@@ -68,9 +68,9 @@ fn write_recovered<O: Sink, T: Sink>(
     out: &mut O,
     target: &mut T,
 ) -> Result<u8, Failure>
-    ensures { Recovers O.taken O.failed out.old out.new T.taken T.failed target.old target.new file.now job.now.slot job.now.page_size (layout_for job.now.kind) (is_snapshot job.now.kind) result }
+    ensures { Recovers O.taken O.failed out.old out.new T.taken T.failed target.old target.new file.now job.now.meta job.now.page_size (layout_for job.now.kind) (is_snapshot job.now.kind) result }
 {
-    let mut recovery = open_recovery(alloc, file, job.slot)?;
+    let mut recovery = open_recovery(alloc, file, job.meta)?;
     let meta = recovery.meta();
     file_has_good_copies(file, meta.root_sequence);
     let shape = shape_of(job, &meta);

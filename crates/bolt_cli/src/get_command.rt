@@ -22,10 +22,10 @@ pub(crate) fn print_value<O: Sink>(
     job: &GetJob,
     out: &mut O,
 ) -> Result<u8, Failure>
-    ensures { (answer : Answer) × IsReadAnswer file.now job.now.slot (IsGetAnswer file.now (path_in job.now.path.items) job.now.form job.now.no_newline) answer
+    ensures { (answer : Answer) × IsReadAnswer file.now job.now.meta (IsGetAnswer file.now (path_in job.now.path.items) job.now.form job.now.no_newline) answer
         × Does O.taken O.failed out.old out.new answer result }
 {
-    let checked = open_read(alloc, file, job.slot)?;
+    let checked = open_read(alloc, file, job.meta)?;
     let value = find_value(checked, job.path.as_slice())?;
     put_value(alloc, value, job.form, job.no_newline, out)?;
     Ok(0)

@@ -1,6 +1,7 @@
 //! What a command line asks for.
 
 use crate::copy_kind::CopyKind;
+use crate::meta_choice::{AssumedMeta, MetaChoice};
 use crate::page_size::PageSize;
 use bolt_format::Slot;
 use bolt_report::{Form, ListForm};
@@ -31,6 +32,8 @@ pub struct InfoJob {
 #[derive(Debug, Drop)]
 pub struct PageJob {
     pub file: String,
+    /// The meta that the file is read under. Without one it is the active meta.
+    pub assumed: Option<AssumedMeta>,
     pub id: u64,
 }
 
@@ -46,8 +49,7 @@ pub struct PagesJob {
 #[derive(Debug, Drop)]
 pub struct CheckJob {
     pub file: String,
-    /// The slot of the meta that the file is read under. Without one it is the active meta.
-    pub slot: Option<Slot>,
+    pub meta: MetaChoice,
     /// Whether to find everything that is lost of the file.
     pub all: bool,
     /// Whether to check first that the file ends with the SHA-256 of what is before it.
@@ -58,7 +60,7 @@ pub struct CheckJob {
 #[derive(Debug, Drop)]
 pub struct BucketsJob {
     pub file: String,
-    pub slot: Option<Slot>,
+    pub meta: MetaChoice,
     pub form: Form,
     pub path: Vec<Vec<u8>>,
     /// Whether to print the sizes of each before its name.
@@ -70,7 +72,7 @@ pub struct BucketsJob {
 #[derive(Debug, Drop)]
 pub struct StatsJob {
     pub file: String,
-    pub slot: Option<Slot>,
+    pub meta: MetaChoice,
     pub path: Vec<Vec<u8>>,
 }
 
@@ -78,7 +80,7 @@ pub struct StatsJob {
 #[derive(Debug, Drop)]
 pub struct KeysJob {
     pub file: String,
-    pub slot: Option<Slot>,
+    pub meta: MetaChoice,
     pub form: Form,
     pub path: Vec<Vec<u8>>,
     pub prefix: Vec<u8>,
@@ -88,7 +90,7 @@ pub struct KeysJob {
 #[derive(Debug, Drop)]
 pub struct GetJob {
     pub file: String,
-    pub slot: Option<Slot>,
+    pub meta: MetaChoice,
     pub form: Form,
     pub path: Vec<Vec<u8>>,
     /// Whether to print no line feed after it.
@@ -100,7 +102,7 @@ pub struct GetJob {
 #[derive(Debug, Drop)]
 pub struct ListJob {
     pub file: String,
-    pub slot: Option<Slot>,
+    pub meta: MetaChoice,
     pub form: ListForm,
     pub path: Vec<Vec<u8>>,
     pub from: Vec<Vec<u8>>,
@@ -112,7 +114,7 @@ pub struct ListJob {
 #[derive(Debug, Drop)]
 pub struct CompactJob {
     pub file: String,
-    pub slot: Option<Slot>,
+    pub meta: MetaChoice,
     /// The name of OUT.
     pub target: String,
     /// The page size of the copy. Without one it is that of the file.

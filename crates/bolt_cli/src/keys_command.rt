@@ -19,10 +19,10 @@ pub(crate) fn print_keys<O: Sink>(
     job: &KeysJob,
     out: &mut O,
 ) -> Result<u8, Failure>
-    ensures { (answer : Answer) × IsReadAnswer file.now job.now.slot (IsEntriesAnswer file.now (path_in job.now.path.items) job.now.form (λ entries. keys_text job.now.form (with_prefix job.now.prefix.items entries))) answer
+    ensures { (answer : Answer) × IsReadAnswer file.now job.now.meta (IsEntriesAnswer file.now (path_in job.now.path.items) job.now.form (λ entries. keys_text job.now.form (with_prefix job.now.prefix.items entries))) answer
         × Does O.taken O.failed out.old out.new answer result }
 {
-    let checked = open_read(alloc, file, job.slot)?;
+    let checked = open_read(alloc, file, job.meta)?;
     let bucket = open_bucket(checked, job.path.as_slice())?;
     let mut cursor = bucket.cursor();
     keys_with_prefix(alloc, &mut cursor, job.prefix.as_slice(), job.form, out)?;

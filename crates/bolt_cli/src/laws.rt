@@ -1,20 +1,22 @@
 //! What the definitions of answers imply.
-ghost use Rattle.std.specs.Prelude.{◌≡◌, ◌≢◌, ◌↔◌, ◌⊎◌, ◌<◌, ◌^◌, ℕ, Bool, false, true, List, None, Ok, Option, Some, codes, length, take};
+ghost use Rattle.std.specs.Prelude.{◌≡◌, ◌≢◌, ◌↔◌, ◌⊎◌, ◌<◌, ◌^◌, ℕ, Bool, false, true, List, Ok, Option, codes, length, take};
 ghost use Rattle.bolt_check.specs.Sound.{HasSoundTrees};
 ghost use Rattle.bolt_format.specs.Metas.{IsMetasEnd};
 ghost use Rattle.bolt_format.specs.declared.meta.Meta.{Meta};
-ghost use Rattle.bolt_format.specs.declared.meta.Slot.{Slot};
 ghost use Rattle.bolt_layout.specs.Copies.{IsOfOneTree};
 ghost use Rattle.bolt_layout.specs.declared.layout.Layout.{Layout};
 ghost use Rattle.bolt_report.specs.declared.form.ListForm.{ListForm};
 ghost use Rattle.bolt_tree.specs.Listing.{Member};
 ghost use Rattle.bolt_tree.specs.Paths.{Path};
-ghost use Rattle.bolt_cli.specs.Answers.{Answer, DoesJob, Ending, IsCheckAnswer, IsListedAnswer, IsShownMeta, MakesCopy, done, refused};
+ghost use Rattle.bolt_cli.specs.Answers.{Answer, DoesJob, Ending, IsCheckAnswer, IsListedAnswer, MakesCopy, done, refused};
 ghost use Rattle.bolt_cli.specs.GoodCopies.{HasGoodCopies, IsGoodCopy};
+ghost use Rattle.bolt_cli.specs.MetaChoices.{IsMetaOf};
 ghost use Rattle.bolt_cli.specs.Needs.{needs_metas_alone};
 ghost use Rattle.bolt_cli.specs.SnapshotAnswers.{copy_of, hash_differs};
 ghost use Rattle.bolt_cli.specs.declared.failure.Failure.TheVariants as failure;
 ghost use Rattle.bolt_cli.specs.declared.job.Job.{Job};
+ghost use Rattle.bolt_cli.specs.declared.meta_choice.MetaChoice.{MetaChoice};
+ghost use Rattle.bolt_cli.specs.declared.meta_choice.MetaChoice.TheVariants as choice;
 ghost use Rattle.bolt_cli.specs.declared.page_size.PageSize.{PageSize};
 
 use bolt_check::laws::{sound_trees_have_no_finding, sound_trees_pass_the_tests};
@@ -54,26 +56,28 @@ pub fn whole_copies_are_good()
 /// if it is a snapshot, unless memory runs out. For a proper prefix of it, the status isn't 0.
 pub fn good_copies_pass_the_check()
     ensures whole { (all snapshot : Bool) (layout : List ℕ) (listing : List Member) (answer : Answer) → IsGoodCopy snapshot layout listing
-        → IsCheckAnswer all snapshot (copy_of snapshot layout) None answer → (answer ≡ done (codes "OK\n")) ⊎ (answer ≡ refused failure.Memory) }
+        → IsCheckAnswer all snapshot (copy_of snapshot layout) choice.Active answer → (answer ≡ done (codes "OK\n")) ⊎ (answer ≡ refused failure.Memory) }
     ensures prefixes { (all snapshot : Bool) (layout : List ℕ) (listing : List Member) (n : ℕ) (answer : Answer) → IsGoodCopy snapshot layout listing
-        → n < length (copy_of snapshot layout) → IsCheckAnswer all snapshot (take n (copy_of snapshot layout)) None answer → answer.ending ≢ Ok 0 }
+        → n < length (copy_of snapshot layout) → IsCheckAnswer all snapshot (take n (copy_of snapshot layout)) choice.Active answer → answer.ending ≢ Ok 0 }
 {
     chosen_meta_is_one();
     sound_trees_have_no_finding();
     sound_trees_lose_nothing();
 }
 
-/// With sound trees, `list --recover` and `compact --recover` do exactly what they do without it and
-/// with `--meta` and the slot of the meta that is in use, unless a snapshot is to be made of one whose
-/// hash differs.
+/// With sound trees, `list --recover` and `compact --recover` do exactly what they do without it under
+/// the same meta, chosen so that its accounts don't count: by its slot, or as an assumed one. The
+/// exception is a snapshot that is to be made of one whose hash differs.
 pub fn recovering_sound_trees_reads_them<O: Sink, T: Sink>()
-    ensures list { (file : List ℕ) (slot : Slot) (meta : Meta) → HasSoundTrees file meta
-        → (wanted : Option Slot) (form : ListForm) (path from : Path) (answer : Answer) → IsShownMeta file wanted slot meta
-        → IsListedAnswer true file wanted form path from answer ↔ IsListedAnswer false file (Some slot) form path from answer }
-    ensures compact { (file : List ℕ) (slot : Slot) (meta : Meta) → HasSoundTrees file meta → (out_old out_new : O) (target_old target_new : T)
-        → (wanted : Option Slot) (size : Option PageSize) (layout : Layout) (snapshot : Bool) (ending : Ending) → IsShownMeta file wanted slot meta → hash_differs snapshot file ≡ false
+    ensures list { (file : List ℕ) (meta : Meta) → HasSoundTrees file meta
+        → (wanted named : MetaChoice) → IsMetaOf file wanted meta → IsMetaOf file named meta → named ≢ choice.Active
+        → (form : ListForm) (path from : Path) (answer : Answer)
+        → IsListedAnswer true file wanted form path from answer ↔ IsListedAnswer false file named form path from answer }
+    ensures compact { (file : List ℕ) (meta : Meta) → HasSoundTrees file meta
+        → (wanted named : MetaChoice) → IsMetaOf file wanted meta → IsMetaOf file named meta → named ≢ choice.Active
+        → (out_old out_new : O) (target_old target_new : T) (size : Option PageSize) (layout : Layout) (snapshot : Bool) (ending : Ending) → hash_differs snapshot file ≡ false
         → MakesCopy O.taken O.failed out_old out_new T.taken T.failed target_old target_new file wanted size layout snapshot true ending
-        ↔ MakesCopy O.taken O.failed out_old out_new T.taken T.failed target_old target_new file (Some slot) size layout snapshot false ending }
+        ↔ MakesCopy O.taken O.failed out_old out_new T.taken T.failed target_old target_new file named size layout snapshot false ending }
 {
     chosen_meta_is_one();
     slot_meta_is_one();

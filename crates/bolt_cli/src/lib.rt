@@ -18,6 +18,7 @@ mod job;
 mod keys_command;
 pub mod laws;
 mod list_command;
+mod meta_choice;
 mod open_bucket;
 mod open_read;
 mod open_recovery;
@@ -37,6 +38,7 @@ pub use job::{
     BucketsJob, CheckJob, CompactJob, GetJob, InfoJob, Job, KeysJob, ListJob, PageJob, PagesJob,
     StatsJob,
 };
+pub use meta_choice::{AssumedMeta, MetaChoice};
 pub use page_size::PageSize;
 pub use refusal::Refusal;
 pub use runs::{Status, run};

@@ -30,7 +30,7 @@ pub(crate) fn print_list<O: Sink>(
     job: &ListJob,
     out: &mut O,
 ) -> Result<u8, Failure>
-    ensures { (answer : Answer) × IsListedAnswer job.now.recover file.now job.now.slot job.now.form (path_in job.now.path.items) (path_in job.now.from.items) answer
+    ensures { (answer : Answer) × IsListedAnswer job.now.recover file.now job.now.meta job.now.form (path_in job.now.path.items) (path_in job.now.from.items) answer
         × Does O.taken O.failed out.old out.new answer result }
 {
     if job.recover {
@@ -46,10 +46,10 @@ fn print_sound<O: Sink>(
     job: &ListJob,
     out: &mut O,
 ) -> Result<u8, Failure>
-    ensures { (answer : Answer) × IsReadAnswer file.now job.now.slot (IsListAnswer file.now job.now.form (path_in job.now.path.items) (path_in job.now.from.items)) answer
+    ensures { (answer : Answer) × IsReadAnswer file.now job.now.meta (IsListAnswer file.now job.now.form (path_in job.now.path.items) (path_in job.now.from.items)) answer
         × Does O.taken O.failed out.old out.new answer result }
 {
-    let checked = open_read(alloc, file, job.slot)?;
+    let checked = open_read(alloc, file, job.meta)?;
     // Only for the error if there is no such bucket.
     open_bucket(checked, job.path.as_slice())?;
     put_sound_part(alloc, checked, job, out)?;
@@ -62,10 +62,10 @@ fn print_recovered<O: Sink>(
     job: &ListJob,
     out: &mut O,
 ) -> Result<u8, Failure>
-    ensures { (answer : Answer) × IsRecoveredAnswer file.now job.now.slot (IsRecoveredList file.now job.now.form (path_in job.now.path.items) (path_in job.now.from.items)) IsFileRefusal answer
+    ensures { (answer : Answer) × IsRecoveredAnswer file.now job.now.meta (IsRecoveredList file.now job.now.form (path_in job.now.path.items) (path_in job.now.from.items)) IsFileRefusal answer
         × Does O.taken O.failed out.old out.new answer result }
 {
-    let mut recovery = open_recovery(alloc, file, job.slot)?;
+    let mut recovery = open_recovery(alloc, file, job.meta)?;
     if !put_recovered_part(alloc, &mut recovery, job, out)? {
         return Err(Failure::NoBucket);
     }

@@ -3,23 +3,24 @@ ghost use Rattle.std.specs.Prelude.{◌≡◌, IfErr, IfOk};
 ghost use Rattle.bolt_check.specs.CheckedFiles.{bytes_of, meta_of};
 ghost use Rattle.bolt_cli.specs.Answers.{IsReadUnder, IsRefusedUnder};
 
-use bolt_check::{CheckFault, Checked, check, check_slot};
-use bolt_format::Slot;
+use crate::meta_choice::MetaChoice;
+use bolt_check::{CheckFault, Checked, check, check_slot, check_under};
 use std::alloc::Global;
 
-/// Checks the file under the meta in a slot, whose trees must be sound. Without a slot, checks it
-/// under the active meta, and its accounts too.
+/// Checks the file under the meta that is chosen. Its trees must be sound and, under the active meta,
+/// its accounts too.
 pub(crate) fn open_read(
     alloc: Global,
     file: &[u8],
-    slot: Option<Slot>,
+    choice: MetaChoice,
 ) -> Result<Checked<'_>, CheckFault>
     ensures bytes { IfOk result (λ checked. bytes_of checked ≡ file.now) }
-    ensures sound { IfOk result (λ checked. IsReadUnder file.now slot (meta_of checked)) }
-    ensures refused { IfErr result (IsRefusedUnder file.now slot) }
+    ensures sound { IfOk result (λ checked. IsReadUnder file.now choice (meta_of checked)) }
+    ensures refused { IfErr result (IsRefusedUnder file.now choice) }
 {
-    match slot {
-        None => check(alloc, file),
-        Some(slot) => check_slot(alloc, file, slot),
+    match choice {
+        MetaChoice::Active => check(alloc, file),
+        MetaChoice::InSlot(slot) => check_slot(alloc, file, slot),
+        MetaChoice::Assumed(assumed) => check_under(alloc, file, assumed.for_file(file)),
     }
 }

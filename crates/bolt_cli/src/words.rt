@@ -2,7 +2,7 @@
 ghost use Rattle.std.specs.Prelude.{◌≡◌, Err, IfErr, IfOk, MatchOption, MatchResult, None, Ok, Some, codes, map, option_map, string_bytes};
 ghost use Rattle.clap.specs.Words.{fault_of, found_of, kind_of, rows_of, subcommand_rows_of};
 ghost use Rattle.bolt_cli.specs.CommandLine.{Asks, Gives, HasKindOf, IsRefusedBy, asked_by, asked_by_subcommand, program, values_in};
-ghost use Rattle.bolt_cli.specs.PlainWords.{asked, asked_of, asks_buckets, asks_check, asks_compact, asks_get, asks_info, asks_keys, asks_list, asks_page, asks_pages, asks_stats, first_of, form_by, form_of, copy_kind_by, list_form_by, number_of, page_id, page_size_by, page_size_of, path_by, path_in, prefix_by, size_in, slot_by, text_by};
+ghost use Rattle.bolt_cli.specs.PlainWords.{asked, asked_of, asks_buckets, asks_check, asks_compact, asks_get, asks_info, asks_keys, asks_list, asks_page, asks_pages, asks_stats, assumed_by, assumed_in, assumed_of, first_of, form_by, form_of, copy_kind_by, list_form_by, meta_by, meta_in, number_of, page_id, page_size_by, page_size_of, path_by, path_in, prefix_by, size_in, slot_by, slot_of, text_by};
 
 use crate::command_line;
 use crate::copy_kind::CopyKind;
@@ -10,6 +10,7 @@ use crate::job::{
     BucketsJob, CheckJob, CompactJob, GetJob, InfoJob, Job, KeysJob, ListJob, PageJob, PagesJob,
     StatsJob,
 };
+use crate::meta_choice::{AssumedMeta, MetaChoice};
 use crate::page_size::PageSize;
 use crate::path_words::{read_from, read_parts, read_path, read_prefix};
 use crate::refusal::Refusal;
@@ -18,6 +19,8 @@ use bolt_report::{Form, ListForm};
 use clap::error::ErrorKind;
 use clap::{ArgMatches, Error};
 use std::alloc::{AllocError, Global};
+
+const BAD_ASSUMED: &str = "bad meta: use PAGE_SIZE:ROOT, and no --meta";
 
 /// Reads the words of a command line. The first one is the program's name. docs/COMMANDS.md has the
 /// commands, and says how each word is written.
@@ -95,6 +98,7 @@ fn read_page(alloc: Global, matches: &ArgMatches<'_>) -> Result<Job, Refusal>
 {
     Ok(Job::Page(PageJob {
         file: read_text(alloc, matches, "FILE")?,
+        assumed: read_assumed(choice(matches, "assume-meta"))?,
         id: read_page_id(value(matches, "ID")?)?,
     }))
 }
@@ -113,7 +117,7 @@ fn read_check(alloc: Global, matches: &ArgMatches<'_>) -> Result<Job, Refusal>
 {
     Ok(Job::Check(CheckJob {
         file: read_text(alloc, matches, "FILE")?,
-        slot: read_slot(choice(matches, "meta"))?,
+        meta: read_meta(matches)?,
         all: choice(matches, "all").is_some(),
         snapshot: choice(matches, "etcd-snapshot").is_some(),
     }))
@@ -124,7 +128,7 @@ fn read_buckets(alloc: Global, matches: &ArgMatches<'_>) -> Result<Job, Refusal>
 {
     Ok(Job::Buckets(BucketsJob {
         file: read_text(alloc, matches, "FILE")?,
-        slot: read_slot(choice(matches, "meta"))?,
+        meta: read_meta(matches)?,
         form: read_form(choice(matches, "form"))?,
         path: read_parts_of(alloc, matches)?,
         sizes: choice(matches, "sizes").is_some(),
@@ -136,7 +140,7 @@ fn read_keys(alloc: Global, matches: &ArgMatches<'_>) -> Result<Job, Refusal>
 {
     Ok(Job::Keys(KeysJob {
         file: read_text(alloc, matches, "FILE")?,
-        slot: read_slot(choice(matches, "meta"))?,
+        meta: read_meta(matches)?,
         form: read_form(choice(matches, "form"))?,
         path: read_parts_of(alloc, matches)?,
         prefix: read_prefix_of(alloc, matches)?,
@@ -148,7 +152,7 @@ fn read_get(alloc: Global, matches: &ArgMatches<'_>) -> Result<Job, Refusal>
 {
     Ok(Job::Get(GetJob {
         file: read_text(alloc, matches, "FILE")?,
-        slot: read_slot(choice(matches, "meta"))?,
+        meta: read_meta(matches)?,
         form: read_form(choice(matches, "form"))?,
         path: read_parts_of(alloc, matches)?,
         no_newline: choice(matches, "no-newline").is_some(),
@@ -160,7 +164,7 @@ fn read_list(alloc: Global, matches: &ArgMatches<'_>) -> Result<Job, Refusal>
 {
     Ok(Job::List(ListJob {
         file: read_text(alloc, matches, "FILE")?,
-        slot: read_slot(choice(matches, "meta"))?,
+        meta: read_meta(matches)?,
         form: read_list_form(choice(matches, "form"))?,
         path: read_parts_of(alloc, matches)?,
         from: read_from(alloc, choice(matches, "from"))?,
@@ -173,7 +177,7 @@ fn read_stats(alloc: Global, matches: &ArgMatches<'_>) -> Result<Job, Refusal>
 {
     Ok(Job::Stats(StatsJob {
         file: read_text(alloc, matches, "FILE")?,
-        slot: read_slot(choice(matches, "meta"))?,
+        meta: read_meta(matches)?,
         path: read_parts_of(alloc, matches)?,
     }))
 }
@@ -183,7 +187,7 @@ fn read_compact(alloc: Global, matches: &ArgMatches<'_>) -> Result<Job, Refusal>
 {
     Ok(Job::Compact(CompactJob {
         file: read_text(alloc, matches, "FILE")?,
-        slot: read_slot(choice(matches, "meta"))?,
+        meta: read_meta(matches)?,
         target: read_text(alloc, matches, "output")?,
         page_size: read_page_size(choice(matches, "page-size"))?,
         kind: read_copy_kind(
@@ -278,15 +282,62 @@ fn read_number(word: &str) -> Option<u64>
     word.parse().ok()
 }
 
+/// The meta that is read under, by the words of `--meta` and `--assume-meta`. Only one of them may
+/// be given.
+fn read_meta(matches: &ArgMatches<'_>) -> Result<MetaChoice, Refusal>
+    ensures { Gives meta_in (meta_by (values_in (rows_of (found_of matches.now)))) result }
+{
+    match (choice(matches, "meta"), choice(matches, "assume-meta")) {
+        (None, None) => Ok(MetaChoice::Active),
+        (Some(word), None) => Ok(MetaChoice::InSlot(slot_of(word)?)),
+        (None, Some(word)) => Ok(MetaChoice::Assumed(assumed_of(word)?)),
+        (Some(_), Some(_)) => Err(Refusal::Word(BAD_ASSUMED)),
+    }
+}
+
 fn read_slot(word: Option<&str>) -> Result<Option<Slot>, Refusal>
     ensures { Gives (λ slot. slot) (slot_by (option_map (λ text. text.now) word.entry)) result }
 {
     match word {
+        Some(word) => Ok(Some(slot_of(word)?)),
         None => Ok(None),
-        Some("0") => Ok(Some(Slot::Zero)),
-        Some("1") => Ok(Some(Slot::One)),
-        Some(_) => Err(Refusal::Word("bad meta: use 0 or 1")),
     }
+}
+
+fn slot_of(word: &str) -> Result<Slot, Refusal>
+    ensures { Gives (λ slot. slot) (slot_of word.now) result }
+{
+    match word {
+        "0" => Ok(Slot::Zero),
+        "1" => Ok(Slot::One),
+        _ => Err(Refusal::Word("bad meta: use 0 or 1")),
+    }
+}
+
+fn read_assumed(word: Option<&str>) -> Result<Option<AssumedMeta>, Refusal>
+    ensures { Gives (option_map assumed_in) (assumed_by (option_map (λ text. text.now) word.entry)) result }
+{
+    match word {
+        Some(word) => Ok(Some(assumed_of(word)?)),
+        None => Ok(None),
+    }
+}
+
+fn assumed_of(word: &str) -> Result<AssumedMeta, Refusal>
+    ensures { Gives assumed_in (assumed_of word.now) result }
+{
+    find_assumed(word).ok_or(Refusal::Word(BAD_ASSUMED))
+}
+
+/// The page size before the first colon, and the root page after it.
+fn find_assumed(word: &str) -> Option<AssumedMeta>
+    ensures { MatchOption result (assumed_of word.now ≡ Err (codes "bad meta: use PAGE_SIZE:ROOT, and no --meta")) (λ assumed. assumed_of word.now ≡ Ok (assumed_in assumed)) }
+{
+    let (page_size, root) = word.split_once(':')?;
+    Some(AssumedMeta {
+        page_size: read_size(page_size)?,
+        root: read_number(root)?,
+    })
 }
 
 fn read_form(word: Option<&str>) -> Result<Form, Refusal>

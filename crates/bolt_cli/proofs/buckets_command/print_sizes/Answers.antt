@@ -5,24 +5,24 @@ use Rattle.bolt_cli.proofs.SizesAnswers.{sizes_missing, sizes_put}
 use Rattle.bolt_cli.proofs.buckets_command.print_sizes.Goals as goal
 
 pub returns-in_err-checked : goal.returns-in_err-checked
-returns-in_err-checked g c = Does-unread g.O.Sink.taken g.O.Sink.failed c.args.out.now c.args.file.now c.args.job.now.slot c.in_err-checked.field-0.0 _ c.in_err-checked.ensures.refused c.from_residual.ensures.1
+returns-in_err-checked g c = Does-unread g.O.Sink.taken g.O.Sink.failed c.args.out.now c.args.file.now c.args.job.now.meta c.in_err-checked.field-0.0 _ c.in_err-checked.ensures.refused c.from_residual.ensures.1
 
 pub returns-in_err-bucket : goal.returns-in_err-bucket
 returns-in_err-bucket g c =
     let opened = c.in_ok-checked.ensures in
-    sizes_missing c.args.file.now c.args.job.now.slot (path_in c.args.job.now.path.items) c.args.job.now.form c.in_ok-checked.checked opened.bytes opened.sound
+    sizes_missing c.args.file.now c.args.job.now.meta (path_in c.args.job.now.path.items) c.args.job.now.form c.in_ok-checked.checked opened.bytes opened.sound
     g.O.Sink.taken g.O.Sink.failed c.args.out.now c.in_err-bucket.field-0.0 _ (rw (sym c.as_slice.ensures.value) c.in_err-bucket.ensures.refused) c.from_residual-in_err-bucket.ensures.1
 
 pub returns-in_err-sizes : goal.returns-in_err-sizes
 returns-in_err-sizes g c =
     let opened = c.in_ok-checked.ensures in
     let found = c.in_ok-bucket.ensures in
-    sizes_put c.args.file.now c.args.job.now.slot (path_in c.args.job.now.path.items) c.args.job.now.form c.in_ok-checked.checked opened.bytes opened.sound
+    sizes_put c.args.file.now c.args.job.now.meta (path_in c.args.job.now.path.items) c.args.job.now.form c.in_ok-checked.checked opened.bytes opened.sound
     c.in_ok-bucket.bucket found.file (rw (sym c.as_slice.ensures.value) found.named) c.args.out.now c.sizes.new.sink _ _ c.in_err-sizes.ensures.written c.in_err-sizes.ensures.fault c.in_err-sizes.ensures.memory c.from_residual-in_err-sizes.ensures.1
 
 pub returns : goal.returns
 returns g c =
     let opened = c.in_ok-checked.ensures in
     let found = c.in_ok-bucket.ensures in
-    sizes_put c.args.file.now c.args.job.now.slot (path_in c.args.job.now.path.items) c.args.job.now.form c.in_ok-checked.checked opened.bytes opened.sound
+    sizes_put c.args.file.now c.args.job.now.meta (path_in c.args.job.now.path.items) c.args.job.now.form c.in_ok-checked.checked opened.bytes opened.sound
     c.in_ok-bucket.bucket found.file (rw (sym c.as_slice.ensures.value) found.named) c.args.out.now c.sizes.new.sink _ _ c.in_ok-sizes.ensures.written tt tt refl

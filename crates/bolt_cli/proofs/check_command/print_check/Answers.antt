@@ -7,4 +7,4 @@ use Rattle.bolt_cli.proofs.check_command.print_check.Goals as goal
 pub returns-then-job : goal.returns-then-job
 returns-then-job g c =
     let (answer, is, does) = c.print_losses.ensures in
-    (answer, subst₂ (λ (all : Bool) (hash : Option SnapshotFault). IsCheckAnswerAfter all hash c.args.file.now c.args.job.now.slot answer) (sym c.if-job.true) c.hash_found-hash.ensures is, does)
+    (answer, subst₂ (λ (all : Bool) (hash : Option SnapshotFault). IsCheckAnswerAfter all hash c.args.file.now c.args.job.now.meta answer) (sym c.if-job.true) c.hash_found-hash.ensures is, does)

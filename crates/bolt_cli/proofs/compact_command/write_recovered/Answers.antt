@@ -13,7 +13,7 @@ use Rattle.bolt_cli.proofs.compact_command.write_recovered.Goals as goal
 pub returns-in_err-recovery : goal.returns-in_err-recovery
 returns-in_err-recovery g c =
     let refused = c.in_err-recovery.ensures.refused in
-    let (failure, is, ends) = failure_named c.in_err-recovery.field-0.0 _ (unrecoverable_finding c.args.file.now c.args.job.now.slot _ refused) c.from_residual.ensures.1 in
+    let (failure, is, ends) = failure_named c.in_err-recovery.field-0.0 _ (unrecoverable_finding c.args.file.now c.args.job.now.meta _ refused) c.from_residual.ensures.1 in
     inr (c.in_err-recovery.field-0.0, failure, refused, is, refl, refl, ends)
 
 pub returns-in_err-length : goal.returns-in_err-length

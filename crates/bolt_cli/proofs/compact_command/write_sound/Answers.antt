@@ -12,7 +12,7 @@ use Rattle.bolt_cli.proofs.compact_command.write_sound.Goals as goal
 pub returns-in_err-checked : goal.returns-in_err-checked
 returns-in_err-checked g c =
     let refused = c.in_err-checked.ensures.refused in
-    let (failure, is, ends) = failure_named c.in_err-checked.field-0.0 _ (unread_finding c.args.file.now c.args.job.now.slot _ refused) c.from_residual.ensures.1 in
+    let (failure, is, ends) = failure_named c.in_err-checked.field-0.0 _ (unread_finding c.args.file.now c.args.job.now.meta _ refused) c.from_residual.ensures.1 in
     inr (inr (c.in_err-checked.field-0.0, failure, refused, is, refl, refl, ends))
 
 pub returns-then-hash_differs : goal.returns-then-hash_differs

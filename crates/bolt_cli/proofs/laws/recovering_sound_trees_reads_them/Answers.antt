@@ -13,6 +13,6 @@ returns g c =
       none_lost = c.sound_trees_recover_what_they_list.ensures.losses;
     } in record {
       list = lists_the_same below;
-      compact = λ file slot meta trees out_old out_new target_old target_new.
-          copies_the_same below file slot meta trees g.O.Sink.taken g.O.Sink.failed out_old out_new g.T.Sink.taken g.T.Sink.failed target_old target_new;
+      compact = λ file meta trees wanted named shown shown_named alone out_old out_new target_old target_new.
+          copies_the_same below file meta trees wanted named shown shown_named alone g.O.Sink.taken g.O.Sink.failed out_old out_new g.T.Sink.taken g.T.Sink.failed target_old target_new;
     }

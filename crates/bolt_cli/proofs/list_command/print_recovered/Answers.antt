@@ -8,7 +8,7 @@ use Rattle.bolt_cli.proofs.RestAnswers.{rest_found, rest_missing, rest_stopped}
 use Rattle.bolt_cli.proofs.list_command.print_recovered.Goals as goal
 
 pub returns-in_err-recovery : goal.returns-in_err-recovery
-returns-in_err-recovery g c = Does-refused g.O.Sink.taken g.O.Sink.failed c.args.out.now c.in_err-recovery.field-0.0 _ (unrecoverable_finding c.args.file.now c.args.job.now.slot _ c.in_err-recovery.ensures.refused) c.in_err-recovery.ensures.refused c.from_residual.ensures.1
+returns-in_err-recovery g c = Does-refused g.O.Sink.taken g.O.Sink.failed c.args.out.now c.in_err-recovery.field-0.0 _ (unrecoverable_finding c.args.file.now c.args.job.now.meta _ c.in_err-recovery.ensures.refused) c.in_err-recovery.ensures.refused c.from_residual.ensures.1
 
 pub returns-in_err-put_recovered_part : goal.returns-in_err-put_recovered_part
 returns-in_err-put_recovered_part g c =

@@ -12,7 +12,7 @@ use Rattle.bolt_cli.proofs.ReadFiles.{read_trees}
 use Rattle.bolt_cli.proofs.list_command.print_sound.Goals as goal
 
 pub returns-in_err-checked : goal.returns-in_err-checked
-returns-in_err-checked g c = Does-unread g.O.Sink.taken g.O.Sink.failed c.args.out.now c.args.file.now c.args.job.now.slot c.in_err-checked.field-0.0 _ c.in_err-checked.ensures.refused c.from_residual.ensures.1
+returns-in_err-checked g c = Does-unread g.O.Sink.taken g.O.Sink.failed c.args.out.now c.args.file.now c.args.job.now.meta c.in_err-checked.field-0.0 _ c.in_err-checked.ensures.refused c.from_residual.ensures.1
 
 pub returns-in_err-open_bucket : goal.returns-in_err-open_bucket
 returns-in_err-open_bucket g c =
@@ -21,7 +21,7 @@ returns-in_err-open_bucket g c =
     let job = c.args.job.now in
     let said = c.in_err-open_bucket.ensures.refused in (
       refused failure.NoBucket,
-      inl (meta_of checked, under, no_bucket_listed c.args.file.now checked job.form (path_in job.path.items) (path_in job.from.items) c.in_ok-checked.ensures.bytes (read_trees c.args.file.now c.args.job.now.slot (meta_of checked) under) (rw (sym c.as_slice.ensures.value) said.1)),
+      inl (meta_of checked, under, no_bucket_listed c.args.file.now checked job.form (path_in job.path.items) (path_in job.from.items) c.in_ok-checked.ensures.bytes (read_trees c.args.file.now c.args.job.now.meta (meta_of checked) under) (rw (sym c.as_slice.ensures.value) said.1)),
       Does-nothing g.O.Sink.taken g.O.Sink.failed c.args.out.now failure.NoBucket _
           (subst (λ (reason : Failure). IsErrAnd c.from_residual-in_err-open_bucket.result (λ said. said ≡ reason)) said.0 c.from_residual-in_err-open_bucket.ensures.1),
     )
@@ -32,7 +32,7 @@ returns-in_err-put_sound_part g c =
     let under = c.in_ok-checked.ensures.sound in
     let job = c.args.job.now in
     let failed = c.in_err-put_sound_part.ensures in
-    let (answer, listed, does) = list_put c.args.file.now checked job.form (path_in job.path.items) (path_in job.from.items) c.in_ok-checked.ensures.bytes (read_trees c.args.file.now c.args.job.now.slot (meta_of checked) under)
+    let (answer, listed, does) = list_put c.args.file.now checked job.form (path_in job.path.items) (path_in job.from.items) c.in_ok-checked.ensures.bytes (read_trees c.args.file.now c.args.job.now.meta (meta_of checked) under)
     (bucket_start c.in_ok-open_bucket.field-0) (rw (sym c.as_slice.ensures.value) c.in_ok-open_bucket.ensures.named) c.args.out.now c.put_sound_part.new.out _ _ failed.written failed.fault failed.memory c.from_residual-in_err-put_sound_part.ensures.1 in
     (answer, inl (meta_of checked, under, listed), does)
 
@@ -41,6 +41,6 @@ returns g c =
     let checked = c.in_ok-checked.checked in
     let under = c.in_ok-checked.ensures.sound in
     let job = c.args.job.now in
-    let (answer, listed, does) = list_put c.args.file.now checked job.form (path_in job.path.items) (path_in job.from.items) c.in_ok-checked.ensures.bytes (read_trees c.args.file.now c.args.job.now.slot (meta_of checked) under)
+    let (answer, listed, does) = list_put c.args.file.now checked job.form (path_in job.path.items) (path_in job.from.items) c.in_ok-checked.ensures.bytes (read_trees c.args.file.now c.args.job.now.meta (meta_of checked) under)
     (bucket_start c.in_ok-open_bucket.field-0) (rw (sym c.as_slice.ensures.value) c.in_ok-open_bucket.ensures.named) c.args.out.now c.put_sound_part.new.out _ _ c.in_ok-put_sound_part.ensures.written tt tt refl in
     (answer, inl (meta_of checked, under, listed), does)

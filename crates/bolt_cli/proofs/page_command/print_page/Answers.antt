@@ -10,7 +10,7 @@ pub returns-in_err-meta : goal.returns-in_err-meta
 returns-in_err-meta g c =
     let fault = c.in_err-meta.field-0.0 in (
       refused (failure.Metas fault),
-      inr (fault, c.in_err-meta.ensures.fault, c.in_err-meta.ensures.none, refl),
+      inr (fault, c.in_err-meta.ensures.none, refl),
       Does-nothing g.O.Sink.taken g.O.Sink.failed c.args.out.now (failure.Metas fault) _ c.from_residual.ensures.1,
     )
 
@@ -19,7 +19,7 @@ returns-in_err-page_text g c =
     let file = c.args.file.now in
     let meta = c.in_ok-meta.meta in (
       page_answer (page_text_fault file meta c.args.job.now.id) (page_text file meta c.args.job.now.id),
-      inl (_, meta, c.in_ok-meta.ensures.chosen, refl),
+      inl (meta, c.in_ok-meta.ensures.opened, refl),
       Does-page_part g.O.Sink.taken g.O.Sink.failed c.args.out.now c.page_text.new.sink (page_text_fault file meta c.args.job.now.id) (page_text file meta c.args.job.now.id) _ _
           c.in_err-page_text.ensures.written (c.in_err-page_text.ensures.memory) c.in_err-page_text.ensures.page c.in_err-page_text.ensures.untouched c.from_residual-in_err-page_text.ensures.1,
     )
@@ -29,7 +29,7 @@ returns g c =
     let file = c.args.file.now in
     let meta = c.in_ok-meta.meta in (
       page_answer (page_text_fault file meta c.args.job.now.id) (page_text file meta c.args.job.now.id),
-      inl (_, meta, c.in_ok-meta.ensures.chosen, refl),
+      inl (meta, c.in_ok-meta.ensures.opened, refl),
       Does-page_whole g.O.Sink.taken g.O.Sink.failed c.args.out.now c.page_text.new.sink (page_text_fault file meta c.args.job.now.id) (page_text file meta c.args.job.now.id) _
           c.in_ok-page_text.ensures.written c.in_ok-page_text.ensures.page,
     )

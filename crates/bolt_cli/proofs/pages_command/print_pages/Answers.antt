@@ -1,13 +1,14 @@
-use Rattle.std.proofs.Common.{None, inl, refl}
+use Rattle.std.proofs.Common.{inl, refl}
 use Rattle.bolt_check.specs.CheckedFiles.{meta_of}
 use Rattle.bolt_check.specs.RoledFiles.{roles_checked}
+use Rattle.bolt_cli.specs.declared.meta_choice.MetaChoice.TheVariants.{Active}
 use Rattle.bolt_cli.proofs.Doing.{Does-refused}
 use Rattle.bolt_cli.proofs.ReadFiles.{unread_finding}
 use Rattle.bolt_cli.proofs.PagesAnswers.{pages_cut, pages_put}
 use Rattle.bolt_cli.proofs.pages_command.print_pages.Goals as goal
 
 pub returns-in_err-roles : goal.returns-in_err-roles
-returns-in_err-roles g c = Does-refused g.O.Sink.taken g.O.Sink.failed c.args.out.now c.in_err-roles.field-0.0 _ (unread_finding c.args.file.now None _ c.in_err-roles.ensures.refused) c.in_err-roles.ensures.refused c.from_residual.ensures.1
+returns-in_err-roles g c = Does-refused g.O.Sink.taken g.O.Sink.failed c.args.out.now c.in_err-roles.field-0.0 _ (unread_finding c.args.file.now Active _ c.in_err-roles.ensures.refused) c.in_err-roles.ensures.refused c.from_residual.ensures.1
 
 pub returns-in_err-put_pages : goal.returns-in_err-put_pages
 returns-in_err-put_pages g c =

@@ -8,17 +8,17 @@ use Rattle.bolt_cli.proofs.StatsAnswers.{stats_missing}
 use Rattle.bolt_cli.proofs.stats_command.print_stats.Goals as goal
 
 pub find_stats-requires : goal.find_stats-requires
-find_stats-requires g c = own_trees c.args.file.now c.args.job.now.slot c.in_ok-checked.checked c.in_ok-checked.ensures.bytes c.in_ok-checked.ensures.sound
+find_stats-requires g c = own_trees c.args.file.now c.args.job.now.meta c.in_ok-checked.checked c.in_ok-checked.ensures.bytes c.in_ok-checked.ensures.sound
 
 pub returns-in_err-checked : goal.returns-in_err-checked
-returns-in_err-checked g c = Does-unread g.O.Sink.taken g.O.Sink.failed c.args.out.now c.args.file.now c.args.job.now.slot c.in_err-checked.field-0.0 _ c.in_err-checked.ensures.refused c.from_residual.ensures.1
+returns-in_err-checked g c = Does-unread g.O.Sink.taken g.O.Sink.failed c.args.out.now c.args.file.now c.args.job.now.meta c.in_err-checked.field-0.0 _ c.in_err-checked.ensures.refused c.from_residual.ensures.1
 
 pub returns-in_err-stats : goal.returns-in_err-stats
 returns-in_err-stats g c =
     let opened = c.in_ok-checked.ensures in
     let failure = c.in_err-stats.field-0.0 in (
       refused failure,
-      of_read (λ (f : List ℕ). IsStatsAnswer f (path_in c.args.job.now.path.items)) c.args.file.now c.args.job.now.slot c.in_ok-checked.checked opened.bytes opened.sound (refused failure)
+      of_read (λ (f : List ℕ). IsStatsAnswer f (path_in c.args.job.now.path.items)) c.args.file.now c.args.job.now.meta c.in_ok-checked.checked opened.bytes opened.sound (refused failure)
           (stats_missing c.in_ok-checked.checked (path_in c.args.job.now.path.items) failure (rw (sym c.as_slice.ensures.value) c.in_err-stats.ensures.missing)),
       Does-nothing g.O.Sink.taken g.O.Sink.failed c.args.out.now failure _ c.from_residual-in_err-stats.ensures.1,
     )
@@ -29,7 +29,7 @@ returns-in_err-stats_text g c =
     let stats = c.in_ok-stats.stats in
     let answer = done (stats_text stats) in (
       answer,
-      of_read (λ (f : List ℕ). IsStatsAnswer f (path_in c.args.job.now.path.items)) c.args.file.now c.args.job.now.slot c.in_ok-checked.checked opened.bytes opened.sound answer (inl (stats, (rw (sym c.as_slice.ensures.value) c.in_ok-stats.ensures.found), refl)),
+      of_read (λ (f : List ℕ). IsStatsAnswer f (path_in c.args.job.now.path.items)) c.args.file.now c.args.job.now.meta c.in_ok-checked.checked opened.bytes opened.sound answer (inl (stats, (rw (sym c.as_slice.ensures.value) c.in_ok-stats.ensures.found), refl)),
       Does-part _ _ answer _ _ c.in_err-stats_text.ensures.written c.in_err-stats_text.ensures.fault c.from_residual-in_err-stats_text.ensures.1,
     )
 
@@ -39,6 +39,6 @@ returns g c =
     let stats = c.in_ok-stats.stats in
     let answer = done (stats_text stats) in (
       answer,
-      of_read (λ (f : List ℕ). IsStatsAnswer f (path_in c.args.job.now.path.items)) c.args.file.now c.args.job.now.slot c.in_ok-checked.checked opened.bytes opened.sound answer (inl (stats, (rw (sym c.as_slice.ensures.value) c.in_ok-stats.ensures.found), refl)),
+      of_read (λ (f : List ℕ). IsStatsAnswer f (path_in c.args.job.now.path.items)) c.args.file.now c.args.job.now.meta c.in_ok-checked.checked opened.bytes opened.sound answer (inl (stats, (rw (sym c.as_slice.ensures.value) c.in_ok-stats.ensures.found), refl)),
       Does-whole _ _ answer _ c.in_ok-stats_text.ensures.written,
     )
