@@ -1,10 +1,13 @@
 mod ElementLists
+mod ContentLemmas
 pub mod Existing
 mod FirstLoss
 mod FoundAll
 mod FoundExists
 mod FoundLemmas
+mod FoundSteps
 mod HeldMembers
+mod JoinSteps
 mod JoinedLemmas
 mod Leading
 pub mod LeftMembers

@@ -15,8 +15,8 @@ use Rattle.bolt_recover.specs.Found.{FoundBelow, IsFoundPage, numbers_of}
 use Rattle.bolt_recover.specs.ShownFound.{IsFoundView}
 use Rattle.bolt_recover.specs.declared.found.Found.{Found}
 use Rattle.bolt_recover.proofs.FoundLemmas.{found_next, found_not, found_up, not_true, taken_more, view_of}
-use Rattle.bolt_recover.proofs.found.find_leaves.Goals as goal
-use Rattle.bolt_recover.proofs.found.find_leaves.Goals.{in-Some, in_default}
+use Rattle.bolt_recover.proofs.leaves.find_leaves.Goals as goal
+use Rattle.bolt_recover.proofs.leaves.find_leaves.Goals.{in-Some, in_default}
 
 pub loop-number-preserved : goal.loop-number-preserved
 loop-number-preserved c =
