@@ -1,7 +1,9 @@
 -- The members of the joined listing, one after another.
-use Rattle.std.proofs.Common.{◌≡◌, ◌≢◌, ◌∙◌, ◌<◌, ◌+◌, ℕ, suc, Bool, true, false, List, [], ◌∷◌, ◌++◌, ◌⊎◌, inl, inr, Option, Some, None, filter, length, not, arith, refl, sym, ap, subst, append_assoc}
+use Rattle.std.proofs.Common.{◌≡◌, ◌≢◌, ◌∙◌, ◌<◌, ◌+◌, ℕ, suc, Bool, true, false, List, [], ◌∷◌, ◌++◌, ◌⊎◌, inl, inr, Option, Some, None, Result, Ok, Err, IfOk, IfSome, OnErr, OnOk, filter, is_some, not, refl, sym, ap, subst, subst₂, append_assoc}
 use Rattle.std.specs.List.{All, Contains}
-use Rattle.std.specs.Ordering.{is_eq}
+use Rattle.std.proofs.Props.{props}
+use Rattle.std.specs.Option.{option_map}
+use Rattle.std.specs.Ordering.{is_eq, is_lt}
 use Rattle.std.proofs.lemmas.List.Elements.{All-head, All-tail}
 use Rattle.bolt_check.specs.Keys.{Key, key_lt}
 use Rattle.bolt_format.specs.Elements.{LeafElement}
@@ -11,6 +13,8 @@ use Rattle.bolt_format.specs.declared.meta.Meta.{Meta}
 use Rattle.bolt_tree.specs.Entries.{Bucket, Item, Value}
 use Rattle.bolt_tree.specs.Listing.{Member}
 use Rattle.bolt_tree.specs.Paths.{Path}
+use Rattle.bolt_tree.specs.ShownEntries.{item_view}
+use Rattle.bolt_tree.specs.Walks.{GivesNext}
 use Rattle.bolt_tree.specs.Tree.{Tree, end, listing_below, listing_of, tree_of, with_bucket, with_value}
 use Rattle.bolt_tree.proofs.Lists.{contains_cases, contains_head, contains_none, contains_tail}
 use Rattle.bolt_tree.proofs.ReadBack.{tree_back}
@@ -20,8 +24,8 @@ use Rattle.bolt_recover.specs.Places.{leaves_of}
 use Rattle.bolt_recover.specs.Recovered.{ForRecovered, IsRecovered}
 use Rattle.bolt_recover.specs.ShownFound.{IsFoundView}
 use Rattle.bolt_recover.specs.Private.FoundLeft.{below_bucket, bucket_members, pages_of}
-use Rattle.bolt_recover.specs.Private.Joining.{AreJoinable, IsHeldWell, first_cmp, left_at, put_members, recovered_in}
-use Rattle.bolt_recover.specs.Private.KeptMembers.{kept_left}
+use Rattle.bolt_recover.specs.Private.Joining.{AreJoinable, IsHeldWell, first_cmp, held_members, left_at, put_members, recovered_in}
+use Rattle.bolt_recover.specs.Private.KeptMembers.{kept_file, kept_left, kept_meta}
 use Rattle.bolt_recover.specs.declared.found.Found.{Found}
 use Rattle.bolt_recover.specs.declared.found_members.FoundMembers.{FoundMembers}
 use Rattle.bolt_recover.specs.declared.joined.Stage.{Stage}
@@ -159,3 +163,52 @@ module _ (stage : Stage) (kept : Kept) where
   begun_left file meta found bucket held begins are fresh listing is =
       let part = parted file meta found listing are is in
       all_at file meta found bucket held listing (recovered_in found listing) begins part (fresh (recovered_in found listing) part.recovers)
+
+-- a recovered member before the bucket
+pub before_given : (put old new : List Member) (path : Path) (given : Option CodeItem) → GivesNext old new path (option_map item_view given) → is_some given ≡ true → is_lt (first_cmp path) ≡ true
+    → GivesNext (put_members put old) (put_members put new) path (option_map item_view given)
+before_given put old new path None gives some less = absurd (let f : false ≡ true = some in cc)
+before_given put old new path (Some item) gives some less = ap (put_members put) gives ∙ rw less refl
+
+-- the bucket before a recovered member, or after all of them
+pub bucket_given : (found : List Found) (old new : List Member) (path : Path) (given : Option CodeItem) → GivesNext old new path (option_map item_view given) → (given ≡ None) ⊎ (is_lt (first_cmp path) ≡ false)
+    → put_members (bucket_members found) old ≡ (lost_and_found ∷ [], Bucket 0) ∷ (below_bucket found ++ (held_members path given ++ new))
+bucket_given found old new path None (none, rest, ended) over = rw (none, rest) refl
+bucket_given found old new path (Some item) gives (inl none) = absurd (cc)
+bucket_given found old new path (Some item) gives (inr over) = ap (put_members (bucket_members found)) gives ∙ rw over refl
+
+-- if no recovered member is held, none is left
+pub held_well : (old new : Kept) (path : Path) (given : Option CodeItem) → kept_file new ≡ kept_file old → kept_meta new ≡ kept_meta old
+    → ForRecovered (kept_file old) (kept_meta old) (λ recovered. GivesNext (kept_left old recovered) (kept_left new recovered) path (option_map item_view given)) → IsHeldWell Inside new given
+held_well old new path (Some item) file meta gives = tt
+held_well old new path None file meta gives = λ recovered is. (gives recovered (subst₂ (λ (f : List ℕ) (m : Meta). IsRecovered f m recovered) file meta is)).1
+
+pub gives_prop : (old new : List Member) (path : Path) (given : Option CodeItem) → IsProp (GivesNext old new path (option_map item_view given))
+gives_prop old new path None = hlevel props
+gives_prop old new path (Some item) = hlevel props
+
+pub when_ok : {X E : Type 0} {P Q : Type 0} (result : Result X E) → (P → Q) → OnOk result P → OnOk result Q
+when_ok (Ok x) further holds = further holds
+when_ok (Err e) further holds = tt
+
+-- if no recovered member was left, none is
+pub still_none : {E : Type 0} (old new : Kept) (path : Path) (result : Result (Option CodeItem) E) → kept_file new ≡ kept_file old → kept_meta new ≡ kept_meta old
+    → IfOk result (λ given. ForRecovered (kept_file old) (kept_meta old) (λ recovered. GivesNext (kept_left old recovered) (kept_left new recovered) path (option_map item_view given)))
+    → OnErr result (ForRecovered (kept_file old) (kept_meta old) (λ recovered. kept_left new recovered ≡ kept_left old recovered))
+    → ForRecovered (kept_file old) (kept_meta old) (λ recovered. kept_left old recovered ≡ []) → ForRecovered (kept_file new) (kept_meta new) (λ recovered. kept_left new recovered ≡ [])
+still_none old new path (Ok None) file meta gives same none = λ recovered is. (gives recovered (subst₂ (λ (f : List ℕ) (m : Meta). IsRecovered f m recovered) file meta is)).1
+still_none old new path (Ok (Some item)) file meta gives same none = λ recovered is.
+    let before = subst₂ (λ (f : List ℕ) (m : Meta). IsRecovered f m recovered) file meta is in
+    let some = sym (none recovered before) ∙ gives recovered before in
+    absurd (cc)
+still_none old new path (Err fault) file meta gives same none = λ recovered is.
+    let before = subst₂ (λ (f : List ℕ) (m : Meta). IsRecovered f m recovered) file meta is in
+    same recovered before ∙ none recovered before
+
+pub none_given : (P : CodeItem → Type 0) (old new : List Member) (path : Path) (given : Option CodeItem) → old ≡ [] → GivesNext old new path (option_map item_view given) → IfSome given P
+none_given P old new path None none gives = tt
+none_given P old new path (Some item) none gives = absurd (let some = sym none ∙ gives in cc)
+
+pub when_fault : {X E : Type 0} {P Q : Type 0} (result : Result X E) → (P → Q) → OnErr result P → OnErr result Q
+when_fault (Ok x) further holds = tt
+when_fault (Err e) further holds = further holds

@@ -127,10 +127,7 @@ impl<'a> Joined<'a> {
     ///
     /// `Exists` if a page is found and the recovered root bucket has an entry `lost+found`; `Memory`
     /// if memory runs out.
-    pub fn new(
-        mut recovery: Recovery<'a>,
-        found: &'a [Found<'a>],
-    ) -> Result<Joined<'a>, JoinFault>
+    pub fn new(mut recovery: Recovery<'a>, found: &'a [Found<'a>]) -> Result<Joined<'a>, JoinFault>
         requires fresh { ForRecovered (recovery_file recovery) (recovery_meta recovery) (λ listing. recovery_left recovery listing ≡ listing) }
         requires found { AreFound (recovery_file recovery) (recovery_meta recovery) (numbers_of found.now) }
         requires views { All (IsFoundView (recovery_file recovery) (recovery_meta recovery)) found.now }
@@ -223,10 +220,11 @@ impl<'a> Joined<'a> {
         if let Some(item) = self.bucket.next() {
             return Ok(Some(item));
         }
-        let item = match self.held {
-            Some(item) => Some(item),
-            None => self.kept.next()?,
-        };
+        if let Some(item) = self.held {
+            self.stage = Stage::After;
+            return Ok(Some(item));
+        }
+        let item = self.kept.next()?;
         self.stage = Stage::After;
         Ok(item)
     }
@@ -262,8 +260,7 @@ impl<'a> Members<'a> for Joined<'a> {
     }
 
     fn restart(&mut self, _alloc: Global) -> Result<(), NoMemory> {
-        self.kept.restart()?;
         self.stage = first_stage(self.found);
-        Ok(())
+        self.kept.restart()
     }
 }

@@ -10,11 +10,10 @@ use Rattle.bolt_recover.specs.declared.found.Found.{Found}
 use Rattle.bolt_recover.proofs.joined.Joined.new.Goals as goal
 
 pub returns-then-branch-clause-refused : goal.returns-then-branch-clause-refused
-returns-then-branch-clause-refused c = λ exists.
-    (
-      λ none. let long : length c.args.found.now ≡ 0 = ap (λ (fs : List Found). length fs) none in grind (arith, common_steps, long, c.is_empty.ensures, c.if-is_empty.false),
-      rw c.if-branch.true at c.in_ok-has_bucket_key.ensures.has,
-    )
+returns-then-branch-clause-refused c = λ exists. (
+  λ none. let long : length c.args.found.now ≡ 0 = ap (λ (fs : List Found). length fs) none in grind (arith, common_steps, long, c.is_empty.ensures, c.if-is_empty.false),
+  rw c.if-branch.true at c.in_ok-has_bucket_key.ensures.has,
+)
 
 pub of-requires-2-clause-pages : goal.of-requires-2-clause-pages
 of-requires-2-clause-pages c =
