@@ -6,14 +6,13 @@ use Rattle.bolt_format.specs.Elements.{LeafElement}
 use Rattle.bolt_format.specs.Pages.{page_at}
 use Rattle.bolt_format.specs.declared.meta.Meta.{Meta}
 use Rattle.bolt_check.specs.Keys.{key_lt}
-use Rattle.bolt_tree.specs.Entries.{Bucket, Item, Value}
+use Rattle.bolt_tree.specs.Entries.{Bucket, Value}
 use Rattle.bolt_tree.specs.Listing.{Member}
 use Rattle.bolt_tree.specs.Paths.{Path}
 use Rattle.bolt_tree.specs.Tree.{Tree, end, listing_below, listing_of, tree_of, with_bucket, with_value}
 use Rattle.bolt_tree.proofs.Filters.{filter_all}
 use Rattle.bolt_tree.proofs.Lists.{contains_cases, contains_head, contains_none, contains_tail}
 use Rattle.bolt_tree.proofs.ReadBack.{tree_back}
-use Rattle.bolt_recover.specs.Found.{AreFound}
 use Rattle.bolt_recover.specs.Joined.{IsJoined, is_found_path, found_tree, joined_listing, lost_and_found, put_bucket}
 use Rattle.bolt_recover.specs.Places.{leaves_of}
 use Rattle.bolt_recover.specs.Recovered.{IsRecovered}

@@ -5,7 +5,6 @@ mod FirstLoss
 mod FoundAll
 mod FoundExists
 mod FoundLemmas
-mod FoundSteps
 mod HeldMembers
 mod JoinSteps
 mod JoinedLemmas

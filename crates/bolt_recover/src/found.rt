@@ -33,7 +33,7 @@ impl<'a> Found<'a> {
     /// A found page with its name.
     pub(crate) fn new(number: u64, page: TreePage<'a>) -> Found<'a>
         ensures number { result.number ≡ number }
-        ensures page { result.page ≡ page }
+        ensures page { result.page ≡ page.entry }
     {
         Found {
             number,

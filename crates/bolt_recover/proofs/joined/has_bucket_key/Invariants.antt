@@ -1,4 +1,4 @@
-use Rattle.std.proofs.Common.{◌≡◌, ◌⊎◌, true, not, List}
+use Rattle.std.proofs.Common.{◌≡◌, ◌⊎◌, true, not}
 use Rattle.std.specs.List.{Contains}
 use Rattle.bolt_tree.specs.Listing.{Member}
 use Rattle.bolt_recover.specs.Joined.{is_found_path}

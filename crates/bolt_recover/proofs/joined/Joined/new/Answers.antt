@@ -1,5 +1,5 @@
 -- The recovery begins again over the same file, in which the key of the bucket isn't taken.
-use Rattle.std.proofs.Common.{◌≡◌, ◌≢◌, ◌∙◌, List, [], length, arith, ap, subst₂, sym, ℕ}
+use Rattle.std.proofs.Common.{◌≡◌, ◌∙◌, List, length, arith, ap, subst₂, sym, ℕ}
 use Rattle.std.proofs.lemmas.Grind.{common_steps}
 use Rattle.bolt_format.specs.declared.meta.Meta.{Meta}
 use Rattle.bolt_tree.specs.Listing.{Member}

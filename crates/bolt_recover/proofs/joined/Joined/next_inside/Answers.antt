@@ -1,10 +1,8 @@
-use Rattle.std.proofs.Common.{◌≡◌, ◌∙◌, ◌++◌, List, [], None, ap, sym, subst₂, ℕ}
+use Rattle.std.proofs.Common.{◌≡◌, List, [], sym, subst₂, ℕ}
 use Rattle.std.proofs.Math.Logic.{∥∥₁_elim, ∥∥₁_map}
 use Rattle.std.proofs.Props.{props}
 use Rattle.bolt_format.specs.declared.meta.Meta.{Meta}
-use Rattle.bolt_tree.specs.Listing.{Member}
-use Rattle.bolt_recover.specs.JoinedMembers.{joined_file, joined_left, joined_meta, joined_path, joined_work}
-use Rattle.bolt_recover.specs.Private.FoundLeft.{bucket_left}
+use Rattle.bolt_recover.specs.JoinedMembers.{joined_file, joined_left, joined_meta, joined_path}
 use Rattle.bolt_recover.specs.Private.Joining.{AreJoinable, recovered_in}
 use Rattle.bolt_recover.specs.Private.KeptMembers.{kept_file, kept_left, kept_meta, kept_path}
 use Rattle.bolt_recover.specs.Recovered.{ForRecovered}

@@ -1,5 +1,5 @@
 -- Nothing is recovered.
-use Rattle.std.proofs.Common.{◌≡◌, [], List, subst, sym}
+use Rattle.std.proofs.Common.{List, subst, sym}
 use Rattle.std.specs.List.{Contains}
 use Rattle.bolt_tree.specs.Listing.{Member}
 use Rattle.bolt_tree.proofs.Lists.{contains_none}

@@ -1,5 +1,4 @@
 -- After the bucket of what is found, the members are those that are recovered.
-use Rattle.std.proofs.Common.{◌≡◌}
 use Rattle.std.proofs.Math.Logic.{∥∥₁_elim}
 use Rattle.std.proofs.Props.{props}
 use Rattle.std.specs.Option.{option_map}

@@ -1,11 +1,7 @@
 -- Begun again, over the same pages.
-use Rattle.std.proofs.Common.{◌≡◌, List, subst₂, sym, ℕ}
-use Rattle.std.proofs.Math.Logic.{∥∥₁_elim, ∥∥₁_map}
+use Rattle.std.proofs.Math.Logic.{∥∥₁_elim}
 use Rattle.std.proofs.Props.{props}
-use Rattle.std.proofs.lemmas.Grind.{merely}
-use Rattle.bolt_format.specs.declared.meta.Meta.{Meta}
 use Rattle.bolt_recover.specs.JoinedMembers.{joined_file, joined_left, joined_meta}
-use Rattle.bolt_recover.specs.Private.Joining.{AreJoinable}
 use Rattle.bolt_recover.specs.Private.KeptMembers.{kept_file, kept_meta}
 use Rattle.bolt_recover.proofs.JoinSteps.{begun_left, when_ok}
 use Rattle.bolt_recover.proofs.joined.JoinedMembers.restart.Goals as goal

@@ -1,5 +1,5 @@
 -- Nothing is recovered if the root page is lost.
-use Rattle.std.proofs.Common.{◌≡◌, [], subst, sym}
+use Rattle.std.proofs.Common.{sym}
 use Rattle.std.proofs.Math.Logic.{∥∥₁_elim}
 use Rattle.std.proofs.Props.{props}
 use Rattle.bolt_recover.proofs.FoundAll.{nothing_recovered}
