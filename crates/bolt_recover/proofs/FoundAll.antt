@@ -13,11 +13,15 @@ use Rattle.bolt_check.specs.Ways.{At_page, SpanAt, Spot, reached, root_spot}
 use Rattle.bolt_check.specs.declared.finding.Finding.{Finding}
 use Rattle.bolt_check.proofs.Judging.{tests_same}
 use Rattle.bolt_check.proofs.MarkLemmas.{node_below}
+use Rattle.bolt_tree.specs.Entries.{Item}
+use Rattle.bolt_tree.specs.Listing.{Member}
+use Rattle.bolt_tree.specs.Paths.{Path}
 use Rattle.bolt_tree.proofs.Lists.{contains_cases, contains_head, contains_none, contains_tail}
 use Rattle.bolt_recover.specs.Found.{AreFound, FoundBelow, IsFoundPage}
 use Rattle.bolt_recover.specs.KeptPages.{AreKeptPages, IsKeptPage}
 use Rattle.bolt_recover.specs.Losses.{AreLosses, LossView, losses_of}
 use Rattle.bolt_recover.specs.Private.Runs.{claims_of}
+use Rattle.bolt_recover.specs.Recovered.{IsRecovered, IsRecoveredMember}
 use Rattle.bolt_recover.specs.Recoveries.{recovery_meta}
 use Rattle.bolt_recover.specs.Refusals.{LosesRoot}
 use Rattle.bolt_recover.specs.Surveys.{Gives, Has, IsClaimedIn, IsOpen, IsSurvey, Visit, kept, lost}
@@ -25,6 +29,7 @@ use Rattle.bolt_recover.specs.declared.recovery.Recovery.{Recovery}
 use Rattle.bolt_recover.proofs.Existing.{has_survey}
 use Rattle.bolt_recover.proofs.FoundLemmas.{found_one, found_same, passed}
 use Rattle.bolt_recover.proofs.LostWays.{no_losses, nothing_lost}
+use Rattle.bolt_recover.proofs.OneRecovered.{one_recovered}
 use Rattle.bolt_recover.proofs.Recovering.{all_claimed, claimed_all}
 use Rattle.bolt_recover.proofs.RunSurveys.{claims_in, claims_is}
 use Rattle.bolt_recover.proofs.SurveyIsOne.{one_survey}
@@ -239,3 +244,15 @@ module _ (file : List ℕ) (meta : Meta) (x : Finding) (loses : LosesRoot file m
         found_same file meta (λ n. taken n ≡ true) (IsKeptPage file meta alone) (λ k was. inl ((metas k).0 was))
         (λ k is. elim is [ inl low ↦ (metas k).1 low | inr (v, (there, span)) ↦ absurd (not_kept v there) ]) meta.high_water found below;
   }
+
+  none_recovered : (path : Path) (item : Item) → IsRecoveredMember file meta alone path item → ⊥
+  none_recovered path item is = not_kept is.way is.keeps
+
+  pub nothing_recovered : (listing : List Member) → IsRecovered file meta listing → listing ≡ []
+  nothing_recovered listing is =
+      one_recovered file meta listing [] is (record {
+        survey = alone;
+        surveys = root_survey;
+        rises = tt;
+        exact = λ path item. (λ has. absurd (contains_none (path, item) has), λ member. absurd (none_recovered path item member));
+      })

@@ -6,14 +6,13 @@ use Rattle.bolt_format.specs.Elements.{LeafElement}
 use Rattle.bolt_format.specs.Pages.{page_at}
 use Rattle.bolt_format.specs.declared.meta.Meta.{Meta}
 use Rattle.bolt_check.specs.Keys.{key_lt}
-use Rattle.bolt_tree.specs.Entries.{Bucket, Item, Value}
+use Rattle.bolt_tree.specs.Entries.{Bucket, Value}
 use Rattle.bolt_tree.specs.Listing.{Member}
 use Rattle.bolt_tree.specs.Paths.{Path}
 use Rattle.bolt_tree.specs.Tree.{Tree, end, listing_below, listing_of, tree_of, with_bucket, with_value}
 use Rattle.bolt_tree.proofs.Filters.{filter_all}
 use Rattle.bolt_tree.proofs.Lists.{contains_cases, contains_head, contains_none, contains_tail}
 use Rattle.bolt_tree.proofs.ReadBack.{tree_back}
-use Rattle.bolt_recover.specs.Found.{AreFound}
 use Rattle.bolt_recover.specs.Joined.{IsJoined, is_found_path, found_tree, joined_listing, lost_and_found, put_bucket}
 use Rattle.bolt_recover.specs.Places.{leaves_of}
 use Rattle.bolt_recover.specs.Recovered.{IsRecovered}
@@ -26,7 +25,7 @@ use Rattle.bolt_recover.proofs.RunOrder.{further}
 use Rattle.bolt_recover.proofs.RunRecovers.{recovers}
 use Rattle.bolt_recover.proofs.RunTrees.{run_tree}
 
-abbrev stays : Member → Bool
+abbrev pub stays : Member → Bool
 stays m = not (is_found_path m.0)
 
 none_stays : (path : Path) (tree : Tree) (rest : List Member) → filter stays (listing_below (lost_and_found ∷ path) tree ++ rest) ≡ filter stays rest
@@ -90,7 +89,7 @@ joined_tree recovered [] (tree, of) = (tree, of)
 joined_tree recovered (page ∷ found) (tree, of) = (put_bucket lost_and_found (found_tree (page ∷ found)) (tree_of recovered), refl)
 
 module _ (file : List ℕ) (meta : Meta) where
-  abbrev with_elements : List ℕ → List (ℕ × List LeafElement)
+  abbrev pub with_elements : List ℕ → List (ℕ × List LeafElement)
   with_elements found = map (λ (n : ℕ). (n, leaves_of (page_at file meta n))) found
 
   pub one_joined : (a b : List Member) → IsJoined file meta a → IsJoined file meta b → a ≡ b
@@ -106,7 +105,7 @@ module _ (file : List ℕ) (meta : Meta) where
       let (found, are) = has_found file meta in
       (joined_listing recovered (with_elements found), record { recovered = recovered; recovers = back; found = found; are_found = are; joined = refl })
 
-  tree_recovered : (recovered : List Member) → IsRecovered file meta recovered → (tree : Tree) × (recovered ≡ listing_of tree)
+  pub tree_recovered : (recovered : List Member) → IsRecovered file meta recovered → (tree : Tree) × (recovered ≡ listing_of tree)
   tree_recovered recovered is =
       let (visits, members, run) = run_exists file meta further [] in
       let (tree, same) = run_tree file meta further [] visits members run in

@@ -1,10 +1,12 @@
 mod ElementLists
+mod ContentLemmas
 pub mod Existing
 mod FirstLoss
 mod FoundAll
 mod FoundExists
 mod FoundLemmas
 mod HeldMembers
+mod JoinSteps
 mod JoinedLemmas
 mod Leading
 pub mod LeftMembers

@@ -1,5 +1,5 @@
 -- The recovered listing, joined with what is found: docs/RECOVERY.md, "The joined listing".
-use Rattle.std.specs.Prelude.{◌≡◌, ◌==◌, ◌&&◌, ◌+◌, ◌/◌, ◌%◌, ℕ, zero, suc, Bool, false, List, [], ◌∷◌, ◌++◌, None, codes, if◌then◌else◌, is_none, map}
+use Rattle.std.specs.Prelude.{◌≡◌, ◌==◌, ◌&&◌, ℕ, Bool, true, false, List, [], ◌∷◌, Contains, None, codes, if◌then◌else◌, is_none, map, not}
 use Rattle.std.specs.Ordering.{is_eq}
 use Rattle.bolt_format.specs.Elements.{LeafElement, head_root, head_sequence, inline_elements}
 use Rattle.bolt_format.specs.Pages.{page_at}
@@ -9,6 +9,7 @@ use Rattle.bolt_tree.specs.Listing.{Member}
 use Rattle.bolt_tree.specs.Paths.{Path}
 use Rattle.bolt_tree.specs.Tree.{Tree, end, listing_of, tree_of, with_bucket, with_value}
 use Rattle.bolt_recover.specs.Found.{AreFound}
+use Rattle.bolt_recover.specs.PageKeys.{page_key}
 use Rattle.bolt_recover.specs.Places.{leaves_of}
 use Rattle.bolt_recover.specs.Recovered.{IsRecovered}
 
@@ -20,15 +21,6 @@ lost_and_found = codes "lost+found"
 abbrev pub is_found_path : Path → Bool
 is_found_path [] = false
 is_found_path (key ∷ path) = is_eq (key_cmp key lost_and_found)
-
--- a number in so many decimal digits
-abbrev pub decimal : ℕ → ℕ → List ℕ
-decimal zero n = []
-decimal (suc count) n = decimal count (n / 10) ++ (48 + n % 10) ∷ []
-
--- in it, the bucket of a found page has the page's number in sixteen digits as its key
-abbrev pub page_key : ℕ → Key
-page_key n = decimal 16 n
 
 -- elements as a tree, with what each bucket among them holds
 abbrev pub tree_with : (LeafElement → Tree) → List LeafElement → Tree
@@ -43,7 +35,7 @@ inside_of e =
     if (head_root e.value == 0) && is_none (keys_order_fault None None None (map (λ (inner : LeafElement). inner.key) (inline_elements e.value)))
     then tree_with (λ inner. end) (inline_elements e.value) else end
 
--- found pages with their elements
+-- found pages with their elements, each in a bucket that its number names
 abbrev pub found_tree : List (ℕ × List LeafElement) → Tree
 found_tree [] = end
 found_tree ((n, elements) ∷ found) = with_bucket (page_key n) 0 (tree_with inside_of elements) (found_tree found)
@@ -68,3 +60,11 @@ pub record IsJoined (file : List ℕ) (meta : Meta) (listing : List Member) : Ty
   pub found : List ℕ
   pub are_found : AreFound file meta found
   pub joined : listing ≡ joined_listing recovered (map (λ n. (n, leaves_of (page_at file meta n))) found)
+
+-- The recovered root bucket has an entry with the key of that bucket: a member lies at its path, or below it.
+abbrev pub HasBucketKey : List Member → Type 0
+HasBucketKey listing = (m : Member) × (Contains listing m × (is_found_path m.0 ≡ true))
+
+-- It has none.
+abbrev pub LacksBucketKey : List Member → Type 0
+LacksBucketKey listing = (m : Member) → Contains listing m → not (is_found_path m.0) ≡ true

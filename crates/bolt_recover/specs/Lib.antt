@@ -1,7 +1,9 @@
 pub mod Found
 pub mod Joined
+pub mod JoinedMembers
 pub mod KeptPages
 pub mod Losses
+pub mod PageKeys
 pub mod PageWays
 pub mod Places
 pub mod Private

@@ -1,3 +1,7 @@
 -- What private contracts and proofs cite, and no public one.
+pub mod ElementsLeft
+pub mod FoundLeft
 pub mod Frames
+pub mod Joining
+pub mod KeptMembers
 pub mod Runs

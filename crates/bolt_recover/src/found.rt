@@ -1,61 +1,44 @@
-//! Pages that are found though nothing leads to them.
-ghost use Rattle.std.specs.List.{All};
-ghost use Rattle.std.specs.Prelude.{◌≡◌, ◌↔◌, ◌<◌, ℕ, true, IfOk};
-ghost use Rattle.bolt_check.specs.Leftovers.{is_listed, is_taken, leftovers_file, leftovers_length, leftovers_meta};
-ghost use Rattle.bolt_check.specs.LoneLeaves.{IsListedFree};
-ghost use Rattle.bolt_check.specs.declared.finding.Finding.{Finding};
-ghost use Rattle.bolt_recover.specs.Found.{AreFound, FoundBelow, numbers_of};
-ghost use Rattle.bolt_recover.specs.Refusals.{LosesRoot};
-ghost use Rattle.bolt_recover.specs.ShownFound.{IsFoundView};
+//! A page that is found though nothing leads to it.
+ghost use Rattle.std.specs.Prelude.{◌≡◌};
+ghost use Rattle.bolt_recover.specs.PageKeys.{page_key};
 
-use bolt_check::{Claims, Leftovers, NoMemory, TreePage};
-use bolt_format::Meta;
-use std::alloc::Global;
+use bolt_check::TreePage;
 
 /// A page that is found though nothing leads to it: an intact leaf (docs/RECOVERY.md, "Found pages").
 #[derive(Clone, Copy)]
 pub struct Found<'a> {
     /// The number of the page.
     pub number: u64,
+    /// The number in sixteen decimal digits: the key of the page's bucket in the joined listing.
+    pub name: [u8; 16],
     /// The page. It has an element.
     pub page: TreePage<'a>,
+    ghost named: { name ≡ page_key number },
 }
 
-/// Finds the intact leaves of a file whose root page is lost, by rising number (docs/RECOVERY.md,
-/// "Found pages"). There is no recovery of it. It needs a table of pages, and room for what is found.
-///
-/// # Errors
-///
-/// `NoMemory` if memory runs out.
-pub fn found_without_root<'a>(
-    alloc: Global,
-    file: &'a [u8],
-    meta: Meta,
-) -> Result<Vec<Found<'a>>, NoMemory>
-    requires size { 0 < meta.page_size }
-    requires lost { (x : Finding) × LosesRoot file.now meta x }
-    ensures found { IfOk result (λ found. AreFound file.now meta (numbers_of found.items)) }
-    ensures views { IfOk result (λ found. All (IsFoundView file.now meta) found.items) }
+/// The last sixteen decimal digits of a number.
+fn digits_of(number: u64) -> [u8; 16]
+    ensures { result ≡ page_key number }
 {
-    let claims = Claims::new(alloc, file, meta)?;
-    find_leaves(alloc, Leftovers::new(claims))
+    let mut digits = [b'0'; 16];
+    let mut rest = number;
+    for i in 0..16 {
+        digits[15 - i] = b'0' + (rest % 10) as u8;
+        rest /= 10;
+    }
+    digits
 }
 
-/// Finds all intact leaves among what is left over, by rising number.
-pub(crate) fn find_leaves<'a>(
-    alloc: Global,
-    mut leftovers: Leftovers<'a>,
-) -> Result<Vec<Found<'a>>, NoMemory>
-    requires { (n : ℕ) → n < leftovers_length leftovers → (is_listed leftovers n ≡ true) ↔ IsListedFree (leftovers_file leftovers) (leftovers_meta leftovers) n }
-    ensures found { IfOk result (λ found. FoundBelow (leftovers_file leftovers.entry) (leftovers_meta leftovers.entry) (λ n. is_taken leftovers.entry n ≡ true) (leftovers_meta leftovers.entry).high_water (numbers_of found.items)) }
-    ensures views { IfOk result (λ found. All (IsFoundView (leftovers_file leftovers.entry) (leftovers_meta leftovers.entry)) found.items) }
-{
-    let mut found = Vec::new(alloc);
-    for number in 0..leftovers.end() {
-        found.reserve(1)?;
-        if let Some(page) = leftovers.take(number) {
-            found.push_reserved(Found { number, page });
+impl<'a> Found<'a> {
+    /// A found page with its name.
+    pub(crate) fn new(number: u64, page: TreePage<'a>) -> Found<'a>
+        ensures number { result.number ≡ number }
+        ensures page { result.page ≡ page.entry }
+    {
+        Found {
+            number,
+            name: digits_of(number),
+            page,
         }
     }
-    Ok(found)
 }

@@ -3,12 +3,19 @@
 #![tactic(auto)]
 
 mod content;
+mod elements;
 mod found;
+mod found_members;
+mod joined;
+mod kept;
 pub mod laws;
+mod leaves;
 mod loss;
 mod recovery;
 mod steps;
 
-pub use found::{Found, found_without_root};
+pub use found::Found;
+pub use joined::{JoinFault, Joined};
+pub use leaves::found_without_root;
 pub use loss::Loss;
 pub use recovery::Recovery;

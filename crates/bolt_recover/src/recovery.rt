@@ -18,7 +18,8 @@ ghost use Rattle.bolt_recover.specs.Refusals.{IsRefusedRoot, IsSlotUnrecoverable
 ghost use Rattle.bolt_recover.specs.ShownFound.{IsFoundView};
 ghost use Rattle.bolt_recover.specs.ShownLosses.{loss_view};
 
-use crate::found::{Found, find_leaves};
+use crate::found::Found;
+use crate::leaves::find_leaves;
 use crate::loss::Loss;
 use crate::steps::Steps;
 use bolt_check::{CheckFault, Claims, Leftovers, NoMemory};

@@ -2,6 +2,7 @@
 
 use bolt_bulk::{BulkFault, PlanFault};
 use bolt_check::{CheckFault, NoMemory};
+use bolt_recover::JoinFault;
 use bolt_report::ReportFault;
 use hex::FromHexError;
 use std::alloc::{AllocError, AllocFailed};
@@ -48,6 +49,15 @@ impl<T: Drop> From<AllocFailed<T>> for Fault {
 impl From<NoMemory> for Fault {
     fn from(_: NoMemory) -> Fault {
         Fault::Memory
+    }
+}
+
+impl From<JoinFault> for Fault {
+    fn from(fault: JoinFault) -> Fault {
+        match fault {
+            JoinFault::Exists => Fault::Unread,
+            JoinFault::Memory => Fault::Memory,
+        }
     }
 }
 

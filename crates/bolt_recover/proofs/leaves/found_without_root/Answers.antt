@@ -4,7 +4,7 @@ use Rattle.bolt_check.specs.Findings.{IsMetaPage}
 use Rattle.bolt_check.specs.Leftovers.{is_taken}
 use Rattle.bolt_recover.specs.Found.{FoundBelow, numbers_of}
 use Rattle.bolt_recover.proofs.FoundAll.{found_rootless, if_ok}
-use Rattle.bolt_recover.proofs.found.found_without_root.Goals as goal
+use Rattle.bolt_recover.proofs.leaves.found_without_root.Goals as goal
 
 pub returns-clause-found : goal.returns-clause-found
 returns-clause-found c =

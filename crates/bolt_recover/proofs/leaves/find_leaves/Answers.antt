@@ -15,8 +15,8 @@ use Rattle.bolt_recover.specs.Found.{FoundBelow, IsFoundPage, numbers_of}
 use Rattle.bolt_recover.specs.ShownFound.{IsFoundView}
 use Rattle.bolt_recover.specs.declared.found.Found.{Found}
 use Rattle.bolt_recover.proofs.FoundLemmas.{found_next, found_not, found_up, not_true, taken_more, view_of}
-use Rattle.bolt_recover.proofs.found.find_leaves.Goals as goal
-use Rattle.bolt_recover.proofs.found.find_leaves.Goals.{in-Some, in_default}
+use Rattle.bolt_recover.proofs.leaves.find_leaves.Goals as goal
+use Rattle.bolt_recover.proofs.leaves.find_leaves.Goals.{in-Some, in_default}
 
 pub loop-number-preserved : goal.loop-number-preserved
 loop-number-preserved c =
@@ -36,15 +36,16 @@ loop-number-preserved c =
     elim c.match-take.branch [
       | in-Some w ↦
           let some = w.in-Some.ensures in
-          let f : Found = record { number = n; page = w.in-Some.page } in
+          let f : Found = w.new.result in
           let items : c.match-take.found.items ≡ l.found.items ++ f ∷ [] =
           ap (λ v. v.items) w.found-is ∙ w.push_reserved.ensures.items ∙ ap (λ (fs : List Found). fs ++ f ∷ []) c.in_ok-reserve.ensures.items in
-          let numbers : numbers_of c.match-take.found.items ≡ found ++ n ∷ [] = ap numbers_of items ∙ map-append (λ (x : Found). x.number) l.found.items (f ∷ []) in
+          let numbers : numbers_of c.match-take.found.items ≡ found ++ n ∷ [] = ap numbers_of items ∙ map-append (λ (x : Found). x.number) l.found.items (f ∷ []) ∙ ap (λ (m : ℕ). found ++ m ∷ []) w.new.ensures.number in
           let lone = subst₂ (λ (a : List ℕ) (b : Meta). IsLoneLeaf (node_at a b) (λ k. old k ≡ true) n) inv.file inv.meta some.leaf in
           let more = subst₂ (λ (a : List ℕ) (b : Meta). (k : ℕ) → (new k ≡ true) ↔ ((old k ≡ true) ⊎ SpanAt (node_at a b) (At_page (root_spot n)) k)) inv.file inv.meta some.taken in
           let view = view_of file meta (λ k. old k ≡ true) f
-          (subst₂ (λ (a : List ℕ) (b : Meta). page_at a b n ≡ Some (shown w.in-Some.page.page)) inv.file inv.meta some.page)
-          (subst₂ (λ (a : List ℕ) (b : Meta). node_at a b n ≡ Ok (shown_node w.in-Some.page)) inv.file inv.meta some.node) lone in
+          (rw (w.new.ensures.number, w.new.ensures.page) (subst₂ (λ (a : List ℕ) (b : Meta). page_at a b n ≡ Some (shown w.in-Some.page.page)) inv.file inv.meta some.page))
+          (rw (w.new.ensures.number, w.new.ensures.page) (subst₂ (λ (a : List ℕ) (b : Meta). node_at a b n ≡ Ok (shown_node w.in-Some.page)) inv.file inv.meta some.node))
+          (rw w.new.ensures.number lone) in
           record {
             file = c.take.ensures.file ∙ inv.file;
             meta = c.take.ensures.meta ∙ inv.meta;

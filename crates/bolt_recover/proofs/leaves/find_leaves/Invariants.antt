@@ -3,7 +3,7 @@ use Rattle.std.specs.List.{All}
 use Rattle.bolt_check.specs.Leftovers.{is_listed, is_taken, leftovers_file, leftovers_length, leftovers_meta}
 use Rattle.bolt_recover.specs.Found.{FoundBelow, IsFoundPage, numbers_of}
 use Rattle.bolt_recover.specs.ShownFound.{IsFoundView}
-use Rattle.bolt_recover.proofs.found.find_leaves.Given as goal
+use Rattle.bolt_recover.proofs.leaves.find_leaves.Given as goal
 
 -- the pages so far are found, and they are taken
 abbrev pub invariant-loop-number : goal.invariant-loop-number

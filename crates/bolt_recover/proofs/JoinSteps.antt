@@ -1,0 +1,214 @@
+-- The members of the joined listing, one after another.
+use Rattle.std.proofs.Common.{◌≡◌, ◌≢◌, ◌∙◌, ℕ, Bool, true, false, List, [], ◌∷◌, ◌++◌, ◌⊎◌, inl, inr, Option, Some, None, Result, Ok, Err, IfOk, IfSome, OnErr, OnOk, filter, is_some, not, refl, sym, ap, subst, subst₂, append_assoc}
+use Rattle.std.specs.List.{All, Contains}
+use Rattle.std.proofs.Props.{props}
+use Rattle.std.specs.Option.{option_map}
+use Rattle.std.specs.Ordering.{is_eq, is_lt}
+use Rattle.std.proofs.lemmas.List.Elements.{All-head, All-tail}
+use Rattle.bolt_check.specs.Keys.{Key, key_lt}
+use Rattle.bolt_format.specs.Elements.{LeafElement}
+use Rattle.bolt_format.specs.Pages.{page_at}
+use Rattle.bolt_format.specs.Shown.{shown}
+use Rattle.bolt_format.specs.declared.meta.Meta.{Meta}
+use Rattle.bolt_tree.specs.Entries.{Bucket, Item, Value}
+use Rattle.bolt_tree.specs.Listing.{Member}
+use Rattle.bolt_tree.specs.Paths.{Path}
+use Rattle.bolt_tree.specs.ShownEntries.{item_view}
+use Rattle.bolt_tree.specs.Walks.{GivesNext}
+use Rattle.bolt_tree.specs.Tree.{Tree, end, listing_below, listing_of, tree_of, with_bucket, with_value}
+use Rattle.bolt_tree.proofs.Lists.{contains_cases, contains_head, contains_none, contains_tail}
+use Rattle.bolt_tree.proofs.ReadBack.{tree_back}
+use Rattle.bolt_recover.specs.Found.{numbers_of}
+use Rattle.bolt_recover.specs.Joined.{HasBucketKey, IsJoined, LacksBucketKey, found_tree, is_found_path, joined_listing, lost_and_found, put_bucket}
+use Rattle.bolt_recover.specs.Places.{leaves_of}
+use Rattle.bolt_recover.specs.Recovered.{ForRecovered, IsRecovered}
+use Rattle.bolt_recover.specs.ShownFound.{IsFoundView}
+use Rattle.bolt_recover.specs.Private.FoundLeft.{below_bucket, bucket_members, pages_of}
+use Rattle.bolt_recover.specs.Private.Joining.{AreJoinable, IsHeldWell, first_cmp, held_members, left_at, put_members, recovered_in}
+use Rattle.bolt_recover.specs.Private.KeptMembers.{kept_file, kept_left, kept_meta}
+use Rattle.bolt_recover.specs.declared.found.Found.{Found}
+use Rattle.bolt_recover.specs.declared.found_members.FoundMembers.{FoundMembers}
+use Rattle.bolt_recover.specs.declared.joined.Stage.{Stage}
+use Rattle.bolt_recover.specs.declared.joined.Stage.TheVariants.{After, Before, Inside}
+use Rattle.bolt_recover.specs.declared.kept.Kept.{Kept}
+use Rattle.bolt_tree.specs.declared.entry.Item.{Item as CodeItem}
+use Rattle.bolt_recover.proofs.FoundAll.{one_found}
+use Rattle.bolt_recover.proofs.JoinedLemmas.{joined_keeps, stays, tree_recovered, with_elements}
+
+pub first_found : (path : Path) → is_eq (first_cmp path) ≡ is_found_path path
+first_found [] = refl
+first_found (key ∷ path) = refl
+
+abbrev IsLooked : (listing left : List Member) → Type 0
+IsLooked listing left = (m : Member) → Contains listing m → (not (is_found_path m.0) ≡ true) ⊎ Contains left m
+
+pub looked_on : (listing old new : List Member) (path : Path) (item : Item) → old ≡ (path, item) ∷ new → is_found_path path ≡ false → IsLooked listing old → IsLooked listing new
+looked_on listing old new path item is other looked m has =
+    elim (looked m has) [
+      | inl stays ↦ inl stays
+      | inr left ↦ elim (contains_cases (path, item) m new (subst (λ (ms : List Member). Contains ms m) is left)) [
+        | inl same ↦ inl (subst (λ (x : Member). not (is_found_path x.0) ≡ true) same (rw other refl))
+        | inr later ↦ inr later
+      ]
+    ]
+
+pub inside_on : (listing old new : List Member) (path : Path) (item : Item) → old ≡ (path, item) ∷ new → ((m : Member) → Contains old m → Contains listing m)
+    → (m : Member) → Contains new m → Contains listing m
+inside_on listing old new path item is inside m has = inside m (subst (λ (ms : List Member). Contains ms m) (sym is) (contains_tail (path, item) m new has))
+
+pub looked_found : (listing old new : List Member) (path : Path) (item : Item) → old ≡ (path, item) ∷ new → is_found_path path ≡ true → ((m : Member) → Contains old m → Contains listing m) → HasBucketKey listing
+looked_found listing old new path item is same inside =
+    ((path, item), (inside (path, item) (subst (λ (ms : List Member). Contains ms (path, item)) (sym is) (contains_head (path, item) new)), same))
+
+pub looked_all : (listing old : List Member) → old ≡ [] → IsLooked listing old → LacksBucketKey listing
+looked_all listing old none looked m has =
+    elim (looked m has) [ inl stays ↦ stays | inr left ↦ absurd (contains_none m (subst (λ (ms : List Member). Contains ms m) none left)) ]
+
+-- the bucket with what it holds
+abbrev put_of : Tree → List Member
+put_of inside = (lost_and_found ∷ [], Bucket 0) ∷ listing_below (lost_and_found ∷ []) inside
+
+-- what an earlier bucket holds comes before it
+passes_inside : (put : List Member) (key : Key) (path : Path) (own : Tree) (rest : List Member) → key_lt key lost_and_found ≡ true
+    → put_members put (listing_below (key ∷ path) own ++ rest) ≡ listing_below (key ∷ path) own ++ put_members put rest
+passes_inside put key path end rest less = refl
+passes_inside put key path (with_value k value after) rest less =
+    rw less (ap (λ (ms : List Member). (key ∷ path ++ k ∷ [], Value value) ∷ ms) (passes_inside put key path after rest less))
+passes_inside put key path (with_bucket k sequence inside after) rest less =
+    let here : Member = (key ∷ path ++ k ∷ [], Bucket sequence) in
+    let front = listing_below (key ∷ path ++ k ∷ []) inside in
+    let later = listing_below (key ∷ path) after in
+    rw less (ap (λ (ms : List Member). here ∷ ms)
+    (ap (put_members put) (append_assoc front later rest)
+    ∙ passes_inside put key (path ++ k ∷ []) inside (later ++ rest) less
+    ∙ ap (λ (ms : List Member). front ++ ms) (passes_inside put key path after rest less)
+    ∙ sym (append_assoc front later (put_members put rest))))
+
+by_value : (inside : Tree) (key value : List ℕ) (after : Tree) (b : Bool) → key_lt key lost_and_found ≡ b → put_members (put_of inside) (listing_of after) ≡ listing_of (put_bucket lost_and_found inside after)
+    → put_members (put_of inside) (listing_of (with_value key value after)) ≡ listing_of (put_bucket lost_and_found inside (with_value key value after))
+by_value inside key value after true less later = rw less (ap (λ (ms : List Member). (key ∷ [], Value value) ∷ ms) later)
+by_value inside key value after false over later = rw over refl
+
+by_bucket : (inside : Tree) (key : List ℕ) (sequence : ℕ) (own after : Tree) (b : Bool) → key_lt key lost_and_found ≡ b
+    → put_members (put_of inside) (listing_of after) ≡ listing_of (put_bucket lost_and_found inside after)
+    → put_members (put_of inside) (listing_of (with_bucket key sequence own after)) ≡ listing_of (put_bucket lost_and_found inside (with_bucket key sequence own after))
+by_bucket inside key sequence own after true less later =
+    rw less (ap (λ (ms : List Member). (key ∷ [], Bucket sequence) ∷ ms)
+    (passes_inside (put_of inside) key [] own (listing_of after) less ∙ ap (λ (ms : List Member). listing_below (key ∷ []) own ++ ms) later))
+by_bucket inside key sequence own after false over later = rw over refl
+
+-- the members of a tree with the bucket in its place
+pub put_tree : (inside tree : Tree) → put_members (put_of inside) (listing_of tree) ≡ listing_of (put_bucket lost_and_found inside tree)
+put_tree inside end = refl
+put_tree inside (with_value key value after) = by_value inside key value after (key_lt key lost_and_found) refl (put_tree inside after)
+put_tree inside (with_bucket key sequence own after) = by_bucket inside key sequence own after (key_lt key lost_and_found) refl (put_tree inside after)
+
+put_recovered : (found : List (ℕ × List LeafElement)) (recovered : List Member) → (tree : Tree) × (recovered ≡ listing_of tree)
+    → put_members (put_of (found_tree found)) recovered ≡ listing_of (put_bucket lost_and_found (found_tree found) (tree_of recovered))
+put_recovered found recovered (tree, of) =
+    ap (put_members (put_of (found_tree found))) of
+    ∙ put_tree (found_tree found) tree
+    ∙ ap (λ (t : Tree). listing_of (put_bucket lost_and_found (found_tree found) t)) (sym (ap tree_of of ∙ tree_back tree))
+
+module _ (file : List ℕ) (meta : Meta) where
+  pages_same : (found : List Found) → All (IsFoundView file meta) found → with_elements file meta (numbers_of found) ≡ pages_of found
+  pages_same [] views = refl
+  pages_same (f ∷ found) views =
+      let view = All-head (IsFoundView file meta) f found views in
+      let here : leaves_of (page_at file meta f.number) ≡ (shown f.page.page).leaves = ap leaves_of view.page in
+      ap (λ (own : List LeafElement). (f.number, own) ∷ with_elements file meta (numbers_of found)) here
+      ∙ ap (λ (pages : List (ℕ × List LeafElement)). (f.number, (shown f.page.page).leaves) ∷ pages) (pages_same found (All-tail (IsFoundView file meta) f found views))
+
+  -- the recovered listing, and the joined one of it
+  pub record IsParted (found : List Found) (listing recovered : List Member) : Type 0 where
+    pub recovers : IsRecovered file meta recovered
+    pub joined : listing ≡ joined_listing recovered (pages_of found)
+
+  parted_by : (found : List Found) (listing recovered : List Member) → AreJoinable file meta found → IsRecovered file meta recovered → listing ≡ joined_listing recovered (pages_of found)
+      → IsParted found listing (recovered_in found listing)
+  parted_by [] listing recovered are back joined = record { recovers = subst (IsRecovered file meta) (sym joined) back; joined = refl }
+  parted_by (f ∷ found) listing recovered are back joined =
+      let none : (f ∷ found) ≢ [] = λ e. cc in
+      let same : filter stays listing ≡ recovered = ap (filter stays) joined ∙ joined_keeps recovered (pages_of (f ∷ found)) (tree_recovered file meta recovered back) (are.apart none recovered back) in
+      record { recovers = subst (IsRecovered file meta) (sym same) back; joined = joined ∙ ap (λ (ms : List Member). joined_listing ms (pages_of (f ∷ found))) (sym same) }
+
+  pub parted : (found : List Found) (listing : List Member) → AreJoinable file meta found → IsJoined file meta listing → IsParted found listing (recovered_in found listing)
+  parted found listing are is =
+      parted_by found listing is.recovered are is.recovers
+      (is.joined ∙ ap (joined_listing is.recovered) (ap (with_elements file meta) (one_found file meta is.found (numbers_of found) is.are_found are.are_found) ∙ pages_same found are.views))
+
+-- at the beginning, as the found pages are
+module _ (stage : Stage) (kept : Kept) where
+  abbrev Begins : List Found → Type 0
+  Begins found = (found ≡ [] → stage ≡ After) × (found ≢ [] → stage ≡ Before)
+
+  some_found : (f : Found) (found : List Found) → (f ∷ found) ≢ []
+  some_found f found e = cc
+
+  pub begun_well : (found : List Found) (held : Option CodeItem) → Begins found → IsHeldWell stage kept held
+  begun_well [] held (none, some) = subst (λ (s : Stage). IsHeldWell s kept held) (sym (none refl)) tt
+  begun_well (f ∷ found) held (none, some) = subst (λ (s : Stage). IsHeldWell s kept held) (sym (some (some_found f found))) tt
+
+  all_at : (file : List ℕ) (meta : Meta) (found : List Found) (bucket : FoundMembers) (held : Option CodeItem) (listing recovered : List Member) → Begins found → IsParted file meta found listing recovered
+      → kept_left kept recovered ≡ recovered → left_at stage kept found bucket held recovered ≡ listing
+  all_at file meta [] bucket held listing recovered (none, some) is fresh = rw (none refl) (fresh ∙ sym is.joined)
+  all_at file meta (f ∷ found) bucket held listing recovered (none, some) is fresh =
+      rw (some (some_found f found)) (ap (put_members (bucket_members (f ∷ found))) fresh
+      ∙ put_recovered (pages_of (f ∷ found)) recovered (tree_recovered file meta recovered is.recovers)
+      ∙ sym is.joined)
+
+  pub begun_left : (file : List ℕ) (meta : Meta) (found : List Found) (bucket : FoundMembers) (held : Option CodeItem) → Begins found → AreJoinable file meta found
+      → ForRecovered file meta (λ recovered. kept_left kept recovered ≡ recovered)
+      → (listing : List Member) → IsJoined file meta listing → left_at stage kept found bucket held (recovered_in found listing) ≡ listing
+  begun_left file meta found bucket held begins are fresh listing is =
+      let part = parted file meta found listing are is in
+      all_at file meta found bucket held listing (recovered_in found listing) begins part (fresh (recovered_in found listing) part.recovers)
+
+-- a recovered member before the bucket
+pub before_given : (put old new : List Member) (path : Path) (given : Option CodeItem) → GivesNext old new path (option_map item_view given) → is_some given ≡ true → is_lt (first_cmp path) ≡ true
+    → GivesNext (put_members put old) (put_members put new) path (option_map item_view given)
+before_given put old new path None gives some less = absurd (let f : false ≡ true = some in cc)
+before_given put old new path (Some item) gives some less = ap (put_members put) gives ∙ rw less refl
+
+-- the bucket before a recovered member, or after all of them
+pub bucket_given : (found : List Found) (old new : List Member) (path : Path) (given : Option CodeItem) → GivesNext old new path (option_map item_view given) → (given ≡ None) ⊎ (is_lt (first_cmp path) ≡ false)
+    → put_members (bucket_members found) old ≡ (lost_and_found ∷ [], Bucket 0) ∷ (below_bucket found ++ (held_members path given ++ new))
+bucket_given found old new path None (none, rest, ended) over = rw (none, rest) refl
+bucket_given found old new path (Some item) gives (inl none) = absurd (cc)
+bucket_given found old new path (Some item) gives (inr over) = ap (put_members (bucket_members found)) gives ∙ rw over refl
+
+-- if no recovered member is held, none is left
+pub held_well : (old new : Kept) (path : Path) (given : Option CodeItem) → kept_file new ≡ kept_file old → kept_meta new ≡ kept_meta old
+    → ForRecovered (kept_file old) (kept_meta old) (λ recovered. GivesNext (kept_left old recovered) (kept_left new recovered) path (option_map item_view given)) → IsHeldWell Inside new given
+held_well old new path (Some item) file meta gives = tt
+held_well old new path None file meta gives = λ recovered is. (gives recovered (subst₂ (λ (f : List ℕ) (m : Meta). IsRecovered f m recovered) file meta is)).1
+
+pub gives_prop : (old new : List Member) (path : Path) (given : Option CodeItem) → IsProp (GivesNext old new path (option_map item_view given))
+gives_prop old new path None = hlevel props
+gives_prop old new path (Some item) = hlevel props
+
+pub when_ok : {X E : Type 0} {P Q : Type 0} (result : Result X E) → (P → Q) → OnOk result P → OnOk result Q
+when_ok (Ok x) further holds = further holds
+when_ok (Err e) further holds = tt
+
+-- if no recovered member was left, none is
+pub still_none : {E : Type 0} (old new : Kept) (path : Path) (result : Result (Option CodeItem) E) → kept_file new ≡ kept_file old → kept_meta new ≡ kept_meta old
+    → IfOk result (λ given. ForRecovered (kept_file old) (kept_meta old) (λ recovered. GivesNext (kept_left old recovered) (kept_left new recovered) path (option_map item_view given)))
+    → OnErr result (ForRecovered (kept_file old) (kept_meta old) (λ recovered. kept_left new recovered ≡ kept_left old recovered))
+    → ForRecovered (kept_file old) (kept_meta old) (λ recovered. kept_left old recovered ≡ []) → ForRecovered (kept_file new) (kept_meta new) (λ recovered. kept_left new recovered ≡ [])
+still_none old new path (Ok None) file meta gives same none = λ recovered is. (gives recovered (subst₂ (λ (f : List ℕ) (m : Meta). IsRecovered f m recovered) file meta is)).1
+still_none old new path (Ok (Some item)) file meta gives same none = λ recovered is.
+    let before = subst₂ (λ (f : List ℕ) (m : Meta). IsRecovered f m recovered) file meta is in
+    let some = sym (none recovered before) ∙ gives recovered before in
+    absurd (cc)
+still_none old new path (Err fault) file meta gives same none = λ recovered is.
+    let before = subst₂ (λ (f : List ℕ) (m : Meta). IsRecovered f m recovered) file meta is in
+    same recovered before ∙ none recovered before
+
+pub none_given : (P : CodeItem → Type 0) (old new : List Member) (path : Path) (given : Option CodeItem) → old ≡ [] → GivesNext old new path (option_map item_view given) → IfSome given P
+none_given P old new path None none gives = tt
+none_given P old new path (Some item) none gives = absurd (let some = sym none ∙ gives in cc)
+
+pub when_fault : {X E : Type 0} {P Q : Type 0} (result : Result X E) → (P → Q) → OnErr result P → OnErr result Q
+when_fault (Ok x) further holds = tt
+when_fault (Err e) further holds = further holds

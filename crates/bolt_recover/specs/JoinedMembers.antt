@@ -1,0 +1,40 @@
+-- What the members of the joined listing show.
+use Rattle.std.specs.Prelude.{ℕ, List, Option}
+use Rattle.bolt_format.specs.declared.meta.Meta.{Meta}
+use Rattle.bolt_tree.specs.Listing.{Member}
+use Rattle.bolt_tree.specs.Paths.{Path}
+use Rattle.bolt_recover.specs.Joined.{IsJoined}
+use Rattle.bolt_recover.specs.Losses.{LossView}
+use Rattle.bolt_recover.specs.Private.Joining.{left_at, path_at, recovered_in, work_at}
+use Rattle.bolt_recover.specs.Private.KeptMembers.{AreAllLosses, kept_file, kept_losses, kept_meta}
+use Rattle.bolt_recover.specs.declared.joined.Joined.{Joined}
+
+unfoldable pub joined_file : Joined → List ℕ
+joined_file joined = kept_file joined.kept
+
+unfoldable pub joined_meta : Joined → Meta
+joined_meta joined = kept_meta joined.kept
+
+-- the part of a joined listing that is left
+unfoldable pub joined_left : Joined → List Member → List Member
+joined_left joined listing = left_at joined.stage joined.kept joined.found.now joined.bucket joined.held (recovered_in joined.found.now listing)
+
+-- how much it has to do at most, until it has returned everything
+unfoldable pub joined_work : Joined → ℕ
+joined_work joined = work_at joined.stage joined.kept joined.found.now joined.bucket joined.held
+
+-- the path of the last member that it returned
+unfoldable pub joined_path : Joined → Path
+joined_path joined = path_at joined.stage joined.kept joined.bucket
+
+-- the losses that its recovery has reported so far; there is none if the root page is lost
+unfoldable pub joined_losses : Joined → Option (List LossView)
+joined_losses joined = kept_losses joined.kept
+
+-- if it has a recovery, that has reported all losses
+abbrev pub HasAllLosses : List ℕ → Meta → Joined → Type 0
+HasAllLosses file meta joined = AreAllLosses file meta (joined_losses joined)
+
+-- What is promised of the joined listing is promised for each; there is exactly one (`laws`).
+abbrev pub ForJoined : List ℕ → Meta → (List Member → Type 0) → Type 0
+ForJoined file meta P = (listing : List Member) → IsJoined file meta listing → P listing

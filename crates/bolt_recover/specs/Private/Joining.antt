@@ -1,0 +1,80 @@
+-- How far the members of the joined listing are returned.
+use Rattle.std.specs.Prelude.{◌≡◌, ◌≢◌, ◌+◌, ℕ, suc, Bool, true, false, List, [], ◌∷◌, ◌++◌, Option, Some, None, if◌then◌else◌, filter, length, not}
+use Rattle.std.specs.List.{All}
+use Rattle.std.specs.Ordering.{is_lt}
+use Rattle.std.specs.declared.cmp.Ordering.{Ordering}
+use Rattle.std.specs.declared.cmp.Ordering.TheVariants.{Less}
+use Rattle.bolt_check.specs.Keys.{key_cmp}
+use Rattle.bolt_format.specs.declared.meta.Meta.{Meta}
+use Rattle.bolt_tree.specs.Listing.{Member}
+use Rattle.bolt_tree.specs.Paths.{Path}
+use Rattle.bolt_tree.specs.ShownEntries.{item_view}
+use Rattle.bolt_tree.specs.declared.entry.Item.{Item}
+use Rattle.bolt_recover.specs.Found.{AreFound, numbers_of}
+use Rattle.bolt_recover.specs.Joined.{HasBucketKey, LacksBucketKey, is_found_path, lost_and_found}
+use Rattle.bolt_recover.specs.Recovered.{ForRecovered}
+use Rattle.bolt_recover.specs.ShownFound.{IsFoundView}
+use Rattle.bolt_recover.specs.Private.FoundLeft.{below_bucket, bucket_left, bucket_members, bucket_path}
+use Rattle.bolt_recover.specs.Private.KeptMembers.{kept_file, kept_left, kept_meta, kept_path, kept_work}
+use Rattle.bolt_recover.specs.declared.found.Found.{Found}
+use Rattle.bolt_recover.specs.declared.found_members.FoundMembers.{FoundMembers}
+use Rattle.bolt_recover.specs.declared.joined.Stage.{Stage}
+use Rattle.bolt_recover.specs.declared.joined.Stage.TheVariants.{After, Before, Inside}
+use Rattle.bolt_recover.specs.declared.kept.Kept.{Kept}
+
+-- how the first part of a path compares with the key of the bucket of what is found
+abbrev pub first_cmp : Path → Ordering
+first_cmp [] = Less
+first_cmp (key ∷ path) = key_cmp key lost_and_found
+
+-- members, with these put before the first one that doesn't come before the bucket
+abbrev pub put_members : List Member → List Member → List Member
+put_members put [] = put ++ []
+put_members put (m ∷ listing) = if is_lt (first_cmp m.0) then m ∷ put_members put listing else put ++ m ∷ listing
+
+abbrev pub held_members : Path → Option Item → List Member
+held_members path None = []
+held_members path (Some item) = (path, item_view item) ∷ []
+
+-- what is left of the joined listing, if this is the recovered one
+abbrev pub left_at : Stage → Kept → List Found → FoundMembers → Option Item → List Member → List Member
+left_at Before kept found bucket held recovered = put_members (bucket_members found) (kept_left kept recovered)
+left_at Inside kept found bucket held recovered = bucket_left bucket ++ (held_members (kept_path kept) held ++ kept_left kept recovered)
+left_at After kept found bucket held recovered = kept_left kept recovered
+
+abbrev pub held_work : Kept → Option Item → ℕ
+held_work kept None = 0
+held_work kept (Some item) = suc (kept_work kept)
+
+abbrev pub work_at : Stage → Kept → List Found → FoundMembers → Option Item → ℕ
+work_at Before kept found bucket held = suc (length (below_bucket found) + kept_work kept)
+work_at Inside kept found bucket held = length (bucket_left bucket) + held_work kept held
+work_at After kept found bucket held = kept_work kept
+
+abbrev pub path_at : Stage → Kept → FoundMembers → Path
+path_at Before kept bucket = kept_path kept
+path_at Inside kept bucket = bucket_path bucket
+path_at After kept bucket = kept_path kept
+
+-- what is known of a listing if such a member is looked for
+abbrev pub TellsBucketKey : List Member → Bool → Type 0
+TellsBucketKey listing true = HasBucketKey listing
+TellsBucketKey listing false = LacksBucketKey listing
+
+-- The found pages are those of the file and, if there is one, the recovered listing leaves room for their bucket.
+pub record AreJoinable (file : List ℕ) (meta : Meta) (found : List Found) : Type 0 where
+  pub are_found : AreFound file meta (numbers_of found)
+  pub views : All (IsFoundView file meta) found
+  pub apart : found ≢ [] → ForRecovered file meta LacksBucketKey
+
+-- if no member is held while the members of the bucket are returned, no recovered one is left
+abbrev pub IsHeldWell : Stage → Kept → Option Item → Type 0
+IsHeldWell Inside kept None = ForRecovered (kept_file kept) (kept_meta kept) (λ listing. kept_left kept listing ≡ [])
+IsHeldWell Inside kept (Some item) = Unit {0}
+IsHeldWell Before kept held = Unit {0}
+IsHeldWell After kept held = Unit {0}
+
+-- the recovered listing in the joined one
+abbrev pub recovered_in : List Found → List Member → List Member
+recovered_in [] listing = listing
+recovered_in (f ∷ found) listing = filter (λ (m : Member). not (is_found_path m.0)) listing

@@ -1,0 +1,159 @@
+//! The members of the bucket of what is found: a bucket for each found page, with the page's
+//! elements, and what the inline buckets among them hold.
+ghost use Rattle.std.specs.Prelude.{◌≡◌, ◌≤◌, ◌∷◌, [], IsTrue, None, false};
+ghost use Rattle.std.specs.Option.{option_map};
+ghost use Rattle.bolt_format.specs.ElementPlaces.{leaf_view};
+ghost use Rattle.bolt_format.specs.Elements.{IsBucketValue, LeafElement};
+ghost use Rattle.bolt_format.specs.Shown.{shown};
+ghost use Rattle.bolt_tree.specs.Paths.{path_of};
+ghost use Rattle.bolt_tree.specs.ShownEntries.{item_view};
+ghost use Rattle.bolt_tree.specs.Tree.{end};
+ghost use Rattle.bolt_recover.specs.Joined.{inside_of, lost_and_found, tree_with};
+ghost use Rattle.bolt_recover.specs.Private.ElementsLeft.{elements_left, elements_of};
+
+use crate::content::Content;
+use crate::elements::{Elements, next_of};
+use crate::found::Found;
+use bolt_check::{BucketSpot, PageSpot, TreePage};
+use bolt_format::{Leaf, head, inline};
+use bolt_tree::Item;
+
+/// The key of the bucket of what is found.
+pub(crate) fn lost_and_found<'a>() -> &'a [u8]
+    ensures { result.now ≡ lost_and_found }
+{
+    b"lost+found"
+}
+
+/// What is left of the bucket of what is found.
+#[derive(Clone, Copy)]
+pub(crate) struct FoundMembers<'a> {
+    pub found: &'a [Found<'a>],
+    /// The next page.
+    pub next: usize,
+    /// The key of the current page's bucket.
+    pub name: &'a [u8],
+    /// What is left of the current page.
+    pub elements: Option<Elements<'a>>,
+    /// The key of the current inline bucket.
+    pub key: &'a [u8],
+    /// What is left of the current inline bucket.
+    pub inner: Option<Elements<'a>>,
+    /// The path of the last member that was returned.
+    pub path: ShortPath<'a>,
+}
+
+/// A path of at most four parts.
+#[derive(Clone, Copy)]
+pub(crate) struct ShortPath<'a> {
+    /// It has the first of these.
+    pub parts: [&'a [u8]; 4],
+    pub length: usize,
+    ghost short: { length ≤ 4 },
+}
+
+/// All elements of a found page.
+fn elements_on<'a>(number: u64, page: TreePage<'a>) -> Elements<'a>
+    ensures { elements_left result ≡ (shown page.entry.page).leaves }
+{
+    let spot = PageSpot {
+        number,
+        depth: 1,
+        lower: None,
+        upper: None,
+    };
+    Elements::new(Content::Page(page, spot))
+}
+
+/// What an element holds: the elements of an inline bucket whose keys rise, and else nothing.
+fn inner_of<'a>(leaf: &Leaf<'a>) -> Option<Elements<'a>>
+    requires { IsTrue leaf.now.is_bucket → IsBucketValue leaf.now.value.now }
+    ensures value { leaf.now.is_bucket ≡ false → result ≡ None }
+    ensures bucket { IsTrue leaf.now.is_bucket → tree_with (λ (inner : LeafElement). end) (elements_of result) ≡ inside_of (leaf_view leaf.now) }
+{
+    if !leaf.is_bucket || !head(leaf.value).is_inline() {
+        return None;
+    }
+    let spot = BucketSpot {
+        host: 0,
+        page: inline(leaf.value),
+    };
+    match spot.test() {
+        Ok(()) => Some(Elements::new(Content::Bucket(spot))),
+        Err(_) => None,
+    }
+}
+
+impl<'a> FoundMembers<'a> {
+    ghost use Rattle.bolt_recover.specs.Private.FoundLeft.{GivesMember, below_bucket, bucket_left, bucket_path};
+
+    /// All members below the bucket itself, which was returned last.
+    pub fn new(found: &'a [Found<'a>]) -> FoundMembers<'a>
+        ensures all { bucket_left result ≡ below_bucket found.now }
+        ensures path { bucket_path result ≡ lost_and_found ∷ [] }
+    {
+        let key = lost_and_found();
+        FoundMembers {
+            found,
+            next: 0,
+            name: key,
+            elements: None,
+            key,
+            inner: None,
+            path: ShortPath {
+                parts: [key; 4],
+                length: 1,
+            },
+        }
+    }
+
+    /// Returns the first member that is left, or `None` if nothing is left.
+    pub fn next(&mut self) -> Option<Item<'a>>
+        ensures { GivesMember self.old self.new (option_map item_view result) }
+    {
+        if let Some(leaf) = next_of(&mut self.inner) {
+            self.path = ShortPath {
+                parts: [lost_and_found(), self.name, self.key, leaf.key],
+                length: 4,
+            };
+            return Some(Item::of(&leaf));
+        }
+        if let Some(leaf) = next_of(&mut self.elements) {
+            self.key = leaf.key;
+            self.inner = inner_of(&leaf);
+            self.path = ShortPath {
+                parts: [lost_and_found(), self.name, leaf.key, leaf.key],
+                length: 3,
+            };
+            return Some(Item::of(&leaf));
+        }
+        self.next_page()
+    }
+
+    /// Returns the bucket of the next page, if any.
+    fn next_page(&mut self) -> Option<Item<'a>>
+        requires inner { elements_of self.old.inner ≡ [] }
+        requires elements { elements_of self.old.elements ≡ [] }
+        ensures { GivesMember self.old self.new (option_map item_view result) }
+    {
+        let Some(found) = self.found.get(self.next) else {
+            return None;
+        };
+        let name = found.name.as_slice();
+        self.next += 1;
+        self.name = name;
+        self.elements = Some(elements_on(found.number, found.page));
+        self.path = ShortPath {
+            parts: [lost_and_found(), name, name, name],
+            length: 2,
+        };
+        Some(Item::Bucket { sequence: 0 })
+    }
+
+    /// The path of the last member that was returned.
+    pub fn path(&self) -> &[&'a [u8]]
+        ensures { path_of result.now ≡ bucket_path self.now }
+    {
+        &self.path.parts[..self.path.length]
+    }
+}

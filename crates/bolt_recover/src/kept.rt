@@ -1,0 +1,86 @@
+//! What is recovered, also if the root page is lost.
+ghost use Rattle.std.specs.Borrow.{Bor};
+ghost use Rattle.std.specs.Prelude.{◌≡◌, ◌<◌, IfOk, IfSome, List, OnErr, OnOk, map};
+ghost use Rattle.std.specs.Option.{IfNone, option_map};
+ghost use Rattle.bolt_check.specs.declared.finding.Finding.{Finding};
+ghost use Rattle.bolt_tree.specs.Paths.{path_of};
+ghost use Rattle.bolt_tree.specs.ShownEntries.{item_view};
+ghost use Rattle.bolt_tree.specs.Walks.{GivesNext};
+ghost use Rattle.bolt_recover.specs.Recovered.{ForRecovered};
+ghost use Rattle.bolt_recover.specs.Refusals.{LosesRoot};
+ghost use Rattle.bolt_recover.specs.ShownLosses.{loss_view};
+ghost use Rattle.bolt_recover.specs.declared.loss.Loss.{Loss};
+
+use crate::loss::Loss;
+use crate::recovery::Recovery;
+use bolt_check::NoMemory;
+use bolt_format::Meta;
+use bolt_tree::Item;
+
+/// A file whose root page is lost: nothing of it is recovered.
+#[derive(Clone, Copy)]
+pub(crate) struct LostRoot<'a> {
+    pub file: &'a [u8],
+    pub meta: Meta,
+    ghost lost: { ∥ ((x : Finding) × LosesRoot file.now meta x) ∥₁ },
+}
+
+/// The members that are recovered.
+#[derive(Drop)]
+pub(crate) enum Kept<'a> {
+    Recovery(Recovery<'a>),
+    Nothing(LostRoot<'a>),
+}
+
+#[tactic(auto, unfolding(crate::specs::Recoveries::recovery_file, crate::specs::Recoveries::recovery_meta, crate::specs::Recoveries::recovery_losses))]
+impl<'a> Kept<'a> {
+    ghost use Rattle.bolt_recover.specs.Private.KeptMembers.{AreAllLosses, kept_file, kept_left, kept_losses, kept_meta, kept_path, kept_work};
+
+    /// Returns the first member that is left, or `None` if nothing is left.
+    pub fn next(&mut self) -> Result<Option<Item<'a>>, NoMemory>
+        ensures file { kept_file self.new ≡ kept_file self.old }
+        ensures meta { kept_meta self.new ≡ kept_meta self.old }
+        ensures given { IfOk result (λ given. ForRecovered (kept_file self.old) (kept_meta self.old) (λ listing. GivesNext (kept_left self.old listing) (kept_left self.new listing) (kept_path self.new) (option_map item_view given))) }
+        ensures fewer { IfOk result (λ given. IfSome given (λ _. kept_work self.new < kept_work self.old)) }
+        ensures ended { IfOk result (λ given. IfNone given (AreAllLosses (kept_file self.old) (kept_meta self.old) (kept_losses self.new))) }
+        ensures same { OnErr result (ForRecovered (kept_file self.old) (kept_meta self.old) (λ listing. kept_left self.new listing ≡ kept_left self.old listing)) }
+        ensures same_path { OnErr result (kept_path self.new ≡ kept_path self.old) }
+    {
+        match self {
+            Kept::Recovery(recovery) => recovery.next(),
+            Kept::Nothing(_) => Ok(None),
+        }
+    }
+
+    /// The path of the last member that was returned.
+    pub fn path(&self) -> &[&'a [u8]]
+        ensures { path_of result.now ≡ kept_path self.now }
+    {
+        match self {
+            Kept::Recovery(recovery) => recovery.path(),
+            Kept::Nothing(_) => &[],
+        }
+    }
+
+    /// The losses that are reported so far. `None` if the root page is lost.
+    pub fn losses(&self) -> Option<&[Loss<'a>]>
+        ensures { option_map (λ (losses : Bor (List Loss)). map loss_view losses.now) result ≡ kept_losses self.now }
+    {
+        match self {
+            Kept::Recovery(recovery) => Some(recovery.losses()),
+            Kept::Nothing(_) => None,
+        }
+    }
+
+    /// Begins again before the first member.
+    pub fn restart(&mut self) -> Result<(), NoMemory>
+        ensures file { kept_file self.new ≡ kept_file self.old }
+        ensures meta { kept_meta self.new ≡ kept_meta self.old }
+        ensures all { OnOk result (ForRecovered (kept_file self.old) (kept_meta self.old) (λ listing. kept_left self.new listing ≡ listing)) }
+    {
+        match self {
+            Kept::Recovery(recovery) => recovery.restart(),
+            Kept::Nothing(_) => Ok(()),
+        }
+    }
+}
