@@ -19,7 +19,7 @@ use Rattle.bolt_bulk.specs.Private.OpenRuns.{key_size}
 use Rattle.bolt_bulk.specs.declared.fault.BulkFault.{BulkFault}
 use Rattle.bolt_bulk.proofs.RunLemmas.{key_pushed}
 use Rattle.bolt_bulk.proofs.PutsLemmas.{bytes-append, Wrote-stops}
-use Rattle.bolt_bulk.proofs.WroteFronts.{WroteFront, front_none, front_more, front_stop, front_whole}
+use Rattle.bolt_format.proofs.WroteFronts.{WroteFront, front_none, front_more, front_stop, front_whole}
 use Rattle.bolt_format.specs.Wrote.{Wrote}
 use Rattle.bolt_format.specs.Endings.{whole}
 use Rattle.bolt_bulk.specs.BulkEndings.{fault_ending}

@@ -9,7 +9,7 @@ use Rattle.bolt_bulk.specs.Private.BranchRuns.{element_up, runs_end_next}
 use Rattle.bolt_bulk.specs.Private.RunViews.{RunView, run_page, run_push, runs_close_put, runs_root}
 use Rattle.bolt_bulk.specs.declared.fault.BulkFault.{BulkFault}
 use Rattle.bolt_bulk.proofs.PutsLemmas.{Wrote-stops, bytes-append, short_stop}
-use Rattle.bolt_bulk.proofs.WroteFronts.{WroteFront, front_more, front_stop}
+use Rattle.bolt_format.proofs.WroteFronts.{WroteFront, front_more, front_stop}
 use Rattle.bolt_format.specs.Wrote.{Wrote}
 use Rattle.bolt_format.specs.Endings.{whole}
 use Rattle.bolt_bulk.specs.BulkEndings.{fault_ending}

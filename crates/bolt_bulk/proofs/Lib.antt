@@ -32,4 +32,3 @@ mod RunLemmas
 mod Tables
 mod WalkLeft
 mod WholeWalks
-mod WroteFronts

@@ -19,7 +19,7 @@ use Rattle.bolt_format.proofs.WrittenHeaders.{length-header_bytes}
 use Rattle.bolt_bulk.specs.BulkEndings.{fault_ending}
 use Rattle.bolt_bulk.specs.declared.fault.BulkFault.{BulkFault}
 use Rattle.bolt_bulk.specs.declared.fault.BulkFault.TheVariants as fault
-use Rattle.bolt_bulk.proofs.WroteFronts.{WroteFront}
+use Rattle.bolt_format.proofs.WroteFronts.{WroteFront}
 
 -- Nothing is a proper prefix of a text that has any bytes.
 pub proper_none : (old : Option (List ℕ)) (text : List ℕ) → text ≢ [] → AppendsProperPrefix old old text

@@ -29,7 +29,7 @@ fn put_headers<S: Sink>(branches: &[Branch<'_>], sink: &mut S) -> Result<(), Sin
 }
 
 /// Writes the keys of elements.
-#[tactic(auto, using(crate::proofs::WroteFronts::fronts, crate::proofs::BranchPuts::keys_left, crate::proofs::BranchPuts::keys_none))]
+#[tactic(auto, using(bolt_format::proofs::WroteFronts::fronts, crate::proofs::BranchPuts::keys_left, crate::proofs::BranchPuts::keys_none))]
 fn put_keys<S: Sink>(branches: &[Branch<'_>], sink: &mut S) -> Result<(), SinkFault>
     ensures { Wrote S.Sink sink.old sink.new (branch_data (map branch_view branches.now)) (page_ending result) }
 {

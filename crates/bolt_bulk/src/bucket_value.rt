@@ -32,7 +32,7 @@ fn put_entry<S: Sink>(entry: &Leaf<'_>, sink: &mut S) -> Result<(), SinkFault>
 }
 
 /// Writes the data of entries.
-#[tactic(auto, using(crate::proofs::WroteFronts::fronts, crate::proofs::HeldPuts::entries_left, crate::proofs::HeldPuts::entries_none))]
+#[tactic(auto, using(bolt_format::proofs::WroteFronts::fronts, crate::proofs::HeldPuts::entries_left, crate::proofs::HeldPuts::entries_none))]
 fn put_data<S: Sink>(entries: &[Leaf<'_>], sink: &mut S) -> Result<(), SinkFault>
     ensures { Wrote S.Sink sink.old sink.new (leaf_data (map leaf_view entries.now)) (page_ending result) }
 {

@@ -45,7 +45,7 @@ fn put_item<S: Sink>(held: &Held<'_>, inlined: &[Leaf<'_>], sink: &mut S) -> Res
 }
 
 /// Writes the data of items.
-#[tactic(auto, using(crate::proofs::WroteFronts::fronts, crate::proofs::HeldPuts::held_left, crate::proofs::HeldPuts::held_none))]
+#[tactic(auto, using(bolt_format::proofs::WroteFronts::fronts, crate::proofs::HeldPuts::held_left, crate::proofs::HeldPuts::held_none))]
 fn put_data<S: Sink>(
     items: &[Held<'_>],
     inlined: &[Leaf<'_>],

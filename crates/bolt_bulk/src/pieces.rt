@@ -20,7 +20,7 @@ pub(crate) fn put<S: Sink>(bytes: &[u8], sink: &mut S) -> Result<(), SinkFault>
 }
 
 /// Writes `count` zeros.
-#[tactic(auto, using(crate::proofs::WroteFronts::fronts, crate::proofs::FilledTexts::zeros_left, crate::proofs::FilledTexts::zeros_none))]
+#[tactic(auto, using(bolt_format::proofs::WroteFronts::fronts, crate::proofs::FilledTexts::zeros_left, crate::proofs::FilledTexts::zeros_none))]
 pub(crate) fn put_zeros<S: Sink>(count: usize, sink: &mut S) -> Result<(), SinkFault>
     ensures { Wrote S.Sink sink.old sink.new (replicate count 0) (page_ending result) }
 {

@@ -1,7 +1,9 @@
 -- The answer of a job that may run out of memory on its way, whether its text was written whole or not.
-use Rattle.std.proofs.Common.{◌≡◌, ◌∙◌, ◌⊎◌, ℕ, IfErr, List, Option, Ok, Err, Result, inl, inr, ap, refl}
+use Rattle.std.proofs.Common.{◌≡◌, ◌⊎◌, ℕ, IfErr, List, Option, Ok, Err, Result, inl, inr, ap, refl}
 use Rattle.std.specs.Result.{IsErrAnd}
-use Rattle.bolt_report.specs.Reports.{Reports}
+use Rattle.bolt_format.specs.Wrote.{Wrote}
+use Rattle.bolt_format.specs.declared.sink.Sink.{Ghosts}
+use Rattle.bolt_report.specs.ReportEndings.{report_ending}
 use Rattle.bolt_report.specs.declared.fault.ReportFault.{ReportFault}
 use Rattle.bolt_report.specs.declared.fault.ReportFault.TheVariants as report
 use Rattle.bolt_cli.specs.Answers.{Answer, Does, Ending, IsEndedOrCut}
@@ -22,17 +24,14 @@ EndsAfter (Err e) wanted ending = IsErrAnd ending (λ failure. failure ≡ repor
 abbrev pub cut : List ℕ → Answer
 cut front = record { out = front; ending = Err failure.Memory }
 
-pub ended_put : {S A : Type 0} {taken : S → Option (List ℕ)} {failed : S → ℕ} (old new : S) (text : List ℕ) (wanted : Ending) (put : Result A ReportFault) (ending : Ending)
-    → Reports taken failed old new text put → IfErr put (λ e. (e ≡ report.Sink) ⊎ (e ≡ report.NoMemory)) → IfErr put (λ e. e ≡ report.NoMemory → failed new ≡ failed old)
-    → EndsAfter put wanted ending → DoesEnded taken failed old new text wanted ending
-ended_put old new text wanted (Ok x) ending written fault memory ends = (record { out = text; ending = wanted }, inl refl, inl (written.all, written.sound, ends))
-ended_put old new text wanted (Err e) (Ok x) written fault memory ends = absurd ends
-ended_put {A = A} old new text wanted (Err e) (Err said) written (inl sink) memory ends =
-    let answer : Answer = record { out = text; ending = wanted } in
-    (answer, inl refl, Does-part old new answer e (Err said) written sink ends)
-ended_put old new text wanted (Err e) (Err said) written (inr full) memory ends =
-    let begun = written.prefix in (
-      cut begun.front,
-      inr (begun.front, begun.rest, begun.parts, refl),
-      inl (begun.taken, memory full, ap Err (ends ∙ ap reported full)),
-    )
+pub ended_put : {S A : Type 0} {sink : Ghosts S} (old new : S) (text : List ℕ) (wanted : Ending) (put : Result A ReportFault) (ending : Ending)
+    → Wrote sink old new text (report_ending put) → IfErr put (λ e. (e ≡ report.Sink) ⊎ (e ≡ report.NoMemory))
+    → EndsAfter put wanted ending → DoesEnded sink.taken sink.failed old new text wanted ending
+ended_put old new text wanted (Ok x) ending written fault ends = (record { out = text; ending = wanted }, inl refl, inl (written.appends, written.failures, ends))
+ended_put old new text wanted (Err e) (Ok x) written fault ends = absurd ends
+ended_put old new text wanted (Err report.Sink) (Err said) written fault ends =
+    let answer : Answer = record { out = text; ending = wanted } in (answer, inl refl, Does-part old new answer (Err said) written ends)
+ended_put old new text wanted (Err report.NoMemory) (Err said) written fault ends =
+    let begun = written.appends in (cut begun.front, inr (begun.front, begun.rest, begun.parts, refl), inl (begun.taken, written.failures, ap Err ends))
+ended_put old new text wanted (Err (report.Page page)) (Err said) written (inl sink) ends = absurd cc
+ended_put old new text wanted (Err (report.Page page)) (Err said) written (inr full) ends = absurd cc

@@ -4,7 +4,9 @@ use Rattle.std.specs.Result.{IsErrAnd}
 use Rattle.bolt_check.specs.CheckedFiles.{bytes_of, meta_of}
 use Rattle.bolt_check.specs.declared.checked_file.Checked.{Checked}
 use Rattle.bolt_format.specs.Elements.{LeafElement}
-use Rattle.bolt_report.specs.Reports.{Reports}
+use Rattle.bolt_format.specs.Wrote.{Wrote}
+use Rattle.bolt_format.specs.declared.sink.Sink.{Ghosts}
+use Rattle.bolt_report.specs.ReportEndings.{report_ending}
 use Rattle.bolt_report.specs.declared.form.Form.{Form}
 use Rattle.bolt_report.specs.declared.form.Form.TheVariants.{Json}
 use Rattle.bolt_report.specs.declared.fault.ReportFault.{ReportFault}
@@ -37,11 +39,11 @@ module _ (file : List ℕ) (choice : MetaChoice) (path : Path) (form : Form) (te
       → IsErrAnd result (λ failure. failure ≡ said) → EntriesAnswer taken failed out out result
   entries_missing taken failed out said result (is, nowhere) ends = (refused said, of_file (refused said) (inr (nowhere, ap refused is)), Does-nothing taken failed out said result ends)
 
-  module _ (bucket : Bucket) (in_file : bucket_checked bucket ≡ checked) (led : ∥ LeadsTo (bytes_of checked) (meta_of checked) path (bucket_start bucket) ∥₁) {S A : Type 0} {taken : S → Option (List ℕ)} {failed : S → ℕ} (old new : S) where
-    pub entries_put : (put : Result A ReportFault) (ending : Ending) → ForEntries (bucket_checked bucket) (bucket_start bucket) (λ entries. Reports taken failed old new (text entries) put)
-        → IfErr put (λ e. (e ≡ report.Sink) ⊎ ((e ≡ report.NoMemory) × (form ≡ Json))) → IfErr put (λ e. e ≡ report.NoMemory → failed new ≡ failed old) → EndsAfter put (Ok 0) ending → EntriesAnswer taken failed old new ending
-    entries_put put ending written fault memory ends =
-        let Put : List LeafElement → Type 0 = λ entries. Reports taken failed old new (text entries) put in
+  module _ (bucket : Bucket) (in_file : bucket_checked bucket ≡ checked) (led : ∥ LeadsTo (bytes_of checked) (meta_of checked) path (bucket_start bucket) ∥₁) {S A : Type 0} {sink : Ghosts S} (old new : S) where
+    pub entries_put : (put : Result A ReportFault) (ending : Ending) → ForEntries (bucket_checked bucket) (bucket_start bucket) (λ entries. Wrote sink old new (text entries) (report_ending put))
+        → IfErr put (λ e. (e ≡ report.Sink) ⊎ ((e ≡ report.NoMemory) × (form ≡ Json))) → EndsAfter put (Ok 0) ending → EntriesAnswer sink.taken sink.failed old new ending
+    entries_put put ending written fault ends =
+        let Put : List LeafElement → Type 0 = λ entries. Wrote sink old new (text entries) (report_ending put) in
         let (start, entries, names, are, here) = at_path checked path bucket Put (own_trees file choice checked same under) in_file led written in
-        let (answer, shown, does) = shown_put form old new (text entries) put ending here fault memory ends in
+        let (answer, shown, does) = shown_put form old new (text entries) put ending here fault ends in
         (answer, of_file answer (inl (start, entries, names, are, shown)), does)

@@ -13,7 +13,9 @@ use Rattle.bolt_tree.specs.ListingParts.{has_bucket, part_below}
 use Rattle.bolt_tree.specs.Paths.{Path}
 use Rattle.bolt_tree.proofs.Existing.{has_listing}
 use Rattle.bolt_report.specs.ListForms.{listing_lines}
-use Rattle.bolt_report.specs.Reports.{Reports}
+use Rattle.bolt_format.specs.Wrote.{Wrote}
+use Rattle.bolt_format.specs.declared.sink.Sink.{Ghosts}
+use Rattle.bolt_report.specs.ReportEndings.{report_ending}
 use Rattle.bolt_report.specs.declared.fault.ReportFault.{ReportFault}
 use Rattle.bolt_report.specs.declared.fault.ReportFault.TheVariants as report
 use Rattle.bolt_report.specs.declared.form.ListForm.{ListForm}
@@ -52,14 +54,12 @@ module _ (file : List ℕ) (checked : Checked) (form : ListForm) (path from : Pa
     is_there : has_bucket path own_listing.0 ≡ true
     is_there = ∥∥₁_elim leads (hlevel props) (λ led. has_named file (meta_of checked) own_listing.0 own_listing.1 path bucket (subst (λ (f : List ℕ). LeadsTo f (meta_of checked) path bucket) same led))
 
-    abbrev Written : {S A : Type 0} → (taken : S → Option (List ℕ)) (failed : S → ℕ) (old new : S) → Result A ReportFault → Type 0
-    Written {A = A} taken failed old new result = ForListing checked (λ listing. Reports {A = A} taken failed old new (listing_lines form (rest_from from (part_below path listing))) result)
-
-    pub list_put : {S A : Type 0} {taken : S → Option (List ℕ)} {failed : S → ℕ} (old new : S) (put : Result A ReportFault) (ending : Ending) → Written taken failed old new put
-        → IfErr put (λ e. (e ≡ report.Sink) ⊎ (e ≡ report.NoMemory)) → IfErr put (λ e. e ≡ report.NoMemory → failed new ≡ failed old) → EndsAfter put (Ok 0) ending → ListAnswer taken failed old new ending
-    list_put {taken = taken} {failed = failed} old new put ending written fault memory ends =
+    pub list_put : {S A : Type 0} {sink : Ghosts S} (old new : S) (put : Result A ReportFault) (ending : Ending)
+        → ForListing checked (λ listing. Wrote sink old new (listing_lines form (rest_from from (part_below path listing))) (report_ending put))
+        → IfErr put (λ e. (e ≡ report.Sink) ⊎ (e ≡ report.NoMemory)) → EndsAfter put (Ok 0) ending → ListAnswer sink.taken sink.failed old new ending
+    list_put {sink = sink} old new put ending written fault ends =
         let here = written own_listing.0 (subst (λ (f : List ℕ). IsListing f (meta_of checked) own_listing.0) (sym same) own_listing.1) in
-        let own = subst (λ (b : Bool). Reports taken failed old new (answer_by form path from own_listing.0 (Ok 0) b).out put) (sym is_there) here in
+        let own = subst (λ (b : Bool). Wrote sink old new (answer_by form path from own_listing.0 (Ok 0) b).out (report_ending put)) (sym is_there) here in
         let to_end = subst (λ (b : Bool). EndsAfter put (answer_by form path from own_listing.0 (Ok 0) b).ending ending) (sym is_there) ends in
-        let (answer, is, does) = ended_put old new own_text own_ending put ending own fault memory to_end in
+        let (answer, is, does) = ended_put old new own_text own_ending put ending own fault to_end in
         (answer, (own_listing.0, own_listing.1, is), does)

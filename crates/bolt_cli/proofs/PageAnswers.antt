@@ -2,7 +2,10 @@
 use Rattle.std.proofs.Common.{◌≡◌, ◌≢◌, ◌↔◌, ℕ, List, Option, Some, None, Result, Ok, Err, ap, refl, subst, sym}
 use Rattle.std.specs.Result.{IsErrAnd}
 use Rattle.bolt_format.specs.declared.fault.PageFault.{PageFault}
-use Rattle.bolt_report.specs.Reports.{Reports}
+use Rattle.bolt_format.specs.Endings.{whole}
+use Rattle.bolt_format.specs.Wrote.{Wrote}
+use Rattle.bolt_format.specs.declared.sink.Sink.{Ghosts}
+use Rattle.bolt_report.specs.ReportEndings.{fault_ending}
 use Rattle.bolt_report.specs.declared.fault.ReportFault.{ReportFault}
 use Rattle.bolt_report.specs.declared.fault.ReportFault.TheVariants as report
 use Rattle.bolt_cli.specs.Answers.{Does, Ending, done, page_answer}
@@ -21,21 +24,20 @@ abbrev fault_in : {A : Type 0} → Result A ReportFault → ReportFault → Repo
 fault_in (Ok x) other = other
 fault_in (Err e) other = e
 
-pub Does-page_whole : {S A : Type 0} (taken : S → Option (List ℕ)) (failed : S → ℕ) (old new : S) (found : Option PageFault) (text : List ℕ) (x : A)
-    → Reports {A = A} taken failed old new text (Ok x) → NamesFault {A = A} (Ok x) found
-    → Does taken failed old new (page_answer found text) (Ok 0)
-Does-page_whole taken failed old new None text x a names = Does-whole old new (done text) x a
-Does-page_whole taken failed old new (Some fault) text x a names = let bad = (names fault).1 refl in absurd (cc)
+pub Does-page_whole : {S A : Type 0} {sink : Ghosts S} (old new : S) (found : Option PageFault) (text : List ℕ) (x : A)
+    → Wrote sink old new text whole → NamesFault {A = A} (Ok x) found → Does sink.taken sink.failed old new (page_answer found text) (Ok 0)
+Does-page_whole old new None text x a names = Does-whole old new (done text) a
+Does-page_whole old new (Some fault) text x a names = let bad = (names fault).1 refl in absurd (cc)
 
-pub Does-page_part : {S A : Type 0} (taken : S → Option (List ℕ)) (failed : S → ℕ) (old new : S) (found : Option PageFault) (text : List ℕ) (e : ReportFault) (result : Ending)
-    → Reports {A = A} taken failed old new text (Err e) → refused_by A e ≢ Err report.NoMemory → NamesFault {A = A} (Err e) found
+pub Does-page_part : {S : Type 0} (A : Type 0) {sink : Ghosts S} (old new : S) (found : Option PageFault) (text : List ℕ) (e : ReportFault) (result : Ending)
+    → Wrote sink old new text (fault_ending e) → refused_by A e ≢ Err report.NoMemory → NamesFault {A = A} (Err e) found
     → ((fault : PageFault) → refused_by A e ≡ Err (report.Page fault) → new ≡ old) → IsErrAnd result (λ said. said ≡ reported e)
-    → Does taken failed old new (page_answer found text) result
-Does-page_part taken failed old new None text report.Sink result a memory names untouched is = Does-part old new (done text) report.Sink result a refl is
-Does-page_part taken failed old new None text report.NoMemory result a memory names untouched is = absurd (memory refl)
-Does-page_part taken failed old new None text (report.Page fault) result a memory names untouched is = let bad = (names fault).0 refl in absurd (cc)
-Does-page_part {A = A} taken failed old new (Some found) text e result a memory names untouched is =
+    → Does sink.taken sink.failed old new (page_answer found text) result
+Does-page_part A old new None text report.Sink result a memory names untouched is = Does-part old new (done text) result a is
+Does-page_part A old new None text report.NoMemory result a memory names untouched is = absurd (memory refl)
+Does-page_part A old new None text (report.Page fault) result a memory names untouched is = let bad = (names fault).0 refl in absurd (cc)
+Does-page_part A {sink} old new (Some found) text e result a memory names untouched is =
     let same : refused_by A e ≡ Err (report.Page found) = (names found).1 refl in
     let said : reported e ≡ failure.Page found = ap (λ (r : Result A ReportFault). reported (fault_in r e)) same in
-    subst (λ s. Does taken failed old s (page_answer (Some found) text) result) (sym (untouched found same))
-    (Does-nothing taken failed old (failure.Page found) result (subst (λ f. IsErrAnd result (λ t. t ≡ f)) said is))
+    subst (λ s. Does sink.taken sink.failed old s (page_answer (Some found) text) result) (sym (untouched found same))
+    (Does-nothing sink.taken sink.failed old (failure.Page found) result (subst (λ f. IsErrAnd result (λ t. t ≡ f)) said is))

@@ -1,5 +1,5 @@
 -- The answer of `pages`.
-use Rattle.std.proofs.Common.{◌≡◌, ℕ, Bool, Err, List, Ok, Option, refl, subst, sym}
+use Rattle.std.proofs.Common.{◌≡◌, ℕ, Bool, List, Ok, Option, refl, subst, sym}
 use Rattle.std.specs.Result.{IsErrAnd}
 use Rattle.bolt_check.specs.CheckedFiles.{bytes_of, meta_of}
 use Rattle.bolt_check.specs.Roles.{AreRoles}
@@ -7,11 +7,13 @@ use Rattle.bolt_check.specs.Sound.{HasRightAccounts, HasSoundTrees}
 use Rattle.bolt_check.specs.declared.checked_file.Checked.{Checked}
 use Rattle.bolt_check.specs.declared.role.Role.{Role}
 use Rattle.bolt_check.proofs.RoleFacts.{some_roles}
-use Rattle.bolt_format.specs.Writes.{Writes}
+use Rattle.bolt_format.specs.Endings.{whole, broken}
+use Rattle.bolt_format.specs.Wrote.{Wrote}
+use Rattle.bolt_format.specs.declared.sink.Sink.{Ghosts}
 use Rattle.bolt_report.specs.PageTables.{ForRoles}
 use Rattle.bolt_cli.specs.Answers.{Answer, Does, Ending, IsPagesAnswer, done, pages_shown}
 use Rattle.bolt_cli.specs.declared.failure.Failure.TheVariants as failure
-use Rattle.bolt_cli.proofs.Doing.{Does-unwritten, Does-written}
+use Rattle.bolt_cli.proofs.Doing.{Does-part, Does-whole}
 
 module _ (file : List ℕ) (as_map : Bool) (checked : Checked) (same : bytes_of checked ≡ file) (trees : HasSoundTrees file (meta_of checked)) (right : HasRightAccounts file (meta_of checked)) where
   abbrev PagesAnswer : {S : Type 0} → (taken : S → Option (List ℕ)) (failed : S → ℕ) (old new : S) → Ending → Type 0
@@ -28,12 +30,11 @@ module _ (file : List ℕ) (as_map : Bool) (checked : Checked) (same : bytes_of 
   is_shown = subst (λ (f : List ℕ). IsPagesAnswer f as_map (meta_of checked) shown) same (own_roles.0, own_roles.1, refl)
 
   -- the text was written whole, or it wasn't
-  pub pages_put : {S E : Type 0} (taken : S → Option (List ℕ)) (failed : S → ℕ) (old new : S) (x : Unit {0})
-      → ForRoles checked (λ roles. Writes {E = E} taken failed old new (pages_shown as_map (bytes_of checked) (meta_of checked) roles) (Ok x)) → PagesAnswer taken failed old new (Ok 0)
-  pages_put taken failed old new x written = (shown, is_shown, Does-written taken failed old new shown x (written own_roles.0 own_roles.1))
+  pub pages_put : {S : Type 0} {sink : Ghosts S} (old new : S)
+      → ForRoles checked (λ roles. Wrote sink old new (pages_shown as_map (bytes_of checked) (meta_of checked) roles) whole) → PagesAnswer sink.taken sink.failed old new (Ok 0)
+  pages_put old new written = (shown, is_shown, Does-whole old new shown (written own_roles.0 own_roles.1))
 
-  pub pages_cut : {S A E : Type 0} (taken : S → Option (List ℕ)) (failed : S → ℕ) (old new : S) (e : E) (ending : Ending)
-      → ForRoles checked (λ roles. Writes {A = A} taken failed old new (pages_shown as_map (bytes_of checked) (meta_of checked) roles) (Err e))
-      → IsErrAnd ending (λ reason. reason ≡ failure.Write) → PagesAnswer taken failed old new ending
-  pages_cut taken failed old new e ending written reason =
-      (shown, is_shown, Does-unwritten taken failed old new shown e ending (written own_roles.0 own_roles.1) reason)
+  pub pages_cut : {S : Type 0} {sink : Ghosts S} (old new : S) (ending : Ending)
+      → ForRoles checked (λ roles. Wrote sink old new (pages_shown as_map (bytes_of checked) (meta_of checked) roles) broken)
+      → IsErrAnd ending (λ reason. reason ≡ failure.Write) → PagesAnswer sink.taken sink.failed old new ending
+  pages_cut old new ending written reason = (shown, is_shown, Does-part old new shown ending (written own_roles.0 own_roles.1) reason)

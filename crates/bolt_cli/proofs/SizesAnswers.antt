@@ -5,7 +5,9 @@ use Rattle.bolt_check.specs.CheckedFiles.{bytes_of, meta_of}
 use Rattle.bolt_check.specs.Sound.{HasSoundTrees}
 use Rattle.bolt_check.specs.declared.checked_file.Checked.{Checked}
 use Rattle.bolt_format.specs.Elements.{LeafElement}
-use Rattle.bolt_report.specs.Reports.{Reports}
+use Rattle.bolt_format.specs.Wrote.{Wrote}
+use Rattle.bolt_format.specs.declared.sink.Sink.{Ghosts}
+use Rattle.bolt_report.specs.ReportEndings.{report_ending}
 use Rattle.bolt_report.specs.SizeLines.{AreSized, Sized, sizes_text}
 use Rattle.bolt_report.specs.declared.form.Form.{Form}
 use Rattle.bolt_report.specs.declared.fault.ReportFault.{ReportFault}
@@ -51,15 +53,14 @@ module _ (file : List ℕ) (choice : MetaChoice) (path : Path) (form : Form) (ch
         → AreSized (bytes_of (bucket_checked bucket)) (meta_of (bucket_checked bucket)) entries sized
     in_bucket entries sized sizes = subst (λ (c : Checked). AreSized (bytes_of c) (meta_of c) entries sized) (sym in_file) sizes
 
-    abbrev Written : {S A : Type 0} → (taken : S → Option (List ℕ)) (failed : S → ℕ) (old new : S) → Result A ReportFault → List LeafElement → Type 0
-    Written taken failed old new result entries =
-        (sized : List Sized) → AreSized (bytes_of (bucket_checked bucket)) (meta_of (bucket_checked bucket)) entries sized → Reports taken failed old new (sizes_text form sized) result
-
-    pub sizes_put : {S A : Type 0} {taken : S → Option (List ℕ)} {failed : S → ℕ} (old new : S) (put : Result A ReportFault) (ending : Ending)
-        → ForEntries (bucket_checked bucket) (bucket_start bucket) (Written taken failed old new put)
-        → IfErr put (λ e. (e ≡ report.Sink) ⊎ (e ≡ report.NoMemory)) → IfErr put (λ e. e ≡ report.NoMemory → failed new ≡ failed old) → EndsAfter put (Ok 0) ending → SizesAnswer taken failed old new ending
-    sizes_put {taken = taken} {failed = failed} old new put ending written fault memory ends =
-        let (start, entries, names, are, here) = at_path checked path bucket (Written taken failed old new put) trees in_file led written in
+    pub sizes_put : {S A : Type 0} {sink : Ghosts S} (old new : S) (put : Result A ReportFault) (ending : Ending)
+        → ForEntries (bucket_checked bucket) (bucket_start bucket) (λ entries. (sized : List Sized) → AreSized (bytes_of (bucket_checked bucket)) (meta_of (bucket_checked bucket)) entries sized
+        → Wrote sink old new (sizes_text form sized) (report_ending put))
+        → IfErr put (λ e. (e ≡ report.Sink) ⊎ (e ≡ report.NoMemory)) → EndsAfter put (Ok 0) ending → SizesAnswer sink.taken sink.failed old new ending
+    sizes_put {sink = sink} old new put ending written fault ends =
+        let Put : List LeafElement → Type 0 = λ entries. (sized : List Sized) → AreSized (bytes_of (bucket_checked bucket)) (meta_of (bucket_checked bucket)) entries sized
+        → Wrote sink old new (sizes_text form sized) (report_ending put) in
+        let (start, entries, names, are, here) = at_path checked path bucket Put trees in_file led written in
         let (sized, sizes) = own_sizes start entries names are in
-        let (answer, whole, does) = ended_put old new (sizes_text form sized) (Ok 0) put ending (here sized (in_bucket entries sized sizes)) fault memory ends in
+        let (answer, whole, does) = ended_put old new (sizes_text form sized) (Ok 0) put ending (here sized (in_bucket entries sized sizes)) fault ends in
         (answer, of_file answer (inl (start, entries, sized, names, are, sizes, whole)), does)

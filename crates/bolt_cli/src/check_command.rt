@@ -1,7 +1,8 @@
 //! The command `check`.
-ghost use Rattle.std.specs.Prelude.{◌≡◌, ◌≤◌, IfErr, IfOk, OnOk, map};
+ghost use Rattle.std.specs.Prelude.{◌≡◌, ◌≤◌, IfOk, OnOk, map};
 ghost use Rattle.bolt_check.specs.declared.fault.CheckFault.TheVariants as check;
-ghost use Rattle.bolt_format.specs.Writes.{Writes};
+ghost use Rattle.bolt_format.specs.Endings.{ending};
+ghost use Rattle.bolt_format.specs.Wrote.{Wrote};
 ghost use Rattle.bolt_recover.specs.Recoveries.{ForLosses, recovery_file, recovery_losses, recovery_meta};
 ghost use Rattle.bolt_recover.specs.ShownLosses.{loss_view};
 ghost use Rattle.bolt_cli.specs.Answers.{Answer, Does, IsCheckAnswer, IsFoundAnswer, IsLossesAnswer, IsRecoveredAnswer, all_refusal, check_refusal, found, losses_found, none_found};
@@ -13,11 +14,9 @@ use crate::meta_choice::MetaChoice;
 use crate::open_read::open_read;
 use crate::open_recovery::open_recovery;
 use bolt_check::{CheckFault, Finding, NoMemory};
-use bolt_format::{MetaFault, Sink};
+use bolt_format::{MetaFault, Sink, SinkFault};
 use bolt_recover::{Loss, Recovery};
-use bolt_report::{
-    ReportFault, all_lost_text, counted_losses_text, findings_text, snapshot_fault_text,
-};
+use bolt_report::{all_lost_text, counted_losses_text, findings_text, snapshot_fault_text};
 use bolt_snapshot::{SnapshotFault, snapshot_fault};
 use std::alloc::Global;
 use std::slice;
@@ -180,9 +179,8 @@ fn put_losses<O: Sink>(
 
 /// Writes the line of what is wrong with the hash of a snapshot, and returns how many errors that
 /// is.
-fn put_hash_fault<O: Sink>(hash: Option<SnapshotFault>, out: &mut O) -> Result<u64, ReportFault>
-    ensures line { Writes O.taken O.failed out.old out.new (fault_lines hash) result }
-    ensures fault { IfErr result (λ fault. fault ≡ ReportFault.Sink) }
+fn put_hash_fault<O: Sink>(hash: Option<SnapshotFault>, out: &mut O) -> Result<u64, SinkFault>
+    ensures line { Wrote O.Sink out.old out.new (fault_lines hash) (ending result) }
     ensures errors { IfOk result (λ errors. errors ≡ errors_in hash) }
     ensures few { IfOk result (λ errors. errors ≤ 1) }
 {

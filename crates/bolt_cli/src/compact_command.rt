@@ -1,7 +1,8 @@
 //! The command `compact`.
-ghost use Rattle.std.specs.Prelude.{◌≡◌, ◌++◌, IfErr, map};
+ghost use Rattle.std.specs.Prelude.{◌≡◌, ◌++◌, map};
+ghost use Rattle.bolt_format.specs.Endings.{ending};
 ghost use Rattle.bolt_format.specs.Metas.{IsPageSize};
-ghost use Rattle.bolt_format.specs.Writes.{Writes};
+ghost use Rattle.bolt_format.specs.Wrote.{Wrote};
 ghost use Rattle.bolt_recover.specs.ShownLosses.{loss_view};
 ghost use Rattle.bolt_report.specs.LossLines.{losses_text};
 ghost use Rattle.bolt_cli.specs.Answers.{Compacts, Does, MakesCopy, Recovers, copy_report, copy_status, lengths_line};
@@ -18,7 +19,7 @@ use crate::open_read::open_read;
 use crate::open_recovery::open_recovery;
 use bolt_format::{Meta, Sink, SinkFault};
 use bolt_recover::Loss;
-use bolt_report::{ReportFault, losses_text, snapshot_fault_text};
+use bolt_report::{losses_text, snapshot_fault_text};
 use bolt_snapshot::{SnapshotFault, snapshot_fault};
 use std::alloc::Global;
 
@@ -126,9 +127,8 @@ fn put_report<O: Sink>(
     Ok(status_of(differs, losses))
 }
 
-fn put_differing<O: Sink>(differs: bool, out: &mut O) -> Result<(), ReportFault>
-    ensures line { Writes O.taken O.failed out.old out.new (differing_line differs) result }
-    ensures fault { IfErr result (λ fault. fault ≡ ReportFault.Sink) }
+fn put_differing<O: Sink>(differs: bool, out: &mut O) -> Result<(), SinkFault>
+    ensures { Wrote O.Sink out.old out.new (differing_line differs) (ending result) }
 {
     if !differs {
         return Ok(());
@@ -142,13 +142,11 @@ fn put_losses<O: Sink>(
     source: u64,
     copy: u64,
     out: &mut O,
-) -> Result<(), ReportFault>
-    ensures lines { Writes O.taken O.failed out.old out.new (losses_text (map loss_view losses.now) ++ lengths_line source copy) result }
-    ensures fault { IfErr result (λ fault. fault ≡ ReportFault.Sink) }
+) -> Result<(), SinkFault>
+    ensures { Wrote O.Sink out.old out.new (losses_text (map loss_view losses.now) ++ lengths_line source copy) (ending result) }
 {
     losses_text(losses, out)?;
-    put_lengths(source, copy, out)?;
-    Ok(())
+    put_lengths(source, copy, out)
 }
 
 /// The status after these losses.
@@ -160,7 +158,7 @@ fn status_of(differs: bool, losses: &[Loss<'_>]) -> u8
 
 /// Writes the lengths of the file and of its copy.
 fn put_lengths<O: Sink>(source: u64, copy: u64, out: &mut O) -> Result<(), SinkFault>
-    ensures { Writes O.taken O.failed out.old out.new (lengths_line source copy) result }
+    ensures { Wrote O.Sink out.old out.new (lengths_line source copy) (ending result) }
 {
     put_number_and(source, b" -> ", out)?;
     put_number_and(copy, b" bytes\n", out)

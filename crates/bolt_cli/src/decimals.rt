@@ -1,24 +1,26 @@
 //! Numbers in decimal.
 ghost use Rattle.std.specs.Prelude.{◌++◌, decimal};
-ghost use Rattle.bolt_format.specs.Writes.{Writes};
+ghost use Rattle.bolt_format.specs.Endings.{ending};
+ghost use Rattle.bolt_format.specs.Wrote.{Wrote};
 
 use bolt_format::{Sink, SinkFault};
 use itoa::Buffer;
 
 /// Writes a number and the words after it.
+#[tactic(auto, using(bolt_format::proofs::WroteLemmas::wrote))]
 pub(crate) fn put_number_and<O: Sink>(
     number: u64,
     words: &[u8],
     out: &mut O,
 ) -> Result<(), SinkFault>
-    ensures { Writes O.taken O.failed out.old out.new (decimal number ++ words.now) result }
+    ensures { Wrote O.Sink out.old out.new (decimal number ++ words.now) (ending result) }
 {
     put_digits(number, out)?;
     out.put(words)
 }
 
 fn put_digits<O: Sink>(number: u64, out: &mut O) -> Result<(), SinkFault>
-    ensures { Writes O.taken O.failed out.old out.new (decimal number) result }
+    ensures { Wrote O.Sink out.old out.new (decimal number) (ending result) }
 {
     let mut digits = Buffer::new();
     out.put(digits.format(number).as_bytes())

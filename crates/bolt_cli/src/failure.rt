@@ -1,6 +1,7 @@
 //! Why a job isn't done, and the line that says so.
 ghost use Rattle.std.specs.Prelude.{◌≡◌, ◌++◌, codes, decimal};
-ghost use Rattle.bolt_format.specs.Writes.{Writes};
+ghost use Rattle.bolt_format.specs.Endings.{ending};
+ghost use Rattle.bolt_format.specs.Wrote.{Wrote};
 ghost use Rattle.bolt_report.specs.FaultWords.{finding_text};
 ghost use Rattle.bolt_cli.specs.Failures.{HasFinding, IsFailureOf, copied, failure_line, failure_text, reported};
 ghost use Rattle.bolt_cli.specs.declared.failure.Failure.TheVariants as failure;
@@ -114,15 +115,15 @@ impl From<BulkFault> for Failure {
 }
 
 /// Writes the line of a failure: `error: ` and its text.
-pub(crate) fn put_failure<E: Sink>(failure: &Failure, err: &mut E) -> Result<(), ReportFault>
-    ensures { Writes E.taken E.failed err.old err.new (failure_line failure.now) result }
+pub(crate) fn put_failure<E: Sink>(failure: &Failure, err: &mut E) -> Result<(), SinkFault>
+    ensures { Wrote E.Sink err.old err.new (failure_line failure.now) (ending result) }
 {
     put_words(b"error: ", err)?;
     put_text(failure, err)
 }
 
-fn put_text<E: Sink>(failure: &Failure, err: &mut E) -> Result<(), ReportFault>
-    ensures { Writes E.taken E.failed err.old err.new (failure_text failure.now) result }
+fn put_text<E: Sink>(failure: &Failure, err: &mut E) -> Result<(), SinkFault>
+    ensures { Wrote E.Sink err.old err.new (failure_text failure.now) (ending result) }
 {
     match failure {
         Failure::Metas(fault) => meta_fault_text(*fault, err),
@@ -138,24 +139,22 @@ fn put_text<E: Sink>(failure: &Failure, err: &mut E) -> Result<(), ReportFault>
     }
 }
 
-fn put_file_refused<E: Sink>(finding: &Finding, err: &mut E) -> Result<(), ReportFault>
-    ensures { Writes E.taken E.failed err.old err.new (codes "file refused: " ++ finding_text finding.now) result }
+fn put_file_refused<E: Sink>(finding: &Finding, err: &mut E) -> Result<(), SinkFault>
+    ensures { Wrote E.Sink err.old err.new (codes "file refused: " ++ finding_text finding.now) (ending result) }
 {
     put_words(b"file refused: ", err)?;
     finding_text(finding, err)
 }
 
-fn put_pages_lost<E: Sink>(count: u64, err: &mut E) -> Result<(), ReportFault>
-    ensures { Writes E.taken E.failed err.old err.new (codes "pages lost: " ++ (decimal count ++ codes "\n")) result }
+fn put_pages_lost<E: Sink>(count: u64, err: &mut E) -> Result<(), SinkFault>
+    ensures { Wrote E.Sink err.old err.new (codes "pages lost: " ++ (decimal count ++ codes "\n")) (ending result) }
 {
     put_words(b"pages lost: ", err)?;
-    put_number_and(count, b"\n", err)?;
-    Ok(())
+    put_number_and(count, b"\n", err)
 }
 
-fn put_words<E: Sink>(words: &[u8], err: &mut E) -> Result<(), ReportFault>
-    ensures { Writes E.taken E.failed err.old err.new words.now result }
+fn put_words<E: Sink>(words: &[u8], err: &mut E) -> Result<(), SinkFault>
+    ensures { Wrote E.Sink err.old err.new words.now (ending result) }
 {
-    err.put(words)?;
-    Ok(())
+    err.put(words)
 }

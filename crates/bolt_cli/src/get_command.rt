@@ -2,7 +2,8 @@
 ghost use Rattle.std.specs.Prelude.{◌≡◌, ◌⊎◌, IfErr, IfOk};
 ghost use Rattle.bolt_check.specs.CheckedFiles.{bytes_of, meta_of};
 ghost use Rattle.bolt_tree.specs.Entries.{Value};
-ghost use Rattle.bolt_report.specs.Reports.{Reports};
+ghost use Rattle.bolt_format.specs.Wrote.{Wrote};
+ghost use Rattle.bolt_report.specs.ReportEndings.{report_ending};
 ghost use Rattle.bolt_cli.specs.Answers.{Answer, Does, HoldsIn, HoldsNone, IsGetAnswer, IsReadAnswer, value_shown};
 ghost use Rattle.bolt_cli.specs.PlainWords.{path_in};
 
@@ -38,9 +39,8 @@ fn put_value<O: Sink>(
     no_newline: bool,
     out: &mut O,
 ) -> Result<(), ReportFault>
-    ensures written { Reports O.taken O.failed out.old out.new (value_shown no_newline form bytes.now) result }
+    ensures written { Wrote O.Sink out.old out.new (value_shown no_newline form bytes.now) (report_ending result) }
     ensures fault { IfErr result (λ fault. (fault ≡ ReportFault.Sink) ⊎ ((fault ≡ ReportFault.NoMemory) × (form ≡ Form.Json))) }
-    ensures memory { IfErr result (λ fault. fault ≡ ReportFault.NoMemory → O.failed out.new ≡ O.failed out.old) }
 {
     if no_newline {
         item(alloc, bytes, form, out)

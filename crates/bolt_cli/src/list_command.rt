@@ -4,7 +4,8 @@ ghost use Rattle.bolt_recover.specs.Recovered.{ForRecovered};
 ghost use Rattle.bolt_recover.specs.Recoveries.{ForLosses, recovery_file, recovery_left, recovery_losses, recovery_meta};
 ghost use Rattle.bolt_recover.specs.ShownLosses.{loss_view};
 ghost use Rattle.bolt_report.specs.ListForms.{listing_lines};
-ghost use Rattle.bolt_report.specs.Reports.{Reports};
+ghost use Rattle.bolt_format.specs.Wrote.{Wrote};
+ghost use Rattle.bolt_report.specs.ReportEndings.{report_ending};
 ghost use Rattle.bolt_tree.specs.FileListings.{ForListing};
 ghost use Rattle.bolt_tree.specs.Listing.{rest_from};
 ghost use Rattle.bolt_tree.specs.ListingParts.{has_bucket, part_below};
@@ -79,9 +80,8 @@ fn put_sound_part<O: Sink>(
     job: &ListJob,
     out: &mut O,
 ) -> Result<(), ReportFault>
-    ensures written { ForListing checked.entry (λ listing. Reports O.taken O.failed out.old out.new (listing_lines job.now.form (rest_from (path_in job.now.from.items) (part_below (path_in job.now.path.items) listing))) result) }
+    ensures written { ForListing checked.entry (λ listing. Wrote O.Sink out.old out.new (listing_lines job.now.form (rest_from (path_in job.now.from.items) (part_below (path_in job.now.path.items) listing))) (report_ending result)) }
     ensures fault { IfErr result (λ fault. (fault ≡ ReportFault.Sink) ⊎ (fault ≡ ReportFault.NoMemory)) }
-    ensures memory { IfErr result (λ fault. fault ≡ ReportFault.NoMemory → O.failed out.new ≡ O.failed out.old) }
 {
     let path = slices(alloc, job.path.as_slice())?;
     let from = slices(alloc, job.from.as_slice())?;
@@ -102,11 +102,10 @@ fn put_recovered_part<O: Sink>(
     job: &ListJob,
     out: &mut O,
 ) -> Result<bool, ReportFault>
-    ensures written { ForRecovered (recovery_file recovery.old) (recovery_meta recovery.old) (λ listing. Reports O.taken O.failed out.old out.new (part_text job.now.form (path_in job.now.path.items) (path_in job.now.from.items) (recovery_left recovery.old listing)) result) }
+    ensures written { ForRecovered (recovery_file recovery.old) (recovery_meta recovery.old) (λ listing. Wrote O.Sink out.old out.new (part_text job.now.form (path_in job.now.path.items) (path_in job.now.from.items) (recovery_left recovery.old listing)) (report_ending result)) }
     ensures found { IfOk result (λ found. ForRecovered (recovery_file recovery.old) (recovery_meta recovery.old) (λ listing. found ≡ has_bucket (path_in job.now.path.items) (recovery_left recovery.old listing))) }
     ensures all { OnOk result (ForLosses (recovery_file recovery.old) (recovery_meta recovery.old) (λ losses. recovery_losses recovery.new ≡ losses)) }
     ensures fault { IfErr result (λ fault. (fault ≡ ReportFault.Sink) ⊎ (fault ≡ ReportFault.NoMemory)) }
-    ensures memory { IfErr result (λ fault. fault ≡ ReportFault.NoMemory → O.failed out.new ≡ O.failed out.old) }
 {
     let path = slices(alloc, job.path.as_slice())?;
     let from = slices(alloc, job.from.as_slice())?;

@@ -11,7 +11,7 @@ mod MetaPrefix
 pub mod PageFacts
 pub mod PageLaws
 pub mod SinkLemmas
-pub mod WriteLemmas
 pub mod WrittenHeaders
 pub mod WrittenMetas
+pub mod WroteFronts
 pub mod WroteLemmas

@@ -1,7 +1,8 @@
 -- One text after another on a sink.
-use Rattle.std.proofs.Common.{◌≡◌, ◌∙◌, ◌+◌, ℕ, suc, List, [], ◌++◌, None, Option, Some, Result, Ok, Err, add-one, ap, drop, flat_map, refl, slice_get, subst, sym, take}
+use Rattle.std.proofs.Common.{◌≡◌, ◌∙◌, ◌+◌, ℕ, suc, List, [], ◌++◌, None, Option, Some, Result, Ok, Err, add-one, ap, drop, flat_map, length, refl, slice_get, subst, sym, take}
 use Rattle.std.specs.Prelude.{IsErr}
 use Rattle.std.specs.Io.KnownBytes.{Appends}
+use Rattle.std.proofs.Math.Seq.{take-length}
 use Rattle.std.proofs.KnownBytes.{Appends-nil, Appends-trans}
 use Rattle.bolt_format.proofs.ListLemmas.{flat_map-cut_at, flat_map-take_more}
 use Rattle.bolt_format.proofs.SinkLemmas.{AppendsPrefix-first, AppendsPrefix-none, AppendsPrefix-second, AppendsProperPrefix-first, AppendsProperPrefix-prefix, AppendsProperPrefix-second}
@@ -106,6 +107,11 @@ pub Wrote-element_return : {S X B : Type 0} {sink : Ghosts S} (f : X → List �
     → Wrote sink old mid (flat_map f (take i xs)) whole → Wrote sink mid new (f x) broken → IsErr result → Wrote sink old new (flat_map f xs) (ending result)
 Wrote-element_return f xs i x result found a b err =
     Wrote-same (sym (flat_map-cut_at f xs i x found)) (Wrote-then a (Wrote-return (flat_map f (drop (suc i) xs)) result b err))
+
+-- all elements
+pub Wrote-elements : {S X : Type 0} {sink : Ghosts S} (f : X → List ℕ) (xs : List X) (count : ℕ) {old new : S} {end : Ending} → length xs ≡ count
+    → Wrote sink old new (flat_map f (take count xs)) end → Wrote sink old new (flat_map f xs) end
+Wrote-elements f xs count all a = Wrote-same (ap (λ k. flat_map f (take k xs)) (sym all) ∙ ap (flat_map f) (take-length xs)) a
 
 -- the first text whole, and an early return in the second
 pub Wrote-then_return : {S B : Type 0} {sink : Ghosts S} {old mid new : S} {first second : List ℕ} (third : List ℕ) (result : Result B SinkFault)

@@ -13,6 +13,5 @@ pub mod Shown
 pub mod ShownIds
 pub mod ShownInline
 pub mod Sinks
-pub mod Writes
 pub mod Written
 pub mod Wrote

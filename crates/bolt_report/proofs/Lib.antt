@@ -2,16 +2,16 @@ mod BucketPartTexts
 mod DepthExists
 mod DepthSums
 mod FigureLemmas
+mod GatherLemmas
+mod HexLemmas
 mod JsonLemmas
 mod KeyTexts
 mod ListPartTexts
 mod ListTexts
-mod ListWrites
 mod PageFaults
 mod PageMapLemmas
 mod PageTableLemmas
 mod PartTests
-mod Pieces
 mod PrefixLemmas
 mod PrefixSteps
 mod ReadDepths
@@ -23,6 +23,5 @@ pub mod SizeLemmas
 pub mod SizesExist
 pub mod StatsExist
 pub mod StatsOnce
-mod TextLemmas
 mod TokenLemmas
 mod Utf8Lemmas

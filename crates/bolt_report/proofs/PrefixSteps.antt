@@ -10,7 +10,10 @@ use Rattle.std.specs.Prelude.{⊤, IfErr, IsErrAnd}
 use Rattle.std.proofs.lemmas.Grind.{flat_map-append}
 use Rattle.std.proofs.lemmas.List.{drop_all}
 use Rattle.bolt_format.specs.Elements.{LeafElement}
-use Rattle.bolt_format.specs.Writes.{Writes}
+use Rattle.bolt_format.specs.Endings as endings
+use Rattle.bolt_format.specs.Wrote.{Wrote}
+use Rattle.bolt_format.specs.declared.sink.Sink.{Ghosts}
+use Rattle.bolt_format.proofs.WroteLemmas.{Wrote-same, Wrote-then}
 use Rattle.bolt_format.proofs.ListLemmas.{drop_next}
 use Rattle.bolt_check.specs.CheckedFiles.{bytes_of, meta_of}
 use Rattle.bolt_check.specs.Keys.{Key, key_lt}
@@ -35,14 +38,13 @@ use Rattle.bolt_tree.proofs.SortedLemmas.{sorted_one}
 use Rattle.bolt_report.specs.Forms.{value_text}
 use Rattle.bolt_report.specs.KeyLines.{keys_text}
 use Rattle.bolt_report.specs.KeyPrefixes.{with_prefix, begins}
-use Rattle.bolt_report.specs.Reports.{Reports}
+use Rattle.bolt_report.specs.ReportEndings.{fault_ending, report_ending}
 use Rattle.bolt_report.specs.declared.fault.ReportFault.{ReportFault}
 use Rattle.bolt_report.specs.declared.fault.ReportFault.TheVariants.{NoMemory, Sink}
 use Rattle.bolt_report.specs.declared.form.Form.{Form}
 use Rattle.bolt_report.specs.declared.form.Form.TheVariants.{Json}
-use Rattle.bolt_report.proofs.KeyTexts.{key_end, key_stop}
-use Rattle.bolt_report.proofs.ListTexts.{more_written}
 use Rattle.bolt_report.proofs.PrefixLemmas.{after_least, from_least, key_begins, none_later}
+use Rattle.bolt_report.proofs.ReportLemmas.{Wrote-fault}
 
 -- ---- the entries of a cursor's bucket
 
@@ -230,31 +232,23 @@ module _ (b : BucketView) (first : ℕ) (prefix : Key) (entries : List LeafEleme
 
 -- ---- their lines
 
-module _ {S : Type 0} (taken : S → Option (List ℕ)) (failed : S → ℕ) (form : Form) (old mid new : S) (done : List LeafElement) (put : Writes {A = ⊤} {E = ReportFault} taken failed old mid (keys_text form done) (Ok tt)) where
-  lines_of : (all left : List LeafElement) → all ≡ done ++ left → keys_text form all ≡ keys_text form done ++ keys_text form left
-  lines_of all left whole = ap (keys_text form) whole ∙ flat_map-append (λ (e : LeafElement). value_text form e.key) done left
+keys_after : (form : Form) (done left : List LeafElement) → keys_text form done ++ keys_text form left ≡ keys_text form (done ++ left)
+keys_after form done left = sym (flat_map-append (λ (e : LeafElement). value_text form e.key) done left)
 
+module _ {S : Type 0} {sink : Ghosts S} (form : Form) {old mid : S} (done : List LeafElement) (put : Wrote sink old mid (keys_text form done) endings.whole) where
   -- one line more
-  pub line_more : (e : LeafElement) → Reports {A = ⊤} taken failed mid new (value_text form e.key) (Ok tt) → Writes {A = ⊤} {E = ReportFault} taken failed old new (keys_text form (done ++ e ∷ [])) (Ok tt)
-  line_more e one =
-      let piece = value_text form e.key in
-      let written = keys_text form done in
-      let text : written ++ piece ≡ keys_text form (done ++ e ∷ []) = ap (λ (l : List ℕ). written ++ l) (sym (append-nil piece)) ∙ sym (flat_map-append (λ (e : LeafElement). value_text form e.key) done (e ∷ [])) in
-      subst (λ (l : List ℕ). Writes {A = ⊤} {E = ReportFault} taken failed old new l (Ok tt)) text
-      (more_written taken failed old mid new (written ++ (piece ++ [])) written piece [] refl put one).1
+  pub line_more : {new : S} (e : LeafElement) → Wrote sink mid new (value_text form e.key) endings.whole → Wrote sink old new (keys_text form (done ++ e ∷ [])) endings.whole
+  line_more e one = Wrote-same (ap (λ (l : List ℕ). keys_text form done ++ l) (sym (append-nil (value_text form e.key))) ∙ keys_after form done (e ∷ [])) (Wrote-then put one)
 
-  -- it was not put whole
-  pub line_stop : (all left rest : List LeafElement) (e : LeafElement) (fault : ReportFault) (result : Result ⊤ ReportFault) → all ≡ done ++ left → left ≡ e ∷ rest
-      → Reports {A = ⊤} taken failed mid new (value_text form e.key) (Err fault) → IsErrAnd result (λ f. f ≡ fault) → Reports taken failed old new (keys_text form all) result
-  line_stop all left rest e fault result whole first one is =
-      key_stop taken failed (λ (e : LeafElement). value_text form e.key) old mid new (keys_text form done) all left rest e (lines_of all left whole) first put fault result one is
+  -- it was not written whole
+  pub line_stop : {new : S} (all left rest : List LeafElement) (e : LeafElement) (fault : ReportFault) (result : Result ⊤ ReportFault) → all ≡ done ++ left → left ≡ e ∷ rest
+      → Wrote sink mid new (value_text form e.key) (fault_ending fault) → IsErrAnd result (λ f. f ≡ fault) → Wrote sink old new (keys_text form all) (report_ending result)
+  line_stop all left rest e fault result all_are first one is =
+      Wrote-same (keys_after form done (e ∷ rest) ∙ ap (keys_text form) (ap (λ (l : List LeafElement). done ++ l) (sym first) ∙ sym all_are)) (Wrote-then put (Wrote-fault (keys_text form rest) fault result one is))
 
--- all lines
-pub lines_end : {S : Type 0} (taken : S → Option (List ℕ)) (failed : S → ℕ) (form : Form) (old new : S) (done all left : List LeafElement) → all ≡ done ++ left → left ≡ []
-    → Writes {A = ⊤} {E = ReportFault} taken failed old new (keys_text form done) (Ok tt) → Reports {A = ⊤} taken failed old new (keys_text form all) (Ok tt)
-lines_end taken failed form old new done all left whole none put =
-    key_end taken failed (λ (e : LeafElement). value_text form e.key) old new (keys_text form done) all left
-    (ap (keys_text form) whole ∙ flat_map-append (λ (e : LeafElement). value_text form e.key) done left) none put
+  -- all lines
+  pub lines_end : (all left : List LeafElement) → all ≡ done ++ left → left ≡ [] → Wrote sink old mid (keys_text form all) endings.whole
+  lines_end all left all_are none = Wrote-same (ap (keys_text form) (sym (all_are ∙ ap (λ (l : List LeafElement). done ++ l) none ∙ append-nil done))) put
 
 -- ---- a fault that is handed on
 
@@ -263,7 +257,3 @@ pub fault_handed_on : (a b : Form) (fault : ReportFault) (result : Result ⊤ Re
 fault_handed_on a b fault (Ok x) same is either = tt
 fault_handed_on a b fault (Err f) same is (inl sink) = inl (is ∙ sink)
 fault_handed_on a b fault (Err f) same is (inr (full, json)) = inr (is ∙ full, sym same ∙ json)
-
-pub memory_handed_on : (P : Type 0) (fault : ReportFault) (result : Result ⊤ ReportFault) → IsErrAnd result (λ f. f ≡ fault) → (fault ≡ NoMemory → P) → IfErr result (λ f. f ≡ NoMemory → P)
-memory_handed_on P fault (Ok x) is same = tt
-memory_handed_on P fault (Err f) is same = λ full. same (sym is ∙ full)

@@ -13,13 +13,13 @@ use Rattle.bolt_report.specs.Deepest.{greatest, inline_depth}
 use Rattle.bolt_report.specs.Readings.{unread_page, root_page_of}
 use Rattle.bolt_report.specs.declared.bucket_stats.UnreadPage.{UnreadPage}
 use Rattle.bolt_report.proofs.DepthSums.{greatest_append}
-use Rattle.bolt_report.proofs.ListWrites.{flat_map-take_more, take_more}
+use Rattle.bolt_format.proofs.ListLemmas.{flat_map-take_more, take_next}
 
 -- one child more was opened
 pub children_next : (cur new old : List UnreadPage) (p : UnreadPage) (opened : BranchElement → UnreadPage) (xs : List BranchElement) (i : ℕ) (e : BranchElement)
     → new ≡ cur ++ p ∷ [] → p ≡ opened e → slice_get xs i ≡ Some e → cur ≡ old ++ map opened (take i xs) → new ≡ old ++ map opened (take (i + 1) xs)
 children_next cur new old p opened xs i e pushed same found before =
-    let more : map opened (take (i + 1) xs) ≡ map opened (take i xs) ++ opened e ∷ [] = ap (λ k. map opened (take k xs)) (add-one i) ∙ ap (map opened) (take_more xs i e found) ∙ map-append opened (take i xs) (e ∷ []) in
+    let more : map opened (take (i + 1) xs) ≡ map opened (take i xs) ++ opened e ∷ [] = ap (λ k. map opened (take k xs)) (add-one i) ∙ ap (map opened) (take_next xs i e found) ∙ map-append opened (take i xs) (e ∷ []) in
     pushed ∙ ap (λ l. l ++ p ∷ []) before ∙ append_assoc old (map opened (take i xs)) (p ∷ []) ∙ ap (λ q. old ++ (map opened (take i xs) ++ q ∷ [])) same ∙ ap (λ l. old ++ l) (sym more)
 
 -- the buckets of one element more were found
@@ -38,7 +38,7 @@ pub inline_next : (old new here : ℕ) (xs : List LeafElement) (i : ℕ) (e : Le
     → old ≡ greatest (λ (x : LeafElement). inline_depth (leaf_entry x)) (take i xs) → new ≡ greatest (λ (x : LeafElement). inline_depth (leaf_entry x)) (take (i + 1) xs)
 inline_next old new here xs i e is most found before =
     let depth : LeafElement → ℕ = λ x. inline_depth (leaf_entry x) in
-    let more = ap (λ k. greatest depth (take k xs)) (add-one i) ∙ ap (greatest depth) (take_more xs i e found) ∙ greatest_append depth (take i xs) (e ∷ []) in
+    let more = ap (λ k. greatest depth (take k xs)) (add-one i) ∙ ap (greatest depth) (take_next xs i e found) ∙ greatest_append depth (take i xs) (e ∷ []) in
     omega (arith, is, most, before, more)
 
 pub leaf_kids : (xs : List LeafElement) → kid_pages true (map leaf_entry xs) ≡ flat_map root_page_of xs

@@ -1,59 +1,46 @@
--- What was written, as it is reported.
-use Rattle.std.proofs.Common.{◌≡◌, ◌∙◌, ℕ, List, ◌++◌, Option, Result, Ok, Err, ap, sym}
-use Rattle.std.proofs.KnownBytes.{Appends-trans}
-use Rattle.bolt_format.proofs.SinkLemmas.{AppendsPrefix-first, AppendsPrefix-second}
-use Rattle.std.specs.Prelude.{⊤, IsErr, IsErrAnd}
-use Rattle.bolt_format.specs.Writes.{Writes}
-use Rattle.bolt_format.specs.declared.sink.SinkFault.{SinkFault}
-use Rattle.bolt_report.specs.Reports.{Reports}
+-- What was written, if a call also fails for other reasons than its sink.
+use Rattle.std.proofs.Common.{◌≡◌, List, ℕ, ◌++◌, Result, Ok, Err, ap, sym}
+use Rattle.std.specs.Result.{IsErrAnd}
+use Rattle.bolt_format.specs.Endings.{broken}
+use Rattle.bolt_format.specs.Wrote.{Wrote}
+use Rattle.bolt_format.specs.declared.sink.Sink.{Ghosts}
+use Rattle.bolt_format.proofs.WroteFronts.{WroteFront, front_stop}
+use Rattle.bolt_format.proofs.WroteLemmas.{Wrote-ends, Wrote-halt, Wrote-stop, Wrote-stop_halted}
+use Rattle.bolt_report.specs.ReportEndings.{fault_ending, report_ending}
 use Rattle.bolt_report.specs.declared.fault.ReportFault.{ReportFault}
-use Rattle.bolt_report.specs.declared.fault.ReportFault.TheVariants.{Sink}
+use Rattle.bolt_report.specs.declared.fault.ReportFault.TheVariants as fault
 
-no_fault : {A : Type 0} (x : A) (fault : ReportFault) → Ok x ≡ Err fault → ⊥
-no_fault x fault e = cc
+-- a fault that was passed on
+ends_by : {A : Type 0} (e : ReportFault) (result : Result A ReportFault) → IsErrAnd result (λ f. f ≡ e) → fault_ending e ≡ report_ending result
+ends_by e (Ok x) is = absurd is
+ends_by e (Err f) is = ap fault_ending (sym is)
 
-module _ {S : Type 0} (taken : S → Option (List ℕ)) (failed : S → ℕ) (old new : S) (text : List ℕ) where
-  pub reports : {A : Type 0} (result : Result A ReportFault) → Writes taken failed old new text result → Reports taken failed old new text result
-  reports (Ok x) w = record { all = w.all; sound = w.sound; prefix = w.prefix; failure = λ e. absurd (no_fault x Sink e) }
-  reports (Err f) w = record { all = w.all; sound = w.sound; prefix = w.prefix; failure = λ e. w.failure }
+module _ {S : Type 0} {sink : Ghosts S} {old new : S} where
+  Wrote-stops : {first : List ℕ} (second : List ℕ) (e : ReportFault) → Wrote sink old new first (fault_ending e) → Wrote sink old new (first ++ second) (fault_ending e)
+  Wrote-stops second fault.Sink a = Wrote-stop second a
+  Wrote-stops second fault.NoMemory a = Wrote-stop_halted second a
+  Wrote-stops second (fault.Page p) a = Wrote-stop_halted second a
 
-  -- whole
-  pub reports_ok : Writes {A = ⊤} {E = SinkFault} taken failed old new text (Ok tt) → Reports {A = ⊤} taken failed old new text (Ok tt)
-  reports_ok w = record { all = w.all; sound = w.sound; prefix = w.prefix; failure = λ e. absurd (no_fault tt Sink e) }
+  -- an early return
+  pub Wrote-fault : {A : Type 0} {first : List ℕ} (second : List ℕ) (e : ReportFault) (result : Result A ReportFault)
+      → Wrote sink old new first (fault_ending e) → IsErrAnd result (λ f. f ≡ e) → Wrote sink old new (first ++ second) (report_ending result)
+  Wrote-fault second e result a is = Wrote-ends (ends_by e result is) (Wrote-stops second e a)
 
-  -- a prefix
-  pub reports_err : (e : SinkFault) (result : Result ⊤ ReportFault) → Writes {A = ⊤} {E = SinkFault} taken failed old new text (Err e) → IsErr result → Reports taken failed old new text result
-  reports_err e (Ok x) w err = absurd (cc)
-  reports_err e (Err f) w err = record { all = tt; sound = tt; prefix = w.prefix; failure = λ h. w.failure }
+  -- the sink's fault
+  pub Wrote-passed : {A : Type 0} {text : List ℕ} (result : Result A ReportFault) → Wrote sink old new text broken → IsErrAnd result (λ f. f ≡ fault.Sink)
+      → Wrote sink old new text (report_ending result)
+  Wrote-passed result a is = Wrote-ends (ends_by fault.Sink result is) a
 
-fault_of : {A : Type 0} → Result A ReportFault → ReportFault → ReportFault
-fault_of (Ok x) other = other
-fault_of (Err f) other = f
+  pub Wrote-sink : {A : Type 0} {first : List ℕ} (second : List ℕ) (result : Result A ReportFault)
+      → Wrote sink old new first broken → IsErrAnd result (λ f. f ≡ fault.Sink) → Wrote sink old new (first ++ second) (report_ending result)
+  Wrote-sink second result a is = Wrote-fault second fault.Sink result a is
 
--- one text after another, the first of them whole
-pub Reports-then : {S A B : Type 0} {taken : S → Option (List ℕ)} {failed : S → ℕ} (old mid new : S) (first second : List ℕ) (x : A) (result : Result B ReportFault)
-    → Reports {A = A} taken failed old mid first (Ok x) → Reports taken failed mid new second result → Reports taken failed old new (first ++ second) result
-Reports-then {taken} {failed} old mid new first second x (Ok y) a b = record {
-  all = Appends-trans (taken old) (taken mid) (taken new) first second a.all b.all;
-  sound = b.sound ∙ a.sound;
-  prefix = AppendsPrefix-second (taken old) (taken mid) (taken new) first second a.all b.prefix;
-  failure = b.failure;
-}
-Reports-then {taken} {failed} old mid new first second x (Err e) a b = record {
-  all = tt;
-  sound = tt;
-  prefix = AppendsPrefix-second (taken old) (taken mid) (taken new) first second a.all b.prefix;
-  failure = b.failure;
-}
+-- nothing was written, and memory ran out
+pub Wrote-unbegun : {S A : Type 0} {sink : Ghosts S} (old : S) (text : List ℕ) (result : Result A ReportFault) → IsErrAnd result (λ f. f ≡ fault.NoMemory)
+    → Wrote sink old old text (report_ending result)
+Wrote-unbegun old text result is = Wrote-ends (ends_by fault.NoMemory result is) (Wrote-halt old text)
 
--- a prefix of the first text, and then nothing
-pub Reports-stop : {S A B : Type 0} {taken : S → Option (List ℕ)} {failed : S → ℕ} (old new : S) (first second : List ℕ) (e : ReportFault) (result : Result B ReportFault)
-    → Reports {A = A} taken failed old new first (Err e) → IsErrAnd result (λ f. f ≡ e) → Reports taken failed old new (first ++ second) result
-unfolding fault_of
-Reports-stop {taken} {failed} old new first second e (Ok y) a is = absurd is
-Reports-stop {taken} {failed} old new first second e (Err f) a is = record {
-  all = tt;
-  sound = tt;
-  prefix = AppendsPrefix-first (taken old) (taken new) first second a.prefix;
-  failure = λ sink. a.failure (ap Err (sym is ∙ ap (λ r. fault_of r e) sink));
-}
+-- an early return after a prefix of a text
+pub front_fault : {S A : Type 0} {sink : Ghosts S} {old mid new : S} {text piece left : List ℕ} (rest : List ℕ) (e : ReportFault) (result : Result A ReportFault)
+    → WroteFront sink old mid text left → Wrote sink mid new piece (fault_ending e) → left ≡ piece ++ rest → IsErrAnd result (λ f. f ≡ e) → Wrote sink old new text (report_ending result)
+front_fault rest e result before one same is = front_stop before (Wrote-fault rest e result one is) same

@@ -1,12 +1,9 @@
 -- The lines of the buckets among entries, entry by entry.
-use Rattle.std.proofs.Common.{if◌then◌else◌, ◌≡◌, ◌∙◌, ℕ, zero, suc, drop, Bool, true, false, List, [], ◌∷◌, ◌++◌, Option, Some, Result, Ok, Err, ap, append-nil, cond, filter, map, refl, subst, sym, rules}
-use Rattle.std.proofs.KnownBytes.{Appends-trans}
+use Rattle.std.proofs.Common.{if◌then◌else◌, ◌≡◌, ◌∙◌, ℕ, zero, suc, drop, Bool, true, false, List, [], ◌∷◌, ◌++◌, Some, ap, append-nil, cond, filter, map, refl, subst, sym, rules}
 use Rattle.std.proofs.Math.Logic.{∥∥₁_elim}
 use Rattle.std.proofs.Props.{props}
 use Rattle.std.proofs.lemmas.Grind.{flat_map-append}
 use Rattle.std.specs.List.{AllByRecursion, Contains}
-use Rattle.std.specs.Prelude.{⊤, IsErr, IsErrAnd}
-use Rattle.bolt_format.proofs.SinkLemmas.{AppendsPrefix-first, AppendsPrefix-second}
 use Rattle.bolt_format.specs.Elements.{LeafElement, head_sequence}
 use Rattle.bolt_format.specs.declared.meta.Meta.{Meta}
 use Rattle.bolt_check.specs.CheckedFiles.{bytes_of, meta_of}
@@ -24,11 +21,8 @@ use Rattle.bolt_tree.proofs.Leaving.{the_entries}
 use Rattle.bolt_tree.proofs.Lists.{contains_head, contains_tail}
 use Rattle.bolt_tree.proofs.Named.{entry_once}
 use Rattle.bolt_report.specs.Forms.{value_text}
-use Rattle.bolt_report.specs.Reports.{Reports}
 use Rattle.bolt_report.specs.SizeLines.{AreSized, Sized, size_columns, size_line, sizes_text}
 use Rattle.bolt_report.specs.StatsOf.{IsStatsOf}
-use Rattle.bolt_report.specs.declared.fault.ReportFault.{ReportFault}
-use Rattle.bolt_report.specs.declared.fault.ReportFault.TheVariants.{Sink}
 use Rattle.bolt_report.specs.declared.statistics.Stats.{Stats}
 use Rattle.bolt_report.specs.declared.form.Form.{Form}
 use Rattle.bolt_report.proofs.StatsOnce.{one_stats}
@@ -130,10 +124,8 @@ first_left entries (On i) e left is = in_rest (suc i) entries e left is
 first_left entries Past e left is = absurd (search (rules, is))
 
 -- the text of what is left is the text of its first entry, and then the rest
-pub cut_text : (form : Form) (whole : List ℕ) (written : List ℕ) (left own rest : List Sized) → whole ≡ written ++ sizes_text form left → left ≡ own ++ rest
-    → whole ≡ written ++ (sizes_text form own ++ sizes_text form rest)
-cut_text form whole written left own rest same is =
-    same ∙ ap (λ (sized : List Sized). written ++ sizes_text form sized) is ∙ ap (λ (text : List ℕ). written ++ text) (flat_map-append (size_line form) own rest)
+pub cut_text : (form : Form) (left own rest : List Sized) → left ≡ own ++ rest → sizes_text form left ≡ sizes_text form own ++ sizes_text form rest
+cut_text form left own rest is = ap (sizes_text form) is ∙ flat_map-append (size_line form) own rest
 
 -- no bucket is left
 pub no_line : (file : List ℕ) (meta : Meta) (form : Form) (entries : List LeafElement) (sized : List Sized) → entries ≡ [] → AreSized file meta entries sized → sizes_text form sized ≡ []
@@ -153,32 +145,3 @@ pub no_value_line : (file : List ℕ) (meta : Meta) (form : Form) (e : LeafEleme
 no_value_line file meta form e v value sized shown item are =
     let plain = value_entry e e.is_bucket value refl (sym (ap (λ (w : EntryView). w.item) shown) ∙ item) in
     no_line file meta form [] sized refl (record { buckets = are.buckets ∙ by_kind e [] false plain; stats = are.stats })
-
--- ---- one text after another
-
--- a fault that is handed on
-pub handed_on : (fault : ReportFault) (result : Result ⊤ ReportFault) → IsErr result → IsErrAnd result (λ f. f ≡ fault) → Err fault ≡ result
-handed_on fault (Ok x) is same = absurd (cc)
-handed_on fault (Err f) is same = ap Err (sym same)
-
-no_fault : (x : ⊤) (fault : ReportFault) → Ok x ≡ Err fault → ⊥
-no_fault x fault e = cc
-
-module _ {S : Type 0} (taken : S → Option (List ℕ)) (failed : S → ℕ) (old mid new : S) (first second : List ℕ) where
-  pub reports_more : Reports {A = ⊤} taken failed old mid first (Ok tt) → Reports {A = ⊤} taken failed mid new second (Ok tt)
-      → Reports {A = ⊤} taken failed old new (first ++ second) (Ok tt)
-  reports_more a b = record {
-    all = Appends-trans (taken old) (taken mid) (taken new) first second a.all b.all;
-    sound = b.sound ∙ a.sound;
-    prefix = AppendsPrefix-second (taken old) (taken mid) (taken new) first second a.all b.prefix;
-    failure = λ e. absurd (no_fault tt Sink e);
-  }
-
-  pub reports_cut : (rest : List ℕ) (fault : ReportFault) → Reports {A = ⊤} taken failed old mid first (Ok tt) → Reports {A = ⊤} taken failed mid new second (Err fault)
-      → Reports {A = ⊤} taken failed old new (first ++ (second ++ rest)) (Err fault)
-  reports_cut rest fault a b = record {
-    all = tt;
-    sound = tt;
-    prefix = AppendsPrefix-second (taken old) (taken mid) (taken new) first (second ++ rest) a.all (AppendsPrefix-first (taken mid) (taken new) second rest b.prefix);
-    failure = b.failure;
-  }

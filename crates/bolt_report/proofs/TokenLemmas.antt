@@ -8,7 +8,7 @@ use Rattle.json.specs.Tree.{items_tokens, json_tokens}
 use Rattle.bolt_tree.specs.Paths.{path_of}
 use Rattle.bolt_report.specs.Forms.{item_json}
 use Rattle.bolt_report.specs.JsonLines.{parts_json}
-use Rattle.bolt_report.proofs.ListWrites.{flat_map-take_more}
+use Rattle.bolt_format.proofs.ListLemmas.{flat_map-take_more}
 use Rattle.bolt_report.proofs.Utf8Lemmas.{not_utf8}
 
 pub parts_tokens : (path : List (Bor (List ℕ))) → items_tokens (parts_json (path_of path)) ≡ flat_map (λ (part : Bor (List ℕ)). json_tokens (item_json part.now)) path ++ end_array ∷ []

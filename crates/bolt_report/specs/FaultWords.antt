@@ -90,7 +90,7 @@ finding_text finding = line (finding_sentence finding)
 
 -- how many findings there are
 abbrev pub count_line : ℕ → List ℕ
-count_line count = line (decimal count ++ codes " errors found")
+count_line count = decimal count ++ codes " errors found\n"
 
 -- the line of each finding, and then how many errors there are with those before
 abbrev pub findings_text : (earlier : ℕ) → List Finding → List ℕ

@@ -1,5 +1,6 @@
 -- The figures of buckets: docs/COMMANDS.md, "What is printed".
-use Rattle.std.specs.Prelude.{◌==◌, ℕ, ◌+◌, ◌++◌, ◌-◌, ◌*◌, ◌^◌, codes, min, max, List, length, sum_by, Option, Some, None, if◌then◌else◌}
+use Rattle.std.specs.Prelude.{◌==◌, ℕ, ◌+◌, ◌-◌, ◌*◌, ◌^◌, codes, min, max, List, [], ◌∷◌, length, sum_by, Option, Some, None, if◌then◌else◌}
+use Rattle.std.specs.List.{concat}
 use Rattle.bolt_format.specs.Elements.{BranchElement, LeafElement, head_root, inline_elements}
 use Rattle.bolt_format.specs.Pages.{PageView}
 use Rattle.bolt_format.specs.declared.kind.Kind.{Kind}
@@ -140,28 +141,19 @@ abbrev pub page_figure : Figure → ℕ → Option PageView → ℕ
 page_figure f page_size None = 0
 page_figure f page_size (Some view) = kind_figure view.kind f page_size view
 
-unfoldable pub bucket_lines : Stats → List ℕ
-bucket_lines stats =
-    figure_line (codes "buckets") stats.buckets
-    ++ figure_line (codes "inline buckets") stats.inline_buckets
-    ++ figure_line (codes "inline used") stats.inline_used
-    ++ figure_line (codes "keys") stats.keys
-    ++ figure_line (codes "depth") stats.depth
-
-unfoldable pub branch_lines : Stats → List ℕ
-branch_lines stats =
-    figure_line (codes "branch pages") stats.branch_pages
-    ++ figure_line (codes "branch overflow") stats.branch_overflow
-    ++ figure_line (codes "branch allocated") stats.branch_allocated
-    ++ figure_line (codes "branch used") stats.branch_used
-
-unfoldable pub leaf_lines : Stats → List ℕ
-leaf_lines stats =
-    figure_line (codes "leaf pages") stats.leaf_pages
-    ++ figure_line (codes "leaf overflow") stats.leaf_overflow
-    ++ figure_line (codes "leaf allocated") stats.leaf_allocated
-    ++ figure_line (codes "leaf used") stats.leaf_used
-
 -- the thirteen lines
 abbrev pub stats_text : Stats → List ℕ
-stats_text stats = bucket_lines stats ++ (branch_lines stats ++ leaf_lines stats)
+stats_text stats = concat (
+    figure_line (codes "buckets") stats.buckets
+    ∷ figure_line (codes "inline buckets") stats.inline_buckets
+    ∷ figure_line (codes "inline used") stats.inline_used
+    ∷ figure_line (codes "keys") stats.keys
+    ∷ figure_line (codes "depth") stats.depth
+    ∷ figure_line (codes "branch pages") stats.branch_pages
+    ∷ figure_line (codes "branch overflow") stats.branch_overflow
+    ∷ figure_line (codes "branch allocated") stats.branch_allocated
+    ∷ figure_line (codes "branch used") stats.branch_used
+    ∷ figure_line (codes "leaf pages") stats.leaf_pages
+    ∷ figure_line (codes "leaf overflow") stats.leaf_overflow
+    ∷ figure_line (codes "leaf allocated") stats.leaf_allocated
+    ∷ figure_line (codes "leaf used") stats.leaf_used ∷ [])

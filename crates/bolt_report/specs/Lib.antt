@@ -3,6 +3,7 @@ pub mod Depths
 pub mod FaultWords
 pub mod Figures
 pub mod Forms
+pub mod Gathers
 pub mod JsonLines
 pub mod JsonReadings
 pub mod KeyLines
@@ -16,7 +17,8 @@ pub mod PageLines
 pub mod PageMaps
 pub mod PageTables
 pub mod PageTexts
+pub mod Pieces
 pub mod Readings
-pub mod Reports
+pub mod ReportEndings
 pub mod SizeLines
 pub mod StatsOf

@@ -24,11 +24,8 @@ bounds_words None upper = []
 bounds_words (Some key) upper = codes ", keys from " ++ (encode_lower key ++ upper_words upper)
 
 -- the line of a finding, and what is lost with it
-abbrev pub lost_line : Finding → List ℕ → List ℕ
-lost_line finding lost = (finding_sentence finding ++ codes "; lost: ") ++ line lost
-
 unfoldable pub loss_text : LossView → List ℕ
-loss_text loss = lost_line loss.finding (bucket_words loss.bucket ++ bounds_words loss.lower loss.upper)
+loss_text loss = (finding_sentence loss.finding ++ codes "; lost: ") ++ (bucket_words loss.bucket ++ line (bounds_words loss.lower loss.upper))
 
 -- the line of each loss
 abbrev pub losses_text : List LossView → List ℕ
@@ -40,4 +37,4 @@ counted_losses_text earlier losses = losses_text losses ++ count_line (earlier +
 
 -- where the root page is lost, everything is
 abbrev pub all_lost_text : (earlier : ℕ) → Finding → List ℕ
-all_lost_text earlier finding = lost_line finding (codes "everything") ++ count_line (earlier + 1)
+all_lost_text earlier finding = (finding_sentence finding ++ codes "; lost: everything\n") ++ count_line (earlier + 1)

@@ -14,9 +14,6 @@ slot_number One = 1
 abbrev pub freelist_text : ℕ → List ℕ
 freelist_text id = if id == NO_FREELIST then codes "none" else decimal id
 
-unfoldable pub freelist_line : ℕ → List ℕ
-freelist_line id = line (codes "freelist " ++ freelist_text id)
-
 abbrev pub info_text : Slot → Meta → List ℕ
 info_text slot meta =
     figure_line (codes "page size") meta.page_size
@@ -24,5 +21,5 @@ info_text slot meta =
     ++ figure_line (codes "txid") meta.txid
     ++ figure_line (codes "root") meta.root
     ++ figure_line (codes "sequence") meta.root_sequence
-    ++ freelist_line meta.freelist
+    ++ line (codes "freelist " ++ freelist_text meta.freelist)
     ++ figure_line (codes "high water") meta.high_water

@@ -13,14 +13,11 @@ kind_text kind.Leaf = codes "leaf"
 kind_text kind.Meta = codes "meta"
 kind_text kind.Freelist = codes "freelist"
 
-unfoldable pub kind_line : Kind → List ℕ
-kind_line kind = line (codes "type " ++ kind_text kind)
-
 -- The first four lines of a page.
 unfoldable pub head_lines : ℕ → Kind → ℕ → ℕ → List ℕ
 head_lines id kind items overflow =
     figure_line (codes "page") id
-    ++ kind_line kind
+    ++ line (codes "type " ++ kind_text kind)
     ++ figure_line (codes "items") items
     ++ figure_line (codes "overflow") overflow
 

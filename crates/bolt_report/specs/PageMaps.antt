@@ -6,8 +6,8 @@ use Rattle.std.specs.List.{range_with_len}
 use Rattle.bolt_format.specs.declared.meta.Meta.{Meta}
 use Rattle.bolt_check.specs.declared.role.Role.{Role}
 use Rattle.bolt_check.specs.declared.role.Role.TheVariants as role
-use Rattle.bolt_report.specs.Lines.{line}
-use Rattle.bolt_report.specs.PageTables.{column, is_free, pages_in, pages_past, past_line}
+use Rattle.bolt_report.specs.Lines.{column, line}
+use Rattle.bolt_report.specs.PageTables.{is_free, pages_in, pages_past, past_line}
 
 -- the character of a page: M, B, L, F, + for a later page of a span, and . if it is free
 abbrev pub page_mark : Role → ℕ

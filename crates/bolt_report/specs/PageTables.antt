@@ -1,6 +1,6 @@
 -- The table of all pages of a file: docs/COMMANDS.md, "What is printed".
 -- What is promised of it is promised for the roles of the pages; each page below the mark has exactly one.
-use Rattle.std.specs.Prelude.{◌==◌, ◌-◌, ℕ, List, [], ◌++◌, Bool, true, false, Option, Some, None, codes, count_by, decimal, flat_map, if◌then◌else◌, length, min, replicate}
+use Rattle.std.specs.Prelude.{◌==◌, ◌-◌, ℕ, List, [], ◌++◌, Bool, true, false, Option, Some, None, codes, count_by, decimal, flat_map, if◌then◌else◌, length, min}
 use Rattle.std.specs.Int.{div_ceil}
 use Rattle.std.specs.List.{range_with_len}
 use Rattle.bolt_format.specs.Freelists.{free_ids_at}
@@ -11,11 +11,7 @@ use Rattle.bolt_check.specs.Roles.{AreRoles}
 use Rattle.bolt_check.specs.declared.checked_file.Checked.{Checked}
 use Rattle.bolt_check.specs.declared.role.Role.{Role}
 use Rattle.bolt_check.specs.declared.role.Role.TheVariants as role
-use Rattle.bolt_report.specs.Lines.{line}
-
--- a text and spaces, as wide as its column; a longer text passes the column
-unfoldable pub column : ℕ → List ℕ → List ℕ
-column width text = text ++ replicate (width - length text) 0x20
+use Rattle.bolt_report.specs.Lines.{column, line}
 
 -- four columns with a space between them
 unfoldable pub row : (id kind items overflow : List ℕ) → List ℕ
@@ -66,7 +62,7 @@ pages_past file meta = range_with_len (begun file meta) (meta.high_water - begun
 
 -- no line if there are none
 abbrev pub past_line : ℕ → List ℕ
-past_line count = if count == 0 then [] else line (decimal count ++ codes " free pages past the end of the file")
+past_line count = if count == 0 then [] else decimal count ++ codes " free pages past the end of the file\n"
 
 -- the head, a row for each page in the file, and how many free pages are past its end
 abbrev pub pages_text : List ℕ → Meta → (ℕ → Role) → List ℕ

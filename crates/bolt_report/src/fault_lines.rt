@@ -1,12 +1,11 @@
 //! The lines of faults and findings.
-ghost use Rattle.std.specs.Prelude.{◌≡◌, ◌≤◌, ◌+◌, ◌++◌, IfErr, flat_map, length};
-ghost use Rattle.bolt_format.specs.Writes.{Writes};
-ghost use Rattle.bolt_report.specs.FaultWords.{count_line, finding_sentence, finding_text, finding_words, findings_text, meta_fault_text, page_fault_text, page_fault_words, pages_words, snapshot_fault_text};
-ghost use Rattle.bolt_report.specs.Reports.{Reports};
+ghost use Rattle.std.specs.Prelude.{◌≡◌, ◌≤◌, ◌++◌, flat_map};
+ghost use Rattle.bolt_format.specs.Endings.{ending};
+ghost use Rattle.bolt_format.specs.Wrote.{Wrote};
+ghost use Rattle.bolt_report.specs.FaultWords.{count_line, finding_sentence, finding_text, finding_words, findings_text, meta_fault_text, page_fault_text, page_fault_words, snapshot_fault_text};
 
-use crate::fault::ReportFault;
+use crate::pieces::{Piece, put_pieces};
 use crate::puts::put;
-use crate::text::{TEXT_LEN, Text, push_bytes, push_number};
 use bolt_check::Finding;
 use bolt_format::{MetaFault, PageFault, Sink, SinkFault};
 use bolt_snapshot::SnapshotFault;
@@ -15,52 +14,53 @@ use bolt_snapshot::SnapshotFault;
 ///
 /// # Errors
 ///
-/// `Sink` if the sink failed; it has then accepted a prefix of the text. There is no other error.
-pub fn meta_fault_text<S: Sink>(fault: MetaFault, sink: &mut S) -> Result<(), ReportFault>
-    ensures written { Reports S.taken S.failed sink.old sink.new (meta_fault_text fault) result }
-    ensures fault { IfErr result (λ fault. fault ≡ ReportFault.Sink) }
+/// `SinkFault` if the sink failed. It has then accepted a prefix of the text.
+pub fn meta_fault_text<S: Sink>(fault: MetaFault, sink: &mut S) -> Result<(), SinkFault>
+    ensures { Wrote S.Sink sink.old sink.new (meta_fault_text fault) (ending result) }
 {
-    put(meta_fault_line(fault), sink)?;
-    Ok(())
+    put(meta_fault_line(fault), sink)
 }
 
 /// Writes the line of a snapshot's fault.
 ///
 /// # Errors
 ///
-/// `Sink` if the sink failed; it has then accepted a prefix of the text. There is no other error.
-pub fn snapshot_fault_text<S: Sink>(fault: SnapshotFault, sink: &mut S) -> Result<(), ReportFault>
-    ensures written { Reports S.taken S.failed sink.old sink.new (snapshot_fault_text fault) result }
-    ensures fault { IfErr result (λ fault. fault ≡ ReportFault.Sink) }
+/// `SinkFault` if the sink failed. It has then accepted a prefix of the text.
+pub fn snapshot_fault_text<S: Sink>(fault: SnapshotFault, sink: &mut S) -> Result<(), SinkFault>
+    ensures { Wrote S.Sink sink.old sink.new (snapshot_fault_text fault) (ending result) }
 {
-    put(snapshot_fault_line(fault), sink)?;
-    Ok(())
+    put(snapshot_fault_line(fault), sink)
 }
 
 /// Writes the line of a page's fault.
 ///
 /// # Errors
 ///
-/// `Sink` if the sink failed; it has then accepted a prefix of the text. There is no other error.
-pub fn page_fault_text<S: Sink>(fault: &PageFault, sink: &mut S) -> Result<(), ReportFault>
-    ensures written { Reports S.taken S.failed sink.old sink.new (page_fault_text fault.now) result }
-    ensures fault { IfErr result (λ fault. fault ≡ ReportFault.Sink) }
+/// `SinkFault` if the sink failed. It has then accepted a prefix of the text.
+pub fn page_fault_text<S: Sink>(fault: &PageFault, sink: &mut S) -> Result<(), SinkFault>
+    ensures { Wrote S.Sink sink.old sink.new (page_fault_text fault.now) (ending result) }
 {
-    put(page_fault_line(fault).as_slice(), sink)?;
-    Ok(())
+    put_pieces(
+        &[
+            Piece::Bytes(b"page "),
+            Piece::Number(fault.page),
+            Piece::Bytes(b": "),
+            Piece::Bytes(page_fault_words(fault.number)),
+            Piece::Bytes(b"\n"),
+        ],
+        sink,
+    )
 }
 
 /// Writes the line of a finding.
 ///
 /// # Errors
 ///
-/// `Sink` if the sink failed; it has then accepted a prefix of the text. There is no other error.
-pub fn finding_text<S: Sink>(finding: &Finding, sink: &mut S) -> Result<(), ReportFault>
-    ensures written { Reports S.taken S.failed sink.old sink.new (finding_text finding.now) result }
-    ensures fault { IfErr result (λ fault. fault ≡ ReportFault.Sink) }
+/// `SinkFault` if the sink failed. It has then accepted a prefix of the text.
+pub fn finding_text<S: Sink>(finding: &Finding, sink: &mut S) -> Result<(), SinkFault>
+    ensures { Wrote S.Sink sink.old sink.new (finding_text finding.now) (ending result) }
 {
-    put(finding_line(finding).as_slice(), sink)?;
-    Ok(())
+    put_sentence(finding, b"\n", sink)
 }
 
 /// Writes the line of each finding, and then the line with the number of errors, such as `2 errors
@@ -68,45 +68,73 @@ pub fn finding_text<S: Sink>(finding: &Finding, sink: &mut S) -> Result<(), Repo
 ///
 /// # Errors
 ///
-/// `Sink` if the sink failed; it has then accepted a prefix of the text. There is no other error.
+/// `SinkFault` if the sink failed. It has then accepted a prefix of the text.
 pub fn findings_text<S: Sink>(
     findings: &[Finding],
     earlier: u64,
     sink: &mut S,
-) -> Result<(), ReportFault>
+) -> Result<(), SinkFault>
     requires { earlier ≤ 1 }
-    ensures written { Reports S.taken S.failed sink.old sink.new (findings_text earlier findings.now) result }
-    ensures fault { IfErr result (λ fault. fault ≡ ReportFault.Sink) }
+    ensures { Wrote S.Sink sink.old sink.new (findings_text earlier findings.now) (ending result) }
 {
-    put_findings(findings, earlier, sink)?;
-    Ok(())
+    put_findings(findings, sink)?;
+    put_count(earlier + findings.len() as u64, sink)
 }
 
-fn put_findings<S: Sink>(findings: &[Finding], earlier: u64, sink: &mut S) -> Result<(), SinkFault>
-    requires { earlier ≤ 1 }
-    ensures { Writes S.taken S.failed sink.old sink.new (findings_text earlier findings.now) result }
-{
-    put_finding_lines(findings, sink)?;
-    put(count_line(earlier + findings.len() as u64).as_slice(), sink)
-}
-
-fn put_finding_lines<S: Sink>(findings: &[Finding], sink: &mut S) -> Result<(), SinkFault>
-    ensures { Writes S.taken S.failed sink.old sink.new (flat_map finding_text findings.now) result }
+fn put_findings<S: Sink>(findings: &[Finding], sink: &mut S) -> Result<(), SinkFault>
+    ensures { Wrote S.Sink sink.old sink.new (flat_map finding_text findings.now) (ending result) }
 {
     for finding in findings {
-        put(finding_line(finding).as_slice(), sink)?;
+        finding_text(finding, sink)?;
     }
     Ok(())
 }
 
-pub(crate) fn count_line(count: u64) -> Text
-    ensures { result.items ≡ count_line count }
+/// Writes the line with the number of errors.
+pub(crate) fn put_count<S: Sink>(count: u64, sink: &mut S) -> Result<(), SinkFault>
+    ensures { Wrote S.Sink sink.old sink.new (count_line count) (ending result) }
 {
-    let mut text = Text::new();
-    push_number(&mut text, count);
-    push_bytes(&mut text, b" errors found");
-    push_bytes(&mut text, b"\n");
-    text
+    put_pieces(
+        &[Piece::Number(count), Piece::Bytes(b" errors found\n")],
+        sink,
+    )
+}
+
+/// Writes the line of a finding up to its end, and then these words. A finding is of a page or of a
+/// run of pages.
+#[tactic(auto, unfolding(crate::specs::FaultWords::pages_words))]
+pub(crate) fn put_sentence<S: Sink>(
+    finding: &Finding,
+    words: &[u8],
+    sink: &mut S,
+) -> Result<(), SinkFault>
+    ensures { Wrote S.Sink sink.old sink.new (finding_sentence finding.now ++ words.now) (ending result) }
+{
+    if finding.page == finding.last {
+        put_pieces(
+            &[
+                Piece::Bytes(b"page "),
+                Piece::Number(finding.page),
+                Piece::Bytes(b": "),
+                Piece::Bytes(finding_words(finding.number)),
+                Piece::Bytes(words),
+            ],
+            sink,
+        )
+    } else {
+        put_pieces(
+            &[
+                Piece::Bytes(b"pages "),
+                Piece::Number(finding.page),
+                Piece::Bytes(b" to "),
+                Piece::Number(finding.last),
+                Piece::Bytes(b": "),
+                Piece::Bytes(finding_words(finding.number)),
+                Piece::Bytes(words),
+            ],
+            sink,
+        )
+    }
 }
 
 fn meta_fault_line(fault: MetaFault) -> &'static [u8]
@@ -130,22 +158,9 @@ fn snapshot_fault_line(fault: SnapshotFault) -> &'static [u8]
     }
 }
 
-fn page_fault_line(fault: &PageFault) -> Text
-    ensures { result.items ≡ page_fault_text fault.now }
-{
-    let mut text = Text::new();
-    push_bytes(&mut text, b"page ");
-    push_number(&mut text, fault.page);
-    push_bytes(&mut text, b": ");
-    push_bytes(&mut text, page_fault_words(fault.number));
-    push_bytes(&mut text, b"\n");
-    text
-}
-
 #[tactic(auto, unfolding(crate::specs::FaultWords::page_fault_words))]
 fn page_fault_words(number: u8) -> &'static [u8]
-    ensures words { result.now ≡ page_fault_words number }
-    ensures short { length result.now ≤ 100 }
+    ensures { result.now ≡ page_fault_words number }
 {
     match number {
         PageFault::RANGE => b"out of range",
@@ -164,48 +179,9 @@ fn page_fault_words(number: u8) -> &'static [u8]
     }
 }
 
-fn finding_line(finding: &Finding) -> Text
-    ensures { result.items ≡ finding_text finding.now }
-{
-    let mut text = finding_sentence(finding);
-    push_bytes(&mut text, b"\n");
-    text
-}
-
-/// The line of a finding without its end.
-pub(crate) fn finding_sentence(finding: &Finding) -> Text
-    ensures sentence { result.items ≡ finding_sentence finding.now }
-    ensures short { length result.items ≤ 200 }
-{
-    let mut text = Text::new();
-    push_pages(&mut text, finding.page, finding.last);
-    push_bytes(&mut text, b": ");
-    push_bytes(&mut text, finding_words(finding.number));
-    text
-}
-
-/// Adds the number of a page or, for a run, those of its first and last page.
-#[tactic(auto, unfolding(crate::specs::FaultWords::pages_words))]
-fn push_pages(text: &mut Text, page: u64, last: u64)
-    requires { length text.old.items + 60 ≤ TEXT_LEN }
-    ensures pages { text.new.items ≡ text.old.items ++ pages_words page last }
-    ensures short { length text.new.items ≤ length text.old.items + 60 }
-{
-    if page == last {
-        push_bytes(text, b"page ");
-        push_number(text, page);
-    } else {
-        push_bytes(text, b"pages ");
-        push_number(text, page);
-        push_bytes(text, b" to ");
-        push_number(text, last);
-    }
-}
-
 #[tactic(auto, unfolding(crate::specs::FaultWords::finding_words, crate::specs::FaultWords::page_fault_words))]
 fn finding_words(number: u8) -> &'static [u8]
-    ensures words { result.now ≡ finding_words number }
-    ensures short { length result.now ≤ 100 }
+    ensures { result.now ≡ finding_words number }
 {
     match number {
         Finding::TWICE => b"referenced twice",

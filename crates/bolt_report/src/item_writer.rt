@@ -1,9 +1,10 @@
 //! Keys and values in a form.
 ghost use Rattle.std.specs.Prelude.{◌≡◌, ◌⊎◌, IfErr, if◌then◌else◌};
 ghost use Rattle.hex.specs.Hex.{encode_lower};
-ghost use Rattle.bolt_format.specs.Writes.{Writes};
+ghost use Rattle.bolt_format.specs.Endings.{ending};
+ghost use Rattle.bolt_format.specs.Wrote.{Wrote};
 ghost use Rattle.bolt_report.specs.Forms.{is_printable, is_text, item_text, value_text};
-ghost use Rattle.bolt_report.specs.Reports.{Reports};
+ghost use Rattle.bolt_report.specs.ReportEndings.{report_ending};
 
 use crate::fault::ReportFault;
 use crate::form::Form;
@@ -38,9 +39,8 @@ impl ItemWriter {
         sink: &mut S,
     ) -> Result<(), ReportFault>
         ensures form { self.new.form ≡ self.old.form }
-        ensures written { Reports S.taken S.failed sink.old sink.new (value_text self.old.form bytes.now) result }
+        ensures written { Wrote S.Sink sink.old sink.new (value_text self.old.form bytes.now) (report_ending result) }
         ensures fault { IfErr result (λ fault. (fault ≡ ReportFault.Sink) ⊎ ((fault ≡ ReportFault.NoMemory) × (self.old.form ≡ Form.Json))) }
-        ensures memory { IfErr result (λ fault. fault ≡ ReportFault.NoMemory → S.failed sink.new ≡ S.failed sink.old) }
     {
         self.put(bytes, sink)?;
         put(b"\n", sink)?;
@@ -50,9 +50,8 @@ impl ItemWriter {
     /// Writes a key or a value.
     pub(crate) fn put<S: Sink>(&mut self, bytes: &[u8], sink: &mut S) -> Result<(), ReportFault>
         ensures form { self.new.form ≡ self.old.form }
-        ensures written { Reports S.taken S.failed sink.old sink.new (item_text self.old.form bytes.now) result }
+        ensures written { Wrote S.Sink sink.old sink.new (item_text self.old.form bytes.now) (report_ending result) }
         ensures fault { IfErr result (λ fault. (fault ≡ ReportFault.Sink) ⊎ ((fault ≡ ReportFault.NoMemory) × (self.old.form ≡ Form.Json))) }
-        ensures memory { IfErr result (λ fault. fault ≡ ReportFault.NoMemory → S.failed sink.new ≡ S.failed sink.old) }
     {
         match self.form {
             Form::Printable => put_or_hex(bytes, can_be_printed(bytes), sink)?,
@@ -67,7 +66,7 @@ impl ItemWriter {
 
 /// Writes bytes as they are, or in hexadecimal.
 fn put_or_hex<S: Sink>(bytes: &[u8], as_it_is: bool, sink: &mut S) -> Result<(), SinkFault>
-    ensures { Writes S.taken S.failed sink.old sink.new (if as_it_is then bytes.now else encode_lower bytes.now) result }
+    ensures { Wrote S.Sink sink.old sink.new (if as_it_is then bytes.now else encode_lower bytes.now) (ending result) }
 {
     if as_it_is {
         put(bytes, sink)

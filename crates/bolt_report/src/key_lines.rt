@@ -1,12 +1,13 @@
 //! The keys of a bucket as a text.
-ghost use Rattle.std.specs.Prelude.{◌≡◌, ◌⊎◌, IfErr, OnOk};
+ghost use Rattle.std.specs.Prelude.{◌≡◌, ◌⊎◌, IfErr};
 ghost use Rattle.bolt_format.specs.Elements.{LeafElement};
+ghost use Rattle.bolt_format.specs.Wrote.{Wrote};
 ghost use Rattle.bolt_tree.specs.Buckets.{bucket_checked, bucket_start};
 ghost use Rattle.bolt_tree.specs.EntriesLeft.{ForEntries};
 ghost use Rattle.bolt_tree.specs.Entries.{entry_view};
 ghost use Rattle.bolt_tree.specs.ShownEntries.{shown_entry};
 ghost use Rattle.bolt_report.specs.KeyLines.{bucket_name, buckets_text, keys_text};
-ghost use Rattle.bolt_report.specs.Reports.{Reports};
+ghost use Rattle.bolt_report.specs.ReportEndings.{report_ending};
 
 use crate::fault::ReportFault;
 use crate::form::Form;
@@ -29,9 +30,8 @@ pub fn keys<S: Sink>(
     form: Form,
     sink: &mut S,
 ) -> Result<(), ReportFault>
-    ensures written { ForEntries (bucket_checked bucket.now) (bucket_start bucket.now) (λ entries. Reports S.taken S.failed sink.old sink.new (keys_text form entries) result) }
+    ensures written { ForEntries (bucket_checked bucket.now) (bucket_start bucket.now) (λ entries. Wrote S.Sink sink.old sink.new (keys_text form entries) (report_ending result)) }
     ensures fault { IfErr result (λ fault. (fault ≡ ReportFault.Sink) ⊎ ((fault ≡ ReportFault.NoMemory) × (form ≡ Form.Json))) }
-    ensures memory { IfErr result (λ fault. fault ≡ ReportFault.NoMemory → S.failed sink.new ≡ S.failed sink.old) }
 {
     keys_with_prefix(alloc, &mut bucket.cursor(), &[], form, sink)
 }
@@ -44,9 +44,8 @@ pub fn buckets<S: Sink>(
     form: Form,
     sink: &mut S,
 ) -> Result<(), ReportFault>
-    ensures written { ForEntries (bucket_checked bucket.now) (bucket_start bucket.now) (λ entries. Reports S.taken S.failed sink.old sink.new (buckets_text form entries) result) }
+    ensures written { ForEntries (bucket_checked bucket.now) (bucket_start bucket.now) (λ entries. Wrote S.Sink sink.old sink.new (buckets_text form entries) (report_ending result)) }
     ensures fault { IfErr result (λ fault. (fault ≡ ReportFault.Sink) ⊎ ((fault ≡ ReportFault.NoMemory) × (form ≡ Form.Json))) }
-    ensures memory { IfErr result (λ fault. fault ≡ ReportFault.NoMemory → S.failed sink.new ≡ S.failed sink.old) }
 {
     let mut items = ItemWriter::new(alloc, form);
     let mut cursor = bucket.cursor();
@@ -63,10 +62,8 @@ fn put_bucket<S: Sink>(
     sink: &mut S,
 ) -> Result<(), ReportFault>
     ensures form { items.new.form ≡ items.old.form }
-    ensures written { (e : LeafElement) → shown_entry entry.now ≡ entry_view e → Reports S.taken S.failed sink.old sink.new (bucket_name items.old.form e) result }
-    ensures sound { OnOk result (S.failed sink.new ≡ S.failed sink.old) }
+    ensures written { (e : LeafElement) → shown_entry entry.now ≡ entry_view e → Wrote S.Sink sink.old sink.new (bucket_name items.old.form e) (report_ending result) }
     ensures fault { IfErr result (λ fault. (fault ≡ ReportFault.Sink) ⊎ ((fault ≡ ReportFault.NoMemory) × (items.old.form ≡ Form.Json))) }
-    ensures memory { IfErr result (λ fault. fault ≡ ReportFault.NoMemory → S.failed sink.new ≡ S.failed sink.old) }
 {
     match entry.item {
         Item::Value(_) => Ok(()),

@@ -1,8 +1,9 @@
 //! The keys of a bucket that begin with given bytes, as a text.
 ghost use Rattle.std.specs.Prelude.{◌≡◌, ◌⊎◌, IfErr, OnOk};
+ghost use Rattle.bolt_format.specs.Wrote.{Wrote};
 ghost use Rattle.bolt_report.specs.KeyLines.{keys_text};
 ghost use Rattle.bolt_report.specs.KeyPrefixes.{OpensPrefix, with_prefix};
-ghost use Rattle.bolt_report.specs.Reports.{Reports};
+ghost use Rattle.bolt_report.specs.ReportEndings.{report_ending};
 ghost use Rattle.bolt_tree.specs.Cursors.{cursor_bucket, cursor_checked, cursor_opened, cursor_start};
 ghost use Rattle.bolt_tree.specs.EntriesLeft.{ForEntries};
 
@@ -30,12 +31,11 @@ pub fn keys_with_prefix<S: Sink>(
     form: Form,
     sink: &mut S,
 ) -> Result<(), ReportFault>
-    ensures written { ForEntries (cursor_checked cursor.old) (cursor_start cursor.old) (λ entries. Reports S.taken S.failed sink.old sink.new (keys_text form (with_prefix prefix.now entries)) result) }
+    ensures written { ForEntries (cursor_checked cursor.old) (cursor_start cursor.old) (λ entries. Wrote S.Sink sink.old sink.new (keys_text form (with_prefix prefix.now entries)) (report_ending result)) }
     ensures opens { OnOk result (OpensPrefix (cursor_bucket cursor.old) prefix.now (cursor_opened cursor.old) (cursor_opened cursor.new)) }
     ensures checked { cursor_checked cursor.new ≡ cursor_checked cursor.old }
     ensures start { cursor_start cursor.new ≡ cursor_start cursor.old }
     ensures fault { IfErr result (λ fault. (fault ≡ ReportFault.Sink) ⊎ ((fault ≡ ReportFault.NoMemory) × (form ≡ Form.Json))) }
-    ensures memory { IfErr result (λ fault. fault ≡ ReportFault.NoMemory → S.failed sink.new ≡ S.failed sink.old) }
 {
     let mut items = ItemWriter::new(alloc, form);
     let mut found = cursor.seek(prefix);

@@ -23,11 +23,11 @@ mod page_lines;
 mod page_stats;
 mod page_table;
 mod part_lines;
+mod pieces;
 mod puts;
 mod size_lines;
 mod statistics;
 mod table_rows;
-mod text;
 mod values;
 
 pub use bucket_stats::stats;

@@ -1,15 +1,17 @@
 //! The map of all pages of a file.
-ghost use Rattle.std.specs.Prelude.{◌≡◌, ◌+◌, ◌-◌, ◌≤◌, ◌<◌, length, true};
-ghost use Rattle.bolt_format.specs.Writes.{Writes};
+ghost use Rattle.std.specs.Prelude.{◌≡◌, ◌+◌, ◌-◌, ◌≤◌, ◌<◌, length, map, true};
+ghost use Rattle.std.specs.List.{range_with_len};
+ghost use Rattle.bolt_format.specs.Endings.{ending};
+ghost use Rattle.bolt_format.specs.Wrote.{Wrote};
 ghost use Rattle.bolt_check.specs.CheckedFiles.{bytes_of, has_accounts, meta_of};
 ghost use Rattle.bolt_check.specs.RoledFiles.{roles_checked};
 ghost use Rattle.bolt_report.specs.PageMaps.{map_line, map_lines, map_text, page_mark};
 ghost use Rattle.bolt_report.specs.PageTables.{ForRoles, pages_in};
 
 use crate::page_table::{free_past, pages_begun};
-use crate::puts::put;
-use crate::table_rows::{past_text, push_number_column};
-use crate::text::{Text, push_bytes};
+use crate::pieces::{Piece, put_pieces};
+use crate::table_rows::put_past;
+use arrayvec::ArrayVec;
 use bolt_check::{Checked, Role, Roles};
 use bolt_format::{Sink, SinkFault};
 
@@ -25,22 +27,21 @@ const LINE_PAGES: u64 = 64;
 /// `SinkFault` if the sink failed. It has then accepted a prefix of the text.
 pub fn page_map<S: Sink>(table: &Roles<'_>, sink: &mut S) -> Result<(), SinkFault>
     requires { has_accounts (roles_checked table.now) ≡ true }
-    ensures { ForRoles (roles_checked table.now) (λ roles. Writes S.taken S.failed sink.old sink.new (map_text (bytes_of (roles_checked table.now)) (meta_of (roles_checked table.now)) roles) result) }
+    ensures { ForRoles (roles_checked table.now) (λ roles. Wrote S.Sink sink.old sink.new (map_text (bytes_of (roles_checked table.now)) (meta_of (roles_checked table.now)) roles) (ending result)) }
 {
     put_lines(table, sink)?;
-    put(past_text(free_past(table)).as_slice(), sink)
+    put_past(free_past(table), sink)
 }
 
 /// Writes the lines of the pages in the file.
 fn put_lines<S: Sink>(table: &Roles<'_>, sink: &mut S) -> Result<(), SinkFault>
     requires { has_accounts (roles_checked table.now) ≡ true }
-    ensures { ForRoles (roles_checked table.now) (λ roles. Writes S.taken S.failed sink.old sink.new (map_lines roles (length (pages_in (bytes_of (roles_checked table.now)) (meta_of (roles_checked table.now))))) result) }
+    ensures { ForRoles (roles_checked table.now) (λ roles. Wrote S.Sink sink.old sink.new (map_lines roles (length (pages_in (bytes_of (roles_checked table.now)) (meta_of (roles_checked table.now))))) (ending result)) }
 {
     let end = page_count(&table.checked());
     for line in 0..end.div_ceil(LINE_PAGES) {
         let first = LINE_PAGES * line;
-        let text = map_line(table, first, first + LINE_PAGES.min(end - first));
-        put(text.as_slice(), sink)?;
+        put_line(table, first, first + LINE_PAGES.min(end - first), sink)?;
     }
     Ok(())
 }
@@ -53,22 +54,38 @@ fn page_count(checked: &Checked<'_>) -> u64
     pages_begun(checked).min(checked.meta().high_water)
 }
 
-/// The line of the pages from `first` to before `end`.
-fn map_line(table: &Roles<'_>, first: u64, end: u64) -> Text
+/// Writes the line of the pages from `first` to before `end`.
+fn put_line<S: Sink>(table: &Roles<'_>, first: u64, end: u64, sink: &mut S) -> Result<(), SinkFault>
     requires accounts { has_accounts (roles_checked table.now) ≡ true }
     requires first { first ≤ end }
     requires end { end ≤ first + LINE_PAGES }
     requires below { end ≤ (meta_of (roles_checked table.now)).high_water }
-    ensures { ForRoles (roles_checked table.now) (λ roles. result.items ≡ map_line roles first (end - first)) }
+    ensures { ForRoles (roles_checked table.now) (λ roles. Wrote S.Sink sink.old sink.new (map_line roles first (end - first)) (ending result)) }
 {
-    let mut text = Text::new();
-    push_number_column(&mut text, first, 8);
-    push_bytes(&mut text, b" ");
+    put_pieces(
+        &[
+            Piece::NumberColumn(first, 8),
+            Piece::Bytes(b" "),
+            Piece::Bytes(page_marks(table, first, end).as_slice()),
+            Piece::Bytes(b"\n"),
+        ],
+        sink,
+    )
+}
+
+/// The characters of the pages from `first` to before `end`.
+fn page_marks(table: &Roles<'_>, first: u64, end: u64) -> ArrayVec<u8, 64>
+    requires accounts { has_accounts (roles_checked table.now) ≡ true }
+    requires first { first ≤ end }
+    requires end { end ≤ first + LINE_PAGES }
+    requires below { end ≤ (meta_of (roles_checked table.now)).high_water }
+    ensures { ForRoles (roles_checked table.now) (λ roles. result.items ≡ map (λ n. page_mark (roles n)) (range_with_len first (end - first))) }
+{
+    let mut marks = ArrayVec::new();
     for id in first..end {
-        text.push(page_mark(table.role(id)));
+        marks.push(page_mark(table.role(id)));
     }
-    push_bytes(&mut text, b"\n");
-    text
+    marks
 }
 
 /// The character of a page with this role.

@@ -1,7 +1,8 @@
 //! The lines of members of a listing.
 ghost use Rattle.std.specs.Prelude.{◌≡◌, ◌⊎◌, IfErr};
+ghost use Rattle.bolt_format.specs.Wrote.{Wrote};
 ghost use Rattle.bolt_report.specs.ListForms.{lines_form, list_line};
-ghost use Rattle.bolt_report.specs.Reports.{Reports};
+ghost use Rattle.bolt_report.specs.ReportEndings.{report_ending};
 ghost use Rattle.bolt_tree.specs.Paths.{path_of};
 ghost use Rattle.bolt_tree.specs.ShownEntries.{item_view};
 
@@ -55,9 +56,8 @@ impl MemberLines {
         sink: &mut S,
     ) -> Result<(), ReportFault>
         ensures form { lines_form self.new ≡ lines_form self.old }
-        ensures written { Reports S.taken S.failed sink.old sink.new (list_line (lines_form self.old) (path_of path.now, item_view item.now)) result }
+        ensures written { Wrote S.Sink sink.old sink.new (list_line (lines_form self.old) (path_of path.now, item_view item.now)) (report_ending result) }
         ensures fault { IfErr result (λ fault. (fault ≡ ReportFault.Sink) ⊎ ((fault ≡ ReportFault.NoMemory) × (lines_form self.old ≡ ListForm.Json))) }
-        ensures memory { IfErr result (λ fault. fault ≡ ReportFault.NoMemory → S.failed sink.new ≡ S.failed sink.old) }
     {
         match &mut self.json {
             None => put_member(path, item, sink)?,

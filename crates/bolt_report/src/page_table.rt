@@ -1,18 +1,17 @@
 //! The table of all pages of a file.
-ghost use Rattle.std.specs.Prelude.{◌≡◌, ◌≤◌, ◌<◌, ◌⊎◌, IfErr, IsSome, count_by, flat_map, length, true};
+ghost use Rattle.std.specs.Prelude.{◌≡◌, ◌<◌, ◌⊎◌, IfErr, IsSome, count_by, flat_map, length, true};
+ghost use Rattle.bolt_format.specs.Endings.{ending};
 ghost use Rattle.bolt_format.specs.Freelists.{free_ids_at};
 ghost use Rattle.bolt_format.specs.Pages.{page_at};
-ghost use Rattle.bolt_format.specs.Writes.{Writes};
+ghost use Rattle.bolt_format.specs.Wrote.{Wrote};
 ghost use Rattle.bolt_check.specs.CheckedFiles.{bytes_of, has_accounts, meta_of};
 ghost use Rattle.bolt_check.specs.RoledFiles.{roles_checked};
 ghost use Rattle.bolt_check.specs.Roles.{HasRole};
 ghost use Rattle.bolt_report.specs.PageTables.{ForRoles, begun, is_free, page_row, pages_in, pages_past, pages_text, shown_row};
-ghost use Rattle.bolt_report.specs.Reports.{Reports};
+ghost use Rattle.bolt_report.specs.ReportEndings.{report_ending};
 
 use crate::fault::ReportFault;
-use crate::puts::put;
-use crate::table_rows::{free_row, head_text, items_row, past_text};
-use crate::text::Text;
+use crate::table_rows::{put_free_row, put_head, put_items_row, put_past};
 use bolt_check::{Checked, Role, Roles, roles};
 use bolt_format::{Sink, SinkFault, free_ids, known};
 use std::alloc::Global;
@@ -26,9 +25,8 @@ use std::alloc::Global;
 /// had not failed. The sink has then accepted a prefix of the text. There is no other error.
 pub fn pages<S: Sink>(alloc: Global, checked: Checked<'_>, sink: &mut S) -> Result<(), ReportFault>
     requires { has_accounts checked ≡ true }
-    ensures written { ForRoles checked.entry (λ roles. Reports S.taken S.failed sink.old sink.new (pages_text (bytes_of checked.entry) (meta_of checked.entry) roles) result) }
+    ensures written { ForRoles checked.entry (λ roles. Wrote S.Sink sink.old sink.new (pages_text (bytes_of checked.entry) (meta_of checked.entry) roles) (report_ending result)) }
     ensures fault { IfErr result (λ fault. (fault ≡ ReportFault.Sink) ⊎ (fault ≡ ReportFault.NoMemory)) }
-    ensures memory { IfErr result (λ fault. fault ≡ ReportFault.NoMemory → S.failed sink.new ≡ S.failed sink.old) }
 {
     let table = roles(alloc, checked)?;
     pages_table(&table, sink)?;
@@ -44,11 +42,11 @@ pub fn pages<S: Sink>(alloc: Global, checked: Checked<'_>, sink: &mut S) -> Resu
 /// `SinkFault` if the sink failed. It has then accepted a prefix of the text.
 pub fn pages_table<S: Sink>(table: &Roles<'_>, sink: &mut S) -> Result<(), SinkFault>
     requires { has_accounts (roles_checked table.now) ≡ true }
-    ensures { ForRoles (roles_checked table.now) (λ roles. Writes S.taken S.failed sink.old sink.new (pages_text (bytes_of (roles_checked table.now)) (meta_of (roles_checked table.now)) roles) result) }
+    ensures { ForRoles (roles_checked table.now) (λ roles. Wrote S.Sink sink.old sink.new (pages_text (bytes_of (roles_checked table.now)) (meta_of (roles_checked table.now)) roles) (ending result)) }
 {
-    put(head_text().as_slice(), sink)?;
+    put_head(sink)?;
     put_rows(table, sink)?;
-    put(past_text(free_past(table)).as_slice(), sink)
+    put_past(free_past(table), sink)
 }
 
 /// The number of pages that begin in the file.
@@ -75,7 +73,7 @@ pub(crate) fn free_past(table: &Roles<'_>) -> u64
 /// Writes the rows of the pages in the file.
 fn put_rows<S: Sink>(table: &Roles<'_>, sink: &mut S) -> Result<(), SinkFault>
     requires { has_accounts (roles_checked table.now) ≡ true }
-    ensures { ForRoles (roles_checked table.now) (λ roles. Writes S.taken S.failed sink.old sink.new (flat_map (λ n. page_row (bytes_of (roles_checked table.now)) (meta_of (roles_checked table.now)) n (roles n)) (pages_in (bytes_of (roles_checked table.now)) (meta_of (roles_checked table.now)))) result) }
+    ensures { ForRoles (roles_checked table.now) (λ roles. Wrote S.Sink sink.old sink.new (flat_map (λ n. page_row (bytes_of (roles_checked table.now)) (meta_of (roles_checked table.now)) n (roles n)) (pages_in (bytes_of (roles_checked table.now)) (meta_of (roles_checked table.now)))) (ending result)) }
 {
     let checked = table.checked();
     let end = pages_begun(&checked).min(checked.meta().high_water);
@@ -93,35 +91,40 @@ fn put_row<S: Sink>(
     sink: &mut S,
 ) -> Result<(), SinkFault>
     requires { ∥ HasRole (bytes_of checked.now) (meta_of checked.now) id role ∥₁ }
-    ensures { Writes S.taken S.failed sink.old sink.new (page_row (bytes_of checked.now) (meta_of checked.now) id role) result }
+    ensures { Wrote S.Sink sink.old sink.new (page_row (bytes_of checked.now) (meta_of checked.now) id role) (ending result) }
 {
     match role {
-        Role::Meta => put(items_row(id, b"meta", 0, 0).as_slice(), sink),
-        Role::Branch => put(tree_row(checked, id, b"branch").as_slice(), sink),
-        Role::Leaf => put(tree_row(checked, id, b"leaf").as_slice(), sink),
-        Role::Freelist => put(freelist_row(checked, id).as_slice(), sink),
+        Role::Meta => put_items_row(id, b"meta", 0, 0, sink),
+        Role::Branch => put_tree_row(checked, id, b"branch", sink),
+        Role::Leaf => put_tree_row(checked, id, b"leaf", sink),
+        Role::Freelist => put_freelist_row(checked, id, sink),
         Role::Inside => Ok(()),
-        Role::Free => put(free_row(id).as_slice(), sink),
+        Role::Free => put_free_row(id, sink),
     }
 }
 
-/// The row of a branch or a leaf.
-fn tree_row(checked: &Checked<'_>, id: u64, kind: &[u8]) -> Text
-    requires kind { length kind.now ≤ 20 }
-    requires good { IsSome (page_at (bytes_of checked.now) (meta_of checked.now) id) }
-    ensures { result.items ≡ shown_row id kind.now (λ view. view.count) (page_at (bytes_of checked.now) (meta_of checked.now) id) }
+/// Writes the row of a branch or a leaf.
+fn put_tree_row<S: Sink>(
+    checked: &Checked<'_>,
+    id: u64,
+    kind: &[u8],
+    sink: &mut S,
+) -> Result<(), SinkFault>
+    requires { IsSome (page_at (bytes_of checked.now) (meta_of checked.now) id) }
+    ensures { Wrote S.Sink sink.old sink.new (shown_row id kind.now (λ view. view.count) (page_at (bytes_of checked.now) (meta_of checked.now) id)) (ending result) }
 {
     let page = known(checked.bytes(), &checked.meta(), id);
-    items_row(id, kind, u64::from(page.count()), page.overflow())
+    put_items_row(id, kind, u64::from(page.count()), page.overflow(), sink)
 }
 
-/// The row of the freelist's first page.
-fn freelist_row(checked: &Checked<'_>, id: u64) -> Text
+/// Writes the row of the freelist's first page.
+fn put_freelist_row<S: Sink>(checked: &Checked<'_>, id: u64, sink: &mut S) -> Result<(), SinkFault>
     requires { ∥ HasRole (bytes_of checked.now) (meta_of checked.now) id Role.Freelist ∥₁ }
-    ensures { result.items ≡ page_row (bytes_of checked.now) (meta_of checked.now) id Role.Freelist }
+    ensures { Wrote S.Sink sink.old sink.new (page_row (bytes_of checked.now) (meta_of checked.now) id Role.Freelist) (ending result) }
 {
     let page = known(checked.bytes(), &checked.meta(), id);
-    items_row(id, b"freelist", free_count(checked, id), page.overflow())
+    let items = free_count(checked, id);
+    put_items_row(id, b"freelist", items, page.overflow(), sink)
 }
 
 /// The number of ids of the freelist.

@@ -2,6 +2,7 @@
 ghost use Rattle.std.specs.List.{take_while};
 ghost use Rattle.std.specs.Prelude.{◌≡◌, ◌&&◌, ◌⊎◌, IfErr, IfOk, List, OnOk, not};
 ghost use Rattle.std.specs.Ordering.{is_lt};
+ghost use Rattle.bolt_format.specs.Wrote.{Wrote};
 ghost use Rattle.bolt_tree.specs.FileListings.{ForListing};
 ghost use Rattle.bolt_tree.specs.Listing.{Member, member_cmp, rest_from};
 ghost use Rattle.bolt_tree.specs.ListingParts.{begins_with, bucket_part, has_bucket, is_bucket_at, later_path, part_below};
@@ -11,7 +12,7 @@ ghost use Rattle.bolt_tree.specs.ShownEntries.{item_view};
 ghost use Rattle.bolt_recover.specs.Recovered.{ForRecovered};
 ghost use Rattle.bolt_recover.specs.Recoveries.{ForLosses, recovery_file, recovery_left, recovery_losses, recovery_meta};
 ghost use Rattle.bolt_report.specs.ListForms.{lines_form, listing_lines};
-ghost use Rattle.bolt_report.specs.Reports.{Reports};
+ghost use Rattle.bolt_report.specs.ReportEndings.{report_ending};
 
 use crate::fault::ReportFault;
 use crate::form::ListForm;
@@ -40,9 +41,8 @@ pub fn list_part<S: Sink>(
     form: ListForm,
     sink: &mut S,
 ) -> Result<(), ReportFault>
-    ensures written { ForListing checked.entry (λ listing. Reports S.taken S.failed sink.old sink.new (listing_lines form (rest_from (path_of from.now) (part_below (path_of below.now) listing))) result) }
+    ensures written { ForListing checked.entry (λ listing. Wrote S.Sink sink.old sink.new (listing_lines form (rest_from (path_of from.now) (part_below (path_of below.now) listing))) (report_ending result)) }
     ensures fault { IfErr result (λ fault. (fault ≡ ReportFault.Sink) ⊎ (fault ≡ ReportFault.NoMemory)) }
-    ensures memory { IfErr result (λ fault. fault ≡ ReportFault.NoMemory → S.failed sink.new ≡ S.failed sink.old) }
 {
     let mut walk = Walk::from(alloc, checked, later_of(from, below))?;
     put_part(&mut walk, below, &mut MemberLines::new(alloc, form), sink)
@@ -60,11 +60,10 @@ pub fn list_recovered_part<S: Sink>(
     form: ListForm,
     sink: &mut S,
 ) -> Result<bool, ReportFault>
-    ensures written { ForRecovered (recovery_file recovery.old) (recovery_meta recovery.old) (λ listing. Reports S.taken S.failed sink.old sink.new (listing_lines form (rest_from (path_of from.now) (bucket_part (path_of below.now) (recovery_left recovery.old listing)))) result) }
+    ensures written { ForRecovered (recovery_file recovery.old) (recovery_meta recovery.old) (λ listing. Wrote S.Sink sink.old sink.new (listing_lines form (rest_from (path_of from.now) (bucket_part (path_of below.now) (recovery_left recovery.old listing)))) (report_ending result)) }
     ensures found { IfOk result (λ found. ForRecovered (recovery_file recovery.old) (recovery_meta recovery.old) (λ listing. found ≡ has_bucket (path_of below.now) (recovery_left recovery.old listing))) }
     ensures all { OnOk result (ForLosses (recovery_file recovery.old) (recovery_meta recovery.old) (λ losses. recovery_losses recovery.new ≡ losses)) }
     ensures fault { IfErr result (λ fault. (fault ≡ ReportFault.Sink) ⊎ (fault ≡ ReportFault.NoMemory)) }
-    ensures memory { IfErr result (λ fault. fault ≡ ReportFault.NoMemory → S.failed sink.new ≡ S.failed sink.old) }
 {
     let mut lines = MemberLines::new(alloc, form);
     put_bucket_part(recovery, below, from, &mut lines, sink)
@@ -78,9 +77,8 @@ pub(crate) fn put_part<'a, M: Members<'a>, S: Sink>(
     lines: &mut MemberLines,
     sink: &mut S,
 ) -> Result<(), ReportFault>
-    ensures written { (listing : List Member) → M.lists members.old listing → Reports S.taken S.failed sink.old sink.new (listing_lines (lines_form lines.old) (take_while (λ m. begins_with (path_of below.now) m.0) (M.left members.old listing))) result }
+    ensures written { (listing : List Member) → M.lists members.old listing → Wrote S.Sink sink.old sink.new (listing_lines (lines_form lines.old) (take_while (λ m. begins_with (path_of below.now) m.0) (M.left members.old listing))) (report_ending result) }
     ensures fault { IfErr result (λ fault. (fault ≡ ReportFault.Sink) ⊎ (fault ≡ ReportFault.NoMemory)) }
-    ensures memory { IfErr result (λ fault. fault ≡ ReportFault.NoMemory → S.failed sink.new ≡ S.failed sink.old) }
 {
     'part: while let Some(item) = members.next()? {
         if !is_below(members.path(), below) {
@@ -101,11 +99,10 @@ fn put_bucket_part<'a, M: Members<'a>, S: Sink>(
     sink: &mut S,
 ) -> Result<bool, ReportFault>
     ensures written { (listing : List Member) → M.lists members.old listing → Rises member_cmp (M.left members.old listing)
-        → Reports S.taken S.failed sink.old sink.new (listing_lines (lines_form lines.old) (rest_from (path_of from.now) (bucket_part (path_of below.now) (M.left members.old listing)))) result }
+        → Wrote S.Sink sink.old sink.new (listing_lines (lines_form lines.old) (rest_from (path_of from.now) (bucket_part (path_of below.now) (M.left members.old listing)))) (report_ending result) }
     ensures found { IfOk result (λ found. (listing : List Member) → M.lists members.old listing → found ≡ has_bucket (path_of below.now) (M.left members.old listing)) }
     ensures end { OnOk result (M.ends_as members.old members.new) }
     ensures fault { IfErr result (λ fault. (fault ≡ ReportFault.Sink) ⊎ (fault ≡ ReportFault.NoMemory)) }
-    ensures memory { IfErr result (λ fault. fault ≡ ReportFault.NoMemory → S.failed sink.new ≡ S.failed sink.old) }
 {
     let mut found = below.is_empty();
     'part: while let Some(item) = members.next()? {

@@ -1,6 +1,8 @@
 //! The sizes of the buckets in a bucket as a text.
-ghost use Rattle.std.specs.Prelude.{◌≡◌, ◌≤◌, ◌+◌, ◌∷◌, ◌++◌, ◌⊎◌, [], IfErr, List, OnOk, codes, decimal, length};
+ghost use Rattle.std.specs.Prelude.{◌≡◌, ◌∷◌, ◌++◌, ◌⊎◌, [], IfErr, List};
 ghost use Rattle.bolt_format.specs.Elements.{LeafElement};
+ghost use Rattle.bolt_format.specs.Endings.{ending};
+ghost use Rattle.bolt_format.specs.Wrote.{Wrote};
 ghost use Rattle.bolt_check.specs.CheckedFiles.{bytes_of, meta_of};
 ghost use Rattle.bolt_tree.specs.BucketViews.{entries_of};
 ghost use Rattle.bolt_tree.specs.Buckets.{bucket_checked, bucket_start};
@@ -8,18 +10,16 @@ ghost use Rattle.bolt_tree.specs.Entries.{entry_view};
 ghost use Rattle.bolt_tree.specs.EntriesLeft.{ForEntries};
 ghost use Rattle.bolt_tree.specs.ShownEntries.{shown_entry};
 ghost use Rattle.bolt_report.specs.Forms.{value_text};
-ghost use Rattle.bolt_report.specs.Reports.{Reports};
-ghost use Rattle.bolt_report.specs.declared.text.TheConstants.{TEXT_LEN};
+ghost use Rattle.bolt_report.specs.ReportEndings.{report_ending};
 ghost use Rattle.bolt_report.specs.SizeLines.{AreSized, Sized, bytes_allocated, bytes_used, size_columns, sizes_text};
 
 use crate::bucket_stats::stats;
 use crate::fault::ReportFault;
 use crate::form::Form;
 use crate::item_writer::ItemWriter;
-use crate::puts::put;
+use crate::pieces::{Piece, put_pieces};
 use crate::statistics::Stats;
-use crate::text::{Text, push_bytes, push_number};
-use bolt_format::Sink;
+use bolt_format::{Sink, SinkFault};
 use bolt_tree::{Bucket, Entry, Item};
 use std::alloc::Global;
 
@@ -41,9 +41,8 @@ pub fn sizes<S: Sink>(
 ) -> Result<(), ReportFault>
     ensures written { ForEntries (bucket_checked bucket.now) (bucket_start bucket.now) (λ entries. (sized : List Sized)
         → AreSized (bytes_of (bucket_checked bucket.now)) (meta_of (bucket_checked bucket.now)) entries sized
-        → Reports S.taken S.failed sink.old sink.new (sizes_text form sized) result) }
+        → Wrote S.Sink sink.old sink.new (sizes_text form sized) (report_ending result)) }
     ensures fault { IfErr result (λ fault. (fault ≡ ReportFault.Sink) ⊎ (fault ≡ ReportFault.NoMemory)) }
-    ensures memory { IfErr result (λ fault. fault ≡ ReportFault.NoMemory → S.failed sink.new ≡ S.failed sink.old) }
 {
     let mut cursor = bucket.cursor();
     let mut items = ItemWriter::new(alloc, form);
@@ -64,10 +63,8 @@ fn put_entry<S: Sink>(
     ensures form { items.new.form ≡ items.old.form }
     ensures written { (e : LeafElement) → entries_of (bucket_checked bucket.now) (bucket_start bucket.now) e → shown_entry entry.now ≡ entry_view e
         → (sized : List Sized) → AreSized (bytes_of (bucket_checked bucket.now)) (meta_of (bucket_checked bucket.now)) (e ∷ []) sized
-        → Reports S.taken S.failed sink.old sink.new (sizes_text items.old.form sized) result }
-    ensures sound { OnOk result (S.failed sink.new ≡ S.failed sink.old) }
+        → Wrote S.Sink sink.old sink.new (sizes_text items.old.form sized) (report_ending result) }
     ensures fault { IfErr result (λ fault. (fault ≡ ReportFault.Sink) ⊎ (fault ≡ ReportFault.NoMemory)) }
-    ensures memory { IfErr result (λ fault. fault ≡ ReportFault.NoMemory → S.failed sink.new ≡ S.failed sink.old) }
 {
     if let Item::Value(_) = entry.item {
         return Ok(());
@@ -89,34 +86,29 @@ fn put_size<S: Sink>(
     sink: &mut S,
 ) -> Result<(), ReportFault>
     ensures form { items.new.form ≡ items.old.form }
-    ensures written { Reports S.taken S.failed sink.old sink.new (size_columns stats.now ++ value_text items.old.form name.now) result }
+    ensures written { Wrote S.Sink sink.old sink.new (size_columns stats.now ++ value_text items.old.form name.now) (report_ending result) }
     ensures fault { IfErr result (λ fault. (fault ≡ ReportFault.Sink) ⊎ (fault ≡ ReportFault.NoMemory)) }
-    ensures memory { IfErr result (λ fault. fault ≡ ReportFault.NoMemory → S.failed sink.new ≡ S.failed sink.old) }
 {
-    put(size_columns(stats).as_slice(), sink)?;
+    put_columns(stats, sink)?;
     items.put_line(name, sink)
 }
 
-/// The number of keys, the bytes used and the bytes allocated, each followed by a space.
+/// Writes the number of keys, the bytes used and the bytes allocated, each followed by a space.
 #[tactic(auto, unfolding(crate::specs::SizeLines::size_columns))]
-fn size_columns(stats: &Stats) -> Text
-    ensures { result.items ≡ size_columns stats.now }
+fn put_columns<S: Sink>(stats: &Stats, sink: &mut S) -> Result<(), SinkFault>
+    ensures { Wrote S.Sink sink.old sink.new (size_columns stats.now) (ending result) }
 {
-    let mut text = Text::new();
-    push_column(&mut text, stats.keys);
-    push_column(&mut text, bytes_used(stats));
-    push_column(&mut text, bytes_allocated(stats));
-    text
-}
-
-/// Adds a number in decimal and a space.
-fn push_column(text: &mut Text, n: u64)
-    requires { length text.old.items + 21 ≤ TEXT_LEN }
-    ensures column { text.new.items ≡ text.old.items ++ (decimal n ++ codes " ") }
-    ensures short { length text.new.items ≤ length text.old.items + 21 }
-{
-    push_number(text, n);
-    push_bytes(text, b" ");
+    put_pieces(
+        &[
+            Piece::Number(stats.keys),
+            Piece::Bytes(b" "),
+            Piece::Number(bytes_used(stats)),
+            Piece::Bytes(b" "),
+            Piece::Number(bytes_allocated(stats)),
+            Piece::Bytes(b" "),
+        ],
+        sink,
+    )
 }
 
 /// The bytes used of pages and of inline buckets.

@@ -1,12 +1,10 @@
 //! The figures of buckets, and their sums.
-ghost use Rattle.std.specs.Prelude.{◌≡◌, IfErr};
-ghost use Rattle.bolt_format.specs.Writes.{Writes};
-ghost use Rattle.bolt_report.specs.Figures.{add_stats, branch_lines, bucket_lines, leaf_lines, stats_text};
-ghost use Rattle.bolt_report.specs.Reports.{Reports};
+ghost use Rattle.std.specs.Prelude.{◌≡◌};
+ghost use Rattle.bolt_format.specs.Endings.{ending};
+ghost use Rattle.bolt_format.specs.Wrote.{Wrote};
+ghost use Rattle.bolt_report.specs.Figures.{add_stats, stats_text};
 
-use crate::fault::ReportFault;
-use crate::puts::put;
-use crate::text::{Text, push_figure};
+use crate::pieces::{Piece, put_pieces};
 use bolt_format::{Sink, SinkFault};
 
 /// The figures of a bucket with all buckets in it, or of a part of one. They are this project's own
@@ -67,56 +65,26 @@ pub fn add(a: Stats, b: Stats) -> Stats
 ///
 /// # Errors
 ///
-/// `Sink` if the sink failed; it has then accepted a prefix of the text. There is no other error.
-pub fn stats_text<S: Sink>(stats: &Stats, sink: &mut S) -> Result<(), ReportFault>
-    ensures written { Reports S.taken S.failed sink.old sink.new (stats_text stats.now) result }
-    ensures fault { IfErr result (λ fault. fault ≡ ReportFault.Sink) }
+/// `SinkFault` if the sink failed. It has then accepted a prefix of the text.
+pub fn stats_text<S: Sink>(stats: &Stats, sink: &mut S) -> Result<(), SinkFault>
+    ensures { Wrote S.Sink sink.old sink.new (stats_text stats.now) (ending result) }
 {
-    put_lines(stats, sink)?;
-    Ok(())
-}
-
-fn put_lines<S: Sink>(stats: &Stats, sink: &mut S) -> Result<(), SinkFault>
-    ensures { Writes S.taken S.failed sink.old sink.new (stats_text stats.now) result }
-{
-    put(bucket_text(stats).as_slice(), sink)?;
-    put(branch_text(stats).as_slice(), sink)?;
-    put(leaf_text(stats).as_slice(), sink)
-}
-
-#[tactic(auto, unfolding(crate::specs::Figures::bucket_lines))]
-fn bucket_text(stats: &Stats) -> Text
-    ensures { result.items ≡ bucket_lines stats.now }
-{
-    let mut text = Text::new();
-    push_figure(&mut text, b"buckets", stats.buckets);
-    push_figure(&mut text, b"inline buckets", stats.inline_buckets);
-    push_figure(&mut text, b"inline used", stats.inline_used);
-    push_figure(&mut text, b"keys", stats.keys);
-    push_figure(&mut text, b"depth", stats.depth);
-    text
-}
-
-#[tactic(auto, unfolding(crate::specs::Figures::branch_lines))]
-fn branch_text(stats: &Stats) -> Text
-    ensures { result.items ≡ branch_lines stats.now }
-{
-    let mut text = Text::new();
-    push_figure(&mut text, b"branch pages", stats.branch_pages);
-    push_figure(&mut text, b"branch overflow", stats.branch_overflow);
-    push_figure(&mut text, b"branch allocated", stats.branch_allocated);
-    push_figure(&mut text, b"branch used", stats.branch_used);
-    text
-}
-
-#[tactic(auto, unfolding(crate::specs::Figures::leaf_lines))]
-fn leaf_text(stats: &Stats) -> Text
-    ensures { result.items ≡ leaf_lines stats.now }
-{
-    let mut text = Text::new();
-    push_figure(&mut text, b"leaf pages", stats.leaf_pages);
-    push_figure(&mut text, b"leaf overflow", stats.leaf_overflow);
-    push_figure(&mut text, b"leaf allocated", stats.leaf_allocated);
-    push_figure(&mut text, b"leaf used", stats.leaf_used);
-    text
+    put_pieces(
+        &[
+            Piece::Figure(b"buckets", stats.buckets),
+            Piece::Figure(b"inline buckets", stats.inline_buckets),
+            Piece::Figure(b"inline used", stats.inline_used),
+            Piece::Figure(b"keys", stats.keys),
+            Piece::Figure(b"depth", stats.depth),
+            Piece::Figure(b"branch pages", stats.branch_pages),
+            Piece::Figure(b"branch overflow", stats.branch_overflow),
+            Piece::Figure(b"branch allocated", stats.branch_allocated),
+            Piece::Figure(b"branch used", stats.branch_used),
+            Piece::Figure(b"leaf pages", stats.leaf_pages),
+            Piece::Figure(b"leaf overflow", stats.leaf_overflow),
+            Piece::Figure(b"leaf allocated", stats.leaf_allocated),
+            Piece::Figure(b"leaf used", stats.leaf_used),
+        ],
+        sink,
+    )
 }

@@ -1,7 +1,8 @@
 //! A key or a value in a form.
 ghost use Rattle.std.specs.Prelude.{◌≡◌, ◌⊎◌, IfErr};
+ghost use Rattle.bolt_format.specs.Wrote.{Wrote};
 ghost use Rattle.bolt_report.specs.Forms.{item_text, value_text};
-ghost use Rattle.bolt_report.specs.Reports.{Reports};
+ghost use Rattle.bolt_report.specs.ReportEndings.{report_ending};
 
 use crate::fault::ReportFault;
 use crate::form::Form;
@@ -22,9 +23,8 @@ pub fn value<S: Sink>(
     form: Form,
     sink: &mut S,
 ) -> Result<(), ReportFault>
-    ensures written { Reports S.taken S.failed sink.old sink.new (value_text form bytes.now) result }
+    ensures written { Wrote S.Sink sink.old sink.new (value_text form bytes.now) (report_ending result) }
     ensures fault { IfErr result (λ fault. (fault ≡ ReportFault.Sink) ⊎ ((fault ≡ ReportFault.NoMemory) × (form ≡ Form.Json))) }
-    ensures memory { IfErr result (λ fault. fault ≡ ReportFault.NoMemory → S.failed sink.new ≡ S.failed sink.old) }
 {
     let mut items = ItemWriter::new(alloc, form);
     items.put_line(bytes, sink)
@@ -37,9 +37,8 @@ pub fn item<S: Sink>(
     form: Form,
     sink: &mut S,
 ) -> Result<(), ReportFault>
-    ensures written { Reports S.taken S.failed sink.old sink.new (item_text form bytes.now) result }
+    ensures written { Wrote S.Sink sink.old sink.new (item_text form bytes.now) (report_ending result) }
     ensures fault { IfErr result (λ fault. (fault ≡ ReportFault.Sink) ⊎ ((fault ≡ ReportFault.NoMemory) × (form ≡ Form.Json))) }
-    ensures memory { IfErr result (λ fault. fault ≡ ReportFault.NoMemory → S.failed sink.new ≡ S.failed sink.old) }
 {
     let mut items = ItemWriter::new(alloc, form);
     items.put(bytes, sink)

@@ -2,6 +2,7 @@
 
 use bolt_bulk::{BulkFault, PlanFault};
 use bolt_check::{CheckFault, NoMemory};
+use bolt_format::SinkFault;
 use bolt_recover::JoinFault;
 use bolt_report::ReportFault;
 use hex::FromHexError;
@@ -94,6 +95,12 @@ impl From<ReportFault> for Fault {
             ReportFault::NoMemory => Fault::Memory,
             _ => Fault::Unwritten,
         }
+    }
+}
+
+impl From<SinkFault> for Fault {
+    fn from(_: SinkFault) -> Fault {
+        Fault::Unwritten
     }
 }
 

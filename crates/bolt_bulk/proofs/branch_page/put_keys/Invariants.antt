@@ -2,7 +2,7 @@
 use Rattle.std.proofs.Common.{drop, map}
 use Rattle.bolt_format.specs.ElementPlaces.{branch_view}
 use Rattle.bolt_layout.specs.PageBytes.{branch_data}
-use Rattle.bolt_bulk.proofs.WroteFronts.{WroteFront}
+use Rattle.bolt_format.proofs.WroteFronts.{WroteFront}
 use Rattle.bolt_bulk.proofs.branch_page.put_keys.Given as goal
 
 abbrev pub invariant-loop-branch : goal.invariant-loop-branch

@@ -2,7 +2,7 @@
 use Rattle.std.proofs.Common.{drop, map}
 use Rattle.bolt_format.specs.ElementPlaces.{leaf_view}
 use Rattle.bolt_layout.specs.PageBytes.{leaf_data}
-use Rattle.bolt_bulk.proofs.WroteFronts.{WroteFront}
+use Rattle.bolt_format.proofs.WroteFronts.{WroteFront}
 use Rattle.bolt_bulk.proofs.bucket_value.put_data.Given as goal
 
 abbrev pub invariant-loop-entry : goal.invariant-loop-entry

@@ -1,7 +1,7 @@
 -- The next zeros are not put whole.
 use Rattle.std.proofs.Common.{arith}
 use Rattle.bolt_bulk.proofs.FilledTexts.{zeros_left}
-use Rattle.bolt_bulk.proofs.WroteFronts.{front_return}
+use Rattle.bolt_format.proofs.WroteFronts.{front_return}
 use Rattle.bolt_bulk.proofs.pieces.put_zeros.Goals as goal
 
 pub returns-in_err-put : goal.returns-in_err-put

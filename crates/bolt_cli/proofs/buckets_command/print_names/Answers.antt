@@ -1,4 +1,5 @@
-use Rattle.std.proofs.Common.{refl, sym}
+use Rattle.std.proofs.Common.{Err, Ok, refl, sym}
+use Rattle.std.specs.Prelude.{⊤}
 use Rattle.bolt_report.specs.KeyLines.{buckets_text}
 use Rattle.bolt_cli.specs.PlainWords.{path_in}
 use Rattle.bolt_cli.proofs.Doing.{Does-unread}
@@ -19,11 +20,11 @@ returns-in_err-buckets g c =
     let opened = c.in_ok-checked.ensures in
     let found = c.in_ok-bucket.ensures in
     entries_put c.args.file.now c.args.job.now.meta (path_in c.args.job.now.path.items) c.args.job.now.form (buckets_text c.args.job.now.form) c.in_ok-checked.checked opened.bytes opened.sound
-    c.in_ok-bucket.bucket found.file (rw (sym c.as_slice.ensures.value) found.named) c.args.out.now c.buckets.new.sink _ _ c.in_err-buckets.ensures.written c.in_err-buckets.ensures.fault c.in_err-buckets.ensures.memory c.from_residual-in_err-buckets.ensures.1
+    c.in_ok-bucket.bucket found.file (rw (sym c.as_slice.ensures.value) found.named) {A = ⊤} c.args.out.now c.buckets.new.sink (Err c.in_err-buckets.field-0.0) _ c.in_err-buckets.ensures.written c.in_err-buckets.ensures.fault c.from_residual-in_err-buckets.ensures.1
 
 pub returns : goal.returns
 returns g c =
     let opened = c.in_ok-checked.ensures in
     let found = c.in_ok-bucket.ensures in
     entries_put c.args.file.now c.args.job.now.meta (path_in c.args.job.now.path.items) c.args.job.now.form (buckets_text c.args.job.now.form) c.in_ok-checked.checked opened.bytes opened.sound
-    c.in_ok-bucket.bucket found.file (rw (sym c.as_slice.ensures.value) found.named) c.args.out.now c.buckets.new.sink _ _ c.in_ok-buckets.ensures.written tt tt refl
+    c.in_ok-bucket.bucket found.file (rw (sym c.as_slice.ensures.value) found.named) {A = ⊤} c.args.out.now c.buckets.new.sink (Ok tt) _ c.in_ok-buckets.ensures.written tt refl

@@ -1,4 +1,5 @@
-use Rattle.std.proofs.Common.{refl, sym}
+use Rattle.std.proofs.Common.{Err, Ok, refl, sym}
+use Rattle.std.specs.Prelude.{⊤}
 use Rattle.bolt_cli.specs.PlainWords.{path_in}
 use Rattle.bolt_cli.proofs.Doing.{Does-unread}
 use Rattle.bolt_cli.proofs.SizesAnswers.{sizes_missing, sizes_put}
@@ -18,11 +19,11 @@ returns-in_err-sizes g c =
     let opened = c.in_ok-checked.ensures in
     let found = c.in_ok-bucket.ensures in
     sizes_put c.args.file.now c.args.job.now.meta (path_in c.args.job.now.path.items) c.args.job.now.form c.in_ok-checked.checked opened.bytes opened.sound
-    c.in_ok-bucket.bucket found.file (rw (sym c.as_slice.ensures.value) found.named) c.args.out.now c.sizes.new.sink _ _ c.in_err-sizes.ensures.written c.in_err-sizes.ensures.fault c.in_err-sizes.ensures.memory c.from_residual-in_err-sizes.ensures.1
+    c.in_ok-bucket.bucket found.file (rw (sym c.as_slice.ensures.value) found.named) {A = ⊤} c.args.out.now c.sizes.new.sink (Err c.in_err-sizes.field-0.0) _ c.in_err-sizes.ensures.written c.in_err-sizes.ensures.fault c.from_residual-in_err-sizes.ensures.1
 
 pub returns : goal.returns
 returns g c =
     let opened = c.in_ok-checked.ensures in
     let found = c.in_ok-bucket.ensures in
     sizes_put c.args.file.now c.args.job.now.meta (path_in c.args.job.now.path.items) c.args.job.now.form c.in_ok-checked.checked opened.bytes opened.sound
-    c.in_ok-bucket.bucket found.file (rw (sym c.as_slice.ensures.value) found.named) c.args.out.now c.sizes.new.sink _ _ c.in_ok-sizes.ensures.written tt tt refl
+    c.in_ok-bucket.bucket found.file (rw (sym c.as_slice.ensures.value) found.named) {A = ⊤} c.args.out.now c.sizes.new.sink (Ok tt) _ c.in_ok-sizes.ensures.written tt refl

@@ -1,23 +1,27 @@
--- The line of the hash isn't written whole, or it is, and the text of the losses isn't.
-use Rattle.std.proofs.Common.{Err, Ok, Result, map, subst, ℕ}
+-- The line of the hash, and then the text of the losses.
+use Rattle.std.proofs.Common.{ap, map, ℕ}
+use Rattle.bolt_format.proofs.WroteLemmas.{Wrote-same, Wrote-stop, Wrote-then}
 use Rattle.bolt_recover.specs.ShownLosses.{loss_view}
 use Rattle.bolt_report.specs.LossLines.{counted_losses_text}
-use Rattle.bolt_report.specs.Reports.{Reports}
-use Rattle.bolt_report.specs.declared.fault.ReportFault.{ReportFault}
-use Rattle.bolt_cli.specs.SnapshotAnswers.{errors_in, fault_lines}
-use Rattle.bolt_cli.proofs.Doing.{Does-first_unwritten, Does-second_unwritten, only_write}
+use Rattle.bolt_cli.specs.Answers.{losses_found}
+use Rattle.bolt_cli.specs.SnapshotAnswers.{errors_in}
+use Rattle.bolt_cli.proofs.Doing.{Does-part, Does-whole}
 use Rattle.bolt_cli.proofs.check_command.put_losses.Goals as goal
 
 pub returns-in_err-earlier : goal.returns-in_err-earlier
 returns-in_err-earlier g c =
     let losses = map loss_view c.args.losses.now in
-    Does-first_unwritten g.O.Sink.taken g.O.Sink.failed c.args.out.now c.put_hash_fault.new.out (fault_lines c.args.hash) (counted_losses_text (errors_in c.args.hash) losses) (Ok 1) _ _
-    c.in_err-earlier.ensures.line (only_write c.in_err-earlier.field-0.0 c.from_residual.result c.in_err-earlier.ensures.fault c.from_residual.ensures.1)
+    Does-part _ _ (losses_found c.args.hash losses) _ (Wrote-stop (counted_losses_text (errors_in c.args.hash) losses) c.in_err-earlier.ensures.line) c.from_residual.ensures.1
 
 pub returns-in_err-counted_losses_text : goal.returns-in_err-counted_losses_text
 returns-in_err-counted_losses_text g c =
     let losses = map loss_view c.args.losses.now in
-    let stop : Result (Unit {0}) ReportFault = Err c.in_err-counted_losses_text.field-0.0 in
-    let written = subst (λ (n : ℕ). Reports g.O.Sink.taken g.O.Sink.failed c.put_hash_fault.new.out c.counted_losses_text.new.sink (counted_losses_text n losses) stop) c.in_ok-earlier.ensures.errors c.in_err-counted_losses_text.ensures.written in
-    Does-second_unwritten g.O.Sink.taken g.O.Sink.failed c.args.out.now c.put_hash_fault.new.out c.counted_losses_text.new.sink (fault_lines c.args.hash) (counted_losses_text (errors_in c.args.hash) losses) (Ok 1) _ _ _
-    c.in_ok-earlier.ensures.line written c.in_err-counted_losses_text.ensures.fault c.from_residual-in_err-counted_losses_text.ensures.1
+    Does-part _ _ (losses_found c.args.hash losses) _
+    (Wrote-then c.in_ok-earlier.ensures.line (Wrote-same (ap (λ (n : ℕ). counted_losses_text n losses) c.in_ok-earlier.ensures.errors) c.in_err-counted_losses_text.ensures))
+    c.from_residual-in_err-counted_losses_text.ensures.1
+
+pub returns : goal.returns
+returns g c =
+    let losses = map loss_view c.args.losses.now in
+    Does-whole _ _ (losses_found c.args.hash losses)
+    (Wrote-then c.in_ok-earlier.ensures.line (Wrote-same (ap (λ (n : ℕ). counted_losses_text n losses) c.in_ok-earlier.ensures.errors) c.in_ok-counted_losses_text.ensures))

@@ -1,4 +1,5 @@
-use Rattle.std.proofs.Common.{List, inl, inr, refl, ℕ, sym}
+use Rattle.std.proofs.Common.{Err, List, Ok, inl, inr, refl, ℕ, sym}
+use Rattle.std.specs.Prelude.{⊤}
 use Rattle.bolt_tree.specs.Entries.{Value}
 use Rattle.bolt_cli.specs.Answers.{IsGetAnswer, refused, value_shown}
 use Rattle.bolt_cli.specs.PlainWords.{path_in}
@@ -28,7 +29,7 @@ returns-in_err-put_value g c =
     let job = c.args.job.now in
     let failed = c.in_err-put_value.ensures in
     let held = held_at c.in_ok-checked.checked (path_in job.path.items) (Value c.in_ok-value.value.now) (own_trees c.args.file.now c.args.job.now.meta c.in_ok-checked.checked opened.bytes opened.sound) (rw (sym c.as_slice.ensures.value) c.in_ok-value.ensures.held) in
-    let (answer, shown, does) = shown_put job.form c.args.out.now c.put_value.new.out (value_shown job.no_newline job.form c.in_ok-value.value.now) _ _ failed.written failed.fault failed.memory c.from_residual-in_err-put_value.ensures.1 in
+    let (answer, shown, does) = shown_put {A = ⊤} job.form c.args.out.now c.put_value.new.out (value_shown job.no_newline job.form c.in_ok-value.value.now) (Err c.in_err-put_value.field-0.0) _ failed.written failed.fault c.from_residual-in_err-put_value.ensures.1 in
     (answer, of_read (λ (f : List ℕ). IsGetAnswer f (path_in job.path.items) job.form job.no_newline) c.args.file.now c.args.job.now.meta c.in_ok-checked.checked opened.bytes opened.sound answer (inl (_, held, shown)), does)
 
 pub returns : goal.returns
@@ -36,5 +37,5 @@ returns g c =
     let opened = c.in_ok-checked.ensures in
     let job = c.args.job.now in
     let held = held_at c.in_ok-checked.checked (path_in job.path.items) (Value c.in_ok-value.value.now) (own_trees c.args.file.now c.args.job.now.meta c.in_ok-checked.checked opened.bytes opened.sound) (rw (sym c.as_slice.ensures.value) c.in_ok-value.ensures.held) in
-    let (answer, shown, does) = shown_put job.form c.args.out.now c.put_value.new.out (value_shown job.no_newline job.form c.in_ok-value.value.now) _ _ c.in_ok-put_value.ensures.written tt tt refl in
+    let (answer, shown, does) = shown_put {A = ⊤} job.form c.args.out.now c.put_value.new.out (value_shown job.no_newline job.form c.in_ok-value.value.now) (Ok tt) _ c.in_ok-put_value.ensures.written tt refl in
     (answer, of_read (λ (f : List ℕ). IsGetAnswer f (path_in job.path.items) job.form job.no_newline) c.args.file.now c.args.job.now.meta c.in_ok-checked.checked opened.bytes opened.sound answer (inl (_, held, shown)), does)

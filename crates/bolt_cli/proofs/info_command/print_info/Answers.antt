@@ -18,7 +18,7 @@ returns-in_err-info g c =
     let answer = done (info_text c.in_ok-slot.slot c.in_ok-slot.meta) in (
       answer,
       inl (c.in_ok-slot.slot, c.in_ok-slot.meta, c.in_ok-slot.ensures.found, refl),
-      Does-part _ _ answer _ _ c.in_err-info.ensures.written c.in_err-info.ensures.fault c.from_residual-in_err-info.ensures.1,
+      Does-part _ _ answer _ c.in_err-info.ensures c.from_residual-in_err-info.ensures.1,
     )
 
 pub returns : goal.returns
@@ -26,5 +26,5 @@ returns g c =
     let answer = done (info_text c.in_ok-slot.slot c.in_ok-slot.meta) in (
       answer,
       inl (c.in_ok-slot.slot, c.in_ok-slot.meta, c.in_ok-slot.ensures.found, refl),
-      Does-whole _ _ answer _ c.in_ok-info.ensures.written,
+      Does-whole _ _ answer c.in_ok-info.ensures,
     )

@@ -17,7 +17,7 @@ returns-in_err-put_recovered_part g c =
     let failed = c.in_err-put_recovered_part.ensures in
     let all = subst (λ (f : List ℕ). ForRecovered f (recovery_meta r) (λ listing. recovery_left r listing ≡ listing)) (sym c.in_ok-recovery.ensures.file) c.in_ok-recovery.ensures.all in
     let (answer, listed, does) = rest_stopped c.args.file.now (recovery_meta r) job.form (path_in job.path.items) (path_in job.from.items) (recovery_file r) c.in_ok-recovery.ensures.file (recovery_left r) all
-    c.args.out.now c.put_recovered_part.new.out _ _ failed.written failed.fault failed.memory c.from_residual-in_err-put_recovered_part.ensures.1 in
+    c.args.out.now c.put_recovered_part.new.out _ _ failed.written failed.fault c.from_residual-in_err-put_recovered_part.ensures.1 in
     (answer, inl (recovery_meta r, c.in_ok-recovery.ensures.meta, listed), does)
 
 pub returns-then-not-branch : goal.returns-then-not-branch

@@ -1,4 +1,5 @@
-use Rattle.std.proofs.Common.{◌≡◌, inl, refl, subst, sym}
+use Rattle.std.proofs.Common.{◌≡◌, Err, Ok, inl, refl, subst, sym}
+use Rattle.std.specs.Prelude.{⊤}
 use Rattle.std.specs.Result.{IsErrAnd}
 use Rattle.bolt_check.specs.CheckedFiles.{meta_of}
 use Rattle.bolt_tree.specs.Buckets.{bucket_start}
@@ -33,7 +34,7 @@ returns-in_err-put_sound_part g c =
     let job = c.args.job.now in
     let failed = c.in_err-put_sound_part.ensures in
     let (answer, listed, does) = list_put c.args.file.now checked job.form (path_in job.path.items) (path_in job.from.items) c.in_ok-checked.ensures.bytes (read_trees c.args.file.now c.args.job.now.meta (meta_of checked) under)
-    (bucket_start c.in_ok-open_bucket.field-0) (rw (sym c.as_slice.ensures.value) c.in_ok-open_bucket.ensures.named) c.args.out.now c.put_sound_part.new.out _ _ failed.written failed.fault failed.memory c.from_residual-in_err-put_sound_part.ensures.1 in
+    (bucket_start c.in_ok-open_bucket.field-0) (rw (sym c.as_slice.ensures.value) c.in_ok-open_bucket.ensures.named) {A = ⊤} c.args.out.now c.put_sound_part.new.out (Err c.in_err-put_sound_part.field-0.0) _ failed.written failed.fault c.from_residual-in_err-put_sound_part.ensures.1 in
     (answer, inl (meta_of checked, under, listed), does)
 
 pub returns : goal.returns
@@ -42,5 +43,5 @@ returns g c =
     let under = c.in_ok-checked.ensures.sound in
     let job = c.args.job.now in
     let (answer, listed, does) = list_put c.args.file.now checked job.form (path_in job.path.items) (path_in job.from.items) c.in_ok-checked.ensures.bytes (read_trees c.args.file.now c.args.job.now.meta (meta_of checked) under)
-    (bucket_start c.in_ok-open_bucket.field-0) (rw (sym c.as_slice.ensures.value) c.in_ok-open_bucket.ensures.named) c.args.out.now c.put_sound_part.new.out _ _ c.in_ok-put_sound_part.ensures.written tt tt refl in
+    (bucket_start c.in_ok-open_bucket.field-0) (rw (sym c.as_slice.ensures.value) c.in_ok-open_bucket.ensures.named) {A = ⊤} c.args.out.now c.put_sound_part.new.out (Ok tt) _ c.in_ok-put_sound_part.ensures.written tt refl in
     (answer, inl (meta_of checked, under, listed), does)

@@ -2,12 +2,13 @@
 use Rattle.std.proofs.Common.{◌∙◌, ap, subst₂}
 use Rattle.bolt_recover.specs.Recoveries.{recovery_left}
 use Rattle.bolt_tree.specs.Paths.{Path, path_of}
-use Rattle.bolt_report.specs.Reports.{Reports}
+use Rattle.bolt_report.specs.ReportEndings.{report_ending}
+use Rattle.bolt_format.specs.Wrote.{Wrote}
 use Rattle.bolt_cli.specs.Answers.{part_text}
 use Rattle.bolt_cli.specs.PlainWords.{path_in}
 use Rattle.bolt_cli.proofs.list_command.put_recovered_part.Goals as goal
 
 pub returns-clause-written : goal.returns-clause-written
 returns-clause-written g c = λ listing lists.
-    subst₂ (λ (path from : Path). Reports g.O.Sink.taken g.O.Sink.failed c.args.out.now c.list_recovered_part.new.sink (part_text c.args.job.now.form path from (recovery_left c.args.recovery.now listing)) c.list_recovered_part.result)
+    subst₂ (λ (path from : Path). Wrote g.O.Sink c.args.out.now c.list_recovered_part.new.sink (part_text c.args.job.now.form path from (recovery_left c.args.recovery.now listing)) (report_ending c.list_recovered_part.result))
     (ap path_of c.as_slice-3.ensures.value ∙ c.in_ok-path.ensures.path ∙ ap path_in c.as_slice.ensures.value) (ap path_of c.as_slice-4.ensures.value ∙ c.in_ok-from.ensures.path ∙ ap path_in c.as_slice-2.ensures.value) (c.list_recovered_part.ensures.written listing lists)

@@ -4,11 +4,12 @@ use Rattle.bolt_tree.specs.Listing.{rest_from}
 use Rattle.bolt_tree.specs.ListingParts.{part_below}
 use Rattle.bolt_tree.specs.Paths.{Path, path_of}
 use Rattle.bolt_report.specs.ListForms.{listing_lines}
-use Rattle.bolt_report.specs.Reports.{Reports}
+use Rattle.bolt_report.specs.ReportEndings.{report_ending}
+use Rattle.bolt_format.specs.Wrote.{Wrote}
 use Rattle.bolt_cli.specs.PlainWords.{path_in}
 use Rattle.bolt_cli.proofs.list_command.put_sound_part.Goals as goal
 
 pub returns-clause-written : goal.returns-clause-written
 returns-clause-written g c = λ listing lists.
-    subst₂ (λ (path from : Path). Reports g.O.Sink.taken g.O.Sink.failed c.args.out.now c.list_part.new.sink (listing_lines c.args.job.now.form (rest_from from (part_below path listing))) c.list_part.result)
+    subst₂ (λ (path from : Path). Wrote g.O.Sink c.args.out.now c.list_part.new.sink (listing_lines c.args.job.now.form (rest_from from (part_below path listing))) (report_ending c.list_part.result))
     (ap path_of c.as_slice-3.ensures.value ∙ c.in_ok-path.ensures.path ∙ ap path_in c.as_slice.ensures.value) (ap path_of c.as_slice-4.ensures.value ∙ c.in_ok-from.ensures.path ∙ ap path_in c.as_slice-2.ensures.value) (c.list_part.ensures.written listing lists)

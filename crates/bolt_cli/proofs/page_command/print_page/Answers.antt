@@ -1,4 +1,5 @@
 use Rattle.std.proofs.Common.{inl, inr, refl}
+use Rattle.std.specs.Prelude.{⊤}
 use Rattle.bolt_report.specs.PageTexts.{page_text, page_text_fault}
 use Rattle.bolt_cli.specs.Answers.{page_answer, refused}
 use Rattle.bolt_cli.specs.declared.failure.Failure.TheVariants as failure
@@ -20,7 +21,7 @@ returns-in_err-page_text g c =
     let meta = c.in_ok-meta.meta in (
       page_answer (page_text_fault file meta c.args.job.now.id) (page_text file meta c.args.job.now.id),
       inl (meta, c.in_ok-meta.ensures.opened, refl),
-      Does-page_part g.O.Sink.taken g.O.Sink.failed c.args.out.now c.page_text.new.sink (page_text_fault file meta c.args.job.now.id) (page_text file meta c.args.job.now.id) _ _
+      Does-page_part ⊤ c.args.out.now c.page_text.new.sink (page_text_fault file meta c.args.job.now.id) (page_text file meta c.args.job.now.id) _ _
           c.in_err-page_text.ensures.written (c.in_err-page_text.ensures.memory) c.in_err-page_text.ensures.page c.in_err-page_text.ensures.untouched c.from_residual-in_err-page_text.ensures.1,
     )
 
@@ -30,6 +31,6 @@ returns g c =
     let meta = c.in_ok-meta.meta in (
       page_answer (page_text_fault file meta c.args.job.now.id) (page_text file meta c.args.job.now.id),
       inl (meta, c.in_ok-meta.ensures.opened, refl),
-      Does-page_whole g.O.Sink.taken g.O.Sink.failed c.args.out.now c.page_text.new.sink (page_text_fault file meta c.args.job.now.id) (page_text file meta c.args.job.now.id) _
+      Does-page_whole c.args.out.now c.page_text.new.sink (page_text_fault file meta c.args.job.now.id) (page_text file meta c.args.job.now.id) _
           c.in_ok-page_text.ensures.written c.in_ok-page_text.ensures.page,
     )

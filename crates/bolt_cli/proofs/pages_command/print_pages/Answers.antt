@@ -16,7 +16,7 @@ returns-in_err-put_pages g c =
     let (slot, chosen) = c.in_ok-roles.ensures.meta in
     let sound = c.in_ok-roles.ensures.sound in
     let (answer, said, does) = pages_cut c.args.file.now c.args.job.now.map checked c.in_ok-roles.ensures.bytes sound.trees (sound.right refl)
-    g.O.Sink.taken g.O.Sink.failed c.args.out.now c.put_pages.new.out _ _ c.in_err-put_pages.ensures c.from_residual-in_err-put_pages.ensures.1 in
+    c.args.out.now c.put_pages.new.out _ c.in_err-put_pages.ensures c.from_residual-in_err-put_pages.ensures.1 in
     (answer, inl (slot, meta_of checked, chosen, sound, said), does)
 
 pub returns : goal.returns
@@ -25,5 +25,5 @@ returns g c =
     let (slot, chosen) = c.in_ok-roles.ensures.meta in
     let sound = c.in_ok-roles.ensures.sound in
     let (answer, said, does) = pages_put c.args.file.now c.args.job.now.map checked c.in_ok-roles.ensures.bytes sound.trees (sound.right refl)
-    g.O.Sink.taken g.O.Sink.failed c.args.out.now c.put_pages.new.out _ c.in_ok-put_pages.ensures in
+    c.args.out.now c.put_pages.new.out c.in_ok-put_pages.ensures in
     (answer, inl (slot, meta_of checked, chosen, sound, said), does)

@@ -30,7 +30,7 @@ returns-in_err-stats_text g c =
     let answer = done (stats_text stats) in (
       answer,
       of_read (λ (f : List ℕ). IsStatsAnswer f (path_in c.args.job.now.path.items)) c.args.file.now c.args.job.now.meta c.in_ok-checked.checked opened.bytes opened.sound answer (inl (stats, (rw (sym c.as_slice.ensures.value) c.in_ok-stats.ensures.found), refl)),
-      Does-part _ _ answer _ _ c.in_err-stats_text.ensures.written c.in_err-stats_text.ensures.fault c.from_residual-in_err-stats_text.ensures.1,
+      Does-part _ _ answer _ c.in_err-stats_text.ensures c.from_residual-in_err-stats_text.ensures.1,
     )
 
 pub returns : goal.returns
@@ -40,5 +40,5 @@ returns g c =
     let answer = done (stats_text stats) in (
       answer,
       of_read (λ (f : List ℕ). IsStatsAnswer f (path_in c.args.job.now.path.items)) c.args.file.now c.args.job.now.meta c.in_ok-checked.checked opened.bytes opened.sound answer (inl (stats, (rw (sym c.as_slice.ensures.value) c.in_ok-stats.ensures.found), refl)),
-      Does-whole _ _ answer _ c.in_ok-stats_text.ensures.written,
+      Does-whole _ _ answer c.in_ok-stats_text.ensures,
     )

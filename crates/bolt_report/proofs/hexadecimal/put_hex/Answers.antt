@@ -1,19 +1,19 @@
-use Rattle.std.proofs.Common.{[], Ok, refl}
+use Rattle.std.proofs.Common.{[], refl}
 use Rattle.hex.specs.Hex.{encode_with}
-use Rattle.bolt_report.proofs.Pieces.{pieces_grow, Writes-last_piece}
-use Rattle.bolt_format.proofs.WriteLemmas.{Writes-none}
+use Rattle.bolt_report.proofs.HexLemmas.{Wrote-last_part, Wrote-part}
+use Rattle.bolt_format.proofs.WroteLemmas.{Wrote-none}
 use Rattle.bolt_report.proofs.hexadecimal.put_hex.Goals as goal
 
 pub loop-rest-init : goal.loop-rest-init
 unfolding encode_with
-loop-rest-init g c = ([], refl, Writes-none _)
+loop-rest-init g c = ([], refl, Wrote-none _)
 
-pub returns-in_err-put_hex_piece : goal.returns-in_err-put_hex_piece
-returns-in_err-put_hex_piece g c =
-    let (front, parts, written) = c.loop-rest.invariant in
-    Writes-last_piece _ _ _ c.args.bytes.now front c.loop-rest.rest.now c.min-piece_len.result _ _ _ parts written c.in_err-put_hex_piece.ensures c.from_residual.ensures.0
+pub returns-in_err-put_hex_part : goal.returns-in_err-put_hex_part
+returns-in_err-put_hex_part g c =
+    let (front, parts, wrote) = c.loop-rest.invariant in
+    Wrote-last_part c.args.bytes.now front c.loop-rest.rest.now c.min-part_len.result _ parts wrote c.in_err-put_hex_part.ensures c.from_residual.ensures.0
 
 pub loop-rest-preserved : goal.loop-rest-preserved
 loop-rest-preserved g c =
-    let (front, parts, written) = c.loop-rest.invariant in
-    pieces_grow _ _ _ c.args.bytes.now front c.loop-rest.rest.now c.min-piece_len.result tt (Ok tt) parts written c.in_ok-put_hex_piece.ensures
+    let (front, parts, wrote) = c.loop-rest.invariant in
+    Wrote-part c.args.bytes.now front c.loop-rest.rest.now c.min-part_len.result parts wrote c.in_ok-put_hex_part.ensures

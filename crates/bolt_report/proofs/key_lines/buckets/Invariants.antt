@@ -1,24 +1,20 @@
-use Rattle.std.proofs.Common.{◌≡◌, ◌++◌, List, ℕ, Ok, flat_map, length}
-use Rattle.std.specs.Prelude.{⊤}
-use Rattle.bolt_format.specs.Writes.{Writes}
-use Rattle.bolt_report.specs.declared.fault.ReportFault.{ReportFault}
+use Rattle.std.proofs.Common.{◌≡◌, flat_map, length}
+use Rattle.bolt_format.proofs.WroteFronts.{WroteFront}
 use Rattle.bolt_tree.specs.Buckets.{bucket_checked, bucket_start}
 use Rattle.bolt_tree.specs.Cursors.{cursor_checked, cursor_place, cursor_start}
 use Rattle.bolt_tree.specs.EntriesLeft.{ForEntries, entries_left}
-use Rattle.bolt_report.specs.KeyLines.{bucket_name}
 use Rattle.bolt_tree.proofs.Leaving.{the_entries}
+use Rattle.bolt_report.specs.KeyLines.{bucket_name}
 use Rattle.bolt_report.proofs.key_lines.buckets.Given as goal
 
--- of the text of all entries, what was written, and the text of those that are left
+-- of the text of all entries, the text of those that are left is still to be written
 abbrev pub invariant-rest : goal.invariant-rest
 invariant-rest g l = record {
   checked : cursor_checked l.cursor ≡ bucket_checked l.bucket;
   start : cursor_start l.cursor ≡ bucket_start l.bucket;
   form : l.items.form ≡ l.fn.form;
-  counted : g.S.Sink.failed l.sink ≡ g.S.Sink.failed l.initial.sink;
-  put : ForEntries (bucket_checked l.bucket) (bucket_start l.bucket) (λ entries. (written : List ℕ)
-      × (flat_map (bucket_name l.fn.form) entries ≡ written ++ flat_map (bucket_name l.fn.form) (entries_left entries (cursor_place l.cursor)))
-      × Writes {A = ⊤} {E = ReportFault} g.S.Sink.taken g.S.Sink.failed l.initial.sink l.sink written (Ok tt));
+  put : ForEntries (bucket_checked l.bucket) (bucket_start l.bucket) (λ entries. WroteFront g.S.Sink l.initial.sink l.sink (flat_map (bucket_name l.fn.form) entries)
+      (flat_map (bucket_name l.fn.form) (entries_left entries (cursor_place l.cursor))));
 }
 
 abbrev pub decreases-rest : goal.decreases-rest

@@ -1,15 +1,13 @@
 -- Each entry that begins with the prefix has its line written, and the first that doesn't ends the text.
-use Rattle.std.proofs.Common.{◌≡◌, ◌∙◌, [], ◌∷◌, ◌++◌, ℕ, List, Option, Some, Ok, Err, None, drop, suc, ap, sym, refl, subst, true, false, arith}
+use Rattle.std.proofs.Common.{◌≡◌, ◌∙◌, [], ◌∷◌, ◌++◌, ℕ, List, Option, Some, None, drop, suc, ap, sym, subst, true, false, arith}
 use Rattle.std.proofs.Math.Logic.{∥∥₁_elim}
 use Rattle.std.proofs.Props.{props}
 use Rattle.std.specs.Option.{option_map}
-use Rattle.std.specs.Prelude.{⊤}
-use Rattle.bolt_format.proofs.WriteLemmas.{Writes-none}
+use Rattle.bolt_format.proofs.WroteLemmas.{Wrote-none, Wrote-same}
 use Rattle.bolt_check.specs.Keys.{Key}
 use Rattle.bolt_format.specs.Elements.{LeafElement}
 use Rattle.bolt_report.specs.Forms.{value_text}
 use Rattle.bolt_report.specs.KeyPrefixes.{with_prefix, begins}
-use Rattle.bolt_report.specs.Reports.{Reports}
 use Rattle.bolt_report.specs.declared.form.Form.{Form}
 use Rattle.bolt_tree.specs.Cursors.{cursor_bucket, cursor_checked, cursor_opened, cursor_place, cursor_start}
 use Rattle.bolt_tree.specs.BucketViews.{BucketView}
@@ -18,7 +16,7 @@ use Rattle.bolt_tree.specs.Places.{Place}
 use Rattle.bolt_tree.specs.ShownEntries.{shown_entry}
 use Rattle.bolt_tree.specs.declared.entry.Entry.{Entry}
 use Rattle.bolt_report.proofs.PrefixLemmas.{key_begins}
-use Rattle.bolt_report.proofs.PrefixSteps.{Stage, keeps, all_done, cursor_entries, fault_handed_on, fewer_shown, memory_handed_on, moves_there, nothing_shown, opens_there, line_more, line_stop, lines_end, moved, none_shown, number_of, other_shown, sought, stage_next, stage_sought}
+use Rattle.bolt_report.proofs.PrefixSteps.{Stage, keeps, all_done, cursor_entries, fault_handed_on, fewer_shown, moves_there, nothing_shown, opens_there, line_more, line_stop, lines_end, moved, none_shown, number_of, other_shown, sought, stage_next, stage_sought}
 use Rattle.bolt_report.proofs.key_prefixes.keys_with_prefix.Goals as goal
 
 -- what the cursor shows, by what it found
@@ -31,14 +29,13 @@ rest-init g c = record {
   checked = c.seek-found.ensures.checked;
   start = c.seek-found.ensures.start;
   form = c.new-items.ensures;
-  counted = refl;
   put = λ entries are.
       let place = cursor_place c.seek-found.new.self in
       let x = option_map shown_entry c.seek-found.result in
       let stands = sought c.args.prefix.now entries place x (c.seek-found.ensures.moves entries are) in (
         [],
         stage_sought (cursor_bucket c.args.cursor.now) (cursor_opened c.args.cursor.now) c.args.prefix.now entries (cursor_opened c.seek-found.new.self) place x are stands c.seek-found.ensures.opens,
-        Writes-none c.args.sink.now,
+        Wrote-none c.args.sink.now,
       );
 }
 
@@ -50,7 +47,7 @@ returns-then-not-starts_with-clause-written g c = λ entries are.
     let stage = now_shows c.rest.found (Some c.in-Some.entry) c.in-Some.is shows in
     let differs : key_begins v.key prefix ≡ false = sym c.starts_with.ensures.value ∙ c.if-not-starts_with.true in
     let (n, whole, none) = other_shown _ _ _ _ _ _ done v stage differs in
-    lines_end g.S.Sink.taken g.S.Sink.failed c.args.form c.args.sink.now c.rest.sink done (with_prefix prefix entries) (with_prefix prefix (drop n entries)) whole none before
+    lines_end c.args.form done before (with_prefix prefix entries) (with_prefix prefix (drop n entries)) whole none
 
 pub returns-then-not-starts_with-clause-opens : goal.returns-then-not-starts_with-clause-opens
 returns-then-not-starts_with-clause-opens g c = λ entries seek gap are is gaps.
@@ -71,17 +68,11 @@ returns-in_err-put_line-clause-written g c = λ entries are.
     let n = stage.n in
     let starts : begins prefix e ≡ true = subst (λ (w : EntryView). key_begins w.key prefix ≡ true) shown (sym c.starts_with.ensures.value ∙ c.if-not-starts_with.false) in
     let left = ap (with_prefix prefix) rest ∙ keeps prefix e (drop (suc n) entries) starts in
-    let line : Reports {A = ⊤} g.S.Sink.taken g.S.Sink.failed c.rest.sink c.put_line.new.sink (value_text c.args.form e.key) (Err c.in_err-put_line.field-0.0) =
-    subst (λ (w : EntryView). Reports {A = ⊤} g.S.Sink.taken g.S.Sink.failed c.rest.sink c.put_line.new.sink (value_text c.args.form w.key) (Err c.in_err-put_line.field-0.0)) shown
-    (subst (λ (form : Form). Reports {A = ⊤} g.S.Sink.taken g.S.Sink.failed c.rest.sink c.put_line.new.sink (value_text form c.in-Some.entry.key.now) (Err c.in_err-put_line.field-0.0)) c.rest.invariant.form c.in_err-put_line.ensures.written) in
-    line_stop g.S.Sink.taken g.S.Sink.failed c.args.form c.args.sink.now c.rest.sink c.put_line.new.sink done before (with_prefix prefix entries) (with_prefix prefix (drop n entries)) (with_prefix prefix (drop (suc n) entries))
-    e _ _ stage.whole left line c.from_residual.ensures.1
+    line_stop c.args.form done before (with_prefix prefix entries) (with_prefix prefix (drop n entries)) (with_prefix prefix (drop (suc n) entries)) e _ _ stage.whole left
+    (Wrote-same (ap (λ (form : Form). value_text form c.in-Some.entry.key.now) c.rest.invariant.form ∙ ap (λ (w : EntryView). value_text c.args.form w.key) shown) c.in_err-put_line.ensures.written) c.from_residual.ensures.1
 
 pub returns-in_err-put_line-clause-fault : goal.returns-in_err-put_line-clause-fault
 returns-in_err-put_line-clause-fault g c = fault_handed_on _ _ _ _ c.rest.invariant.form c.from_residual.ensures.1 c.in_err-put_line.ensures.fault
-
-pub returns-in_err-put_line-clause-memory : goal.returns-in_err-put_line-clause-memory
-returns-in_err-put_line-clause-memory g c = memory_handed_on _ _ _ c.from_residual.ensures.1 (λ full. c.in_err-put_line.ensures.memory full ∙ c.rest.invariant.counted)
 
 pub rest-smaller : goal.rest-smaller
 rest-smaller g c =
@@ -114,17 +105,14 @@ rest-preserved g c =
       checked = c.next-found.ensures.checked ∙ c.rest.invariant.checked;
       start = c.next-found.ensures.start ∙ c.rest.invariant.start;
       form = c.put_line.ensures.form ∙ c.rest.invariant.form;
-      counted = c.in_ok-put_line.ensures.written.sound ∙ c.rest.invariant.counted;
       put = λ entries are.
           let (done, shows, before) = c.rest.invariant.put entries are in
           let stage = now_shows c.rest.found (Some c.in-Some.entry) c.in-Some.is shows in
           let (e, shown, on, rest) = stage.stands in
-          let line : Reports {A = ⊤} g.S.Sink.taken g.S.Sink.failed c.rest.sink c.put_line.new.sink (value_text c.args.form e.key) (Ok tt) =
-          subst (λ (w : EntryView). Reports {A = ⊤} g.S.Sink.taken g.S.Sink.failed c.rest.sink c.put_line.new.sink (value_text c.args.form w.key) (Ok tt)) shown
-          (subst (λ (form : Form). Reports {A = ⊤} g.S.Sink.taken g.S.Sink.failed c.rest.sink c.put_line.new.sink (value_text form c.in-Some.entry.key.now) (Ok tt)) c.rest.invariant.form c.in_ok-put_line.ensures.written) in (
+          let line = Wrote-same (ap (λ (form : Form). value_text form c.in-Some.entry.key.now) c.rest.invariant.form ∙ ap (λ (w : EntryView). value_text c.args.form w.key) shown) c.in_ok-put_line.ensures.written in (
             done ++ e ∷ [],
             stage_next _ _ _ _ _ _ done v stage starts opened2 place2 x2 are (moves entries are) opens,
-            line_more g.S.Sink.taken g.S.Sink.failed c.args.form c.args.sink.now c.rest.sink c.put_line.new.sink done before e line,
+            line_more c.args.form done before e line,
           );
     }
 
@@ -134,7 +122,7 @@ returns-clause-written g c = λ entries are.
     let (done, shows, before) = c.rest.invariant.put entries are in
     let stage = now_shows c.rest.found None c.in_default.is shows in
     let (n, whole, none) = none_shown _ _ _ _ _ _ done stage in
-    lines_end g.S.Sink.taken g.S.Sink.failed c.args.form c.args.sink.now c.rest.sink done (with_prefix prefix entries) (with_prefix prefix (drop n entries)) whole none before
+    lines_end c.args.form done before (with_prefix prefix entries) (with_prefix prefix (drop n entries)) whole none
 
 pub returns-clause-opens : goal.returns-clause-opens
 returns-clause-opens g c = λ entries seek gap are is gaps.

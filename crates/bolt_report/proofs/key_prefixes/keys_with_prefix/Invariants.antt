@@ -1,13 +1,12 @@
-use Rattle.std.proofs.Common.{◌≡◌, ◌+◌, List, Ok, length}
+use Rattle.std.proofs.Common.{◌≡◌, ◌+◌, List, length}
 use Rattle.std.specs.Option.{option_map}
-use Rattle.std.specs.Prelude.{⊤}
 use Rattle.bolt_format.specs.Elements.{LeafElement}
-use Rattle.bolt_format.specs.Writes.{Writes}
+use Rattle.bolt_format.specs.Endings.{whole}
+use Rattle.bolt_format.specs.Wrote.{Wrote}
 use Rattle.bolt_tree.specs.Cursors.{cursor_bucket, cursor_checked, cursor_opened, cursor_place, cursor_start}
 use Rattle.bolt_tree.specs.EntriesLeft.{ForEntries, entries_left}
 use Rattle.bolt_tree.specs.ShownEntries.{shown_entry}
 use Rattle.bolt_report.specs.KeyLines.{keys_text}
-use Rattle.bolt_report.specs.declared.fault.ReportFault.{ReportFault}
 use Rattle.bolt_report.proofs.PrefixSteps.{Stage, cursor_entries, number_of}
 use Rattle.bolt_report.proofs.key_prefixes.keys_with_prefix.Given as goal
 
@@ -17,10 +16,9 @@ invariant-rest g l = record {
   checked : cursor_checked l.cursor ≡ cursor_checked l.fn.cursor;
   start : cursor_start l.cursor ≡ cursor_start l.fn.cursor;
   form : l.items.form ≡ l.fn.form;
-  counted : g.S.Sink.failed l.sink ≡ g.S.Sink.failed l.fn.sink;
   put : ForEntries (cursor_checked l.fn.cursor) (cursor_start l.fn.cursor) (λ entries. (done : List LeafElement)
       × Stage (cursor_bucket l.fn.cursor) (cursor_opened l.fn.cursor) l.prefix entries (cursor_opened l.cursor) (cursor_place l.cursor) (option_map shown_entry l.found) done
-      × Writes {A = ⊤} {E = ReportFault} g.S.Sink.taken g.S.Sink.failed l.fn.sink l.sink (keys_text l.fn.form done) (Ok tt));
+      × Wrote g.S.Sink l.fn.sink l.sink (keys_text l.fn.form done) whole);
 }
 
 abbrev pub decreases-rest : goal.decreases-rest

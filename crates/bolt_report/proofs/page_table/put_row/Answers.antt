@@ -5,15 +5,15 @@ use Rattle.bolt_check.specs.CheckedFiles.{bytes_of, meta_of}
 use Rattle.bolt_check.proofs.RoleFacts.{first_shown}
 use Rattle.bolt_report.proofs.page_table.put_row.Goals as goal
 
-pub tree_row-requires-clause-good : goal.tree_row-requires-clause-good
-tree_row-requires-clause-good g c =
+pub put_tree_row-requires : goal.put_tree_row-requires
+put_tree_row-requires g c =
     let file = bytes_of c.args.checked.now in
     let meta = meta_of c.args.checked.now in
     let has = rw c.in-Branch.is at c.requires in
     ∥∥₁_elim has (Prim.hlevel props) (λ is. first_shown file meta false c.args.id is)
 
-pub tree_row-requires-in-Leaf-clause-good : goal.tree_row-requires-in-Leaf-clause-good
-tree_row-requires-in-Leaf-clause-good g c =
+pub put_tree_row-requires-in-Leaf : goal.put_tree_row-requires-in-Leaf
+put_tree_row-requires-in-Leaf g c =
     let file = bytes_of c.args.checked.now in
     let meta = meta_of c.args.checked.now in
     let has = rw c.in-Leaf.is at c.requires in

@@ -1,12 +1,12 @@
 -- A walk from the later of the two paths comes to the part first.
-use Rattle.std.proofs.Common.{◌∙◌, List, ap, subst, sym}
-use Rattle.bolt_tree.specs.Listing.{Member, rest_from}
+use Rattle.std.proofs.Common.{◌∙◌, ap, sym}
+use Rattle.bolt_format.proofs.WroteLemmas.{Wrote-same}
+use Rattle.bolt_tree.specs.Listing.{rest_from}
 use Rattle.bolt_tree.specs.Paths.{Path, path_of}
 use Rattle.bolt_tree.specs.Walks.{left_of, walk_checked}
 use Rattle.bolt_tree.proofs.PartLemmas.{part_from_later}
 use Rattle.bolt_report.specs.ListForms.{listing_lines}
 use Rattle.bolt_report.specs.declared.form.ListForm.{ListForm}
-use Rattle.bolt_report.specs.Reports.{Reports}
 use Rattle.bolt_report.proofs.ListTexts.{same_listing}
 use Rattle.bolt_report.proofs.ListPartTexts.{front}
 use Rattle.bolt_report.proofs.part_lines.list_part.Goals as goal
@@ -17,7 +17,5 @@ returns-clause-written g c = λ listing lists.
     let from = path_of c.args.from.now in
     let here = same_listing (walk_checked c.in_ok-walk.walk) c.args.checked listing c.in_ok-walk.ensures.checked lists in
     let left = c.in_ok-walk.ensures.rest listing lists ∙ ap (λ (p : Path). rest_from p listing) c.later_of.ensures in
-    let written = subst (λ (form : ListForm). Reports g.S.Sink.taken g.S.Sink.failed c.args.sink.now c.put_part.new.sink (listing_lines form (front below (left_of c.in_ok-walk.walk listing))) c.put_part.result)
-    c.new.ensures (c.put_part.ensures.written listing here) in
-    subst (λ (members : List Member). Reports g.S.Sink.taken g.S.Sink.failed c.args.sink.now c.put_part.new.sink (listing_lines c.args.form members) c.put_part.result)
-    (ap (front below) left ∙ sym (part_from_later below from listing lists.rises)) written
+    Wrote-same (ap (λ (form : ListForm). listing_lines form (front below (left_of c.in_ok-walk.walk listing))) c.new.ensures
+    ∙ ap (listing_lines c.args.form) (ap (front below) left ∙ sym (part_from_later below from listing lists.rises))) (c.put_part.ensures.written listing here)

@@ -1,17 +1,16 @@
 -- What is left to a recovery rises, as the recovered listing does.
-use Rattle.std.proofs.Common.{subst}
+use Rattle.std.proofs.Common.{ap}
+use Rattle.bolt_format.proofs.WroteLemmas.{Wrote-same}
 use Rattle.bolt_recover.specs.Recoveries.{recovery_left}
+use Rattle.bolt_recover.proofs.LeftMembers.{left_rises}
 use Rattle.bolt_tree.specs.Listing.{rest_from}
 use Rattle.bolt_tree.specs.ListingParts.{bucket_part}
 use Rattle.bolt_tree.specs.Paths.{path_of}
 use Rattle.bolt_report.specs.ListForms.{listing_lines}
 use Rattle.bolt_report.specs.declared.form.ListForm.{ListForm}
-use Rattle.bolt_report.specs.Reports.{Reports}
-use Rattle.bolt_recover.proofs.LeftMembers.{left_rises}
 use Rattle.bolt_report.proofs.part_lines.list_recovered_part.Goals as goal
 
 pub returns-clause-written : goal.returns-clause-written
 returns-clause-written g c = λ listing lists.
     let part = rest_from (path_of c.args.from.now) (bucket_part (path_of c.args.below.now) (recovery_left c.args.recovery.now listing)) in
-    subst (λ (form : ListForm). Reports g.S.Sink.taken g.S.Sink.failed c.args.sink.now c.put_bucket_part.new.sink (listing_lines form part) c.put_bucket_part.result)
-    c.new-lines.ensures (c.put_bucket_part.ensures.written listing lists (left_rises c.args.recovery.now listing lists.rises))
+    Wrote-same (ap (λ (form : ListForm). listing_lines form part) c.new-lines.ensures) (c.put_bucket_part.ensures.written listing lists (left_rises c.args.recovery.now listing lists.rises))

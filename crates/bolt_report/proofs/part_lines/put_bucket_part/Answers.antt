@@ -1,19 +1,19 @@
 -- The bucket at the path comes before all that begins with the path, so nothing is missed before it is found.
-use Rattle.std.proofs.Common.{◌≡◌, ◌∙◌, ◌++◌, ◌∷◌, ◌&&◌, ◌||◌, [], Bool, List, Ok, Err, Bor, ap, sym, subst, refl, true, not, length, ℕ, ◌==◌}
+use Rattle.std.proofs.Common.{◌≡◌, ◌∙◌, ◌∷◌, ◌&&◌, ◌||◌, [], Bool, List, Bor, ap, sym, subst, refl, true, not, length, ℕ, ◌==◌}
 use Rattle.std.specs.List.{list_any}
-use Rattle.std.specs.Prelude.{⊤}
 use Rattle.std.specs.Ordering.{is_lt}
 use Rattle.std.proofs.lemmas.List.{length-map}
-use Rattle.bolt_format.proofs.WriteLemmas.{Writes-none}
+use Rattle.bolt_format.proofs.WroteFronts.{front_more, front_same}
+use Rattle.bolt_format.proofs.WroteLemmas.{Wrote-none, Wrote-same}
 use Rattle.bolt_report.specs.ListForms.{lines_form, list_line, listing_lines}
-use Rattle.bolt_report.specs.Reports.{Reports}
 use Rattle.bolt_report.specs.declared.form.ListForm.{ListForm}
 use Rattle.bolt_tree.specs.Listing.{Member, member_cmp, rest_from}
-use Rattle.bolt_tree.specs.ListingParts.{begins_with, bucket_part, is_bucket_at}
+use Rattle.bolt_tree.specs.ListingParts.{begins_with, is_bucket_at}
 use Rattle.bolt_tree.specs.Order.{Rises}
 use Rattle.bolt_tree.specs.Paths.{Path, path_cmp, path_of}
 use Rattle.bolt_tree.specs.ShownEntries.{item_view}
-use Rattle.bolt_report.proofs.ListTexts.{iff_then, more_written, reports_stop}
+use Rattle.bolt_report.proofs.ListTexts.{iff_then}
+use Rattle.bolt_report.proofs.ReportLemmas.{front_fault}
 use Rattle.bolt_report.proofs.BucketPartTexts.{before_bucket, has_next, left_part, over_unwanted, with_wanted}
 use Rattle.bolt_report.proofs.part_lines.put_bucket_part.Goals as goal
 use Rattle.bolt_report.proofs.part_lines.put_bucket_part.Goals.{else-found-via-then-found+else-is_wanted, else-found-via-else-found}
@@ -27,14 +27,13 @@ part-init g c =
       form = refl;
       same = λ listing. (λ is. is, λ is. is);
       end = λ end is. is;
-      counted = refl;
       has = λ listing is. ap (λ (b : Bool). b || list_any (is_bucket_at below) (g.M.Members.left c.args.members.now listing)) root;
       rises = λ listing is up. up;
-      put = λ listing is up. (
-        [],
-        ap (λ (b : Bool). listing_lines form (rest_from (path_of c.args.from.now) (left_part below b (g.M.Members.left c.args.members.now listing)))) root,
-        Writes-none c.args.sink.now,
-      );
+      put = λ listing is up. record {
+        front = [];
+        parts = ap (λ (b : Bool). listing_lines form (rest_from (path_of c.args.from.now) (left_part below b (g.M.Members.left c.args.members.now listing)))) root;
+        wrote = Wrote-none c.args.sink.now;
+      };
     }
 
 pub part-preserved-then-is_wanted : goal.part-preserved-then-is_wanted
@@ -58,7 +57,6 @@ part-preserved-then-is_wanted g c =
       form = c.put.ensures.form ∙ c.part.invariant.form;
       same = λ listing. iff_then (c.next.ensures.listing listing) (c.part.invariant.same listing);
       end = λ end is. c.part.invariant.end end (c.next.ensures.same_end end is);
-      counted = c.in_ok-put.ensures.written.sound ∙ c.part.invariant.counted;
       has = λ listing lists.
           c.part.invariant.has listing lists ∙ ap (λ (ms : List Member). c.part.found || list_any (is_bucket_at below) ms) (first listing lists)
           ∙ has_next below c.part.found now m (g.M.Members.left c.next.new.self listing) is;
@@ -66,12 +64,7 @@ part-preserved-then-is_wanted g c =
       put = λ listing lists up.
           let new = g.M.Members.left c.next.new.self listing in
           let text = ap (λ (ms : List Member). listing_lines form (rest_from from (left_part below c.part.found ms))) (first listing lists) ∙ with_wanted below c.part.found now m new is from form c.if-found.true both in
-          let (written, same, before) = c.part.invariant.put listing lists up in
-          let more = more_written g.S.Sink.taken g.S.Sink.failed c.args.sink.now c.part.sink c.put.new.sink
-          (listing_lines form (rest_from from (bucket_part below (g.M.Members.left c.args.members.now listing)))) written (list_line form m) (listing_lines form (rest_from from (left_part below now new)))
-          (same ∙ ap (λ l. written ++ l) text) before
-          (subst (λ (f : ListForm). Reports {A = ⊤} g.S.Sink.taken g.S.Sink.failed c.part.sink c.put.new.sink (list_line f m) (Ok tt)) c.part.invariant.form c.in_ok-put.ensures.written) in
-          (written ++ list_line form m, more.0, more.1);
+          front_more (c.part.invariant.put listing lists up) (Wrote-same (ap (λ (f : ListForm). list_line f m) c.part.invariant.form) c.in_ok-put.ensures.written) text;
     }
 
 pub returns-in_err-put-clause-written : goal.returns-in_err-put-clause-written
@@ -91,12 +84,8 @@ returns-in_err-put-clause-written g c = λ listing lists up.
     let new = g.M.Members.left c.next.new.self listing in
     let first = given listing ((c.part.invariant.same listing).1 lists) ∙ ap (λ (p : Path). (p, item_view c.in-Some.item) ∷ new) (sym c.path-then-is_wanted.ensures) in
     let text = ap (λ (ms : List Member). listing_lines form (rest_from from (left_part below c.part.found ms))) first ∙ with_wanted below c.part.found now m new is from form c.if-found.true both in
-    let (written, same, before) = c.part.invariant.put listing lists up in
-    reports_stop g.S.Sink.taken g.S.Sink.failed c.args.sink.now c.part.sink c.put.new.sink (listing_lines form (rest_from from (bucket_part below (g.M.Members.left c.args.members.now listing)))) written
-    (list_line form m) (listing_lines form (rest_from from (left_part below now new))) _ _
-    (same ∙ ap (λ l. written ++ l) text) before
-    (subst (λ (f : ListForm). Reports {A = ⊤} g.S.Sink.taken g.S.Sink.failed c.part.sink c.put.new.sink (list_line f m) (Err c.in_err-put.field-0.0)) c.part.invariant.form c.in_err-put.ensures.written)
-    c.from_residual-in_err-put.ensures.1
+    front_fault (listing_lines form (rest_from from (left_part below now new))) _ _ (c.part.invariant.put listing lists up)
+    (Wrote-same (ap (λ (f : ListForm). list_line f m) c.part.invariant.form) c.in_err-put.ensures.written) text c.from_residual-in_err-put.ensures.1
 
 pub part-preserved : goal.part-preserved
 part-preserved g c =
@@ -122,7 +111,6 @@ part-preserved g c =
       form = c.part.invariant.form;
       same = λ listing. iff_then (c.next.ensures.listing listing) (c.part.invariant.same listing);
       end = λ end is. c.part.invariant.end end (c.next.ensures.same_end end is);
-      counted = c.part.invariant.counted;
       has = λ listing lists.
           c.part.invariant.has listing lists ∙ ap (λ (ms : List Member). c.part.found || list_any (is_bucket_at below) ms) (first listing lists)
           ∙ has_next below c.part.found now m (g.M.Members.left c.next.new.self listing) is;
@@ -130,6 +118,5 @@ part-preserved g c =
       put = λ listing lists up.
           let here = subst (Rises member_cmp) (first listing lists) (c.part.invariant.rises listing lists up) in
           let hidden = ap (λ (ms : List Member). rest_from from (left_part below c.part.found ms)) (first listing lists) ∙ passed (g.M.Members.left c.next.new.self listing) here in
-          let (written, same, put) = c.part.invariant.put listing lists up in
-          (written, same ∙ ap (λ (ms : List Member). written ++ listing_lines form ms) hidden, put);
+          front_same (c.part.invariant.put listing lists up) (ap (listing_lines form) hidden);
     }

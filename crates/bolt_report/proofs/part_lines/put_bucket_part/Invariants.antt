@@ -1,31 +1,27 @@
-use Rattle.std.proofs.Common.{◌≡◌, ◌↔◌, ◌++◌, ◌||◌, List, ℕ, Ok}
+use Rattle.std.proofs.Common.{◌≡◌, ◌↔◌, ◌||◌, List}
 use Rattle.std.specs.List.{list_any}
-use Rattle.std.specs.Prelude.{⊤}
-use Rattle.bolt_format.specs.Writes.{Writes}
+use Rattle.bolt_format.proofs.WroteFronts.{WroteFront}
 use Rattle.bolt_tree.specs.Listing.{Member, member_cmp, rest_from}
 use Rattle.bolt_tree.specs.ListingParts.{bucket_part, has_bucket, is_bucket_at}
 use Rattle.bolt_tree.specs.Order.{Rises}
 use Rattle.bolt_tree.specs.Paths.{path_of}
 use Rattle.bolt_report.specs.ListForms.{lines_form, listing_lines}
-use Rattle.bolt_report.specs.declared.fault.ReportFault.{ReportFault}
 use Rattle.bolt_report.proofs.BucketPartTexts.{left_part}
 use Rattle.bolt_report.proofs.part_lines.put_bucket_part.Given as goal
 
--- of the text of the part of what was left, what was written, and the text of the part of what is left;
+-- of the text of the part of what was left, the text of the part of what is left is still to be written;
 -- the bucket was there if it was found or is left
 abbrev pub invariant-part : goal.invariant-part
 invariant-part g l = record {
   form : lines_form l.lines ≡ lines_form l.initial.lines;
   same : (listing : List Member) → g.M.Members.lists l.members listing ↔ g.M.Members.lists l.initial.members listing;
   end : (end : g.row.M.Denot) → g.M.Members.ends_as l.members end → g.M.Members.ends_as l.initial.members end;
-  counted : g.S.Sink.failed l.sink ≡ g.S.Sink.failed l.initial.sink;
   has : (listing : List Member) → g.M.Members.lists l.initial.members listing
       → has_bucket (path_of l.below) (g.M.Members.left l.initial.members listing) ≡ (l.found || list_any (is_bucket_at (path_of l.below)) (g.M.Members.left l.members listing));
   rises : (listing : List Member) → g.M.Members.lists l.initial.members listing → Rises member_cmp (g.M.Members.left l.initial.members listing) → Rises member_cmp (g.M.Members.left l.members listing);
-  put : (listing : List Member) → g.M.Members.lists l.initial.members listing → Rises member_cmp (g.M.Members.left l.initial.members listing) → (written : List ℕ)
-      × (listing_lines (lines_form l.initial.lines) (rest_from (path_of l.from) (bucket_part (path_of l.below) (g.M.Members.left l.initial.members listing)))
-      ≡ written ++ listing_lines (lines_form l.initial.lines) (rest_from (path_of l.from) (left_part (path_of l.below) l.found (g.M.Members.left l.members listing))))
-      × Writes {A = ⊤} {E = ReportFault} g.S.Sink.taken g.S.Sink.failed l.initial.sink l.sink written (Ok tt);
+  put : (listing : List Member) → g.M.Members.lists l.initial.members listing → Rises member_cmp (g.M.Members.left l.initial.members listing) → WroteFront g.S.Sink l.initial.sink l.sink
+      (listing_lines (lines_form l.initial.lines) (rest_from (path_of l.from) (bucket_part (path_of l.below) (g.M.Members.left l.initial.members listing))))
+      (listing_lines (lines_form l.initial.lines) (rest_from (path_of l.from) (left_part (path_of l.below) l.found (g.M.Members.left l.members listing))));
 }
 
 abbrev pub decreases-part : goal.decreases-part

@@ -1,24 +1,20 @@
-use Rattle.std.proofs.Common.{◌≡◌, ◌↔◌, ◌++◌, List, ℕ, Ok}
+use Rattle.std.proofs.Common.{◌≡◌, ◌↔◌, List}
 use Rattle.std.specs.List.{take_while}
-use Rattle.std.specs.Prelude.{⊤}
-use Rattle.bolt_format.specs.Writes.{Writes}
+use Rattle.bolt_format.proofs.WroteFronts.{WroteFront}
 use Rattle.bolt_tree.specs.Listing.{Member}
 use Rattle.bolt_tree.specs.ListingParts.{begins_with}
 use Rattle.bolt_tree.specs.Paths.{path_of}
 use Rattle.bolt_report.specs.ListForms.{lines_form, listing_lines}
-use Rattle.bolt_report.specs.declared.fault.ReportFault.{ReportFault}
 use Rattle.bolt_report.proofs.part_lines.put_part.Given as goal
 
--- of the text of the part of what was left, what was written, and the text of the part of what is left
+-- of the text of the part of what was left, the text of the part of what is left is still to be written
 abbrev pub invariant-part : goal.invariant-part
 invariant-part g l = record {
   form : lines_form l.lines ≡ lines_form l.initial.lines;
   same : (listing : List Member) → g.M.Members.lists l.members listing ↔ g.M.Members.lists l.initial.members listing;
-  counted : g.S.Sink.failed l.sink ≡ g.S.Sink.failed l.initial.sink;
-  put : (listing : List Member) → g.M.Members.lists l.initial.members listing → (written : List ℕ)
-      × (listing_lines (lines_form l.initial.lines) (take_while (λ m. begins_with (path_of l.below) m.0) (g.M.Members.left l.initial.members listing))
-      ≡ written ++ listing_lines (lines_form l.initial.lines) (take_while (λ m. begins_with (path_of l.below) m.0) (g.M.Members.left l.members listing)))
-      × Writes {A = ⊤} {E = ReportFault} g.S.Sink.taken g.S.Sink.failed l.initial.sink l.sink written (Ok tt);
+  put : (listing : List Member) → g.M.Members.lists l.initial.members listing → WroteFront g.S.Sink l.initial.sink l.sink
+      (listing_lines (lines_form l.initial.lines) (take_while (λ m. begins_with (path_of l.below) m.0) (g.M.Members.left l.initial.members listing)))
+      (listing_lines (lines_form l.initial.lines) (take_while (λ m. begins_with (path_of l.below) m.0) (g.M.Members.left l.members listing)));
 }
 
 abbrev pub decreases-part : goal.decreases-part

@@ -1,23 +1,22 @@
-use Rattle.std.proofs.Common.{ℕ, List, Ok, [], ap, subst, sym}
-use Rattle.std.specs.Prelude.{⊤}
+use Rattle.std.proofs.Common.{ap, sym}
 use Rattle.bolt_check.specs.CheckedFiles.{bytes_of, meta_of}
-use Rattle.bolt_format.proofs.WriteLemmas.{Writes-none}
+use Rattle.bolt_format.proofs.WroteLemmas.{Wrote-none, Wrote-same}
 use Rattle.bolt_tree.specs.Buckets.{bucket_checked}
 use Rattle.bolt_tree.specs.Entries.{EntryView}
 use Rattle.bolt_tree.specs.ShownEntries.{item_view, shown_entry}
-use Rattle.bolt_report.specs.Reports.{Reports}
-use Rattle.bolt_report.proofs.ReportLemmas.{reports_ok}
+use Rattle.bolt_report.proofs.ReportLemmas.{Wrote-unbegun}
 use Rattle.bolt_report.proofs.SizeLemmas.{line_found, no_value_line}
 use Rattle.bolt_report.proofs.size_lines.put_entry.Goals as goal
 
+pub returns-in_err-stats-in-Some-clause-written : goal.returns-in_err-stats-in-Some-clause-written
+returns-in_err-stats-in-Some-clause-written g c = λ e entry shown sized are. Wrote-unbegun c.args.sink.now _ _ c.from_residual.ensures.1
+
 pub returns-in_ok-stats-in-Some-clause-written : goal.returns-in_ok-stats-in-Some-clause-written
 returns-in_ok-stats-in-Some-clause-written g c = λ e entry shown sized are.
-    let text = line_found c.args.bucket.now c.in-Some.inner c.args.items.now.form c.args.entry.now.key.now c.in_ok-stats-in-Some.stats e sized c.in-Some.ensures.checked c.in-Some.ensures.bucket
-    c.in_ok-stats-in-Some.ensures entry (ap (λ (v : EntryView). v.key) shown) are in
-    subst (λ (t : List ℕ). Reports {A = ⊤} g.S.Sink.taken g.S.Sink.failed c.args.sink.now c.put_size.new.sink t c.put_size.result) text c.put_size.ensures.written
+    Wrote-same (line_found c.args.bucket.now c.in-Some.inner c.args.items.now.form c.args.entry.now.key.now c.in_ok-stats-in-Some.stats e sized c.in-Some.ensures.checked c.in-Some.ensures.bucket
+    c.in_ok-stats-in-Some.ensures entry (ap (λ (v : EntryView). v.key) shown) are) c.put_size.ensures.written
 
 pub returns-in-Value-clause-written : goal.returns-in-Value-clause-written
 returns-in-Value-clause-written g c = λ e entry shown sized are.
-    let none = no_value_line (bytes_of (bucket_checked c.args.bucket.now)) (meta_of (bucket_checked c.args.bucket.now)) c.args.items.now.form e (shown_entry c.args.entry.now) c.in-Value.field-0.now sized shown (ap item_view c.in-Value.is) are in
-    subst (λ (t : List ℕ). Reports {A = ⊤} g.S.Sink.taken g.S.Sink.failed c.args.sink.now c.args.sink.now t (Ok tt)) (sym none)
-    (reports_ok g.S.Sink.taken g.S.Sink.failed c.args.sink.now c.args.sink.now [] (Writes-none c.args.sink.now))
+    Wrote-same (sym (no_value_line (bytes_of (bucket_checked c.args.bucket.now)) (meta_of (bucket_checked c.args.bucket.now)) c.args.items.now.form e (shown_entry c.args.entry.now) c.in-Value.field-0.now sized shown (ap item_view c.in-Value.is) are))
+    (Wrote-none c.args.sink.now)

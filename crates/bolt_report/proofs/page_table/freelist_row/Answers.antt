@@ -1,8 +1,0 @@
-use Rattle.std.proofs.Math.Logic.{∥∥₁_elim}
-use Rattle.std.proofs.Props.{props}
-use Rattle.bolt_check.specs.CheckedFiles.{bytes_of, meta_of}
-use Rattle.bolt_check.proofs.RoleFacts.{freelist_shown}
-use Rattle.bolt_report.proofs.page_table.freelist_row.Goals as goal
-
-pub known-page-requires : goal.known-page-requires
-known-page-requires c = rw (c.bytes.ensures, c.meta.ensures) (∥∥₁_elim c.requires (Prim.hlevel props) (λ is. freelist_shown (bytes_of c.args.checked.now) (meta_of c.args.checked.now) c.args.id is.0 is.1))

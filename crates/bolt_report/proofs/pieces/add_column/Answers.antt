@@ -1,0 +1,14 @@
+use Rattle.std.proofs.Common.{◌++◌, ap, replicate}
+use Rattle.bolt_report.specs.Lines.{column}
+use Rattle.bolt_report.proofs.GatherLemmas.{Gathers-return, Gathers-same, Gathers-then}
+use Rattle.bolt_report.proofs.pieces.add_column.Goals as goal
+
+pub returns-in_err-add_bytes : goal.returns-in_err-add_bytes
+unfolding column
+returns-in_err-add_bytes g c = Gathers-return _ _ _ _ _ c.in_err-add_bytes.ensures c.from_residual.ensures.0
+
+pub returns : goal.returns
+unfolding column
+returns g c =
+    Gathers-same _ _ _ _ _ _ (ap (λ n. c.args.text.now ++ replicate n 0x20) c.saturating_sub.ensures)
+    (Gathers-then _ _ _ _ c.in_ok-add_bytes.ensures c.add_spaces.ensures)

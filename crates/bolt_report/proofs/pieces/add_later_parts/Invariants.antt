@@ -1,0 +1,8 @@
+use Rattle.std.proofs.Common.{take}
+use Rattle.bolt_report.specs.Gathers.{Holds}
+use Rattle.bolt_report.specs.Pieces.{later_parts}
+use Rattle.bolt_report.proofs.pieces.add_later_parts.Given as goal
+
+-- the parts before this one were added
+abbrev pub invariant-loop-part : goal.invariant-loop-part
+invariant-loop-part g l = Holds g.S.Sink l.initial.sink l.sink l.initial.held.items l.held.items (later_parts (take l.part-index l.parts))

@@ -1,0 +1,178 @@
+//! Writes a line as a list of pieces, gathered in a buffer of fixed length before they are written.
+ghost use Rattle.std.specs.Prelude.{◌≡◌, ◌∷◌, [], OnOk, decimal, replicate};
+ghost use Rattle.hex.specs.Hex.{encode_lower};
+ghost use Rattle.bolt_format.specs.Endings.{ending};
+ghost use Rattle.bolt_format.specs.Wrote.{Wrote};
+ghost use Rattle.bolt_tree.specs.Paths.{path_of};
+ghost use Rattle.bolt_report.specs.Gathers.{Gathers};
+ghost use Rattle.bolt_report.specs.Lines.{column, figure_line};
+ghost use Rattle.bolt_report.specs.ListLines.{hex_path};
+ghost use Rattle.bolt_report.specs.Pieces.{later_parts, piece_text, pieces_text};
+
+use crate::hexadecimal::{put_hex, write_digits};
+use crate::puts::put;
+use arrayvec::ArrayVec;
+use bolt_format::{Sink, SinkFault};
+use itoa::Buffer;
+
+/// A piece of a text.
+#[derive(Clone, Copy, Debug, PartialEq, Eq)]
+pub(crate) enum Piece<'a> {
+    /// Bytes as they are.
+    Bytes(&'a [u8]),
+    /// A number in decimal.
+    Number(u64),
+    /// Bytes in lower-case hexadecimal.
+    Hex(&'a [u8]),
+    /// Parts in lower-case hexadecimal, joined by slashes.
+    HexPath(&'a [&'a [u8]]),
+    /// A line of a name, a space and a number in decimal.
+    Figure(&'a [u8], u64),
+    /// Bytes, and spaces up to a width.
+    Column(&'a [u8], usize),
+    /// A number in decimal, and spaces up to a width.
+    NumberColumn(u64, usize),
+}
+
+/// The number of bytes that are gathered.
+const HELD_LEN: usize = 512;
+
+/// The number of bytes up to which hexadecimal is gathered.
+const SHORT_LEN: usize = 64;
+
+/// Bytes that are not yet written.
+type Held = ArrayVec<u8, HELD_LEN>;
+
+/// Writes pieces one after another.
+pub(crate) fn put_pieces<S: Sink>(pieces: &[Piece<'_>], sink: &mut S) -> Result<(), SinkFault>
+    ensures { Wrote S.Sink sink.old sink.new (pieces_text pieces.now) (ending result) }
+{
+    let mut held = Held::new();
+    for piece in pieces {
+        add_piece(piece, &mut held, sink)?;
+    }
+    put(held.as_slice(), sink)
+}
+
+/// Adds a piece to what is held.
+fn add_piece<S: Sink>(piece: &Piece<'_>, held: &mut Held, sink: &mut S) -> Result<(), SinkFault>
+    ensures { Gathers S.Sink sink.old sink.new held.old.items held.new.items (piece_text piece.now) (ending result) }
+{
+    match piece {
+        Piece::Bytes(bytes) => add_bytes(bytes, held, sink),
+        Piece::Number(n) => add_number(*n, held, sink),
+        Piece::Hex(bytes) => add_hex(bytes, held, sink),
+        Piece::HexPath(parts) => add_path(parts, held, sink),
+        Piece::Figure(name, n) => add_figure(name, *n, held, sink),
+        Piece::Column(text, width) => add_column(text, *width, held, sink),
+        Piece::NumberColumn(n, width) => {
+            add_column(Buffer::new().format(*n).as_bytes(), *width, held, sink)
+        }
+    }
+}
+
+fn add_number<S: Sink>(n: u64, held: &mut Held, sink: &mut S) -> Result<(), SinkFault>
+    ensures { Gathers S.Sink sink.old sink.new held.old.items held.new.items (decimal n) (ending result) }
+{
+    add_bytes(Buffer::new().format(n).as_bytes(), held, sink)
+}
+
+fn add_figure<S: Sink>(name: &[u8], n: u64, held: &mut Held, sink: &mut S) -> Result<(), SinkFault>
+    ensures { Gathers S.Sink sink.old sink.new held.old.items held.new.items (figure_line name.now n) (ending result) }
+{
+    add_bytes(name, held, sink)?;
+    add_bytes(b" ", held, sink)?;
+    add_number(n, held, sink)?;
+    add_bytes(b"\n", held, sink)
+}
+
+fn add_column<S: Sink>(
+    text: &[u8],
+    width: usize,
+    held: &mut Held,
+    sink: &mut S,
+) -> Result<(), SinkFault>
+    ensures { Gathers S.Sink sink.old sink.new held.old.items held.new.items (column width text.now) (ending result) }
+{
+    add_bytes(text, held, sink)?;
+    add_spaces(width.saturating_sub(text.len()), held, sink)
+}
+
+fn add_spaces<S: Sink>(count: usize, held: &mut Held, sink: &mut S) -> Result<(), SinkFault>
+    ensures { Gathers S.Sink sink.old sink.new held.old.items held.new.items (replicate count 0x20) (ending result) }
+{
+    for _i in 0..count {
+        add_bytes(b" ", held, sink)?;
+    }
+    Ok(())
+}
+
+fn add_path<S: Sink>(parts: &[&[u8]], held: &mut Held, sink: &mut S) -> Result<(), SinkFault>
+    ensures { Gathers S.Sink sink.old sink.new held.old.items held.new.items (hex_path (path_of parts.now)) (ending result) }
+{
+    let Some((first, rest)) = parts.split_first() else {
+        return Ok(());
+    };
+    add_hex(first, held, sink)?;
+    add_later_parts(rest, held, sink)
+}
+
+/// Adds a slash and then the part, for each of these parts.
+fn add_later_parts<S: Sink>(parts: &[&[u8]], held: &mut Held, sink: &mut S) -> Result<(), SinkFault>
+    ensures { Gathers S.Sink sink.old sink.new held.old.items held.new.items (later_parts parts.now) (ending result) }
+{
+    for part in parts {
+        add_later_part(part, held, sink)?;
+    }
+    Ok(())
+}
+
+fn add_later_part<S: Sink>(part: &[u8], held: &mut Held, sink: &mut S) -> Result<(), SinkFault>
+    ensures { Gathers S.Sink sink.old sink.new held.old.items held.new.items (0x2F ∷ encode_lower part.now) (ending result) }
+{
+    add_bytes(b"/", held, sink)?;
+    add_hex(part, held, sink)
+}
+
+/// Adds bytes in hexadecimal; long ones are written part by part, and not held.
+fn add_hex<S: Sink>(bytes: &[u8], held: &mut Held, sink: &mut S) -> Result<(), SinkFault>
+    ensures { Gathers S.Sink sink.old sink.new held.old.items held.new.items (encode_lower bytes.now) (ending result) }
+{
+    if bytes.len() <= SHORT_LEN {
+        let mut digits = [0; 2 * SHORT_LEN];
+        add_bytes(write_digits(bytes, &mut digits), held, sink)
+    } else {
+        put_held(held, sink)?;
+        put_hex(bytes, sink)
+    }
+}
+
+/// Adds bytes to what is held, or writes what is held first.
+#[inline(always)]
+fn add_bytes<S: Sink>(bytes: &[u8], held: &mut Held, sink: &mut S) -> Result<(), SinkFault>
+    ensures { Gathers S.Sink sink.old sink.new held.old.items held.new.items bytes.now (ending result) }
+{
+    match held.try_extend_from_slice(bytes) {
+        Ok(()) => Ok(()),
+        Err(_) => add_after_put(bytes, held, sink),
+    }
+}
+
+fn add_after_put<S: Sink>(bytes: &[u8], held: &mut Held, sink: &mut S) -> Result<(), SinkFault>
+    ensures { Gathers S.Sink sink.old sink.new held.old.items held.new.items bytes.now (ending result) }
+{
+    put_held(held, sink)?;
+    match held.try_extend_from_slice(bytes) {
+        Ok(()) => Ok(()),
+        Err(_) => put(bytes, sink),
+    }
+}
+
+fn put_held<S: Sink>(held: &mut Held, sink: &mut S) -> Result<(), SinkFault>
+    ensures wrote { Wrote S.Sink sink.old sink.new held.old.items (ending result) }
+    ensures empty { OnOk result (held.new.items ≡ []) }
+{
+    put(held.as_slice(), sink)?;
+    held.clear();
+    Ok(())
+}
