@@ -2,6 +2,7 @@ mod BucketPartTexts
 mod DepthExists
 mod DepthSums
 mod FigureLemmas
+mod FoundLemmas
 mod JsonLemmas
 mod KeyTexts
 mod ListPartTexts

@@ -3,6 +3,7 @@ pub mod Depths
 pub mod FaultWords
 pub mod Figures
 pub mod Forms
+pub mod FoundLines
 pub mod JsonLines
 pub mod JsonReadings
 pub mod KeyLines
