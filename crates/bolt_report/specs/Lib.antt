@@ -4,6 +4,7 @@ pub mod FaultWords
 pub mod Figures
 pub mod Forms
 pub mod Gathers
+pub mod FoundLines
 pub mod JsonLines
 pub mod JsonReadings
 pub mod KeyLines

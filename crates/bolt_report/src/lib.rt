@@ -7,6 +7,7 @@ mod elements;
 mod fault;
 mod fault_lines;
 mod form;
+mod found_lines;
 mod hexadecimal;
 mod item_writer;
 mod json_text;
@@ -36,6 +37,7 @@ pub use fault_lines::{
     finding_text, findings_text, meta_fault_text, page_fault_text, snapshot_fault_text,
 };
 pub use form::{Form, ListForm};
+pub use found_lines::{all_lost_and_found_text, lost_and_found_text};
 pub use key_lines::{buckets, keys};
 pub use key_prefixes::keys_with_prefix;
 pub use list_lines::list;

@@ -1,0 +1,60 @@
+-- The lines of found pages: docs/COMMANDS.md, "Lost and found".
+use Rattle.std.specs.Prelude.{◌≡◌, ◌+◌, ◌-◌, ◌<◌, ℕ, List, [], ◌++◌, codes, decimal, flat_map, length, option_map, slice_get, unwrap_or}
+use Rattle.std.specs.List.{filter}
+use Rattle.hex.specs.Hex.{encode_lower}
+use Rattle.bolt_format.specs.Elements.{LeafElement}
+use Rattle.bolt_format.specs.Shown.{shown}
+use Rattle.bolt_format.specs.declared.kind.Kind.TheVariants as kind
+use Rattle.bolt_check.specs.Keys.{Key}
+use Rattle.bolt_check.specs.declared.finding.Finding.{Finding}
+use Rattle.bolt_recover.specs.Losses.{LossView}
+use Rattle.bolt_recover.specs.declared.found.Found.{Found}
+use Rattle.bolt_report.specs.FaultWords.{count_line, finding_sentence}
+use Rattle.bolt_report.specs.Lines.{line}
+use Rattle.bolt_report.specs.LossLines.{losses_text}
+
+-- a leaf page by its number and its elements
+pub record FoundView : Type 0 where
+  pub number : ℕ
+  pub elements : List LeafElement
+
+abbrev pub found_view : Found → FoundView
+found_view found = record { number = found.number; elements = (shown found.page.page).leaves }
+
+-- it is a leaf of at least one element
+pub record IsFoundLeaf (found : Found) : Type 0 where
+  pub kind : (shown found.page.page).kind ≡ kind.Leaf
+  pub some : 0 < (shown found.page.page).count
+
+-- the key of an element
+abbrev pub key_at : List LeafElement → ℕ → Key
+key_at elements i = unwrap_or (option_map (λ (e : LeafElement). e.key) (slice_get elements i)) []
+
+abbrev pub bucket_count : List LeafElement → ℕ
+bucket_count elements = length (filter (λ (e : LeafElement). e.is_bucket) elements)
+
+-- the number of the page, how many entries it has and how many of them are buckets, and the keys of the first and of the last
+abbrev pub found_head : (number entries buckets : ℕ) → List ℕ
+found_head number entries buckets =
+    codes "page " ++ (decimal number ++ (codes ": nothing leads to it; found: " ++ (decimal entries ++ (codes " entries, " ++ (decimal buckets ++ codes " of them buckets, keys from ")))))
+
+abbrev pub found_keys : List LeafElement → List ℕ
+found_keys elements = encode_lower (key_at elements 0) ++ (codes " to " ++ line (encode_lower (key_at elements (length elements - 1))))
+
+unfoldable pub found_line : FoundView → List ℕ
+found_line found = found_head found.number (length found.elements) (bucket_count found.elements) ++ found_keys found.elements
+
+abbrev pub found_text : List FoundView → List ℕ
+found_text found = flat_map found_line found
+
+-- and then how many errors there are
+abbrev pub found_and_count : List FoundView → (errors : ℕ) → List ℕ
+found_and_count found errors = found_text found ++ count_line errors
+
+-- the line of each loss, the line of each found page, and how many losses there are with the errors before
+abbrev pub lost_and_found_text : (earlier : ℕ) → List LossView → List FoundView → List ℕ
+lost_and_found_text earlier losses found = losses_text losses ++ found_and_count found (earlier + length losses)
+
+-- where the root page is lost, everything is
+abbrev pub all_lost_and_found_text : (earlier : ℕ) → Finding → List FoundView → List ℕ
+all_lost_and_found_text earlier finding found = (finding_sentence finding ++ codes "; lost: everything\n") ++ found_and_count found (earlier + 1)
